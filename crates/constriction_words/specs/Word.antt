@@ -1,0 +1,17 @@
+-- How the unsigned integers of std meet the laws of words: the impls cite these, and no public clause does.
+use Rattle.std.specs.Prelude.{◌≡◌, ◌≢◌, ◌↔◌, ◌<◌, ◌≤◌, ℕ, pos, Some, IsTrue}
+use Rattle.std.specs.Ordering.{nat_cmp, partial_lt, partial_le}
+use Rattle.std.proofs.Common.{ap, arith}
+use Rattle.std.proofs.lemmas.Grind.{common_steps}
+use lib.Signed.{mag}
+
+-- a number above 0 has a value other than 0
+pub pos-nonzero : (n : ℕ) → 0 < n → pos n ≢ pos 0
+pos-nonzero n up e = let same : n ≡ 0 = ap mag e in absurd (omega arith)
+
+-- `<` and `<=` of an unsigned type
+pub lt-whole : (a b : ℕ) → IsTrue (partial_lt (λ x y. Some (nat_cmp x y)) a b) ↔ (a < b)
+lt-whole a b = grind (arith, common_steps)
+
+pub le-whole : (a b : ℕ) → IsTrue (partial_le (λ x y. Some (nat_cmp x y)) a b) ↔ (a ≤ b)
+le-whole a b = grind (arith, common_steps)

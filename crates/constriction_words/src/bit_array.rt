@@ -1,0 +1,126 @@
+//! The traits of words: what a word is, and the laws that an implementer of one meets.
+
+ghost use Rattle.std.specs.Prelude.{◌≡◌, ◌≢◌, ◌↔◌, ◌+◌, ◌*◌, ◌/◌, ◌%◌, ◌^◌, ◌-◌, ◌<◌, ◌≤◌, ℕ, ℤ, pos, IsNone, IsTrue, IfSome};
+ghost use Rattle.std.specs.Int.{FitsUnsignedBits};
+ghost use Rattle.num_traits.specs.Laws.{bit_len};
+ghost use Rattle.std.specs.Ordering.{partial_lt, partial_le};
+
+use num_traits::{FixedWidth, PrimInt};
+use std::default::Default;
+use std::fmt::{Debug, Display};
+use std::hash::Hash;
+
+/// A word that is not 0.
+pub trait NonZeroBitArray: Copy + Display + Debug + Eq + Hash {
+    /// The words that may be 0.
+    type Base: FixedWidth + Copy + Ord + Display + Debug + Hash;
+
+    // The word that is held.
+    ghost base: { Self → Self.Base };
+
+    /// The word where it is not 0.
+    fn new(n: Self::Base) -> Option<Self>
+        ensures none { IsNone result ↔ (Self.Base.value n ≡ pos 0) }
+        ensures some { IfSome result (λ x. base x ≡ n) };
+
+    /// The word, of which the caller knows that it is not 0.
+    fn new_unchecked(n: Self::Base) -> Self
+        requires { Self.Base.value n ≢ pos 0 }
+        ensures { base result ≡ n };
+
+    /// The word that is held.
+    fn get(self) -> Self::Base
+        ensures value { result ≡ base self }
+        ensures range { Self.Base.fits (Self.Base.value result) };
+
+    ghost nonzero_law: { (x : Self) → Self.Base.value (base x) ≢ pos 0 };
+}
+
+/// A word: an unsigned integer of a fixed number of bits.
+pub trait BitArray: PrimInt + Default + Copy + Display + Debug + Eq + Hash {
+    /// How many bits a word has.
+    const BITS: usize;
+
+    ghost BITS: { ℕ };
+
+    /// The words that are not 0.
+    type NonZero: NonZeroBitArray<Base = Self>;
+
+    // The whole number that a word stands for.
+    ghost whole: { Self → ℕ };
+
+    /// The word where it is not 0.
+    fn into_nonzero(self) -> Option<Self::NonZero>
+        ensures none { IsNone result ↔ (whole self ≡ 0) }
+        ensures some { IfSome result (λ x. Self.NonZero.base x ≡ self) }
+        ensures range { whole self < 2 ^ BITS };
+
+    /// The word, of which the caller knows that it is not 0.
+    fn into_nonzero_unchecked(self) -> Self::NonZero
+        requires { whole self ≢ 0 }
+        ensures { Self.NonZero.base result ≡ self };
+
+    /// The sum, modulo `2^BITS`.
+    fn wrapping_add(&self, v: &Self) -> Self
+        ensures { whole result ≡ (whole self.now + whole v.now) % 2 ^ BITS };
+
+    /// The difference, modulo `2^BITS`.
+    fn wrapping_sub(&self, v: &Self) -> Self
+        ensures range { whole result < 2 ^ BITS }
+        ensures difference { (whole result + whole v.now) % 2 ^ BITS ≡ whole self.now };
+
+    /// The product, modulo `2^BITS`.
+    fn wrapping_mul(&self, v: &Self) -> Self
+        ensures { whole result ≡ (whole self.now * whole v.now) % 2 ^ BITS };
+
+    // The number of a word is its value.
+    ghost value_law: { (x : Self) → Self.value x ≡ pos (whole x) };
+
+    // Words have the whole numbers below `2^BITS`, and no other number.
+    ghost fits_law: { (z : ℤ) → Self.fits z ↔ FitsUnsignedBits BITS z };
+
+    ghost width_law: { (BITS ≡ bit_len Self.width) × (BITS ≤ 128) };
+
+    // Two words of one number are one word.
+    ghost same_law: { (a b : Self) → whole a ≡ whole b → a ≡ b };
+
+    // Comparisons are those of the numbers.
+    ghost eq_law: { (a b : Self) → IsTrue (Self.eq a b) ↔ (whole a ≡ whole b) };
+
+    ghost lt_law: { (a b : Self) → IsTrue (partial_lt Self.partial_cmp a b) ↔ (whole a < whole b) };
+
+    ghost le_law: { (a b : Self) → IsTrue (partial_le Self.partial_cmp a b) ↔ (whole a ≤ whole b) };
+
+    // The words 0, 1 and the greatest one, and the default word.
+    ghost zero_law: { whole Self.zero ≡ 0 };
+
+    ghost one_law: { whole Self.one ≡ 1 };
+
+    ghost highest_law: { whole Self.highest ≡ 2 ^ BITS - 1 };
+
+    ghost default_law: { (x : Self) → Self.is_default x → whole x ≡ 0 };
+
+    // Each operation may be used where the exact number fits, and then gives it.
+    ghost add_law: { (a b : Self) → (whole a + whole b < 2 ^ BITS → Self.can_add a b)
+        × ((r : Self) → Self.add_gives a b r → whole r ≡ whole a + whole b) };
+
+    // A difference has its two halves apart, since a proof search reads the second only from a law of its own.
+    ghost can_sub_law: { (a b : Self) → whole b ≤ whole a → Self.can_sub a b };
+
+    ghost sub_law: { (a b r : Self) → Self.sub_gives a b r → whole r ≡ whole a - whole b };
+
+    ghost mul_law: { (a b : Self) → (whole a * whole b < 2 ^ BITS → Self.can_mul a b)
+        × ((r : Self) → Self.mul_gives a b r → whole r ≡ whole a * whole b) };
+
+    ghost div_law: { (a b : Self) → (0 < whole b → Self.can_div a b)
+        × ((r : Self) → Self.div_gives a b r → whole r ≡ whole a / whole b) };
+
+    ghost rem_law: { (a b : Self) → (0 < whole b → Self.can_rem a b)
+        × ((r : Self) → Self.rem_gives a b r → whole r ≡ whole a % whole b) };
+
+    ghost shl_law: { (a : Self) (n : ℕ) → (n < BITS → Self.can_shl a n)
+        × ((r : Self) → Self.shl_gives a n r → whole r ≡ (whole a * 2 ^ n) % 2 ^ BITS) };
+
+    ghost shr_law: { (a : Self) (n : ℕ) → (n < BITS → Self.can_shr a n)
+        × ((r : Self) → Self.shr_gives a n r → whole r ≡ whole a / 2 ^ n) };
+}

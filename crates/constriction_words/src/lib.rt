@@ -1,0 +1,16 @@
+//! Words of a fixed width, the order in which words are read back, and the errors of coders.
+//!
+//! Everything above stands on these: a probability and a unit of compressed data are both a word,
+//! and a coder fails either by itself or because the backend that holds its words did.
+#![tactic(auto)]
+
+mod bit_array;
+mod coder_error;
+mod semantics;
+#[cfg(test)]
+mod tests;
+mod words;
+
+pub use crate::bit_array::{BitArray, NonZeroBitArray};
+pub use crate::coder_error::CoderError;
+pub use crate::semantics::{Queue, Semantics, Stack};

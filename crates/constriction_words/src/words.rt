@@ -1,0 +1,3 @@
+//! The words of std: its unsigned integers, a file for each width.
+
+mod u8;

@@ -1,0 +1,98 @@
+//! `u8` as a word.
+
+ghost use Rattle.std.specs.Prelude.{ℕ};
+ghost use Rattle.std.specs.Int.NonZero.{non_zero_u8_get};
+ghost use Rattle.std.proofs.Common.{refl, lit≤};
+ghost use Rattle.std.proofs.lemmas.Bool.Decides.{Decides-eqb};
+ghost use Rattle.constriction_words.specs.Word.{pos-nonzero, lt-whole, le-whole};
+
+use crate::bit_array::{BitArray, NonZeroBitArray};
+use std::num::NonZeroU8;
+
+impl NonZeroBitArray for NonZeroU8 {
+    type Base = u8;
+
+    ghost base = { non_zero_u8_get };
+
+    fn new(n: u8) -> Option<NonZeroU8> {
+        NonZeroU8::new(n)
+    }
+
+    fn new_unchecked(n: u8) -> NonZeroU8 {
+        NonZeroU8::new(n).unwrap()
+    }
+
+    fn get(self) -> u8 {
+        NonZeroU8::get(self)
+    }
+
+    ghost nonzero_law = { λ x e. pos-nonzero (non_zero_u8_get x) x.ok e };
+}
+
+impl BitArray for u8 {
+    const BITS: usize = 8;
+
+    ghost BITS = { 8 };
+
+    type NonZero = NonZeroU8;
+
+    ghost whole = { λ x. x };
+
+    fn into_nonzero(self) -> Option<NonZeroU8> {
+        NonZeroU8::new(self)
+    }
+
+    fn into_nonzero_unchecked(self) -> NonZeroU8 {
+        NonZeroU8::new(self).unwrap()
+    }
+
+    fn wrapping_add(&self, v: &u8) -> u8 {
+        u8::wrapping_add(*self, *v)
+    }
+
+    fn wrapping_sub(&self, v: &u8) -> u8 {
+        u8::wrapping_sub(*self, *v)
+    }
+
+    fn wrapping_mul(&self, v: &u8) -> u8 {
+        u8::wrapping_mul(*self, *v)
+    }
+
+    ghost value_law = { λ x. refl };
+
+    ghost fits_law = { λ z. ((λ h. h), (λ h. h)) };
+
+    ghost width_law = { (refl, lit≤ tt) };
+
+    ghost same_law = { λ a b e. e };
+
+    ghost eq_law = { Decides-eqb };
+
+    ghost lt_law = { lt-whole };
+
+    ghost le_law = { le-whole };
+
+    ghost zero_law = { refl };
+
+    ghost one_law = { refl };
+
+    ghost highest_law = { refl };
+
+    ghost default_law = { λ x e. e };
+
+    ghost add_law = { λ a b. ((λ h. h), (λ r e. e)) };
+
+    ghost can_sub_law = { λ a b h. h };
+
+    ghost sub_law = { λ a b r e. e };
+
+    ghost mul_law = { λ a b. ((λ h. h), (λ r e. e)) };
+
+    ghost div_law = { λ a b. ((λ h. h), (λ r e. e)) };
+
+    ghost rem_law = { λ a b. ((λ h. h), (λ r e. e)) };
+
+    ghost shl_law = { λ a n. ((λ h. h), (λ r e. e)) };
+
+    ghost shr_law = { λ a n. ((λ h. h), (λ r e. e)) };
+}
