@@ -1,7 +1,7 @@
 //! The contiguous model and the counted search, over worked tables.
 
-ghost use Rattle.std.specs.Prelude.{◌*◌, ◌^◌, ◌<◌, ◌≤◌, map};
-ghost use Rattle.constriction.specs.Rows.{indices};
+ghost use Rattle.std.specs.Prelude.{◌^◌, ◌<◌, ◌≤◌};
+ghost use Rattle.constriction.specs.Evens.{evens};
 
 use crate::stream::model::{
     ContiguousCategoricalEntropyModel, DecoderModel, EncoderModel, ModelError, Probe,
@@ -204,10 +204,11 @@ struct Evens {
 impl Probe for Evens {
     type Word = u16;
 
-    ghost cumulatives = { λ p. map (λ i. 2 * i) (indices p.size) };
+    ghost cumulatives = { λ p. evens p.size };
 
     ghost questions = { λ p. p.asked };
 
+    #[tactic(auto, using(crate::proofs::EvenLemmas::length_evens))]
     fn len(&self) -> usize {
         self.size
     }
@@ -216,6 +217,7 @@ impl Probe for Evens {
         self.asked
     }
 
+    #[tactic(auto, using(crate::proofs::EvenLemmas::length_evens, crate::proofs::EvenLemmas::evens_at))]
     fn at_most(&mut self, index: usize, q: u16) -> bool {
         self.asked += 1;
         2 * index <= q as usize
@@ -223,6 +225,7 @@ impl Probe for Evens {
 }
 
 #[test]
+#[tactic(auto, using(crate::proofs::EvenLemmas::length_evens))]
 fn a_table_of_the_caller_is_searched(rt: HostRuntime) {
     let mut rows = Evens {
         size: 1000,
