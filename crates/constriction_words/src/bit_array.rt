@@ -100,27 +100,35 @@ pub trait BitArray: PrimInt + Default + Copy + Display + Debug + Eq + Hash {
 
     ghost default_law: { (x : Self) → Self.is_default x → whole x ≡ 0 };
 
-    // Each operation may be used where the exact number fits, and then gives it.
-    ghost add_law: { (a b : Self) → (whole a + whole b < 2 ^ BITS → Self.can_add a b)
-        × ((r : Self) → Self.add_gives a b r → whole r ≡ whole a + whole b) };
+    // Each operation may be used where the exact number fits, and gives that number. Two laws each, since a proof search takes a law
+    // for what it concludes.
+    ghost can_add_law: { (a b : Self) → whole a + whole b < 2 ^ BITS → Self.can_add a b };
 
-    // A difference has its two halves apart, since a proof search reads the second only from a law of its own.
+    ghost add_law: { (a b r : Self) → Self.add_gives a b r → whole r ≡ whole a + whole b };
+
     ghost can_sub_law: { (a b : Self) → whole b ≤ whole a → Self.can_sub a b };
 
     ghost sub_law: { (a b r : Self) → Self.sub_gives a b r → whole r ≡ whole a - whole b };
 
-    ghost mul_law: { (a b : Self) → (whole a * whole b < 2 ^ BITS → Self.can_mul a b)
-        × ((r : Self) → Self.mul_gives a b r → whole r ≡ whole a * whole b) };
+    ghost can_mul_law: { (a b : Self) → whole a * whole b < 2 ^ BITS → Self.can_mul a b };
 
-    ghost div_law: { (a b : Self) → (0 < whole b → Self.can_div a b)
-        × ((r : Self) → Self.div_gives a b r → whole r ≡ whole a / whole b) };
+    ghost mul_law: { (a b r : Self) → Self.mul_gives a b r → whole r ≡ whole a * whole b };
 
-    ghost rem_law: { (a b : Self) → (0 < whole b → Self.can_rem a b)
-        × ((r : Self) → Self.rem_gives a b r → whole r ≡ whole a % whole b) };
+    ghost can_div_law: { (a b : Self) → 0 < whole b → Self.can_div a b };
 
-    ghost shl_law: { (a : Self) (n : ℕ) → (n < BITS → Self.can_shl a n)
-        × ((r : Self) → Self.shl_gives a n r → whole r ≡ (whole a * 2 ^ n) % 2 ^ BITS) };
+    ghost div_law: { (a b r : Self) → Self.div_gives a b r → whole r ≡ whole a / whole b };
 
-    ghost shr_law: { (a : Self) (n : ℕ) → (n < BITS → Self.can_shr a n)
-        × ((r : Self) → Self.shr_gives a n r → whole r ≡ whole a / 2 ^ n) };
+    ghost can_rem_law: { (a b : Self) → 0 < whole b → Self.can_rem a b };
+
+    ghost rem_law: { (a b r : Self) → Self.rem_gives a b r → whole r ≡ whole a % whole b };
+
+    ghost can_shl_law: { (a : Self) (n : ℕ) → n < BITS → Self.can_shl a n };
+
+    ghost shl_law: { (a : Self) (n : ℕ) (r : Self) → Self.shl_gives a n r
+        → whole r ≡ (whole a * 2 ^ n) % 2 ^ BITS };
+
+    ghost can_shr_law: { (a : Self) (n : ℕ) → n < BITS → Self.can_shr a n };
+
+    ghost shr_law: { (a : Self) (n : ℕ) (r : Self) → Self.shr_gives a n r
+        → whole r ≡ whole a / 2 ^ n };
 }

@@ -80,19 +80,31 @@ impl BitArray for u8 {
 
     ghost default_law = { λ x e. e };
 
-    ghost add_law = { λ a b. ((λ h. h), (λ r e. e)) };
+    ghost can_add_law = { λ a b h. h };
+
+    ghost add_law = { λ a b r e. e };
 
     ghost can_sub_law = { λ a b h. h };
 
     ghost sub_law = { λ a b r e. e };
 
-    ghost mul_law = { λ a b. ((λ h. h), (λ r e. e)) };
+    ghost can_mul_law = { λ a b h. h };
 
-    ghost div_law = { λ a b. ((λ h. h), (λ r e. e)) };
+    ghost mul_law = { λ a b r e. e };
 
-    ghost rem_law = { λ a b. ((λ h. h), (λ r e. e)) };
+    ghost can_div_law = { λ a b h. h };
 
-    ghost shl_law = { λ a n. ((λ h. h), (λ r e. e)) };
+    ghost div_law = { λ a b r e. e };
 
-    ghost shr_law = { λ a n. ((λ h. h), (λ r e. e)) };
+    ghost can_rem_law = { λ a b h. h };
+
+    ghost rem_law = { λ a b r e. e };
+
+    ghost can_shl_law = { λ a n h. h };
+
+    ghost shl_law = { λ a n r e. e };
+
+    ghost can_shr_law = { λ a n h. h };
+
+    ghost shr_law = { λ a n r e. e };
 }

@@ -1,0 +1,5 @@
+mod Digits
+mod FillLemmas
+mod Halving
+mod Powers
+mod ProbeLemmas

@@ -1,0 +1,15 @@
+use Rattle.std.proofs.Common.{ap}
+use Rattle.constriction.specs.Rows.{contiguous_rows}
+use Rattle.constriction.specs.StoredLemmas.{stored-of}
+use Rattle.constriction.proofs.stream.model.categorical.contiguous.ContiguousCategoricalEntropyModel+Probability+Vec+Probability+PRECISION.from_nonzero_fixed_point_probabilities.Goals as goal
+
+pub invariant_of-result : goal.invariant_of-result
+invariant_of-result g c =
+    let good = c.in_ok-cdf.ensures.ok.2.2 in
+    record { precise = (c.requires.positive, c.requires.fits); stored = (stored-of _ _ _ _ good.1 good.0).0 }
+
+pub returns-clause-ok : goal.returns-clause-ok
+returns-clause-ok g c =
+    let given = c.in_ok-cdf.ensures.ok in
+    let good = given.2.2 in
+    (given.0, given.1, (given.2.0, given.2.1, (good.0, ap contiguous_rows (stored-of _ _ _ _ good.1 good.0).1)))

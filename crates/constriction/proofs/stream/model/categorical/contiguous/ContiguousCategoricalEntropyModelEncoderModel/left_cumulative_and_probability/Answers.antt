@@ -1,0 +1,23 @@
+use Rattle.std.proofs.Common.{◌≡◌, length, map, ap, sym, ◌∙◌, arith}
+use Rattle.std.proofs.lemmas.List.{length-map}
+use Rattle.constriction.specs.StoredRows.{stored-entry, stored-no_entry}
+use Rattle.constriction.proofs.stream.model.categorical.contiguous.ContiguousCategoricalEntropyModelEncoderModel.left_cumulative_and_probability.Goals as goal
+
+pub returns-then-symbol-cdf : goal.returns-then-symbol-cdf
+returns-then-symbol-cdf g c =
+    let whole = g.Probability.BitArray.whole in
+    let words = c.words-cdf.result.now in
+    let same : map whole words ≡ map whole (g.Cdf.SafeBuf.words_of c.args.self.now.cdf) = ap (map whole) c.words-cdf.ensures in
+    let long : length (map whole words) ≡ length words = length-map words whole in
+    stored-entry _ _ _ c.args.self.now.stored c.args.symbol.now _ _
+    (rw (← same) (omega (arith, c.if-symbol-cdf.true)))
+    (rw (← same) c.row_at.ensures.left)
+    (rw (← same) c.row_at.ensures.weight)
+
+pub returns-else-symbol-cdf : goal.returns-else-symbol-cdf
+returns-else-symbol-cdf g c =
+    let whole = g.Probability.BitArray.whole in
+    let words = c.words-cdf.result.now in
+    let same : map whole words ≡ map whole (g.Cdf.SafeBuf.words_of c.args.self.now.cdf) = ap (map whole) c.words-cdf.ensures in
+    let long : length (map whole words) ≡ length words = length-map words whole in
+    stored-no_entry _ _ _ c.args.self.now.stored c.args.symbol.now (rw (← same) (omega (arith, c.if-symbol-cdf.false)))

@@ -1,0 +1,106 @@
+use Rattle.std.specs.Prelude.{◌≡◌, ◌+◌, ◌-◌, ◌^◌, ◌<◌, ◌≤◌, ◌⊎◌, IsTrue, Bool, true, false, map, sum, Some, None, Option}
+use Rattle.std.proofs.Common.{ap, sym, ◌∙◌, arith, subst, inl, inr, rules, tests}
+use Rattle.std.proofs.lemmas.Bool.{cases_lt}
+use Rattle.std.proofs.lemmas.Nat.{pow_pos}
+use Rattle.std.specs.Iterator.{Yields}
+use Rattle.constriction.specs.Filling.{IsFilled}
+use Rattle.constriction.proofs.FillLemmas.{filled-more, bad-more, bad-full, bad-wide, good-inferred, yields-more, zero-or-much}
+use Rattle.constriction.proofs.stream.model.categorical.filling.lefts_of.Goals as goal
+
+pub returns-in_default-clause-invalid : goal.returns-in_default-clause-invalid
+returns-in_default-clause-invalid g c = λ _.
+    let whole = g.P.BitArray.whole in
+    let w = c.in-Some.weight in
+    let f : IsFilled whole g.P.BitArray.BITS g.row.PRECISION c.rows.yielded c.rows.table.items None =
+    subst (λ (o : Option g.row.P.Denot). IsFilled whole g.P.BitArray.BITS g.row.PRECISION c.rows.yielded c.rows.table.items o) (let none : c.rows.end ≡ None = search rules in none) c.rows.invariant.2 in (
+      c.into_iter-weight-iterator.result,
+      c.into_iter-weight-iterator.ensures.into_iter_gives,
+      inr (
+        _,
+        _,
+        yields-more g.I.IntoIter.Iterator.next_gives _ _ _ w _ c.rows.yielded_by c.in-Some.ensures.steps,
+        λ more. bad-more whole g.P.BitArray.BITS g.row.PRECISION c.args.infer_last c.rows.yielded more w (zero-or-much (whole w) _ _ f.is),
+      ),
+    )
+
+pub returns-in_err-next-clause-invalid : goal.returns-in_err-next-clause-invalid
+returns-in_err-next-clause-invalid g c = λ _.
+    let whole = g.P.BitArray.whole in
+    let w = c.in-Some.weight in
+    let f : IsFilled whole g.P.BitArray.BITS g.row.PRECISION c.rows.yielded c.rows.table.items (Some c.in-Some-end.left) =
+    subst (λ (o : Option g.row.P.Denot). IsFilled whole g.P.BitArray.BITS g.row.PRECISION c.rows.yielded c.rows.table.items o) c.in-Some-end.is c.rows.invariant.2 in (
+      c.into_iter-weight-iterator.result,
+      c.into_iter-weight-iterator.ensures.into_iter_gives,
+      inr (
+        _,
+        _,
+        yields-more g.I.IntoIter.Iterator.next_gives _ _ _ w _ c.rows.yielded_by c.in-Some.ensures.steps,
+        λ more. bad-more whole g.P.BitArray.BITS g.row.PRECISION c.args.infer_last c.rows.yielded more w (rw (← f.is) c.in_err-next.ensures.err.1),
+      ),
+    )
+
+pub rows-preserved : goal.rows-preserved
+rows-preserved g c =
+    let whole = g.P.BitArray.whole in
+    let f : IsFilled whole g.P.BitArray.BITS g.row.PRECISION c.rows.yielded c.rows.table.items (Some c.in-Some-end.left) =
+    subst (λ (o : Option g.row.P.Denot). IsFilled whole g.P.BitArray.BITS g.row.PRECISION c.rows.yielded c.rows.table.items o) c.in-Some-end.is c.rows.invariant.2 in
+    let next = c.in-Some.ensures.goes.on c.rows.invariant.1 in
+    (next.0, next.1, rw c.in_ok-push.ensures.items (filled-more whole g.P.BitArray.BITS g.row.PRECISION c.rows.yielded c.rows.table.items c.in-Some-end.left c.in-Some.weight c.in_ok-next.next f c.in_ok-next.ensures.ok))
+
+pub returns-then-infer_last-clause-invalid : goal.returns-then-infer_last-clause-invalid
+returns-then-infer_last-clause-invalid g c = λ _.
+    let whole = g.P.BitArray.whole in
+    let f : IsFilled whole g.P.BitArray.BITS g.row.PRECISION c.rows.yielded c.rows.table.items None =
+    subst (λ (o : Option g.row.P.Denot). IsFilled whole g.P.BitArray.BITS g.row.PRECISION c.rows.yielded c.rows.table.items o) c.in-None-end.is c.rows.invariant.2 in (
+      c.into_iter-weight-iterator.result,
+      c.into_iter-weight-iterator.ensures.into_iter_gives,
+      inl (
+        c.rows.yielded,
+        (_, (_, c.rows.yielded_by, c.in-None.ensures.steps)),
+        rw c.if-infer_last.true (bad-full whole g.P.BitArray.BITS g.row.PRECISION c.rows.yielded c.rows.table.items f),
+      ),
+    )
+
+pub returns-then-eq-clause-invalid : goal.returns-then-eq-clause-invalid
+returns-then-eq-clause-invalid g c = λ _.
+    let P = g.met.P.BitArray in
+    let whole = g.P.BitArray.whole in
+    let f : IsFilled whole g.P.BitArray.BITS g.row.PRECISION c.rows.yielded c.rows.table.items (Some c.in-Some-end-2.left) =
+    subst (λ (o : Option g.row.P.Denot). IsFilled whole g.P.BitArray.BITS g.row.PRECISION c.rows.yielded c.rows.table.items o) c.in-Some-end-2.is c.rows.invariant.2 in (
+      c.into_iter-weight-iterator.result,
+      c.into_iter-weight-iterator.ensures.into_iter_gives,
+      inl (
+        c.rows.yielded,
+        (_, (_, c.rows.yielded_by, c.in-None.ensures.steps)),
+        let infer : c.args.infer_last ≡ true = search rules in
+            rw infer (bad-wide whole g.P.BitArray.BITS g.row.PRECISION c.rows.yielded c.rows.table.items c.in-Some-end-2.left f
+            (let top : whole c.max_value.result ≡ 2 ^ g.P.BitArray.BITS - 1 = ap whole c.max_value.ensures.own ∙ P.highest_law in
+            let same : whole c.sub.result ≡ whole c.max_value.result = (P.eq_law _ _).0 (let is : IsTrue (g.P.PartialEq.eq c.sub.result c.max_value.result) = search rules in is) in
+            omega (arith, P.sub_law _ _ _ c.sub.ensures, c.greatest_quantile.ensures.value, f.below, pow_pos g.P.BitArray.BITS))),
+      ),
+    )
+
+pub returns-in_ok-push-in-Some-end-2-clause-ok : goal.returns-in_ok-push-in-Some-end-2-clause-ok
+returns-in_ok-push-in-Some-end-2-clause-ok g c =
+    let P = g.met.P.BitArray in
+    let whole = g.P.BitArray.whole in
+    let f : IsFilled whole g.P.BitArray.BITS g.row.PRECISION c.rows.yielded c.rows.table.items (Some c.in-Some-end-2.left) =
+    subst (λ (o : Option g.row.P.Denot). IsFilled whole g.P.BitArray.BITS g.row.PRECISION c.rows.yielded c.rows.table.items o) c.in-Some-end-2.is c.rows.invariant.2 in (
+      c.into_iter-weight-iterator.result,
+      c.into_iter-weight-iterator.ensures.into_iter_gives,
+      (
+        c.rows.yielded,
+        (_, (_, c.rows.yielded_by, c.in-None.ensures.steps)),
+        let infer : c.args.infer_last ≡ true = search rules in
+            rw (infer, c.in_ok-push-in-Some-end-2.ensures.items) (good-inferred whole g.P.BitArray.BITS g.row.PRECISION c.rows.yielded c.rows.table.items c.in-Some-end-2.left f
+            (let top : whole c.max_value.result ≡ 2 ^ g.P.BitArray.BITS - 1 = ap whole c.max_value.ensures.own ∙ P.highest_law in
+            elim (cases_lt (2 ^ g.row.PRECISION) (2 ^ g.P.BitArray.BITS + whole c.in-Some-end-2.left)) [
+              | inl narrow ↦ narrow
+              | inr wide ↦
+                  let same : whole c.sub.result ≡ whole c.max_value.result =
+                  omega (arith, P.sub_law _ _ _ c.sub.ensures, c.greatest_quantile.ensures.value, c.greatest_quantile.ensures.within, f.below, pow_pos g.P.BitArray.BITS) in
+                  let is : IsTrue (g.P.PartialEq.eq c.sub.result c.max_value.result) = (P.eq_law _ _).1 same in
+                  absurd (search (rules, tests))
+            ])),
+      ),
+    )

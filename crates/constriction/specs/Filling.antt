@@ -1,0 +1,23 @@
+-- How far the quantiles below 2 ^ precision are filled. No public clause cites this module.
+use Rattle.std.specs.Prelude.{◌≡◌, ℕ, ◌+◌, ◌^◌, ◌<◌, List, All, map, sum, Option, Some, None, IfSome}
+use Rattle.constriction.specs.Stored.{lefts_from}
+
+-- where the next row would begin: none where all quantiles are filled
+abbrev pub end_of : {Word : Type 0} → (Word → ℕ) → ℕ → Option Word → ℕ
+end_of whole precision (Some next) = whole next
+end_of whole precision None = 2 ^ precision
+
+-- the quantiles of a row that begins at `left` end there
+pub record IsRowEnd {Word : Type 0} (whole : Word → ℕ) (bits precision : ℕ) (left weight : Word) (end : Option Word) : Type 0 where
+  pub positive : 0 < whole weight
+  pub fits : whole weight < 2 ^ bits
+  pub is : end_of whole precision end ≡ whole left + whole weight
+  pub below : IfSome end (λ next. whole next < 2 ^ precision)
+
+-- the table holds where the rows of these weights begin, and the next one would begin at `end`
+pub record IsFilled {Word : Type 0} (whole : Word → ℕ) (bits precision : ℕ) (weights : List Word) (table : List Word) (end : Option Word) : Type 0 where
+  pub positive : All (λ w. 0 < w) (map whole weights)
+  pub fit : All (λ w. w < 2 ^ bits) (map whole weights)
+  pub lefts : map whole table ≡ lefts_from 0 (map whole weights)
+  pub is : end_of whole precision end ≡ sum (map whole weights)
+  pub below : IfSome end (λ next. whole next < 2 ^ precision)

@@ -1,0 +1,10 @@
+pub mod Acceptance
+pub mod Filling
+pub mod Model
+pub mod Narrowing
+pub mod Probe
+pub mod RowLemmas
+pub mod Rows
+pub mod Stored
+pub mod StoredLemmas
+pub mod StoredRows

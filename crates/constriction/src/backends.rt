@@ -1,0 +1,3 @@
+//! Where words are written to and read from.
+
+pub use constriction_backends::{ReadWords, SafeBuf, WriteWords};

@@ -1,0 +1,3 @@
+//! What stream coders stand on.
+
+pub mod model;

@@ -1,0 +1,18 @@
+//! Entropy models: which interval of quantiles each symbol has.
+
+mod categorical;
+mod cdf_probe;
+mod error;
+mod probe;
+mod reference;
+mod search;
+#[cfg(test)]
+mod tests;
+mod traits;
+
+pub use crate::stream::model::categorical::contiguous::ContiguousCategoricalEntropyModel;
+pub use crate::stream::model::cdf_probe::{Alone, CdfEntry, CdfProbe, WithSymbol};
+pub use crate::stream::model::error::ModelError;
+pub use crate::stream::model::probe::Probe;
+pub use crate::stream::model::search::row_of_quantile;
+pub use crate::stream::model::traits::{DecoderModel, EncoderModel, EntropyModel, Weight};

@@ -1,0 +1,5 @@
+//! Models that are given by a list of weights.
+
+pub mod contiguous;
+mod filling;
+mod stored;

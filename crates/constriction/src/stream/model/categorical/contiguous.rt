@@ -1,0 +1,184 @@
+//! Models of the symbols 0, 1, .., which find the row of a quantile by a search.
+
+ghost use Rattle.std.specs.Prelude.{◌≡◌, ◌+◌, ◌^◌, ◌<◌, ◌≤◌, ℕ, length, map, nat_eq, IfOk, IsOk, ⊤};
+ghost use Rattle.std.specs.Iterator.{IsFiniteIterable};
+ghost use Rattle.constriction.specs.Acceptance.{completed, IsAccepted, GaveGood, GaveBad};
+ghost use Rattle.constriction.specs.Model.{row_of};
+ghost use Rattle.constriction.specs.Probe.{TellsRows, IsRowIndexOf, IsSearchable, IsLastAtMost};
+ghost use Rattle.constriction.specs.Rows.{contiguous_rows, IsRowOf};
+ghost use Rattle.constriction.specs.Stored.{IsStored, weights_of};
+ghost use Rattle.constriction.specs.StoredRows.{stored-within, stored-tiles};
+
+use crate::stream::model::categorical::filling::lefts_of;
+use crate::stream::model::categorical::stored::row_at;
+use crate::stream::model::cdf_probe::{Alone, CdfProbe};
+use crate::stream::model::error::ModelError;
+use crate::stream::model::probe::Probe;
+use crate::stream::model::search::row_of_quantile;
+use crate::stream::model::traits::{DecoderModel, EncoderModel, EntropyModel, Weight};
+use constriction_backends::SafeBuf;
+use constriction_words::BitArray;
+use std::alloc::{AllocError, Global};
+use std::marker::PhantomData;
+
+/// A model of the symbols 0, 1, .., given by their weights.
+///
+/// It stores one word a symbol, the left cumulative, in a buffer of the caller's choice.
+#[derive(Drop)]
+pub struct ContiguousCategoricalEntropyModel<
+    Probability: BitArray,
+    Cdf: SafeBuf<Probability>,
+    const PRECISION: usize,
+> {
+    cdf: Cdf,
+    probability: PhantomData<Probability>,
+    ghost precise: { (0 < PRECISION) × (PRECISION ≤ Probability.BITS) },
+    ghost stored: { IsStored Probability.BITS PRECISION (map Probability.whole (Cdf.words_of cdf)) },
+}
+
+impl<Probability: BitArray, const PRECISION: usize> ContiguousCategoricalEntropyModel<
+    Probability,
+    Vec<Probability>,
+    PRECISION,
+> {
+    /// The model of these weights. Where the last weight is inferred, it is what the given ones
+    /// leave of `2^PRECISION`, and there is one symbol more than given weights.
+    ///
+    /// The weights are accepted exactly where they are all positive, the inferred one included,
+    /// their sum is `2^PRECISION`, and each of them is a word. So below the full width of the word
+    /// the single weight `2^PRECISION` is accepted, and so is no weight at all where one is
+    /// inferred; at the full width neither exists. `InvalidTable` comes where they are not
+    /// accepted, as soon as that is known: the iterator is then not read further. `OutOfMemory`
+    /// comes where memory for the table is refused. Either leaves no model.
+    ///
+    /// One pass over the weights, and one word of memory a symbol.
+    pub fn from_nonzero_fixed_point_probabilities<I: IntoIterator<Item = Probability>>(
+        alloc: Global,
+        probabilities: I,
+        infer_last_probability: bool,
+    ) -> Result<Self, ModelError>
+        requires positive { 0 < PRECISION }
+        requires fits { PRECISION ≤ Probability.BITS }
+        requires ends { IsFiniteIterable I.into_iter_gives I.IntoIter.can_next I.IntoIter.remaining
+            probabilities }
+        ensures ok { IfOk result (λ m. (it : I.IntoIter) × I.into_iter_gives probabilities it
+            × GaveGood I.IntoIter.next_gives it (λ ws.
+            let weights = completed PRECISION infer_last_probability (map Probability.whole ws) in
+            IsAccepted Probability.BITS PRECISION weights
+            × (⟦<ContiguousCategoricalEntropyModel<Probability, Vec<Probability>, PRECISION> as EntropyModel<PRECISION>>⟧.rows m
+            ≡ contiguous_rows weights))) }
+        ensures invalid { result ≡ Err ModelError.InvalidTable → (it : I.IntoIter)
+            × I.into_iter_gives probabilities it
+            × GaveBad I.IntoIter.next_gives it (λ ws. IsAccepted Probability.BITS PRECISION
+            (completed PRECISION infer_last_probability (map Probability.whole ws))) }
+    {
+        let cdf = lefts_of::<Probability, I, PRECISION>(
+            alloc,
+            probabilities,
+            infer_last_probability,
+        )?;
+        Ok(Self {
+            cdf,
+            probability: PhantomData,
+        })
+    }
+}
+
+impl<
+    Probability: BitArray,
+    Cdf: SafeBuf<Probability>,
+    const PRECISION: usize,
+> ContiguousCategoricalEntropyModel<Probability, Cdf, PRECISION> {
+    /// How many symbols the model has.
+    #[inline]
+    pub fn support_size(&self) -> usize
+        ensures { result ≡ length
+            (⟦<ContiguousCategoricalEntropyModel<Probability, Cdf, PRECISION> as EntropyModel<PRECISION>>⟧.rows self.now) }
+    {
+        self.cdf.words().len()
+    }
+
+    /// A probe of the rows in question for a quantile, which are all rows, and the index of the
+    /// first of them. What [`row_of_quantile`] answers on it, plus that index, is the index of the
+    /// quantile's row.
+    #[inline]
+    pub fn quantile_probe<'m>(
+        &'m self,
+        quantile: Probability,
+    ) -> (usize, CdfProbe<'m, Probability, Alone>)
+        requires { Probability.whole quantile < 2 ^ PRECISION }
+        ensures rows { TellsRows
+            (⟦<ContiguousCategoricalEntropyModel<Probability, Cdf, PRECISION> as EntropyModel<PRECISION>>⟧.rows self.now)
+            (λ _. ⊤) result.0 (⟦<CdfProbe<'m, Probability, Alone> as Probe>⟧.cumulatives result.1) }
+        ensures searchable { IsSearchable (⟦<CdfProbe<'m, Probability, Alone> as Probe>⟧.cumulatives result.1)
+            (Probability.whole quantile) }
+        ensures fresh { ⟦<CdfProbe<'m, Probability, Alone> as Probe>⟧.questions result.1 ≡ 0 }
+        ensures found { (i : ℕ)
+            → IsLastAtMost (⟦<CdfProbe<'m, Probability, Alone> as Probe>⟧.cumulatives result.1)
+            (Probability.whole quantile) i
+            → IsRowIndexOf
+            (⟦<ContiguousCategoricalEntropyModel<Probability, Cdf, PRECISION> as EntropyModel<PRECISION>>⟧.rows self.now)
+            (Probability.whole quantile) (result.0 + i) }
+    {
+        (0, CdfProbe::new(self.cdf.words()))
+    }
+}
+
+impl<Probability: BitArray, Cdf: SafeBuf<Probability>, const PRECISION: usize> EntropyModel<
+    PRECISION,
+> for ContiguousCategoricalEntropyModel<Probability, Cdf, PRECISION> {
+    type Symbol = usize;
+
+    type Probability = Probability;
+
+    ghost rows = { λ m. contiguous_rows (weights_of PRECISION (map Probability.whole (Cdf.words_of m.cdf))) };
+}
+
+impl<Probability: BitArray, Cdf: SafeBuf<Probability>, const PRECISION: usize> EncoderModel<
+    PRECISION,
+> for ContiguousCategoricalEntropyModel<Probability, Cdf, PRECISION> {
+    ghost symbol_eq = { nat_eq };
+
+    #[inline]
+    fn left_cumulative_and_probability(
+        &self,
+        symbol: &usize,
+    ) -> Option<(Probability, Weight<Probability>)> {
+        let cdf = self.cdf.words();
+        if *symbol < cdf.len() {
+            Some(row_at::<Probability, PRECISION>(cdf, *symbol))
+        } else {
+            None
+        }
+    }
+
+    ghost within_law = { λ m. stored-within _ _ _ m.stored };
+}
+
+impl<Probability: BitArray, Cdf: SafeBuf<Probability>, const PRECISION: usize> DecoderModel<
+    PRECISION,
+> for ContiguousCategoricalEntropyModel<Probability, Cdf, PRECISION> {
+    ghost clones_are_same = { ⊤ };
+
+    /// The row of a quantile, by [`row_of_quantile`]. It takes no memory and always succeeds.
+    #[inline]
+    fn quantile_function(
+        &self,
+        quantile: Probability,
+    ) -> Result<(usize, Probability, Weight<Probability>), AllocError>
+        requires clones { ⊤ }
+        requires in_range { Probability.whole quantile < 2 ^ PRECISION }
+        ensures row { IfOk result (λ x. IsRowOf
+            (⟦<ContiguousCategoricalEntropyModel<Probability, Cdf, PRECISION> as EntropyModel<PRECISION>>⟧.rows self.now)
+            (Probability.whole quantile) (row_of Probability.whole Probability.NonZero.base x)) }
+        ensures succeeds { IsOk result }
+    {
+        let cdf = self.cdf.words();
+        let (first, mut rows) = self.quantile_probe(quantile);
+        let index = first + row_of_quantile(&mut rows, quantile);
+        let (left, weight) = row_at::<Probability, PRECISION>(cdf, index);
+        Ok((index, left, weight))
+    }
+
+    ghost tile_law = { λ m. stored-tiles _ _ _ m.stored };
+}

@@ -1,0 +1,65 @@
+//! The traits of models: what a model tells, and what it answers in each direction.
+
+ghost use Rattle.std.specs.Prelude.{◌≡◌, ◌^◌, ◌<◌, Bool, List, All, IfOk};
+ghost use Rattle.std.specs.Option.{option_map};
+ghost use Rattle.constriction.specs.Rows.{Row, RowsTile, IsRowOf, entry_of};
+ghost use Rattle.constriction.specs.Model.{row_of, entry_in, LiesWithin};
+
+use constriction_words::BitArray;
+use std::alloc::AllocError;
+
+/// What weights are in the answers of a model over the words `P`: words that are not 0.
+pub type Weight<P> = <P as BitArray>::NonZero;
+
+/// An entropy model in fixed-point arithmetic: a list of rows, each of which gives a symbol an
+/// interval of the quantiles `0..2^PRECISION`.
+///
+/// `PRECISION` is at least 1 and at most [`BitArray::BITS`] of the words that quantiles are.
+pub trait EntropyModel<const PRECISION: usize> {
+    /// What is coded.
+    type Symbol;
+
+    /// The words that quantiles, left cumulatives and weights are.
+    type Probability: BitArray;
+
+    // The rows of a model. Where several of the traits below hold of a type, all of them answer from these.
+    ghost rows: { Self → List (Row Self.Symbol) };
+}
+
+/// A model that an encoder asks: it knows the entry of each symbol.
+pub trait EncoderModel<const PRECISION: usize>: EntropyModel<PRECISION> {
+    // Whether two symbols are equal, by their type's own equality.
+    ghost symbol_eq: { Self.Symbol → Self.Symbol → Bool };
+
+    /// The entry of a symbol: its left cumulative and its weight. `None` says that the model has
+    /// no such symbol, so that it cannot be encoded.
+    fn left_cumulative_and_probability(
+        &self,
+        symbol: &Self::Symbol,
+    ) -> Option<(Self::Probability, Weight<Self::Probability>)>
+        ensures { option_map (entry_in Self.Probability.whole Self.Probability.NonZero.base) result
+            ≡ entry_of symbol_eq (Self.rows self.now) symbol.now };
+
+    // Each row has quantiles, and all of them lie below 2 ^ PRECISION.
+    ghost within_law: { (m : Self) → All (LiesWithin PRECISION) (Self.rows m) };
+}
+
+/// A model that a decoder asks: it knows the row of each quantile.
+pub trait DecoderModel<const PRECISION: usize>: EntropyModel<PRECISION> {
+    // Where answers are clones of symbols: that a clone is the same value. A model that clones none owes nothing.
+    ghost clones_are_same: { Type 0 };
+
+    /// The row of a quantile: the symbol whose interval holds it, the left cumulative and the
+    /// weight. It fails only where memory for a clone of the symbol is refused.
+    fn quantile_function(
+        &self,
+        quantile: Self::Probability,
+    ) -> Result<(Self::Symbol, Self::Probability, Weight<Self::Probability>), AllocError>
+        requires clones { clones_are_same }
+        requires in_range { Self.Probability.whole quantile < 2 ^ PRECISION }
+        ensures row { IfOk result (λ x. IsRowOf (Self.rows self.now) (Self.Probability.whole quantile)
+            (row_of Self.Probability.whole Self.Probability.NonZero.base x)) };
+
+    // The rows tile the quantiles, so that each quantile has exactly one row.
+    ghost tile_law: { (m : Self) → RowsTile Self.Probability.BITS PRECISION (Self.rows m) };
+}

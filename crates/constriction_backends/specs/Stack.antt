@@ -1,0 +1,29 @@
+-- A list as a stack, whose top is its end, and that its steps meet the laws of sources and sinks.
+use Rattle.std.specs.Prelude.{◌≡◌, List, [], ◌∷◌, ◌++◌, reverse, Option, Some, None, Result, Ok, Err, MatchResult, MatchOption}
+use Rattle.std.proofs.Common.{sym, ◌∙◌, ap}
+use Rattle.std.proofs.lemmas.List.{reverse-append}
+use Rattle.constriction_backends.specs.Source.{ReadsTold}
+use Rattle.constriction_backends.specs.Sink.{WritesTold}
+
+-- a read answers the last word and drops it, or None on the empty list, and no error
+abbrev pub Pops : {W E : Type 0} → List W → Result (Option W) E → List W → Type 0
+Pops old r new = MatchResult r (λ o. MatchOption o ((old ≡ []) × (new ≡ [])) (λ w. old ≡ new ++ w ∷ [])) (λ _. ⊥)
+
+-- a write puts the word at the end, or is refused and leaves the list
+abbrev pub Pushes : {W E : Type 0} → List W → W → Result (Unit {0}) E → List W → Type 0
+Pushes old w r new = MatchResult r (λ _. new ≡ old ++ w ∷ []) (λ _. new ≡ old)
+
+module _ {S W : Type 0} (items : S → List W) {E : Type 0} where
+  -- a stack gives its words back in reverse
+  pub Pops-told : (s : S) (r : Result (Option W) E) (t : S) → Pops (items s) r (items t)
+      → (words : List W) → words ≡ reverse (items s) → ReadsTold (λ u ws. ws ≡ reverse (items u)) words r t
+  Pops-told s (Ok None) t h words e = (e ∙ ap reverse h.0, sym (ap reverse h.1))
+  Pops-told s (Ok (Some w)) t h words e =
+      (reverse (items t), e ∙ (ap reverse h ∙ reverse-append (items t) (w ∷ [])), λ _. reverse (items t))
+  Pops-told s (Err x) t h words e = absurd h
+
+  -- the words of a stack are those that were written
+  pub Pushes-told : (s : S) (w : W) (r : Result (Unit {0}) E) (t : S) → Pushes (items s) w r (items t)
+      → (words : List W) → words ≡ items s → WritesTold (λ u ws. ws ≡ items u) words w r t
+  Pushes-told s w (Ok x) t h words e = ap (λ ws. ws ++ w ∷ []) e ∙ sym h
+  Pushes-told s w (Err x) t h words e = e ∙ sym h

@@ -1,0 +1,45 @@
+//! Sources of words.
+
+ghost use Rattle.std.specs.Prelude.{◌≡◌, ◌≢◌, List, [], ⊤, Option, Result};
+ghost use Rattle.std.specs.Bool.{OnFalse};
+ghost use Rattle.constriction_backends.specs.Source.{ReadsTold};
+
+use constriction_words::Semantics;
+use std::fmt::Debug;
+
+/// A source of words, which are read in the order of `S`.
+///
+/// Having no more words is an answer, `Ok(None)`, and not an error. An implementer says which
+/// answers a read may give (`read_gives`), and may tell the words that are still to come
+/// (`tells_upcoming`): then a read answers the first of them and leaves the rest, or answers an
+/// error and leaves them all, and answers `Ok(None)` only where none is left.
+pub trait ReadWords<Word, S: Semantics> {
+    /// Why a read may fail, apart from a lack of words.
+    type ReadError: Debug;
+
+    // A read of the first state may give this answer and leave the second one.
+    ghost read_gives: { Self → Result (Option Word) Self.ReadError → Self → Type 0 };
+
+    // The words that are still to come, in the order of their reads. A source that tells no list relates to none.
+    ghost tells_upcoming: { Self → List Word → Type 0 } = { λ _ _. ⊥ };
+
+    // The states in which the source may be read. A read leads from one to another.
+    ghost can_read: { Self → Type 0 } = { λ _. ⊤ };
+
+    /// Takes the next word, or answers `Ok(None)` where there is none.
+    fn read(&mut self) -> Result<Option<Word>, Self::ReadError>
+        requires { can_read self.old }
+        ensures gives { read_gives self.old result self.new }
+        ensures goes_on { can_read self.new };
+
+    /// Whether the source may be at its end. `false` says that there is a word; `true` says nothing.
+    fn maybe_exhausted(&self) -> bool
+        ensures { OnFalse result ((words : List Word) → tells_upcoming self.now words → words ≢ []) }
+    {
+        true
+    }
+
+    // A read answers from the told list.
+    ghost reads_told: { (s : Self) (r : Result (Option Word) Self.ReadError) (t : Self) → read_gives s r t
+        → (words : List Word) → tells_upcoming s words → ReadsTold tells_upcoming words r t };
+}

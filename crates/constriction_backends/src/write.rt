@@ -1,0 +1,66 @@
+//! Sinks of words.
+
+ghost use Rattle.std.specs.Prelude.{List, ⊤, Result};
+ghost use Rattle.std.specs.Bool.{OnFalse};
+ghost use Rattle.std.specs.Iterator.{IsFinite};
+ghost use Rattle.constriction_backends.specs.Sink.{WritesTold, ExtendsBy};
+
+use std::fmt::Debug;
+
+/// A sink of words.
+///
+/// An implementer says which answers a write may give (`write_gives`), and may tell the words that
+/// were written (`tells_written`): then a write that succeeds appends its word to them, and a
+/// refused one leaves them.
+pub trait WriteWords<Word> {
+    /// Why a write may be refused.
+    type WriteError: Debug;
+
+    // A write of the word to the first state may give this answer and leave the second one.
+    ghost write_gives: { Self → Word → Result (Unit {0}) Self.WriteError → Self → Type 0 };
+
+    // The words that were written, the first one first. A sink that tells no list relates to none.
+    ghost tells_written: { Self → List Word → Type 0 } = { λ _ _. ⊥ };
+
+    // The sink surely takes one more word, want of memory aside.
+    ghost has_room: { Self → Type 0 } = { λ _. ⊥ };
+
+    // The states in which the sink may be written. A write leads from one to another.
+    ghost can_write: { Self → Type 0 } = { λ _. ⊤ };
+
+    /// Writes a word. A refused word is dropped.
+    fn write(&mut self, word: Word) -> Result<(), Self::WriteError>
+        requires { can_write self.old }
+        ensures gives { write_gives self.old word result self.new }
+        ensures goes_on { can_write self.new };
+
+    /// Writes the words of an iterator in order, and stops at the first one that is refused. The
+    /// words before it stay written, and those after it are not asked for.
+    #[tactic(auto, using(crate::specs::Sink::writes_more))]
+    fn extend_from_iter<I: Iterator<Item = Word>>(
+        &mut self,
+        iter: I,
+    ) -> Result<(), Self::WriteError>
+        requires can_write { can_write self.old }
+        requires can_next { I.can_next iter }
+        requires ends { IsFinite (I.remaining iter) }
+        ensures goes_on { can_write self.new }
+        ensures gives { ExtendsBy write_gives I.next_gives self.old iter result self.new }
+    {
+        for word in iter {
+            self.write(word)?;
+        }
+        Ok(())
+    }
+
+    /// Whether the sink may be full. `false` says that there is room; `true` says nothing.
+    fn maybe_full(&self) -> bool
+        ensures { OnFalse result (has_room self.now) }
+    {
+        true
+    }
+
+    // A write goes to the end of the told list.
+    ghost writes_told: { (s : Self) (w : Word) (r : Result (Unit {0}) Self.WriteError) (t : Self)
+        → write_gives s w r t → (words : List Word) → tells_written s words → WritesTold tells_written words w r t };
+}
