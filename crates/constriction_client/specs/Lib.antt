@@ -1,4 +1,5 @@
 pub mod Parts
+pub mod Narrowing
 pub mod Grammar
 pub mod Reading
 pub mod Text

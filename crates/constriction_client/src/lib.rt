@@ -7,6 +7,7 @@
 mod answers;
 mod cut;
 mod fault;
+mod form_word;
 pub mod laws;
 mod line;
 mod program;

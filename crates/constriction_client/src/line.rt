@@ -2,7 +2,7 @@
 
 ghost use Rattle.std.specs.Prelude.{◌≡◌, ◌∷◌, IfOk, IfSome, IfNone, option_and_then};
 ghost use Rattle.std.specs.Option.{option_copied, option_map};
-ghost use Rattle.constriction_client.specs.Grammar.{Request, Spells};
+ghost use Rattle.constriction_client.specs.Grammar.{Request, Spells, form_of};
 ghost use Rattle.constriction_client.specs.Parts.{parts_of};
 ghost use Rattle.constriction_client.specs.Reading.{first_and_others, read_form, read_line};
 ghost use Rattle.constriction_client.specs.Reading.{read_number, read_numbers, read_request, view};
@@ -40,6 +40,19 @@ pub enum Command {
         symbol: u64,
         weights: Vec<u64>,
     },
+}
+
+impl Command {
+    /// The form that the line names.
+    pub fn form(&self) -> Form
+        ensures { result ≡ form_of (view self.now) }
+    {
+        match self {
+            Command::Table { form, .. } => *form,
+            Command::Quantile { form, .. } => *form,
+            Command::Symbol { form, .. } => *form,
+        }
+    }
 }
 
 /// The byte between two words of a line.
