@@ -1,4 +1,5 @@
 mod Digits
+mod EvenLemmas
 mod FillLemmas
 mod Halving
 mod Powers

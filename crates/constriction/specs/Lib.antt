@@ -1,4 +1,5 @@
 pub mod Acceptance
+pub mod Evens
 pub mod Filling
 pub mod Model
 pub mod Narrowing
