@@ -1,9 +1,10 @@
 -- The text that answers an input.
-use Rattle.std.specs.Prelude.{ℕ, ◌+◌, ◌^◌, Bool, ◌&&◌, ◌==◌, nat_eq, nat_le, nat_lt, List, [], ◌∷◌, ◌++◌, codes, decimal, find, sum}
+use Rattle.std.specs.Prelude.{◌≡◌, ℕ, ◌+◌, ◌^◌, ◌<◌, ◌↔◌, Bool, true, IsSome, ◌&&◌, ◌==◌, nat_eq, nat_le, nat_lt, List, [], ◌∷◌, ◌++◌, codes, decimal, find, sum}
 use Rattle.std.specs.Prelude.{Option, Some, None, if◌then◌else◌}
 use Rattle.std.specs.List.{flat_map, list_all, slice_split}
 use Rattle.std.specs.Option.{option_map_or}
-use Rattle.constriction.specs.Rows.{Row, contiguous_rows, entry_of}
+use Rattle.constriction.specs.Acceptance.{IsAccepted}
+use Rattle.constriction.specs.Rows.{Row, RowsTile, IsRowOf, contiguous_rows, entry_of}
 use Rattle.constriction_client.specs.declared.line.Form.{Form}
 use Rattle.constriction_client.specs.Grammar.{Request, table, quantile, symbol, bits_of, precision_of}
 use Rattle.constriction_client.specs.Reading.{read_line}
@@ -28,6 +29,19 @@ are_accepted bits precision weights =
 abbrev pub holds : ℕ → Row ℕ → Bool
 holds q row = nat_le row.left q && nat_lt q (row.left + row.weight)
 
+-- the test of weights holds exactly where a model accepts them
+abbrev pub TestsAcceptance : Type 0
+TestsAcceptance = (bits precision : ℕ) (weights : List ℕ) → (are_accepted bits precision weights ≡ true) ↔ IsAccepted bits precision weights
+
+-- among rows that tile, the row that is found is the row of the quantile
+abbrev pub FindsTheRow : Type 0
+FindsTheRow =
+    (bits precision : ℕ) (rows : List (Row ℕ)) (q : ℕ) (row : Row ℕ) → RowsTile bits precision rows → (find (holds q) rows ≡ Some row) ↔ IsRowOf rows q row
+
+-- among rows that tile, one is found for each quantile below 2 ^ precision
+abbrev pub FindsARow : Type 0
+FindsARow = (bits precision : ℕ) (rows : List (Row ℕ)) (q : ℕ) → RowsTile bits precision rows → q < 2 ^ precision → IsSome (find (holds q) rows)
+
 -- the line of a row: its symbol, its left cumulative and its weight
 abbrev pub row_text : Row ℕ → List ℕ
 row_text row = decimal row.symbol ++ codes " " ++ decimal row.left ++ codes " " ++ decimal row.weight ++ codes "\n"
@@ -36,7 +50,7 @@ row_text row = decimal row.symbol ++ codes " " ++ decimal row.left ++ codes " " 
 abbrev pub rows_text : List (Row ℕ) → List ℕ
 rows_text rows = flat_map row_text rows
 
--- the line of the row that holds a quantile. Rows that tile hold each quantile below 2 ^ precision, so that one is found.
+-- the line of the row that holds a quantile: of rows that tile one is found for each quantile below 2 ^ precision (`FindsARow`)
 abbrev pub quantile_text : ℕ → List (Row ℕ) → ℕ → List ℕ
 quantile_text precision rows q =
     if nat_lt q (2 ^ precision) then option_map_or row_text (find (holds q) rows) [] else codes "range\n"

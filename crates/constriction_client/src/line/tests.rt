@@ -37,6 +37,11 @@ fn a_quantile_stands_before_the_weights(rt: HostRuntime) -> Result<(), Fail> {
 #[test]
 fn a_symbol_stands_before_the_weights(rt: HostRuntime) -> Result<(), Fail> {
     let found = parse(rt.alloc(), b"symbol u8/6 4")?;
+    assert!(rt;
+        found
+            .as_ref()
+            .is_some_and(|command| command.form() == Form::U8Precision6)
+    );
     let Some(
         Command::Symbol {
             form,

@@ -1,6 +1,11 @@
 //! Runs over whole inputs, and over readers and writers that give or take little, fail, or end.
 
+use crate::answers::answer;
 use crate::fault::RunFault;
+use crate::laws::{
+    each_quantile_in_range_has_a_row, the_row_found_is_the_row_of_the_quantile,
+    weights_are_tested_as_models_accept_them,
+};
 use crate::program::{LIMIT, run};
 use std::io::{self, Read, Write};
 use std::test::Fail;
@@ -195,4 +200,16 @@ fn faults_have_their_status(rt: HostRuntime) {
     assert_eq!(rt; RunFault::Write.status(), 1);
     assert_eq!(rt; RunFault::TooLong.status(), 2);
     assert_eq!(rt; RunFault::OutOfMemory.status(), 3);
+}
+
+#[test]
+fn laws_and_answers_may_be_called(rt: HostRuntime) -> Result<(), Fail> {
+    weights_are_tested_as_models_accept_them();
+    the_row_found_is_the_row_of_the_quantile();
+    each_quantile_in_range_has_a_row();
+    assert_eq!(rt;
+        answer(rt.alloc(), b"table u8/6 1 63")?.as_str(),
+        "0 0 1\n1 1 63\n"
+    );
+    Ok(())
 }
