@@ -1,0 +1,24 @@
+//! What follows from the definitions that the contracts cite, each law the contract of a function.
+
+ghost use Rattle.constriction_client.specs.Reading.{ReadsExactly};
+ghost use Rattle.constriction_client.specs.Text.{FindsARow, FindsTheRow, TestsAcceptance};
+
+/// A line spells at most one request, and reading the line finds it.
+pub fn reading_is_exactly_spelling()
+    ensures { ReadsExactly }
+{}
+
+/// The test that the text of an input makes of weights is what constructors of models accept.
+pub fn weights_are_tested_as_models_accept_them()
+    ensures { TestsAcceptance }
+{}
+
+/// The row that the text of an input has for a quantile is the one that models answer.
+pub fn the_row_found_is_the_row_of_the_quantile()
+    ensures { FindsTheRow }
+{}
+
+/// There is one for each quantile in range.
+pub fn each_quantile_in_range_has_a_row()
+    ensures { FindsARow }
+{}

@@ -1,0 +1,18 @@
+//! Whole runs over the models: lines of text that ask for rows, and the text that answers them.
+//!
+//! [`run`] reads an input to its end, and writes the answer to each of its lines. [`parse`] is the
+//! grammar of a line, [`answer`] the answer to one.
+#![tactic(auto)]
+
+mod answers;
+mod cut;
+mod fault;
+mod form_word;
+pub mod laws;
+mod line;
+mod program;
+
+pub use crate::answers::answer;
+pub use crate::fault::RunFault;
+pub use crate::line::{Command, Form, parse};
+pub use crate::program::run;

@@ -1,0 +1,83 @@
+//! Lines that ask for something, and lines that do not.
+
+use crate::laws::reading_is_exactly_spelling;
+use crate::line::{Command, Form, parse};
+use std::test::Fail;
+
+#[test]
+fn a_table_has_its_weights(rt: HostRuntime) -> Result<(), Fail> {
+    let found = parse(rt.alloc(), b"table u8/6 3 018 18446744073709551615")?;
+    let Some(Command::Table { form, weights }) = found else {
+        panic!(rt; "no table");
+    };
+    assert_eq!(rt; form, Form::U8Precision6);
+    assert_eq!(rt; weights.as_slice(), [3, 18, u64::MAX].as_slice());
+    Ok(())
+}
+
+#[test]
+fn a_quantile_stands_before_the_weights(rt: HostRuntime) -> Result<(), Fail> {
+    let found = parse(rt.alloc(), b"quantile u8/6 21 64")?;
+    let Some(
+        Command::Quantile {
+            form,
+            quantile,
+            weights,
+        },
+    ) = found
+    else {
+        panic!(rt; "no quantile");
+    };
+    assert_eq!(rt; form, Form::U8Precision6);
+    assert_eq!(rt; quantile, 21);
+    assert_eq!(rt; weights.as_slice(), [64].as_slice());
+    Ok(())
+}
+
+#[test]
+fn a_symbol_stands_before_the_weights(rt: HostRuntime) -> Result<(), Fail> {
+    let found = parse(rt.alloc(), b"symbol u8/6 4")?;
+    assert!(rt;
+        found
+            .as_ref()
+            .is_some_and(|command| command.form() == Form::U8Precision6)
+    );
+    let Some(
+        Command::Symbol {
+            form,
+            symbol,
+            weights,
+        },
+    ) = found
+    else {
+        panic!(rt; "no symbol");
+    };
+    assert_eq!(rt; form, Form::U8Precision6);
+    assert_eq!(rt; symbol, 4);
+    assert!(rt; weights.is_empty());
+    Ok(())
+}
+
+#[test]
+fn other_lines_ask_for_nothing(rt: HostRuntime) -> Result<(), Fail> {
+    let lines = [
+        "",
+        " ",
+        "table",
+        "table ",
+        "tables u8/6 64",
+        "Table u8/6 64",
+        "table u8/6 ",
+        "table u8/6 a",
+        "table u8/6 -1",
+        "table u8/60 64",
+        "quantile u8/6",
+        "symbol u8/6 ",
+        "uniform u8/6 3",
+    ];
+    for line in lines {
+        assert!(rt; parse(rt.alloc(), line.as_bytes())?.is_none(), "{line}");
+    }
+    reading_is_exactly_spelling();
+    Ok(())
+}
