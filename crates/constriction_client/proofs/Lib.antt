@@ -1,0 +1,4 @@
+mod EntryRows
+mod Numbers
+mod Reading
+mod Writing
