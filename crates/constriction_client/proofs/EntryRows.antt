@@ -22,7 +22,7 @@ found {X = X} p (y ∷ ys) x e = go (p y) refl (λ h. found p ys x h)
     go false t later = let rest = later (rw t at e) in ((suc rest.0.0, omega arith, rest.0.2), rest.1)
 
 -- an element of the reversed list is one of the list
-unreversed : {X : Type 0} (xs : List X) (x : X) → Contains (reverse xs) x → Contains xs x
+pub unreversed : {X : Type 0} (xs : List X) (x : X) → Contains (reverse xs) x → Contains xs x
 unreversed xs x h =
     let within : h.0 < length xs = omega (arith, length-reverse xs) in
     (length xs - 1 - h.0, omega arith, sym (get_or-reverse xs h.0 x within) ∙ h.2)

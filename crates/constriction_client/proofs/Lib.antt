@@ -1,4 +1,5 @@
 mod EntryRows
 mod Numbers
 mod Reading
+mod Returning
 mod Writing

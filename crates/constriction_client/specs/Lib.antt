@@ -1,1 +1,2 @@
 pub mod Quantiles
+pub mod ThereAndBack
