@@ -109,8 +109,8 @@ fn parse_numbers(alloc: Global, text: Option<&[u8]>) -> Result<Option<Vec<u64>>,
     Ok(Some(numbers))
 }
 
-#[tactic(auto, unfolding(crate::specs::Reading::read_numbers))]
 /// The first number of the rest of a line, and the others, if there is one and each word spells one.
+#[tactic(auto, unfolding(crate::specs::Reading::read_numbers))]
 fn parse_first_and_others(
     alloc: Global,
     text: Option<&[u8]>,

@@ -36,25 +36,21 @@ fn a_quantile_stands_before_the_weights(rt: HostRuntime) -> Result<(), Fail> {
 
 #[test]
 fn a_symbol_stands_before_the_weights(rt: HostRuntime) -> Result<(), Fail> {
-    let found = parse(rt.alloc(), b"symbol u8/6 4")?;
-    assert!(rt;
-        found
-            .as_ref()
-            .is_some_and(|command| command.form() == Form::U8Precision6)
-    );
-    let Some(
+    let Some(command) = parse(rt.alloc(), b"symbol u8/6 4")? else {
+        panic!(rt; "no request");
+    };
+    assert_eq!(rt; command.form(), Form::U8Precision6);
+    match &command {
         Command::Symbol {
-            form,
             symbol,
             weights,
-        },
-    ) = found
-    else {
-        panic!(rt; "no symbol");
-    };
-    assert_eq!(rt; form, Form::U8Precision6);
-    assert_eq!(rt; symbol, 4);
-    assert!(rt; weights.is_empty());
+            ..
+        } => {
+            assert_eq!(rt; *symbol, 4);
+            assert!(rt; weights.is_empty());
+        }
+        _ => panic!(rt; "no symbol"),
+    }
     Ok(())
 }
 

@@ -176,13 +176,9 @@ fn an_input_of_the_limit_is_answered_and_a_longer_one_is_not(rt: HostRuntime) ->
     let mut written = Vec::new(rt.alloc());
     assert_eq!(rt; run(rt.alloc(), &mut reader, &mut written), Ok(()));
     assert_eq!(rt; written.len(), LIMIT * 9);
-    assert_eq!(rt;
-        written
-            .chunks(9)
-            .filter(|line| *line != b"bad line\n".as_slice())
-            .count(),
-        0
-    );
+    for line in written.chunks(9) {
+        assert_eq!(rt; line, b"bad line\n".as_slice());
+    }
     input.push(b'\n')?;
     let mut reader = input.as_slice();
     let mut written = Vec::new(rt.alloc());
