@@ -61,7 +61,12 @@ pub(crate) fn is_quantile<P: BitArray, const PRECISION: usize>(word: P) -> bool
     word >> (PRECISION - 1) as u32 <= P::one()
 }
 
-/// Writes the quantile of each item, in order: the left cumulative of its symbol and its offset.
+/// Writes the quantile of each item, in order: the left cumulative of its symbol plus its offset,
+/// which says which of the symbol's quantiles is meant.
+///
+/// It stops at the first item that is refused, with `Frontend` where the item has no quantile and
+/// with `Backend` where the sink refuses it. The words of the items before it stay written, and
+/// those behind it are not looked at. One pass over the items, and one write for each.
 pub fn write_quantiles<M, W, const PRECISION: usize>(
     model: &M,
     items: &[(M::Symbol, M::Probability)],
@@ -91,7 +96,14 @@ where
     Ok(())
 }
 
-/// Reads words, and adds the pair of each to `out`.
+/// Reads up to `count` words, and adds the pair of each to `out`: the symbol of the word's row and
+/// the offset, which is how far the word lies behind the left cumulative of that row.
+///
+/// The answer is the number of pairs that were added. It is below `count` only where the source
+/// ended, which is no fault. `Frontend` is answered at a word that is no quantile, and where memory
+/// for a pair is refused: that word has been read. `Backend` is answered where a read fails. In
+/// each case `out` keeps its pairs and those of the words before, and reading may go on behind the
+/// fault. One look-up for each word; memory for the symbols and for `out` alone.
 pub fn read_symbols<S: Semantics, M, R, const PRECISION: usize>(
     model: &M,
     source: &mut R,
@@ -108,7 +120,8 @@ where
     requires can_read { R.can_read source.old }
     ensures pairs { ReadsPairs PRECISION (M.rows model.now) M.Probability.whole R.read_gives R.tells_upcoming
         count source.old out.old.items result source.new out.new.items }
-    ensures counted { IfOk result (λ n. (n ≤ count) × (length out.new.items ≡ length out.old.items + n)) }
+    ensures counted { IfOk result (λ n. length out.new.items ≡ length out.old.items + n) }
+    ensures at_most { IfOk result (λ n. n ≤ count) }
     ensures goes_on { R.can_read source.new }
 {
     for done in 0..count {
