@@ -1,1 +1,2 @@
+pub mod CoderError
 pub mod Word

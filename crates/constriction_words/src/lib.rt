@@ -6,11 +6,17 @@
 
 mod bit_array;
 mod coder_error;
+mod index_word;
+mod infallible;
+mod position;
 mod semantics;
 #[cfg(test)]
 mod tests;
 mod words;
 
 pub use crate::bit_array::{BitArray, NonZeroBitArray};
-pub use crate::coder_error::CoderError;
+pub use crate::coder_error::{CoderError, DefaultEncoderFrontendError, NanError};
+pub use crate::index_word::IndexWord;
+pub use crate::infallible::UnwrapInfallible;
+pub use crate::position::{Pos, PosSeek, Seek};
 pub use crate::semantics::{Queue, Semantics, Stack};

@@ -4,11 +4,11 @@
 pub trait Semantics: Default {}
 
 /// Last in, first out.
-#[derive(Debug, Default)]
+#[derive(Debug, Default, Drop)]
 pub struct Stack {}
 
 /// First in, first out.
-#[derive(Debug, Default)]
+#[derive(Debug, Default, Drop)]
 pub struct Queue {}
 
 impl Semantics for Stack {}

@@ -1,4 +1,8 @@
 //! The words of std: its unsigned integers, a file for each width.
 
+mod u128;
 mod u16;
+mod u32;
+mod u64;
 mod u8;
+mod usize;

@@ -1,0 +1,55 @@
+//! Words that may be indices of a table.
+
+ghost use Rattle.std.specs.Prelude.{◌≡◌, ◌<◌, ◌^◌};
+
+use crate::bit_array::BitArray;
+
+/// A word whose numbers are indices: each of them is a `usize`.
+///
+/// Tables of row indices, which hold words to be small, are read and written by it.
+pub trait IndexWord: BitArray {
+    /// The number of the word, as an index.
+    fn to_index(self) -> usize
+        ensures { result ≡ Self.whole self };
+
+    /// The word of an index, of which the caller knows that it is below `2^BITS`.
+    fn from_index(i: usize) -> Self
+        requires { i < 2 ^ Self.BITS }
+        ensures { Self.whole result ≡ i };
+}
+
+impl IndexWord for u8 {
+    #[inline]
+    fn to_index(self) -> usize {
+        usize::from(self)
+    }
+
+    #[inline]
+    fn from_index(i: usize) -> u8 {
+        i as u8
+    }
+}
+
+impl IndexWord for u16 {
+    #[inline]
+    fn to_index(self) -> usize {
+        usize::from(self)
+    }
+
+    #[inline]
+    fn from_index(i: usize) -> u16 {
+        i as u16
+    }
+}
+
+impl IndexWord for usize {
+    #[inline]
+    fn to_index(self) -> usize {
+        self
+    }
+
+    #[inline]
+    fn from_index(i: usize) -> usize {
+        i
+    }
+}

@@ -1,0 +1,110 @@
+//! `u128` as a word.
+
+ghost use Rattle.std.specs.Prelude.{ℕ};
+ghost use Rattle.std.specs.Int.NonZero.{non_zero_u128_get};
+ghost use Rattle.std.proofs.Common.{refl, lit≤};
+ghost use Rattle.std.proofs.lemmas.Bool.Decides.{Decides-eqb};
+ghost use Rattle.constriction_words.specs.Word.{pos-nonzero, lt-whole, le-whole};
+
+use crate::bit_array::{BitArray, NonZeroBitArray};
+use std::num::NonZeroU128;
+
+impl NonZeroBitArray for NonZeroU128 {
+    type Base = u128;
+
+    ghost base = { non_zero_u128_get };
+
+    fn new(n: u128) -> Option<NonZeroU128> {
+        NonZeroU128::new(n)
+    }
+
+    fn new_unchecked(n: u128) -> NonZeroU128 {
+        NonZeroU128::new(n).unwrap()
+    }
+
+    fn get(self) -> u128 {
+        NonZeroU128::get(self)
+    }
+
+    ghost nonzero_law = { λ x e. pos-nonzero (non_zero_u128_get x) x.ok e };
+}
+
+impl BitArray for u128 {
+    const BITS: usize = 128;
+
+    ghost BITS = { 128 };
+
+    type NonZero = NonZeroU128;
+
+    ghost whole = { λ x. x };
+
+    fn into_nonzero(self) -> Option<NonZeroU128> {
+        NonZeroU128::new(self)
+    }
+
+    fn into_nonzero_unchecked(self) -> NonZeroU128 {
+        NonZeroU128::new(self).unwrap()
+    }
+
+    fn wrapping_add(&self, v: &u128) -> u128 {
+        u128::wrapping_add(*self, *v)
+    }
+
+    fn wrapping_sub(&self, v: &u128) -> u128 {
+        u128::wrapping_sub(*self, *v)
+    }
+
+    fn wrapping_mul(&self, v: &u128) -> u128 {
+        u128::wrapping_mul(*self, *v)
+    }
+
+    ghost value_law = { λ x. refl };
+
+    ghost fits_law = { λ z. ((λ h. h), (λ h. h)) };
+
+    ghost width_law = { (refl, lit≤ tt) };
+
+    ghost same_law = { λ a b e. e };
+
+    ghost eq_law = { Decides-eqb };
+
+    ghost lt_law = { lt-whole };
+
+    ghost le_law = { le-whole };
+
+    ghost zero_law = { refl };
+
+    ghost one_law = { refl };
+
+    ghost highest_law = { refl };
+
+    ghost default_law = { λ x e. e };
+
+    ghost can_add_law = { λ a b h. h };
+
+    ghost add_law = { λ a b r e. e };
+
+    ghost can_sub_law = { λ a b h. h };
+
+    ghost sub_law = { λ a b r e. e };
+
+    ghost can_mul_law = { λ a b h. h };
+
+    ghost mul_law = { λ a b r e. e };
+
+    ghost can_div_law = { λ a b h. h };
+
+    ghost div_law = { λ a b r e. e };
+
+    ghost can_rem_law = { λ a b h. h };
+
+    ghost rem_law = { λ a b r e. e };
+
+    ghost can_shl_law = { λ a n h. h };
+
+    ghost shl_law = { λ a n r e. e };
+
+    ghost can_shr_law = { λ a n h. h };
+
+    ghost shr_law = { λ a n r e. e };
+}

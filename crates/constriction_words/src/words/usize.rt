@@ -1,0 +1,110 @@
+//! `usize` as a word.
+
+ghost use Rattle.std.specs.Prelude.{ℕ};
+ghost use Rattle.std.specs.Int.NonZero.{non_zero_usize_get};
+ghost use Rattle.std.proofs.Common.{refl, lit≤};
+ghost use Rattle.std.proofs.lemmas.Bool.Decides.{Decides-eqb};
+ghost use Rattle.constriction_words.specs.Word.{pos-nonzero, lt-whole, le-whole};
+
+use crate::bit_array::{BitArray, NonZeroBitArray};
+use std::num::NonZeroUsize;
+
+impl NonZeroBitArray for NonZeroUsize {
+    type Base = usize;
+
+    ghost base = { non_zero_usize_get };
+
+    fn new(n: usize) -> Option<NonZeroUsize> {
+        NonZeroUsize::new(n)
+    }
+
+    fn new_unchecked(n: usize) -> NonZeroUsize {
+        NonZeroUsize::new(n).unwrap()
+    }
+
+    fn get(self) -> usize {
+        NonZeroUsize::get(self)
+    }
+
+    ghost nonzero_law = { λ x e. pos-nonzero (non_zero_usize_get x) x.ok e };
+}
+
+impl BitArray for usize {
+    const BITS: usize = 64;
+
+    ghost BITS = { 64 };
+
+    type NonZero = NonZeroUsize;
+
+    ghost whole = { λ x. x };
+
+    fn into_nonzero(self) -> Option<NonZeroUsize> {
+        NonZeroUsize::new(self)
+    }
+
+    fn into_nonzero_unchecked(self) -> NonZeroUsize {
+        NonZeroUsize::new(self).unwrap()
+    }
+
+    fn wrapping_add(&self, v: &usize) -> usize {
+        usize::wrapping_add(*self, *v)
+    }
+
+    fn wrapping_sub(&self, v: &usize) -> usize {
+        usize::wrapping_sub(*self, *v)
+    }
+
+    fn wrapping_mul(&self, v: &usize) -> usize {
+        usize::wrapping_mul(*self, *v)
+    }
+
+    ghost value_law = { λ x. refl };
+
+    ghost fits_law = { λ z. ((λ h. h), (λ h. h)) };
+
+    ghost width_law = { (refl, lit≤ tt) };
+
+    ghost same_law = { λ a b e. e };
+
+    ghost eq_law = { Decides-eqb };
+
+    ghost lt_law = { lt-whole };
+
+    ghost le_law = { le-whole };
+
+    ghost zero_law = { refl };
+
+    ghost one_law = { refl };
+
+    ghost highest_law = { refl };
+
+    ghost default_law = { λ x e. e };
+
+    ghost can_add_law = { λ a b h. h };
+
+    ghost add_law = { λ a b r e. e };
+
+    ghost can_sub_law = { λ a b h. h };
+
+    ghost sub_law = { λ a b r e. e };
+
+    ghost can_mul_law = { λ a b h. h };
+
+    ghost mul_law = { λ a b r e. e };
+
+    ghost can_div_law = { λ a b h. h };
+
+    ghost div_law = { λ a b r e. e };
+
+    ghost can_rem_law = { λ a b h. h };
+
+    ghost rem_law = { λ a b r e. e };
+
+    ghost can_shl_law = { λ a n h. h };
+
+    ghost shl_law = { λ a n r e. e };
+
+    ghost can_shr_law = { λ a n h. h };
+
+    ghost shr_law = { λ a n r e. e };
+}
