@@ -54,39 +54,50 @@ module _ {W : Type 0} (whole : W → ℕ) (bits precision : ℕ) where
       → ¬ (IsAccepted bits precision (completed precision infer (map whole ((ws ++ w ∷ []) ++ more))))
   bad-more infer ws more w why a =
       let xs : List ℕ = map whole ((ws ++ w ∷ []) ++ more) in
-      let split : xs ≡ (map whole ws ++ whole w ∷ []) ++ map whole more = map-append whole (ws ++ w ∷ []) more ∙ ap (λ ys. ys ++ map whole more) (map-append whole ws (w ∷ [])) in
+      let split : xs ≡ (map whole ws ++ whole w ∷ []) ++ map whole more =
+      map-append whole (ws ++ w ∷ []) more ∙ ap (λ ys. ys ++ map whole more) (map-append whole ws (w ∷ [])) in
       let total : sum xs ≡ (sum (map whole ws) + whole w) + sum (map whole more) =
-      ap sum split ∙ sum_by-append (λ x. x) (map whole ws ++ whole w ∷ []) (map whole more) ∙ ap (λ n. n + sum (map whole more)) (sum_by_push (λ x. x) (map whole ws) (whole w)) in
+      ap sum split ∙ sum_by-append (λ x. x) (map whole ws ++ whole w ∷ []) (map whole more)
+      ∙ ap (λ n. n + sum (map whole more)) (sum_by_push (λ x. x) (map whole ws) (whole w)) in
       let positive : All (λ x. 0 < x) ((map whole ws ++ whole w ∷ []) ++ map whole more) = rw (← split) (accepted-positive infer xs a) in
-      let some : 0 < whole w = All-contains (λ x. 0 < x) _ (whole w) positive (Contains-append_left _ (map whole more) (whole w) (Contains-push (map whole ws) (whole w))) in
+      let some : 0 < whole w =
+      All-contains (λ x. 0 < x) _ (whole w) positive (Contains-append_left _ (map whole more) (whole w) (Contains-push (map whole ws) (whole w))) in
       elim why [ inl none ↦ omega arith | inr much ↦ omega (arith, accepted-sum infer xs a) ]
 
-  pub good-given : (ws table : List W) → IsFilled whole bits precision ws table None → IsAccepted bits precision (map whole ws) × (map whole table ≡ lefts_from 0 (map whole ws))
+  pub good-given : (ws table : List W) → IsFilled whole bits precision ws table None
+      → IsAccepted bits precision (map whole ws) × (map whole table ≡ lefts_from 0 (map whole ws))
   good-given ws table f = (record { tiles = record { positive = f.positive; total = sym f.is }; fit = f.fit }, f.lefts)
 
-  pub bad-open : (ws table : List W) (left : W) → IsFilled whole bits precision ws table (Some left) → ¬ (IsAccepted bits precision (map whole ws))
+  pub bad-open : (ws table : List W) (left : W) → IsFilled whole bits precision ws table (Some left)
+      → ¬ (IsAccepted bits precision (map whole ws))
   bad-open ws table left f a = omega (arith, f.is, f.below, a.tiles.total)
 
-  pub bad-full : (ws table : List W) → IsFilled whole bits precision ws table None → ¬ (IsAccepted bits precision (completed precision true (map whole ws)))
+  pub bad-full : (ws table : List W) → IsFilled whole bits precision ws table None
+      → ¬ (IsAccepted bits precision (completed precision true (map whole ws)))
   bad-full ws table f a =
-      let last : 0 < 2 ^ precision - sum (map whole ws) = All-contains (λ x. 0 < x) _ _ a.tiles.positive (Contains-push (map whole ws) (2 ^ precision - sum (map whole ws))) in
+      let last : 0 < 2 ^ precision - sum (map whole ws) =
+      All-contains (λ x. 0 < x) _ _ a.tiles.positive (Contains-push (map whole ws) (2 ^ precision - sum (map whole ws))) in
       omega (arith, f.is)
 
   pub bad-wide : (ws table : List W) (left : W) → IsFilled whole bits precision ws table (Some left) → 2 ^ bits + whole left ≤ 2 ^ precision
       → ¬ (IsAccepted bits precision (completed precision true (map whole ws)))
   bad-wide ws table left f wide a =
-      let last : 2 ^ precision - sum (map whole ws) < 2 ^ bits = All-contains (λ x. x < 2 ^ bits) _ _ a.fit (Contains-push (map whole ws) (2 ^ precision - sum (map whole ws))) in
+      let last : 2 ^ precision - sum (map whole ws) < 2 ^ bits =
+      All-contains (λ x. x < 2 ^ bits) _ _ a.fit (Contains-push (map whole ws) (2 ^ precision - sum (map whole ws))) in
       omega (arith, f.is)
 
-  pub good-inferred : (ws table : List W) (left : W) → IsFilled whole bits precision ws table (Some left) → 2 ^ precision < 2 ^ bits + whole left
-      → IsAccepted bits precision (completed precision true (map whole ws)) × (map whole (table ++ left ∷ []) ≡ lefts_from 0 (completed precision true (map whole ws)))
+  pub good-inferred : (ws table : List W) (left : W) → IsFilled whole bits precision ws table (Some left)
+      → 2 ^ precision < 2 ^ bits + whole left
+      → IsAccepted bits precision (completed precision true (map whole ws))
+      × (map whole (table ++ left ∷ []) ≡ lefts_from 0 (completed precision true (map whole ws)))
   good-inferred ws table left f narrow =
       let xs : List ℕ = map whole ws in
       let last : ℕ = 2 ^ precision - sum xs in
       let up : 0 < 2 ^ precision - sum xs = omega (arith, f.is, f.below) in
       let low : 2 ^ precision - sum xs < 2 ^ bits = omega (arith, f.is, f.below) in (
         record {
-          tiles = record { positive = All-push (λ x. 0 < x) xs (2 ^ precision - sum xs) f.positive up; total = sum_by_push (λ x. x) xs (2 ^ precision - sum xs) ∙ omega (arith, f.is, f.below) };
+          tiles =
+              record { positive = All-push (λ x. 0 < x) xs (2 ^ precision - sum xs) f.positive up; total = sum_by_push (λ x. x) xs (2 ^ precision - sum xs) ∙ omega (arith, f.is, f.below) };
           fit = All-push (λ x. x < 2 ^ bits) xs (2 ^ precision - sum xs) f.fit low;
         },
         map-append whole table (left ∷ []) ∙ ap (λ ys. ys ++ whole left ∷ []) f.lefts

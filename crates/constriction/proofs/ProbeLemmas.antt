@@ -30,16 +30,19 @@ module _ (bits precision : ℕ) (lefts : List ℕ) (t : IsStored bits precision 
   -- a search of all rows has the greatest index
   pub stored-tells : TellsRows (contiguous_rows (weights_of precision lefts)) (λ _. ⊤) 0 lefts
   stored-tells =
-      let long : length (contiguous_rows (weights_of precision lefts)) ≡ length lefts = length-rows (weights_of precision lefts) ∙ length-gaps (2 ^ precision) lefts in
+      let long : length (contiguous_rows (weights_of precision lefts)) ≡ length lefts =
+      length-rows (weights_of precision lefts) ∙ length-gaps (2 ^ precision) lefts in
       record {
         exactly = λ i r h. ((λ _. (omega arith, omega arith)), (λ _. tt));
         within = omega arith;
         in_order = sym (rw stored-lefts (take-length lefts));
       }
 
-  pub stored-found : (q i : ℕ) → q < 2 ^ precision → IsLastAtMost lefts q i → IsRowIndexOf (contiguous_rows (weights_of precision lefts)) q i
+  pub stored-found : (q i : ℕ) → q < 2 ^ precision → IsLastAtMost lefts q i
+      → IsRowIndexOf (contiguous_rows (weights_of precision lefts)) q i
   stored-found q i below f =
-      let long : length (contiguous_rows (weights_of precision lefts)) ≡ length lefts = length-rows (weights_of precision lefts) ∙ length-gaps (2 ^ precision) lefts in
+      let long : length (contiguous_rows (weights_of precision lefts)) ≡ length lefts =
+      length-rows (weights_of precision lefts) ∙ length-gaps (2 ^ precision) lefts in
       record {
         in_bounds = omega (arith, f.in_bounds);
         row = λ r. rw (stored-at bits precision lefts t i r f.in_bounds)
@@ -54,5 +57,6 @@ module _ (bits precision : ℕ) (lefts : List ℕ) (t : IsStored bits precision 
       → IsRowOf (contiguous_rows (weights_of precision lefts)) q (record { symbol = i; left = l; weight = w })
   stored-answer q i l w f le we =
       let d : Row ℕ = record { symbol = i; left = l; weight = w } in
-      let e : get_or (contiguous_rows (weights_of precision lefts)) i d ≡ d = stored-at bits precision lefts t i d (stored-index q i f) ∙ rw (← le, ← we) refl in
+      let e : get_or (contiguous_rows (weights_of precision lefts)) i d ≡ d =
+      stored-at bits precision lefts t i d (stored-index q i f) ∙ rw (← le, ← we) refl in
       rw e at (f.row d)

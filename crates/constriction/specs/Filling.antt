@@ -15,7 +15,8 @@ pub record IsRowEnd {Word : Type 0} (whole : Word → ℕ) (bits precision : ℕ
   pub below : IfSome end (λ next. whole next < 2 ^ precision)
 
 -- the table holds where the rows of these weights begin, and the next one would begin at `end`
-pub record IsFilled {Word : Type 0} (whole : Word → ℕ) (bits precision : ℕ) (weights : List Word) (table : List Word) (end : Option Word) : Type 0 where
+pub record IsFilled {Word : Type 0} (whole : Word → ℕ) (bits precision : ℕ) (weights : List Word) (table : List Word)
+    (end : Option Word) : Type 0 where
   pub positive : All (λ w. 0 < w) (map whole weights)
   pub fit : All (λ w. w < 2 ^ bits) (map whole weights)
   pub lefts : map whole table ≡ lefts_from 0 (map whole weights)

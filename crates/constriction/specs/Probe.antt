@@ -26,7 +26,8 @@ pub record IsLastAtMost (cumulatives : List ℕ) (q i : ℕ) : Type 0 where
   pub last : (j : ℕ) → i < j → j < length cumulatives → q < slice_index cumulatives j
 
 -- the rows in question are those from `first` on that are told, and no other row; what is told are their left cumulatives, in order
-pub record TellsRows {Symbol : Type 0} (rows : List (Row Symbol)) (InQuestion : Row Symbol → Type 0) (first : ℕ) (told : List ℕ) : Type 0 where
+pub record TellsRows {Symbol : Type 0} (rows : List (Row Symbol)) (InQuestion : Row Symbol → Type 0) (first : ℕ)
+    (told : List ℕ) : Type 0 where
   pub exactly : (i : ℕ) (r : Row Symbol) → i < length rows
       → InQuestion (slice_index_or rows i r) ↔ ((first ≤ i) × (i < first + length told))
   pub within : first + length told ≤ length rows

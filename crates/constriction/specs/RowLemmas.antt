@@ -19,13 +19,15 @@ length-rows_from l [] (w ∷ ws) e = e
 length-rows_from l (s ∷ ss) [] e = refl
 length-rows_from l (s ∷ ss) (w ∷ ws) e = ap suc (length-rows_from (l + w) ss ws (omega arith))
 
-pub weights-rows_from : {S : Type 0} (l : ℕ) (ss : List S) (ws : List ℕ) → length ss ≡ length ws → map (λ r. r.weight) (rows_from l ss ws) ≡ ws
+pub weights-rows_from : {S : Type 0} (l : ℕ) (ss : List S) (ws : List ℕ) → length ss ≡ length ws
+    → map (λ r. r.weight) (rows_from l ss ws) ≡ ws
 weights-rows_from l [] [] e = refl
 weights-rows_from l [] (w ∷ ws) e = absurd (omega arith)
 weights-rows_from l (s ∷ ss) [] e = refl
 weights-rows_from l (s ∷ ss) (w ∷ ws) e = ap (λ xs. w ∷ xs) (weights-rows_from (l + w) ss ws (omega arith))
 
-pub symbols-rows_from : {S : Type 0} (l : ℕ) (ss : List S) (ws : List ℕ) → length ss ≡ length ws → map (λ r. r.symbol) (rows_from l ss ws) ≡ ss
+pub symbols-rows_from : {S : Type 0} (l : ℕ) (ss : List S) (ws : List ℕ) → length ss ≡ length ws
+    → map (λ r. r.symbol) (rows_from l ss ws) ≡ ss
 symbols-rows_from l [] [] e = refl
 symbols-rows_from l [] (w ∷ ws) e = refl
 symbols-rows_from l (s ∷ ss) [] e = absurd (omega arith)
@@ -54,7 +56,8 @@ found-one f true x = refl
 found-one f false x = refl
 
 module _ {S : Type 0} (eq : S → S → Bool) (s : S) where
-  pub entry_of-cons : (r : Row S) (rs : List (Row S)) → entry_of eq (r ∷ rs) s ≡ option_or (entry_of eq rs s) (cond (eq r.symbol s) (Some (r.left, r.weight)) None)
+  pub entry_of-cons : (r : Row S) (rs : List (Row S))
+      → entry_of eq (r ∷ rs) s ≡ option_or (entry_of eq rs s) (cond (eq r.symbol s) (Some (r.left, r.weight)) None)
   entry_of-cons r rs =
       ap (λ xs. option_map (λ x. (x.left, x.weight)) (find (λ x. eq x.symbol s) xs)) (reverse-append (r ∷ []) rs)
       ∙ ap (λ o. option_map (λ x. (x.left, x.weight)) o) (find-append (λ x. eq x.symbol s) (reverse rs) (r ∷ []))
@@ -62,17 +65,20 @@ module _ {S : Type 0} (eq : S → S → Bool) (s : S) where
       ∙ ap (option_or (entry_of eq rs s)) (found-one (λ x. (x.left, x.weight)) (eq r.symbol s) r)
 
 -- symbols below and past those of contiguous rows have no entry
-pub contiguous-past : (a l : ℕ) (ws : List ℕ) (s : ℕ) → ((s < a) ⊎ (a + length ws ≤ s)) → entry_of nat_eq (rows_from l (range_with_len a (length ws)) ws) s ≡ None
+pub contiguous-past : (a l : ℕ) (ws : List ℕ) (s : ℕ) → ((s < a) ⊎ (a + length ws ≤ s))
+    → entry_of nat_eq (rows_from l (range_with_len a (length ws)) ws) s ≡ None
 contiguous-past a l [] s h = refl
 contiguous-past a l (w ∷ ws) s h =
     let r : Row ℕ = record { symbol = a; left = l; weight = w } in
     let rs : List (Row ℕ) = rows_from (l + w) (range_with_len (a + 1) (length ws)) ws in
-    let later : entry_of nat_eq rs s ≡ None = contiguous-past (a + 1) (l + w) ws s (elim h [ inl x ↦ inl (omega arith) | inr x ↦ inr (omega arith) ]) in
+    let later : entry_of nat_eq rs s ≡ None =
+    contiguous-past (a + 1) (l + w) ws s (elim h [ inl x ↦ inl (omega arith) | inr x ↦ inr (omega arith) ]) in
     let other : nat_eq a s ≡ false = ne_eqb a s (λ e. elim h [ inl x ↦ omega arith | inr x ↦ omega arith ]) in
     entry_of-cons nat_eq s r rs ∙ rw (later, other) refl
 
 -- the entry of a contiguous model's symbol
-pub contiguous-at : (a l : ℕ) (ws : List ℕ) (i : ℕ) → i < length ws → entry_of nat_eq (rows_from l (range_with_len a (length ws)) ws) (a + i) ≡ Some (l + sum (take i ws), get_or ws i 0)
+pub contiguous-at : (a l : ℕ) (ws : List ℕ) (i : ℕ) → i < length ws
+    → entry_of nat_eq (rows_from l (range_with_len a (length ws)) ws) (a + i) ≡ Some (l + sum (take i ws), get_or ws i 0)
 contiguous-at a l [] i h = absurd (omega arith)
 contiguous-at a l (w ∷ ws) zero h =
     let r : Row ℕ = record { symbol = a; left = l; weight = w } in
@@ -84,5 +90,6 @@ contiguous-at a l (w ∷ ws) (suc i) h =
     let r : Row ℕ = record { symbol = a; left = l; weight = w } in
     let rs : List (Row ℕ) = rows_from (l + w) (range_with_len (a + 1) (length ws)) ws in
     let e : a + suc i ≡ (a + 1) + i = omega arith in
-    let later : entry_of nat_eq rs (a + suc i) ≡ Some (l + w + sum (take i ws), get_or ws i 0) = ap (entry_of nat_eq rs) e ∙ contiguous-at (a + 1) (l + w) ws i (omega arith) in
+    let later : entry_of nat_eq rs (a + suc i) ≡ Some (l + w + sum (take i ws), get_or ws i 0) =
+    ap (entry_of nat_eq rs) e ∙ contiguous-at (a + 1) (l + w) ws i (omega arith) in
     entry_of-cons nat_eq (a + suc i) r rs ∙ rw later (ap (λ n. Some (n, get_or ws i 0)) (omega (arith, sum_by-cons (λ x. x) w (take i ws))))

@@ -33,7 +33,8 @@ gaps-lefts_from t l [] e = refl
 gaps-lefts_from t l (w ∷ []) e = ap (λ x. x ∷ []) (omega arith)
 gaps-lefts_from t l (w ∷ (v ∷ ws)) e =
     let head : (l + w) - l ≡ w = omega arith in
-    let tail : gaps t (lefts_from (l + w) (v ∷ ws)) ≡ v ∷ ws = gaps-lefts_from t (l + w) (v ∷ ws) (omega (arith, sum_by-cons (λ x. x) w (v ∷ ws))) in
+    let tail : gaps t (lefts_from (l + w) (v ∷ ws)) ≡ v ∷ ws =
+    gaps-lefts_from t (l + w) (v ∷ ws) (omega (arith, sum_by-cons (λ x. x) w (v ∷ ws))) in
     ap (λ x. x ∷ gaps t (lefts_from (l + w) (v ∷ ws))) head ∙ ap (λ xs. w ∷ xs) tail
 
 -- a row: where it begins, how much it weighs, and where the next one begins
@@ -49,7 +50,8 @@ pub take-length : {A : Type 0} (ws : List A) → take (length ws) ws ≡ ws
 take-length [] = refl
 take-length (w ∷ ws) = ap (λ xs. w ∷ xs) (take-length ws)
 
-pub stored-row : (bits precision : ℕ) (lefts : List ℕ) (i : ℕ) → IsStored bits precision lefts → i < length lefts → IsRowAt bits precision lefts i (get_or (weights_of precision lefts) i 0)
+pub stored-row : (bits precision : ℕ) (lefts : List ℕ) (i : ℕ) → IsStored bits precision lefts → i < length lefts
+    → IsRowAt bits precision lefts i (get_or (weights_of precision lefts) i 0)
 stored-row bits precision lefts i t h =
     let ws : List ℕ = weights_of precision lefts in
     let long : length ws ≡ length lefts = length-gaps (2 ^ precision) lefts in
@@ -66,7 +68,8 @@ stored-row bits precision lefts i t h =
           ap (λ xs. get_or xs (i + 1) 0) t.in_order ∙ lefts_from-at 0 ws (i + 1) there ∙ omega arith;
       last = λ g.
           let end : i + 1 ≡ length ws = omega arith in
-          let all : sum (take (i + 1) ws) ≡ 2 ^ precision = ap (λ n. sum (take n ws)) end ∙ ap sum (take-length ws) ∙ t.accepted.tiles.total in
+          let all : sum (take (i + 1) ws) ≡ 2 ^ precision =
+          ap (λ n. sum (take n ws)) end ∙ ap sum (take-length ws) ∙ t.accepted.tiles.total in
           omega arith;
     }
 
@@ -77,22 +80,26 @@ stored-some bits precision (l ∷ ls) t = omega arith
 -- the first row begins at 0
 pub stored-first : (bits precision : ℕ) (lefts : List ℕ) → IsStored bits precision lefts → get_or lefts 0 0 ≡ 0
 stored-first bits precision lefts t =
-    let some : 0 < length (weights_of precision lefts) = omega (arith, length-gaps (2 ^ precision) lefts, stored-some bits precision lefts t) in
+    let some : 0 < length (weights_of precision lefts) =
+    omega (arith, length-gaps (2 ^ precision) lefts, stored-some bits precision lefts t) in
     ap (λ xs. get_or xs 0 0) t.in_order ∙ lefts_from-at 0 (weights_of precision lefts) 0 some
 
 -- what `cdf[i]` reads, as a number
-pub read-whole : {W : Type 0} (whole : W → ℕ) (xs : List W) (i : ℕ) (x : W) → i < length xs → x ≡ get_or xs i x → get_or (map whole xs) i 0 ≡ whole x
+pub read-whole : {W : Type 0} (whole : W → ℕ) (xs : List W) (i : ℕ) (x : W) → i < length xs → x ≡ get_or xs i x
+    → get_or (map whole xs) i 0 ≡ whole x
 read-whole whole xs i x h e = get_or-map whole xs i x 0 h ∙ ap whole (sym e)
 
 -- the list of where the rows of accepted weights begin
 pub stored-of : (bits precision : ℕ) (lefts ws : List ℕ) → lefts ≡ lefts_from 0 ws → IsAccepted bits precision ws
     → IsStored bits precision lefts × (weights_of precision lefts ≡ ws)
 stored-of bits precision lefts ws e a =
-    let is : weights_of precision lefts ≡ ws = ap (gaps (2 ^ precision)) e ∙ gaps-lefts_from (2 ^ precision) 0 ws (omega (arith, a.tiles.total)) in
+    let is : weights_of precision lefts ≡ ws =
+    ap (gaps (2 ^ precision)) e ∙ gaps-lefts_from (2 ^ precision) 0 ws (omega (arith, a.tiles.total)) in
     (record { accepted = rw is a; in_order = rw is e }, is)
 
 -- a row begins at the sum of the weights before it
-pub lefts-rows_from : {S : Type 0} (l : ℕ) (ss : List S) (ws : List ℕ) → length ss ≡ length ws → map (λ r. r.left) (rows_from l ss ws) ≡ lefts_from l ws
+pub lefts-rows_from : {S : Type 0} (l : ℕ) (ss : List S) (ws : List ℕ) → length ss ≡ length ws
+    → map (λ r. r.left) (rows_from l ss ws) ≡ lefts_from l ws
 lefts-rows_from l [] [] e = refl
 lefts-rows_from l [] (w ∷ ws) e = absurd (omega arith)
 lefts-rows_from l (s ∷ ss) [] e = refl

@@ -47,7 +47,8 @@ module _ (bits precision : ℕ) (lefts : List ℕ) (t : IsStored bits precision 
       → IsRowOf (contiguous_rows (weights_of precision lefts)) q (record { symbol = i; left = l; weight = w })
   stored-row_of q i l w h le we from to below =
       let row = stored-row bits precision lefts i t h in
-      let here : i < length (contiguous_rows (weights_of precision lefts)) = omega (arith, length-rows (weights_of precision lefts), length-gaps (2 ^ precision) lefts) in
+      let here : i < length (contiguous_rows (weights_of precision lefts)) =
+      omega (arith, length-rows (weights_of precision lefts), length-gaps (2 ^ precision) lefts) in
       record {
         among = (i, here, rw (le, we) (stored-at i _ h));
         from = from;

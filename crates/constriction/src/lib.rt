@@ -11,4 +11,7 @@
 pub mod backends;
 pub mod stream;
 
-pub use constriction_words::{BitArray, CoderError, NonZeroBitArray, Queue, Semantics, Stack};
+pub use constriction_words::{
+    BitArray, CoderError, DefaultEncoderFrontendError, IndexWord, NanError, NonZeroBitArray, Pos,
+    PosSeek, Queue, Seek, Semantics, Stack, UnwrapInfallible,
+};

@@ -75,7 +75,9 @@ returns-then-eq-clause-invalid g c = λ _.
         let infer : c.args.infer_last ≡ true = search rules in
             rw infer (bad-wide whole g.P.BitArray.BITS g.row.PRECISION c.rows.yielded c.rows.table.items c.in-Some-end-2.left f
             (let top : whole c.max_value.result ≡ 2 ^ g.P.BitArray.BITS - 1 = ap whole c.max_value.ensures.own ∙ P.highest_law in
-            let same : whole c.sub.result ≡ whole c.max_value.result = (P.eq_law _ _).0 (let is : IsTrue (g.P.PartialEq.eq c.sub.result c.max_value.result) = search rules in is) in
+            let same : whole c.sub.result ≡ whole c.max_value.result =
+            (P.eq_law _ _).0 (let is : IsTrue (g.P.PartialEq.eq c.sub.result c.max_value.result) = search rules in
+            is) in
             omega (arith, P.sub_law _ _ _ c.sub.ensures, c.greatest_quantile.ensures.value, f.below, pow_pos g.P.BitArray.BITS))),
       ),
     )
