@@ -17,39 +17,3 @@ pub trait IndexWord: BitArray {
         requires { i < 2 ^ Self.BITS }
         ensures { Self.whole result ≡ i };
 }
-
-impl IndexWord for u8 {
-    #[inline]
-    fn to_index(self) -> usize {
-        usize::from(self)
-    }
-
-    #[inline]
-    fn from_index(i: usize) -> u8 {
-        i as u8
-    }
-}
-
-impl IndexWord for u16 {
-    #[inline]
-    fn to_index(self) -> usize {
-        usize::from(self)
-    }
-
-    #[inline]
-    fn from_index(i: usize) -> u16 {
-        i as u16
-    }
-}
-
-impl IndexWord for usize {
-    #[inline]
-    fn to_index(self) -> usize {
-        self
-    }
-
-    #[inline]
-    fn from_index(i: usize) -> usize {
-        i
-    }
-}

@@ -7,6 +7,7 @@ ghost use Rattle.std.proofs.lemmas.Bool.Decides.{Decides-eqb};
 ghost use Rattle.constriction_words.specs.Word.{pos-nonzero, lt-whole, le-whole};
 
 use crate::bit_array::{BitArray, NonZeroBitArray};
+use crate::index_word::IndexWord;
 use std::num::NonZeroU16;
 
 impl NonZeroBitArray for NonZeroU16 {
@@ -107,4 +108,16 @@ impl BitArray for u16 {
     ghost can_shr_law = { λ a n h. h };
 
     ghost shr_law = { λ a n r e. e };
+}
+
+impl IndexWord for u16 {
+    #[inline]
+    fn to_index(self) -> usize {
+        usize::from(self)
+    }
+
+    #[inline]
+    fn from_index(i: usize) -> u16 {
+        i as u16
+    }
 }
