@@ -1,6 +1,11 @@
-pub mod Cutting
-pub mod Numbers
-pub mod Exactly
-pub mod Writing
-pub mod Accepting
-pub mod RowTexts
+mod Accepting
+mod Cutting
+mod EntryRows
+mod Exactly
+mod ItemWriting
+mod Numbers
+mod Returning
+mod RowTexts
+mod WordNumbers
+mod WordReading
+mod Writing

@@ -1,6 +1,8 @@
-pub mod Parts
-pub mod Narrowing
 pub mod Grammar
+pub mod Narrowing
+pub mod Parts
+pub mod Quantiles
 pub mod Reading
-pub mod Text
 pub mod Runs
+pub mod Text
+pub mod ThereAndBack

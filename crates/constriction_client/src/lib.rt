@@ -1,7 +1,8 @@
-//! Whole runs over the models: lines of text that ask for rows, and the text that answers them.
+//! What stands on the models: symbols as words and back, and whole texts that ask for rows.
 //!
-//! [`run`] reads an input to its end, and writes the answer to each of its lines. [`parse`] is the
-//! grammar of a line, [`answer`] the answer to one.
+//! [`write_quantiles`] and [`read_symbols`] turn symbols into words and words into symbols, over
+//! any model and any sink or source. [`run`] reads an input to its end and writes the answer to
+//! each of its lines; [`parse`] is the grammar of a line, [`answer`] the answer to one.
 #![tactic(auto)]
 
 mod answers;
@@ -11,8 +12,10 @@ mod form_word;
 pub mod laws;
 mod line;
 mod program;
+mod quantiles;
 
 pub use crate::answers::answer;
 pub use crate::fault::RunFault;
 pub use crate::line::{Command, Form, parse};
 pub use crate::program::run;
+pub use crate::quantiles::{QuantileFault, ReadFault, read_symbols, write_quantiles};

@@ -1,0 +1,133 @@
+-- The pair of an item's word is the item, one by one and over whole lists.
+use Rattle.std.proofs.Common.{◌≡◌, ℕ, ◌^◌, ◌<◌, ◌≤◌, Bool, List, [], ◌∷◌, ◌++◌, ◌⊎◌, Option, Result, Err, length, reverse, refl, ap, sym, ◌∙◌, subst, arith, inl, inr, append-nil, length-append}
+use Rattle.std.specs.Prelude.{All, Contains, IsTrue}
+use Rattle.std.specs.List.{AllZip}
+use Rattle.std.proofs.lemmas.List.{reverse-append, length-reverse}
+use Rattle.std.proofs.lemmas.List.Elements.{All-nil, All-cons, All-contains, Contains-append_right}
+use Rattle.std.proofs.lemmas.Slice.Zip.{all_zipped_more, AllZip-long}
+use Rattle.constriction.specs.Model.{LiesWithin}
+use Rattle.constriction.specs.Rows.{Row, RowsTile, entry_of}
+use Rattle.constriction_words.specs.declared.coder_error.CoderError.{CoderError}
+use Rattle.constriction_words.specs.declared.coder_error.CoderError.TheVariants.{Frontend}
+use Rattle.constriction_client.specs.declared.quantiles.QuantileFault.{QuantileFault}
+use Rattle.constriction_client.specs.declared.quantiles.ReadFault.{ReadFault}
+use Rattle.constriction_client.specs.declared.quantiles.ReadFault.TheVariants.{QuantileTooLarge}
+use Rattle.constriction_client.specs.Quantiles.{IsQuantileOf, AreQuantiles, IsPairOf, ArePairs, StopsAtItem, ReadsPairs}
+use Rattle.constriction_client.specs.ThereAndBack.{AreItems, ReadsBack, ReadsBackReversed, HasFault}
+use Rattle.constriction_client.proofs.EntryRows.{entry-row, entry-below, one-row, unreversed}
+
+-- one item
+same-item : {Symbol Word : Type 0} (eq : Symbol → Symbol → Bool) (whole : Word → ℕ) (bits precision : ℕ) (rows : List (Row Symbol))
+    (item pair : Symbol × Word) (word : Word) → RowsTile bits precision rows → ((a b : Word) → whole a ≡ whole b → a ≡ b)
+    → IsQuantileOf (entry_of eq rows) whole item (whole word) → IsPairOf rows whole word pair
+    → IsTrue (eq pair.0 item.0) × (pair.1 ≡ item.1)
+same-item {Symbol = Symbol} eq whole bits precision rows item pair word tile one_word quantile is =
+    let has = entry-row eq rows item.0 quantile.left quantile.weight quantile.known in
+    let row : is.row ≡ has.row = one-row bits precision rows (whole word) is.row has.row tile is.found (record {
+      among = has.among;
+      from = omega (arith, has.left_is, quantile.sum);
+      to = omega (arith, has.left_is, has.weight_is, quantile.sum, quantile.below);
+    }) in
+    let left : is.row.left ≡ quantile.left = ap (λ (r : Row Symbol). r.left) row ∙ has.left_is in
+    let symbol : pair.0 ≡ has.row.symbol = is.symbol ∙ ap (λ (r : Row Symbol). r.symbol) row in
+    (ap (λ s. eq s item.0) symbol ∙ has.same, one_word pair.1 item.1 (omega (arith, left, is.offset, quantile.sum)))
+
+pub reads-back : (Symbol Word : Type 0) → ReadsBack Symbol Word
+reads-back Symbol Word eq whole bits precision rows [] [] [] tile one_word h k = tt
+reads-back Symbol Word eq whole bits precision rows [] (p ∷ ps) [] tile one_word h k = absurd k
+reads-back Symbol Word eq whole bits precision rows [] ps (w ∷ ws) tile one_word h k = absurd h
+reads-back Symbol Word eq whole bits precision rows (i ∷ is) ps [] tile one_word h k = absurd h
+reads-back Symbol Word eq whole bits precision rows (i ∷ is) [] (w ∷ ws) tile one_word h k = absurd k
+reads-back Symbol Word eq whole bits precision rows (i ∷ is) (p ∷ ps) (w ∷ ws) tile one_word h k = (
+  same-item eq whole bits precision rows i p w tile one_word h.0 k.0,
+  reads-back Symbol Word eq whole bits precision rows is ps ws tile one_word h.1 k.1,
+)
+
+-- what holds of two lists one by one holds of the reversed ones
+AllZip-reverse : {X Y : Type 0} (R : X → Y → Type 0) (xs : List X) (ys : List Y) → AllZip R xs ys → AllZip R (reverse xs) (reverse ys)
+AllZip-reverse R [] [] h = tt
+AllZip-reverse R [] (y ∷ ys) h = absurd h
+AllZip-reverse R (x ∷ xs) [] h = absurd h
+AllZip-reverse R (x ∷ xs) (y ∷ ys) h =
+    rw (reverse-append (x ∷ []) xs, reverse-append (y ∷ []) ys)
+    (all_zipped_more R (reverse xs) (reverse ys) x y (AllZip-reverse R xs ys h.1) h.0)
+
+pub reads-back-reversed : (Symbol Word : Type 0) → ReadsBackReversed Symbol Word
+reads-back-reversed Symbol Word eq whole bits precision rows items pairs words tile one_word h k =
+    reads-back Symbol Word eq whole bits precision rows (reverse items) pairs (reverse words) tile one_word
+    (AllZip-reverse (λ item word. IsQuantileOf (entry_of eq rows) whole item (whole word)) items words h) k
+
+-- a list whose first part is as long as the whole has nothing more
+nothing-behind : {X : Type 0} (all first rest : List X) → all ≡ first ++ rest → length all ≤ length first → rest ≡ []
+nothing-behind all first [] e h = refl
+nothing-behind all first (r ∷ rs) e h = absurd (omega (arith, ap length e, length-append first (r ∷ rs)))
+
+module _ {Symbol Word : Type 0} (eq : Symbol → Symbol → Bool) (whole : Word → ℕ) (bits precision : ℕ) (rows : List (Row Symbol)) where
+  -- a stack that got the words of items gives the items back reversed, where as many words are asked for
+  pub back-from-stack : (items pairs : List (Symbol × Word)) (written words rest : List Word)
+      → RowsTile bits precision rows → ((a b : Word) → whole a ≡ whole b → a ≡ b)
+      → AreQuantiles (entry_of eq rows) whole items written → ArePairs rows whole words pairs
+      → reverse written ≡ words ++ rest → (length pairs ≡ length items) ⊎ (length pairs < length items)
+      → (length pairs < length items → rest ≡ [])
+      → AreItems eq (reverse items) pairs
+  back-from-stack items pairs written words rest tile one_word quantiles of_words split ends none =
+      let long_words : length words ≡ length pairs = sym (AllZip-long (IsPairOf rows whole) words pairs of_words) in
+      let long_written : length written ≡ length items = AllZip-long (λ item word. IsQuantileOf (entry_of eq rows) whole item (whole word)) items written quantiles in
+      let ended : rest ≡ [] = elim ends [
+        | inl all ↦ nothing-behind (reverse written) words rest split (omega (arith, length-reverse written))
+        | inr fewer ↦ none fewer
+      ] in
+      let whole_list : words ≡ reverse written = sym (split ∙ ap (λ ws. words ++ ws) ended ∙ append-nil words) in
+      reads-back-reversed Symbol Word eq whole bits precision rows items pairs written tile one_word quantiles
+      (subst (λ (ws : List Word). ArePairs rows whole ws pairs) whole_list of_words)
+
+  -- the words of items are quantiles
+  quantiles-below : (items : List (Symbol × Word)) (words : List Word) → All (LiesWithin precision) rows
+      → AreQuantiles (entry_of eq rows) whole items words → All (λ w. whole w < 2 ^ precision) words
+  quantiles-below [] [] within h = All-nil (λ w. whole w < 2 ^ precision)
+  quantiles-below [] (w ∷ ws) within h = absurd h
+  quantiles-below (i ∷ is) [] within h = absurd h
+  quantiles-below (i ∷ is) (w ∷ ws) within h =
+      let q = h.0 in
+      let below = entry-below precision eq rows i.0 q.left q.weight (whole i.1) q.known within q.below in
+      All-cons (λ x. whole x < 2 ^ precision) w ws (omega (arith, below, q.sum)) (quantiles-below is ws within h.1)
+
+  -- so none of them is too large when it comes back
+  pub never-too-large : (items : List (Symbol × Word)) (written words rest : List Word) (word : Word) → All (LiesWithin precision) rows
+      → AreQuantiles (entry_of eq rows) whole items written → reverse written ≡ words ++ word ∷ rest → whole word < 2 ^ precision
+  never-too-large items written words rest word within quantiles split =
+      let here : Contains (word ∷ rest) word = (0, omega arith, refl) in
+      let among : Contains (reverse written) word =
+      subst (λ (ws : List Word). Contains ws word) (sym split) (Contains-append_right words (word ∷ rest) word here) in
+      All-contains (λ w. whole w < 2 ^ precision) written word (quantiles-below items written within quantiles) (unreversed written word among)
+
+-- where the writing stopped at a fault, that fault is the first one
+pub first-fault : {Symbol Word Sink Error : Type 0} (entry : Symbol → Option (ℕ × ℕ)) (whole : Word → ℕ)
+    (gives : Sink → Word → Result (Unit {0}) Error → Sink → Type 0) (tells : Sink → List Word → Type 0)
+    (items : List (Symbol × Word)) (s : Sink) (error : CoderError QuantileFault Error) (t : Sink) (fault : QuantileFault)
+    → StopsAtItem entry whole gives tells items s error t → error ≡ Frontend fault → HasFault entry whole items fault
+first-fault entry whole gives tells items s error t fault stopped is =
+    let at : StopsAtItem entry whole gives tells items s (Frontend fault) t =
+    subst (λ e. StopsAtItem entry whole gives tells items s e t) is stopped in
+    record {
+      before = at.before;
+      item = at.item;
+      after = at.after;
+      split = at.split;
+      words = at.wrote.words;
+      quantiles = at.wrote.quantiles;
+      at_fault = at.refused.0;
+    }
+
+-- where the reading stopped at a word that is too large, that word was still to come
+pub large-word : {Symbol Word Source Error : Type 0} (precision : ℕ) (rows : List (Row Symbol)) (whole : Word → ℕ)
+    (gives : Source → Result (Option Word) Error → Source → Type 0) (tells : Source → List Word → Type 0) (count : ℕ)
+    (s : Source) (old : List (Symbol × Word)) (error : CoderError ReadFault Error) (t : Source) (new : List (Symbol × Word))
+    → ReadsPairs precision rows whole gives tells count s old (Err error) t new → error ≡ Frontend QuantileTooLarge
+    → (upcoming : List Word) → tells s upcoming
+    → (words rest : List Word) × (word : Word) × (upcoming ≡ words ++ word ∷ rest) × (2 ^ precision ≤ whole word)
+large-word precision rows whole gives tells count s old error t new read is upcoming h =
+    let at : ReadsPairs precision rows whole gives tells count s old (Err (Frontend QuantileTooLarge)) t new =
+    subst (λ e. ReadsPairs precision rows whole gives tells count s old (Err e) t new) is read in
+    let left = at.told upcoming h in
+    (at.words, left.0, at.ended.0, left.1 ∙ ap (λ ws. at.words ++ (ws ++ left.0)) at.ended.1, at.ended.3)

@@ -1,0 +1,146 @@
+-- How words are read and their pairs added, turn by turn.
+use Rattle.std.proofs.Common.{◌≡◌, ℕ, ◌+◌, ◌^◌, ◌<◌, List, [], ◌∷◌, ◌++◌, length, Option, Some, None, Result, Ok, Err, refl, ap, sym, ◌∙◌, subst, inl, inr, arith, append_assoc, append-nil, length-append}
+use Rattle.std.specs.Prelude.{All}
+use Rattle.std.proofs.lemmas.List.Elements.{All-nil, All-push}
+use Rattle.std.proofs.lemmas.Slice.Zip.{all_zipped_more}
+use Rattle.constriction_words.specs.declared.coder_error.CoderError.TheVariants.{Frontend, Backend}
+use Rattle.constriction_backends.specs.Source.{ReadsTold}
+use Rattle.constriction.specs.Rows.{Row}
+use Rattle.constriction_client.specs.declared.quantiles.ReadFault.{ReadFault}
+use Rattle.constriction_client.specs.Quantiles.{IsPairOf, ArePairs, Reads, IsReadFaultOf, ReadsPairs}
+
+module _ {Word Source Error : Type 0} (gives : Source → Result (Option Word) Error → Source → Type 0) where
+  -- one more read after others
+  reads-more : (s : Source) (ws : List Word) (j : Source) (w : Word) (t : Source) → Reads gives s ws j → gives j (Ok (Some w)) t → Reads gives s (ws ++ w ∷ []) t
+  reads-more s [] j w t e h = (t, subst (λ (x : Source). gives x (Ok (Some w)) t) (sym e) h, refl)
+  reads-more s (x ∷ xs) j w t p h = (p.0, p.1, reads-more p.0 xs j w t p.2 h)
+
+-- the words so far were read, and each gave a pair
+pub record HasRead {Symbol Word Source Error : Type 0} (precision : ℕ) (rows : List (Row Symbol)) (whole : Word → ℕ)
+    (gives : Source → Result (Option Word) Error → Source → Type 0) (tells : Source → List Word → Type 0)
+    (s : Source) (old : List (Symbol × Word)) (n : ℕ) (t : Source) (new : List (Symbol × Word)) : Type 0 where
+  pub words : List Word
+  pub pairs : List (Symbol × Word)
+  pub of_words : ArePairs rows whole words pairs
+  pub in_range : All (λ word. whole word < 2 ^ precision) words
+  pub added : new ≡ old ++ pairs
+  pub many : length pairs ≡ n
+  pub read : Reads gives s words t
+  pub told : (upcoming : List Word) → tells s upcoming → (rest : List Word) × (upcoming ≡ words ++ rest) × tells t rest
+
+module _ {Symbol Word Source Error : Type 0} (precision : ℕ) (rows : List (Row Symbol)) (whole : Word → ℕ)
+    (gives : Source → Result (Option Word) Error → Source → Type 0) (tells : Source → List Word → Type 0)
+    (law : (s : Source) (r : Result (Option Word) Error) (t : Source) → gives s r t
+    → (ws : List Word) → tells s ws → ReadsTold tells ws r t) where
+  pub read-none : (s : Source) (old : List (Symbol × Word)) → HasRead precision rows whole gives tells s old 0 s old
+  read-none s old = record {
+    words = [];
+    pairs = [];
+    of_words = tt;
+    in_range = All-nil (λ word. whole word < 2 ^ precision);
+    added = sym (append-nil old);
+    many = refl;
+    read = refl;
+    told = λ upcoming h. (upcoming, refl, h);
+  }
+
+  -- a source that told the words before still tells those behind one more
+  told-more : (s : Source) (words : List Word) (j : Source) (word : Word) (t : Source) → gives j (Ok (Some word)) t
+      → ((upcoming : List Word) → tells s upcoming → (rest : List Word) × (upcoming ≡ words ++ rest) × tells j rest)
+      → (upcoming : List Word) → tells s upcoming → (rest : List Word) × (upcoming ≡ words ++ word ∷ rest) × tells t rest
+  told-more s words j word t took told upcoming h =
+      let before = told upcoming h in
+      let now = law j (Ok (Some word)) t took before.0 before.2 in
+      (now.0, before.1 ∙ ap (λ ws. words ++ ws) now.1, now.2)
+
+  pub read-more : (s : Source) (old : List (Symbol × Word)) (n : ℕ) (j : Source) (mid : List (Symbol × Word)) (word : Word)
+      (pair : Symbol × Word) (t : Source) (new : List (Symbol × Word)) → HasRead precision rows whole gives tells s old n j mid
+      → gives j (Ok (Some word)) t → whole word < 2 ^ precision → IsPairOf rows whole word pair → new ≡ mid ++ pair ∷ []
+      → HasRead precision rows whole gives tells s old (n + 1) t new
+  read-more s old n j mid word pair t new so_far took small is e = record {
+    words = so_far.words ++ word ∷ [];
+    pairs = so_far.pairs ++ pair ∷ [];
+    of_words = all_zipped_more (IsPairOf rows whole) so_far.words so_far.pairs word pair so_far.of_words is;
+    in_range = All-push (λ w. whole w < 2 ^ precision) so_far.words word so_far.in_range small;
+    added = e ∙ ap (λ ps. ps ++ pair ∷ []) so_far.added ∙ append_assoc old so_far.pairs (pair ∷ []);
+    many = omega (arith, length-append so_far.pairs (pair ∷ []), so_far.many);
+    read = reads-more gives s so_far.words j word t so_far.read took;
+    told = λ upcoming h.
+        let now = told-more s so_far.words j word t took so_far.told upcoming h in
+        (now.0, now.1 ∙ sym (append_assoc so_far.words (word ∷ []) now.0), now.2);
+  }
+
+  -- all that were asked for
+  pub read-all : (s : Source) (old : List (Symbol × Word)) (count n : ℕ) (t : Source) (new : List (Symbol × Word))
+      → HasRead precision rows whole gives tells s old n t new → n ≡ count
+      → ReadsPairs precision rows whole gives tells count s old (Ok count) t new
+  read-all s old count n t new so_far e = record {
+    words = so_far.words;
+    pairs = so_far.pairs;
+    of_words = so_far.of_words;
+    in_range = so_far.in_range;
+    added = so_far.added;
+    reached = t;
+    read = so_far.read;
+    more = [];
+    ended = (sym (so_far.many ∙ e), refl, inl (so_far.many ∙ e, refl));
+    told = λ upcoming h. let now = so_far.told upcoming h in (now.0, now.1, now.2, λ less. absurd (omega arith));
+  }
+
+  -- the source ended
+  pub read-to-end : (s : Source) (old : List (Symbol × Word)) (count n : ℕ) (j t : Source) (new : List (Symbol × Word))
+      → HasRead precision rows whole gives tells s old n j new → n < count → gives j (Ok None) t
+      → ReadsPairs precision rows whole gives tells count s old (Ok n) t new
+  read-to-end s old count n j t new so_far less end = record {
+    words = so_far.words;
+    pairs = so_far.pairs;
+    of_words = so_far.of_words;
+    in_range = so_far.in_range;
+    added = so_far.added;
+    reached = j;
+    read = so_far.read;
+    more = [];
+    ended = (sym so_far.many, refl, inr (omega (arith, so_far.many), end));
+    told = λ upcoming h.
+        let now = so_far.told upcoming h in
+        let none = law j (Ok None) t end now.0 now.2 in
+        ([], now.1 ∙ ap (λ ws. so_far.words ++ ws) none.0, none.1, λ _. refl);
+  }
+
+  -- a word that gives no pair
+  pub read-fault : (s : Source) (old : List (Symbol × Word)) (count n : ℕ) (j : Source) (word : Word) (t : Source) (new : List (Symbol × Word))
+      (fault : ReadFault) → HasRead precision rows whole gives tells s old n j new → gives j (Ok (Some word)) t
+      → IsReadFaultOf precision (whole word) fault
+      → ReadsPairs precision rows whole gives tells count s old (Err (Frontend fault)) t new
+  read-fault s old count n j word t new fault so_far took is = record {
+    words = so_far.words;
+    pairs = so_far.pairs;
+    of_words = so_far.of_words;
+    in_range = so_far.in_range;
+    added = so_far.added;
+    reached = j;
+    read = so_far.read;
+    more = word ∷ [];
+    ended = (word, refl, took, is);
+    told = λ upcoming h. let now = told-more s so_far.words j word t took so_far.told upcoming h in (now.0, now.1, now.2, tt);
+  }
+
+  -- a read that failed
+  pub read-failed : (s : Source) (old : List (Symbol × Word)) (count n : ℕ) (j t : Source) (new : List (Symbol × Word)) (error : Error)
+      → HasRead precision rows whole gives tells s old n j new → gives j (Err error) t
+      → ReadsPairs precision rows whole gives tells count s old (Err (Backend error)) t new
+  read-failed s old count n j t new error so_far failed = record {
+    words = so_far.words;
+    pairs = so_far.pairs;
+    of_words = so_far.of_words;
+    in_range = so_far.in_range;
+    added = so_far.added;
+    reached = j;
+    read = so_far.read;
+    more = [];
+    ended = (refl, failed);
+    told = λ upcoming h.
+        let now = so_far.told upcoming h in
+        let left = law j (Err error) t failed now.0 now.2 in
+        (now.0, now.1, left.1, left.0);
+  }

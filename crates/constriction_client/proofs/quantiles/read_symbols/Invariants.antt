@@ -1,0 +1,10 @@
+use Rattle.constriction_client.proofs.WordReading.{HasRead}
+use Rattle.constriction_client.proofs.quantiles.read_symbols.Given as goal
+
+-- the words so far were read, and each gave a pair
+abbrev pub invariant-loop-done : goal.invariant-loop-done
+invariant-loop-done g l = record {
+  goes_on : g.R.ReadWords.can_read l.source;
+  so_far : HasRead g.row.PRECISION (g.M.EntropyModel.rows l.model) g.M.Probability.BitArray.whole g.R.ReadWords.read_gives
+      g.R.ReadWords.tells_upcoming l.initial.source l.initial.out.items l.done l.source l.out.items;
+}

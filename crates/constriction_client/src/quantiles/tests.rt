@@ -1,0 +1,229 @@
+//! Items to words and back, over a worked table and ends that fail.
+
+ghost use Rattle.std.specs.Prelude.{◌≡◌};
+ghost use Rattle.constriction_backends.specs.Stack.{Pushes, Pushes-told};
+
+use super::{QuantileFault, ReadFault, read_symbols, write_quantiles};
+use crate::laws::there_and_back;
+use constriction::stream::model::{ContiguousCategoricalEntropyModel, ModelError};
+use constriction_backends::{ReadWords, WriteWords};
+use constriction_words::{CoderError, Queue, Stack};
+use std::alloc::Global;
+use std::test::Fail;
+
+type Small = ContiguousCategoricalEntropyModel<u8, Vec<u8>, 6>;
+
+type Full = ContiguousCategoricalEntropyModel<u8, Vec<u8>, 8>;
+
+/// The model of the weights 3, 18, 1 and 42.
+fn small(alloc: Global) -> Result<Small, ModelError> {
+    Small::from_nonzero_fixed_point_probabilities(alloc, [3u8, 18, 1, 42].iter().copied(), false)
+}
+
+/// The model of the weights 200 and 56, whose quantiles are all words.
+fn full(alloc: Global) -> Result<Full, ModelError> {
+    Full::from_nonzero_fixed_point_probabilities(alloc, [200u8].iter().copied(), true)
+}
+
+#[test]
+fn three_items_come_back_from_a_stack_reversed(rt: HostRuntime) -> Result<(), Fail> {
+    let model = small(rt.alloc())?;
+    let mut words = Vec::new(rt.alloc());
+    let items = [(0usize, 2u8), (3, 41), (1, 0)];
+    assert_eq!(rt; write_quantiles(&model, &items, &mut words), Ok(()));
+    assert_eq!(rt; words.as_slice(), [2, 63, 3].as_slice());
+
+    let mut out = Vec::new(rt.alloc());
+    assert_eq!(rt;
+        read_symbols::<Stack, _, _, 6>(&model, &mut words, 3, &mut out),
+        Ok(3)
+    );
+    assert_eq!(rt; out.as_slice(), [(1, 0), (3, 41), (0, 2)].as_slice());
+    assert!(rt; words.is_empty());
+
+    let again = there_and_back(rt.alloc(), &model, &items)?;
+    assert_eq!(rt; again.as_slice(), [(1, 0), (3, 41), (0, 2)].as_slice());
+    Ok(())
+}
+
+#[test]
+fn the_words_before_a_fault_stay_written(rt: HostRuntime) -> Result<(), Fail> {
+    let model = small(rt.alloc())?;
+    let cases = [
+        (
+            "an offset of the weight",
+            [(0usize, 2u8), (2, 1), (9, 0)],
+            QuantileFault::OffsetTooLarge,
+        ),
+        (
+            "a symbol past the last one",
+            [(0, 2), (4, 0), (2, 1)],
+            QuantileFault::ImpossibleSymbol,
+        ),
+        (
+            "a symbol that is no word",
+            [(0, 2), (usize::MAX, 9), (2, 1)],
+            QuantileFault::ImpossibleSymbol,
+        ),
+    ];
+    for (name, items, fault) in cases {
+        let mut words = [7u8].to_vec(rt.alloc())?;
+        assert_eq!(rt;
+            write_quantiles(&model, &items, &mut words),
+            Err(CoderError::Frontend(fault)),
+            "{name}"
+        );
+        assert_eq!(rt; words.as_slice(), [7, 2].as_slice(), "{name}");
+        assert!(rt;
+            there_and_back(rt.alloc(), &model, &items).is_err(),
+            "{name}"
+        );
+    }
+    Ok(())
+}
+
+#[test]
+fn a_word_that_is_no_quantile_is_gone(rt: HostRuntime) -> Result<(), Fail> {
+    let model = small(rt.alloc())?;
+    let mut words = [2u8, 64, 63].to_vec(rt.alloc())?;
+    let mut out = [(2usize, 0u8)].to_vec(rt.alloc())?;
+    assert_eq!(rt;
+        read_symbols::<Stack, _, _, 6>(&model, &mut words, 3, &mut out),
+        Err(CoderError::Frontend(ReadFault::QuantileTooLarge))
+    );
+    assert_eq!(rt; words.as_slice(), [2].as_slice());
+    assert_eq!(rt; out.as_slice(), [(2, 0), (3, 41)].as_slice());
+    Ok(())
+}
+
+#[test]
+fn no_more_words_are_read_than_are_asked_for(rt: HostRuntime) -> Result<(), Fail> {
+    let model = small(rt.alloc())?;
+    let cases = [
+        (0usize, 0usize, [2u8, 63].as_slice(), [].as_slice()),
+        (1, 1, [2].as_slice(), [(3usize, 41u8)].as_slice()),
+        (2, 2, [].as_slice(), [(3, 41), (0, 2)].as_slice()),
+        (5, 2, [].as_slice(), [(3, 41), (0, 2)].as_slice()),
+    ];
+    for (count, pairs, left, read) in cases {
+        let mut words = [2u8, 63].to_vec(rt.alloc())?;
+        let mut out = Vec::new(rt.alloc());
+        assert_eq!(rt;
+            read_symbols::<Stack, _, _, 6>(&model, &mut words, count, &mut out),
+            Ok(pairs),
+            "{count}"
+        );
+        assert_eq!(rt; words.as_slice(), left, "{count}");
+        assert_eq!(rt; out.as_slice(), read, "{count}");
+    }
+    Ok(())
+}
+
+#[test]
+fn at_the_full_width_each_word_is_a_quantile(rt: HostRuntime) -> Result<(), Fail> {
+    let model = full(rt.alloc())?;
+    let mut words = Vec::new(rt.alloc());
+    let items = [(1usize, 55u8), (0, 199), (1, 0)];
+    assert_eq!(rt; write_quantiles(&model, &items, &mut words), Ok(()));
+    assert_eq!(rt; words.as_slice(), [255, 199, 200].as_slice());
+    let mut out = Vec::new(rt.alloc());
+    assert_eq!(rt;
+        read_symbols::<Stack, _, _, 8>(&model, &mut words, 4, &mut out),
+        Ok(3)
+    );
+    assert_eq!(rt; out.as_slice(), [(1, 0), (0, 199), (1, 55)].as_slice());
+    Ok(())
+}
+
+/// Why a sink of at most two words refuses a word.
+#[derive(Debug, PartialEq, Eq, Drop)]
+enum Refusal {
+    Full(u8),
+    OutOfMemory,
+}
+
+/// A sink of at most two words.
+#[derive(Drop)]
+struct TwoWords {
+    words: Vec<u8>,
+}
+
+impl WriteWords<u8> for TwoWords {
+    type WriteError = Refusal;
+
+    ghost write_gives = { λ s word r t. Pushes s.words.items word r t.words.items };
+
+    ghost tells_written = { λ s words. words ≡ s.words.items };
+
+    fn write(&mut self, word: u8) -> Result<(), Refusal> {
+        if self.words.len() >= 2 {
+            return Err(Refusal::Full(word));
+        }
+        match self.words.push(word) {
+            Ok(()) => Ok(()),
+            Err(_) => Err(Refusal::OutOfMemory),
+        }
+    }
+
+    ghost writes_told = { Pushes-told (λ s. s.words.items) };
+}
+
+#[test]
+fn a_refusal_of_the_sink_is_handed_on(rt: HostRuntime) -> Result<(), Fail> {
+    let model = small(rt.alloc())?;
+    let mut sink = TwoWords {
+        words: Vec::new(rt.alloc()),
+    };
+    let items = [(0usize, 2u8), (3, 41), (1, 0), (4, 0)];
+    assert_eq!(rt;
+        write_quantiles(&model, &items, &mut sink),
+        Err(CoderError::Backend(Refusal::Full(3)))
+    );
+    assert_eq!(rt; sink.words.as_slice(), [2, 63].as_slice());
+    Ok(())
+}
+
+/// A source that answers 63, an error, 2, and then that it ended.
+#[derive(Drop)]
+struct Interrupted {
+    reads: u8,
+}
+
+impl ReadWords<u8, Queue> for Interrupted {
+    type ReadError = &'static str;
+
+    ghost read_gives = { λ _ _ _. Unit {0} };
+
+    fn read(&mut self) -> Result<Option<u8>, &'static str> {
+        let turn = self.reads;
+        self.reads = turn.saturating_add(1);
+        match turn {
+            0 => Ok(Some(63)),
+            1 => Err("interrupted"),
+            2 => Ok(Some(2)),
+            _ => Ok(None),
+        }
+    }
+
+    ghost reads_told = { λ s r t gives words told. absurd told };
+}
+
+#[test]
+fn an_error_of_the_source_is_handed_on(rt: HostRuntime) -> Result<(), Fail> {
+    let model = small(rt.alloc())?;
+    let mut source = Interrupted { reads: 0 };
+    let mut out = Vec::new(rt.alloc());
+    assert_eq!(rt;
+        read_symbols::<Queue, _, _, 6>(&model, &mut source, 3, &mut out),
+        Err(CoderError::Backend("interrupted"))
+    );
+    assert_eq!(rt; out.as_slice(), [(3, 41)].as_slice());
+    assert_eq!(rt; source.reads, 2);
+    assert_eq!(rt;
+        read_symbols::<Queue, _, _, 6>(&model, &mut source, 3, &mut out),
+        Ok(1)
+    );
+    assert_eq!(rt; out.as_slice(), [(3, 41), (0, 2)].as_slice());
+    assert_eq!(rt; source.reads, 4);
+    Ok(())
+}
