@@ -1,5 +1,6 @@
 -- The text that answers an input.
-use Rattle.std.specs.Prelude.{◌≡◌, ℕ, ◌+◌, ◌^◌, ◌<◌, ◌↔◌, Bool, true, IsSome, ◌&&◌, ◌==◌, nat_eq, nat_le, nat_lt, List, [], ◌∷◌, ◌++◌, codes, decimal, find, sum}
+use Rattle.std.specs.Prelude.{◌≡◌, ℕ, ◌+◌, ◌^◌, ◌<◌, ◌↔◌, Bool, true, IsSome, ◌&&◌, ◌==◌, nat_eq, nat_le, nat_lt}
+use Rattle.std.specs.Prelude.{List, [], ◌∷◌, ◌++◌, codes, decimal, find, sum}
 use Rattle.std.specs.Prelude.{Option, Some, None, if◌then◌else◌}
 use Rattle.std.specs.List.{flat_map, list_all, slice_split}
 use Rattle.std.specs.Option.{option_map_or}
@@ -31,16 +32,21 @@ holds q row = nat_le row.left q && nat_lt q (row.left + row.weight)
 
 -- the test of weights holds exactly where a model accepts them
 abbrev pub TestsAcceptance : Type 0
-TestsAcceptance = (bits precision : ℕ) (weights : List ℕ) → (are_accepted bits precision weights ≡ true) ↔ IsAccepted bits precision weights
+TestsAcceptance =
+    (bits precision : ℕ) (weights : List ℕ)
+    → (are_accepted bits precision weights ≡ true) ↔ IsAccepted bits precision weights
 
 -- among rows that tile, the row that is found is the row of the quantile
 abbrev pub FindsTheRow : Type 0
 FindsTheRow =
-    (bits precision : ℕ) (rows : List (Row ℕ)) (q : ℕ) (row : Row ℕ) → RowsTile bits precision rows → (find (holds q) rows ≡ Some row) ↔ IsRowOf rows q row
+    (bits precision : ℕ) (rows : List (Row ℕ)) (q : ℕ) (row : Row ℕ)
+    → RowsTile bits precision rows → (find (holds q) rows ≡ Some row) ↔ IsRowOf rows q row
 
 -- among rows that tile, one is found for each quantile below 2 ^ precision
 abbrev pub FindsARow : Type 0
-FindsARow = (bits precision : ℕ) (rows : List (Row ℕ)) (q : ℕ) → RowsTile bits precision rows → q < 2 ^ precision → IsSome (find (holds q) rows)
+FindsARow =
+    (bits precision : ℕ) (rows : List (Row ℕ)) (q : ℕ)
+    → RowsTile bits precision rows → q < 2 ^ precision → IsSome (find (holds q) rows)
 
 -- the line of a row: its symbol, its left cumulative and its weight
 abbrev pub row_text : Row ℕ → List ℕ
@@ -58,7 +64,8 @@ quantile_text precision rows q =
 -- the line of a symbol's row, where it has an entry
 abbrev pub symbol_text : List (Row ℕ) → ℕ → List ℕ
 symbol_text rows s =
-    option_map_or (λ entry. row_text (record { symbol = s; left = entry.0; weight = entry.1 })) (entry_of nat_eq rows s) (codes "none\n")
+    option_map_or (λ entry. row_text (record { symbol = s; left = entry.0; weight = entry.1 }))
+    (entry_of nat_eq rows s) (codes "none\n")
 
 -- the text of a model of these weights, where they are accepted
 abbrev pub text_of_model : Form → List ℕ → (List (Row ℕ) → List ℕ) → List ℕ

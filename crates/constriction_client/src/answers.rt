@@ -1,6 +1,7 @@
 //! The answer to a line.
 
-ghost use Rattle.std.specs.Prelude.{◌≡◌, ◌+◌, ◌^◌, ◌<◌, ◌≤◌, ◌++◌, true, false, codes, IfOk, IfSome, IfNone, OnOk, string_bytes};
+ghost use Rattle.std.specs.Prelude.{◌≡◌, ◌+◌, ◌^◌, ◌<◌, ◌≤◌, ◌++◌, true, false};
+ghost use Rattle.std.specs.Prelude.{codes, IfOk, IfSome, IfNone, OnOk, string_bytes};
 ghost use Rattle.constriction.specs.Rows.{contiguous_rows};
 ghost use Rattle.constriction_client.specs.Reading.{view};
 ghost use Rattle.constriction_client.specs.Text.{answer_of, answer_to, are_accepted, row_text};
@@ -88,7 +89,8 @@ fn answer_quantile<Word: FormWord, const PRECISION: usize>(
     requires fits { PRECISION ≤ Word.BITS }
     requires small { PRECISION < 64 }
     ensures { IfOk result (λ text. string_bytes text ≡ quantile_text PRECISION
-        (⟦<ContiguousCategoricalEntropyModel<Word, Vec<Word>, PRECISION> as EntropyModel<PRECISION>>⟧.rows model.now) quantile) }
+        (⟦<ContiguousCategoricalEntropyModel<Word, Vec<Word>, PRECISION> as EntropyModel<PRECISION>>⟧.rows model.now)
+        quantile) }
 {
     if quantile >> PRECISION != 0 {
         return String::from_str(alloc, "range\n");
@@ -104,7 +106,8 @@ fn answer_symbol<Word: FormWord, const PRECISION: usize>(
     symbol: u64,
 ) -> Result<String, AllocError>
     ensures { IfOk result (λ text. string_bytes text ≡ symbol_text
-        (⟦<ContiguousCategoricalEntropyModel<Word, Vec<Word>, PRECISION> as EntropyModel<PRECISION>>⟧.rows model.now) symbol) }
+        (⟦<ContiguousCategoricalEntropyModel<Word, Vec<Word>, PRECISION> as EntropyModel<PRECISION>>⟧.rows model.now)
+        symbol) }
 {
     let symbol = symbol as usize;
     match model.left_cumulative_and_probability(&symbol) {
