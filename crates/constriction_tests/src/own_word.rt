@@ -1,0 +1,23 @@
+//! A caller's own word: a 16-bit sample, a type of its own over `u16`.
+
+mod checked;
+mod integer;
+mod nonzero;
+mod number;
+mod operators;
+#[cfg(test)]
+mod tests;
+mod word;
+
+use std::fmt;
+use std::fmt::{Display, Formatter, Write};
+
+/// A sample of 16 bits, whose number is from 0 to 65535.
+#[derive(Clone, Copy, Debug, Default, PartialEq, Eq, PartialOrd, Ord, Hash)]
+pub struct Sample(pub u16);
+
+impl Display for Sample {
+    fn fmt<W: Write>(&self, f: &mut Formatter<W>) -> fmt::Result {
+        Display::fmt(&self.0, f)
+    }
+}
