@@ -1,4 +1,7 @@
-//! A caller's own word: a 16-bit sample, a type of its own over `u16`.
+//! A caller's own word: a 16-bit sample, which is a type of its own over `u16`.
+//!
+//! The files stand in the order in which the traits build on one another: `operators`, `number`,
+//! `checked`, `integer`, then `nonzero` and `word`.
 
 mod checked;
 mod integer;

@@ -8,7 +8,8 @@ use crate::own_word::Sample;
 use num_traits::{CheckedAdd, CheckedDiv, CheckedMul, CheckedSub, Saturating};
 
 impl CheckedAdd for Sample {
-    ghost checked_add_gives = { λ a b r. Checks (λ s. pos s.0) (FitsUnsignedBits 16) (pos a.0 +ℤ pos b.0) r };
+    ghost checked_add_gives = { λ a b r. Checks (λ s. pos s.0) (FitsUnsignedBits 16)
+        (pos a.0 +ℤ pos b.0) r };
 
     fn checked_add(&self, other: &Sample) -> Option<Sample> {
         self.0.checked_add(other.0).map(Sample)
@@ -18,7 +19,8 @@ impl CheckedAdd for Sample {
 }
 
 impl CheckedSub for Sample {
-    ghost checked_sub_gives = { λ a b r. Checks (λ s. pos s.0) (FitsUnsignedBits 16) (pos a.0 -ℤ pos b.0) r };
+    ghost checked_sub_gives = { λ a b r. Checks (λ s. pos s.0) (FitsUnsignedBits 16)
+        (pos a.0 -ℤ pos b.0) r };
 
     fn checked_sub(&self, other: &Sample) -> Option<Sample> {
         self.0.checked_sub(other.0).map(Sample)
@@ -28,7 +30,8 @@ impl CheckedSub for Sample {
 }
 
 impl CheckedMul for Sample {
-    ghost checked_mul_gives = { λ a b r. Checks (λ s. pos s.0) (FitsUnsignedBits 16) (pos a.0 *ℤ pos b.0) r };
+    ghost checked_mul_gives = { λ a b r. Checks (λ s. pos s.0) (FitsUnsignedBits 16)
+        (pos a.0 *ℤ pos b.0) r };
 
     fn checked_mul(&self, other: &Sample) -> Option<Sample> {
         self.0.checked_mul(other.0).map(Sample)

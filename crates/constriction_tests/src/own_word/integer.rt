@@ -59,12 +59,12 @@ impl PrimInt for Sample {
         Sample(self.0.reverse_bits())
     }
 
-    fn from_be(x: Sample) -> Sample {
-        Sample(u16::from_be(x.0))
+    fn from_be(sample: Sample) -> Sample {
+        Sample(u16::from_be(sample.0))
     }
 
-    fn from_le(x: Sample) -> Sample {
-        x
+    fn from_le(sample: Sample) -> Sample {
+        sample
     }
 
     fn to_be(self) -> Sample {
@@ -75,12 +75,12 @@ impl PrimInt for Sample {
         self
     }
 
-    fn pow(self, exp: u32) -> Sample {
-        Sample(PrimInt::pow(self.0, exp))
+    fn pow(self, exponent: u32) -> Sample {
+        Sample(PrimInt::pow(self.0, exponent))
     }
 
-    fn checked_pow(self, exp: u32) -> Option<Sample> {
-        PrimInt::checked_pow(self.0, exp).map(Sample)
+    fn checked_pow(self, exponent: u32) -> Option<Sample> {
+        PrimInt::checked_pow(self.0, exponent).map(Sample)
     }
 
     ghost can_not_law = { λ a. tt };

@@ -102,7 +102,8 @@ impl One for Sample {
 impl Num for Sample {
     type FromStrRadixErr = ParseIntError;
 
-    ghost from_str_radix_gives = { λ text radix r. ParsesUnsigned 16 radix text (result_map_both (λ a. a.0) (λ e. e) r)
+    ghost from_str_radix_gives = { λ text radix r.
+        ParsesUnsigned 16 radix text (result_map_both (λ a. a.0) (λ e. e) r)
         × ExplainsUnsignedError radix text r };
 
     fn from_str_radix(text: &str, radix: u32) -> Result<Sample, ParseIntError> {

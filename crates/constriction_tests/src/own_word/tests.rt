@@ -22,8 +22,8 @@ fn half_way<W: BitArray>(from: W, to: W) -> W
     (to - from) >> 1
 }
 
-/// How many words a product is above a multiple of the divisor.
-fn left_of_product<W: BitArray>(a: W, b: W, divisor: W) -> W
+/// The remainder of a product.
+fn remainder_of_product<W: BitArray>(a: W, b: W, divisor: W) -> W
     requires fits { W.whole a * W.whole b < 2 ^ W.BITS }
     requires positive { 0 < W.whole divisor }
     ensures { W.whole result ≡ (W.whole a * W.whole b) % W.whole divisor }
@@ -59,7 +59,7 @@ fn operations_give_the_exact_number(rt: HostRuntime) {
     assert_eq!(rt; half_way(Sample(3), Sample(65535)), Sample(32766));
     assert_eq!(rt; half_of_sample(Sample(65535)), Sample(32767));
     assert_eq!(rt;
-        left_of_product(Sample(255), Sample(257), Sample(1000)),
+        remainder_of_product(Sample(255), Sample(257), Sample(1000)),
         Sample(535)
     );
     assert_eq!(rt; moved_up(Sample(0x8001), 1), Sample(2));
