@@ -1,0 +1,4 @@
+//! Tests that cross crates, by subject.
+#![tactic(auto)]
+
+mod own_word;
