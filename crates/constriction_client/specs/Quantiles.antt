@@ -90,8 +90,8 @@ abbrev pub EndsReading : {Word Source Error : Type 0} → ℕ → (Word → ℕ)
 EndsReading precision whole gives count n s (Ok k) more t =
     (k ≡ n) × (more ≡ []) × (((n ≡ count) × (t ≡ s)) ⊎ ((n < count) × gives s (Ok None) t))
 EndsReading {Word = Word} precision whole gives count n s (Err (Frontend fault)) more t =
-    (word : Word) × (more ≡ word ∷ []) × gives s (Ok (Some word)) t × IsReadFaultOf precision (whole word) fault
-EndsReading precision whole gives count n s (Err (Backend e)) more t = (more ≡ []) × gives s (Err e) t
+    (word : Word) × (n < count) × (more ≡ word ∷ []) × gives s (Ok (Some word)) t × IsReadFaultOf precision (whole word) fault
+EndsReading precision whole gives count n s (Err (Backend e)) more t = (n < count) × (more ≡ []) × gives s (Err e) t
 
 -- what is then still to come: nothing, where the source ended; and a word, where a read failed
 abbrev pub LeavesWords : {Word Error : Type 0} → ℕ → Result ℕ (CoderError ReadFault Error) → List Word → Type 0
