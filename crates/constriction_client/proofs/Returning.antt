@@ -130,4 +130,4 @@ large-word precision rows whole gives tells count s old error t new read is upco
     let at : ReadsPairs precision rows whole gives tells count s old (Err (Frontend QuantileTooLarge)) t new =
     subst (λ e. ReadsPairs precision rows whole gives tells count s old (Err e) t new) is read in
     let left = at.told upcoming h in
-    (at.words, left.0, at.ended.0, left.1 ∙ ap (λ ws. at.words ++ (ws ++ left.0)) at.ended.1, at.ended.3)
+    (at.words, left.0, at.ended.0, left.1 ∙ ap (λ ws. at.words ++ (ws ++ left.0)) at.ended.2, at.ended.4)

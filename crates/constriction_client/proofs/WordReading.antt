@@ -109,10 +109,10 @@ module _ {Symbol Word Source Error : Type 0} (precision : ℕ) (rows : List (Row
 
   -- a word that gives no pair
   pub read-fault : (s : Source) (old : List (Symbol × Word)) (count n : ℕ) (j : Source) (word : Word) (t : Source) (new : List (Symbol × Word))
-      (fault : ReadFault) → HasRead precision rows whole gives tells s old n j new → gives j (Ok (Some word)) t
+      (fault : ReadFault) → HasRead precision rows whole gives tells s old n j new → n < count → gives j (Ok (Some word)) t
       → IsReadFaultOf precision (whole word) fault
       → ReadsPairs precision rows whole gives tells count s old (Err (Frontend fault)) t new
-  read-fault s old count n j word t new fault so_far took is = record {
+  read-fault s old count n j word t new fault so_far less took is = record {
     words = so_far.words;
     pairs = so_far.pairs;
     of_words = so_far.of_words;
@@ -121,15 +121,15 @@ module _ {Symbol Word Source Error : Type 0} (precision : ℕ) (rows : List (Row
     reached = j;
     read = so_far.read;
     more = word ∷ [];
-    ended = (word, refl, took, is);
+    ended = (word, omega (arith, so_far.many), refl, took, is);
     told = λ upcoming h. let now = told-more s so_far.words j word t took so_far.told upcoming h in (now.0, now.1, now.2, tt);
   }
 
   -- a read that failed
   pub read-failed : (s : Source) (old : List (Symbol × Word)) (count n : ℕ) (j t : Source) (new : List (Symbol × Word)) (error : Error)
-      → HasRead precision rows whole gives tells s old n j new → gives j (Err error) t
+      → HasRead precision rows whole gives tells s old n j new → n < count → gives j (Err error) t
       → ReadsPairs precision rows whole gives tells count s old (Err (Backend error)) t new
-  read-failed s old count n j t new error so_far failed = record {
+  read-failed s old count n j t new error so_far less failed = record {
     words = so_far.words;
     pairs = so_far.pairs;
     of_words = so_far.of_words;
@@ -138,7 +138,7 @@ module _ {Symbol Word Source Error : Type 0} (precision : ℕ) (rows : List (Row
     reached = j;
     read = so_far.read;
     more = [];
-    ended = (refl, failed);
+    ended = (omega (arith, so_far.many), refl, failed);
     told = λ upcoming h.
         let now = so_far.told upcoming h in
         let left = law j (Err error) t failed now.0 now.2 in

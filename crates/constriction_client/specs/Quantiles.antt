@@ -1,4 +1,5 @@
--- Items as quantiles, and words as pairs. An item is a symbol and an offset: the place of its quantile among those of the symbol.
+-- Items as quantiles, and words as pairs. An item is a symbol and an offset: the place of its quantile among those of
+-- the symbol.
 use Rattle.std.specs.Prelude.{◌≡◌, ◌≢◌, ℕ, ◌+◌, ◌^◌, ◌<◌, ◌≤◌, ◌⊎◌, List, [], ◌∷◌, ◌++◌, length, All, Option, Some, None, Result, Ok, Err}
 use Rattle.std.specs.List.{AllZip}
 use Rattle.constriction_words.specs.declared.coder_error.CoderError.{CoderError}
@@ -12,8 +13,10 @@ use Rattle.constriction_client.specs.declared.quantiles.ReadFault.TheVariants.{O
 
 -- Below, `entry` tells the entry of each symbol, and `whole` the number of each word.
 
--- q is the quantile of the item: its symbol has an entry, its offset is below the weight, and q is the left cumulative and the offset
-pub record IsQuantileOf {Symbol Word : Type 0} (entry : Symbol → Option (ℕ × ℕ)) (whole : Word → ℕ) (item : Symbol × Word) (q : ℕ) : Type 0 where
+-- q is the quantile of the item: its symbol has an entry, its offset is below the weight, and q is the left cumulative
+-- plus the offset
+pub record IsQuantileOf {Symbol Word : Type 0} (entry : Symbol → Option (ℕ × ℕ)) (whole : Word → ℕ)
+    (item : Symbol × Word) (q : ℕ) : Type 0 where
   pub left : ℕ
   pub weight : ℕ
   pub known : entry item.0 ≡ Some (left, weight)
@@ -21,16 +24,20 @@ pub record IsQuantileOf {Symbol Word : Type 0} (entry : Symbol → Option (ℕ �
   pub sum : q ≡ left + whole item.1
 
 -- why an item has no quantile: its symbol has no entry, or it has one and the offset isn't below the weight
-abbrev pub IsFaultOf : {Symbol Word : Type 0} → (Symbol → Option (ℕ × ℕ)) → (Word → ℕ) → Symbol × Word → QuantileFault → Type 0
+abbrev pub IsFaultOf : {Symbol Word : Type 0} → (Symbol → Option (ℕ × ℕ)) → (Word → ℕ) → Symbol × Word
+    → QuantileFault → Type 0
 IsFaultOf entry whole item ImpossibleSymbol = entry item.0 ≡ None
-IsFaultOf entry whole item OffsetTooLarge = (left weight : ℕ) × (entry item.0 ≡ Some (left, weight)) × (weight ≤ whole item.1)
+IsFaultOf entry whole item OffsetTooLarge =
+    (left weight : ℕ) × (entry item.0 ≡ Some (left, weight)) × (weight ≤ whole item.1)
 
 -- the words are the quantiles of the items, one by one
-abbrev pub AreQuantiles : {Symbol Word : Type 0} → (Symbol → Option (ℕ × ℕ)) → (Word → ℕ) → List (Symbol × Word) → List Word → Type 0
+abbrev pub AreQuantiles : {Symbol Word : Type 0} → (Symbol → Option (ℕ × ℕ)) → (Word → ℕ) → List (Symbol × Word)
+    → List Word → Type 0
 AreQuantiles entry whole items words = AllZip (λ item word. IsQuantileOf entry whole item (whole word)) items words
 
 -- the pair of a word: the symbol of the word's row, and how far the word lies behind the left cumulative of that row
-pub record IsPairOf {Symbol Word : Type 0} (rows : List (Row Symbol)) (whole : Word → ℕ) (word : Word) (pair : Symbol × Word) : Type 0 where
+pub record IsPairOf {Symbol Word : Type 0} (rows : List (Row Symbol)) (whole : Word → ℕ) (word : Word)
+    (pair : Symbol × Word) : Type 0 where
   pub row : Row Symbol
   pub found : IsRowOf rows (whole word) row
   pub symbol : pair.0 ≡ row.symbol
@@ -42,7 +49,8 @@ ArePairs rows whole words pairs = AllZip (IsPairOf rows whole) words pairs
 
 -- ---- what is written. `gives` and `tells` are those of a sink.
 
--- The quantiles of the items were written in order, which leads from s to t. Where s tells its words, t tells them and then these.
+-- The quantiles of the items were written in order, which leads from s to t. Where s tells its words, t tells them and
+-- then these.
 pub record WritesItems {Symbol Word Sink Error : Type 0} (entry : Symbol → Option (ℕ × ℕ)) (whole : Word → ℕ)
     (gives : Sink → Word → Result (Unit {0}) Error → Sink → Type 0) (tells : Sink → List Word → Type 0)
     (items : List (Symbol × Word)) (s t : Sink) : Type 0 where
@@ -53,12 +61,14 @@ pub record WritesItems {Symbol Word Sink Error : Type 0} (entry : Symbol → Opt
 
 -- The item was refused, which leads from s to t: it has no quantile, and s stays, or the sink refused its quantile.
 abbrev pub RefusesItem : {Symbol Word Sink Error : Type 0} → (Symbol → Option (ℕ × ℕ)) → (Word → ℕ)
-    → (Sink → Word → Result (Unit {0}) Error → Sink → Type 0) → Symbol × Word → Sink → CoderError QuantileFault Error → Sink → Type 0
+    → (Sink → Word → Result (Unit {0}) Error → Sink → Type 0) → Symbol × Word
+    → Sink → CoderError QuantileFault Error → Sink → Type 0
 RefusesItem entry whole gives item s (Frontend fault) t = IsFaultOf entry whole item fault × (t ≡ s)
 RefusesItem {Word = Word} entry whole gives item s (Backend e) t =
     (word : Word) × IsQuantileOf entry whole item (whole word) × gives s word (Err e) t
 
--- The quantiles of the items before one were written, and that item was refused. Where s tells its words, t tells them and then these.
+-- The quantiles of the items before one were written, and that item was refused. Where s tells its words, t tells them
+-- and then these.
 pub record StopsAtItem {Symbol Word Sink Error : Type 0} (entry : Symbol → Option (ℕ × ℕ)) (whole : Word → ℕ)
     (gives : Sink → Word → Result (Unit {0}) Error → Sink → Type 0) (tells : Sink → List Word → Type 0)
     (items : List (Symbol × Word)) (s : Sink) (fault : CoderError QuantileFault Error) (t : Sink) : Type 0 where
@@ -74,24 +84,27 @@ pub record StopsAtItem {Symbol Word Sink Error : Type 0} (entry : Symbol → Opt
 -- ---- what is read. `gives` and `tells` are those of a source.
 
 -- reads in order from s, which answered these words, lead to t
-abbrev pub Reads : {Word Source Error : Type 0} → (Source → Result (Option Word) Error → Source → Type 0) → Source → List Word → Source → Type 0
+abbrev pub Reads : {Word Source Error : Type 0} → (Source → Result (Option Word) Error → Source → Type 0)
+    → Source → List Word → Source → Type 0
 Reads gives s [] t = s ≡ t
 Reads {Source = Source} gives s (w ∷ ws) t = (j : Source) × gives s (Ok (Some w)) j × Reads gives j ws t
 
--- why a word gave no pair
+-- why a word q gave no pair: there was no memory for the pair, or the word is no quantile
 abbrev pub IsReadFaultOf : ℕ → ℕ → ReadFault → Type 0
 IsReadFaultOf precision q OutOfMemory = q < 2 ^ precision
 IsReadFaultOf precision q QuantileTooLarge = 2 ^ precision ≤ q
 
--- How reading ends after n pairs, which leads from s to t, and the words that it takes beside those of the pairs: with as many pairs as
--- were asked for; with fewer, where the source ended; with a word that gives no pair; or where a read fails.
-abbrev pub EndsReading : {Word Source Error : Type 0} → ℕ → (Word → ℕ) → (Source → Result (Option Word) Error → Source → Type 0)
-    → ℕ → ℕ → Source → Result ℕ (CoderError ReadFault Error) → List Word → Source → Type 0
+-- How reading ends after n pairs, which leads from s to t, and the words `more` that it takes beside those of the pairs:
+-- with as many pairs as were asked for; or with fewer, where the source ended, at a word that gives no pair, or where a
+-- read fails.
+abbrev pub EndsReading : {Word Source Error : Type 0} → ℕ → (Word → ℕ)
+    → (Source → Result (Option Word) Error → Source → Type 0) → ℕ → ℕ
+    → Source → Result ℕ (CoderError ReadFault Error) → List Word → Source → Type 0
 EndsReading precision whole gives count n s (Ok k) more t =
     (k ≡ n) × (more ≡ []) × (((n ≡ count) × (t ≡ s)) ⊎ ((n < count) × gives s (Ok None) t))
 EndsReading {Word = Word} precision whole gives count n s (Err (Frontend fault)) more t =
-    (word : Word) × (more ≡ word ∷ []) × gives s (Ok (Some word)) t × IsReadFaultOf precision (whole word) fault
-EndsReading precision whole gives count n s (Err (Backend e)) more t = (more ≡ []) × gives s (Err e) t
+    (word : Word) × (n < count) × (more ≡ word ∷ []) × gives s (Ok (Some word)) t × IsReadFaultOf precision (whole word) fault
+EndsReading precision whole gives count n s (Err (Backend e)) more t = (n < count) × (more ≡ []) × gives s (Err e) t
 
 -- what is then still to come: nothing, where the source ended; and a word, where a read failed
 abbrev pub LeavesWords : {Word Error : Type 0} → ℕ → Result ℕ (CoderError ReadFault Error) → List Word → Type 0
@@ -99,10 +112,12 @@ LeavesWords count (Ok n) rest = n < count → rest ≡ []
 LeavesWords count (Err (Frontend fault)) rest = Unit {0}
 LeavesWords count (Err (Backend e)) rest = rest ≢ []
 
--- Words were read in order, and their pairs were put behind the old ones. Where s tells the words to come, t tells those that are left.
+-- Words were read in order, and their pairs were put behind the old ones. Where s tells the words to come, t tells
+-- those that are left.
 pub record ReadsPairs {Symbol Word Source Error : Type 0} (precision : ℕ) (rows : List (Row Symbol)) (whole : Word → ℕ)
-    (gives : Source → Result (Option Word) Error → Source → Type 0) (tells : Source → List Word → Type 0)
-    (count : ℕ) (s : Source) (old : List (Symbol × Word)) (result : Result ℕ (CoderError ReadFault Error)) (t : Source) (new : List (Symbol × Word)) : Type 0 where
+    (gives : Source → Result (Option Word) Error → Source → Type 0) (tells : Source → List Word → Type 0) (count : ℕ)
+    (s : Source) (old : List (Symbol × Word)) (result : Result ℕ (CoderError ReadFault Error))
+    (t : Source) (new : List (Symbol × Word)) : Type 0 where
   pub words : List Word
   pub pairs : List (Symbol × Word)
   pub of_words : ArePairs rows whole words pairs

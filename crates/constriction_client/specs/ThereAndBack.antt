@@ -6,11 +6,12 @@ use Rattle.constriction_client.specs.declared.quantiles.QuantileFault.{QuantileF
 use Rattle.constriction_client.specs.Quantiles.{AreQuantiles, ArePairs, IsFaultOf}
 
 -- the pairs are the items, one by one: their symbols are equal, and their offsets the same
-abbrev pub AreItems : {Symbol Word : Type 0} → (Symbol → Symbol → Bool) → List (Symbol × Word) → List (Symbol × Word) → Type 0
+abbrev pub AreItems : {Symbol Word : Type 0} → (Symbol → Symbol → Bool) → List (Symbol × Word) → List (Symbol × Word)
+    → Type 0
 AreItems eq items pairs = AllZip (λ item pair. IsTrue (eq pair.0 item.0) × (pair.1 ≡ item.1)) items pairs
 
--- In rows that tile, the pairs of the words of items are the items. Two words of one number are one word, and that is all that is
--- asked of words; nothing is asked of the equality of symbols, and rows may repeat a symbol.
+-- In rows that tile, the pairs of the words of items are the items. Two words of one number are one word, and that is
+-- all that is asked of words; nothing is asked of the equality of symbols, and rows may repeat a symbol.
 abbrev pub ReadsBack : Type 0 → Type 0 → Type 0
 ReadsBack Symbol Word =
     (eq : Symbol → Symbol → Bool) (whole : Word → ℕ) (bits precision : ℕ) (rows : List (Row Symbol))
@@ -24,10 +25,12 @@ ReadsBackReversed Symbol Word =
     (eq : Symbol → Symbol → Bool) (whole : Word → ℕ) (bits precision : ℕ) (rows : List (Row Symbol))
     (items pairs : List (Symbol × Word)) (words : List Word)
     → RowsTile bits precision rows → ((a b : Word) → whole a ≡ whole b → a ≡ b)
-    → AreQuantiles (entry_of eq rows) whole items words → ArePairs rows whole (reverse words) pairs → AreItems eq (reverse items) pairs
+    → AreQuantiles (entry_of eq rows) whole items words → ArePairs rows whole (reverse words) pairs
+    → AreItems eq (reverse items) pairs
 
 -- an item has no quantile for this reason, and those before it have one
-pub record HasFault {Symbol Word : Type 0} (entry : Symbol → Option (ℕ × ℕ)) (whole : Word → ℕ) (items : List (Symbol × Word)) (fault : QuantileFault) : Type 0 where
+pub record HasFault {Symbol Word : Type 0} (entry : Symbol → Option (ℕ × ℕ)) (whole : Word → ℕ)
+    (items : List (Symbol × Word)) (fault : QuantileFault) : Type 0 where
   pub before : List (Symbol × Word)
   pub item : Symbol × Word
   pub after : List (Symbol × Word)

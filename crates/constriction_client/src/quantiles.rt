@@ -4,12 +4,12 @@ ghost use Rattle.std.specs.Prelude.{◌≡◌, ◌↔◌, ◌+◌, ◌^◌, ◌<
 ghost use Rattle.constriction.specs.Rows.{entry_of};
 ghost use Rattle.constriction_client.specs.Quantiles.{IsQuantileOf, IsFaultOf, WritesItems, StopsAtItem, ReadsPairs};
 
-#[cfg(test)]
-mod tests;
-
 use constriction::stream::model::{DecoderModel, EncoderModel};
 use constriction_backends::{ReadWords, WriteWords};
 use constriction_words::{BitArray, CoderError, NonZeroBitArray, Semantics};
+
+#[cfg(test)]
+mod tests;
 
 /// Why an item has no quantile.
 #[derive(Debug, PartialEq, Eq, Drop)]

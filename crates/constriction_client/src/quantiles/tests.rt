@@ -1,14 +1,18 @@
 //! Items to words and back, over a worked table and ends that fail.
 
-ghost use Rattle.std.specs.Prelude.{◌≡◌};
+ghost use Rattle.std.specs.Prelude.{◌≡◌, [], ◌∷◌, nat_eq, ⊤};
+ghost use Rattle.std.proofs.Common.{rules};
+ghost use Rattle.constriction.specs.Rows.{rows_of};
 ghost use Rattle.constriction_backends.specs.Stack.{Pushes, Pushes-told};
 
 use super::{QuantileFault, ReadFault, read_symbols, write_quantiles};
 use crate::laws::there_and_back;
-use constriction::stream::model::{ContiguousCategoricalEntropyModel, ModelError};
+use constriction::stream::model::{
+    ContiguousCategoricalEntropyModel, DecoderModel, EncoderModel, EntropyModel, ModelError, Weight,
+};
 use constriction_backends::{ReadWords, WriteWords};
-use constriction_words::{CoderError, Queue, Stack};
-use std::alloc::Global;
+use constriction_words::{BitArray, CoderError, Queue, Stack};
+use std::alloc::{AllocError, Global};
 use std::test::Fail;
 
 type Small = ContiguousCategoricalEntropyModel<u8, Vec<u8>, 6>;
@@ -135,6 +139,47 @@ fn at_the_full_width_each_word_is_a_quantile(rt: HostRuntime) -> Result<(), Fail
     Ok(())
 }
 
+/// An answer, or the refusal of memory and what it leaves: `rt try --test --fail-alloc N` makes each
+/// growth fail in turn.
+#[test]
+fn a_refusal_of_memory_is_answered_in_its_place(rt: HostRuntime) {
+    let items = [(0usize, 2u8), (3, 41), (1, 0), (2, 0), (0, 0), (3, 0)];
+    let quantiles = [2u8, 63, 3, 21, 0, 22];
+    let Ok(model) = small(rt.alloc()) else {
+        return;
+    };
+    let mut words = Vec::new(rt.alloc());
+    match write_quantiles(&model, &items, &mut words) {
+        Ok(()) => assert_eq!(rt; words.len(), 6),
+        Err(fault) => {
+            assert_eq!(rt; fault, CoderError::Backend(AllocError));
+            assert!(rt; words.len() < 6);
+        }
+    }
+    assert!(rt; quantiles.starts_with(words.as_slice()));
+
+    let Ok(mut words) = quantiles.to_vec(rt.alloc()) else {
+        return;
+    };
+    let mut out = Vec::new(rt.alloc());
+    match read_symbols::<Stack, _, _, 6>(&model, &mut words, 6, &mut out) {
+        Ok(count) => {
+            assert_eq!(rt; count, 6);
+            assert!(rt; words.is_empty());
+        }
+        Err(fault) => {
+            assert_eq!(rt; fault, CoderError::Frontend(ReadFault::OutOfMemory));
+            assert_eq!(rt; out.len().checked_add(words.len()), Some(5));
+        }
+    }
+    let reversed = [(3usize, 0u8), (0, 0), (2, 0), (1, 0), (3, 41), (0, 2)];
+    assert!(rt; reversed.starts_with(out.as_slice()));
+    match there_and_back(rt.alloc(), &model, &items) {
+        Ok(pairs) => assert_eq!(rt; pairs.as_slice(), reversed.as_slice()),
+        Err(fault) => assert_eq!(rt; fault, CoderError::Backend(AllocError)),
+    }
+}
+
 /// Why a sink of at most two words refuses a word.
 #[derive(Debug, PartialEq, Eq, Drop)]
 enum Refusal {
@@ -225,5 +270,60 @@ fn an_error_of_the_source_is_handed_on(rt: HostRuntime) -> Result<(), Fail> {
     );
     assert_eq!(rt; out.as_slice(), [(3, 41), (0, 2)].as_slice());
     assert_eq!(rt; source.reads, 4);
+    Ok(())
+}
+
+/// A model of the caller that names a letter twice: `a`, `b` and `a` again have the weights 1, 2
+/// and 1.
+struct Letters;
+
+impl EntropyModel<2> for Letters {
+    type Symbol = u8;
+
+    type Probability = u8;
+
+    ghost rows = { λ _. rows_of (97 ∷ 98 ∷ 97 ∷ []) (1 ∷ 2 ∷ 1 ∷ []) };
+}
+
+impl EncoderModel<2> for Letters {
+    ghost symbol_eq = { nat_eq };
+
+    fn left_cumulative_and_probability(&self, symbol: &u8) -> Option<(u8, Weight<u8>)> {
+        match *symbol {
+            b'a' => Some((3, 1u8.into_nonzero_unchecked())),
+            b'b' => Some((1, 2u8.into_nonzero_unchecked())),
+            _ => None,
+        }
+    }
+
+    ghost within_law = { λ _. Prim.search rules };
+}
+
+impl DecoderModel<2> for Letters {
+    ghost clones_are_same = { ⊤ };
+
+    fn quantile_function(&self, quantile: u8) -> Result<(u8, u8, Weight<u8>), AllocError> {
+        match quantile {
+            0 => Ok((b'a', 0, 1u8.into_nonzero_unchecked())),
+            1 | 2 => Ok((b'b', 1, 2u8.into_nonzero_unchecked())),
+            _ => Ok((b'a', 3, 1u8.into_nonzero_unchecked())),
+        }
+    }
+
+    ghost tile_law = { λ _. Prim.search rules };
+}
+
+#[test]
+fn a_model_of_the_caller_may_name_a_symbol_twice(rt: HostRuntime) -> Result<(), Fail> {
+    let items = [(b'a', 0u8), (b'b', 1)];
+    let mut words = Vec::new(rt.alloc());
+    assert_eq!(rt; write_quantiles(&Letters, &items, &mut words), Ok(()));
+    assert_eq!(rt; words.as_slice(), [3, 2].as_slice());
+    let back = there_and_back(rt.alloc(), &Letters, &items)?;
+    assert_eq!(rt; back.as_slice(), [(b'b', 1), (b'a', 0)].as_slice());
+    assert_eq!(rt;
+        write_quantiles(&Letters, &[(b'c', 0)], &mut words),
+        Err(CoderError::Frontend(QuantileFault::ImpossibleSymbol))
+    );
     Ok(())
 }

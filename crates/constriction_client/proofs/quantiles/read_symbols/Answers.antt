@@ -22,13 +22,13 @@ pub returns-in-Err-clause-pairs : goal.returns-in-Err-clause-pairs
 returns-in-Err-clause-pairs g c =
     read-failed g.row.PRECISION (g.M.EntropyModel.rows c.args.model.now) g.M.Probability.BitArray.whole
     g.R.ReadWords.read_gives g.R.ReadWords.tells_upcoming g.met.R.ReadWords.reads_told
-    _ _ _ _ _ _ _ _ c.loop-done.invariant.so_far c.in-Err.ensures.gives
+    _ _ _ _ _ _ _ _ c.loop-done.invariant.so_far c.loop-done-test.true c.in-Err.ensures.gives
 
 pub returns-then-not-is_quantile-clause-pairs : goal.returns-then-not-is_quantile-clause-pairs
 returns-then-not-is_quantile-clause-pairs g c =
     read-fault g.row.PRECISION (g.M.EntropyModel.rows c.args.model.now) g.M.Probability.BitArray.whole
     g.R.ReadWords.read_gives g.R.ReadWords.tells_upcoming g.met.R.ReadWords.reads_told
-    _ _ _ _ _ c.in-Ok-Some.word _ _ _ c.loop-done.invariant.so_far
+    _ _ _ _ _ c.in-Ok-Some.word _ _ _ c.loop-done.invariant.so_far c.loop-done-test.true
     (rw c.in-Ok-Some.field-0-is at c.in-Ok-Some.ensures.gives)
     (not-less _ _ c.is_quantile.result c.if-not-is_quantile.true c.is_quantile.ensures.1)
 
@@ -36,7 +36,7 @@ pub returns-in-Err-quantile_function-clause-pairs : goal.returns-in-Err-quantile
 returns-in-Err-quantile_function-clause-pairs g c =
     read-fault g.row.PRECISION (g.M.EntropyModel.rows c.args.model.now) g.M.Probability.BitArray.whole
     g.R.ReadWords.read_gives g.R.ReadWords.tells_upcoming g.met.R.ReadWords.reads_told
-    _ _ _ _ _ c.in-Ok-Some.word _ _ _ c.loop-done.invariant.so_far
+    _ _ _ _ _ c.in-Ok-Some.word _ _ _ c.loop-done.invariant.so_far c.loop-done-test.true
     (rw c.in-Ok-Some.field-0-is at c.in-Ok-Some.ensures.gives) (c.is_quantile.ensures.0 c.if-not-is_quantile.false)
 
 pub returns-in-Err-push-clause-pairs : goal.returns-in-Err-push-clause-pairs
@@ -44,7 +44,7 @@ returns-in-Err-push-clause-pairs g c =
     rw c.in-Err-push.ensures.items
     (read-fault g.row.PRECISION (g.M.EntropyModel.rows c.args.model.now) g.M.Probability.BitArray.whole
     g.R.ReadWords.read_gives g.R.ReadWords.tells_upcoming g.met.R.ReadWords.reads_told
-    _ _ _ _ _ c.in-Ok-Some.word _ _ _ c.loop-done.invariant.so_far
+    _ _ _ _ _ c.in-Ok-Some.word _ _ _ c.loop-done.invariant.so_far c.loop-done-test.true
     (rw c.in-Ok-Some.field-0-is at c.in-Ok-Some.ensures.gives) (c.is_quantile.ensures.0 c.if-not-is_quantile.false))
 
 pub loop-done-preserved : goal.loop-done-preserved
