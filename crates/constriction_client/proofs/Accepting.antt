@@ -31,7 +31,8 @@ module _ (bits precision : ℕ) where
   are_accepted-to weights e =
       let parts = both_true (list_all is_weight weights) (eqb (sum weights) (2 ^ precision)) e in
       let each = AllPass-from_list_all is_weight weights parts.0 in
-      let at = λ (k d : ℕ) (h : k < length weights). both_true (nat_lt 0 (get_or weights k d)) (nat_lt (get_or weights k d) (2 ^ bits)) (each k d h) in
+      let at =
+      λ (k d : ℕ) (h : k < length weights). both_true (nat_lt 0 (get_or weights k d)) (nat_lt (get_or weights k d) (2 ^ bits)) (each k d h) in
       record {
         tiles = record {
           positive = λ k d h. ltb-true 0 (get_or weights k d) (at k d h).0;
@@ -66,7 +67,8 @@ all_positive bits [] h = refl
 all_positive bits (w ∷ ws) h =
     let first = All-head (λ w. 0 < w) (narrowed_to bits w) (map (narrowed_to bits) ws) h in
     let others = All-tail (λ w. 0 < w) (narrowed_to bits w) (map (narrowed_to bits) ws) h in
-    ap (λ x. x ∷ map (narrowed_to bits) ws) (narrowed_positive bits w (nat_lt w (2 ^ bits)) first) ∙ ap (λ xs. w ∷ xs) (all_positive bits ws others)
+    ap (λ x. x ∷ map (narrowed_to bits) ws) (narrowed_positive bits w (nat_lt w (2 ^ bits)) first)
+    ∙ ap (λ xs. w ∷ xs) (all_positive bits ws others)
 
 -- words are their own narrowed numbers
 all_words : (bits : ℕ) (weights : List ℕ) → All (λ w. w < 2 ^ bits) weights → map (narrowed_to bits) weights ≡ weights
@@ -91,7 +93,8 @@ words_for whole word_of bits law (n ∷ ns) h =
 
 module _ {S Word : Type 0} (steps : S → Option Word → S → Type 0) (it : S) (whole : Word → ℕ) (bits precision : ℕ) (weights : List ℕ) where
   -- all of it is the narrowed weights
-  given_all : (xs : List Word) → YieldsList steps whole it (map (narrowed_to bits) weights) → Drains steps it xs → map whole xs ≡ map (narrowed_to bits) weights
+  given_all : (xs : List Word) → YieldsList steps whole it (map (narrowed_to bits) weights) → Drains steps it xs
+      → map whole xs ≡ map (narrowed_to bits) weights
   given_all xs gives d = (YieldsList-end gives xs d.1.0 d.1.1 None d.0 refl d.1.2).0
 
   -- good ones are accepted weights

@@ -33,10 +33,12 @@ cut_at p bytes at e =
 pub cut_nowhere : (p : ℕ → Bool) (bytes : List ℕ) → None ≡ position p bytes → slice_split p bytes ≡ bytes ∷ []
 cut_nowhere p bytes e =
     let past = no_position (length bytes) (position_or_len p bytes) (nat_lt (position_or_len p bytes) (length bytes)) refl e in
-    slice_split_none p bytes (λ k x h. let fails = fails_before_first p bytes k x (grind (arith, common_steps)) in grind (arith, common_steps))
+    slice_split_none p bytes (λ k x h. let fails = fails_before_first p bytes k x (grind (arith, common_steps)) in
+    grind (arith, common_steps))
 
 -- a part before others is a line
-before_others : (line : List ℕ) (parts : List (List ℕ)) → 0 < length parts → without_last_empty (line ∷ parts) ≡ line ∷ without_last_empty parts
+before_others : (line : List ℕ) (parts : List (List ℕ)) → 0 < length parts
+    → without_last_empty (line ∷ parts) ≡ line ∷ without_last_empty parts
 before_others line [] some = absurd (omega arith)
 before_others [] (next ∷ parts) some = refl
 before_others (byte ∷ bytes) (next ∷ parts) some = refl

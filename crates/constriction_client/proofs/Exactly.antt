@@ -37,7 +37,8 @@ found_passes p (x ∷ xs) found e =
     found_where (p x) x found (find p xs) e (λ passes same. ap p (sym same) ∙ passes) (λ later. found_passes p xs found later)
 
 -- what holds of each element holds of what a search finds
-found_holds : {X : Type 0} (p : X → Bool) (P : X → Type 0) (xs : List X) (found : X) → AllByRecursion P xs → find p xs ≡ Some found → P found
+found_holds : {X : Type 0} (p : X → Bool) (P : X → Type 0) (xs : List X) (found : X) → AllByRecursion P xs
+    → find p xs ≡ Some found → P found
 found_holds p P [] found all e = absurd (none_is_none _ e)
 found_holds p P (x ∷ xs) found all e =
     found_where (p x) x found (find p xs) e (λ passes same. subst P same all.0) (λ later. found_holds p P xs found all.1 later)
@@ -63,8 +64,10 @@ own = numerals_by_value _ tells_all_ascii_digits
 number_spelled : (word : List ℕ) (n : ℕ) → read_number word ≡ Some n → IsNumber word n
 unfolding read_number
 number_spelled word n e =
-    let p = cond_some (nat_lt (digits_value 10 word) (2 ^ 64) && all_ascii_digits word && nat_lt 0 (length word) && nat_le (length word) 20) (digits_value 10 word) n e in
-    let q = both (nat_lt (digits_value 10 word) (2 ^ 64) && all_ascii_digits word && nat_lt 0 (length word)) (nat_le (length word) 20) p.0 in
+    let p =
+    cond_some (nat_lt (digits_value 10 word) (2 ^ 64) && all_ascii_digits word && nat_lt 0 (length word) && nat_le (length word) 20) (digits_value 10 word) n e in
+    let q =
+    both (nat_lt (digits_value 10 word) (2 ^ 64) && all_ascii_digits word && nat_lt 0 (length word)) (nat_le (length word) 20) p.0 in
     let r = both (nat_lt (digits_value 10 word) (2 ^ 64) && all_ascii_digits word) (nat_lt 0 (length word)) q.0 in
     let s = both (nat_lt (digits_value 10 word) (2 ^ 64)) (all_ascii_digits word) r.0 in
     record {
@@ -113,7 +116,8 @@ request_read (quantile form q ws) = refl
 request_read (symbol form s ws) = refl
 
 -- a word that is no keyword
-pub no_request : (word : List ℕ) (form : Form) (numbers : Option (List ℕ)) → bytes_eq word (codes "table") ≡ false → bytes_eq word (codes "quantile") ≡ false
+pub no_request : (word : List ℕ) (form : Form) (numbers : Option (List ℕ)) → bytes_eq word (codes "table") ≡ false
+    → bytes_eq word (codes "quantile") ≡ false
     → bytes_eq word (codes "symbol") ≡ false → None ≡ (numbers >>= read_request word form)
 unfolding read_request
 no_request word form None no_table no_quantile no_symbol = refl
@@ -128,12 +132,14 @@ all_are_of : (form : Form) (numbers : List ℕ) → AllByRecursion (IsOf form nu
 all_are_of form [] = ((refl, refl), tt)
 all_are_of form (n ∷ ns) = ((refl, refl), ((refl, refl), ((refl, refl), tt)))
 
-request_keyword : (word : List ℕ) (form : Form) (numbers : List ℕ) (request : Request) → read_request word form numbers ≡ Some request → word ≡ keyword request
+request_keyword : (word : List ℕ) (form : Form) (numbers : List ℕ) (request : Request)
+    → read_request word form numbers ≡ Some request → word ≡ keyword request
 unfolding read_request
 request_keyword word form numbers request e =
     same_text word (keyword request) (sym (found_passes (λ request. bytes_eq word (keyword request)) (requests_of form numbers) request e))
 
-request_parts : (word : List ℕ) (form : Form) (numbers : List ℕ) (request : Request) → read_request word form numbers ≡ Some request → IsOf form numbers request
+request_parts : (word : List ℕ) (form : Form) (numbers : List ℕ) (request : Request)
+    → read_request word form numbers ≡ Some request → IsOf form numbers request
 unfolding read_request
 request_parts word form numbers request e =
     found_holds (λ request. bytes_eq word (keyword request)) (IsOf form numbers) (requests_of form numbers) request (all_are_of form numbers) e
@@ -154,7 +160,8 @@ split_last (b ∷ bs) e =
     let p = neither _ _ e in
     slice_split-cons_no (λ b. eqb b 32) b bs p.0 ∙ ap (onto_first b) (split_last bs p.1)
 
-split_next : (word rest : List ℕ) → has_space word ≡ false → slice_split (λ b. eqb b 32) (word ++ 32 ∷ rest) ≡ word ∷ slice_split (λ b. eqb b 32) rest
+split_next : (word rest : List ℕ) → has_space word ≡ false
+    → slice_split (λ b. eqb b 32) (word ++ 32 ∷ rest) ≡ word ∷ slice_split (λ b. eqb b 32) rest
 split_next [] rest e = slice_split-cons_yes (λ b. eqb b 32) 32 rest refl
 split_next (b ∷ bs) rest e =
     let p = neither _ _ e in
@@ -165,7 +172,8 @@ NoSpaces [] = Unit {0}
 NoSpaces (word ∷ words) = (has_space word ≡ false) × NoSpaces words
 
 -- words are found again where they were joined
-split_joined : (word : List ℕ) (words : List (List ℕ)) → has_space word ≡ false → NoSpaces words → slice_split (λ b. eqb b 32) (join_with_byte 32 (word ∷ words)) ≡ word ∷ words
+split_joined : (word : List ℕ) (words : List (List ℕ)) → has_space word ≡ false → NoSpaces words
+    → slice_split (λ b. eqb b 32) (join_with_byte 32 (word ∷ words)) ≡ word ∷ words
 split_joined word [] e h = split_last word e
 split_joined word (next ∷ words) e h =
     split_next word (join_with_byte 32 (next ∷ words)) e ∙ ap (λ l. word ∷ l) (split_joined next words h.0 h.1)
@@ -192,7 +200,8 @@ form_no_space U8Precision6 = refl
 
 -- Lines.
 
-words_read : (request : Request) (words : List (List ℕ)) → AllZip IsNumber words (numbers_of request) → read_words (keyword request ∷ form_word (form_of request) ∷ words) ≡ Some request
+words_read : (request : Request) (words : List (List ℕ)) → AllZip IsNumber words (numbers_of request)
+    → read_words (keyword request ∷ form_word (form_of request) ∷ words) ≡ Some request
 unfolding read_words
 words_read request words h = rw (form_read (form_of request), numbers_read words (numbers_of request) h) (request_read request)
 
@@ -208,7 +217,8 @@ words_spelled (key ∷ word ∷ words) request e =
     let form : word ≡ form_word (form_of request) = form_spelled word p.0 p.1 ∙ ap form_word parts.0 in (
       words,
       subst P parts.1 (numbers_spelled words q.0 q.1),
-      ap (λ k. join_with_byte 32 (k ∷ word ∷ words)) (request_keyword key p.0 q.0 request q.2) ∙ ap (λ f. join_with_byte 32 (keyword request ∷ f ∷ words)) form,
+      ap (λ k. join_with_byte 32 (k ∷ word ∷ words)) (request_keyword key p.0 q.0 request q.2)
+          ∙ ap (λ f. join_with_byte 32 (keyword request ∷ f ∷ words)) form,
     )
 
 pub line_spelled : (line : List ℕ) (request : Request) → read_line line ≡ Some request → Spells line request
@@ -221,7 +231,8 @@ pub line_read : (line : List ℕ) (request : Request) → Spells line request �
 unfolding read_line
 line_read line request h =
     let words : slice_split (λ b. eqb b 32) line ≡ keyword request ∷ form_word (form_of request) ∷ h.0 =
-    ap (slice_split (λ b. eqb b 32)) h.2 ∙ split_joined (keyword request) (form_word (form_of request) ∷ h.0) (keyword_no_space request) (form_no_space (form_of request), numbers_no_space h.0 (numbers_of request) h.1) in
+    ap (slice_split (λ b. eqb b 32)) h.2
+    ∙ split_joined (keyword request) (form_word (form_of request) ∷ h.0) (keyword_no_space request) (form_no_space (form_of request), numbers_no_space h.0 (numbers_of request) h.1) in
     ap read_words words ∙ words_read request h.0 h.1
 
 -- what a parser found, in either case

@@ -31,14 +31,16 @@ begins_after left (s ∷ ss) (w ∷ ws) r (suc k) h e = omega (arith, begins_aft
 holds_it : (q : ℕ) (r : Row ℕ) → r.left ≤ q → q < r.left + r.weight → holds q r ≡ true
 holds_it q r from to = rw (le-leb r.left q from, lt-ltb q (r.left + r.weight) to) refl
 
-holds_below : (q : ℕ) (r : Row ℕ) (a b : Bool) → nat_le r.left q ≡ a → nat_lt q (r.left + r.weight) ≡ b → (a && b) ≡ true → q < r.left + r.weight
+holds_below : (q : ℕ) (r : Row ℕ) (a b : Bool) → nat_le r.left q ≡ a → nat_lt q (r.left + r.weight) ≡ b
+    → (a && b) ≡ true → q < r.left + r.weight
 holds_below q r true true e f t = ltb-true q (r.left + r.weight) f
 holds_below q r true false e f t = absurd (cc)
 holds_below q r false b e f t = absurd (cc)
 
 -- the first row that holds a quantile, where a row of the list holds it
 find_at : (left : ℕ) (symbols weights : List ℕ) (q : ℕ) (r : Row ℕ) (k : ℕ) → k < length (rows_from left symbols weights)
-    → get_or (rows_from left symbols weights) k r ≡ r → r.left ≤ q → q < r.left + r.weight → find (holds q) (rows_from left symbols weights) ≡ Some r
+    → get_or (rows_from left symbols weights) k r ≡ r → r.left ≤ q → q < r.left + r.weight
+    → find (holds q) (rows_from left symbols weights) ≡ Some r
 find_at left [] weights q r k h e from to = absurd (omega arith)
 find_at left (s ∷ ss) [] q r k h e from to = absurd (omega arith)
 find_at left (s ∷ ss) (w ∷ ws) q r zero h e from to =
@@ -52,12 +54,14 @@ find_at left (s ∷ ss) (w ∷ ws) q r (suc k) h e from to =
     passed_over (holds q first) (find (holds q) (rows_from (left + w) ss ws)) first r refl
     (λ t. omega (arith, holds_below q first (nat_le left q) (nat_lt q (left + w)) refl refl t)) later
   where
-    passed_over : (b : Bool) (rest : Option (Row ℕ)) (first r : Row ℕ) → b ≡ b → (b ≡ true → ⊥) → rest ≡ Some r → cond b (Some first) rest ≡ Some r
+    passed_over : (b : Bool) (rest : Option (Row ℕ)) (first r : Row ℕ) → b ≡ b → (b ≡ true → ⊥) → rest ≡ Some r
+        → cond b (Some first) rest ≡ Some r
     passed_over true rest first r same never e = absurd (never refl)
     passed_over false rest first r same never e = e
 
 -- among rows that tile, the row of a quantile is the one that is found
-pub find_row : (bits precision : ℕ) (rows : List (Row ℕ)) (q : ℕ) (r : Row ℕ) → RowsTile bits precision rows → IsRowOf rows q r → find (holds q) rows ≡ Some r
+pub find_row : (bits precision : ℕ) (rows : List (Row ℕ)) (q : ℕ) (r : Row ℕ) → RowsTile bits precision rows
+    → IsRowOf rows q r → find (holds q) rows ≡ Some r
 find_row bits precision rows q r tile is =
     let symbols = map (λ (x : Row ℕ). x.symbol) rows in
     let weights = map (λ (x : Row ℕ). x.weight) rows in
@@ -82,7 +86,8 @@ at_first q x xs r t same =
 further_on : (q : ℕ) (x : Row ℕ) (xs : List (Row ℕ)) (r : Row ℕ) → IsRowOf xs q r → IsRowOf (x ∷ xs) q r
 further_on q x xs r is = record { among = (suc is.among.0, omega (arith, is.among.1), is.among.2); from = is.from; to = is.to }
 
-here_or_further : {C : Type 0} (b : Bool) (x r : Row ℕ) (rest : Option (Row ℕ)) → cond b (Some x) rest ≡ Some r → (b ≡ true → x ≡ r → C) → (rest ≡ Some r → C) → C
+here_or_further : {C : Type 0} (b : Bool) (x r : Row ℕ) (rest : Option (Row ℕ)) → cond b (Some x) rest ≡ Some r
+    → (b ≡ true → x ≡ r → C) → (rest ≡ Some r → C) → C
 here_or_further true x r rest e here further = here refl (some_inj x r e)
 here_or_further false x r rest e here further = further e
 
@@ -92,7 +97,8 @@ found_in q [] r e = absurd (none_is_some r e)
 found_in q (x ∷ xs) r e =
     here_or_further (holds q x) x r (find (holds q) xs) e (λ t same. at_first q x xs r t same) (λ later. further_on q x xs r (found_in q xs r later))
 
-pub find_iff : (bits precision : ℕ) (rows : List (Row ℕ)) (q : ℕ) (r : Row ℕ) → RowsTile bits precision rows → (find (holds q) rows ≡ Some r) ↔ IsRowOf rows q r
+pub find_iff : (bits precision : ℕ) (rows : List (Row ℕ)) (q : ℕ) (r : Row ℕ) → RowsTile bits precision rows
+    → (find (holds q) rows ≡ Some r) ↔ IsRowOf rows q r
 find_iff bits precision rows q r tile = (found_in q rows r, find_row bits precision rows q r tile)
 
 -- one row holds a quantile that the weights reach
@@ -115,28 +121,34 @@ find_some left (s ∷ ss) (w ∷ ws) q e from to =
     here_or_later true x rest h = refl
     here_or_later false x rest h = h
 
-pub find_each : (bits precision : ℕ) (rows : List (Row ℕ)) (q : ℕ) → RowsTile bits precision rows → q < 2 ^ precision → IsSome (find (holds q) rows)
+pub find_each : (bits precision : ℕ) (rows : List (Row ℕ)) (q : ℕ) → RowsTile bits precision rows → q < 2 ^ precision
+    → IsSome (find (holds q) rows)
 find_each bits precision rows q tile below =
     let symbols = map (λ (x : Row ℕ). x.symbol) rows in
     let weights = map (λ (x : Row ℕ). x.weight) rows in
     let P : List (Row ℕ) → Type 0 = λ xs. IsSome (find (holds q) xs) in
-    let lengths : length symbols ≡ length weights = length-map rows (λ (x : Row ℕ). x.symbol) ∙ sym (length-map rows (λ (x : Row ℕ). x.weight)) in
+    let lengths : length symbols ≡ length weights =
+    length-map rows (λ (x : Row ℕ). x.symbol) ∙ sym (length-map rows (λ (x : Row ℕ). x.weight)) in
     subst P (sym tile.in_order) (find_some 0 symbols weights q lengths (omega arith) (omega (arith, tile.accepted.tiles.total)))
 
 -- its line is the answer
-pub quantile_line : (bits precision : ℕ) (rows : List (Row ℕ)) (q : ℕ) (r : Row ℕ) → q < 2 ^ precision → RowsTile bits precision rows → IsRowOf rows q r
+pub quantile_line : (bits precision : ℕ) (rows : List (Row ℕ)) (q : ℕ) (r : Row ℕ) → q < 2 ^ precision
+    → RowsTile bits precision rows → IsRowOf rows q r
     → row_text r ≡ quantile_text precision rows q
 quantile_line bits precision rows q r below tile is = rw (lt-ltb q (2 ^ precision) below, find_row bits precision rows q r tile is) refl
 
 -- the row of a quantile, where its numbers are known by other names
-pub same_row : (rows : List (Row ℕ)) (q q' s l l' w w' : ℕ) → IsRowOf rows q' (record { symbol = s; left = l'; weight = w' }) → q' ≡ q → l ≡ l' → w ≡ w'
+pub same_row : (rows : List (Row ℕ)) (q q' s l l' w w' : ℕ)
+    → IsRowOf rows q' (record { symbol = s; left = l'; weight = w' }) → q' ≡ q → l ≡ l' → w ≡ w'
     → IsRowOf rows q (record { symbol = s; left = l; weight = w })
 same_row rows q q' s l l' w w' is same left weight = rw (left, weight, ← same) is
 
 -- ---- quantiles in range
 
 pub is_below : (precision q : ℕ) → q / 2 ^ precision ≡ 0 → q < 2 ^ precision
-is_below precision q e = let below = (div-lt_iff_lt-mul {k = 2 ^ precision} {x = q} {y = 1} (pow_pos precision)).0 (omega (arith, e)) in omega (arith, below)
+is_below precision q e =
+    let below = (div-lt_iff_lt-mul {k = 2 ^ precision} {x = q} {y = 1} (pow_pos precision)).0 (omega (arith, e)) in
+    omega (arith, below)
 
 -- ---- the lines of rows
 
@@ -144,24 +156,29 @@ length-contiguous : (weights : List ℕ) → length (contiguous_rows weights) �
 length-contiguous weights = length-rows_from 0 (indices (length weights)) weights (length-range_with_len 0 (length weights))
 
 -- the entry of a symbol of contiguous rows
-entry_at : (weights : List ℕ) (i : ℕ) → i < length (contiguous_rows weights) → entry_of nat_eq (contiguous_rows weights) i ≡ Some (0 + sum (take i weights), get_or weights i 0)
+entry_at : (weights : List ℕ) (i : ℕ) → i < length (contiguous_rows weights)
+    → entry_of nat_eq (contiguous_rows weights) i ≡ Some (0 + sum (take i weights), get_or weights i 0)
 entry_at weights i h =
     let same : i ≡ 0 + i = omega arith in
     ap (entry_of nat_eq (contiguous_rows weights)) same ∙ contiguous-at 0 0 weights i (omega (arith, length-contiguous weights))
 
 pub entry_is_there : {E : Type 0} (entry : E → ℕ × ℕ) (weights : List ℕ) (i : ℕ) (found : Option E) → i < length (contiguous_rows weights)
     → option_map entry found ≡ entry_of nat_eq (contiguous_rows weights) i → IsSome found
-entry_is_there entry weights i None h e = let none : None ≡ Some (0 + sum (take i weights), get_or weights i 0) = e ∙ entry_at weights i h in absurd (none_is_some _ none)
+entry_is_there entry weights i None h e =
+    let none : None ≡ Some (0 + sum (take i weights), get_or weights i 0) = e ∙ entry_at weights i h in
+    absurd (none_is_some _ none)
 entry_is_there entry weights i (Some x) h e = refl
 
 -- the row of a symbol of contiguous rows
-row_at : (weights : List ℕ) (i left weight : ℕ) (d : Row ℕ) → i < length (contiguous_rows weights) → Some (left, weight) ≡ entry_of nat_eq (contiguous_rows weights) i
+row_at : (weights : List ℕ) (i left weight : ℕ) (d : Row ℕ) → i < length (contiguous_rows weights)
+    → Some (left, weight) ≡ entry_of nat_eq (contiguous_rows weights) i
     → get_or (contiguous_rows weights) i d ≡ record { symbol = i; left = left; weight = weight }
 row_at weights i left weight d h entry =
     let here : i < length weights = omega (arith, length-contiguous weights) in
     let given : ℕ × ℕ = (left, weight) in
     let parts : given ≡ (0 + sum (take i weights), get_or weights i 0) = some_inj _ _ (entry ∙ entry_at weights i h) in
-    let symbol : get_or (indices (length weights)) i d.symbol ≡ i = get_or-range_with_len 0 (length weights) i d.symbol here ∙ (let e : 0 + i ≡ i = omega arith in e) in
+    let symbol : get_or (indices (length weights)) i d.symbol ≡ i =
+    get_or-range_with_len 0 (length weights) i d.symbol here ∙ (let e : 0 + i ≡ i = omega arith in e) in
     rows_from-at 0 (indices (length weights)) weights i d (length-range_with_len 0 (length weights)) here
     ∙ ap (λ s. record { symbol = s; left = 0 + sum (take i weights); weight = get_or weights i 0 }) symbol
     ∙ ap (λ (p : ℕ × ℕ). record { symbol = i; left = p.0; weight = p.1 }) (sym parts)
@@ -177,6 +194,7 @@ rows_more entry found x weights i left weight text more all h is_entry is_found 
     let same : Some (left, weight) ≡ Some (entry x) = rw (is_left, is_weight) refl in
     let has : Some (left, weight) ≡ entry_of nat_eq rows i = same ∙ ap (option_map entry) (sym is_found) ∙ is_entry in
     let cut : drop i rows ≡ row ∷ drop (i + 1) rows =
-    drop-cons rows i row h ∙ ap (λ r. r ∷ drop (suc i) rows) (row_at weights i left weight row h has) ∙ ap (λ n. row ∷ drop n rows) (sym (add-one i)) in
+    drop-cons rows i row h ∙ ap (λ r. r ∷ drop (suc i) rows) (row_at weights i left weight row h has)
+    ∙ ap (λ n. row ∷ drop n rows) (sym (add-one i)) in
     ap (λ t. t ++ rows_text (drop (i + 1) rows)) pushed ∙ append_assoc text (row_text row) (rows_text (drop (i + 1) rows))
     ∙ ap (λ t. text ++ t) (sym (flat_map-cons row_text row (drop (i + 1) rows)) ∙ ap rows_text (sym cut)) ∙ before

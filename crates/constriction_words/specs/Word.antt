@@ -1,4 +1,4 @@
--- How the unsigned integers of std meet the laws of words: the impls cite these, and no public clause does.
+-- How unsigned integers meet the laws of words: the impls cite these, a caller's own word may, and no public clause does.
 use Rattle.std.specs.Prelude.{◌≡◌, ◌≢◌, ◌↔◌, ◌<◌, ◌≤◌, ℕ, pos, Some, IsTrue}
 use Rattle.std.specs.Ordering.{nat_cmp, partial_lt, partial_le}
 use Rattle.std.proofs.Common.{ap, arith}

@@ -14,7 +14,8 @@ returns g c =
     let rows = contiguous_rows (weights_of g.row.PRECISION (map whole c.args.model.now.cdf.items)) in
     let q = c.args.quantile in
     let below = is_below g.row.PRECISION q c.if-quantile-ne0.false in
-    let same : whole c.narrowed.result ≡ q = c.narrowed.ensures ∙ narrowed_same g.Word.BitArray.BITS g.row.PRECISION q c.requires.fits below in
+    let same : whole c.narrowed.result ≡ q =
+    c.narrowed.ensures ∙ narrowed_same g.Word.BitArray.BITS g.row.PRECISION q c.requires.fits below in
     let row : Row ℕ = record { symbol = c.in_ok-symbol.symbol; left = c.number.result; weight = c.number-2.result } in
     let is : IsRowOf rows q row =
     same_row rows q _ _ _ _ _ _ c.in_ok-symbol.ensures.row same c.number.ensures (c.number-2.ensures ∙ ap whole c.get.ensures.value) in
