@@ -10,7 +10,7 @@ use std::default::Default;
 use std::fmt::{Debug, Display};
 use std::hash::Hash;
 
-/// A word that is not 0.
+/// A word that is not 0: the type that answers hold weights in.
 pub trait NonZeroBitArray: Copy + Display + Debug + Eq + Hash {
     /// The words that may be 0.
     type Base: FixedWidth + Copy + Ord + Display + Debug + Hash;
@@ -37,6 +37,14 @@ pub trait NonZeroBitArray: Copy + Display + Debug + Eq + Hash {
 }
 
 /// A word: an unsigned integer of a fixed number of bits.
+///
+/// The law of words: a word stands for a whole number from 0 to `2^BITS - 1`, and two words of one
+/// number are one word. Equality and order are those of the numbers. Sums, differences, products,
+/// quotients, remainders and shifts to the right give the exact number and may be used where that
+/// is a word; shifts to the left and the wrapping calls are modulo `2^BITS`.
+///
+/// It is implemented for `u8`, `u16`, `u32`, `u64`, `usize` (64 bits) and `u128`. A type of the
+/// caller's own may implement it too.
 pub trait BitArray: PrimInt + Default + Copy + Display + Debug + Eq + Hash {
     /// How many bits a word has.
     const BITS: usize;
