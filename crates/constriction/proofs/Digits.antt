@@ -1,5 +1,5 @@
 -- The number of binary digits.
-use Rattle.std.proofs.Common.{◌≡◌, ℕ, suc, zero, ◌+◌, ◌-◌, ◌*◌, ◌/◌, ◌^◌, ◌<◌, ◌≤◌, ap, sym, refl, ◌∙◌, arith}
+use Rattle.std.proofs.Common.{◌≡◌, ℕ, suc, zero, ◌+◌, ◌-◌, ◌/◌, ◌^◌, ◌<◌, ◌≤◌, ap, sym, refl, ◌∙◌, arith}
 use Rattle.constriction.specs.Probe.{digits, digits_in}
 
 digits_in-zero : (f : ℕ) → digits_in f 0 ≡ 0

@@ -2,12 +2,12 @@
 use Rattle.std.specs.Prelude.{◌≡◌, ℕ, ◌+◌, ◌-◌, ◌^◌, ◌<◌, ◌≤◌, ◌⊎◌, Bool, true, false, List, [], ◌∷◌, ◌++◌, length, map, sum, All, Option, Some, None}
 use Rattle.std.proofs.Common.{suc, zero, refl, ap, sym, ◌∙◌, arith, subst, inl, inr}
 use Rattle.std.proofs.lemmas.List.{map-append, length-append, get_or_append_left}
-use Rattle.std.proofs.lemmas.List.Elements.{All-append, All-push, All-nil, All-contains, Contains-append_left, Contains-push}
+use Rattle.std.proofs.lemmas.List.Elements.{All-push, All-nil, All-contains, Contains-append_left, Contains-push}
 use Rattle.std.proofs.lemmas.List.Sums.{sum_by-cons, sum_by-append, sum_by_push}
 use Rattle.std.specs.Iterator.{Yields}
-use Rattle.constriction.specs.Acceptance.{Tiles, IsAccepted, completed}
+use Rattle.constriction.specs.Acceptance.{IsAccepted, completed}
 use Rattle.constriction.specs.Stored.{lefts_from}
-use Rattle.constriction.specs.Filling.{end_of, IsRowEnd, IsFilled}
+use Rattle.constriction.specs.Filling.{IsRowEnd, IsFilled}
 
 lefts_from-push : (l : ℕ) (ws : List ℕ) (w : ℕ) → lefts_from l (ws ++ w ∷ []) ≡ lefts_from l ws ++ (l + sum ws) ∷ []
 lefts_from-push l [] w = ap (λ x. x ∷ []) (omega arith)

@@ -1,14 +1,12 @@
 -- Lists of rows. No public clause cites this module.
-use Rattle.std.specs.Prelude.{◌≡◌, ℕ, ◌+◌, ◌<◌, ◌≤◌, Bool, true, false, List, [], ◌∷◌, ◌++◌, ◌⊎◌, length, map, reverse, take, sum, All, Contains, find, Option, Some, None, nat_eq}
+use Rattle.std.specs.Prelude.{◌≡◌, ℕ, ◌+◌, ◌<◌, ◌≤◌, Bool, true, false, List, [], ◌∷◌, ◌⊎◌, length, map, reverse, take, sum, find, Option, Some, None, nat_eq}
 use Rattle.std.specs.Option.{option_map, option_or}
 use Rattle.std.specs.List.{range_with_len}
-use Rattle.std.proofs.Common.{suc, zero, get_or, refl, ap, sym, ◌∙◌, arith, cond, inl, inr, eq-eqb}
+use Rattle.std.proofs.Common.{suc, zero, get_or, refl, ap, ◌∙◌, arith, cond, inl, inr, eq-eqb}
 use Rattle.std.proofs.lemmas.Bool.{ne_eqb}
 use Rattle.std.proofs.lemmas.List.{reverse-append}
 use Rattle.std.proofs.lemmas.List.Folds.{find-append}
 use Rattle.std.proofs.lemmas.List.Sums.{sum_by-cons}
-use Rattle.std.proofs.lemmas.List.FromFn.{length-range_with_len, get_or-range_with_len}
-use Rattle.std.proofs.lemmas.Grind.{common_steps}
 use Rattle.constriction.specs.Rows.{Row, rows_from, entry_of}
 
 -- ---- the rows of symbols and weights

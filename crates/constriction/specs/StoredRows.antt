@@ -1,13 +1,12 @@
 -- The rows of a stored list: what the models' laws cite. No public clause cites this module.
-use Rattle.std.specs.Prelude.{◌≡◌, ℕ, ◌+◌, ◌-◌, ◌^◌, ◌<◌, ◌≤◌, List, length, All, Contains, sum, take, drop, [], ◌∷◌, ◌++◌, map, Some, None, nat_eq}
+use Rattle.std.specs.Prelude.{◌≡◌, ℕ, ◌+◌, ◌^◌, ◌<◌, ◌≤◌, List, length, All, sum, take, Some, None, nat_eq}
 use Rattle.std.proofs.Common.{get_or, refl, ap, sym, ◌∙◌, arith, subst, inl, inr}
 use Rattle.std.proofs.lemmas.Bool.{cases_lt}
 use Rattle.std.proofs.lemmas.List.FromFn.{length-range_with_len, get_or-range_with_len}
-use Rattle.std.proofs.lemmas.List.{length-drop, length-map, drop_all, drop_more, length-take, length-take-le, get_or-take, take_more, drop-append-le}
-use Rattle.constriction.specs.Rows.{Row, rows_from, contiguous_rows, indices, RowsTile, IsRowOf, entry_of}
+use Rattle.constriction.specs.Rows.{Row, contiguous_rows, indices, RowsTile, IsRowOf, entry_of}
 use Rattle.constriction.specs.Stored.{IsStored, weights_of}
 use Rattle.constriction.specs.RowLemmas.{length-rows_from, weights-rows_from, symbols-rows_from, rows_from-at, contiguous-at, contiguous-past}
-use Rattle.constriction.specs.StoredLemmas.{IsRowAt, stored-row, length-gaps, lefts_from-at}
+use Rattle.constriction.specs.StoredLemmas.{stored-row, length-gaps, lefts_from-at}
 
 pub length-rows : (ws : List ℕ) → length (contiguous_rows ws) ≡ length ws
 length-rows ws = length-rows_from 0 (indices (length ws)) ws (length-range_with_len 0 (length ws))

@@ -8,7 +8,8 @@ use Rattle.constriction_client.specs.declared.quantiles.QuantileFault.{QuantileF
 use Rattle.constriction_client.specs.Quantiles.{IsQuantileOf, IsFaultOf, WritesItems, StopsAtItem}
 
 -- a list about one of its elements
-section_at : {X : Type 0} (xs : List X) (i : ℕ) (x : X) → i < length xs → x ≡ get_or xs i x → xs ≡ take i xs ++ x ∷ drop (suc i) xs
+section_at : {X : Type 0} (xs : List X) (i : ℕ) (x : X) → i < length xs → x ≡ get_or xs i x
+    → xs ≡ take i xs ++ x ∷ drop (suc i) xs
 section_at xs i x h e =
     sym (take-append-drop i xs) ∙ ap (λ ys. take i xs ++ ys) (drop-cons xs i x h ∙ ap (λ y. y ∷ drop (suc i) xs) (sym e))
 
@@ -26,7 +27,8 @@ module _ {Symbol Word Sink Error : Type 0} (entry : Symbol → Option (ℕ × �
 
   pub wrote-more : (items : List (Symbol × Word)) (i : ℕ) (item : Symbol × Word) (word : Word) (s j t : Sink)
       → i < length items → item ≡ get_or items i item → WritesItems entry whole gives tells (take i items) s j
-      → IsQuantileOf entry whole item (whole word) → gives j word (Ok tt) t → WritesItems entry whole gives tells (take (i + 1) items) s t
+      → IsQuantileOf entry whole item (whole word) → gives j word (Ok tt) t
+      → WritesItems entry whole gives tells (take (i + 1) items) s t
   wrote-more items i item word s j t h e so_far quantile wrote =
       let more : take (i + 1) items ≡ take i items ++ item ∷ [] = take_more items i item h ∙ ap (λ y. take i items ++ y ∷ []) (sym e) in
       subst (λ (xs : List (Symbol × Word)). WritesItems entry whole gives tells xs s t) (sym more) (record {
@@ -56,7 +58,8 @@ module _ {Symbol Word Sink Error : Type 0} (entry : Symbol → Option (ℕ × �
   -- an item whose quantile the sink refuses
   pub stopped-at-refusal : (items : List (Symbol × Word)) (i : ℕ) (item : Symbol × Word) (word : Word) (s j t : Sink) (error : Error)
       → i < length items → item ≡ get_or items i item → WritesItems entry whole gives tells (take i items) s j
-      → IsQuantileOf entry whole item (whole word) → gives j word (Err error) t → StopsAtItem entry whole gives tells items s (Backend error) t
+      → IsQuantileOf entry whole item (whole word) → gives j word (Err error) t
+      → StopsAtItem entry whole gives tells items s (Backend error) t
   stopped-at-refusal items i item word s j t error h e so_far quantile refused = record {
     before = take i items;
     item = item;

@@ -17,8 +17,10 @@ use Rattle.constriction_client.specs.ThereAndBack.{AreItems, ReadsBack, ReadsBac
 use Rattle.constriction_client.proofs.EntryRows.{entry-row, entry-below, one-row, unreversed}
 
 -- one item
-same-item : {Symbol Word : Type 0} (eq : Symbol → Symbol → Bool) (whole : Word → ℕ) (bits precision : ℕ) (rows : List (Row Symbol))
-    (item pair : Symbol × Word) (word : Word) → RowsTile bits precision rows → ((a b : Word) → whole a ≡ whole b → a ≡ b)
+same-item : {Symbol Word : Type 0} (eq : Symbol → Symbol → Bool) (whole : Word
+    → ℕ) (bits precision : ℕ) (rows : List (Row Symbol))
+    (item pair : Symbol × Word) (word : Word) → RowsTile bits precision rows → ((a b : Word)
+    → whole a ≡ whole b → a ≡ b)
     → IsQuantileOf (entry_of eq rows) whole item (whole word) → IsPairOf rows whole word pair
     → IsTrue (eq pair.0 item.0) × (pair.1 ≡ item.1)
 same-item {Symbol = Symbol} eq whole bits precision rows item pair word tile one_word quantile is =
@@ -44,7 +46,8 @@ reads-back Symbol Word eq whole bits precision rows (i ∷ is) (p ∷ ps) (w ∷
 )
 
 -- what holds of two lists one by one holds of the reversed ones
-AllZip-reverse : {X Y : Type 0} (R : X → Y → Type 0) (xs : List X) (ys : List Y) → AllZip R xs ys → AllZip R (reverse xs) (reverse ys)
+AllZip-reverse : {X Y : Type 0} (R : X → Y → Type 0) (xs : List X) (ys : List Y) → AllZip R xs ys
+    → AllZip R (reverse xs) (reverse ys)
 AllZip-reverse R [] [] h = tt
 AllZip-reverse R [] (y ∷ ys) h = absurd h
 AllZip-reverse R (x ∷ xs) [] h = absurd h
@@ -58,11 +61,13 @@ reads-back-reversed Symbol Word eq whole bits precision rows items pairs words t
     (AllZip-reverse (λ item word. IsQuantileOf (entry_of eq rows) whole item (whole word)) items words h) k
 
 -- a list whose first part is as long as the whole has nothing more
-nothing-behind : {X : Type 0} (all first rest : List X) → all ≡ first ++ rest → length all ≤ length first → rest ≡ []
+nothing-behind : {X : Type 0} (all first rest : List X) → all ≡ first ++ rest → length all ≤ length first
+    → rest ≡ []
 nothing-behind all first [] e h = refl
 nothing-behind all first (r ∷ rs) e h = absurd (omega (arith, ap length e, length-append first (r ∷ rs)))
 
-module _ {Symbol Word : Type 0} (eq : Symbol → Symbol → Bool) (whole : Word → ℕ) (bits precision : ℕ) (rows : List (Row Symbol)) where
+module _ {Symbol Word : Type 0} (eq : Symbol → Symbol → Bool) (whole : Word
+    → ℕ) (bits precision : ℕ) (rows : List (Row Symbol)) where
   -- a stack that got the words of items gives the items back reversed, where as many words are asked for
   pub back-from-stack : (items pairs : List (Symbol × Word)) (written words rest : List Word)
       → RowsTile bits precision rows → ((a b : Word) → whole a ≡ whole b → a ≡ b)
@@ -93,8 +98,10 @@ module _ {Symbol Word : Type 0} (eq : Symbol → Symbol → Bool) (whole : Word 
       All-cons (λ x. whole x < 2 ^ precision) w ws (omega (arith, below, q.sum)) (quantiles-below is ws within h.1)
 
   -- so none of them is too large when it comes back
-  pub never-too-large : (items : List (Symbol × Word)) (written words rest : List Word) (word : Word) → All (LiesWithin precision) rows
-      → AreQuantiles (entry_of eq rows) whole items written → reverse written ≡ words ++ word ∷ rest → whole word < 2 ^ precision
+  pub never-too-large : (items : List (Symbol × Word)) (written words rest : List Word) (word : Word)
+      → All (LiesWithin precision) rows
+      → AreQuantiles (entry_of eq rows) whole items written → reverse written ≡ words ++ word ∷ rest
+      → whole word < 2 ^ precision
   never-too-large items written words rest word within quantiles split =
       let here : Contains (word ∷ rest) word = (0, omega arith, refl) in
       let among : Contains (reverse written) word =
@@ -105,7 +112,8 @@ module _ {Symbol Word : Type 0} (eq : Symbol → Symbol → Bool) (whole : Word 
 pub first-fault : {Symbol Word Sink Error : Type 0} (entry : Symbol → Option (ℕ × ℕ)) (whole : Word → ℕ)
     (gives : Sink → Word → Result (Unit {0}) Error → Sink → Type 0) (tells : Sink → List Word → Type 0)
     (items : List (Symbol × Word)) (s : Sink) (error : CoderError QuantileFault Error) (t : Sink) (fault : QuantileFault)
-    → StopsAtItem entry whole gives tells items s error t → error ≡ Frontend fault → HasFault entry whole items fault
+    → StopsAtItem entry whole gives tells items s error t → error ≡ Frontend fault
+    → HasFault entry whole items fault
 first-fault entry whole gives tells items s error t fault stopped is =
     let at : StopsAtItem entry whole gives tells items s (Frontend fault) t =
     subst (λ e. StopsAtItem entry whole gives tells items s e t) is stopped in
@@ -121,9 +129,11 @@ first-fault entry whole gives tells items s error t fault stopped is =
 
 -- where the reading stopped at a word that is too large, that word was still to come
 pub large-word : {Symbol Word Source Error : Type 0} (precision : ℕ) (rows : List (Row Symbol)) (whole : Word → ℕ)
-    (gives : Source → Result (Option Word) Error → Source → Type 0) (tells : Source → List Word → Type 0) (count : ℕ)
+    (gives : Source → Result (Option Word) Error → Source → Type 0) (tells : Source → List Word
+    → Type 0) (count : ℕ)
     (s : Source) (old : List (Symbol × Word)) (error : CoderError ReadFault Error) (t : Source) (new : List (Symbol × Word))
-    → ReadsPairs precision rows whole gives tells count s old (Err error) t new → error ≡ Frontend QuantileTooLarge
+    → ReadsPairs precision rows whole gives tells count s old (Err error) t new
+    → error ≡ Frontend QuantileTooLarge
     → (upcoming : List Word) → tells s upcoming
     → (words rest : List Word) × (word : Word) × (upcoming ≡ words ++ word ∷ rest) × (2 ^ precision ≤ whole word)
 large-word precision rows whole gives tells count s old error t new read is upcoming h =

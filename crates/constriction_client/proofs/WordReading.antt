@@ -11,7 +11,8 @@ use Rattle.constriction_client.specs.Quantiles.{IsPairOf, ArePairs, Reads, IsRea
 
 module _ {Word Source Error : Type 0} (gives : Source → Result (Option Word) Error → Source → Type 0) where
   -- one more read after others
-  reads-more : (s : Source) (ws : List Word) (j : Source) (w : Word) (t : Source) → Reads gives s ws j → gives j (Ok (Some w)) t → Reads gives s (ws ++ w ∷ []) t
+  reads-more : (s : Source) (ws : List Word) (j : Source) (w : Word) (t : Source) → Reads gives s ws j
+      → gives j (Ok (Some w)) t → Reads gives s (ws ++ w ∷ []) t
   reads-more s [] j w t e h = (t, subst (λ (x : Source). gives x (Ok (Some w)) t) (sym e) h, refl)
   reads-more s (x ∷ xs) j w t p h = (p.0, p.1, reads-more p.0 xs j w t p.2 h)
 
@@ -26,13 +27,15 @@ pub record HasRead {Symbol Word Source Error : Type 0} (precision : ℕ) (rows :
   pub added : new ≡ old ++ pairs
   pub many : length pairs ≡ n
   pub read : Reads gives s words t
-  pub told : (upcoming : List Word) → tells s upcoming → (rest : List Word) × (upcoming ≡ words ++ rest) × tells t rest
+  pub told : (upcoming : List Word) → tells s upcoming
+      → (rest : List Word) × (upcoming ≡ words ++ rest) × tells t rest
 
 module _ {Symbol Word Source Error : Type 0} (precision : ℕ) (rows : List (Row Symbol)) (whole : Word → ℕ)
     (gives : Source → Result (Option Word) Error → Source → Type 0) (tells : Source → List Word → Type 0)
     (law : (s : Source) (r : Result (Option Word) Error) (t : Source) → gives s r t
     → (ws : List Word) → tells s ws → ReadsTold tells ws r t) where
-  pub read-none : (s : Source) (old : List (Symbol × Word)) → HasRead precision rows whole gives tells s old 0 s old
+  pub read-none : (s : Source) (old : List (Symbol × Word))
+      → HasRead precision rows whole gives tells s old 0 s old
   read-none s old = record {
     words = [];
     pairs = [];
@@ -45,17 +48,22 @@ module _ {Symbol Word Source Error : Type 0} (precision : ℕ) (rows : List (Row
   }
 
   -- a source that told the words before still tells those behind one more
-  told-more : (s : Source) (words : List Word) (j : Source) (word : Word) (t : Source) → gives j (Ok (Some word)) t
-      → ((upcoming : List Word) → tells s upcoming → (rest : List Word) × (upcoming ≡ words ++ rest) × tells j rest)
-      → (upcoming : List Word) → tells s upcoming → (rest : List Word) × (upcoming ≡ words ++ word ∷ rest) × tells t rest
+  told-more : (s : Source) (words : List Word) (j : Source) (word : Word) (t : Source)
+      → gives j (Ok (Some word)) t
+      → ((upcoming : List Word) → tells s upcoming
+      → (rest : List Word) × (upcoming ≡ words ++ rest) × tells j rest)
+      → (upcoming : List Word) → tells s upcoming
+      → (rest : List Word) × (upcoming ≡ words ++ word ∷ rest) × tells t rest
   told-more s words j word t took told upcoming h =
       let before = told upcoming h in
       let now = law j (Ok (Some word)) t took before.0 before.2 in
       (now.0, before.1 ∙ ap (λ ws. words ++ ws) now.1, now.2)
 
   pub read-more : (s : Source) (old : List (Symbol × Word)) (n : ℕ) (j : Source) (mid : List (Symbol × Word)) (word : Word)
-      (pair : Symbol × Word) (t : Source) (new : List (Symbol × Word)) → HasRead precision rows whole gives tells s old n j mid
-      → gives j (Ok (Some word)) t → whole word < 2 ^ precision → IsPairOf rows whole word pair → new ≡ mid ++ pair ∷ []
+      (pair : Symbol × Word) (t : Source) (new : List (Symbol × Word))
+      → HasRead precision rows whole gives tells s old n j mid
+      → gives j (Ok (Some word)) t → whole word < 2 ^ precision → IsPairOf rows whole word pair
+      → new ≡ mid ++ pair ∷ []
       → HasRead precision rows whole gives tells s old (n + 1) t new
   read-more s old n j mid word pair t new so_far took small is e = record {
     words = so_far.words ++ word ∷ [];
@@ -109,7 +117,8 @@ module _ {Symbol Word Source Error : Type 0} (precision : ℕ) (rows : List (Row
 
   -- a word that gives no pair
   pub read-fault : (s : Source) (old : List (Symbol × Word)) (count n : ℕ) (j : Source) (word : Word) (t : Source) (new : List (Symbol × Word))
-      (fault : ReadFault) → HasRead precision rows whole gives tells s old n j new → n < count → gives j (Ok (Some word)) t
+      (fault : ReadFault) → HasRead precision rows whole gives tells s old n j new → n < count
+      → gives j (Ok (Some word)) t
       → IsReadFaultOf precision (whole word) fault
       → ReadsPairs precision rows whole gives tells count s old (Err (Frontend fault)) t new
   read-fault s old count n j word t new fault so_far less took is = record {

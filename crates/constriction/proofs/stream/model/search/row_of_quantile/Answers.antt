@@ -1,7 +1,6 @@
-use Rattle.std.proofs.Common.{◌≡◌, ◌+◌, ◌-◌, ◌<◌, ◌≤◌, length, arith}
+use Rattle.std.proofs.Common.{◌≡◌, ◌-◌, length, arith}
 use Rattle.constriction.proofs.Digits.{digits_more, digits-zero}
 use Rattle.constriction.proofs.Halving.{narrowed_one}
-use Rattle.constriction.specs.Probe.{digits}
 use Rattle.constriction.proofs.stream.model.search.row_of_quantile.Goals as goal
 
 pub returns-clause-found : goal.returns-clause-found

@@ -1,4 +1,4 @@
-use Rattle.std.proofs.Common.{◌-◌, ap, sym, ◌∙◌}
+use Rattle.std.proofs.Common.{◌-◌, ap, ◌∙◌}
 use Rattle.std.proofs.Math.Pow.{pow_mono}
 use Rattle.constriction.proofs.Powers.{shift-greatest}
 use Rattle.constriction.proofs.stream.model.categorical.filling.greatest_quantile.Goals as goal

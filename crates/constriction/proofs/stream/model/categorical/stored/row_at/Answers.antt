@@ -1,6 +1,5 @@
-use Rattle.std.proofs.Common.{◌≡◌, ◌+◌, map, ap, ◌∙◌, arith}
+use Rattle.std.proofs.Common.{◌≡◌, ap, ◌∙◌, arith}
 use Rattle.std.proofs.lemmas.List.{length-map}
-use Rattle.std.proofs.Math.Pow.{pow_mono}
 use Rattle.constriction.specs.StoredLemmas.{stored-row, read-whole}
 use Rattle.constriction.proofs.stream.model.categorical.stored.row_at.Goals as goal
 

@@ -1,4 +1,4 @@
-use Rattle.std.proofs.Common.{◌≡◌, ◌+◌, ◌<◌, length, map, ap, ◌∙◌, sym, arith, rules}
+use Rattle.std.proofs.Common.{◌≡◌, ◌+◌, ◌<◌, length, map, ap, rules}
 use Rattle.std.proofs.lemmas.List.{length-map}
 use Rattle.constriction.proofs.ProbeLemmas.{stored-index, stored-answer}
 use Rattle.constriction.proofs.stream.model.categorical.contiguous.ContiguousCategoricalEntropyModelDecoderModel.quantile_function.Goals as goal
