@@ -26,6 +26,6 @@ impl<Word> SafeBuf<Word> for &[Word] {
 
     #[inline]
     fn words(&self) -> &[Word] {
-        self
+        *self
     }
 }

@@ -13,7 +13,7 @@ fn find_separator(bytes: &[u8], separator: u8) -> Option<usize>
 }
 
 /// What stands before the first separator, and what follows it; all of the bytes where none stands.
-pub fn cut(bytes: &[u8], separator: u8) -> (&[u8], Option<&[u8]>)
+pub(crate) fn cut(bytes: &[u8], separator: u8) -> (&[u8], Option<&[u8]>)
     ensures parts { slice_split (λ byte. byte == separator) bytes.now
         ≡ result.0.now ∷ parts_of separator (option_copied result.1) }
     ensures shorter { IfSome result.1 (λ after. length after.now < length bytes.now) }

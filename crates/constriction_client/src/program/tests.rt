@@ -3,8 +3,8 @@
 use crate::answers::answer;
 use crate::fault::RunFault;
 use crate::laws::{
-    each_quantile_in_range_has_a_row, the_row_found_is_the_row_of_the_quantile,
-    weights_are_tested_as_models_accept_them,
+    each_quantile_in_range_has_a_row, reads_back, reads_back_reversed,
+    the_row_found_is_the_row_of_the_quantile, weights_are_tested_as_models_accept_them,
 };
 use crate::program::{LIMIT, run};
 use std::io::{self, Read, Write};
@@ -203,6 +203,8 @@ fn laws_and_answers_may_be_called(rt: HostRuntime) -> Result<(), Fail> {
     weights_are_tested_as_models_accept_them();
     the_row_found_is_the_row_of_the_quantile();
     each_quantile_in_range_has_a_row();
+    reads_back::<usize, u8>();
+    reads_back_reversed::<usize, u8>();
     assert_eq!(rt;
         answer(rt.alloc(), b"table u8/6 1 63")?.as_str(),
         "0 0 1\n1 1 63\n"
