@@ -1,4 +1,6 @@
 //! Tests that cross crates, by subject.
 #![tactic(auto)]
 
+#[cfg(test)]
+mod message;
 mod own_word;

@@ -52,7 +52,7 @@ fn halve_four_times<R: Probe>(rows: &mut R, q: R::Word, first: usize, size: usiz
 
 /// The greatest index whose cumulative is at most `q`.
 ///
-/// The search halves the rows that are left until one is left, so it asks exactly as many
+/// The search halves the rows that are left until one is left, so it asks at most as many
 /// questions as one less than the number of rows has binary digits.
 #[tactic(auto, using(crate::proofs::Digits::digits_word, crate::proofs::Digits::digits_more, crate::proofs::Halving::narrowed_one))]
 pub fn row_of_quantile<R: Probe>(rows: &mut R, q: R::Word) -> usize

@@ -1,0 +1,21 @@
+//! The example of the README: a table, and a message there and back.
+
+use constriction::Stack;
+use constriction::stream::model::ContiguousCategoricalEntropyModel;
+use constriction_client::{read_symbols, write_quantiles};
+use std::test::Fail;
+
+type Model = ContiguousCategoricalEntropyModel<u8, Vec<u8>, 6>;
+
+#[test]
+fn a_message_goes_there_and_back(rt: HostRuntime) -> Result<(), Fail> {
+    let model = Model::from_nonzero_fixed_point_probabilities(rt.alloc(), [3, 18, 1, 42], false)?;
+    let mut words = Vec::new(rt.alloc());
+    let items = [(0, 2), (3, 41), (1, 0)];
+    write_quantiles(&model, &items, &mut words)?;
+    assert_eq!(rt; words.as_slice(), [2, 63, 3].as_slice());
+    let mut back = Vec::new(rt.alloc());
+    read_symbols::<Stack, _, _, 6>(&model, &mut words, 3, &mut back)?;
+    assert_eq!(rt; back.as_slice(), [(1, 0), (3, 41), (0, 2)].as_slice());
+    Ok(())
+}
