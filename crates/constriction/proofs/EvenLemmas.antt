@@ -20,6 +20,12 @@ pub evens_searchable : (size q : ℕ) → 0 < size → IsSearchable (evens size)
 evens_searchable size q some = record {
   some = omega (arith, length_evens size);
   increases =
-      λ i h. omega (arith, length_evens size, evens_at size i (omega (arith, length_evens size)), evens_at size (i + 1) (omega (arith, length_evens size)));
+      λ i h. omega (
+        arith,
+        length_evens size,
+        evens_at size i (omega (arith, length_evens size)),
+        evens_at size (i + 1)
+            (omega (arith, length_evens size)),
+      );
   begins = omega (arith, evens_at size 0 some);
 }

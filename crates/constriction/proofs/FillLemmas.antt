@@ -24,6 +24,11 @@ module _ {W : Type 0} (whole : W → ℕ) (bits precision : ℕ) where
     below = rw e up;
   }
 
+  -- the same, where the end is known
+  pub filled-at : (ws table : List W) (end known : Option W) → end ≡ known
+      → IsFilled whole bits precision ws table end → IsFilled whole bits precision ws table known
+  filled-at ws table end known e f = subst (IsFilled whole bits precision ws table) e f
+
   pub filled-more : (ws table : List W) (left w : W) (end : Option W) → IsFilled whole bits precision ws table (Some left)
       → IsRowEnd whole bits precision left w end → IsFilled whole bits precision (ws ++ w ∷ []) (table ++ left ∷ []) end
   filled-more ws table left w end f r = record {
@@ -61,7 +66,8 @@ module _ {W : Type 0} (whole : W → ℕ) (bits precision : ℕ) where
       ∙ ap (λ n. n + sum (map whole more)) (sum_by_push (λ x. x) (map whole ws) (whole w)) in
       let positive : All (λ x. 0 < x) ((map whole ws ++ whole w ∷ []) ++ map whole more) = rw (← split) (accepted-positive infer xs a) in
       let some : 0 < whole w =
-      All-contains (λ x. 0 < x) _ (whole w) positive (Contains-append_left _ (map whole more) (whole w) (Contains-push (map whole ws) (whole w))) in
+      All-contains (λ x. 0 < x) _ (whole w) positive
+      (Contains-append_left _ (map whole more) (whole w) (Contains-push (map whole ws) (whole w))) in
       elim why [ inl none ↦ omega arith | inr much ↦ omega (arith, accepted-sum infer xs a) ]
 
   pub good-given : (ws table : List W) → IsFilled whole bits precision ws table None
@@ -97,7 +103,11 @@ module _ {W : Type 0} (whole : W → ℕ) (bits precision : ℕ) where
       let low : 2 ^ precision - sum xs < 2 ^ bits = omega (arith, f.is, f.below) in (
         record {
           tiles =
-              record { positive = All-push (λ x. 0 < x) xs (2 ^ precision - sum xs) f.positive up; total = sum_by_push (λ x. x) xs (2 ^ precision - sum xs) ∙ omega (arith, f.is, f.below) };
+              record {
+                positive = All-push (λ x. 0 < x) xs (2 ^ precision - sum xs) f.positive up;
+                total = sum_by_push
+                    (λ x. x) xs (2 ^ precision - sum xs) ∙ omega (arith, f.is, f.below);
+              };
           fit = All-push (λ x. x < 2 ^ bits) xs (2 ^ precision - sum xs) f.fit low;
         },
         map-append whole table (left ∷ []) ∙ ap (λ ys. ys ++ whole left ∷ []) f.lefts

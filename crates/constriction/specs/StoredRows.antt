@@ -18,13 +18,20 @@ rows-many precision lefts = omega (arith, length-rows (weights_of precision left
 module _ (bits precision : ℕ) (lefts : List ℕ) (t : IsStored bits precision lefts) where
   -- the row at an index
   pub stored-at : (i : ℕ) (d : Row ℕ) → i < length lefts
-      → get_or (contiguous_rows (weights_of precision lefts)) i d ≡ record { symbol = i; left = get_or lefts i 0; weight = get_or (weights_of precision lefts) i 0 }
+      → get_or (contiguous_rows
+      (weights_of precision lefts)) i d ≡ record {
+        symbol = i;
+        left = get_or lefts i 0;
+        weight = get_or
+            (weights_of precision lefts) i 0;
+      }
   stored-at i d h =
       let ws : List ℕ = weights_of precision lefts in
       let here : i < length ws = omega (arith, length-gaps (2 ^ precision) lefts) in
       let left : 0 + sum (take i ws) ≡ get_or lefts i 0 = sym (ap (λ xs. get_or xs i 0) t.in_order ∙ lefts_from-at 0 ws i here) in
       rows_from-at 0 (indices (length ws)) ws i d (length-range_with_len 0 (length ws)) here
-      ∙ ap (λ s. record { symbol = s; left = 0 + sum (take i ws); weight = get_or ws i 0 }) (get_or-range_with_len 0 (length ws) i d.symbol here ∙ (let e : 0 + i ≡ i = omega arith in e))
+      ∙ ap (λ s. record { symbol = s; left = 0 + sum (take i ws); weight = get_or ws i 0 })
+      (get_or-range_with_len 0 (length ws) i d.symbol here ∙ (let e : 0 + i ≡ i = omega arith in e))
       ∙ ap (λ l. record { symbol = i; left = l; weight = get_or ws i 0 }) left
 
   pub stored-within : All (λ r. (0 < r.weight) × (r.left + r.weight ≤ 2 ^ precision)) (contiguous_rows (weights_of precision lefts))

@@ -32,7 +32,8 @@ module _ (bits precision : ℕ) where
       let parts = both_true (list_all is_weight weights) (eqb (sum weights) (2 ^ precision)) e in
       let each = AllPass-from_list_all is_weight weights parts.0 in
       let at =
-      λ (k d : ℕ) (h : k < length weights). both_true (nat_lt 0 (get_or weights k d)) (nat_lt (get_or weights k d) (2 ^ bits)) (each k d h) in
+      λ (k d : ℕ) (h : k < length weights). both_true (nat_lt 0 (get_or weights k d))
+      (nat_lt (get_or weights k d) (2 ^ bits)) (each k d h) in
       record {
         tiles = record {
           positive = λ k d h. ltb-true 0 (get_or weights k d) (at k d h).0;

@@ -65,7 +65,8 @@ number_spelled : (word : List ℕ) (n : ℕ) → read_number word ≡ Some n →
 unfolding read_number
 number_spelled word n e =
     let p =
-    cond_some (nat_lt (digits_value 10 word) (2 ^ 64) && all_ascii_digits word && nat_lt 0 (length word) && nat_le (length word) 20) (digits_value 10 word) n e in
+    cond_some (nat_lt (digits_value 10 word) (2 ^ 64) && all_ascii_digits word && nat_lt 0 (length word) && nat_le
+    (length word) 20) (digits_value 10 word) n e in
     let q =
     both (nat_lt (digits_value 10 word) (2 ^ 64) && all_ascii_digits word && nat_lt 0 (length word)) (nat_le (length word) 20) p.0 in
     let r = both (nat_lt (digits_value 10 word) (2 ^ 64) && all_ascii_digits word) (nat_lt 0 (length word)) q.0 in
@@ -142,7 +143,8 @@ request_parts : (word : List ℕ) (form : Form) (numbers : List ℕ) (request : 
     → read_request word form numbers ≡ Some request → IsOf form numbers request
 unfolding read_request
 request_parts word form numbers request e =
-    found_holds (λ request. bytes_eq word (keyword request)) (IsOf form numbers) (requests_of form numbers) request (all_are_of form numbers) e
+    found_holds (λ request. bytes_eq word (keyword request)) (IsOf form numbers) (requests_of form numbers) request
+    (all_are_of form numbers) e
 
 -- Words.
 
@@ -232,7 +234,8 @@ unfolding read_line
 line_read line request h =
     let words : slice_split (λ b. eqb b 32) line ≡ keyword request ∷ form_word (form_of request) ∷ h.0 =
     ap (slice_split (λ b. eqb b 32)) h.2
-    ∙ split_joined (keyword request) (form_word (form_of request) ∷ h.0) (keyword_no_space request) (form_no_space (form_of request), numbers_no_space h.0 (numbers_of request) h.1) in
+    ∙ split_joined (keyword request) (form_word (form_of request) ∷ h.0) (keyword_no_space request)
+    (form_no_space (form_of request), numbers_no_space h.0 (numbers_of request) h.1) in
     ap read_words words ∙ words_read request h.0 h.1
 
 -- what a parser found, in either case

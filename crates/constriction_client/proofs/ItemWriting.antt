@@ -33,7 +33,9 @@ module _ {Symbol Word Sink Error : Type 0} (entry : Symbol → Option (ℕ × �
       let more : take (i + 1) items ≡ take i items ++ item ∷ [] = take_more items i item h ∙ ap (λ y. take i items ++ y ∷ []) (sym e) in
       subst (λ (xs : List (Symbol × Word)). WritesItems entry whole gives tells xs s t) (sym more) (record {
         words = so_far.words ++ word ∷ [];
-        quantiles = all_zipped_more (λ x w. IsQuantileOf entry whole x (whole w)) (take i items) so_far.words item word so_far.quantiles quantile;
+        quantiles =
+            all_zipped_more (λ x w. IsQuantileOf entry whole x (whole w))
+            (take i items) so_far.words item word so_far.quantiles quantile;
         written = writes_more gives s so_far.words j word t so_far.written wrote;
         told = λ old known.
             subst (λ (ws : List Word). tells t ws) (append_assoc old so_far.words (word ∷ []))

@@ -77,7 +77,8 @@ module _ {Symbol Word : Type 0} (eq : Symbol → Symbol → Bool) (whole : Word
       → AreItems eq (reverse items) pairs
   back-from-stack items pairs written words rest tile one_word quantiles of_words split ends none =
       let long_words : length words ≡ length pairs = sym (AllZip-long (IsPairOf rows whole) words pairs of_words) in
-      let long_written : length written ≡ length items = AllZip-long (λ item word. IsQuantileOf (entry_of eq rows) whole item (whole word)) items written quantiles in
+      let long_written : length written ≡ length items =
+      AllZip-long (λ item word. IsQuantileOf (entry_of eq rows) whole item (whole word)) items written quantiles in
       let ended : rest ≡ [] = elim ends [
         | inl all ↦ nothing-behind (reverse written) words rest split (omega (arith, length-reverse written))
         | inr fewer ↦ none fewer
@@ -106,7 +107,8 @@ module _ {Symbol Word : Type 0} (eq : Symbol → Symbol → Bool) (whole : Word
       let here : Contains (word ∷ rest) word = (0, omega arith, refl) in
       let among : Contains (reverse written) word =
       subst (λ (ws : List Word). Contains ws word) (sym split) (Contains-append_right words (word ∷ rest) word here) in
-      All-contains (λ w. whole w < 2 ^ precision) written word (quantiles-below items written within quantiles) (unreversed written word among)
+      All-contains (λ w. whole w < 2 ^ precision) written word (quantiles-below items written within quantiles)
+      (unreversed written word among)
 
 -- where the writing stopped at a fault, that fault is the first one
 pub first-fault : {Symbol Word Sink Error : Type 0} (entry : Symbol → Option (ℕ × ℕ)) (whole : Word → ℕ)

@@ -68,7 +68,8 @@ find_row bits precision rows q r tile is =
     let k = is.among.0 in
     let within : k < length (rows_from 0 symbols weights) = subst (λ (xs : List (Row ℕ)). k < length xs) tile.in_order is.among.1 in
     let here : get_or (rows_from 0 symbols weights) k r ≡ r = subst (λ (xs : List (Row ℕ)). get_or xs k r ≡ r) tile.in_order is.among.2 in
-    subst (λ (xs : List (Row ℕ)). find (holds q) xs ≡ Some r) (sym tile.in_order) (find_at 0 symbols weights q r k within here is.from is.to)
+    subst (λ (xs : List (Row ℕ)). find (holds q) xs ≡ Some r) (sym tile.in_order)
+    (find_at 0 symbols weights q r k within here is.from is.to)
 
 holds_from : (q : ℕ) (r : Row ℕ) (a b : Bool) → nat_le r.left q ≡ a → nat_lt q (r.left + r.weight) ≡ b → (a && b) ≡ true → r.left ≤ q
 holds_from q r true b e f t = leb-true r.left q e
@@ -95,7 +96,8 @@ here_or_further false x r rest e here further = further e
 found_in : (q : ℕ) (rows : List (Row ℕ)) (r : Row ℕ) → find (holds q) rows ≡ Some r → IsRowOf rows q r
 found_in q [] r e = absurd (none_is_some r e)
 found_in q (x ∷ xs) r e =
-    here_or_further (holds q x) x r (find (holds q) xs) e (λ t same. at_first q x xs r t same) (λ later. further_on q x xs r (found_in q xs r later))
+    here_or_further (holds q x) x r (find (holds q) xs) e (λ t same. at_first q x xs r t same)
+    (λ later. further_on q x xs r (found_in q xs r later))
 
 pub find_iff : (bits precision : ℕ) (rows : List (Row ℕ)) (q : ℕ) (r : Row ℕ) → RowsTile bits precision rows
     → (find (holds q) rows ≡ Some r) ↔ IsRowOf rows q r

@@ -116,7 +116,8 @@ module _ {Symbol Word Source Error : Type 0} (precision : ℕ) (rows : List (Row
   }
 
   -- a word that gives no pair
-  pub read-fault : (s : Source) (old : List (Symbol × Word)) (count n : ℕ) (j : Source) (word : Word) (t : Source) (new : List (Symbol × Word))
+  pub read-fault : (s : Source) (old : List (Symbol
+      × Word)) (count n : ℕ) (j : Source) (word : Word) (t : Source) (new : List (Symbol × Word))
       (fault : ReadFault) → HasRead precision rows whole gives tells s old n j new → n < count
       → gives j (Ok (Some word)) t
       → IsReadFaultOf precision (whole word) fault

@@ -25,8 +25,13 @@ stopped_at a b c at bytes before kept =
 
 pub stopped_empty : (a b c : Option (List ℕ)) (at : ℕ) (bytes : List ℕ) → Appends a b (take at bytes) → Appends b c []
     → WritesBeginning a c bytes
-stopped_empty a b c at bytes before turn =
-    (take at bytes, drop at bytes, take-append-drop at bytes, subst (Appends a c) (append-nil (take at bytes)) (Appends-trans a b c _ _ before turn))
+stopped_empty a b c at bytes before turn = (
+  take at bytes,
+  drop at bytes,
+  take-append-drop at bytes,
+  subst (Appends a c) (append-nil (take at bytes))
+      (Appends-trans a b c _ _ before turn),
+)
 
 -- the lines so far, and one more
 lines_more : (first : List (List ℕ)) (line input rest after : List ℕ) → first ++ lines_of rest ≡ lines_of input

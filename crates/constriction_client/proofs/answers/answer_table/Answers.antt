@@ -10,6 +10,7 @@ unwrap-left-requires g c =
 
 pub loop-symbol-preserved : goal.loop-symbol-preserved
 loop-symbol-preserved g c =
-    rows_more _ c.left_cumulative_and_probability.result c.unwrap-left.result (weights_of g.row.PRECISION (map g.Word.BitArray.whole c.args.model.now.cdf.items))
+    rows_more _ c.left_cumulative_and_probability.result c.unwrap-left.result
+    (weights_of g.row.PRECISION (map g.Word.BitArray.whole c.args.model.now.cdf.items))
     c.loop-symbol.symbol-counter _ _ _ _ _ (omega (arith, c.support_size-symbol-end.ensures)) c.left_cumulative_and_probability.ensures
     (search rules) (search rules) (search rules) c.in_ok-push_row.ensures c.loop-symbol.invariant

@@ -11,11 +11,13 @@ use Rattle.constriction_client.proofs.answers.make_model.Goals as goal
 
 -- the model is one of the weights, and they are accepted
 made : (g : given.Over) (c : goal.In-Ok g) → (are_accepted g.Word.BitArray.BITS g.row.PRECISION c.args.weights.now ≡ true)
-    × (contiguous_rows (weights_of g.row.PRECISION (map g.Word.BitArray.whole c.in-Ok.model.cdf.items)) ≡ contiguous_rows c.args.weights.now)
+    × (contiguous_rows (weights_of g.row.PRECISION
+    (map g.Word.BitArray.whole c.in-Ok.model.cdf.items)) ≡ contiguous_rows c.args.weights.now)
 made g c =
     let ok = c.in-Ok.ensures.ok in
     made_of _ ok.0 g.Word.BitArray.whole g.Word.BitArray.BITS g.row.PRECISION c.args.weights.now
-    (λ numbers. contiguous_rows (weights_of g.row.PRECISION (map g.Word.BitArray.whole c.in-Ok.model.cdf.items)) ≡ contiguous_rows numbers) ok.2
+    (λ numbers. contiguous_rows
+    (weights_of g.row.PRECISION (map g.Word.BitArray.whole c.in-Ok.model.cdf.items)) ≡ contiguous_rows numbers) ok.2
     (YieldsList-at ok.1 (YieldsList-from_map_by _ g.Word.BitArray.whole (narrowed_to g.Word.BitArray.BITS)
     (YieldsList-at c.map-words.ensures.source (YieldsList-from_slice c.args.weights.now c.iter.ensures.rest)) c.map-words.ensures.closure
     (λ x r q k. search (rules, tests))))

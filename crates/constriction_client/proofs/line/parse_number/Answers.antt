@@ -17,7 +17,8 @@ returns-in_err-value c =
     let grown = value_grows_by c.loop-byte.value c.loop-byte.byte-index w c.loop-byte-test.true in
     let digit : digit_value (get_or w c.loop-byte.byte-index 0) ≡ get_or w c.loop-byte.byte-index 0 - 48 = grind (arith, common_steps) in
     rw c.from_residual-in_err-value.ensures
-    (sym (read_number-large w (omega (arith, grown, digit, c.loop-byte.invariant.value, c.in_ok-checked_mul.ensures.1, c.in_err-value.ensures, c.from.ensures))))
+    (sym (read_number-large w
+    (omega (arith, grown, digit, c.loop-byte.invariant.value, c.in_ok-checked_mul.ensures.1, c.in_err-value.ensures, c.from.ensures))))
 
 pub returns : goal.returns
 returns c =

@@ -6,7 +6,8 @@ loop-rest-init c = rw c.new-numbers.ensures.items (after_nothing _)
 
 pub returns-in-None : goal.returns-in-None
 returns-in-None c =
-    numbers_none c.cut.result.0.now _ _ c.loop-rest.numbers.items _ c.cut.ensures.parts c.in-None.ensures (rw c.in-Some.is at c.loop-rest.invariant)
+    numbers_none c.cut.result.0.now _ _ c.loop-rest.numbers.items _ c.cut.ensures.parts c.in-None.ensures
+    (rw c.in-Some.is at c.loop-rest.invariant)
 
 pub loop-rest-preserved : goal.loop-rest-preserved
 loop-rest-preserved c =

@@ -3,15 +3,15 @@ use Rattle.std.proofs.Common.{ap, ◌∙◌, arith, subst, inl, inr, rules, test
 use Rattle.std.proofs.lemmas.Bool.{cases_lt}
 use Rattle.std.proofs.lemmas.Nat.{pow_pos}
 use Rattle.constriction.specs.Filling.{IsFilled}
-use Rattle.constriction.proofs.FillLemmas.{filled-more, bad-more, bad-full, bad-wide, good-inferred, yields-more, zero-or-much}
+use Rattle.constriction.proofs.FillLemmas.{filled-at, filled-more, bad-more, bad-full, bad-wide, good-inferred, yields-more, zero-or-much}
 use Rattle.constriction.proofs.stream.model.categorical.filling.lefts_of.Goals as goal
 
 pub returns-in_default-clause-invalid : goal.returns-in_default-clause-invalid
 returns-in_default-clause-invalid g c = λ _.
     let whole = g.P.BitArray.whole in
     let w = c.in-Some.weight in
-    let f : IsFilled whole g.P.BitArray.BITS g.row.PRECISION c.rows.yielded c.rows.table.items None =
-    subst (λ (o : Option g.row.P.Denot). IsFilled whole g.P.BitArray.BITS g.row.PRECISION c.rows.yielded c.rows.table.items o) (let none : c.rows.end ≡ None = search rules in none) c.rows.invariant.2 in (
+    let f = filled-at whole g.P.BitArray.BITS g.row.PRECISION c.rows.yielded c.rows.table.items c.rows.end
+    None (let none : c.rows.end ≡ None = search rules in none) c.rows.invariant.2 in (
       c.into_iter-weight-iterator.result,
       c.into_iter-weight-iterator.ensures.into_iter_gives,
       inr (
@@ -26,31 +26,36 @@ pub returns-in_err-next-clause-invalid : goal.returns-in_err-next-clause-invalid
 returns-in_err-next-clause-invalid g c = λ _.
     let whole = g.P.BitArray.whole in
     let w = c.in-Some.weight in
-    let f : IsFilled whole g.P.BitArray.BITS g.row.PRECISION c.rows.yielded c.rows.table.items (Some c.in-Some-end.left) =
-    subst (λ (o : Option g.row.P.Denot). IsFilled whole g.P.BitArray.BITS g.row.PRECISION c.rows.yielded c.rows.table.items o) c.in-Some-end.is c.rows.invariant.2 in (
+    let f = filled-at whole g.P.BitArray.BITS g.row.PRECISION c.rows.yielded c.rows.table.items c.rows.end
+    (Some c.in-Some-end.left) c.in-Some-end.is c.rows.invariant.2 in (
       c.into_iter-weight-iterator.result,
       c.into_iter-weight-iterator.ensures.into_iter_gives,
       inr (
         _,
         _,
         yields-more g.I.IntoIter.Iterator.next_gives _ _ _ w _ c.rows.yielded_by c.in-Some.ensures.steps,
-        λ more. bad-more whole g.P.BitArray.BITS g.row.PRECISION c.args.infer_last c.rows.yielded more w (rw (← f.is) c.in_err-next.ensures.err.1),
+        λ more. bad-more whole g.P.BitArray.BITS g.row.PRECISION c.args.infer_last c.rows.yielded more w
+            (rw (← f.is) c.in_err-next.ensures.err.1),
       ),
     )
 
 pub rows-preserved : goal.rows-preserved
 rows-preserved g c =
     let whole = g.P.BitArray.whole in
-    let f : IsFilled whole g.P.BitArray.BITS g.row.PRECISION c.rows.yielded c.rows.table.items (Some c.in-Some-end.left) =
-    subst (λ (o : Option g.row.P.Denot). IsFilled whole g.P.BitArray.BITS g.row.PRECISION c.rows.yielded c.rows.table.items o) c.in-Some-end.is c.rows.invariant.2 in
-    let next = c.in-Some.ensures.goes.on c.rows.invariant.1 in
-    (next.0, next.1, rw c.in_ok-push.ensures.items (filled-more whole g.P.BitArray.BITS g.row.PRECISION c.rows.yielded c.rows.table.items c.in-Some-end.left c.in-Some.weight c.in_ok-next.next f c.in_ok-next.ensures.ok))
+    let f = filled-at whole g.P.BitArray.BITS g.row.PRECISION c.rows.yielded c.rows.table.items c.rows.end
+    (Some c.in-Some-end.left) c.in-Some-end.is c.rows.invariant.2 in
+    let next = c.in-Some.ensures.goes.on c.rows.invariant.1 in (
+      next.0,
+      next.1,
+      rw c.in_ok-push.ensures.items
+          (filled-more whole g.P.BitArray.BITS g.row.PRECISION c.rows.yielded c.rows.table.items c.in-Some-end.left c.in-Some.weight c.in_ok-next.next f c.in_ok-next.ensures.ok),
+    )
 
 pub returns-then-infer_last-clause-invalid : goal.returns-then-infer_last-clause-invalid
 returns-then-infer_last-clause-invalid g c = λ _.
     let whole = g.P.BitArray.whole in
-    let f : IsFilled whole g.P.BitArray.BITS g.row.PRECISION c.rows.yielded c.rows.table.items None =
-    subst (λ (o : Option g.row.P.Denot). IsFilled whole g.P.BitArray.BITS g.row.PRECISION c.rows.yielded c.rows.table.items o) c.in-None-end.is c.rows.invariant.2 in (
+    let f = filled-at whole g.P.BitArray.BITS g.row.PRECISION c.rows.yielded c.rows.table.items c.rows.end
+    None c.in-None-end.is c.rows.invariant.2 in (
       c.into_iter-weight-iterator.result,
       c.into_iter-weight-iterator.ensures.into_iter_gives,
       inl (
@@ -64,8 +69,8 @@ pub returns-then-eq-clause-invalid : goal.returns-then-eq-clause-invalid
 returns-then-eq-clause-invalid g c = λ _.
     let P = g.met.P.BitArray in
     let whole = g.P.BitArray.whole in
-    let f : IsFilled whole g.P.BitArray.BITS g.row.PRECISION c.rows.yielded c.rows.table.items (Some c.in-Some-end-2.left) =
-    subst (λ (o : Option g.row.P.Denot). IsFilled whole g.P.BitArray.BITS g.row.PRECISION c.rows.yielded c.rows.table.items o) c.in-Some-end-2.is c.rows.invariant.2 in (
+    let f = filled-at whole g.P.BitArray.BITS g.row.PRECISION c.rows.yielded c.rows.table.items c.rows.end
+    (Some c.in-Some-end-2.left) c.in-Some-end-2.is c.rows.invariant.2 in (
       c.into_iter-weight-iterator.result,
       c.into_iter-weight-iterator.ensures.into_iter_gives,
       inl (
@@ -85,15 +90,16 @@ pub returns-in_ok-push-in-Some-end-2-clause-ok : goal.returns-in_ok-push-in-Some
 returns-in_ok-push-in-Some-end-2-clause-ok g c =
     let P = g.met.P.BitArray in
     let whole = g.P.BitArray.whole in
-    let f : IsFilled whole g.P.BitArray.BITS g.row.PRECISION c.rows.yielded c.rows.table.items (Some c.in-Some-end-2.left) =
-    subst (λ (o : Option g.row.P.Denot). IsFilled whole g.P.BitArray.BITS g.row.PRECISION c.rows.yielded c.rows.table.items o) c.in-Some-end-2.is c.rows.invariant.2 in (
+    let f = filled-at whole g.P.BitArray.BITS g.row.PRECISION c.rows.yielded c.rows.table.items c.rows.end
+    (Some c.in-Some-end-2.left) c.in-Some-end-2.is c.rows.invariant.2 in (
       c.into_iter-weight-iterator.result,
       c.into_iter-weight-iterator.ensures.into_iter_gives,
       (
         c.rows.yielded,
         (_, (_, c.rows.yielded_by, c.in-None.ensures.steps)),
         let infer : c.args.infer_last ≡ true = search rules in
-            rw (infer, c.in_ok-push-in-Some-end-2.ensures.items) (good-inferred whole g.P.BitArray.BITS g.row.PRECISION c.rows.yielded c.rows.table.items c.in-Some-end-2.left f
+            rw (infer, c.in_ok-push-in-Some-end-2.ensures.items)
+            (good-inferred whole g.P.BitArray.BITS g.row.PRECISION c.rows.yielded c.rows.table.items c.in-Some-end-2.left f
             (let top : whole c.max_value.result ≡ 2 ^ g.P.BitArray.BITS - 1 = ap whole c.max_value.ensures.own ∙ P.highest_law in
             elim (cases_lt (2 ^ g.row.PRECISION) (2 ^ g.P.BitArray.BITS + whole c.in-Some-end-2.left)) [
               | inl narrow ↦ narrow

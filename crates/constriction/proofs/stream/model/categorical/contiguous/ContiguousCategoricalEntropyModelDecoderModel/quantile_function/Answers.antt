@@ -9,7 +9,9 @@ overflow_add-index g c =
     let same : map whole c.words-cdf.result.now ≡ map whole (g.Cdf.SafeBuf.words_of c.args.self.now.cdf) =
     ap (map whole) c.words-cdf.ensures in
     let index : c.quantile_probe-first.result.0 + c.row_of_quantile.result < length c.words-cdf.result.now =
-    rw (← length-map c.words-cdf.result.now whole, same) (stored-index _ _ _ c.args.self.now.stored _ _ (c.quantile_probe-first.ensures.found _ c.row_of_quantile.ensures.found)) in
+    rw (← length-map c.words-cdf.result.now whole, same)
+    (stored-index _ _ _ c.args.self.now.stored _ _
+    (c.quantile_probe-first.ensures.found _ c.row_of_quantile.ensures.found)) in
     search rules
 
 pub row_at-left-requires-clause-in_bounds : goal.row_at-left-requires-clause-in_bounds
@@ -17,7 +19,9 @@ row_at-left-requires-clause-in_bounds g c =
     let whole = g.Probability.BitArray.whole in
     let same : map whole c.words-cdf.result.now ≡ map whole (g.Cdf.SafeBuf.words_of c.args.self.now.cdf) =
     ap (map whole) c.words-cdf.ensures in
-    rw (← length-map c.words-cdf.result.now whole, same) (stored-index _ _ _ c.args.self.now.stored _ _ (c.quantile_probe-first.ensures.found _ c.row_of_quantile.ensures.found))
+    rw (← length-map c.words-cdf.result.now whole, same)
+    (stored-index _ _ _ c.args.self.now.stored _ _
+    (c.quantile_probe-first.ensures.found _ c.row_of_quantile.ensures.found))
 
 pub returns-clause-row : goal.returns-clause-row
 returns-clause-row g c =
