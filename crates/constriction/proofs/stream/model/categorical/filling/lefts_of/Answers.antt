@@ -1,8 +1,7 @@
-use Rattle.std.specs.Prelude.{◌≡◌, ◌+◌, ◌-◌, ◌^◌, IsTrue, true, Some, None, Option}
-use Rattle.std.proofs.Common.{ap, ◌∙◌, arith, subst, inl, inr, rules, tests}
+use Rattle.std.specs.Prelude.{◌≡◌, ◌+◌, ◌-◌, ◌^◌, IsTrue, true, Some, None}
+use Rattle.std.proofs.Common.{ap, ◌∙◌, arith, inl, inr, rules, tests}
 use Rattle.std.proofs.lemmas.Bool.{cases_lt}
 use Rattle.std.proofs.lemmas.Nat.{pow_pos}
-use Rattle.constriction.specs.Filling.{IsFilled}
 use Rattle.constriction.proofs.FillLemmas.{filled-at, filled-more, bad-more, bad-full, bad-wide, good-inferred, yields-more, zero-or-much}
 use Rattle.constriction.proofs.stream.model.categorical.filling.lefts_of.Goals as goal
 
