@@ -6,6 +6,7 @@
 #![tactic(auto)]
 
 mod buf;
+mod error;
 mod read;
 #[cfg(test)]
 mod tests;
@@ -13,5 +14,7 @@ mod vec;
 mod write;
 
 pub use crate::buf::SafeBuf;
-pub use crate::read::ReadWords;
-pub use crate::write::WriteWords;
+pub use crate::error::BoundedWriteError;
+pub use crate::read::{BoundedReadWords, ReadWords};
+pub use crate::write::{BoundedWriteWords, WriteWords};
+pub use constriction_words::ReadWriteError;

@@ -1,8 +1,8 @@
 //! Sources of words.
 
-ghost use Rattle.std.specs.Prelude.{◌≡◌, ◌≢◌, List, [], ⊤, Option, Result};
+ghost use Rattle.std.specs.Prelude.{◌≡◌, ◌≢◌, ◌↔◌, ℕ, List, [], ⊤, Option, Result, IsTrue, length};
 ghost use Rattle.std.specs.Bool.{OnFalse};
-ghost use Rattle.constriction_backends.specs.Source.{ReadsTold};
+ghost use Rattle.constriction_backends.specs.Source.{ReadsTold, CountsRead};
 
 use constriction_words::Semantics;
 use std::fmt::Debug;
@@ -42,4 +42,35 @@ pub trait ReadWords<Word, S: Semantics> {
     // A read answers from the told list.
     ghost reads_told: { (s : Self) (r : Result (Option Word) Self.ReadError) (t : Self) → read_gives s r t
         → (words : List Word) → tells_upcoming s words → ReadsTold tells_upcoming words r t };
+}
+
+/// A source that knows how many items it still has: words, and the errors that stand in the place
+/// of words.
+///
+/// A read answers `Ok(None)` exactly where none is left, and any other answer takes one away. Where
+/// the source tells its words, their number is that of the items.
+pub trait BoundedReadWords<Word, S: Semantics>: ReadWords<Word, S> {
+    // How many items are left.
+    ghost items_left: { Self → ℕ };
+
+    // The count is surely right. A source whose items come from elsewhere can have it on trust. Each read keeps it.
+    ghost is_exact: { Self → Type 0 } = { λ _. ⊤ };
+
+    /// How many items are left.
+    fn remaining(&self) -> usize
+        ensures { result ≡ items_left self.now };
+
+    /// Whether no item is left.
+    fn is_exhausted(&self) -> bool
+        ensures { IsTrue result ↔ (items_left self.now ≡ 0) }
+    {
+        self.remaining() == 0
+    }
+
+    // A read takes one item away, and there is none exactly where it answers `Ok(None)`.
+    ghost counts_reads: { (s : Self) (r : Result (Option Word) Self.ReadError) (t : Self) → is_exact s → Self.read_gives s r t
+        → CountsRead (items_left s) r (items_left t) × is_exact t };
+
+    // The items are the told words.
+    ghost counts_told: { (s : Self) → is_exact s → (words : List Word) → Self.tells_upcoming s words → items_left s ≡ length words };
 }

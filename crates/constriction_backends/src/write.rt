@@ -1,9 +1,9 @@
 //! Sinks of words.
 
-ghost use Rattle.std.specs.Prelude.{List, ⊤, Result};
+ghost use Rattle.std.specs.Prelude.{◌≡◌, ◌<◌, ◌↔◌, ℕ, List, ⊤, Result, IsTrue};
 ghost use Rattle.std.specs.Bool.{OnFalse};
 ghost use Rattle.std.specs.Iterator.{IsFinite};
-ghost use Rattle.constriction_backends.specs.Sink.{WritesTold, ExtendsBy};
+ghost use Rattle.constriction_backends.specs.Sink.{WritesTold, CountsWrite, ExtendsBy};
 
 use std::fmt::Debug;
 
@@ -63,4 +63,31 @@ pub trait WriteWords<Word> {
     // A write goes to the end of the told list.
     ghost writes_told: { (s : Self) (w : Word) (r : Result (Unit {0}) Self.WriteError) (t : Self)
         → write_gives s w r t → (words : List Word) → tells_written s words → WritesTold tells_written words w r t };
+}
+
+/// A sink that knows how many words it still takes.
+///
+/// A write succeeds exactly where a place is free, and takes it. So `extend_from_iter` is refused
+/// exactly where there are more words than free places.
+pub trait BoundedWriteWords<Word>: WriteWords<Word> {
+    // How many places are free.
+    ghost free_places: { Self → ℕ };
+
+    /// How many more words the sink takes.
+    fn space_left(&self) -> usize
+        ensures { result ≡ free_places self.now };
+
+    /// Whether the sink takes no more word.
+    fn is_full(&self) -> bool
+        ensures { IsTrue result ↔ (free_places self.now ≡ 0) }
+    {
+        self.space_left() == 0
+    }
+
+    // A write takes a free place, and is refused exactly where there is none.
+    ghost counts_writes: { (s : Self) (w : Word) (r : Result (Unit {0}) Self.WriteError) (t : Self) → Self.write_gives s w r t
+        → CountsWrite (free_places s) r (free_places t) };
+
+    // Where there surely is room, a place is free.
+    ghost room_counts: { (s : Self) → Self.has_room s → 0 < free_places s };
 }

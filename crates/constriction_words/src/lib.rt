@@ -9,6 +9,7 @@ mod coder_error;
 mod index_word;
 mod infallible;
 mod position;
+mod read_write_error;
 mod semantics;
 #[cfg(test)]
 mod tests;
@@ -19,4 +20,5 @@ pub use crate::coder_error::{CoderError, DefaultEncoderFrontendError, NanError};
 pub use crate::index_word::IndexWord;
 pub use crate::infallible::UnwrapInfallible;
 pub use crate::position::{Pos, PosSeek, Seek};
+pub use crate::read_write_error::ReadWriteError;
 pub use crate::semantics::{Queue, Semantics, Stack};
