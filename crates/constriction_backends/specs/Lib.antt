@@ -1,3 +1,4 @@
+pub mod Buffer
 pub mod Sink
 pub mod Source
 pub mod Stack

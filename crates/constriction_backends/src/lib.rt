@@ -13,7 +13,7 @@ mod tests;
 mod vec;
 mod write;
 
-pub use crate::buf::SafeBuf;
+pub use crate::buf::{SafeBuf, SafeBufMut};
 pub use crate::error::BoundedWriteError;
 pub use crate::read::{BoundedReadWords, ReadWords};
 pub use crate::write::{BoundedWriteWords, WriteWords};
