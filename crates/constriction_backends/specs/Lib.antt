@@ -1,4 +1,7 @@
 pub mod Buffer
+pub mod Cursor
+pub mod CursorLaws
+pub mod CursorState
 pub mod Sink
 pub mod Source
 pub mod Stack

@@ -6,6 +6,7 @@
 #![tactic(auto)]
 
 mod buf;
+mod cursor;
 mod error;
 mod read;
 #[cfg(test)]
@@ -14,6 +15,7 @@ mod vec;
 mod write;
 
 pub use crate::buf::{SafeBuf, SafeBufMut};
+pub use crate::cursor::Cursor;
 pub use crate::error::BoundedWriteError;
 pub use crate::read::{BoundedReadWords, ReadWords};
 pub use crate::write::{BoundedWriteWords, WriteWords};

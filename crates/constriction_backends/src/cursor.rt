@@ -1,0 +1,30 @@
+//! A buffer with a position, which cuts its words in those before it and those behind it.
+
+ghost use Rattle.std.specs.Prelude.{◌≤◌, length};
+
+mod lend;
+mod new;
+mod parts;
+mod read;
+mod seek;
+mod write;
+
+use crate::buf::SafeBuf;
+use std::marker::PhantomData;
+
+/// A buffer with a position in it: the words before the position were written, and those behind it
+/// are free.
+///
+/// As a sink it overwrites the word behind the position, and never grows. As a source it is read
+/// backwards, as a [`Stack`](constriction_words::Stack), from the word before the position, or
+/// forwards, as a [`Queue`](constriction_words::Queue), from the word behind it. A read leaves the
+/// words as they are and moves the position.
+///
+/// The position is at most the number of words.
+#[derive(Debug, Drop)]
+pub struct Cursor<Word, Buf: SafeBuf<Word>> {
+    buf: Buf,
+    pos: usize,
+    phantom: PhantomData<Word>,
+    pub ghost in_range: { pos ≤ length (Buf.words_of buf) },
+}

@@ -1,0 +1,66 @@
+//! Lending the words of a cursor for writing.
+
+ghost use Rattle.std.specs.Prelude.{◌≡◌, ◌+◌, ◌++◌, length};
+ghost use Rattle.std.specs.Borrow.{Lends, follows, sem, Array};
+ghost use Rattle.constriction_backends.specs.Cursor.{buf_of, pos_of, state_of, over};
+
+use crate::buf::{SafeBuf, SafeBufMut, part_mut};
+use crate::cursor::Cursor;
+use std::marker::PhantomData;
+
+impl<Word, Buf: SafeBufMut<Word>> Cursor<Word, Buf> {
+    ghost use Rattle.constriction_backends.specs.contracts.cursor.Cursor.{the_row};
+
+    /// Lends all words for writing. What stands in them at the end of the loan are the words of the
+    /// buffer then, and the position is as it was.
+    #[inline]
+    pub fn buf_mut(&mut self) -> &mut [Word]
+        ensures* writes_back { sem 𝓛 (Lends (the_row Word.row Buf.row Buf.SafeBuf) (Array Word.row 0) self.entry result
+            (λ ws. over self.old (Buf.with_words (buf_of self.old) ws))) }
+        ensures value { result.now ≡ Buf.words_of (buf_of self.old) }
+    {
+        self.buf.words_mut()
+    }
+
+    /// Lends the words before the position for writing. The words behind it and the position stay.
+    #[inline]
+    pub fn written_mut(&mut self) -> &mut [Word]
+        ensures* writes_back { sem 𝓛 (Lends (the_row Word.row Buf.row Buf.SafeBuf) (Array Word.row 0) self.entry result
+            (λ ws. over self.old (Buf.with_words (buf_of self.old) (ws ++ (state_of self.old).after)))) }
+        ensures value { result.now ≡ (state_of self.old).before }
+        ensures len { length result.now ≡ pos_of self.old }
+    {
+        let pos = self.pos;
+        part_mut(&mut self.buf, 0, pos)
+    }
+
+    /// Lends the words behind the position for writing. The words before it and the position stay.
+    #[inline]
+    pub fn unwritten_mut(&mut self) -> &mut [Word]
+        ensures* writes_back { sem 𝓛 (Lends (the_row Word.row Buf.row Buf.SafeBuf) (Array Word.row 0) self.entry result
+            (λ ws. over self.old (Buf.with_words (buf_of self.old) ((state_of self.old).before ++ ws)))) }
+        ensures value { result.now ≡ (state_of self.old).after }
+        ensures len { pos_of self.old + length result.now ≡ length (Buf.words_of (buf_of self.old)) }
+    {
+        let pos = self.pos;
+        let len = self.buf.words().len();
+        part_mut(&mut self.buf, pos, len)
+    }
+
+    /// A cursor at the same position that borrows the words for writing. What it wrote stands in the
+    /// words at the end of the loan, and its moves leave this one where it is.
+    #[inline]
+    pub fn as_mut_view(&mut self) -> Cursor<Word, &mut [Word]>
+        ensures* writes_back { sem 𝓛 (follows (the_row Word.row Buf.row Buf.SafeBuf) (Array Word.row 0) self.entry.ghost_name (buf_of result).ghost_name
+            (λ ws. over self.old (Buf.with_words (buf_of self.old) ws))) }
+        ensures value { (buf_of result).now ≡ Buf.words_of (buf_of self.old) }
+        ensures pos { pos_of result ≡ pos_of self.old }
+    {
+        let pos = self.pos;
+        Cursor {
+            buf: self.buf.words_mut(),
+            pos,
+            phantom: PhantomData,
+        }
+    }
+}

@@ -1,0 +1,98 @@
+//! A cursor as a source: read backwards as a stack, and forwards as a queue.
+
+ghost use Rattle.std.specs.Prelude.{◌≡◌, ◌≢◌, ◌↔◌, List, [], length, reverse, IsTrue};
+ghost use Rattle.std.specs.Bool.{OnFalse};
+ghost use Rattle.std.proofs.Common.{ap, sym, ◌∙◌};
+ghost use Rattle.std.proofs.lemmas.List.{length-reverse};
+ghost use Rattle.constriction_backends.specs.Cursor.{buf_of, state_of};
+ghost use Rattle.constriction_backends.specs.CursorState.{StackReads, QueueReads};
+ghost use Rattle.constriction_backends.specs.CursorLaws.{StackReads-told, StackReads-counts, QueueReads-told, QueueReads-counts};
+
+use crate::buf::SafeBuf;
+use crate::cursor::Cursor;
+use crate::read::{BoundedReadWords, ReadWords};
+use constriction_words::{Queue, Stack};
+use std::convert::Infallible;
+
+impl<Word: Copy, Buf: SafeBuf<Word>> ReadWords<Word, Stack> for Cursor<Word, Buf> {
+    type ReadError = Infallible;
+
+    ghost read_gives = { λ s r t. StackReads (state_of s) r (state_of t) × (buf_of t ≡ buf_of s) };
+
+    ghost tells_upcoming = { λ s words. words ≡ reverse (state_of s).before };
+
+    #[inline]
+    fn read(&mut self) -> Result<Option<Word>, Infallible> {
+        if self.pos == 0 {
+            Ok(None)
+        } else {
+            self.pos -= 1;
+            Ok(Some(self.buf.words()[self.pos]))
+        }
+    }
+
+    #[inline]
+    #[tactic(auto, using(crate::specs::CursorLaws::stack_not_empty))]
+    fn maybe_exhausted(&self) -> bool
+        ensures exhausted { IsTrue result ↔ (length (state_of self.now).before ≡ 0) }
+        ensures told { OnFalse result ((words : List Word) → words ≡ reverse (state_of self.now).before → words ≢ []) }
+    {
+        self.pos == 0
+    }
+
+    ghost reads_told = { λ s r t h. StackReads-told state_of s r t h.0 };
+}
+
+impl<Word: Copy, Buf: SafeBuf<Word>> BoundedReadWords<Word, Stack> for Cursor<Word, Buf> {
+    ghost items_left = { λ s. length (state_of s).before };
+
+    #[inline]
+    fn remaining(&self) -> usize {
+        self.pos
+    }
+
+    ghost counts_reads = { λ s r t _ h. (StackReads-counts state_of s r t h.0, tt) };
+
+    ghost counts_told = { λ s _ words e. sym (ap length e ∙ length-reverse (state_of s).before) };
+}
+
+impl<Word: Copy, Buf: SafeBuf<Word>> ReadWords<Word, Queue> for Cursor<Word, Buf> {
+    type ReadError = Infallible;
+
+    ghost read_gives = { λ s r t. QueueReads (state_of s) r (state_of t) × (buf_of t ≡ buf_of s) };
+
+    ghost tells_upcoming = { λ s words. words ≡ (state_of s).after };
+
+    #[inline]
+    fn read(&mut self) -> Result<Option<Word>, Infallible> {
+        let maybe_word = self.buf.words().get(self.pos).copied();
+        if maybe_word.is_some() {
+            self.pos += 1;
+        }
+        Ok(maybe_word)
+    }
+
+    #[inline]
+    #[tactic(auto, using(crate::specs::CursorLaws::queue_not_empty))]
+    fn maybe_exhausted(&self) -> bool
+        ensures exhausted { IsTrue result ↔ (length (state_of self.now).after ≡ 0) }
+        ensures told { OnFalse result ((words : List Word) → words ≡ (state_of self.now).after → words ≢ []) }
+    {
+        self.pos == self.buf.words().len()
+    }
+
+    ghost reads_told = { λ s r t h. QueueReads-told state_of s r t h.0 };
+}
+
+impl<Word: Copy, Buf: SafeBuf<Word>> BoundedReadWords<Word, Queue> for Cursor<Word, Buf> {
+    ghost items_left = { λ s. length (state_of s).after };
+
+    #[inline]
+    fn remaining(&self) -> usize {
+        self.buf.words().len() - self.pos
+    }
+
+    ghost counts_reads = { λ s r t _ h. (QueueReads-counts state_of s r t h.0, tt) };
+
+    ghost counts_told = { λ s _ words e. sym (ap length e) };
+}

@@ -1,0 +1,48 @@
+//! A cursor as a sink: a write overwrites the word behind the position.
+
+ghost use Rattle.std.specs.Prelude.{◌≡◌, ◌<◌, length, slice_set, MatchResult};
+ghost use Rattle.constriction_backends.specs.Cursor.{buf_of, pos_of, state_of};
+ghost use Rattle.constriction_backends.specs.CursorState.{Overwrites};
+ghost use Rattle.constriction_backends.specs.CursorLaws.{Overwrites-told, Overwrites-counts};
+
+use crate::buf::{SafeBuf, SafeBufMut};
+use crate::cursor::Cursor;
+use crate::error::BoundedWriteError;
+use crate::write::{BoundedWriteWords, WriteWords};
+
+impl<Word: Drop, Buf: SafeBufMut<Word>> WriteWords<Word> for Cursor<Word, Buf> {
+    type WriteError = BoundedWriteError;
+
+    // The step, and what became of the buffer: a refused write leaves the cursor as it was.
+    ghost write_gives = { λ s w r t. Overwrites (state_of s) w r (state_of t)
+        × MatchResult r (λ _. buf_of t ≡ Buf.with_words (buf_of s) (slice_set (Buf.words_of (buf_of s)) (pos_of s) w)) (λ _. t ≡ s) };
+
+    ghost tells_written = { λ s words. (state_of s).before ≡ words };
+
+    #[inline]
+    fn write(&mut self, word: Word) -> Result<(), BoundedWriteError> {
+        let pos = self.pos;
+        if pos == self.buf.words().len() {
+            return Err(BoundedWriteError::OutOfSpace);
+        }
+        self.pos = pos + 1;
+        let words = self.buf.words_mut();
+        words[pos] = word;
+        Ok(())
+    }
+
+    ghost writes_told = { λ s w r t h. Overwrites-told state_of s w r t h.0 };
+}
+
+impl<Word: Drop, Buf: SafeBufMut<Word>> BoundedWriteWords<Word> for Cursor<Word, Buf> {
+    ghost free_places = { λ s. length (state_of s).after };
+
+    #[inline]
+    fn space_left(&self) -> usize {
+        self.buf.words().len() - self.pos
+    }
+
+    ghost counts_writes = { λ s w r t h. Overwrites-counts state_of s w r t h.0 };
+
+    ghost room_counts = { λ _ h. absurd h };
+}
