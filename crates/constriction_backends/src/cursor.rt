@@ -6,6 +6,7 @@ mod lend;
 mod new;
 mod parts;
 mod read;
+mod reversed;
 mod seek;
 mod write;
 

@@ -9,6 +9,7 @@ mod buf;
 mod cursor;
 mod error;
 mod read;
+mod reverse;
 #[cfg(test)]
 mod tests;
 mod vec;
@@ -18,5 +19,6 @@ pub use crate::buf::{SafeBuf, SafeBufMut};
 pub use crate::cursor::Cursor;
 pub use crate::error::BoundedWriteError;
 pub use crate::read::{BoundedReadWords, ReadWords};
+pub use crate::reverse::Reverse;
 pub use crate::write::{BoundedWriteWords, WriteWords};
 pub use constriction_words::ReadWriteError;

@@ -8,7 +8,7 @@ use mathlib.Core.List.{List, [], ◌∷◌, ◌++◌}
 use lib.ListN.{length, take, drop as drop_list, length-drop}
 use mir.Syntax.{Body, named, w64, a_type, dcons, dnil, seq, assign, place, rv_opd, copy, return}
 use mir.MapTy.{inst_fn}
-use mir.Val.{Val, vint, vptr}
+use mir.Val.{Val, vint}
 use base.Logic.{emp, id⊢}
 use base.Fml.{ftrue, flft}
 use prog.Memory.{size, capped}

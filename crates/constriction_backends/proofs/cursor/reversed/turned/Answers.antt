@@ -1,0 +1,13 @@
+use Rattle.std.proofs.Common.{ap, ◌∙◌, ◌≡◌, length, reverse}
+use Rattle.constriction_backends.specs.CursorLaws.{state-turned}
+use Rattle.constriction_backends.proofs.cursor.reversed.turned.Goals as goal
+
+pub returns-clause-state : goal.returns-clause-state
+returns-clause-state g c =
+    let words = g.Buf.SafeBuf.words_of c.args.cursor.buf in
+    let new = c.reverse.new.self in
+    let lent : c.words_mut-words.result.now ≡ words = c.words_mut-words.ensures.value in
+    let turned : new ≡ reverse words = c.reverse.ensures.after ∙ ap reverse lent in
+    let same : length new ≡ length words = c.reverse.ensures.len ∙ ap length lent in
+    let stands : g.Buf.SafeBuf.words_of (g.Buf.SafeBufMut.with_words c.args.cursor.buf new) ≡ new = g.met.Buf.SafeBufMut.stand c.args.cursor.buf new same in
+    state-turned (g.Buf.SafeBuf.words_of (g.Buf.SafeBufMut.with_words c.args.cursor.buf new)) new words c.args.cursor.pos stands turned c.args.cursor.in_range

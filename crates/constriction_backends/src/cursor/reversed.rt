@@ -1,0 +1,88 @@
+//! Turning a cursor round, and writing to one that was turned round.
+
+ghost use Rattle.std.specs.Prelude.{◌≡◌, ◌-◌, length, reverse, slice_set, MatchResult};
+ghost use Rattle.constriction_backends.specs.Cursor.{buf_of, pos_of, state_of};
+ghost use Rattle.constriction_backends.specs.CursorState.{reversal, Overwrites};
+ghost use Rattle.constriction_backends.specs.CursorLaws.{Overwrites-told, Overwrites-counts};
+
+use crate::buf::SafeBufMut;
+use crate::cursor::Cursor;
+use crate::error::BoundedWriteError;
+use crate::reverse::Reverse;
+use crate::write::{BoundedWriteWords, WriteWords};
+
+impl<Word, Buf: SafeBufMut<Word>> Cursor<Word, Buf> {
+    /// Reverses the words in place, and moves the position to the same cut: the cursor that results
+    /// reads, inside `Reverse`, the same words in the same orders, and overwrites the same ones.
+    /// One pass over the words.
+    pub fn into_reversed(self) -> Reverse<Self>
+        ensures buf { buf_of result.0 ≡ Buf.with_words (buf_of self) (reverse (Buf.words_of (buf_of self))) }
+        ensures pos { pos_of result.0 ≡ length (Buf.words_of (buf_of self)) - pos_of self }
+        ensures state { state_of result.0 ≡ reversal (state_of self) }
+    {
+        Reverse(turned(self))
+    }
+}
+
+impl<Word, Buf: SafeBufMut<Word>> Reverse<Cursor<Word, Buf>> {
+    /// Takes [`Cursor::into_reversed`] back: turned round twice, a cursor is as it was. One pass
+    /// over the words.
+    pub fn into_reversed(self) -> Cursor<Word, Buf>
+        ensures buf { buf_of result ≡ Buf.with_words (buf_of self.0) (reverse (Buf.words_of (buf_of self.0))) }
+        ensures pos { pos_of result ≡ length (Buf.words_of (buf_of self.0)) - pos_of self.0 }
+        ensures state { state_of result ≡ reversal (state_of self.0) }
+    {
+        turned(self.0)
+    }
+}
+
+/// Reverses the words in place, and moves the position to the same cut.
+fn turned<Word, Buf: SafeBufMut<Word>>(mut cursor: Cursor<Word, Buf>) -> Cursor<Word, Buf>
+    ensures buf { buf_of result ≡ Buf.with_words (buf_of cursor) (reverse (Buf.words_of (buf_of cursor))) }
+    ensures pos { pos_of result ≡ length (Buf.words_of (buf_of cursor)) - pos_of cursor }
+    ensures state { state_of result ≡ reversal (state_of cursor) }
+{
+    let words = cursor.buf.words_mut();
+    words.reverse();
+    let len = words.len();
+    cursor.pos = len - cursor.pos;
+    cursor
+}
+
+impl<Word: Drop, Buf: SafeBufMut<Word>> WriteWords<Word> for Reverse<Cursor<Word, Buf>> {
+    type WriteError = BoundedWriteError;
+
+    // The step of the reversed state, and what became of the buffer: a refused write leaves the cursor as it was.
+    ghost write_gives = { λ s w r t. Overwrites (reversal (state_of s.0)) w r (reversal (state_of t.0))
+        × MatchResult r (λ _. buf_of t.0 ≡ Buf.with_words (buf_of s.0) (slice_set (Buf.words_of (buf_of s.0)) (pos_of t.0) w)) (λ _. t ≡ s) };
+
+    ghost tells_written = { λ s words. (reversal (state_of s.0)).before ≡ words };
+
+    #[inline]
+    fn write(&mut self, word: Word) -> Result<(), BoundedWriteError> {
+        let cursor = &mut self.0;
+        if cursor.pos == 0 {
+            return Err(BoundedWriteError::OutOfSpace);
+        }
+        let pos = cursor.pos - 1;
+        let words = cursor.buf.words_mut();
+        words[pos] = word;
+        cursor.pos = pos;
+        Ok(())
+    }
+
+    ghost writes_told = { λ s w r t h. Overwrites-told (λ (x : _). reversal (state_of x.0)) s w r t h.0 };
+}
+
+impl<Word: Drop, Buf: SafeBufMut<Word>> BoundedWriteWords<Word> for Reverse<Cursor<Word, Buf>> {
+    ghost free_places = { λ s. length (reversal (state_of s.0)).after };
+
+    #[inline]
+    fn space_left(&self) -> usize {
+        self.0.pos
+    }
+
+    ghost counts_writes = { λ s w r t h. Overwrites-counts (λ (x : _). reversal (state_of x.0)) s w r t h.0 };
+
+    ghost room_counts = { λ _ h. absurd h };
+}
