@@ -5,3 +5,4 @@ pub mod CursorState
 pub mod Sink
 pub mod Source
 pub mod Stack
+pub mod VecBuffer

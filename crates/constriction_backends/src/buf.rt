@@ -4,8 +4,10 @@ ghost use Rattle.std.specs.Prelude.{◌≡◌, List, length};
 ghost use Rattle.std.specs.Borrow.{Lends, sem, Array};
 ghost use Rattle.std.specs.Vec.{with_items};
 ghost use Rattle.std.specs.Box.{boxed_slice_items};
-ghost use Rattle.std.proofs.Common.{sym};
-ghost use Rattle.constriction_backends.specs.Buffer.{refill, length-refill, with_now, refilled_same, length-refilled};
+ghost use Rattle.std.proofs.Common.{ap, refl};
+ghost use denote.Ref.{at_last};
+ghost use Rattle.constriction_backends.specs.Buffer.{with_now, refilled_same, refilled_again, length-refilled};
+ghost use Rattle.constriction_backends.specs.VecBuffer.{with_items_stand, with_items-length, with_items_unchanged, with_items_again};
 
 mod part;
 
@@ -38,6 +40,12 @@ pub trait SafeBufMut<Word>: SafeBuf<Word> {
 
     // The number of words stays, whatever list is given.
     ghost keeps_length: { (s : Self) (ws : List Word) → length (Self.words_of (with_words s ws)) ≡ length (Self.words_of s) };
+
+    // With the words that it has, the buffer is as it is.
+    ghost unchanged: { (s : Self) → with_words s (Self.words_of s) ≡ s };
+
+    // Of two lists, the last one counts.
+    ghost again: { (s : Self) (ws vs : List Word) → length vs ≡ length (Self.words_of s) → with_words (with_words s ws) vs ≡ with_words s vs };
 }
 
 impl<Word> SafeBuf<Word> for Vec<Word> {
@@ -57,9 +65,13 @@ impl<Word> SafeBufMut<Word> for Vec<Word> {
         self.as_mut_slice()
     }
 
-    ghost stand = { λ s ws same. refill s.len s.items ws (sym s.ok.0) same };
+    ghost stand = { with_items_stand };
 
-    ghost keeps_length = { λ s ws. length-refill s.len s.items ws (sym s.ok.0) };
+    ghost keeps_length = { with_items-length };
+
+    ghost unchanged = { with_items_unchanged };
+
+    ghost again = { with_items_again };
 }
 
 impl<Word> SafeBuf<Word> for BoxedSlice<Word> {
@@ -109,6 +121,10 @@ impl<Word> SafeBufMut<Word> for &mut [Word] {
     ghost stand = { λ s ws same. refilled_same s.now ws same };
 
     ghost keeps_length = { λ s ws. length-refilled s.now ws };
+
+    ghost unchanged = { λ s. ap (at_last s) (refilled_same s.now s.now refl) };
+
+    ghost again = { λ s ws vs same. ap (at_last s) (refilled_again s.now ws vs same) };
 }
 
 impl<Word, const N: usize> SafeBuf<Word> for &mut [Word; N] {
@@ -132,4 +148,8 @@ impl<Word, const N: usize> SafeBufMut<Word> for &mut [Word; N] {
     ghost stand = { λ s ws same. refilled_same s.now ws same };
 
     ghost keeps_length = { λ s ws. length-refilled s.now ws };
+
+    ghost unchanged = { λ s. ap (at_last s) (refilled_same s.now s.now refl) };
+
+    ghost again = { λ s ws vs same. ap (at_last s) (refilled_again s.now ws vs same) };
 }

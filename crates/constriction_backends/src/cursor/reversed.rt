@@ -1,6 +1,6 @@
 //! Turning a cursor round, and writing to one that was turned round.
 
-ghost use Rattle.std.specs.Prelude.{◌≡◌, ◌-◌, length, reverse, slice_set, MatchResult};
+ghost use Rattle.std.specs.Prelude.{◌≡◌, ◌<◌, ◌↔◌, ◌-◌, ⊤, length, reverse, slice_set, IsOk, MatchResult};
 ghost use Rattle.constriction_backends.specs.Cursor.{buf_of, pos_of, state_of};
 ghost use Rattle.constriction_backends.specs.CursorState.{reversal, Overwrites};
 ghost use Rattle.constriction_backends.specs.CursorLaws.{Overwrites-told, Overwrites-counts};
@@ -59,7 +59,13 @@ impl<Word: Drop, Buf: SafeBufMut<Word>> WriteWords<Word> for Reverse<Cursor<Word
     ghost tells_written = { λ s words. (reversal (state_of s.0)).before ≡ words };
 
     #[inline]
-    fn write(&mut self, word: Word) -> Result<(), BoundedWriteError> {
+    fn write(&mut self, word: Word) -> Result<(), BoundedWriteError>
+        ensures gives { Overwrites (reversal (state_of self.old.0)) word result (reversal (state_of self.new.0))
+            × MatchResult result (λ _. buf_of self.new.0 ≡ Buf.with_words (buf_of self.old.0) (slice_set (Buf.words_of (buf_of self.old.0)) (pos_of self.new.0) word)) (λ _. self.new ≡ self.old) }
+        ensures goes_on { ⊤ }
+        ensures room { IsOk result ↔ (0 < pos_of self.old.0) }
+        ensures kept { buf_of self.new.0 ≡ Buf.with_words (buf_of self.old.0) (Buf.words_of (buf_of self.new.0)) }
+    {
         let cursor = &mut self.0;
         if cursor.pos == 0 {
             return Err(BoundedWriteError::OutOfSpace);

@@ -1,6 +1,6 @@
 //! A cursor as a sink: a write overwrites the word behind the position.
 
-ghost use Rattle.std.specs.Prelude.{◌≡◌, ◌<◌, length, slice_set, MatchResult};
+ghost use Rattle.std.specs.Prelude.{◌≡◌, ◌<◌, ◌↔◌, ⊤, length, slice_set, IsOk, MatchResult};
 ghost use Rattle.constriction_backends.specs.Cursor.{buf_of, pos_of, state_of};
 ghost use Rattle.constriction_backends.specs.CursorState.{Overwrites};
 ghost use Rattle.constriction_backends.specs.CursorLaws.{Overwrites-told, Overwrites-counts};
@@ -20,7 +20,13 @@ impl<Word: Drop, Buf: SafeBufMut<Word>> WriteWords<Word> for Cursor<Word, Buf> {
     ghost tells_written = { λ s words. (state_of s).before ≡ words };
 
     #[inline]
-    fn write(&mut self, word: Word) -> Result<(), BoundedWriteError> {
+    fn write(&mut self, word: Word) -> Result<(), BoundedWriteError>
+        ensures gives { Overwrites (state_of self.old) word result (state_of self.new)
+            × MatchResult result (λ _. buf_of self.new ≡ Buf.with_words (buf_of self.old) (slice_set (Buf.words_of (buf_of self.old)) (pos_of self.old) word)) (λ _. self.new ≡ self.old) }
+        ensures goes_on { ⊤ }
+        ensures room { IsOk result ↔ (pos_of self.old < length (Buf.words_of (buf_of self.old))) }
+        ensures kept { buf_of self.new ≡ Buf.with_words (buf_of self.old) (Buf.words_of (buf_of self.new)) }
+    {
         let pos = self.pos;
         if pos == self.buf.words().len() {
             return Err(BoundedWriteError::OutOfSpace);
