@@ -2,7 +2,11 @@
 
 ghost use Rattle.std.specs.Prelude.{◌≡◌, Err, Ok, MatchResult, ◌<◌, ◌≤◌};
 
-use crate::buf::SafeBuf;
+mod buffers;
+mod cursors;
+mod marked;
+mod reversals;
+
 use crate::read::ReadWords;
 use crate::write::WriteWords;
 use constriction_words::Stack;
@@ -20,16 +24,6 @@ fn a_vec_is_a_stack(rt: HostRuntime) -> Result<(), Fail> {
     for expected in [Some(3), Some(2), Some(1), None, None] {
         assert_eq!(rt; ReadWords::<u8, Stack>::read(&mut words), Ok(expected));
     }
-    Ok(())
-}
-
-#[test]
-fn buffers_lend_their_words(rt: HostRuntime) -> Result<(), Fail> {
-    let owned = [3u8, 18, 1, 42].to_vec(rt.alloc())?;
-    assert_eq!(rt; owned.words(), [3, 18, 1, 42].as_slice());
-    let lent = owned.as_slice();
-    assert_eq!(rt; lent.words(), [3, 18, 1, 42].as_slice());
-    assert_eq!(rt; SafeBuf::<u8>::words(&owned).len(), 4);
     Ok(())
 }
 

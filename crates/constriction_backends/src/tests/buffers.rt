@@ -1,0 +1,49 @@
+//! Each buffer lends its words.
+
+use crate::buf::{SafeBuf, SafeBufMut};
+use crate::tests::marked::Marked;
+use std::process::Abort;
+use std::test::Fail;
+
+fn lends<Buf: SafeBuf<u8>>(rt: &impl Abort, buf: &Buf) {
+    assert_eq!(rt; buf.words(), [3, 18, 1, 42].as_slice());
+}
+
+fn is_written<Buf: SafeBufMut<u8>>(rt: &impl Abort, buf: &mut Buf) {
+    lends(rt, buf);
+    let words = buf.words_mut();
+    assert_eq!(rt; words.len(), 4);
+    if words.len() == 4 {
+        words[1] = 20;
+    }
+    assert_eq!(rt; buf.words(), [3, 20, 1, 42].as_slice());
+}
+
+#[test]
+fn buffers_lend_their_words(rt: HostRuntime) -> Result<(), Fail> {
+    let words = [3u8, 18, 1, 42];
+    lends(&rt, &words.as_slice());
+    lends(&rt, &&words);
+    lends(&rt, &words.to_vec(rt.alloc())?);
+    lends(&rt, &words.to_vec(rt.alloc())?.into_boxed_slice());
+    Ok(())
+}
+
+#[test]
+fn buffers_are_written(rt: HostRuntime) -> Result<(), Fail> {
+    let mut words = [3u8, 18, 1, 42];
+    is_written(&rt, &mut words.to_vec(rt.alloc())?);
+    let mut marked = Marked {
+        first: 7,
+        words: words.to_vec(rt.alloc())?,
+        last: 9,
+    };
+    is_written(&rt, &mut marked);
+    assert_eq!(rt; (marked.first, marked.last), (7, 9));
+    let mut copy = words;
+    let mut array: &mut [u8; 4] = &mut copy;
+    is_written(&rt, &mut array);
+    let mut slice: &mut [u8] = &mut words;
+    is_written(&rt, &mut slice);
+    Ok(())
+}

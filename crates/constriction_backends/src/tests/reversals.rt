@@ -1,0 +1,80 @@
+//! Backends that are read in the other order, and cursors that are turned round.
+
+use crate::buf::SafeBufMut;
+use crate::cursor::Cursor;
+use crate::error::BoundedWriteError;
+use crate::read::{BoundedReadWords, ReadWords};
+use crate::reverse::Reverse;
+use crate::tests::marked::Marked;
+use crate::write::{BoundedWriteWords, WriteWords};
+use constriction_words::{Pos, Queue, Seek, Stack};
+use std::process::Abort;
+use std::test::Fail;
+
+/// A cursor of 1, 2, 3 is turned round at 2, and back.
+fn turns_round<Buf: SafeBufMut<u8> + Drop>(rt: &impl Abort, mut cursor: Cursor<u8, Buf>) {
+    assert_eq!(rt; cursor.seek(2), Ok(()));
+    let turned = cursor.into_reversed();
+    assert_eq!(rt; turned.0.buf().words(), [3, 2, 1].as_slice());
+    assert_eq!(rt; turned.pos(), 1);
+    assert_eq!(rt; turned.space_left(), 1);
+    let cursor = turned.into_reversed();
+    assert_eq!(rt; cursor.buf().words(), [1, 2, 3].as_slice());
+    assert_eq!(rt; cursor.pos(), 2);
+    let mut turned = cursor.into_reversed();
+    assert_eq!(rt; BoundedReadWords::<u8, Stack>::remaining(&turned), 2);
+    assert_eq!(rt; BoundedReadWords::<u8, Queue>::remaining(&turned), 1);
+    for expected in [Some(2), Some(1), None] {
+        assert_eq!(rt; ReadWords::<u8, Stack>::read(&mut turned), Ok(expected));
+    }
+    assert!(rt; ReadWords::<u8, Stack>::maybe_exhausted(&turned));
+    assert!(rt; BoundedReadWords::<u8, Stack>::is_exhausted(&turned));
+    let cursor = turned.into_reversed();
+    assert_eq!(rt; cursor.buf().words(), [1, 2, 3].as_slice());
+    assert_eq!(rt; cursor.pos(), 0);
+}
+
+#[test]
+fn a_cursor_is_turned_round(rt: HostRuntime) -> Result<(), Fail> {
+    let mut words = [1u8, 2, 3];
+    let vec = words.to_vec(rt.alloc())?;
+    turns_round(&rt, Cursor::new_at_write_beginning(vec));
+    let marked = Marked {
+        first: 7,
+        words: words.to_vec(rt.alloc())?,
+        last: 9,
+    };
+    turns_round(&rt, Cursor::new_at_write_beginning(marked));
+    let mut copy = words;
+    let array: &mut [u8; 3] = &mut copy;
+    turns_round(&rt, Cursor::<u8, &mut [u8; 3]>::new_at_write_beginning(array));
+    let slice: &mut [u8] = &mut words;
+    turns_round(&rt, Cursor::<u8, &mut [u8]>::new_at_write_beginning(slice));
+    assert_eq!(rt; words.as_slice(), [1, 2, 3].as_slice());
+    Ok(())
+}
+
+#[test]
+fn a_turned_cursor_is_written_downwards(rt: HostRuntime) -> Result<(), Fail> {
+    let vec = [1u8, 2, 3].to_vec(rt.alloc())?;
+    let mut reversed = Reverse(Cursor::<u8, _>::new_at_write_beginning(vec));
+    assert_eq!(rt; reversed.space_left(), 0);
+    assert!(rt; reversed.is_full());
+    assert!(rt; reversed.maybe_full());
+    assert_eq!(rt; reversed.write(7), Err(BoundedWriteError::OutOfSpace));
+    assert_eq!(rt; reversed.0.buf().as_slice(), [1, 2, 3].as_slice());
+    assert_eq!(rt; reversed.seek(4), Err(()));
+    assert_eq!(rt; reversed.seek(2), Ok(()));
+    assert_eq!(rt; reversed.space_left(), 2);
+    assert_eq!(rt; reversed.write(8), Ok(()));
+    assert_eq!(rt; reversed.write(9), Ok(()));
+    assert_eq!(rt; reversed.0.buf().as_slice(), [9, 8, 3].as_slice());
+    assert_eq!(rt; reversed.pos(), 0);
+    assert_eq!(rt; reversed.seek(2), Ok(()));
+    assert_eq!(rt;
+        reversed.extend_from_iter([4u8, 5, 6].iter().copied()),
+        Err(BoundedWriteError::OutOfSpace)
+    );
+    assert_eq!(rt; reversed.0.buf().as_slice(), [5, 4, 3].as_slice());
+    Ok(())
+}
