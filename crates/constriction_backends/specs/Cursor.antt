@@ -1,5 +1,5 @@
 -- What the contracts of a cursor name: its buffer, its position and its state.
-use Rattle.std.specs.Prelude.{◌≡◌, ℕ, length, ◌<◌, ◌≤◌, ◌⊎◌}
+use Rattle.std.specs.Prelude.{◌≡◌, ℕ, length, ◌<◌, ◌≤◌, ◌⊎◌, Result, MatchResult}
 use Rattle.std.proofs.Common.{arith, ap, ◌∙◌, inl, inr}
 use Rattle.std.proofs.lemmas.Bool.{cases_lt}
 use Rattle.std.proofs.Math.Bridge.{le_prop}
@@ -17,6 +17,13 @@ module _ {W B : Type 0} {g : Ghosts B W} (c : Cursor W B g) where
   -- the words of the buffer, cut at the position
   abbrev pub state_of : State W
   state_of = state (g.words_of c.buf) c.pos
+
+  -- A seek to a position: the words stay, and the position is the new one; or it is past the words, and nothing changes.
+  abbrev pub SeeksTo : ℕ → Result (Unit {0}) (Unit {0}) → Cursor W B g → Type 0
+  SeeksTo pos r t =
+      MatchResult r
+      (λ _. (pos ≤ length (g.words_of c.buf)) × (t.buf ≡ c.buf) × (t.pos ≡ pos))
+      (λ _. (length (g.words_of c.buf) < pos) × (t ≡ c))
 
   module _ (b : B) where
     abbrev over_if : (length (g.words_of b) < c.pos) ⊎ (c.pos ≤ length (g.words_of b)) → Cursor W B g

@@ -53,7 +53,7 @@ impl<Word> SafeBuf<Word> for Vec<Word> {
 
     #[inline]
     fn words(&self) -> &[Word] {
-        self.as_slice()
+        &self[..]
     }
 }
 
@@ -97,7 +97,7 @@ impl<Word, const N: usize> SafeBuf<Word> for &[Word; N] {
 
     #[inline]
     fn words(&self) -> &[Word] {
-        *self
+        self.as_slice()
     }
 }
 
@@ -132,7 +132,7 @@ impl<Word, const N: usize> SafeBuf<Word> for &mut [Word; N] {
 
     #[inline]
     fn words(&self) -> &[Word] {
-        &**self
+        self.as_slice()
     }
 }
 

@@ -2,9 +2,11 @@
 
 ghost use Rattle.std.specs.Prelude.{◌≤◌, length};
 
+mod bounds;
 mod lend;
 mod new;
 mod parts;
+mod position;
 mod read;
 mod reversed;
 mod seek;

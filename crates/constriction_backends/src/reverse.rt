@@ -21,12 +21,12 @@ impl<Word, Backend: ReadWords<Word, Stack>> ReadWords<Word, Queue> for Reverse<B
 
     #[inline]
     fn read(&mut self) -> Result<Option<Word>, Backend::ReadError> {
-        self.0.read()
+        ReadWords::<Word, Stack>::read(&mut self.0)
     }
 
     #[inline]
     fn maybe_exhausted(&self) -> bool {
-        self.0.maybe_exhausted()
+        ReadWords::<Word, Stack>::maybe_exhausted(&self.0)
     }
 
     ghost reads_told = { λ s r t. Backend.reads_told s.0 r t.0 };
@@ -43,32 +43,31 @@ impl<Word, Backend: ReadWords<Word, Queue>> ReadWords<Word, Stack> for Reverse<B
 
     #[inline]
     fn read(&mut self) -> Result<Option<Word>, Backend::ReadError> {
-        self.0.read()
+        ReadWords::<Word, Queue>::read(&mut self.0)
     }
 
     #[inline]
     fn maybe_exhausted(&self) -> bool {
-        self.0.maybe_exhausted()
+        ReadWords::<Word, Queue>::maybe_exhausted(&self.0)
     }
 
     ghost reads_told = { λ s r t. Backend.reads_told s.0 r t.0 };
 }
 
 impl<Word, Backend: BoundedReadWords<Word, Stack>> BoundedReadWords<Word, Queue>
-    for Reverse<Backend>
-{
+    for Reverse<Backend> {
     ghost items_left = { λ s. Backend.items_left s.0 };
 
     ghost is_exact = { λ s. Backend.is_exact s.0 };
 
     #[inline]
     fn remaining(&self) -> usize {
-        self.0.remaining()
+        BoundedReadWords::<Word, Stack>::remaining(&self.0)
     }
 
     #[inline]
     fn is_exhausted(&self) -> bool {
-        self.0.is_exhausted()
+        BoundedReadWords::<Word, Stack>::is_exhausted(&self.0)
     }
 
     ghost counts_reads = { λ s r t. Backend.counts_reads s.0 r t.0 };
@@ -77,20 +76,19 @@ impl<Word, Backend: BoundedReadWords<Word, Stack>> BoundedReadWords<Word, Queue>
 }
 
 impl<Word, Backend: BoundedReadWords<Word, Queue>> BoundedReadWords<Word, Stack>
-    for Reverse<Backend>
-{
+    for Reverse<Backend> {
     ghost items_left = { λ s. Backend.items_left s.0 };
 
     ghost is_exact = { λ s. Backend.is_exact s.0 };
 
     #[inline]
     fn remaining(&self) -> usize {
-        self.0.remaining()
+        BoundedReadWords::<Word, Queue>::remaining(&self.0)
     }
 
     #[inline]
     fn is_exhausted(&self) -> bool {
-        self.0.is_exhausted()
+        BoundedReadWords::<Word, Queue>::is_exhausted(&self.0)
     }
 
     ghost counts_reads = { λ s r t. Backend.counts_reads s.0 r t.0 };

@@ -58,7 +58,7 @@ impl<Word, Buf: SafeBufMut<Word>> Cursor<Word, Buf> {
     {
         let pos = self.pos;
         Cursor {
-            buf: self.buf.words_mut(),
+            buf: self.buf_mut(),
             pos,
             phantom: PhantomData,
         }

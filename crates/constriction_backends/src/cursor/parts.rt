@@ -50,7 +50,11 @@ impl<Word, Buf: SafeBuf<Word>> Cursor<Word, Buf> {
     pub fn into_buf_and_pos(self) -> (Buf, usize)
         ensures { result ≡ (buf_of self, pos_of self) }
     {
-        let Cursor { buf, pos, phantom: _ } = self;
+        let Cursor {
+            buf,
+            pos,
+            phantom: _,
+        } = self;
         (buf, pos)
     }
 }

@@ -1,30 +1,13 @@
-//! The position of a cursor, and going to another one.
+//! Moving a cursor to a position.
 
-ghost use Rattle.std.specs.Prelude.{◌≡◌, ◌<◌, ◌≤◌, length, MatchResult};
-ghost use Rattle.constriction_backends.specs.Cursor.{buf_of, pos_of};
+ghost use Rattle.constriction_backends.specs.Cursor.{SeeksTo};
 
 use crate::buf::SafeBuf;
 use crate::cursor::Cursor;
-use constriction_words::{Pos, PosSeek, Seek};
-
-impl<Word, Buf: SafeBuf<Word>> PosSeek for Cursor<Word, Buf> {
-    type Position = usize;
-
-    ghost position = { pos_of };
-}
-
-impl<Word, Buf: SafeBuf<Word>> Pos for Cursor<Word, Buf> {
-    #[inline]
-    fn pos(&self) -> usize {
-        self.pos
-    }
-}
+use constriction_words::Seek;
 
 impl<Word, Buf: SafeBuf<Word>> Seek for Cursor<Word, Buf> {
-    // The words stay. A position past them is refused.
-    ghost seek_gives = { λ s pos r t. MatchResult r
-        (λ _. (pos ≤ length (Buf.words_of (buf_of s))) × (buf_of t ≡ buf_of s) × (pos_of t ≡ pos))
-        (λ _. (length (Buf.words_of (buf_of s)) < pos) × (t ≡ s)) };
+    ghost seek_gives = { SeeksTo };
 
     #[inline]
     fn seek(&mut self, pos: usize) -> Result<(), ()> {

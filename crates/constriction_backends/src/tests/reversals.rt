@@ -47,7 +47,10 @@ fn a_cursor_is_turned_round(rt: HostRuntime) -> Result<(), Fail> {
     turns_round(&rt, Cursor::new_at_write_beginning(marked));
     let mut copy = words;
     let array: &mut [u8; 3] = &mut copy;
-    turns_round(&rt, Cursor::<u8, &mut [u8; 3]>::new_at_write_beginning(array));
+    turns_round(
+        &rt,
+        Cursor::<u8, &mut [u8; 3]>::new_at_write_beginning(array),
+    );
     let slice: &mut [u8] = &mut words;
     turns_round(&rt, Cursor::<u8, &mut [u8]>::new_at_write_beginning(slice));
     assert_eq!(rt; words.as_slice(), [1, 2, 3].as_slice());

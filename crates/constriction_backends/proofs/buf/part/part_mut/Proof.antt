@@ -77,7 +77,7 @@ part_mut_spec 𝓤 𝓛 𝓜 𝓡 wired X Y LX LY gm dm g d metm met =
     let z : W.Ghost = ((κs, qs, bounds, a, vss), tt) in
     let y : k.Ghost = (((κ, (κB, (κW, tt))), (q, (qB, (qW, tt))), (bounds.0, (bounds.1.0, tt)), (self, tt), (mut_vals self, tt)), tt) in
     qed 𝓛 (((‵ (flft κ q) ⊛ ‵ (flft κW qW) ⊛ ‵ (flft κB qB) ⊛ ‵ ftrue) ⊛ ‵ (owns (MutRef (named 0) κ B ∷ usize ∷ usize ∷ []) a vss)) ∷
-        (raw (fact 𝓤 (κW ⊑ X.lives)) ⊛ raw (fact 𝓤 (κB ⊑ Y.lives)) ⊛ raw (fact 𝓤 ((m ≤ t) × (t ≤ length (g.words_of old))))) ∷ []) ∵
+    (raw (fact 𝓤 (κW ⊑ X.lives)) ⊛ raw (fact 𝓤 (κB ⊑ Y.lives)) ⊛ raw (fact 𝓤 ((m ≤ t) × (t ≤ length (g.words_of old))))) ∷ []) ∵
     split ! $ move ! (2 ∷ []) $ split3 ! $ heard ! _ (λ lw. heard ! _ (λ lb. heard ! _ (λ le.
     enter ! _ _ _ _ _ $ alloc_all ! (λ l. pass_all ! refl ((tt, tt), ((tt, record { fits = fm }), ((tt, record { fits = ft }), tt))) $
     sets ! (addr ! (through ! refl (stop !))) refl (tt, tt) $

@@ -3,6 +3,7 @@ use Rattle.constriction_backends.specs.Cursor.{over_in_range}
 use Rattle.constriction_backends.proofs.cursor.Cursor.buf_mut.Goals as goal
 
 pub returns : goal.returns
-returns g c =
-    ((refl, λ w. over_in_range c.args.self.now (g.Buf.SafeBufMut.with_words c.args.self.now.buf w) _)
-    , record { writes_back = tt; value = c.words_mut.ensures.value })
+returns g c = (
+  (refl, λ w. over_in_range c.args.self.now (g.Buf.SafeBufMut.with_words c.args.self.now.buf w) _),
+  record { writes_back = tt; value = c.words_mut.ensures.value },
+)

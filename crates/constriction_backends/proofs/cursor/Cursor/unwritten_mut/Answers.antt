@@ -13,6 +13,7 @@ returns g c =
     let value : c.part_mut.result.now ≡ drop self.pos words = c.part_mut.ensures.value ∙ part-end words self.pos to end in
     let behind : length c.part_mut.result.now ≡ length words - self.pos = ap length value ∙ length-drop self.pos words in
     let in_range = self.in_range in
-    let len : self.pos + length c.part_mut.result.now ≡ length words = omega arith in
-    ((refl, λ w. over_known self _ _ (ap (g.Buf.SafeBufMut.with_words self.buf) (with_part-end words self.pos to w end)) _)
-    , record { writes_back = tt; value = value; len = len })
+    let len : self.pos + length c.part_mut.result.now ≡ length words = omega arith in (
+      (refl, λ w. over_known self _ _ (ap (g.Buf.SafeBufMut.with_words self.buf) (with_part-end words self.pos to w end)) _),
+      record { writes_back = tt; value = value; len = len },
+    )

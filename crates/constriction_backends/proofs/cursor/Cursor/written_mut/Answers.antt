@@ -8,6 +8,7 @@ pub returns : goal.returns
 returns g c =
     let self = c.args.self.now in
     let words = g.Buf.SafeBuf.words_of self.buf in
-    let value : c.part_mut.result.now ≡ take self.pos words = c.part_mut.ensures.value ∙ part-begin words self.pos in
-    ((refl, λ w. over_in_range self (g.Buf.SafeBufMut.with_words self.buf (w ++ drop self.pos words)) _)
-    , record { writes_back = tt; value = value; len = ap length value ∙ length-take-le self.pos words self.in_range })
+    let value : c.part_mut.result.now ≡ take self.pos words = c.part_mut.ensures.value ∙ part-begin words self.pos in (
+      (refl, λ w. over_in_range self (g.Buf.SafeBufMut.with_words self.buf (w ++ drop self.pos words)) _),
+      record { writes_back = tt; value = value; len = ap length value ∙ length-take-le self.pos words self.in_range },
+    )

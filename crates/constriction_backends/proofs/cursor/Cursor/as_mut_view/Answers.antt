@@ -1,8 +1,0 @@
-use Rattle.std.proofs.Common.{refl}
-use Rattle.constriction_backends.specs.Cursor.{over_in_range}
-use Rattle.constriction_backends.proofs.cursor.Cursor.as_mut_view.Goals as goal
-
-pub returns : goal.returns
-returns g c =
-    ((refl, λ w. over_in_range c.args.self.now (g.Buf.SafeBufMut.with_words c.args.self.now.buf w) _)
-    , record { writes_back = tt; value = c.words_mut.ensures.value; pos = refl })
