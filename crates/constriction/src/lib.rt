@@ -11,7 +11,8 @@
 pub mod backends;
 pub mod stream;
 
+pub use constriction_backends::{Pos, PosSeek, Seek};
 pub use constriction_words::{
-    BitArray, CoderError, DefaultEncoderFrontendError, IndexWord, NanError, NonZeroBitArray, Pos,
-    PosSeek, Queue, Seek, Semantics, Stack, UnwrapInfallible,
+    BitArray, CoderError, DefaultEncoderFrontendError, IndexWord, NanError, NonZeroBitArray, Queue,
+    Semantics, Stack, UnwrapInfallible,
 };

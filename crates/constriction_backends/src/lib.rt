@@ -7,6 +7,7 @@
 
 mod buf;
 mod error;
+mod position;
 mod read;
 #[cfg(test)]
 mod tests;
@@ -15,6 +16,7 @@ mod write;
 
 pub use crate::buf::SafeBuf;
 pub use crate::error::BoundedWriteError;
+pub use crate::position::{Pos, PosSeek, Seek};
 pub use crate::read::{BoundedReadWords, ReadWords};
 pub use crate::write::{BoundedWriteWords, WriteWords};
 pub use constriction_words::ReadWriteError;

@@ -1,5 +1,7 @@
 //! The calls of sources, sinks and buffers, at their types and through their bounds.
 
+mod positions;
+
 ghost use Rattle.std.specs.Prelude.{◌≡◌, Err, Ok, MatchResult, ◌<◌, ◌≤◌};
 
 use crate::buf::SafeBuf;
