@@ -9,6 +9,7 @@ mod buf;
 mod error;
 mod position;
 mod read;
+mod small_vec;
 #[cfg(test)]
 mod tests;
 mod vec;
