@@ -7,6 +7,7 @@
 
 mod buf;
 mod error;
+pub mod laws;
 mod position;
 mod read;
 mod small_vec;
