@@ -4,6 +4,7 @@ ghost use Rattle.std.specs.Prelude.{◌≡◌, ◌+◌, ◌<◌};
 
 use crate::coder_error::{CoderError, DefaultEncoderFrontendError, NanError};
 use crate::infallible::UnwrapInfallible;
+use crate::read_write_error::ReadWriteError;
 use crate::semantics::{Queue, Semantics, Stack};
 use std::convert::Infallible;
 use std::error::Error;
@@ -95,4 +96,20 @@ fn what_cannot_fail_is_unwrapped(rt: HostRuntime) {
     assert_eq!(rt; plain.unwrap_infallible(), 7);
     let nested: Result<u8, CoderError<CoderError<Infallible, Infallible>, Infallible>> = Ok(8);
     assert_eq!(rt; nested.unwrap_infallible(), 8);
+    let both: Result<u8, ReadWriteError<Infallible, Infallible>> = Ok(9);
+    assert_eq!(rt; both.unwrap_infallible(), 9);
+}
+
+#[test]
+fn a_failed_read_is_no_failed_write(rt: HostRuntime) -> Result<(), Fail> {
+    let read: ReadWriteError<u8, u8> = ReadWriteError::Read(3);
+    let copied = read;
+    assert_eq!(rt; copied, read.clone()?);
+    assert!(rt; read != ReadWriteError::Read(4));
+    assert!(rt; read != ReadWriteError::Write(3));
+    assert_eq!(rt;
+        format!(in rt.alloc(); "{read:?} {:?}", ReadWriteError::<u8, u8>::Write(4))?.as_str(),
+        "Read(3) Write(4)"
+    );
+    Ok(())
 }
