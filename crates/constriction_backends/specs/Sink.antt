@@ -12,6 +12,14 @@ WritesTold tells ws w r t = MatchResult r (λ _. tells t (ws ++ w ∷ [])) (λ _
 abbrev pub CountsWrite : {E : Type 0} → ℕ → Result (Unit {0}) E → ℕ → Type 0
 CountsWrite m r n = MatchResult r (λ _. m ≡ n + 1) (λ _. (m ≡ 0) × (n ≡ 0))
 
+-- The items of an iterator were written where m places were free before and n are free after: all of them, each into a free place; or as
+-- many as there were places, and there was one more.
+abbrev pub CountsExtend : {I W E : Type 0} → (I → Option W → I → Type 0) → ℕ → I → Result (Unit {0}) E → ℕ → Type 0
+CountsExtend {I} {W} next m items r n =
+    MatchResult r
+    (λ _. (ws : List W) × Drains next items ws × (m ≡ length ws + n))
+    (λ _. (ws : List W) × (w : W) × (rest : I) × YieldsThen next items ws (Some w) rest × (m ≡ length ws) × (n ≡ 0))
+
 module _ {S W E : Type 0} (gives : S → W → Result (Unit {0}) E → S → Type 0) where
   -- writes in order from s, each of which succeeded, lead to t
   abbrev pub Writes : S → List W → S → Type 0
@@ -39,14 +47,6 @@ module _ {S W E : Type 0} (gives : S → W → Result (Unit {0}) E → S → Typ
   writes_told_all tells law s (w ∷ ws) t p old h =
       subst (λ (ys : List W). tells t ys) (append_assoc old (w ∷ []) ws)
       (writes_told_all tells law p.0 ws t p.2 (old ++ w ∷ []) (law s w (Ok tt) p.0 p.1 old h))
-
-  -- The items of an iterator were written where m places were free before and n are free after: all of them, each into a free place; or as
-  -- many as there were places, and there was one more.
-  abbrev pub CountsExtend : {I : Type 0} → (I → Option W → I → Type 0) → ℕ → I → Result (Unit {0}) E → ℕ → Type 0
-  CountsExtend {I} next m items r n =
-      MatchResult r
-      (λ _. (ws : List W) × Drains next items ws × (m ≡ length ws + n))
-      (λ _. (ws : List W) × (w : W) × (rest : I) × YieldsThen next items ws (Some w) rest × (m ≡ length ws) × (n ≡ 0))
 
   module _ (places : S → ℕ) (law : (s : S) (w : W) (r : Result (Unit {0}) E) (t : S) → gives s w r t → CountsWrite (places s) r (places t)) where
     -- writes that all succeeded took a free place each

@@ -1,5 +1,5 @@
 -- What a source of words answers. `tells s ws` says that the words ws are still to come from s.
-use Rattle.std.specs.Prelude.{◌≡◌, ◌≢◌, ℕ, ◌+◌, List, [], ◌∷◌, Option, Result, MatchResult, MatchOption}
+use Rattle.std.specs.Prelude.{◌≡◌, ◌≢◌, ◌↔◌, ℕ, ◌+◌, ◌≤◌, List, [], ◌∷◌, Option, Some, None, Result, Ok, MatchResult, MatchOption, slice_get}
 
 -- A read where the words ws were to come: the first word, and the rest is left; or nothing, where nothing was to come; or an error,
 -- where there was a word, which is still to come.
@@ -12,3 +12,17 @@ ReadsTold {S} {W} tells ws r t =
 -- A read where m items were left before it and n are left after it: one less, or none was left and none is.
 abbrev pub CountsRead : {W E : Type 0} → ℕ → Result (Option W) E → ℕ → Type 0
 CountsRead m r n = MatchResult r (λ o. MatchOption o ((m ≡ 0) × (n ≡ 0)) (λ _. m ≡ n + 1)) (λ _. m ≡ n + 1)
+
+-- reads in a row from s gave these answers and led to t; `gives s r t` says that a read of s may answer r and leave t
+abbrev pub Reads : {S W E : Type 0} → (S → Result (Option W) E → S → Type 0) → S → List (Result (Option W) E) → S → Type 0
+Reads gives s [] t = s ≡ t
+Reads {S} gives s (r ∷ rs) t = (j : S) × gives s r j × Reads gives j rs t
+
+-- exactly the first n of the answers are items: words, or errors in their place
+abbrev pub HasItems : {W E : Type 0} → ℕ → List (Result (Option W) E) → Type 0
+HasItems {W} {E} n answers = (k : ℕ) (r : Result (Option W) E) → slice_get answers k ≡ Some r → (r ≡ Ok None) ↔ (n ≤ k)
+
+-- where the count of the items that are left is right, reads in a row give so many items, and then answer that there is none
+abbrev pub RemainingCounts : {S W E : Type 0} → (S → Result (Option W) E → S → Type 0) → (S → ℕ) → (S → Type 0) → Type 0
+RemainingCounts {S} {W} {E} gives left exact =
+    (s : S) (answers : List (Result (Option W) E)) (t : S) → exact s → Reads gives s answers t → HasItems (left s) answers

@@ -1,5 +1,5 @@
 -- A `Vec` with other items in it, as many as it has.
-use Rattle.std.specs.Prelude.{◌≡◌, ℕ, List, ◌++◌, ◌≤◌, length, take, drop}
+use Rattle.std.specs.Prelude.{◌≡◌, List, ◌≤◌, length}
 use Rattle.std.specs.Vec.{with_items}
 use Rattle.std.specs.declared.vec.Vec.{Vec}
 use Rattle.std.proofs.Common.{sym, ap, ◌∙◌, refl, subst}

@@ -8,8 +8,10 @@
 mod buf;
 mod cursor;
 mod error;
+pub mod laws;
 mod read;
 mod reverse;
+mod small_vec;
 #[cfg(test)]
 mod tests;
 mod vec;

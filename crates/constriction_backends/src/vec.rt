@@ -1,9 +1,10 @@
 //! `Vec` as a stack: a write pushes, and a read pops.
 
-ghost use Rattle.std.specs.Prelude.{◌≡◌, ◌↔◌, [], ⊤, false, reverse, IsTrue};
-ghost use Rattle.constriction_backends.specs.Stack.{Pops, Pushes, Pops-told, Pushes-told};
+ghost use Rattle.std.specs.Prelude.{◌≡◌, ◌↔◌, ◌<◌, ◌≤◌, [], ⊤, false, reverse, length, IsTrue, IsOk, vec_capacity};
+ghost use Rattle.constriction_backends.specs.Stack.{Pops, Pushes};
+ghost use Rattle.constriction_backends.specs.Stack.{Pops-told, Pops-counted, Pushes-told, tells_all};
 
-use crate::read::ReadWords;
+use crate::read::{BoundedReadWords, ReadWords};
 use crate::write::WriteWords;
 use constriction_words::Stack;
 use std::alloc::AllocError;
@@ -31,6 +32,19 @@ impl<Word> ReadWords<Word, Stack> for Vec<Word> {
     ghost reads_told = { Pops-told (λ s. s.items) };
 }
 
+impl<Word> BoundedReadWords<Word, Stack> for Vec<Word> {
+    ghost items_left = { λ s. length s.items };
+
+    #[inline]
+    fn remaining(&self) -> usize {
+        self.len()
+    }
+
+    ghost counts_reads = { Pops-counted (λ s. s.items) };
+
+    ghost counts_told = { tells_all (λ s. s.items) };
+}
+
 impl<Word: Drop> WriteWords<Word> for Vec<Word> {
     type WriteError = AllocError;
 
@@ -41,7 +55,14 @@ impl<Word: Drop> WriteWords<Word> for Vec<Word> {
     ghost has_room = { λ _. ⊤ };
 
     #[inline]
-    fn write(&mut self, word: Word) -> Result<(), AllocError> {
+    fn write(&mut self, word: Word) -> Result<(), AllocError>
+        ensures gives { Pushes self.old.items word result self.new.items }
+        ensures goes_on { ⊤ }
+
+        // Memory is asked for only where the capacity is used up.
+        ensures succeeds { length self.old.items < vec_capacity self.old → IsOk result }
+        ensures capacity { vec_capacity self.old ≤ vec_capacity self.new }
+    {
         self.push(word)?;
         Ok(())
     }

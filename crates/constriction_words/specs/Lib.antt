@@ -1,2 +1,3 @@
 pub mod CoderError
+pub mod Rewinding
 pub mod Word

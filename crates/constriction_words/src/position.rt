@@ -2,6 +2,9 @@
 
 ghost use Rattle.std.specs.Prelude.{◌≡◌, Result, OnOk, OnErr};
 
+mod small_vec;
+mod vec;
+
 /// A source or a sink that stands at a position.
 pub trait PosSeek {
     /// What a position is. It says where a source stands, and nothing of which source it was.

@@ -81,3 +81,18 @@ fn a_turned_cursor_is_written_downwards(rt: HostRuntime) -> Result<(), Fail> {
     assert_eq!(rt; reversed.0.buf().as_slice(), [5, 4, 3].as_slice());
     Ok(())
 }
+
+#[test]
+fn a_reversed_stack_is_a_queue(rt: HostRuntime) -> Result<(), Fail> {
+    let mut reversed = Reverse([1u8, 2, 3].to_vec(rt.alloc())?);
+    assert_eq!(rt; BoundedReadWords::<u8, Queue>::remaining(&reversed), 3);
+    assert!(rt; !ReadWords::<u8, Queue>::maybe_exhausted(&reversed));
+    assert_eq!(rt; ReadWords::<u8, Queue>::read(&mut reversed), Ok(Some(3)));
+    assert_eq!(rt; BoundedReadWords::<u8, Queue>::remaining(&reversed), 2);
+    assert!(rt; !BoundedReadWords::<u8, Queue>::is_exhausted(&reversed));
+    assert_eq!(rt; reversed.pos(), 2);
+    assert_eq!(rt; reversed.seek(0), Ok(()));
+    assert_eq!(rt; reversed.seek(1), Err(()));
+    assert_eq!(rt; ReadWords::<u8, Queue>::read(&mut reversed), Ok(None));
+    Ok(())
+}

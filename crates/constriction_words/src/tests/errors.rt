@@ -1,10 +1,10 @@
-//! Errors, markers and positions: texts, derives, and calls through a bound.
+//! Errors and markers: texts, derives, and calls through a bound.
 
-ghost use Rattle.std.specs.Prelude.{◌≡◌, ◌+◌, ◌<◌, ◌≤◌, MatchResult};
+ghost use Rattle.std.specs.Prelude.{◌≡◌, ◌+◌, ◌<◌};
 
 use crate::coder_error::{CoderError, DefaultEncoderFrontendError, NanError};
 use crate::infallible::UnwrapInfallible;
-use crate::position::{Pos, PosSeek, Seek};
+use crate::read_write_error::ReadWriteError;
 use crate::semantics::{Queue, Semantics, Stack};
 use std::convert::Infallible;
 use std::error::Error;
@@ -96,51 +96,20 @@ fn what_cannot_fail_is_unwrapped(rt: HostRuntime) {
     assert_eq!(rt; plain.unwrap_infallible(), 7);
     let nested: Result<u8, CoderError<CoderError<Infallible, Infallible>, Infallible>> = Ok(8);
     assert_eq!(rt; nested.unwrap_infallible(), 8);
-}
-
-/// A place on a line of ten steps.
-#[derive(Drop, PartialEq)]
-struct Place {
-    at: usize,
-}
-
-impl PosSeek for Place {
-    type Position = usize;
-
-    ghost position = { λ place. place.at };
-}
-
-impl Pos for Place {
-    fn pos(&self) -> usize {
-        self.at
-    }
-}
-
-impl Seek for Place {
-    ghost seek_gives = { λ _ pos r _. MatchResult r (λ _. pos ≤ 10) (λ _. 10 < pos) };
-
-    fn seek(&mut self, pos: usize) -> Result<(), ()> {
-        if pos > 10 {
-            return Err(());
-        }
-        self.at = pos;
-        Ok(())
-    }
-}
-
-fn there_and_back<P: Pos + Seek>(place: &mut P, to: P::Position) -> Result<(), ()> {
-    let from = place.pos();
-    place.seek(to)?;
-    place.seek(from)
+    let both: Result<u8, ReadWriteError<Infallible, Infallible>> = Ok(9);
+    assert_eq!(rt; both.unwrap_infallible(), 9);
 }
 
 #[test]
-fn a_position_is_sought_back(rt: HostRuntime) {
-    let mut place = Place { at: 3 };
-    assert_eq!(rt; place.seek(11), Err(()));
-    assert_eq!(rt; place.pos(), 3);
-    assert_eq!(rt; there_and_back(&mut place, 10), Ok(()));
-    assert_eq!(rt; place.pos(), 3);
-    assert_eq!(rt; place.seek(10), Ok(()));
-    assert_eq!(rt; place.pos(), 10);
+fn a_failed_read_is_no_failed_write(rt: HostRuntime) -> Result<(), Fail> {
+    let read: ReadWriteError<u8, u8> = ReadWriteError::Read(3);
+    let copied = read;
+    assert_eq!(rt; copied, read.clone()?);
+    assert!(rt; read != ReadWriteError::Read(4));
+    assert!(rt; read != ReadWriteError::Write(3));
+    assert_eq!(rt;
+        format!(in rt.alloc(); "{read:?} {:?}", ReadWriteError::<u8, u8>::Write(4))?.as_str(),
+        "Read(3) Write(4)"
+    );
+    Ok(())
 }

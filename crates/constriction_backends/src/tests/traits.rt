@@ -1,0 +1,177 @@
+//! Default answers, at sources and sinks of a caller's own.
+
+ghost use Rattle.std.specs.Prelude.{◌≡◌, ◌<◌, ◌≤◌, Err, MatchResult};
+ghost use Rattle.constriction_backends.specs.Source.{CountsRead};
+ghost use Rattle.constriction_backends.specs.Sink.{CountsWrite};
+
+use crate::error::BoundedWriteError;
+use crate::laws;
+use crate::read::{BoundedReadWords, ReadWords};
+use crate::write::{BoundedWriteWords, WriteWords};
+use constriction_words::{Queue, Stack};
+use std::convert::Infallible;
+
+/// A source that keeps the default answers.
+#[derive(Drop)]
+struct Endless;
+
+impl ReadWords<u8, Stack> for Endless {
+    type ReadError = u8;
+
+    ghost read_gives = { λ _ r _. r ≡ Err 7 };
+
+    fn read(&mut self) -> Result<Option<u8>, u8> {
+        Err(7)
+    }
+
+    ghost reads_told = { λ s r t h words told. absurd told };
+}
+
+/// A sink that keeps the default answers, and refuses what is above 9.
+#[derive(Drop)]
+struct Small {
+    last: u8,
+}
+
+impl WriteWords<u8> for Small {
+    type WriteError = u8;
+
+    ghost write_gives = { λ s word r t. MatchResult r (λ _. (word ≤ 9) × (t.last ≡ word)) (λ e. (9 < word) × (e ≡ word) × (t.last ≡ s.last)) };
+
+    fn write(&mut self, word: u8) -> Result<(), u8> {
+        if word > 9 {
+            return Err(word);
+        }
+        self.last = word;
+        Ok(())
+    }
+
+    ghost writes_told = { λ s word r t h words told. absurd told };
+}
+
+#[test]
+fn default_answers_say_nothing(rt: HostRuntime) {
+    let mut source = Endless;
+    assert!(rt; source.maybe_exhausted());
+    assert_eq!(rt; source.read(), Err(7));
+    let mut sink = Small { last: 0 };
+    assert!(rt; sink.maybe_full());
+    assert_eq!(rt;
+        sink.extend_from_iter([4u8, 5, 10, 6].iter().copied()),
+        Err(10)
+    );
+    assert_eq!(rt; sink.last, 5);
+}
+
+/// Words that count down to 1, and tell how many are left.
+#[derive(Drop)]
+struct Countdown {
+    left: u8,
+}
+
+impl ReadWords<u8, Queue> for Countdown {
+    type ReadError = Infallible;
+
+    ghost read_gives = { λ s r t. CountsRead s.left r t.left };
+
+    fn read(&mut self) -> Result<Option<u8>, Infallible> {
+        let word = self.left;
+        if word == 0 {
+            return Ok(None);
+        }
+        self.left = word - 1;
+        Ok(Some(word))
+    }
+
+    ghost reads_told = { λ s r t h words told. absurd told };
+}
+
+impl BoundedReadWords<u8, Queue> for Countdown {
+    ghost items_left = { λ s. s.left };
+
+    fn remaining(&self) -> usize {
+        self.left as usize
+    }
+
+    ghost counts_reads = { λ s r t exact h. (h, exact) };
+
+    ghost counts_told = { λ s exact words told. absurd told };
+}
+
+/// A sink that keeps nothing but the number of its free places.
+#[derive(Drop)]
+struct Places {
+    free: u8,
+}
+
+impl WriteWords<u8> for Places {
+    type WriteError = BoundedWriteError;
+
+    ghost write_gives = { λ s _ r t. CountsWrite s.free r t.free };
+
+    ghost has_room = { λ s. 0 < s.free };
+
+    fn write(&mut self, _word: u8) -> Result<(), BoundedWriteError> {
+        if self.free == 0 {
+            return Err(BoundedWriteError::OutOfSpace);
+        }
+        self.free -= 1;
+        Ok(())
+    }
+
+    ghost writes_told = { λ s word r t h words told. absurd told };
+}
+
+impl BoundedWriteWords<u8> for Places {
+    ghost free_places = { λ s. s.free };
+
+    fn space_left(&self) -> usize {
+        self.free as usize
+    }
+
+    ghost counts_writes = { λ s word r t h. h };
+
+    ghost room_counts = { λ s h. h };
+}
+
+#[test]
+fn a_source_is_exhausted_where_nothing_remains(rt: HostRuntime) {
+    laws::remaining_counts::<u8, Queue, Countdown>();
+    let mut source = Countdown { left: 2 };
+    for (remaining, word) in [(2, Some(2)), (1, Some(1)), (0, None), (0, None)] {
+        assert_eq!(rt; source.remaining(), remaining);
+        assert_eq!(rt; source.is_exhausted(), remaining == 0, "with {remaining}");
+        assert!(rt; source.maybe_exhausted());
+        assert_eq!(rt; source.read(), Ok(word));
+    }
+}
+
+#[test]
+fn a_sink_is_full_where_no_place_is_free(rt: HostRuntime) {
+    let mut sink = Places { free: 2 };
+    for (free, answer) in [
+        (2, Ok(())),
+        (1, Ok(())),
+        (0, Err(BoundedWriteError::OutOfSpace)),
+    ] {
+        assert_eq!(rt; sink.space_left(), free);
+        assert_eq!(rt; sink.is_full(), free == 0, "with {free}");
+        assert!(rt; sink.maybe_full());
+        assert_eq!(rt; sink.write(9), answer);
+    }
+}
+
+#[test]
+fn more_words_than_places_are_refused(rt: HostRuntime) {
+    let mut sink = Places { free: 4 };
+    assert_eq!(rt;
+        laws::extending_counts(&mut sink, [1u8, 2, 3].iter().copied()),
+        Ok(())
+    );
+    assert_eq!(rt; sink.space_left(), 1);
+    assert_eq!(rt;
+        laws::extending_counts(&mut sink, [4u8, 5].iter().copied()),
+        Err(BoundedWriteError::OutOfSpace)
+    );
+    assert_eq!(rt; sink.space_left(), 0);
+}

@@ -1,0 +1,39 @@
+//! The positions of `SmallVec`: it stands at its end, and going back drops what is behind.
+//!
+//! These stand here and not with the stack's reads and writes, since an impl stands with its trait
+//! or with its type.
+
+ghost use Rattle.std.specs.Prelude.{length};
+ghost use Rattle.constriction_words.specs.Rewinding.{Rewinds};
+
+use crate::position::{Pos, PosSeek, Seek};
+use smallvec::SmallVec;
+use std::alloc::Allocator;
+use std::default::MadeWith;
+
+impl<Word, const N: usize, A: Allocator> PosSeek for SmallVec<Word, N, A> {
+    type Position = usize;
+
+    ghost position = { λ s. length s.items };
+}
+
+impl<Word, const N: usize, A: Allocator> Pos for SmallVec<Word, N, A> {
+    #[inline]
+    fn pos(&self) -> usize {
+        self.len()
+    }
+}
+
+/// Going back drops the words behind the position, for good: there is no going forward again.
+impl<Word: MadeWith<A> + Drop, const N: usize, A: Allocator + Copy> Seek for SmallVec<Word, N, A> {
+    ghost seek_gives = { λ s pos r t. Rewinds s.items pos r t.items };
+
+    #[inline]
+    fn seek(&mut self, pos: usize) -> Result<(), ()> {
+        if pos > self.len() {
+            return Err(());
+        }
+        self.truncate(pos);
+        Ok(())
+    }
+}

@@ -1,0 +1,36 @@
+//! The positions of `Vec`: it stands at its end, and going back drops what is behind.
+//!
+//! These stand here and not with the stack's reads and writes, since an impl stands with its trait
+//! or with its type.
+
+ghost use Rattle.std.specs.Prelude.{length};
+ghost use Rattle.constriction_words.specs.Rewinding.{Rewinds};
+
+use crate::position::{Pos, PosSeek, Seek};
+
+impl<Word> PosSeek for Vec<Word> {
+    type Position = usize;
+
+    ghost position = { λ s. length s.items };
+}
+
+impl<Word> Pos for Vec<Word> {
+    #[inline]
+    fn pos(&self) -> usize {
+        self.len()
+    }
+}
+
+/// Going back drops the words behind the position, for good: there is no going forward again.
+impl<Word: Drop> Seek for Vec<Word> {
+    ghost seek_gives = { λ s pos r t. Rewinds s.items pos r t.items };
+
+    #[inline]
+    fn seek(&mut self, pos: usize) -> Result<(), ()> {
+        if pos > self.len() {
+            return Err(());
+        }
+        self.truncate(pos);
+        Ok(())
+    }
+}
