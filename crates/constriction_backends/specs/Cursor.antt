@@ -1,11 +1,11 @@
 -- What the contracts of a cursor name: its buffer, its position and its state.
-use Rattle.std.specs.Prelude.{◌≡◌, ℕ, length, ◌<◌, ◌≤◌, ◌⊎◌, Result, MatchResult}
+use Rattle.std.specs.Prelude.{◌≡◌, ℕ, List, length, slice_set, ◌<◌, ◌≤◌, ◌⊎◌, Result, MatchResult}
 use Rattle.std.proofs.Common.{arith, ap, ◌∙◌, inl, inr}
 use Rattle.std.proofs.lemmas.Bool.{cases_lt}
 use Rattle.std.proofs.Math.Bridge.{le_prop}
 use Rattle.constriction_backends.specs.declared.buf.SafeBuf.{Ghosts}
 use Rattle.constriction_backends.specs.declared.cursor.Cursor.{Cursor}
-use Rattle.constriction_backends.specs.CursorState.{State, state}
+use Rattle.constriction_backends.specs.CursorState.{State, state, Overwrites}
 
 module _ {W B : Type 0} {g : Ghosts B W} (c : Cursor W B g) where
   abbrev pub buf_of : B
@@ -24,6 +24,13 @@ module _ {W B : Type 0} {g : Ghosts B W} (c : Cursor W B g) where
       MatchResult r
       (λ _. (pos ≤ length (g.words_of c.buf)) × (t.buf ≡ c.buf) × (t.pos ≡ pos))
       (λ _. (length (g.words_of c.buf) < pos) × (t ≡ c))
+
+  -- A write of the word w, where `with_words b ws` is the buffer b with the words ws in it: the step of the state, and the buffer has the
+  -- word at the position; or the word is refused, and nothing changes.
+  abbrev pub WritesTo : {E : Type 0} → (B → List W → B) → W → Result (Unit {0}) E → Cursor W B g → Type 0
+  WritesTo with_words w r t =
+      Overwrites (state_of) w r (state (g.words_of t.buf) t.pos)
+      × MatchResult r (λ _. t.buf ≡ with_words c.buf (slice_set (g.words_of c.buf) c.pos w)) (λ _. t ≡ c)
 
   module _ (b : B) where
     abbrev over_if : (length (g.words_of b) < c.pos) ⊎ (c.pos ≤ length (g.words_of b)) → Cursor W B g

@@ -1,6 +1,7 @@
 pub mod Buffer
 pub mod Cursor
 pub mod CursorLaws
+pub mod CursorRuns
 pub mod CursorState
 pub mod Sink
 pub mod Source

@@ -6,6 +6,11 @@ ghost use Rattle.constriction_backends.specs.Source.{RemainingCounts};
 ghost use Rattle.constriction_backends.specs.Sink.{CountsExtend};
 ghost use Rattle.constriction_backends.specs.Stack.{PopsWhatWasPushed, SeeksBack};
 
+mod cursor;
+
+pub use self::cursor::{
+    extending_overwrites, reversal_reads, reversal_twice, seek_back_in_a_cursor, turned_twice,
+};
 use crate::read::{BoundedReadWords, ReadWords};
 use crate::write::{BoundedWriteWords, WriteWords};
 use constriction_words::{Semantics, Stack, UnwrapInfallible};

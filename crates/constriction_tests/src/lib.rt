@@ -2,5 +2,7 @@
 #![tactic(auto)]
 
 #[cfg(test)]
+mod lent;
+#[cfg(test)]
 mod message;
 mod own_word;

@@ -1,8 +1,7 @@
 //! A cursor as a sink: a write overwrites the word behind the position.
 
-ghost use Rattle.std.specs.Prelude.{◌≡◌, ◌<◌, ◌↔◌, ⊤, length, slice_set, IsOk, MatchResult};
-ghost use Rattle.constriction_backends.specs.Cursor.{buf_of, pos_of, state_of};
-ghost use Rattle.constriction_backends.specs.CursorState.{Overwrites};
+ghost use Rattle.std.specs.Prelude.{◌≡◌, ◌<◌, ◌↔◌, ⊤, length, IsOk};
+ghost use Rattle.constriction_backends.specs.Cursor.{buf_of, pos_of, state_of, WritesTo};
 ghost use Rattle.constriction_backends.specs.CursorLaws.{Overwrites-told, Overwrites-counts};
 
 use crate::buf::{SafeBuf, SafeBufMut};
@@ -13,16 +12,13 @@ use crate::write::{BoundedWriteWords, WriteWords};
 impl<Word: Drop, Buf: SafeBufMut<Word>> WriteWords<Word> for Cursor<Word, Buf> {
     type WriteError = BoundedWriteError;
 
-    // The step, and what became of the buffer: a refused write leaves the cursor as it was.
-    ghost write_gives = { λ s w r t. Overwrites (state_of s) w r (state_of t)
-        × MatchResult r (λ _. buf_of t ≡ Buf.with_words (buf_of s) (slice_set (Buf.words_of (buf_of s)) (pos_of s) w)) (λ _. t ≡ s) };
+    ghost write_gives = { λ s w r t. WritesTo s Buf.with_words w r t };
 
     ghost tells_written = { λ s words. (state_of s).before ≡ words };
 
     #[inline]
     fn write(&mut self, word: Word) -> Result<(), BoundedWriteError>
-        ensures gives { Overwrites (state_of self.old) word result (state_of self.new)
-            × MatchResult result (λ _. buf_of self.new ≡ Buf.with_words (buf_of self.old) (slice_set (Buf.words_of (buf_of self.old)) (pos_of self.old) word)) (λ _. self.new ≡ self.old) }
+        ensures gives { WritesTo self.old Buf.with_words word result self.new }
         ensures goes_on { ⊤ }
         ensures room { IsOk result ↔ (pos_of self.old < length (Buf.words_of (buf_of self.old))) }
         ensures kept { buf_of self.new ≡ Buf.with_words (buf_of self.old) (Buf.words_of (buf_of self.new)) }

@@ -3,6 +3,7 @@
 use crate::buf::SafeBufMut;
 use crate::cursor::Cursor;
 use crate::error::BoundedWriteError;
+use crate::laws;
 use crate::read::{BoundedReadWords, ReadWords};
 use crate::reverse::Reverse;
 use crate::tests::marked::Marked;
@@ -94,5 +95,19 @@ fn a_reversed_stack_is_a_queue(rt: HostRuntime) -> Result<(), Fail> {
     assert_eq!(rt; reversed.seek(0), Ok(()));
     assert_eq!(rt; reversed.seek(1), Err(()));
     assert_eq!(rt; ReadWords::<u8, Queue>::read(&mut reversed), Ok(None));
+    Ok(())
+}
+
+#[test]
+fn laws_of_cursors_may_be_called(rt: HostRuntime) -> Result<(), Fail> {
+    laws::reversal_twice::<u8>();
+    laws::reversal_reads::<u8, u8>();
+    laws::seek_back_in_a_cursor::<u8, Vec<u8>>();
+    laws::extending_overwrites::<u8, Vec<u8>, BoundedWriteError>();
+    let mut cursor = Cursor::<u8, _>::new_at_write_end([1u8, 2, 3].to_vec(rt.alloc())?);
+    assert_eq!(rt; cursor.seek(1), Ok(()));
+    let cursor = laws::turned_twice(cursor);
+    assert_eq!(rt; cursor.buf().as_slice(), [1, 2, 3].as_slice());
+    assert_eq!(rt; cursor.pos(), 1);
     Ok(())
 }

@@ -1,0 +1,5 @@
+use Rattle.constriction_backends.specs.CursorRuns.{reversal-twice}
+use Rattle.constriction_backends.proofs.laws.cursor.reversal_twice.Goals as goal
+
+pub returns : goal.returns
+returns g c = reversal-twice

@@ -1,0 +1,38 @@
+//! What follows from the steps of a cursor.
+
+ghost use Rattle.std.specs.Prelude.{◌≡◌};
+ghost use Rattle.constriction_backends.specs.CursorRuns.{ReversalTwice, ReversalReads, CursorSeeksBack, ExtendingOverwrites};
+
+use crate::buf::{SafeBuf, SafeBufMut};
+use crate::cursor::Cursor;
+
+/// The reversal of the reversal of a cursor's state is that state.
+pub fn reversal_twice<Word>()
+    ensures { ReversalTwice Word }
+{}
+
+/// To read a reversed state as a stack is to read the state as a queue, and the other way round. So
+/// a [`Reverse`](crate::Reverse) of a cursor reads, and tells, as the reversal of its state does.
+pub fn reversal_reads<Word, ReadError>()
+    ensures { ReversalReads Word ReadError }
+{}
+
+/// Turns a cursor round and back. It is as it was: the same buffer, at the same position.
+pub fn turned_twice<Word, Buf: SafeBufMut<Word>>(cursor: Cursor<Word, Buf>) -> Cursor<Word, Buf>
+    ensures { result ≡ cursor }
+{
+    cursor.into_reversed().into_reversed()
+}
+
+/// A position that was taken from a cursor is sought back, whatever was called in between: no call
+/// changes the number of words.
+pub fn seek_back_in_a_cursor<Word, Buf: SafeBuf<Word>>()
+    ensures { CursorSeeksBack Word Buf Buf.SafeBuf }
+{}
+
+/// Writes in a row to a cursor, as those of `extend_from_iter`: their words stand behind the words
+/// that were written before, in the places of as many others, and the buffer is the old one with
+/// other words.
+pub fn extending_overwrites<Word, Buf: SafeBufMut<Word>, WriteError>()
+    ensures { ExtendingOverwrites Word Buf Buf.SafeBuf Buf.with_words WriteError }
+{}
