@@ -5,7 +5,7 @@ use Rattle.std.proofs.lemmas.Bool.{cases_lt}
 use Rattle.std.proofs.Math.Bridge.{le_prop}
 use Rattle.constriction_backends.specs.declared.buf.SafeBuf.{Ghosts}
 use Rattle.constriction_backends.specs.declared.cursor.Cursor.{Cursor}
-use Rattle.constriction_backends.specs.CursorState.{State, state, Overwrites}
+use Rattle.constriction_backends.specs.CursorState.{State, state, reversal, Overwrites}
 
 module _ {W B : Type 0} {g : Ghosts B W} (c : Cursor W B g) where
   abbrev pub buf_of : B
@@ -31,6 +31,12 @@ module _ {W B : Type 0} {g : Ghosts B W} (c : Cursor W B g) where
   WritesTo with_words w r t =
       Overwrites (state_of) w r (state (g.words_of t.buf) t.pos)
       × MatchResult r (λ _. t.buf ≡ with_words c.buf (slice_set (g.words_of c.buf) c.pos w)) (λ _. t ≡ c)
+
+  -- The same, where the cursor stands turned round: the step of the reversed state, and the buffer has the word at the new position.
+  abbrev pub WritesBackTo : {E : Type 0} → (B → List W → B) → W → Result (Unit {0}) E → Cursor W B g → Type 0
+  WritesBackTo with_words w r t =
+      Overwrites (reversal (state_of)) w r (reversal (state (g.words_of t.buf) t.pos))
+      × MatchResult r (λ _. t.buf ≡ with_words c.buf (slice_set (g.words_of c.buf) t.pos w)) (λ _. t ≡ c)
 
   module _ (b : B) where
     abbrev over_if : (length (g.words_of b) < c.pos) ⊎ (c.pos ≤ length (g.words_of b)) → Cursor W B g

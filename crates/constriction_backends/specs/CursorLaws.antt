@@ -1,4 +1,4 @@
--- The steps of a cursor state meet the laws of sources and sinks.
+-- The steps of a cursor state meet the laws of sources and sinks. No public clause cites this module.
 use Rattle.std.specs.Prelude.{◌≡◌, ◌≢◌, ℕ, ◌-◌, ◌≤◌, take, drop, List, [], ◌∷◌, ◌++◌, length, reverse, Option, Some, None, Result, Ok, Err}
 use Rattle.std.proofs.Common.{sym, ◌∙◌, ap, arith, length-append, add-one}
 use Rattle.std.proofs.lemmas.List.{reverse-append, length-reverse, length-drop, length-take-le, take-append-drop}
@@ -8,41 +8,54 @@ use Rattle.constriction_backends.specs.Sink.{WritesTold, CountsWrite}
 use Rattle.constriction_backends.specs.CursorState.{State, state, reversal, StackReads, QueueReads, Overwrites}
 
 module _ {S W E : Type 0} (view : S → State W) where
-  pub StackReads-told : (s : S) (r : Result (Option W) E) (t : S) → StackReads (view s) r (view t) → (words : List W) → words ≡ reverse (view s).before → ReadsTold (λ u ws. ws ≡ reverse (view u).before) words r t
+  pub StackReads-told : (s : S) (r : Result (Option W) E) (t : S) → StackReads (view s) r (view t) → (words : List W)
+      → words ≡ reverse (view s).before → ReadsTold (λ u ws. ws ≡ reverse (view u).before) words r t
   StackReads-told s (Ok None) t h words e = (e ∙ ap reverse h.0, sym (ap (λ u. reverse u.before) h.1 ∙ ap reverse h.0))
-  StackReads-told s (Ok (Some w)) t h words e = (reverse (view t).before, e ∙ (ap reverse h.0 ∙ reverse-append (view t).before (w ∷ [])), λ _. reverse (view t).before)
+  StackReads-told s (Ok (Some w)) t h words e = (
+    reverse (view t).before,
+    e ∙ (ap reverse h.0 ∙ reverse-append (view t).before (w
+        ∷ [])),
+    λ _. reverse (view t).before,
+  )
   StackReads-told s (Err x) t h words e = absurd h
 
-  pub StackReads-counts : (s : S) (r : Result (Option W) E) (t : S) → StackReads (view s) r (view t) → CountsRead (length (view s).before) r (length (view t).before)
+  pub StackReads-counts : (s : S) (r : Result (Option W) E) (t : S) → StackReads (view s) r (view t)
+      → CountsRead (length (view s).before) r (length (view t).before)
   StackReads-counts s (Ok None) t h = (ap length h.0, ap (λ u. length u.before) h.1 ∙ ap length h.0)
   StackReads-counts s (Ok (Some w)) t h = ap length h.0 ∙ length-append (view t).before (w ∷ [])
   StackReads-counts s (Err x) t h = absurd h
 
-  pub QueueReads-told : (s : S) (r : Result (Option W) E) (t : S) → QueueReads (view s) r (view t) → (words : List W) → words ≡ (view s).after → ReadsTold (λ u ws. ws ≡ (view u).after) words r t
+  pub QueueReads-told : (s : S) (r : Result (Option W) E) (t : S) → QueueReads (view s) r (view t) → (words : List W)
+      → words ≡ (view s).after → ReadsTold (λ u ws. ws ≡ (view u).after) words r t
   QueueReads-told s (Ok None) t h words e = (e ∙ h.0, sym (ap (λ u. u.after) h.1 ∙ h.0))
   QueueReads-told s (Ok (Some w)) t h words e = ((view t).after, e ∙ h.0, λ _. (view t).after)
   QueueReads-told s (Err x) t h words e = absurd h
 
-  pub QueueReads-counts : (s : S) (r : Result (Option W) E) (t : S) → QueueReads (view s) r (view t) → CountsRead (length (view s).after) r (length (view t).after)
+  pub QueueReads-counts : (s : S) (r : Result (Option W) E) (t : S) → QueueReads (view s) r (view t)
+      → CountsRead (length (view s).after) r (length (view t).after)
   QueueReads-counts s (Ok None) t h = (ap length h.0, ap (λ u. length u.after) h.1 ∙ ap length h.0)
   QueueReads-counts s (Ok (Some w)) t h = rw add-one (ap length h.0)
   QueueReads-counts s (Err x) t h = absurd h
 
-  pub Overwrites-told : (s : S) (w : W) (r : Result (Unit {0}) E) (t : S) → Overwrites (view s) w r (view t) → (words : List W) → (view s).before ≡ words → WritesTold (λ u ws. (view u).before ≡ ws) words w r t
+  pub Overwrites-told : (s : S) (w : W) (r : Result (Unit {0}) E) (t : S) → Overwrites (view s) w r (view t) → (words : List W)
+      → (view s).before ≡ words → WritesTold (λ u ws. (view u).before ≡ ws) words w r t
   Overwrites-told s w (Ok x) t h words e = h.0 ∙ ap (λ ws. ws ++ w ∷ []) e
   Overwrites-told s w (Err x) t h words e = ap (λ u. u.before) h.1 ∙ e
 
-  pub Overwrites-counts : (s : S) (w : W) (r : Result (Unit {0}) E) (t : S) → Overwrites (view s) w r (view t) → CountsWrite (length (view s).after) r (length (view t).after)
+  pub Overwrites-counts : (s : S) (w : W) (r : Result (Unit {0}) E) (t : S) → Overwrites (view s) w r (view t)
+      → CountsWrite (length (view s).after) r (length (view t).after)
   Overwrites-counts s w (Ok x) t h = rw add-one (ap length h.1.1)
   Overwrites-counts s w (Err x) t h = (ap length h.0, ap (λ u. length u.after) h.1 ∙ ap length h.0)
 
 -- a position above 0 has words before it
-pub stack_not_empty : {W : Type 0} (pos : ℕ) (all : List W) → pos ≤ length all → pos ≢ 0 → (words : List W) → words ≡ reverse (take pos all) → words ≢ []
+pub stack_not_empty : {W : Type 0} (pos : ℕ) (all : List W) → pos ≤ length all → pos ≢ 0 → (words : List W) → words ≡ reverse (take pos all)
+    → words ≢ []
 stack_not_empty pos all in_range above words told none =
     above (sym (length-take-le pos all in_range) ∙ (sym (length-reverse (take pos all)) ∙ (ap length (sym told) ∙ ap length none)))
 
 -- a position below the length has words behind it
-pub queue_not_empty : {W : Type 0} (pos : ℕ) (all : List W) → pos ≤ length all → pos ≢ length all → (words : List W) → words ≡ drop pos all → words ≢ []
+pub queue_not_empty : {W : Type 0} (pos : ℕ) (all : List W) → pos ≤ length all → pos ≢ length all → (words : List W) → words ≡ drop pos all
+    → words ≢ []
 queue_not_empty pos all in_range inside words told none =
     let left : length all - pos ≡ 0 = sym (length-drop pos all) ∙ ap length (sym told ∙ none) in
     inside (omega arith)
@@ -50,7 +63,8 @@ queue_not_empty pos all in_range inside words told none =
 -- turning the words round and the position with them
 pub state-reverse : {W : Type 0} (xs : List W) (pos : ℕ) → pos ≤ length xs → state (reverse xs) (length xs - pos) ≡ reversal (state xs pos)
 state-reverse {W = W} xs pos in_range =
-    let halves : reverse xs ≡ reverse (drop pos xs) ++ reverse (take pos xs) = sym (ap reverse (take-append-drop pos xs)) ∙ reverse-append (take pos xs) (drop pos xs) in
+    let halves : reverse xs ≡ reverse (drop pos xs) ++ reverse (take pos xs) = sym (ap reverse (take-append-drop pos xs))
+    ∙ reverse-append (take pos xs) (drop pos xs) in
     let len : length (reverse (drop pos xs)) ≡ length xs - pos = length-reverse (drop pos xs) ∙ length-drop pos xs in
     let front : take (length xs - pos) (reverse xs) ≡ reverse (drop pos xs) = rw (halves, ← len) (take-append_seam (reverse (drop pos xs)) (reverse (take pos xs))) in
     let back : drop (length xs - pos) (reverse xs) ≡ reverse (take pos xs) = rw (halves, ← len) (drop-append_seam (reverse (drop pos xs)) (reverse (take pos xs))) in
@@ -58,5 +72,6 @@ state-reverse {W = W} xs pos in_range =
     ap (λ b. made b (drop (length xs - pos) (reverse xs))) front ∙ ap (made (reverse (drop pos xs))) back
 
 -- the same, of words that were reversed in place
-pub state-turned : {W : Type 0} (made new xs : List W) (pos : ℕ) → made ≡ new → new ≡ reverse xs → pos ≤ length xs → state made (length new - pos) ≡ reversal (state xs pos)
+pub state-turned : {W : Type 0} (made new xs : List W) (pos : ℕ) → made ≡ new → new ≡ reverse xs → pos ≤ length xs
+    → state made (length new - pos) ≡ reversal (state xs pos)
 state-turned made new xs pos m n in_range = rw (m, n, length-reverse xs) (state-reverse xs pos in_range)

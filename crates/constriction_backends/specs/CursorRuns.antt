@@ -45,13 +45,15 @@ reversal-twice {W = W} s =
     let made = λ (b a : List W). let u : State W = record { before = b; after = a } in u in
     ap (λ b. made b (reverse (reverse s.after))) (reverse-reverse s.before) ∙ ap (made s.before) (reverse-reverse s.after)
 
-stack-to_queue : {W E : Type 0} (s : State W) (r : Result (Option W) E) (t : State W) → StackReads s r t → QueueReads (reversal s) r (reversal t)
+stack-to_queue : {W E : Type 0} (s : State W) (r : Result (Option W) E) (t : State W) → StackReads s r t
+    → QueueReads (reversal s) r (reversal t)
 stack-to_queue s (Ok None) t h = (ap reverse h.0, ap reversal h.1)
 stack-to_queue s (Ok (Some w)) t h =
     (ap reverse h.0 ∙ reverse-append t.before (w ∷ []), ap reverse h.1 ∙ reverse-append (w ∷ []) s.after)
 stack-to_queue s (Err x) t h = absurd h
 
-queue-to_stack : {W E : Type 0} (s : State W) (r : Result (Option W) E) (t : State W) → QueueReads s r t → StackReads (reversal s) r (reversal t)
+queue-to_stack : {W E : Type 0} (s : State W) (r : Result (Option W) E) (t : State W) → QueueReads s r t
+    → StackReads (reversal s) r (reversal t)
 queue-to_stack s (Ok None) t h = (ap reverse h.0, ap reversal h.1)
 queue-to_stack s (Ok (Some w)) t h =
     (ap reverse h.0 ∙ reverse-append (w ∷ []) t.after, ap reverse h.1 ∙ reverse-append s.before (w ∷ []))
@@ -122,4 +124,5 @@ module _ {W B : Type 0} {g : Ghosts B W} where
         let long : length (g.words_of t.buf) ≡ length all = ap length turned ∙ length-reverse all in
         let in_range : c.pos ≤ length all = c.in_range in
         let pos : d.pos ≡ c.pos = omega arith in
-        same_cursor c d (db ∙ (ap (with_words t.buf) back ∙ (ap (λ b. with_words b all) tb ∙ (again c.buf (reverse all) all refl ∙ unchanged c.buf)))) pos
+        same_cursor c d (db ∙ (ap (with_words t.buf) back ∙ (ap (λ b. with_words b all) tb ∙ (again c.buf (reverse all) all refl
+        ∙ unchanged c.buf)))) pos

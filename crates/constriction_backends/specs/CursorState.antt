@@ -25,4 +25,5 @@ QueueReads s r t =
 
 -- The word takes the place of the first one behind the position and goes before it. Where there is none, it is refused and nothing changes.
 abbrev pub Overwrites : {W E : Type 0} → State W → W → Result (Unit {0}) E → State W → Type 0
-Overwrites {W} s w r t = MatchResult r (λ _. (t.before ≡ s.before ++ w ∷ []) × ((x : W) × (s.after ≡ x ∷ t.after))) (λ _. (s.after ≡ []) × (t ≡ s))
+Overwrites {W} s w r t = MatchResult r (λ _. (t.before ≡ s.before ++ w ∷ []) × ((x : W) × (s.after ≡ x
+    ∷ t.after))) (λ _. (s.after ≡ []) × (t ≡ s))

@@ -48,7 +48,8 @@ module _ {S W E : Type 0} (gives : S → W → Result (Unit {0}) E → S → Typ
       subst (λ (ys : List W). tells t ys) (append_assoc old (w ∷ []) ws)
       (writes_told_all tells law p.0 ws t p.2 (old ++ w ∷ []) (law s w (Ok tt) p.0 p.1 old h))
 
-  module _ (places : S → ℕ) (law : (s : S) (w : W) (r : Result (Unit {0}) E) (t : S) → gives s w r t → CountsWrite (places s) r (places t)) where
+  module _ (places : S → ℕ) (law : (s : S) (w : W) (r : Result (Unit {0}) E) (t : S) → gives s w r t
+      → CountsWrite (places s) r (places t)) where
     -- writes that all succeeded took a free place each
     pub writes_counted : (s : S) (ws : List W) (t : S) → Writes s ws t → places s ≡ length ws + places t
     writes_counted s [] t e =

@@ -51,5 +51,6 @@ module _ {S W : Type 0} (items : S → List W) {E : Type 0} where
   Pops-counted s (Err x) t exact h = absurd h
 
 -- the words that a stack tells are as many as it holds
-pub tells_all : {S W : Type 0} (items : S → List W) (s : S) → ⊤ → (words : List W) → words ≡ reverse (items s) → length (items s) ≡ length words
+pub tells_all : {S W : Type 0} (items : S → List W) (s : S) → ⊤ → (words : List W) → words ≡ reverse (items s)
+    → length (items s) ≡ length words
 tells_all items s exact words e = sym (ap length e ∙ length-reverse (items s))

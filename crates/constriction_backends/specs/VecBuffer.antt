@@ -1,4 +1,4 @@
--- A `Vec` with other items in it, as many as it has.
+-- A `Vec` with other items in it, as many as it has: the impls cite this, a caller's own buffer may, and no public clause does.
 use Rattle.std.specs.Prelude.{◌≡◌, List, ◌≤◌, length}
 use Rattle.std.specs.Vec.{with_items}
 use Rattle.std.specs.declared.vec.Vec.{Vec}
@@ -33,4 +33,5 @@ module _ {X Z : Type 0} (v : Vec X Z) where
   pub with_items_again : (ws vs : List X) → length vs ≡ length v.items → with_items (with_items v ws) vs ≡ with_items v vs
   with_items_again ws vs same =
       made_same _ _ (with_items (with_items v ws) vs).ok (with_items v vs).ok
-      (refill v.len (with_items v ws).items vs (with_items-length ws ∙ sym v.ok.0) (same ∙ sym (with_items-length ws)) ∙ sym (with_items_stand vs same))
+      (refill v.len (with_items v ws).items vs (with_items-length ws ∙ sym v.ok.0) (same ∙ sym (with_items-length ws))
+      ∙ sym (with_items_stand vs same))

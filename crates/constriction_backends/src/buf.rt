@@ -45,7 +45,8 @@ pub trait SafeBufMut<Word>: SafeBuf<Word> {
     ghost unchanged: { (s : Self) → with_words s (Self.words_of s) ≡ s };
 
     // Of two lists, the last one counts.
-    ghost again: { (s : Self) (ws vs : List Word) → length vs ≡ length (Self.words_of s) → with_words (with_words s ws) vs ≡ with_words s vs };
+    ghost again: { (s : Self) (ws vs : List Word) → length vs ≡ length (Self.words_of s)
+        → with_words (with_words s ws) vs ≡ with_words s vs };
 }
 
 impl<Word> SafeBuf<Word> for Vec<Word> {

@@ -47,8 +47,9 @@ pub trait ReadWords<Word, S: Semantics> {
 /// A source that knows how many items it still has: words, and the errors that stand in the place
 /// of words.
 ///
-/// A read answers `Ok(None)` exactly where none is left, and any other answer takes one away. Where
-/// the source tells its words, their number is that of the items.
+/// Where its count is exact (`is_exact`), a read answers `Ok(None)` exactly where none is left, any
+/// other answer takes one away, and the words that the source tells are as many as the items. The
+/// count of each source here is exact.
 pub trait BoundedReadWords<Word, S: Semantics>: ReadWords<Word, S> {
     // How many items are left.
     ghost items_left: { Self → ℕ };

@@ -16,7 +16,8 @@ pub(crate) fn part_mut<Word, Buf: SafeBufMut<Word>>(
     to: usize,
 ) -> &mut [Word]
     requires { (from ≤ to) × (to ≤ length (Buf.words_of buf.old)) }
-    ensures* writes_back { sem 𝓛 (Lends Buf.row (Array Word.row 0) buf.entry result (λ ws. Buf.with_words buf.old (with_part (Buf.words_of buf.old) from to ws))) }
+    ensures* writes_back { sem 𝓛 (Lends Buf.row (Array Word.row 0) buf.entry result
+        (λ ws. Buf.with_words buf.old (with_part (Buf.words_of buf.old) from to ws))) }
     ensures value { result.now ≡ take (to - from) (drop from (Buf.words_of buf.old)) }
 {
     let words = buf.words_mut();

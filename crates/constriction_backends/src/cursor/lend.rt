@@ -51,7 +51,8 @@ impl<Word, Buf: SafeBufMut<Word>> Cursor<Word, Buf> {
     /// words at the end of the loan, and its moves leave this one where it is.
     #[inline]
     pub fn as_mut_view(&mut self) -> Cursor<Word, &mut [Word]>
-        ensures* writes_back { sem 𝓛 (follows (the_row Word.row Buf.row Buf.SafeBuf) (Array Word.row 0) self.entry.ghost_name (buf_of result).ghost_name
+        ensures* writes_back { sem 𝓛 (follows (the_row Word.row Buf.row Buf.SafeBuf) (Array Word.row 0)
+            self.entry.ghost_name (buf_of result).ghost_name
             (λ ws. over self.old (Buf.with_words (buf_of self.old) ws))) }
         ensures value { (buf_of result).now ≡ Buf.words_of (buf_of self.old) }
         ensures pos { pos_of result ≡ pos_of self.old }

@@ -1,8 +1,8 @@
 //! Turning a cursor round, and writing to one that was turned round.
 
-ghost use Rattle.std.specs.Prelude.{◌≡◌, ◌<◌, ◌↔◌, ◌-◌, ⊤, length, reverse, slice_set, IsOk, MatchResult};
-ghost use Rattle.constriction_backends.specs.Cursor.{buf_of, pos_of, state_of};
-ghost use Rattle.constriction_backends.specs.CursorState.{reversal, Overwrites};
+ghost use Rattle.std.specs.Prelude.{◌≡◌, ◌<◌, ◌↔◌, ◌-◌, ⊤, length, reverse, IsOk};
+ghost use Rattle.constriction_backends.specs.Cursor.{buf_of, pos_of, state_of, WritesBackTo};
+ghost use Rattle.constriction_backends.specs.CursorState.{reversal};
 ghost use Rattle.constriction_backends.specs.CursorLaws.{Overwrites-told, Overwrites-counts};
 
 use crate::buf::SafeBufMut;
@@ -52,16 +52,13 @@ fn turned<Word, Buf: SafeBufMut<Word>>(mut cursor: Cursor<Word, Buf>) -> Cursor<
 impl<Word: Drop, Buf: SafeBufMut<Word>> WriteWords<Word> for Reverse<Cursor<Word, Buf>> {
     type WriteError = BoundedWriteError;
 
-    // The step of the reversed state, and what became of the buffer: a refused write leaves the cursor as it was.
-    ghost write_gives = { λ s w r t. Overwrites (reversal (state_of s.0)) w r (reversal (state_of t.0))
-        × MatchResult r (λ _. buf_of t.0 ≡ Buf.with_words (buf_of s.0) (slice_set (Buf.words_of (buf_of s.0)) (pos_of t.0) w)) (λ _. t ≡ s) };
+    ghost write_gives = { λ s w r t. WritesBackTo s.0 Buf.with_words w r t.0 };
 
     ghost tells_written = { λ s words. (reversal (state_of s.0)).before ≡ words };
 
     #[inline]
     fn write(&mut self, word: Word) -> Result<(), BoundedWriteError>
-        ensures gives { Overwrites (reversal (state_of self.old.0)) word result (reversal (state_of self.new.0))
-            × MatchResult result (λ _. buf_of self.new.0 ≡ Buf.with_words (buf_of self.old.0) (slice_set (Buf.words_of (buf_of self.old.0)) (pos_of self.new.0) word)) (λ _. self.new ≡ self.old) }
+        ensures gives { WritesBackTo self.old.0 Buf.with_words word result self.new.0 }
         ensures goes_on { ⊤ }
         ensures room { IsOk result ↔ (0 < pos_of self.old.0) }
         ensures kept { buf_of self.new.0 ≡ Buf.with_words (buf_of self.old.0) (Buf.words_of (buf_of self.new.0)) }

@@ -24,7 +24,7 @@ impl<Word: Drop, Buf: SafeBufMut<Word>> WriteWords<Word> for Cursor<Word, Buf> {
         ensures kept { buf_of self.new ≡ Buf.with_words (buf_of self.old) (Buf.words_of (buf_of self.new)) }
     {
         let pos = self.pos;
-        if pos == self.buf.words().len() {
+        if pos >= self.buf.words().len() {
             return Err(BoundedWriteError::OutOfSpace);
         }
         self.pos = pos + 1;

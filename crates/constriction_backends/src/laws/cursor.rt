@@ -24,8 +24,8 @@ pub fn turned_twice<Word, Buf: SafeBufMut<Word>>(cursor: Cursor<Word, Buf>) -> C
     cursor.into_reversed().into_reversed()
 }
 
-/// A position that was taken from a cursor is sought back, whatever was called in between: no call
-/// changes the number of words.
+/// A position that was taken from a cursor is sought back, as long as there are as many words as
+/// there were then. No call of a cursor changes their number, as its clause says of the buffer.
 pub fn seek_back_in_a_cursor<Word, Buf: SafeBuf<Word>>()
     ensures { CursorSeeksBack Word Buf Buf.SafeBuf }
 {}

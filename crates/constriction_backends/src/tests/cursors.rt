@@ -10,6 +10,7 @@ use crate::read::{BoundedReadWords, ReadWords};
 use crate::tests::marked::Marked;
 use crate::write::{BoundedWriteWords, WriteWords};
 use constriction_words::{Pos, Queue, Seek, Stack};
+use std::alloc::AllocError;
 use std::process::Abort;
 use std::test::Fail;
 
@@ -120,6 +121,19 @@ fn views_and_copies_leave_the_cursor(rt: HostRuntime) -> Result<(), Fail> {
     assert_eq!(rt; cursor.buf().as_slice(), [10, 20, 30].as_slice());
     assert_eq!(rt; cursor.pos(), 1);
     Ok(())
+}
+
+/// A copy asks for memory once. Where that is refused, the cursor is as it was.
+#[test]
+fn a_refused_copy_leaves_the_cursor(rt: HostRuntime) {
+    let words = [10u8, 20, 30];
+    let cursor = Cursor::<u8, _>::new_at_write_end(words.as_slice());
+    match cursor.cloned(rt.alloc()) {
+        Ok(copy) => assert_eq!(rt; copy.written(), words.as_slice()),
+        Err(AllocError) => {}
+    }
+    assert_eq!(rt; cursor.written(), words.as_slice());
+    assert_eq!(rt; cursor.pos(), 3);
 }
 
 /// What is written through the lent words stands in the buffer.

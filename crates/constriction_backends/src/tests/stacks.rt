@@ -134,6 +134,21 @@ fn refused_memory_keeps_the_words_before(rt: HostRuntime) {
     }
 }
 
+/// Nine words make a `Vec` and a `SmallVec` grow more than once. Whichever growth is refused, the
+/// words before the refused one stand.
+#[test]
+fn each_refused_growth_keeps_the_words_before(rt: HostRuntime) {
+    let words = [1u8, 2, 3, 4, 5, 6, 7, 8, 9];
+    let mut vec = Vec::new(rt.alloc());
+    let refused = vec.extend_from_iter(words.iter().copied()).is_err();
+    assert_eq!(rt; vec.len() < words.len(), refused);
+    assert!(rt; words.starts_with(vec.as_slice()));
+    let mut small: SmallVec<u8, 2> = SmallVec::new(rt.alloc());
+    let refused = small.extend_from_iter(words.iter().copied()).is_err();
+    assert_eq!(rt; small.len() < words.len(), refused);
+    assert!(rt; words.starts_with(small.as_slice()));
+}
+
 #[test]
 fn what_was_pushed_is_popped(rt: HostRuntime) {
     laws::pushed_is_popped::<u8, AllocError, Infallible>();

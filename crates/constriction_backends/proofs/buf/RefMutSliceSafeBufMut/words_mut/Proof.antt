@@ -93,13 +93,16 @@ module _ (X : RattleType) {M : Type 1} {𝓤 : Ura M} (𝓛 : Logic 𝓤) (at_me
         let word : Val = slice_val h.ref_ptr n in
         let xs : List (R X).Denot = h.now in
         let cut : xs ≡ [] ++ (xs ++ []) = sym (append-nil xs) in
-        let same : (ws : List (R X).Denot) → length ws ≡ length xs → refilled xs ws ≡ [] ++ (ws ++ []) = λ ws e. refilled_same xs ws e ∙ sym (append-nil ws) in
-        qed 𝓛 ((‵ (flft κ q) ⊛ ‵ (flft κ' q') ⊛ ‵ (flft κT qT) ⊛ ‵ ftrue) ∷ ‵ (owns (MutRef (named 0) κ Sl ∷ []) (self, tt) (mut_vals self, tt)) ∷ []) ∵ enter ! C Λ (function X) (vptr rb ro ∷ []) _ $
+        let same : (ws : List (R X).Denot) → length ws ≡ length xs → refilled xs ws ≡ [] ++ (ws ++ []) = λ ws e. refilled_same xs ws e
+        ∙ sym (append-nil ws) in
+        qed 𝓛 ((‵ (flft κ q) ⊛ ‵ (flft κ' q') ⊛ ‵ (flft κT qT) ⊛ ‵ ftrue) ∷ ‵ (owns (MutRef (named 0) κ Sl
+        ∷ []) (self, tt) (mut_vals self, tt)) ∷ []) ∵ enter ! C Λ (function X) (vptr rb ro ∷ []) _ $
         alloc_all ! (λ l. pass_all ! refl ((tt, tt), tt) $
         move ! (1 ∷ []) $ fsplit ! $ fsplit3 ! $ drop ! $ move ! (3 ∷ []) $ split3 ! $ move ! (3 ∷ 4 ∷ 0 ∷ []) $
         opens ! tt Sl {h = h} rb ro (λ vs. move ! (1 ∷ []) $
         peeks ! Sl (Is Sl) (shows 𝓛 Sl) h vs (λ told.
-        rewrite ! 0 (λ (us : List Val). ‵ (Sl.own_val h us)) told.0.0 refl $ rewrite ! 1 (λ (us : List Val). ‵ (cell_at full_share Sl.mir us rb ro)) told.0.0 refl $ move ! (1 ∷ []) $
+        rewrite ! 0 (λ (us : List Val). ‵ (Sl.own_val h us)) told.0.0 refl $
+        rewrite ! 1 (λ (us : List Val). ‵ (cell_at full_share Sl.mir us rb ro)) told.0.0 refl $ move ! (1 ∷ []) $
         -- [the word; the slice; the open borrow; obs γ; auth γ; the tokens]
         use1 𝓛 (‵ (fat full_share written rb ro word)) (𝓛.laws.raw_at full_share written rb ro word) $
         sets ! (of_opd ! (load ! (through ! refl (fld ! refl (stop !))) (look_in ! 0 (sub ! 1 refl (whole !))))) refl (tt, record { fits = told.0.1.0 }) $
@@ -107,17 +110,23 @@ module _ (X : RattleType) {M : Type 1} {𝓤 : Ura M} (𝓛 : Logic 𝓤) (at_me
         sets ! (agg ! (and_then ! (get ! refl) (and_then ! (get ! refl) (no_more !)))) refl (tt, (tt, (record { fits = told.0.1.0 }, tt))) $
         use1 𝓛 (‵ (fat full_share (bare written) rb ro word)) (𝓛.laws.at_raw full_share written rb ro word) $
         closes ! tt Sl h (word ∷ []) rb ro $
-        use3 𝓛 (later (some (λ (δ : GName). ‵ ((MutSlice (named 0) κ (R X)).own_val (renamed h δ) (mut_slice_vals h)) ⊛ ‵ (flft κ q) ⊛ ‵ (follows Sl (Array (R X) 0) γ δ (at_last h)))))
+        use3 𝓛 (later (some (λ (δ : GName). ‵ ((MutSlice (named 0) κ (R X)).own_val (renamed h δ) (mut_slice_vals h)) ⊛ ‵ (flft κ q)
+        ⊛ ‵ (follows Sl (Array (R X) 0) γ δ (at_last h)))))
         (lends_inner_slice 𝓛 (R X) (named 0) (named 1) κ κ' self bd.0 told.0.1 q) $ await ! tt $ pick ! (λ δ'. split3 ! $
         use2 𝓛 (later (some (part_lent 𝓛 (named 0) κ q h.ref_ptr.0 h.ref_ptr.1 δ' (R X) xs [] xs [] cut h.ref_ptr.1 refl (refilled xs) same))) (lends_part 𝓛 (named 0) κ q h.ref_ptr.0 h.ref_ptr.1 δ' (R X) xs [] xs [] cut h.ref_ptr.1 refl (refilled xs) same told.0.1 (mut_slice_vals h)) $ await ! tt $ pick ! (λ δ. split3 ! $
         move ! (3 ∷ 2 ∷ []) $ use2 𝓛 (‵ (follows Sl (Array (R X) 0) γ δ (λ w. at_last h (refilled xs w)))) (follows_then 𝓛 Sl (Array (R X) 0) (Array (R X) 0) (at_last h) (refilled xs) γ δ' δ) $ move ! (1 ∷ 2 ∷ 0 ∷ []) $
         returns ! (look_at ! 0 refl) $ free_all ! refl $ keep ! (0 ∷ 1 ∷ 2 ∷ 3 ∷ 4 ∷ []) $
         suffices ! _ (ends_at 𝓛 (ended X) (stayed X) clauses bound word (renamed h δ) (tt, tt) (tt, tt)) $
-        nothing ! $ nothing ! $ fjoin ! $ join ! $ move ! (3 ∷ 4 ∷ []) $ join ! $ move ! (2 ∷ 0 ∷ 1 ∷ []) $ join ! $ join ! $ frame ! $ says ! refl $ done !)))))
+        nothing ! $ nothing ! $ fjoin ! $ join ! $ move ! (3 ∷ 4 ∷ []) $ join ! $ move ! (2 ∷ 0 ∷ 1 ∷ []) $ join ! $ join ! $ frame ! $
+        says ! refl $ done !)))))
 
   meets : (𝓣 : Tables 𝓤 H) → Meets 𝓛 (ended X).signature (WpFn 𝓤 H 𝓣.C 𝓣.Λ (function X)) (closing 𝓛 (ended X) clauses)
   meets 𝓣 =
-      walk_Meets 𝓛 (ended X) (stayed X) (Goes-spent_ref 𝓛 3 (0 ∷ []) tt (mut_slice_of (1 ∷ []) tt (plain (λ _. R X))), tt) clauses (WpFn 𝓤 H 𝓣.C 𝓣.Λ (function X)) (WpFn-mono 𝓤 H 𝓛.laws 𝓣 (function X))
+      walk_Meets 𝓛 (ended X) (stayed X) (
+        Goes-spent_ref 𝓛 3 (0 ∷ []) tt (mut_slice_of (1
+            ∷ []) tt (plain (λ _. R X))),
+        tt,
+      ) clauses (WpFn 𝓤 H 𝓣.C 𝓣.Λ (function X)) (WpFn-mono 𝓤 H 𝓛.laws 𝓣 (function X))
       (walked 𝓛 (ended X) (stayed X) clauses (WpFn 𝓤 H 𝓣.C 𝓣.Λ (function X)) (λ κs. (mut_vals, tt)) (λ κs. (mut_Tells (named 0) κs.0 (MutSlice (named 1) κs.1.0 (R X)), tt))
       (λ κs qs bounds a g are.
       let On : SProp 𝓤 = on_entry 𝓛 (ended X).signature κs qs a (mut_vals a.0, tt) in

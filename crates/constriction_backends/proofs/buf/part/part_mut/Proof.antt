@@ -63,7 +63,11 @@ part_mut_spec 𝓤 𝓛 𝓜 𝓡 wired X Y LX LY gm dm g d metm met =
     let fn = inst_fn args code.function in
     let R : RattleType = param 0 X in
     let B : RattleType = param 1 Y in
-    let hs : Stays En.signature.params En.kept = (stay_dropped (mut_ref_to (0 ∷ []) tt (plain (λ _. B))) no, (stay_dropped (plain (λ _. usize)) yes, (stay_dropped (plain (λ _. usize)) yes, tt))) in
+    let hs : Stays En.signature.params En.kept = (
+      stay_dropped (mut_ref_to (0
+          ∷ []) tt (plain (λ _. B))) no,
+      (stay_dropped (plain (λ _. usize)) yes, (stay_dropped (plain (λ _. usize)) yes, tt)),
+    ) in
     let W = walk_of 𝓛 En hs c in
     let k = triple_of 𝓛 (callee.signature Y X) (callee.spec Y X gm dm g d 𝓛 𝓜.mem 𝓡.returns) in
     proved 𝓛 En hs c 𝓜 𝓡
@@ -84,12 +88,17 @@ part_mut_spec 𝓤 𝓛 𝓜 𝓡 wired X Y LX LY gm dm g d metm met =
     -- the call
     split3 ! $ move ! (2 ∷ []) $ split ! $ move ! (3 ∷ 1 ∷ []) $ join ! $ move ! (1 ∷ 0 ∷ []) $ join ! $ move ! (1 ∷ 0 ∷ []) $ join ! $
     move ! (1 ∷ []) $ fsplit ! $ nothing ! $ move ! (1 ∷ 0 ∷ []) $ fjoin ! $ move ! (2 ∷ 0 ∷ []) $ join ! $
-    nothing ! $ use0 𝓛 (raw (fact 𝓤 (κW ⊑ X.lives))) (fact_i 𝓤 (κW ⊑ X.lives) (emp 𝓤) lw) $ join ! $ use0 𝓛 (raw (fact 𝓤 (κB ⊑ Y.lives))) (fact_i 𝓤 (κB ⊑ Y.lives) (emp 𝓤) lb) $ join ! $
+    nothing ! $ use0 𝓛 (raw (fact 𝓤 (κW ⊑ X.lives))) (fact_i 𝓤 (κW ⊑ X.lives) (emp 𝓤) lw) $ join ! $
+    use0 𝓛 (raw (fact 𝓤 (κB ⊑ Y.lives))) (fact_i 𝓤 (κB ⊑ Y.lives) (emp 𝓤) lb) $ join ! $
     move ! (1 ∷ 0 ∷ []) $ use2 𝓛 (raw (k.pre y)) (id⊢ 𝓤 _) $
     calls_at ! (framed 𝓤 𝓛.H 𝓜 𝓣) k metm.words_mut y (and_then ! (get ! refl) (no_more !)) (λ v.
-    use1 𝓛 (later (some (λ (r : MutBor (List X.Denot)). ((‵ (flft κ q) ⊛ ‵ (flft κB qB) ⊛ ‵ (flft κW qW) ⊛ ‵ ftrue) ⊛ ‵ ((MutSlice (named 0) κ R).own_val r (v ∷ []))) ⊛
-    some (λ (ls : Lasts (callee.ended Y X gm dm g d) y.0.0 y.0.3). ‵ (lasts (callee.ended Y X gm dm g d) y.0.0 y.0.3 ls) ⊛ (‵ (follows B (Array R 0) self.ghost_name r.ghost_name (gm.with_words old)) ⊛ raw (fact 𝓤 (r.now ≡ g.words_of old))))))) (id⊢ 𝓤 (k.post y v)) $
-    await ! tt $ pick ! (λ r. split ! $ move ! (1 ∷ []) $ pick ! (λ _. split3 ! $ drop ! $ move ! (1 ∷ []) $ heard ! _ (λ shown. move ! (1 ∷ []) $ split ! $ move ! (1 ∷ []) $
+    use1 𝓛 (later (some (λ (r : MutBor (List X.Denot)). ((‵ (flft κ q) ⊛ ‵ (flft κB qB) ⊛ ‵ (flft κW qW) ⊛ ‵ ftrue)
+    ⊛ ‵ ((MutSlice (named 0) κ R).own_val r (v ∷ []))) ⊛
+    some (λ (ls : Lasts (callee.ended Y X gm dm g d) y.0.0 y.0.3). ‵ (lasts (callee.ended Y X gm dm g d) y.0.0 y.0.3 ls)
+    ⊛ (‵ (follows B (Array R 0) self.ghost_name r.ghost_name (gm.with_words old))
+    ⊛ raw (fact 𝓤 (r.now ≡ g.words_of old))))))) (id⊢ 𝓤 (k.post y v)) $
+    await ! tt $ pick ! (λ r. split ! $ move ! (1 ∷ []) $ pick ! (λ _. split3 ! $ drop ! $ move ! (1 ∷ []) $
+    heard ! _ (λ shown. move ! (1 ∷ []) $ split ! $ move ! (1 ∷ []) $
     -- [the slice; the tokens; what the buffer follows; nothing]
     peeks ! (MutSlice (named 0) κ R) (Is (MutSlice (named 0) κ R)) (shows 𝓛 (MutSlice (named 0) κ R)) r (v ∷ []) (λ told.
     let b : ℕ = r.ref_ptr.0 in
@@ -134,5 +143,6 @@ part_mut_spec 𝓤 𝓛 𝓜 𝓡 wired X Y LX LY gm dm g d metm met =
     -- [what the buffer follows; the part; the tokens]
     move ! (4 ∷ []) $ split ! $ move ! (5 ∷ 1 ∷ []) $ join ! $ move ! (1 ∷ 0 ∷ []) $ join ! $ move ! (3 ∷ 0 ∷ []) $ join ! $
     suffices ! _ (ends_at 𝓛 En hs c z (slice_val (b, m * s + o) (t - m)) out (tt, (tt, (tt, tt))) (tt, (tt, (tt, tt)))) $
-    nothing ! $ nothing ! $ fjoin ! $ nothing ! $ fjoin ! $ nothing ! $ fjoin ! $ move ! (0 ∷ 3 ∷ []) $ join ! $ move ! (1 ∷ 0 ∷ []) $ join ! $ frame ! $
+    nothing ! $ nothing ! $ fjoin ! $ nothing ! $ fjoin ! $ nothing ! $ fjoin ! $ move ! (0 ∷ 3 ∷ []) $ join ! $ move ! (1 ∷ 0 ∷ []) $
+    join ! $ frame ! $
     says ! (ap (λ (j : List X.Denot). take (t - m) (drop_list m j)) shown) $ done !)))))))))))
