@@ -2,5 +2,5 @@
 
 pub use constriction_backends::{
     BoundedReadWords, BoundedWriteError, BoundedWriteWords, Cursor, ReadWords, ReadWriteError,
-    Reverse, SafeBuf, SafeBufMut, WriteWords,
+    Reverse, SafeBuf, SafeBufMut, WriteWords, laws,
 };
