@@ -1,12 +1,12 @@
 -- What follows from the steps of a cursor: of its reversal, of positions that were taken, and of writes in a row.
-use Rattle.std.specs.Prelude.{◌≡◌, ◌↔◌, ◌<◌, ◌≤◌, ℕ, ◌+◌, ◌-◌, suc, List, [], ◌∷◌, ◌++◌, length, drop, reverse, slice_set, Option, Some, None, Result, Ok, Err, IsOk}
+use Rattle.std.specs.Prelude.{◌≡◌, ◌↔◌, ◌<◌, ◌≤◌, ℕ, ◌-◌, suc, List, [], ◌∷◌, ◌++◌, length, drop, reverse, slice_set, Option, Some, None, Result, Ok, Err, IsOk}
 use Rattle.std.proofs.Common.{sym, ◌∙◌, ap, subst, arith, refl, append_assoc, append-nil}
 use Rattle.std.proofs.lemmas.List.{reverse-append, reverse-reverse, length-reverse}
 use Rattle.std.proofs.Math.Bridge.{le_prop}
 use Rattle.constriction_backends.specs.declared.buf.SafeBuf.{Ghosts}
 use Rattle.constriction_backends.specs.declared.cursor.Cursor.{Cursor}
 use Rattle.constriction_backends.specs.Cursor.{state_of, SeeksTo, WritesTo}
-use Rattle.constriction_backends.specs.CursorState.{State, reversal, StackReads, QueueReads, Overwrites}
+use Rattle.constriction_backends.specs.CursorState.{State, reversal, StackReads, QueueReads}
 use Rattle.constriction_backends.specs.Sink.{Writes}
 
 -- the reversal of the reversal of a state is that state
