@@ -13,7 +13,8 @@ use std::process::Abort;
 use std::test::Fail;
 
 /// A cursor of 1, 2, 3 is turned round at 2, and back.
-fn turns_round<Buf: SafeBufMut<u8> + Drop>(rt: &impl Abort, mut cursor: Cursor<u8, Buf>) {
+fn turns_round<Buf: SafeBufMut<u8>>(rt: &impl Abort, buf: Buf) -> Buf {
+    let mut cursor = Cursor::<u8, Buf>::new_at_write_beginning(buf);
     assert_eq!(rt; cursor.seek(2), Ok(()));
     let turned = cursor.into_reversed();
     assert_eq!(rt; turned.0.buf().words(), [3, 2, 1].as_slice());
@@ -25,6 +26,8 @@ fn turns_round<Buf: SafeBufMut<u8> + Drop>(rt: &impl Abort, mut cursor: Cursor<u
     let mut turned = cursor.into_reversed();
     assert_eq!(rt; BoundedReadWords::<u8, Stack>::remaining(&turned), 2);
     assert_eq!(rt; BoundedReadWords::<u8, Queue>::remaining(&turned), 1);
+    assert!(rt; !ReadWords::<u8, Stack>::maybe_exhausted(&turned));
+    assert!(rt; !ReadWords::<u8, Queue>::maybe_exhausted(&turned));
     for expected in [Some(2), Some(1), None] {
         assert_eq!(rt; ReadWords::<u8, Stack>::read(&mut turned), Ok(expected));
     }
@@ -32,54 +35,56 @@ fn turns_round<Buf: SafeBufMut<u8> + Drop>(rt: &impl Abort, mut cursor: Cursor<u
     assert!(rt; BoundedReadWords::<u8, Stack>::is_exhausted(&turned));
     let cursor = turned.into_reversed();
     assert_eq!(rt; cursor.buf().words(), [1, 2, 3].as_slice());
-    assert_eq!(rt; cursor.pos(), 0);
+    let (buf, pos) = cursor.into_buf_and_pos();
+    assert_eq!(rt; pos, 0);
+    buf
 }
 
-#[test]
-fn a_cursor_is_turned_round(rt: HostRuntime) -> Result<(), Fail> {
-    let mut words = [1u8, 2, 3];
-    let vec = words.to_vec(rt.alloc())?;
-    turns_round(&rt, Cursor::new_at_write_beginning(vec));
-    let marked = Marked {
-        first: 7,
-        words: words.to_vec(rt.alloc())?,
-        last: 9,
-    };
-    turns_round(&rt, Cursor::new_at_write_beginning(marked));
-    let mut copy = words;
-    let array: &mut [u8; 3] = &mut copy;
-    turns_round(
-        &rt,
-        Cursor::<u8, &mut [u8; 3]>::new_at_write_beginning(array),
-    );
-    let slice: &mut [u8] = &mut words;
-    turns_round(&rt, Cursor::<u8, &mut [u8]>::new_at_write_beginning(slice));
-    assert_eq!(rt; words.as_slice(), [1, 2, 3].as_slice());
-    Ok(())
-}
-
-#[test]
-fn a_turned_cursor_is_written_downwards(rt: HostRuntime) -> Result<(), Fail> {
-    let vec = [1u8, 2, 3].to_vec(rt.alloc())?;
-    let mut reversed = Reverse(Cursor::<u8, _>::new_at_write_beginning(vec));
+/// A reversed cursor of 1, 2, 3 is written from its inner position down.
+fn is_written_downwards<Buf: SafeBufMut<u8>>(rt: &impl Abort, buf: Buf) -> Buf {
+    let mut reversed = Reverse(Cursor::<u8, Buf>::new_at_write_beginning(buf));
     assert_eq!(rt; reversed.space_left(), 0);
     assert!(rt; reversed.is_full());
     assert!(rt; reversed.maybe_full());
     assert_eq!(rt; reversed.write(7), Err(BoundedWriteError::OutOfSpace));
-    assert_eq!(rt; reversed.0.buf().as_slice(), [1, 2, 3].as_slice());
+    assert_eq!(rt; reversed.0.buf().words(), [1, 2, 3].as_slice());
     assert_eq!(rt; reversed.seek(4), Err(()));
     assert_eq!(rt; reversed.seek(2), Ok(()));
     assert_eq!(rt; reversed.space_left(), 2);
     assert_eq!(rt; reversed.write(8), Ok(()));
     assert_eq!(rt; reversed.write(9), Ok(()));
-    assert_eq!(rt; reversed.0.buf().as_slice(), [9, 8, 3].as_slice());
+    assert_eq!(rt; reversed.0.buf().words(), [9, 8, 3].as_slice());
     assert_eq!(rt; reversed.pos(), 0);
     assert_eq!(rt; reversed.seek(2), Ok(()));
     assert_eq!(rt;
         reversed.extend_from_iter([4u8, 5, 6].iter().copied()),
         Err(BoundedWriteError::OutOfSpace)
     );
-    assert_eq!(rt; reversed.0.buf().as_slice(), [5, 4, 3].as_slice());
+    assert_eq!(rt; ReadWords::<u8, Queue>::read(&mut reversed), Ok(None));
+    reversed.0.into_buf_and_pos().0
+}
+
+fn is_reversed<Buf: SafeBufMut<u8> + Drop>(rt: &impl Abort, buf: Buf) {
+    let buf = is_written_downwards(rt, turns_round(rt, buf));
+    assert_eq!(rt; buf.words(), [5, 4, 3].as_slice());
+}
+
+#[test]
+fn a_cursor_over_each_buffer_is_reversed(rt: HostRuntime) -> Result<(), Fail> {
+    let mut words = [1u8, 2, 3];
+    is_reversed(&rt, words.to_vec(rt.alloc())?);
+    let marked = Marked {
+        first: 7,
+        words: words.to_vec(rt.alloc())?,
+        last: 9,
+    };
+    is_reversed(&rt, marked);
+    let mut copy = words;
+    let array: &mut [u8; 3] = &mut copy;
+    is_reversed(&rt, array);
+    let slice: &mut [u8] = &mut words;
+    is_reversed(&rt, slice);
+    assert_eq!(rt; words.as_slice(), [5, 4, 3].as_slice());
     Ok(())
 }
 
