@@ -13,6 +13,7 @@ mod read_write_error;
 mod semantics;
 #[cfg(test)]
 mod tests;
+mod whole_number;
 mod words;
 
 pub use crate::bit_array::{BitArray, NonZeroBitArray};
@@ -22,3 +23,4 @@ pub use crate::infallible::UnwrapInfallible;
 pub use crate::position::{Pos, PosSeek, Seek};
 pub use crate::read_write_error::ReadWriteError;
 pub use crate::semantics::{Queue, Semantics, Stack};
+pub use crate::whole_number::WholeNumber;
