@@ -1,6 +1,6 @@
 //! Words as numbers: the little that tables and searches ask of a word.
 
-ghost use Rattle.std.specs.Prelude.{◌≡◌, ◌↔◌, ◌+◌, ◌-◌, ◌<◌, ◌≤◌, ◌^◌, ℕ, IsTrue, IsNone, IfSome};
+ghost use Rattle.std.specs.Prelude.{◌≡◌, ◌↔◌, ◌+◌, ◌-◌, ◌<◌, ◌≤◌, ◌^◌, ℕ, IsTrue};
 
 use crate::bit_array::BitArray;
 
@@ -16,6 +16,10 @@ pub trait WholeNumber: Copy {
     // How many bits a word has.
     ghost BITS: { ℕ };
 
+    /// The word 0.
+    fn least() -> Self
+        ensures { whole result ≡ 0 };
+
     /// The greatest word of so many bits: `2^bits - 1`.
     fn greatest(bits: usize) -> Self
         requires some { 0 < bits }
@@ -23,11 +27,24 @@ pub trait WholeNumber: Copy {
         ensures value { whole result + 1 ≡ 2 ^ bits }
         ensures within { 2 ^ bits ≤ 2 ^ BITS };
 
-    /// The word less one. There is none below 0.
-    fn predecessor(self) -> Option<Self>
-        ensures none { IsNone result ↔ (whole self ≡ 0) }
-        ensures some { IfSome result (λ less. whole less + 1 ≡ whole self) }
+    /// Whether the word is 0.
+    fn is_least(self) -> bool
+        ensures { IsTrue result ↔ (whole self ≡ 0) };
+
+    /// Whether the word is the greatest one of all.
+    fn is_greatest(self) -> bool
+        ensures { IsTrue result ↔ (whole self + 1 ≡ 2 ^ BITS) };
+
+    /// The word less one.
+    fn predecessor(self) -> Self
+        requires { 0 < whole self }
+        ensures value { whole result + 1 ≡ whole self }
         ensures range { whole self < 2 ^ BITS };
+
+    /// The word and one more.
+    fn successor(self) -> Self
+        requires { whole self + 1 < 2 ^ BITS }
+        ensures { whole result ≡ whole self + 1 };
 
     /// Whether the number is below another one.
     fn is_below(self, other: Self) -> bool
@@ -57,16 +74,34 @@ impl<P: BitArray> WholeNumber for P {
     ghost BITS = { P.BITS };
 
     #[inline]
+    fn least() -> P {
+        P::zero()
+    }
+
+    #[inline]
     fn greatest(bits: usize) -> P {
         P::max_value() >> (P::BITS - bits) as u32
     }
 
     #[inline]
-    fn predecessor(self) -> Option<P> {
-        match self.into_nonzero() {
-            Some(_) => Some(self - P::one()),
-            None => None,
-        }
+    fn is_least(self) -> bool {
+        self == P::zero()
+    }
+
+    #[inline]
+    fn is_greatest(self) -> bool {
+        self == P::max_value()
+    }
+
+    #[inline]
+    fn predecessor(self) -> P {
+        let _range = self.into_nonzero();
+        self - P::one()
+    }
+
+    #[inline]
+    fn successor(self) -> P {
+        self + P::one()
     }
 
     #[inline]
