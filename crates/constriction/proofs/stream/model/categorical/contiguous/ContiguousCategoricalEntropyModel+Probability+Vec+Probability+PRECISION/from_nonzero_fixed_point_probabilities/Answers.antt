@@ -1,15 +1,25 @@
-use Rattle.std.proofs.Common.{ap}
+use Rattle.std.proofs.Common.{map, ap}
+use Rattle.constriction.specs.Acceptance.{completed}
 use Rattle.constriction.specs.Rows.{contiguous_rows}
 use Rattle.constriction.specs.StoredLemmas.{stored-of}
 use Rattle.constriction.proofs.stream.model.categorical.contiguous.ContiguousCategoricalEntropyModel+Probability+Vec+Probability+PRECISION.from_nonzero_fixed_point_probabilities.Goals as goal
 
 pub invariant_of-result : goal.invariant_of-result
 invariant_of-result g c =
-    let good = c.in_ok-cdf.ensures.ok.2.2 in
-    record { precise = (c.requires.positive, c.requires.fits); stored = (stored-of _ _ _ _ good.1 good.0).0 }
+    let whole = g.Probability.BitArray.whole in
+    let given = c.in_ok-cdf.ensures.ok in
+    let good = given.2.2 in
+    let weights = completed g.row.PRECISION c.args.infer_last_probability (map whole given.2.0) in
+    record {
+      precise = (c.requires.positive, c.requires.fits);
+      stored = (stored-of g.Probability.BitArray.BITS g.row.PRECISION (map whole c.in_ok-cdf.cdf.items) weights good.1 good.0).0;
+    }
 
 pub returns-clause-ok : goal.returns-clause-ok
 returns-clause-ok g c =
+    let whole = g.Probability.BitArray.whole in
     let given = c.in_ok-cdf.ensures.ok in
     let good = given.2.2 in
-    (given.0, given.1, (given.2.0, given.2.1, (good.0, ap contiguous_rows (stored-of _ _ _ _ good.1 good.0).1)))
+    let weights = completed g.row.PRECISION c.args.infer_last_probability (map whole given.2.0) in
+    let stored = stored-of g.Probability.BitArray.BITS g.row.PRECISION (map whole c.in_ok-cdf.cdf.items) weights good.1 good.0 in
+    (given.0, given.1, (given.2.0, given.2.1, (good.0, ap contiguous_rows stored.1)))

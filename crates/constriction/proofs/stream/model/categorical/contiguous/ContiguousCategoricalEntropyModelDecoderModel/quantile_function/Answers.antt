@@ -1,4 +1,4 @@
-use Rattle.std.proofs.Common.{◌≡◌, ◌+◌, ◌<◌, length, map, ap, rules}
+use Rattle.std.proofs.Common.{◌≡◌, ◌+◌, ◌<◌, length, map, refl, rules}
 use Rattle.std.proofs.lemmas.List.{length-map}
 use Rattle.constriction.proofs.ProbeLemmas.{stored-index, stored-answer}
 use Rattle.constriction.proofs.stream.model.categorical.contiguous.ContiguousCategoricalEntropyModelDecoderModel.quantile_function.Goals as goal
@@ -6,27 +6,35 @@ use Rattle.constriction.proofs.stream.model.categorical.contiguous.ContiguousCat
 pub overflow_add-index : goal.overflow_add-index
 overflow_add-index g c =
     let whole = g.Probability.BitArray.whole in
-    let same : map whole c.words-cdf.result.now ≡ map whole (g.Cdf.SafeBuf.words_of c.args.self.now.cdf) =
-    ap (map whole) c.words-cdf.ensures in
-    let index : c.quantile_probe-first.result.0 + c.row_of_quantile.result < length c.words-cdf.result.now =
-    rw (← length-map c.words-cdf.result.now whole, same)
-    (stored-index _ _ _ c.args.self.now.stored _ _
-    (c.quantile_probe-first.ensures.found _ c.row_of_quantile.ensures.found)) in
+    let words = c.words-cdf.result.now in
+    let lefts = map whole (g.Cdf.SafeBuf.words_of c.args.self.now.cdf) in
+    let same : map whole words ≡ lefts = rw c.words-cdf.ensures refl in
+    let index : c.quantile_probe-first.result.0 + c.row_of_quantile.result < length words =
+    rw (← length-map words whole, same)
+    (stored-index g.Probability.BitArray.BITS g.row.PRECISION lefts c.args.self.now.stored (whole c.args.quantile)
+    (c.quantile_probe-first.result.0 + c.row_of_quantile.result)
+    (c.quantile_probe-first.ensures.found c.row_of_quantile.result c.row_of_quantile.ensures.found)) in
     search rules
 
 pub row_at-left-requires-clause-in_bounds : goal.row_at-left-requires-clause-in_bounds
 row_at-left-requires-clause-in_bounds g c =
     let whole = g.Probability.BitArray.whole in
-    let same : map whole c.words-cdf.result.now ≡ map whole (g.Cdf.SafeBuf.words_of c.args.self.now.cdf) =
-    ap (map whole) c.words-cdf.ensures in
-    rw (← length-map c.words-cdf.result.now whole, same)
-    (stored-index _ _ _ c.args.self.now.stored _ _
-    (c.quantile_probe-first.ensures.found _ c.row_of_quantile.ensures.found))
+    let words = c.words-cdf.result.now in
+    let lefts = map whole (g.Cdf.SafeBuf.words_of c.args.self.now.cdf) in
+    let same : map whole words ≡ lefts = rw c.words-cdf.ensures refl in
+    rw (← length-map words whole, same)
+    (stored-index g.Probability.BitArray.BITS g.row.PRECISION lefts c.args.self.now.stored (whole c.args.quantile)
+    (c.quantile_probe-first.result.0 + c.row_of_quantile.result)
+    (c.quantile_probe-first.ensures.found c.row_of_quantile.result c.row_of_quantile.ensures.found))
 
 pub returns-clause-row : goal.returns-clause-row
 returns-clause-row g c =
     let whole = g.Probability.BitArray.whole in
-    let same : map whole c.words-cdf.result.now ≡ map whole (g.Cdf.SafeBuf.words_of c.args.self.now.cdf) =
-    ap (map whole) c.words-cdf.ensures in
-    stored-answer _ _ _ c.args.self.now.stored _ _ _ _ (c.quantile_probe-first.ensures.found _ c.row_of_quantile.ensures.found)
+    let words = c.words-cdf.result.now in
+    let lefts = map whole (g.Cdf.SafeBuf.words_of c.args.self.now.cdf) in
+    let same : map whole words ≡ lefts = rw c.words-cdf.ensures refl in
+    stored-answer g.Probability.BitArray.BITS g.row.PRECISION lefts c.args.self.now.stored (whole c.args.quantile)
+    (c.quantile_probe-first.result.0 + c.row_of_quantile.result)
+    (whole c.row_at-left.result.0) (whole (g.Probability.NonZero.NonZeroBitArray.base c.row_at-left.result.1))
+    (c.quantile_probe-first.ensures.found c.row_of_quantile.result c.row_of_quantile.ensures.found)
     (rw (← same) c.row_at-left.ensures.left) (rw (← same) c.row_at-left.ensures.weight)

@@ -1,4 +1,4 @@
-use Rattle.std.proofs.Common.{◌≡◌, length, map, ap, arith}
+use Rattle.std.proofs.Common.{◌≡◌, length, map, refl, arith}
 use Rattle.std.proofs.lemmas.List.{length-map}
 use Rattle.constriction.specs.StoredRows.{stored-entry, stored-no_entry}
 use Rattle.constriction.proofs.stream.model.categorical.contiguous.ContiguousCategoricalEntropyModelEncoderModel.left_cumulative_and_probability.Goals as goal
@@ -7,9 +7,11 @@ pub returns-then-symbol-cdf : goal.returns-then-symbol-cdf
 returns-then-symbol-cdf g c =
     let whole = g.Probability.BitArray.whole in
     let words = c.words-cdf.result.now in
-    let same : map whole words ≡ map whole (g.Cdf.SafeBuf.words_of c.args.self.now.cdf) = ap (map whole) c.words-cdf.ensures in
+    let lefts = map whole (g.Cdf.SafeBuf.words_of c.args.self.now.cdf) in
+    let same : map whole words ≡ lefts = rw c.words-cdf.ensures refl in
     let long : length (map whole words) ≡ length words = length-map words whole in
-    stored-entry _ _ _ c.args.self.now.stored c.args.symbol.now _ _
+    stored-entry g.Probability.BitArray.BITS g.row.PRECISION lefts c.args.self.now.stored c.args.symbol.now
+    (whole c.row_at.result.0) (whole (g.Probability.NonZero.NonZeroBitArray.base c.row_at.result.1))
     (rw (← same) (omega (arith, c.if-symbol-cdf.true)))
     (rw (← same) c.row_at.ensures.left)
     (rw (← same) c.row_at.ensures.weight)
@@ -18,6 +20,8 @@ pub returns-else-symbol-cdf : goal.returns-else-symbol-cdf
 returns-else-symbol-cdf g c =
     let whole = g.Probability.BitArray.whole in
     let words = c.words-cdf.result.now in
-    let same : map whole words ≡ map whole (g.Cdf.SafeBuf.words_of c.args.self.now.cdf) = ap (map whole) c.words-cdf.ensures in
+    let lefts = map whole (g.Cdf.SafeBuf.words_of c.args.self.now.cdf) in
+    let same : map whole words ≡ lefts = rw c.words-cdf.ensures refl in
     let long : length (map whole words) ≡ length words = length-map words whole in
-    stored-no_entry _ _ _ c.args.self.now.stored c.args.symbol.now (rw (← same) (omega (arith, c.if-symbol-cdf.false)))
+    stored-no_entry g.Probability.BitArray.BITS g.row.PRECISION lefts c.args.self.now.stored c.args.symbol.now
+    (rw (← same) (omega (arith, c.if-symbol-cdf.false)))
