@@ -16,14 +16,22 @@ reversal s = record { before = reverse s.after; after = reverse s.before }
 -- The last word before the position is answered and goes behind it. Where there is none, nothing is answered and nothing moves.
 abbrev pub StackReads : {W E : Type 0} → State W → Result (Option W) E → State W → Type 0
 StackReads s r t =
-    MatchResult r (λ o. MatchOption o ((s.before ≡ []) × (t ≡ s)) (λ w. (s.before ≡ t.before ++ w ∷ []) × (t.after ≡ w ∷ s.after))) (λ _. ⊥)
+    MatchResult r
+    (λ o. MatchOption o ((s.before ≡ []) × (t ≡ s))
+    (λ w. (s.before ≡ t.before ++ w ∷ []) × (t.after ≡ w ∷ s.after)))
+    (λ _. ⊥)
 
 -- The first word behind the position is answered and goes before it. Where there is none, nothing is answered and nothing moves.
 abbrev pub QueueReads : {W E : Type 0} → State W → Result (Option W) E → State W → Type 0
 QueueReads s r t =
-    MatchResult r (λ o. MatchOption o ((s.after ≡ []) × (t ≡ s)) (λ w. (s.after ≡ w ∷ t.after) × (t.before ≡ s.before ++ w ∷ []))) (λ _. ⊥)
+    MatchResult r
+    (λ o. MatchOption o ((s.after ≡ []) × (t ≡ s))
+    (λ w. (s.after ≡ w ∷ t.after) × (t.before ≡ s.before ++ w ∷ [])))
+    (λ _. ⊥)
 
 -- The word takes the place of the first one behind the position and goes before it. Where there is none, it is refused and nothing changes.
 abbrev pub Overwrites : {W E : Type 0} → State W → W → Result (Unit {0}) E → State W → Type 0
-Overwrites {W} s w r t = MatchResult r (λ _. (t.before ≡ s.before ++ w ∷ []) × ((x : W) × (s.after ≡ x
-    ∷ t.after))) (λ _. (s.after ≡ []) × (t ≡ s))
+Overwrites {W} s w r t =
+    MatchResult r
+    (λ _. (t.before ≡ s.before ++ w ∷ []) × ((x : W) × (s.after ≡ x ∷ t.after)))
+    (λ _. (s.after ≡ []) × (t ≡ s))

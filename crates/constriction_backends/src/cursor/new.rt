@@ -83,7 +83,8 @@ impl<Word: Copy, Buf: SafeBuf<Word>> Cursor<Word, Buf> {
     /// A cursor at the same position over a copy of the words, which it makes in one pass. It fails
     /// only where memory is refused.
     pub fn cloned(&self, alloc: Global) -> Result<Cursor<Word, Vec<Word>>, AllocError>
-        ensures { IfOk result (λ cursor. ((buf_of cursor).items ≡ Buf.words_of (buf_of self.now)) × (pos_of cursor ≡ pos_of self.now)) }
+        ensures { IfOk result (λ cursor. ((buf_of cursor).items ≡ Buf.words_of (buf_of self.now))
+            × (pos_of cursor ≡ pos_of self.now)) }
     {
         let mut buf = Vec::new(alloc);
         buf.extend_from_slice(self.buf.words())?;
