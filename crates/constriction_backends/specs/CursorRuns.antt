@@ -27,7 +27,7 @@ module _ (W B : Type 0) (g : Ghosts B W) where
       → length (g.words_of later.buf) ≡ length (g.words_of taken.buf) → SeeksTo later taken.pos r t
       → IsOk r × (t.pos ≡ taken.pos) × (t.buf ≡ later.buf)
 
-  -- Writes in a row that succeeded: their words stand behind those that were written before, they took the places of as many others, and
+  -- Writes in a row that succeeded: their words stand after those that were written before, they took the places of as many others, and
   -- the buffer is the old one with other words.
   abbrev pub ExtendingOverwrites : (B → List W → B) → Type 0 → Type 0
   ExtendingOverwrites with_words E =

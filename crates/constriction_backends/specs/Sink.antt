@@ -3,7 +3,7 @@
 use Rattle.std.specs.Prelude.{◌≡◌, ℕ, ◌+◌, List, [], ◌∷◌, ◌++◌, length, Option, Some, Result, Ok, Err, MatchResult}
 use Rattle.std.specs.Iterator.{Drains, YieldsThen}
 
--- A write where the words ws were written before: the word stands behind them, or was refused and they stay.
+-- A write where the words ws were written before: the word comes after them, or was refused and they stay.
 abbrev pub WritesTold : {S W E : Type 0} → (S → List W → Type 0) → List W → W → Result (Unit {0}) E → S → Type 0
 WritesTold tells ws w r t = MatchResult r (λ _. tells t (ws ++ w ∷ [])) (λ _. tells t ws)
 

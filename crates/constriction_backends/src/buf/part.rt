@@ -8,7 +8,7 @@ use crate::buf::SafeBufMut;
 use std::slice::from_raw_parts_mut;
 
 /// Lends the words from one index up to another for writing. What stands in them at the end of the
-/// loan stands between the words before and those behind.
+/// loan stands between the words before and those after.
 #[inline]
 pub(crate) fn part_mut<Word, Buf: SafeBufMut<Word>>(
     buf: &mut Buf,

@@ -22,7 +22,7 @@ impl<Word, Buf: SafeBuf<Word>> Cursor<Word, Buf> {
         }
     }
 
-    /// A cursor behind the last word: everything was written, and a stack reads from the end.
+    /// A cursor after the last word: everything was written, and a stack reads from the end.
     #[inline]
     pub fn new_at_write_end(buf: Buf) -> Self
         ensures buf { buf_of result ≡ buf }
@@ -36,7 +36,7 @@ impl<Word, Buf: SafeBuf<Word>> Cursor<Word, Buf> {
         }
     }
 
-    /// A cursor behind the first `pos` words. It is refused, and the buffer is dropped, where there
+    /// A cursor after the first `pos` words. It is refused, and the buffer is dropped, where there
     /// are fewer words than that.
     #[inline]
     pub fn new_at_pos(buf: Buf, pos: usize) -> Result<Self, ()>
