@@ -2,14 +2,14 @@
 use Rattle.std.proofs.Common.{◌≡◌, ◌≢◌, ◌↔◌, ◌+◌, ◌≤◌, ℕ, zero, suc, List, [], ◌∷◌, Option, Some, None, Result, Ok, Err, arith}
 use Rattle.constriction_backends.specs.Source.{CountsRead, HasItems, RemainingCounts}
 
-module _ {W E : Type 0} (m n : ℕ) (rest : List (Result (Option W) E)) (behind : HasItems n rest) where
+module _ {W E : Type 0} (m n : ℕ) (rest : List (Result (Option W) E)) (others : HasItems n rest) where
   -- an item stands before the others
   item_before : (r : Result (Option W) E) → r ≢ Ok None → m ≡ n + 1 → HasItems m (r ∷ rest)
   item_before r item count zero a e =
       let same : r ≡ a = cc in
       (λ none. absurd (item (cc)), λ none. absurd (omega arith))
   item_before r item count (suc i) a e =
-      let other : (a ≡ Ok None) ↔ (n ≤ i) = behind i a e in
+      let other : (a ≡ Ok None) ↔ (n ≤ i) = others i a e in
       (λ none. let late : n ≤ i = other.0 none in omega arith, λ late. other.1 (omega arith))
 
   -- the end stands before others, which are ends too
@@ -18,7 +18,7 @@ module _ {W E : Type 0} (m n : ℕ) (rest : List (Result (Option W) E)) (behind 
       let same : a ≡ Ok None = cc in
       (λ none. omega arith, λ late. same)
   end_before before after (suc i) a e =
-      let other : (a ≡ Ok None) ↔ (n ≤ i) = behind i a e in
+      let other : (a ≡ Ok None) ↔ (n ≤ i) = others i a e in
       (λ none. omega arith, λ late. other.1 (omega arith))
 
   -- one answer before others, where m items were left before it and n after it

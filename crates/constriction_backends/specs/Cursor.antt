@@ -1,8 +1,7 @@
 -- What the contracts of a cursor name: its buffer, its position and its state.
 use Rattle.std.specs.Prelude.{◌≡◌, ℕ, List, length, slice_set, ◌<◌, ◌≤◌, ◌⊎◌, Result, MatchResult}
-use Rattle.std.proofs.Common.{arith, ap, ◌∙◌, inl, inr}
+use Rattle.std.proofs.Common.{inl, inr}
 use Rattle.std.proofs.lemmas.Bool.{cases_lt}
-use Rattle.std.proofs.Math.Bridge.{le_prop}
 use Rattle.constriction_backends.specs.declared.buf.SafeBuf.{Ghosts}
 use Rattle.constriction_backends.specs.declared.cursor.Cursor.{Cursor}
 use Rattle.constriction_backends.specs.CursorState.{State, state, reversal, Overwrites}
@@ -39,7 +38,8 @@ module _ {W B : Type 0} {g : Ghosts B W} (c : Cursor W B g) where
       × MatchResult r (λ _. t.buf ≡ with_words c.buf (slice_set (g.words_of c.buf) t.pos w)) (λ _. t ≡ c)
 
   module _ (b : B) where
-    abbrev over_if : (length (g.words_of b) < c.pos) ⊎ (c.pos ≤ length (g.words_of b)) → Cursor W B g
+    -- the cursor over that buffer, where the position is in its range, and otherwise the cursor as it was
+    abbrev pub over_if : (length (g.words_of b) < c.pos) ⊎ (c.pos ≤ length (g.words_of b)) → Cursor W B g
     over_if (inl _) = c
     over_if (inr h) = record c { buf = b; in_range = h }
 
@@ -47,15 +47,3 @@ module _ {W B : Type 0} {g : Ghosts B W} (c : Cursor W B g) where
     -- lends its words becomes shorter by it.
     abbrev pub over : Cursor W B g
     over = over_if (cases_lt (length (g.words_of b)) c.pos)
-
-    over_either : (h : c.pos ≤ length (g.words_of b)) (s : (length (g.words_of b) < c.pos) ⊎ (c.pos ≤ length (g.words_of b)))
-        → record c { buf = b; in_range = h } ≡ over_if s
-    over_either h (inl l) = absurd (omega arith)
-    over_either h (inr k) = ap (λ (x : c.pos ≤ length (g.words_of b)). let d : Cursor W B g = record c { buf = b; in_range = x } in d) (le_prop h k)
-
-    pub over_in_range : (h : c.pos ≤ length (g.words_of b)) → record c { buf = b; in_range = h } ≡ over
-    over_in_range h = over_either h (cases_lt (length (g.words_of b)) c.pos)
-
-  -- the same, where the buffer is known by another name
-  pub over_known : (b d : B) → b ≡ d → (h : c.pos ≤ length (g.words_of b)) → record c { buf = b; in_range = h } ≡ over d
-  over_known b d e h = over_in_range b h ∙ ap over e

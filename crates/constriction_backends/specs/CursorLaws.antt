@@ -1,11 +1,10 @@
--- The steps of a cursor state meet the laws of sources and sinks. No public clause cites this module.
-use Rattle.std.specs.Prelude.{◌≡◌, ◌≢◌, ℕ, ◌-◌, ◌≤◌, take, drop, List, [], ◌∷◌, ◌++◌, length, reverse, Option, Some, None, Result, Ok, Err}
-use Rattle.std.proofs.Common.{sym, ◌∙◌, ap, arith, length-append, add-one}
-use Rattle.std.proofs.lemmas.List.{reverse-append, length-reverse, length-drop, length-take-le, take-append-drop}
-use Rattle.std.proofs.Math.Seq.{take-append_seam, drop-append_seam}
+-- The steps of a cursor's state meet the laws of sources and sinks: the impls cite these. No public clause cites this module.
+use Rattle.std.specs.Prelude.{◌≡◌, List, [], ◌∷◌, ◌++◌, length, reverse, Option, Some, None, Result, Ok, Err}
+use Rattle.std.proofs.Common.{sym, ◌∙◌, ap, length-append, add-one}
+use Rattle.std.proofs.lemmas.List.{reverse-append}
 use Rattle.constriction_backends.specs.Source.{ReadsTold, CountsRead}
 use Rattle.constriction_backends.specs.Sink.{WritesTold, CountsWrite}
-use Rattle.constriction_backends.specs.CursorState.{State, state, reversal, StackReads, QueueReads, Overwrites}
+use Rattle.constriction_backends.specs.CursorState.{State, StackReads, QueueReads, Overwrites}
 
 module _ {S W E : Type 0} (view : S → State W) where
   pub StackReads-told : (s : S) (r : Result (Option W) E) (t : S) → StackReads (view s) r (view t) → (words : List W)
@@ -46,32 +45,3 @@ module _ {S W E : Type 0} (view : S → State W) where
       → CountsWrite (length (view s).after) r (length (view t).after)
   Overwrites-counts s w (Ok x) t h = rw add-one (ap length h.1.1)
   Overwrites-counts s w (Err x) t h = (ap length h.0, ap (λ u. length u.after) h.1 ∙ ap length h.0)
-
--- a position above 0 has words before it
-pub stack_not_empty : {W : Type 0} (pos : ℕ) (all : List W) → pos ≤ length all → pos ≢ 0 → (words : List W) → words ≡ reverse (take pos all)
-    → words ≢ []
-stack_not_empty pos all in_range above words told none =
-    above (sym (length-take-le pos all in_range) ∙ (sym (length-reverse (take pos all)) ∙ (ap length (sym told) ∙ ap length none)))
-
--- a position below the length has words behind it
-pub queue_not_empty : {W : Type 0} (pos : ℕ) (all : List W) → pos ≤ length all → pos ≢ length all → (words : List W) → words ≡ drop pos all
-    → words ≢ []
-queue_not_empty pos all in_range inside words told none =
-    let left : length all - pos ≡ 0 = sym (length-drop pos all) ∙ ap length (sym told ∙ none) in
-    inside (omega arith)
-
--- turning the words round and the position with them
-pub state-reverse : {W : Type 0} (xs : List W) (pos : ℕ) → pos ≤ length xs → state (reverse xs) (length xs - pos) ≡ reversal (state xs pos)
-state-reverse {W = W} xs pos in_range =
-    let halves : reverse xs ≡ reverse (drop pos xs) ++ reverse (take pos xs) = sym (ap reverse (take-append-drop pos xs))
-    ∙ reverse-append (take pos xs) (drop pos xs) in
-    let len : length (reverse (drop pos xs)) ≡ length xs - pos = length-reverse (drop pos xs) ∙ length-drop pos xs in
-    let front : take (length xs - pos) (reverse xs) ≡ reverse (drop pos xs) = rw (halves, ← len) (take-append_seam (reverse (drop pos xs)) (reverse (take pos xs))) in
-    let back : drop (length xs - pos) (reverse xs) ≡ reverse (take pos xs) = rw (halves, ← len) (drop-append_seam (reverse (drop pos xs)) (reverse (take pos xs))) in
-    let made = λ (b a : List W). let s : State W = record { before = b; after = a } in s in
-    ap (λ b. made b (drop (length xs - pos) (reverse xs))) front ∙ ap (made (reverse (drop pos xs))) back
-
--- the same, of words that were reversed in place
-pub state-turned : {W : Type 0} (made new xs : List W) (pos : ℕ) → made ≡ new → new ≡ reverse xs → pos ≤ length xs
-    → state made (length new - pos) ≡ reversal (state xs pos)
-state-turned made new xs pos m n in_range = rw (m, n, length-reverse xs) (state-reverse xs pos in_range)

@@ -1,8 +1,5 @@
 -- What follows from the steps of a cursor: of its reversal, of positions that were taken, and of writes in a row.
-use Rattle.std.specs.Prelude.{◌≡◌, ◌↔◌, ◌<◌, ◌≤◌, ℕ, ◌-◌, suc, List, [], ◌∷◌, ◌++◌, length, drop, reverse, slice_set, Option, Some, None, Result, Ok, Err, IsOk}
-use Rattle.std.proofs.Common.{sym, ◌∙◌, ap, subst, arith, refl, append_assoc, append-nil}
-use Rattle.std.proofs.lemmas.List.{reverse-append, reverse-reverse, length-reverse}
-use Rattle.std.proofs.Math.Bridge.{le_prop}
+use Rattle.std.specs.Prelude.{◌≡◌, ◌↔◌, List, ◌++◌, length, drop, reverse, Option, Result, IsOk}
 use Rattle.constriction_backends.specs.declared.buf.SafeBuf.{Ghosts}
 use Rattle.constriction_backends.specs.declared.cursor.Cursor.{Cursor}
 use Rattle.constriction_backends.specs.Cursor.{state_of, SeeksTo, WritesTo}
@@ -30,7 +27,7 @@ module _ (W B : Type 0) (g : Ghosts B W) where
       → length (g.words_of later.buf) ≡ length (g.words_of taken.buf) → SeeksTo later taken.pos r t
       → IsOk r × (t.pos ≡ taken.pos) × (t.buf ≡ later.buf)
 
-  -- Writes in a row that succeeded: their words stand behind those that were written before, they took the places of as many others, and
+  -- Writes in a row that succeeded: their words stand after those that were written before, they took the places of as many others, and
   -- the buffer is the old one with other words.
   abbrev pub ExtendingOverwrites : (B → List W → B) → Type 0 → Type 0
   ExtendingOverwrites with_words E =
@@ -39,90 +36,3 @@ module _ (W B : Type 0) (g : Ghosts B W) where
       → ((state_of d).before ≡ (state_of c).before ++ words)
       × ((state_of d).after ≡ drop (length words) (state_of c).after)
       × (d.buf ≡ with_words c.buf (g.words_of d.buf))
-
-pub reversal-twice : {W : Type 0} → ReversalTwice W
-reversal-twice {W = W} s =
-    let made = λ (b a : List W). let u : State W = record { before = b; after = a } in u in
-    ap (λ b. made b (reverse (reverse s.after))) (reverse-reverse s.before) ∙ ap (made s.before) (reverse-reverse s.after)
-
-stack-to_queue : {W E : Type 0} (s : State W) (r : Result (Option W) E) (t : State W) → StackReads s r t
-    → QueueReads (reversal s) r (reversal t)
-stack-to_queue s (Ok None) t h = (ap reverse h.0, ap reversal h.1)
-stack-to_queue s (Ok (Some w)) t h =
-    (ap reverse h.0 ∙ reverse-append t.before (w ∷ []), ap reverse h.1 ∙ reverse-append (w ∷ []) s.after)
-stack-to_queue s (Err x) t h = absurd h
-
-queue-to_stack : {W E : Type 0} (s : State W) (r : Result (Option W) E) (t : State W) → QueueReads s r t
-    → StackReads (reversal s) r (reversal t)
-queue-to_stack s (Ok None) t h = (ap reverse h.0, ap reversal h.1)
-queue-to_stack s (Ok (Some w)) t h =
-    (ap reverse h.0 ∙ reverse-append (w ∷ []) t.after, ap reverse h.1 ∙ reverse-append s.before (w ∷ []))
-queue-to_stack s (Err x) t h = absurd h
-
-pub reversal-reads : {W E : Type 0} → ReversalReads W E
-reversal-reads {W} {E} s =
-    let back_stack = λ (r : Result (Option W) E) (t : State W) (h : QueueReads (reversal s) r (reversal t)).
-    subst (λ (u : State W). StackReads u r t) (reversal-twice s)
-    (subst (λ (u : State W). StackReads (reversal (reversal s)) r u) (reversal-twice t) (queue-to_stack (reversal s) r (reversal t) h)) in
-    let back_queue = λ (r : Result (Option W) E) (t : State W) (h : StackReads (reversal s) r (reversal t)).
-    subst (λ (u : State W). QueueReads u r t) (reversal-twice s)
-    (subst (λ (u : State W). QueueReads (reversal (reversal s)) r u) (reversal-twice t) (stack-to_queue (reversal s) r (reversal t) h)) in
-    (λ r t. ((stack-to_queue s r t, back_stack r t), (queue-to_stack s r t, back_queue r t)), sym (reverse-reverse s.after), refl)
-
-module _ {W B : Type 0} {g : Ghosts B W} where
-  pub cursor_seeks_back : CursorSeeksBack W B g
-  cursor_seeks_back taken later (Ok x) t same h = (search, h.2, h.1)
-  cursor_seeks_back taken later (Err x) t same h =
-      let in_range : taken.pos ≤ length (g.words_of taken.buf) = taken.in_range in
-      let past : length (g.words_of later.buf) < taken.pos = h.0 in
-      absurd (omega arith)
-
-  abbrev Made : (b : B) (p : ℕ) → p ≤ length (g.words_of b) → Cursor W B g
-  Made b p h = record { buf = b; pos = p; phantom = record {}; in_range = h }
-
-  -- a cursor is its buffer and its position
-  same_cursor : (c d : Cursor W B g) → d.buf ≡ c.buf → d.pos ≡ c.pos → d ≡ c
-  same_cursor c d e k =
-      let ranges = λ (h : c.pos ≤ length (g.words_of c.buf)). ap (Made c.buf c.pos) (le_prop h c.in_range) in
-      let positions = subst (λ (p : ℕ). (h : p ≤ length (g.words_of c.buf)) → Made c.buf p h ≡ c) (sym k) ranges in
-      subst (λ (b : B). (h : d.pos ≤ length (g.words_of b)) → Made b d.pos h ≡ c) (sym e) positions d.in_range
-
-  module _ (with_words : B → List W → B)
-      (stand : (b : B) (ws : List W) → length ws ≡ length (g.words_of b) → g.words_of (with_words b ws) ≡ ws)
-      (keeps_length : (b : B) (ws : List W) → length (g.words_of (with_words b ws)) ≡ length (g.words_of b))
-      (unchanged : (b : B) → with_words b (g.words_of b) ≡ b)
-      (again : (b : B) (ws vs : List W) → length vs ≡ length (g.words_of b) → with_words (with_words b ws) vs ≡ with_words b vs) where
-    -- a buffer that has other words twice has the last ones
-    twice : (b j d : B) (ws : List W) → j ≡ with_words b ws → d ≡ with_words j (g.words_of d) → d ≡ with_words b (g.words_of d)
-    twice b j d ws e k =
-        let one : length (g.words_of j) ≡ length (g.words_of b) = ap (λ x. length (g.words_of x)) e ∙ keeps_length b ws in
-        let two : length (g.words_of d) ≡ length (g.words_of j) = ap (λ x. length (g.words_of x)) k ∙ keeps_length j (g.words_of d) in
-        k ∙ (ap (λ x. with_words x (g.words_of d)) e ∙ again b ws (g.words_of d) (two ∙ one))
-
-    pub extending_overwrites : (E : Type 0) → ExtendingOverwrites W B g with_words E
-    extending_overwrites E c [] d e = (
-      sym (ap (λ x. (state_of x).before) e) ∙ sym (append-nil (state_of c).before),
-      sym (ap (λ x. (state_of x).after) e),
-      sym (ap (λ x. x.buf) e) ∙ (sym (unchanged c.buf) ∙ ap (λ x. with_words c.buf (g.words_of x.buf)) e),
-    )
-    extending_overwrites E c (w ∷ words) d (j, h, rest) =
-        let others = extending_overwrites E j words d rest in (
-          others.0 ∙ (ap (λ l. l ++ words) h.0.0 ∙ append_assoc (state_of c).before (w ∷ []) words),
-          others.1 ∙ sym (ap (drop (suc (length words))) h.0.1.1),
-          twice c.buf j.buf d.buf (slice_set (g.words_of c.buf) c.pos w) h.1 others.2,
-        )
-
-    -- a cursor that was turned round and turned back
-    pub turned_back : (c t d : Cursor W B g)
-        → t.buf ≡ with_words c.buf (reverse (g.words_of c.buf)) → t.pos ≡ length (g.words_of c.buf) - c.pos
-        → d.buf ≡ with_words t.buf (reverse (g.words_of t.buf)) → d.pos ≡ length (g.words_of t.buf) - t.pos
-        → d ≡ c
-    turned_back c t d tb tp db dp =
-        let all = g.words_of c.buf in
-        let turned : g.words_of t.buf ≡ reverse all = ap g.words_of tb ∙ stand c.buf (reverse all) (length-reverse all) in
-        let back : reverse (g.words_of t.buf) ≡ all = ap reverse turned ∙ reverse-reverse all in
-        let long : length (g.words_of t.buf) ≡ length all = ap length turned ∙ length-reverse all in
-        let in_range : c.pos ≤ length all = c.in_range in
-        let pos : d.pos ≡ c.pos = omega arith in
-        same_cursor c d (db ∙ (ap (with_words t.buf) back ∙ (ap (λ b. with_words b all) tb ∙ (again c.buf (reverse all) all refl
-        ∙ unchanged c.buf)))) pos

@@ -1,7 +1,7 @@
 -- What a cursor is: a list of words that a position cuts in two. Each call is a step from one state to another.
 use Rattle.std.specs.Prelude.{◌≡◌, ℕ, List, [], ◌∷◌, ◌++◌, take, drop, reverse, Option, Result, MatchResult, MatchOption}
 
--- the words before the position, and those behind it
+-- the words before the position, and those from the position on
 pub record State (W : Type 0) : Type 0 where
   pub before : List W
   pub after : List W
@@ -13,17 +13,28 @@ state words pos = record { before = take pos words; after = drop pos words }
 abbrev pub reversal : {W : Type 0} → State W → State W
 reversal s = record { before = reverse s.after; after = reverse s.before }
 
--- The last word before the position is answered and goes behind it. Where there is none, nothing is answered and nothing moves.
+-- The last word before the position is answered, and the position moves back over it.
+-- Where there is none, nothing is answered and nothing moves.
 abbrev pub StackReads : {W E : Type 0} → State W → Result (Option W) E → State W → Type 0
 StackReads s r t =
-    MatchResult r (λ o. MatchOption o ((s.before ≡ []) × (t ≡ s)) (λ w. (s.before ≡ t.before ++ w ∷ []) × (t.after ≡ w ∷ s.after))) (λ _. ⊥)
+    MatchResult r
+    (λ o. MatchOption o ((s.before ≡ []) × (t ≡ s))
+    (λ w. (s.before ≡ t.before ++ w ∷ []) × (t.after ≡ w ∷ s.after)))
+    (λ _. ⊥)
 
--- The first word behind the position is answered and goes before it. Where there is none, nothing is answered and nothing moves.
+-- The word at the position is answered, and the position moves forward over it.
+-- Where there is none, nothing is answered and nothing moves.
 abbrev pub QueueReads : {W E : Type 0} → State W → Result (Option W) E → State W → Type 0
 QueueReads s r t =
-    MatchResult r (λ o. MatchOption o ((s.after ≡ []) × (t ≡ s)) (λ w. (s.after ≡ w ∷ t.after) × (t.before ≡ s.before ++ w ∷ []))) (λ _. ⊥)
+    MatchResult r
+    (λ o. MatchOption o ((s.after ≡ []) × (t ≡ s))
+    (λ w. (s.after ≡ w ∷ t.after) × (t.before ≡ s.before ++ w ∷ [])))
+    (λ _. ⊥)
 
--- The word takes the place of the first one behind the position and goes before it. Where there is none, it is refused and nothing changes.
+-- The word takes the place of the one at the position, and the position moves forward over it.
+-- Where there is none, the word is refused and nothing changes.
 abbrev pub Overwrites : {W E : Type 0} → State W → W → Result (Unit {0}) E → State W → Type 0
-Overwrites {W} s w r t = MatchResult r (λ _. (t.before ≡ s.before ++ w ∷ []) × ((x : W) × (s.after ≡ x
-    ∷ t.after))) (λ _. (s.after ≡ []) × (t ≡ s))
+Overwrites {W} s w r t =
+    MatchResult r
+    (λ _. (t.before ≡ s.before ++ w ∷ []) × ((x : W) × (s.after ≡ x ∷ t.after)))
+    (λ _. (s.after ≡ []) × (t ≡ s))

@@ -1,9 +1,13 @@
 pub mod Buffer
+pub mod BufferLaws
 pub mod Cursor
 pub mod CursorLaws
 pub mod CursorRuns
 pub mod CursorState
+pub mod Part
 pub mod Sink
+pub mod SinkLaws
 pub mod Source
 pub mod Stack
+pub mod StackLaws
 pub mod VecBuffer

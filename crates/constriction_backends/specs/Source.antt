@@ -14,9 +14,10 @@ abbrev pub CountsRead : {W E : Type 0} → ℕ → Result (Option W) E → ℕ �
 CountsRead m r n = MatchResult r (λ o. MatchOption o ((m ≡ 0) × (n ≡ 0)) (λ _. m ≡ n + 1)) (λ _. m ≡ n + 1)
 
 -- reads in a row from s gave these answers and led to t; `gives s r t` says that a read of s may answer r and leave t
-abbrev pub Reads : {S W E : Type 0} → (S → Result (Option W) E → S → Type 0) → S → List (Result (Option W) E) → S → Type 0
-Reads gives s [] t = s ≡ t
-Reads {S} gives s (r ∷ rs) t = (j : S) × gives s r j × Reads gives j rs t
+abbrev pub GivesAnswers : {S W E : Type 0} → (S → Result (Option W) E → S → Type 0)
+    → S → List (Result (Option W) E) → S → Type 0
+GivesAnswers gives s [] t = s ≡ t
+GivesAnswers {S} gives s (r ∷ rs) t = (j : S) × gives s r j × GivesAnswers gives j rs t
 
 -- exactly the first n of the answers are items: words, or errors in their place
 abbrev pub HasItems : {W E : Type 0} → ℕ → List (Result (Option W) E) → Type 0
@@ -25,4 +26,4 @@ HasItems {W} {E} n answers = (k : ℕ) (r : Result (Option W) E) → slice_get a
 -- where the count of the items that are left is right, reads in a row give so many items, and then answer that there is none
 abbrev pub RemainingCounts : {S W E : Type 0} → (S → Result (Option W) E → S → Type 0) → (S → ℕ) → (S → Type 0) → Type 0
 RemainingCounts {S} {W} {E} gives left exact =
-    (s : S) (answers : List (Result (Option W) E)) (t : S) → exact s → Reads gives s answers t → HasItems (left s) answers
+    (s : S) (answers : List (Result (Option W) E)) (t : S) → exact s → GivesAnswers gives s answers t → HasItems (left s) answers

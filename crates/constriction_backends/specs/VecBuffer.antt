@@ -1,17 +1,17 @@
--- A `Vec` with other items in it, as many as it has: the impls cite this, a caller's own buffer may, and no public clause does.
+-- A `Vec` with other items in it: the impls cite these, and a caller's own buffer may. No public clause cites this module.
 use Rattle.std.specs.Prelude.{◌≡◌, List, ◌≤◌, length}
 use Rattle.std.specs.Vec.{with_items}
 use Rattle.std.specs.declared.vec.Vec.{Vec}
 use Rattle.std.proofs.Common.{sym, ap, ◌∙◌, refl, subst}
 use Rattle.std.proofs.Props.{props}
-use Rattle.constriction_backends.specs.Buffer.{refill, length-refill}
+use Rattle.std.proofs.lemmas.List.{with_items_is}
 
 module _ {X Z : Type 0} (v : Vec X Z) where
   pub with_items_stand : (ws : List X) → length ws ≡ length v.items → (with_items v ws).items ≡ ws
-  with_items_stand ws same = refill v.len v.items ws (sym v.ok.0) same
+  with_items_stand ws same = with_items_is v ws (same ∙ sym v.ok.0)
 
   pub with_items-length : (ws : List X) → length (with_items v ws).items ≡ length v.items
-  with_items-length ws = length-refill v.len v.items ws (sym v.ok.0)
+  with_items-length ws = sym (with_items v ws).ok.0 ∙ v.ok.0
 
   abbrev Fits : List X → Type 0
   Fits xs = (v.len ≡ length xs) × (v.len ≤ v.cap)
@@ -33,5 +33,4 @@ module _ {X Z : Type 0} (v : Vec X Z) where
   pub with_items_again : (ws vs : List X) → length vs ≡ length v.items → with_items (with_items v ws) vs ≡ with_items v vs
   with_items_again ws vs same =
       made_same _ _ (with_items (with_items v ws) vs).ok (with_items v vs).ok
-      (refill v.len (with_items v ws).items vs (with_items-length ws ∙ sym v.ok.0) (same ∙ sym (with_items-length ws))
-      ∙ sym (with_items_stand vs same))
+      (with_items_is (with_items v ws) vs (same ∙ sym v.ok.0) ∙ sym (with_items_stand vs same))

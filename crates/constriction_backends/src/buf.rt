@@ -6,7 +6,8 @@ ghost use Rattle.std.specs.Vec.{with_items};
 ghost use Rattle.std.specs.Box.{boxed_slice_items};
 ghost use Rattle.std.proofs.Common.{ap, refl};
 ghost use denote.Ref.{at_last};
-ghost use Rattle.constriction_backends.specs.Buffer.{with_now, refilled_same, refilled_again, length-refilled};
+ghost use Rattle.constriction_backends.specs.Buffer.{with_now};
+ghost use Rattle.constriction_backends.specs.BufferLaws.{refilled_same, refilled_again, length-refilled};
 ghost use Rattle.constriction_backends.specs.VecBuffer.{with_items_stand, with_items-length, with_items_unchanged, with_items_again};
 
 mod part;

@@ -1,4 +1,4 @@
-//! A buffer with a position, which cuts its words in those before it and those behind it.
+//! A buffer with a position, which cuts its words in those before it and those from it on.
 
 ghost use Rattle.std.specs.Prelude.{◌≤◌, length};
 
@@ -15,12 +15,12 @@ mod write;
 use crate::buf::SafeBuf;
 use std::marker::PhantomData;
 
-/// A buffer with a position in it: the words before the position were written, and those behind it
-/// are free.
+/// A buffer with a position in it: the words before the position were written, and those from it
+/// on are free.
 ///
-/// As a sink it overwrites the word behind the position, and never grows. As a source it is read
+/// As a sink it overwrites the word at the position, and never grows. As a source it is read
 /// backwards, as a [`Stack`](constriction_words::Stack), from the word before the position, or
-/// forwards, as a [`Queue`](constriction_words::Queue), from the word behind it. A read leaves the
+/// forwards, as a [`Queue`](constriction_words::Queue), from the word at it. A read leaves the
 /// words as they are and moves the position.
 ///
 /// The position is at most the number of words.

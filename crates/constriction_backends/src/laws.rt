@@ -43,7 +43,7 @@ pub fn seek_back<Word>()
 
 /// Writes the words of an iterator to a sink that counts its free places: they are refused exactly
 /// where there are more of them than places, and otherwise take a place each.
-#[tactic(auto, using(crate::specs::Sink::extending_counted))]
+#[tactic(auto, using(crate::proofs::Places::extending_counted))]
 pub fn extending_counts<Word, Sink: BoundedWriteWords<Word>, Words: Iterator<Item = Word>>(
     sink: &mut Sink,
     words: Words,

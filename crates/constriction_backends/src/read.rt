@@ -73,5 +73,6 @@ pub trait BoundedReadWords<Word, S: Semantics>: ReadWords<Word, S> {
         → CountsRead (items_left s) r (items_left t) × is_exact t };
 
     // The items are the told words.
-    ghost counts_told: { (s : Self) → is_exact s → (words : List Word) → Self.tells_upcoming s words → items_left s ≡ length words };
+    ghost counts_told: { (s : Self) → is_exact s → (words : List Word) → Self.tells_upcoming s words
+        → items_left s ≡ length words };
 }

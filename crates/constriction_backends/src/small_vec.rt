@@ -6,7 +6,7 @@ ghost use Rattle.std.specs.Prelude.{◌≡◌, ◌≢◌, ◌↔◌, ◌≤◌, 
 ghost use Rattle.std.specs.Bool.{OnFalse};
 ghost use Rattle.smallvec.specs.SmallVec.{HasRoomFor};
 ghost use Rattle.constriction_backends.specs.Stack.{Pops, Pushes};
-ghost use Rattle.constriction_backends.specs.Stack.{Pops-told, Pops-counted, Pushes-told, tells_all};
+ghost use Rattle.constriction_backends.specs.StackLaws.{Pops-told, Pops-counted, Pushes-told, tells_all};
 
 use crate::read::{BoundedReadWords, ReadWords};
 use crate::write::WriteWords;

@@ -2,7 +2,7 @@
 
 ghost use Rattle.std.specs.Prelude.{◌≡◌, ◌↔◌, ◌<◌, ◌≤◌, [], ⊤, false, reverse, length, IsTrue, IsOk, vec_capacity};
 ghost use Rattle.constriction_backends.specs.Stack.{Pops, Pushes};
-ghost use Rattle.constriction_backends.specs.Stack.{Pops-told, Pops-counted, Pushes-told, tells_all};
+ghost use Rattle.constriction_backends.specs.StackLaws.{Pops-told, Pops-counted, Pushes-told, tells_all};
 
 use crate::read::{BoundedReadWords, ReadWords};
 use crate::write::WriteWords;

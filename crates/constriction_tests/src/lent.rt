@@ -19,7 +19,7 @@ fn set_first<Word: Copy, Buf: SafeBufMut<Word>>(cursor: &mut Cursor<Word, Buf>, 
 }
 
 /// Sets the first word through the loan of the words before the position.
-#[tactic(auto, using(constriction_backends::specs::Buffer::set_front))]
+#[tactic(auto, using(constriction_backends::specs::BufferLaws::set_front))]
 fn set_written<Word: Copy, Buf: SafeBufMut<Word>>(cursor: &mut Cursor<Word, Buf>, word: Word)
     requires { 0 < pos_of cursor.old }
     ensures buf { buf_of cursor.new ≡ Buf.with_words (buf_of cursor.old) (slice_set (Buf.words_of (buf_of cursor.old)) 0 word) }
@@ -30,7 +30,7 @@ fn set_written<Word: Copy, Buf: SafeBufMut<Word>>(cursor: &mut Cursor<Word, Buf>
 }
 
 /// Sets the word behind the position through the loan of the words behind it.
-#[tactic(auto, using(constriction_backends::specs::Buffer::set_back))]
+#[tactic(auto, using(constriction_backends::specs::BufferLaws::set_back))]
 fn set_unwritten<Word: Copy, Buf: SafeBufMut<Word>>(cursor: &mut Cursor<Word, Buf>, word: Word)
     requires { pos_of cursor.old < length (Buf.words_of (buf_of cursor.old)) }
     ensures buf { buf_of cursor.new ≡ Buf.with_words (buf_of cursor.old) (slice_set (Buf.words_of (buf_of cursor.old)) (pos_of cursor.old) word) }

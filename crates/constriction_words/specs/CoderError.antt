@@ -24,6 +24,7 @@ MapsBackend R (Frontend err) new = new ≡ Frontend err
 MapsBackend {C = C} R (Backend err) new = (mapped : C) × R err mapped × (new ≡ Backend mapped)
 
 -- what is printed: which side failed, and then the text of its error
-abbrev pub coder_error_text : {F B : Type 0} → (F → Option (List ℕ)) → (B → Option (List ℕ)) → CoderError F B → Option (List ℕ)
+abbrev pub coder_error_text : {F B : Type 0} → (F → Option (List ℕ)) → (B → Option (List ℕ))
+    → CoderError F B → Option (List ℕ)
 coder_error_text frontend_text backend_text (Frontend err) = Some (codes "Invalid compressed data: ") ++? frontend_text err
 coder_error_text frontend_text backend_text (Backend err) = Some (codes "Error while reading compressed data: ") ++? backend_text err

@@ -2,13 +2,13 @@
 
 ghost use Rattle.std.specs.Prelude.{◌≡◌, ◌≤◌, ◌-◌, length, take, drop};
 ghost use Rattle.std.specs.Borrow.{Lends, sem, Array};
-ghost use Rattle.constriction_backends.specs.Buffer.{with_part};
+ghost use Rattle.constriction_backends.specs.Part.{with_part};
 
 use crate::buf::SafeBufMut;
 use std::slice::from_raw_parts_mut;
 
 /// Lends the words from one index up to another for writing. What stands in them at the end of the
-/// loan stands between the words before and those behind.
+/// loan stands between the words before and those after.
 #[inline]
 pub(crate) fn part_mut<Word, Buf: SafeBufMut<Word>>(
     buf: &mut Buf,

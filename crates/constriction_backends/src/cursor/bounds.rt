@@ -1,4 +1,4 @@
-//! How many words a cursor has before and behind its position.
+//! How many words a cursor has before its position, and from it on.
 
 ghost use Rattle.std.specs.Prelude.{◌≡◌, length};
 ghost use Rattle.std.proofs.Common.{ap, sym, ◌∙◌};

@@ -22,7 +22,8 @@ impl<Word, Buf: SafeBufMut<Word>> Cursor<Word, Buf> {
         self.buf.words_mut()
     }
 
-    /// Lends the words before the position for writing. The words behind it and the position stay.
+    /// Lends the words before the position for writing. Those from the position on stay, and so does
+    /// the position.
     #[inline]
     pub fn written_mut(&mut self) -> &mut [Word]
         ensures* writes_back { sem 𝓛 (Lends (the_row Word.row Buf.row Buf.SafeBuf) (Array Word.row 0) self.entry result
@@ -34,7 +35,8 @@ impl<Word, Buf: SafeBufMut<Word>> Cursor<Word, Buf> {
         part_mut(&mut self.buf, 0, pos)
     }
 
-    /// Lends the words behind the position for writing. The words before it and the position stay.
+    /// Lends the words from the position on for writing. Those before it stay, and so does the
+    /// position.
     #[inline]
     pub fn unwritten_mut(&mut self) -> &mut [Word]
         ensures* writes_back { sem 𝓛 (Lends (the_row Word.row Buf.row Buf.SafeBuf) (Array Word.row 0) self.entry result

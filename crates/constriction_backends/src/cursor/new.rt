@@ -22,7 +22,7 @@ impl<Word, Buf: SafeBuf<Word>> Cursor<Word, Buf> {
         }
     }
 
-    /// A cursor behind the last word: everything was written, and a stack reads from the end.
+    /// A cursor after the last word: everything was written, and a stack reads from the end.
     #[inline]
     pub fn new_at_write_end(buf: Buf) -> Self
         ensures buf { buf_of result ≡ buf }
@@ -36,7 +36,7 @@ impl<Word, Buf: SafeBuf<Word>> Cursor<Word, Buf> {
         }
     }
 
-    /// A cursor behind the first `pos` words. It is refused, and the buffer is dropped, where there
+    /// A cursor after the first `pos` words. It is refused, and the buffer is dropped, where there
     /// are fewer words than that.
     #[inline]
     pub fn new_at_pos(buf: Buf, pos: usize) -> Result<Self, ()>
@@ -83,7 +83,8 @@ impl<Word: Copy, Buf: SafeBuf<Word>> Cursor<Word, Buf> {
     /// A cursor at the same position over a copy of the words, which it makes in one pass. It fails
     /// only where memory is refused.
     pub fn cloned(&self, alloc: Global) -> Result<Cursor<Word, Vec<Word>>, AllocError>
-        ensures { IfOk result (λ cursor. ((buf_of cursor).items ≡ Buf.words_of (buf_of self.now)) × (pos_of cursor ≡ pos_of self.now)) }
+        ensures { IfOk result (λ cursor. ((buf_of cursor).items ≡ Buf.words_of (buf_of self.now))
+            × (pos_of cursor ≡ pos_of self.now)) }
     {
         let mut buf = Vec::new(alloc);
         buf.extend_from_slice(self.buf.words())?;

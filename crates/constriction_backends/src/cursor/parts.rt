@@ -37,7 +37,7 @@ impl<Word, Buf: SafeBuf<Word>> Cursor<Word, Buf> {
         &self.buf.words()[..self.pos]
     }
 
-    /// The words behind the position.
+    /// The words from the position on.
     #[inline]
     pub fn unwritten(&self) -> &[Word]
         ensures { result.now ≡ (state_of self.now).after }

@@ -30,7 +30,7 @@ impl<Word: Copy, Buf: SafeBuf<Word>> ReadWords<Word, Stack> for Cursor<Word, Buf
     }
 
     #[inline]
-    #[tactic(auto, using(crate::specs::CursorLaws::stack_not_empty))]
+    #[tactic(auto, using(crate::proofs::Ends::stack_not_empty))]
     fn maybe_exhausted(&self) -> bool
         ensures exhausted { IsTrue result ↔ (length (state_of self.now).before ≡ 0) }
         ensures told { OnFalse result ((words : List Word) → words ≡ reverse (state_of self.now).before → words ≢ []) }
@@ -58,7 +58,7 @@ impl<Word: Copy, Buf: SafeBuf<Word>> ReadWords<Word, Queue> for Cursor<Word, Buf
     }
 
     #[inline]
-    #[tactic(auto, using(crate::specs::CursorLaws::queue_not_empty))]
+    #[tactic(auto, using(crate::proofs::Ends::queue_not_empty))]
     fn maybe_exhausted(&self) -> bool
         ensures exhausted { IsTrue result ↔ (length (state_of self.now).after ≡ 0) }
         ensures told { OnFalse result ((words : List Word) → words ≡ (state_of self.now).after → words ≢ []) }

@@ -1,4 +1,4 @@
-//! A cursor as a sink: a write overwrites the word behind the position.
+//! A cursor as a sink: a write overwrites the word at the position.
 
 ghost use Rattle.std.specs.Prelude.{◌≡◌, ◌<◌, ◌↔◌, ⊤, length, IsOk};
 ghost use Rattle.constriction_backends.specs.Cursor.{buf_of, pos_of, state_of, WritesTo};

@@ -30,7 +30,7 @@ pub fn seek_back_in_a_cursor<Word, Buf: SafeBuf<Word>>()
     ensures { CursorSeeksBack Word Buf Buf.SafeBuf }
 {}
 
-/// Writes in a row to a cursor, as those of `extend_from_iter`: their words stand behind the words
+/// Writes in a row to a cursor, as those of `extend_from_iter`: their words stand after the words
 /// that were written before, in the places of as many others, and the buffer is the old one with
 /// other words.
 pub fn extending_overwrites<Word, Buf: SafeBufMut<Word>, WriteError>()

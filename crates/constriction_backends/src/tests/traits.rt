@@ -36,7 +36,8 @@ struct Small {
 impl WriteWords<u8> for Small {
     type WriteError = u8;
 
-    ghost write_gives = { λ s word r t. MatchResult r (λ _. (word ≤ 9) × (t.last ≡ word)) (λ e. (9 < word) × (e ≡ word) × (t.last ≡ s.last)) };
+    ghost write_gives = { λ s word r t. MatchResult r (λ _. (word ≤ 9) × (t.last ≡ word))
+        (λ e. (9 < word) × (e ≡ word) × (t.last ≡ s.last)) };
 
     fn write(&mut self, word: u8) -> Result<(), u8> {
         if word > 9 {

@@ -3,7 +3,8 @@
 ghost use Rattle.std.specs.Prelude.{◌≡◌, [], ◌∷◌, nat_eq, ⊤};
 ghost use Rattle.std.proofs.Common.{rules};
 ghost use Rattle.constriction.specs.Rows.{rows_of};
-ghost use Rattle.constriction_backends.specs.Stack.{Pushes, Pushes-told};
+ghost use Rattle.constriction_backends.specs.Stack.{Pushes};
+ghost use Rattle.constriction_backends.specs.StackLaws.{Pushes-told};
 
 use super::{QuantileFault, ReadFault, read_symbols, write_quantiles};
 use crate::laws::there_and_back;

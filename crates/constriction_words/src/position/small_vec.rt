@@ -1,4 +1,4 @@
-//! The positions of `SmallVec`: it stands at its end, and going back drops what is behind.
+//! The positions of `SmallVec`: it stands at its end, and going back drops what comes after.
 //!
 //! These stand here and not with the stack's reads and writes, since an impl stands with its trait
 //! or with its type.
@@ -24,7 +24,7 @@ impl<Word, const N: usize, A: Allocator> Pos for SmallVec<Word, N, A> {
     }
 }
 
-/// Going back drops the words behind the position, for good: there is no going forward again.
+/// Going back drops the words from the position on, for good: there is no going forward again.
 impl<Word: MadeWith<A> + Drop, const N: usize, A: Allocator + Copy> Seek for SmallVec<Word, N, A> {
     ghost seek_gives = { λ s pos r t. Rewinds s.items pos r t.items };
 

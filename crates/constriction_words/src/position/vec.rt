@@ -1,4 +1,4 @@
-//! The positions of `Vec`: it stands at its end, and going back drops what is behind.
+//! The positions of `Vec`: it stands at its end, and going back drops what comes after.
 //!
 //! These stand here and not with the stack's reads and writes, since an impl stands with its trait
 //! or with its type.
@@ -21,7 +21,7 @@ impl<Word> Pos for Vec<Word> {
     }
 }
 
-/// Going back drops the words behind the position, for good: there is no going forward again.
+/// Going back drops the words from the position on, for good: there is no going forward again.
 impl<Word: Drop> Seek for Vec<Word> {
     ghost seek_gives = { λ s pos r t. Rewinds s.items pos r t.items };
 

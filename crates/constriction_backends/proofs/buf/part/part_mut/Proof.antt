@@ -39,7 +39,8 @@ use denote.Triple.Table.{framed}
 use denote.Triple.Walked.{says, Stays, stay_dropped, walk_of, ends_at, Goes-dropped, Goes-spent_ref}
 use borrow.Table.Elements.{at, at_mul, length-take-le}
 use Rattle.constriction_backends.proofs.Relending.{part_lent, lends_part}
-use Rattle.constriction_backends.specs.Buffer.{with_part, cut_part}
+use Rattle.constriction_backends.specs.Part.{with_part}
+use Rattle.constriction_backends.proofs.Parts.{cut_part}
 use Rattle.constriction_backends.specs.contracts.buf.SafeBufMut.words_mut as callee
 use Rattle.constriction_backends.specs.contracts.buf.part.part_mut as F
 use Rattle.constriction_backends.specs.contracts.buf.part.part_mut.Key.{name as #self}
@@ -70,23 +71,33 @@ part_mut_spec 𝓤 𝓛 𝓜 𝓡 wired X Y LX LY gm dm g d metm met =
     ) in
     let W = walk_of 𝓛 En hs c in
     let k = triple_of 𝓛 (callee.signature Y X) (callee.spec Y X gm dm g d 𝓛 𝓜.mem 𝓡.returns) in
-    proved 𝓛 En hs c 𝓜 𝓡
-    (Goes-spent_ref 𝓛 3 (0 ∷ []) tt (plain (λ _. B)), (Goes-dropped 𝓛 3 (plain (λ _. usize)) yes (λ κs x f. refl), (Goes-dropped 𝓛 3 (plain (λ _. usize)) yes (λ κs x f. refl), tt)))
+    proved 𝓛 En hs c 𝓜 𝓡 (
+      Goes-spent_ref 𝓛 3 (0 ∷ []) tt (plain (λ _. B)),
+      (
+        Goes-dropped 𝓛 3 (plain (λ _. usize)) yes (λ κs x f. refl),
+        (Goes-dropped 𝓛 3 (plain (λ _. usize)) yes (λ κs x f. refl), tt),
+      ),
+    )
     (#self args) fn (code.unfolded 𝓤 𝓛.H 𝓜 𝓡 wired (X, (Y, tt)) dm d)
-    (λ κs. (mut_vals, (uint_vals w64, (uint_vals w64, tt)))) (λ κs. (mut_Tells (named 0) κs.0 B, (uint_Tells w64, (uint_Tells w64, tt)))) (λ κs qs bounds a _ are.
+    (λ κs. (mut_vals, (uint_vals w64, (uint_vals w64, tt))))
+    (λ κs. (mut_Tells (named 0) κs.0 B, (uint_Tells w64, (uint_Tells w64, tt))))
+    (λ κs qs bounds a _ are.
     let κ = κs.0 in let κW = κs.1.0 in let κB = κs.1.1.0 in let q = qs.0 in let qW = qs.1.0 in let qB = qs.1.1.0 in
     let self = a.0 in let m : ℕ = a.1.0 in let t : ℕ = a.1.1.0 in let old = self.now in
     let fm : m < 2 ^ 64 = are.1.0.1 in let ft : t < 2 ^ 64 = are.1.1.0.1 in
     let vss : List Val × (List Val × (List Val × Unit {0})) = (mut_vals self, (vint w64 m ∷ [], (vint w64 t ∷ [], tt))) in
     let z : W.Ghost = ((κs, qs, bounds, a, vss), tt) in
     let y : k.Ghost = (((κ, (κB, (κW, tt))), (q, (qB, (qW, tt))), (bounds.0, (bounds.1.0, tt)), (self, tt), (mut_vals self, tt)), tt) in
-    qed 𝓛 (((‵ (flft κ q) ⊛ ‵ (flft κW qW) ⊛ ‵ (flft κB qB) ⊛ ‵ ftrue) ⊛ ‵ (owns (MutRef (named 0) κ B ∷ usize ∷ usize ∷ []) a vss)) ∷
-    (raw (fact 𝓤 (κW ⊑ X.lives)) ⊛ raw (fact 𝓤 (κB ⊑ Y.lives)) ⊛ raw (fact 𝓤 ((m ≤ t) × (t ≤ length (g.words_of old))))) ∷ []) ∵
+    qed 𝓛 (((‵ (flft κ q) ⊛ ‵ (flft κW qW) ⊛ ‵ (flft κB qB) ⊛ ‵ ftrue)
+    ⊛ ‵ (owns (MutRef (named 0) κ B ∷ usize ∷ usize ∷ []) a vss)) ∷
+    (raw (fact 𝓤 (κW ⊑ X.lives)) ⊛ raw (fact 𝓤 (κB ⊑ Y.lives))
+    ⊛ raw (fact 𝓤 ((m ≤ t) × (t ≤ length (g.words_of old))))) ∷ []) ∵
     split ! $ move ! (2 ∷ []) $ split3 ! $ heard ! _ (λ lw. heard ! _ (λ lb. heard ! _ (λ le.
     enter ! _ _ _ _ _ $ alloc_all ! (λ l. pass_all ! refl ((tt, tt), ((tt, record { fits = fm }), ((tt, record { fits = ft }), tt))) $
     sets ! (addr ! (through ! refl (stop !))) refl (tt, tt) $
     -- the call
-    split3 ! $ move ! (2 ∷ []) $ split ! $ move ! (3 ∷ 1 ∷ []) $ join ! $ move ! (1 ∷ 0 ∷ []) $ join ! $ move ! (1 ∷ 0 ∷ []) $ join ! $
+    split3 ! $ move ! (2 ∷ []) $ split ! $ move ! (3 ∷ 1 ∷ []) $ join ! $
+    move ! (1 ∷ 0 ∷ []) $ join ! $ move ! (1 ∷ 0 ∷ []) $ join ! $
     move ! (1 ∷ []) $ fsplit ! $ nothing ! $ move ! (1 ∷ 0 ∷ []) $ fjoin ! $ move ! (2 ∷ 0 ∷ []) $ join ! $
     nothing ! $ use0 𝓛 (raw (fact 𝓤 (κW ⊑ X.lives))) (fact_i 𝓤 (κW ⊑ X.lives) (emp 𝓤) lw) $ join ! $
     use0 𝓛 (raw (fact 𝓤 (κB ⊑ Y.lives))) (fact_i 𝓤 (κB ⊑ Y.lives) (emp 𝓤) lb) $ join ! $
@@ -126,7 +137,10 @@ part_mut_spec 𝓤 𝓛 𝓜 𝓡 wired X Y LX LY gm dm g d metm met =
     lands_as ! (ap only told.0.0) refl (tt, (tt, (record { fits = fn₀ }, tt))) $
     sets ! (addr ! (from ! (fld ! refl (hop ! (look_in_at ! 4 (sub ! 0 refl (whole !))) (stop !))))) refl (tt, tt) $
     first ! $ blocks ! $
-    sets ! (is ! (bin ! (get ! refl) (size_word !) (record { fits = subst (λ (j : ℕ). j < 2 ^ 64) (sym (uncapped m s fs)) fs })) (ap (vint w64) (uncapped m s fs))) refl (tt, record { fits = fs }) $
+    sets ! (is ! (bin ! (get ! refl) (size_word !)
+    (record { fits = subst (λ (j : ℕ). j < 2 ^ 64) (sym (uncapped m s fs)) fs }))
+    (ap (vint w64) (uncapped m s fs)))
+    refl (tt, record { fits = fs }) $
     sets ! (bin ! (get ! refl) (get ! refl) tt) refl (tt, tt) $
     sets ! (bin ! (get ! refl) (get ! refl) mt) refl (tt, record { fits = fr }) $
     sets_last ! (agg ! (and_then ! (get ! refl) (and_then ! (get ! refl) (no_more !)))) refl (tt, (tt, (record { fits = fr }, tt))) $
@@ -134,15 +148,26 @@ part_mut_spec 𝓤 𝓛 𝓜 𝓡 wired X Y LX LY gm dm g d metm met =
     sets ! (of_opd ! (get ! refl)) refl (tt, (tt, (record { fits = fr }, tt))) $
     -- the part in the place of the whole
     move ! (1 ∷ []) $ split3 ! $ move ! (3 ∷ 0 ∷ []) $
-    use2 𝓛 (later (some (part_lent 𝓛 (named 0) κ q b o r.ghost_name R xs front mid back cut (m * s + o) on (with_part xs m t) same))) (lends_part 𝓛 (named 0) κ q b o r.ghost_name R xs front mid back cut (m * s + o) on (with_part xs m t) same (omega arith, omega arith) (slice_val r.ref_ptr (length xs) ∷ [])) $ await ! tt $ pick ! (λ δ. split3 ! $
+    use2 𝓛 (later (some (part_lent 𝓛 (named 0) κ q b o r.ghost_name R xs front mid back cut
+    (m * s + o) on (with_part xs m t) same)))
+    (lends_part 𝓛 (named 0) κ q b o r.ghost_name R xs front mid back cut
+    (m * s + o) on (with_part xs m t) same (omega arith, omega arith)
+    (slice_val r.ref_ptr (length xs) ∷ [])) $ await ! tt $
+    pick ! (λ δ. split3 ! $
     let out : MutBor (List X.Denot) = record { ref_ptr = (b, m * s + o); ghost_name = δ; now = mid } in
-    move ! (5 ∷ 2 ∷ []) $ use2 𝓛 (‵ (follows B (Array R 0) self.ghost_name δ (λ (ws : List X.Denot). gm.with_words old (with_part xs m t ws)))) (follows_then 𝓛 B (Array R 0) (Array R 0) (gm.with_words old) (with_part xs m t) self.ghost_name r.ghost_name δ) $
-    rewrite ! 0 (λ (j : List X.Denot). ‵ (follows B (Array R 0) self.ghost_name δ (λ (ws : List X.Denot). gm.with_words old (with_part j m t ws)))) shown refl $
+    move ! (5 ∷ 2 ∷ []) $
+    use2 𝓛 (‵ (follows B (Array R 0) self.ghost_name δ (λ (ws : List X.Denot). gm.with_words old (with_part xs m t ws))))
+    (follows_then 𝓛 B (Array R 0) (Array R 0) (gm.with_words old) (with_part xs m t)
+    self.ghost_name r.ghost_name δ) $
+    rewrite ! 0 (λ (j : List X.Denot). ‵ (follows B (Array R 0) self.ghost_name δ
+    (λ (ws : List X.Denot). gm.with_words old (with_part j m t ws))))
+    shown refl $
     rewrite ! 1 (λ (j : ℕ). ‵ ((MutSlice (named 0) κ R).own_val out (slice_val (b, m * s + o) j ∷ []))) lm refl $
     returns ! (look_at ! 0 refl) $ free_all ! refl $ keep ! (0 ∷ 1 ∷ 2 ∷ 3 ∷ 4 ∷ []) $
     -- [what the buffer follows; the part; the tokens]
     move ! (4 ∷ []) $ split ! $ move ! (5 ∷ 1 ∷ []) $ join ! $ move ! (1 ∷ 0 ∷ []) $ join ! $ move ! (3 ∷ 0 ∷ []) $ join ! $
     suffices ! _ (ends_at 𝓛 En hs c z (slice_val (b, m * s + o) (t - m)) out (tt, (tt, (tt, tt))) (tt, (tt, (tt, tt)))) $
-    nothing ! $ nothing ! $ fjoin ! $ nothing ! $ fjoin ! $ nothing ! $ fjoin ! $ move ! (0 ∷ 3 ∷ []) $ join ! $ move ! (1 ∷ 0 ∷ []) $
+    nothing ! $ nothing ! $ fjoin ! $ nothing ! $ fjoin ! $ nothing ! $ fjoin ! $
+    move ! (0 ∷ 3 ∷ []) $ join ! $ move ! (1 ∷ 0 ∷ []) $
     join ! $ frame ! $
     says ! (ap (λ (j : List X.Denot). take (t - m) (drop_list m j)) shown) $ done !)))))))))))

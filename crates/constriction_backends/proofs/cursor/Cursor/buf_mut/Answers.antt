@@ -1,5 +1,5 @@
 use Rattle.std.proofs.Common.{refl}
-use Rattle.constriction_backends.specs.Cursor.{over_in_range}
+use Rattle.constriction_backends.proofs.Over.{over_in_range}
 use Rattle.constriction_backends.proofs.cursor.Cursor.buf_mut.Goals as goal
 
 pub returns : goal.returns

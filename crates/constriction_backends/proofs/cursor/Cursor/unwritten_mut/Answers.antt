@@ -1,7 +1,7 @@
 use Rattle.std.proofs.Common.{refl, ap, ◌∙◌, ◌≡◌, ◌+◌, ◌-◌, arith, length, drop, ℕ}
 use Rattle.std.proofs.lemmas.List.{length-drop}
-use Rattle.constriction_backends.specs.Buffer.{with_part-end, part-end}
-use Rattle.constriction_backends.specs.Cursor.{over_known}
+use Rattle.constriction_backends.proofs.Parts.{with_part-end, part-end}
+use Rattle.constriction_backends.proofs.Over.{over_known}
 use Rattle.constriction_backends.proofs.cursor.Cursor.unwritten_mut.Goals as goal
 
 pub returns : goal.returns
@@ -11,7 +11,7 @@ returns g c =
     let to : ℕ = length c.words-len.result.now in
     let end : to ≡ length words = ap length c.words-len.ensures in
     let value : c.part_mut.result.now ≡ drop self.pos words = c.part_mut.ensures.value ∙ part-end words self.pos to end in
-    let behind : length c.part_mut.result.now ≡ length words - self.pos = ap length value ∙ length-drop self.pos words in
+    let many : length c.part_mut.result.now ≡ length words - self.pos = ap length value ∙ length-drop self.pos words in
     let in_range = self.in_range in
     let len : self.pos + length c.part_mut.result.now ≡ length words = omega arith in (
       (refl, λ w. over_known self _ _ (ap (g.Buf.SafeBufMut.with_words self.buf) (with_part-end words self.pos to w end)) _),

@@ -1,7 +1,7 @@
 use Rattle.std.proofs.Common.{refl, ap, ◌∙◌, ◌≡◌, length, take, drop, ◌++◌}
 use Rattle.std.proofs.lemmas.List.{length-take-le}
-use Rattle.constriction_backends.specs.Buffer.{part-begin}
-use Rattle.constriction_backends.specs.Cursor.{over_in_range}
+use Rattle.constriction_backends.proofs.Parts.{part-begin}
+use Rattle.constriction_backends.proofs.Over.{over_in_range}
 use Rattle.constriction_backends.proofs.cursor.Cursor.written_mut.Goals as goal
 
 pub returns : goal.returns

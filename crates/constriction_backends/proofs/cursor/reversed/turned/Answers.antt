@@ -1,5 +1,5 @@
 use Rattle.std.proofs.Common.{ap, ◌∙◌, ◌≡◌, length, reverse}
-use Rattle.constriction_backends.specs.CursorLaws.{state-turned}
+use Rattle.constriction_backends.proofs.Turning.{state-turned}
 use Rattle.constriction_backends.proofs.cursor.reversed.turned.Goals as goal
 
 pub returns-clause-state : goal.returns-clause-state
@@ -9,5 +9,6 @@ returns-clause-state g c =
     let lent : c.words_mut-words.result.now ≡ words = c.words_mut-words.ensures.value in
     let turned : new ≡ reverse words = c.reverse.ensures.after ∙ ap reverse lent in
     let same : length new ≡ length words = c.reverse.ensures.len ∙ ap length lent in
-    let stands : g.Buf.SafeBuf.words_of (g.Buf.SafeBufMut.with_words c.args.cursor.buf new) ≡ new = g.met.Buf.SafeBufMut.stand c.args.cursor.buf new same in
-    state-turned (g.Buf.SafeBuf.words_of (g.Buf.SafeBufMut.with_words c.args.cursor.buf new)) new words c.args.cursor.pos stands turned c.args.cursor.in_range
+    let made = g.Buf.SafeBuf.words_of (g.Buf.SafeBufMut.with_words c.args.cursor.buf new) in
+    let stands : made ≡ new = g.met.Buf.SafeBufMut.stand c.args.cursor.buf new same in
+    state-turned made new words c.args.cursor.pos stands turned c.args.cursor.in_range

@@ -1,4 +1,4 @@
-use Rattle.constriction_backends.specs.CursorRuns.{extending_overwrites}
+use Rattle.constriction_backends.proofs.CursorRunLaws.{extending_overwrites}
 use Rattle.constriction_backends.proofs.laws.cursor.extending_overwrites.Goals as goal
 
 pub returns : goal.returns

@@ -1,4 +1,4 @@
-use Rattle.constriction_backends.specs.CursorRuns.{reversal-reads}
+use Rattle.constriction_backends.proofs.CursorRunLaws.{reversal-reads}
 use Rattle.constriction_backends.proofs.laws.cursor.reversal_reads.Goals as goal
 
 pub returns : goal.returns

@@ -1,4 +1,4 @@
-use Rattle.constriction_backends.specs.CursorRuns.{reversal-twice}
+use Rattle.constriction_backends.proofs.CursorRunLaws.{reversal-twice}
 use Rattle.constriction_backends.proofs.laws.cursor.reversal_twice.Goals as goal
 
 pub returns : goal.returns

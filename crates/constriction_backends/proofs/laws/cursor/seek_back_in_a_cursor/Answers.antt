@@ -1,4 +1,4 @@
-use Rattle.constriction_backends.specs.CursorRuns.{cursor_seeks_back}
+use Rattle.constriction_backends.proofs.CursorRunLaws.{cursor_seeks_back}
 use Rattle.constriction_backends.proofs.laws.cursor.seek_back_in_a_cursor.Goals as goal
 
 pub returns : goal.returns

@@ -1,4 +1,4 @@
-use Rattle.constriction_backends.specs.CursorRuns.{turned_back}
+use Rattle.constriction_backends.proofs.CursorRunLaws.{turned_back}
 use Rattle.constriction_backends.proofs.laws.cursor.turned_twice.Goals as goal
 
 pub returns : goal.returns
