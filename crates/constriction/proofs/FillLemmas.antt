@@ -12,7 +12,9 @@ use Rattle.constriction.specs.Filling.{IsRowEnd, IsFilled}
 lefts_from-push : (l : ℕ) (ws : List ℕ) (w : ℕ) → lefts_from l (ws ++ w ∷ []) ≡ lefts_from l ws ++ (l + sum ws) ∷ []
 lefts_from-push l [] w = ap (λ x. x ∷ []) (omega arith)
 lefts_from-push l (v ∷ ws) w =
-    ap (λ xs. l ∷ xs) (lefts_from-push (l + v) ws w ∙ ap (λ x. lefts_from (l + v) ws ++ x ∷ []) (omega (arith, sum_by-cons (λ x. x) v ws)))
+    ap (λ xs. l ∷ xs)
+    (lefts_from-push (l + v) ws w
+    ∙ ap (λ x. lefts_from (l + v) ws ++ x ∷ []) (omega (arith, sum_by-cons (λ x. x) v ws)))
 
 module _ {W : Type 0} (whole : W → ℕ) (bits precision : ℕ) where
   pub filled-none : (z : W) → whole z ≡ 0 → 0 < 2 ^ precision → IsFilled whole bits precision [] [] (Some z)
@@ -64,7 +66,8 @@ module _ {W : Type 0} (whole : W → ℕ) (bits precision : ℕ) where
       let total : sum xs ≡ (sum (map whole ws) + whole w) + sum (map whole more) =
       ap sum split ∙ sum_by-append (λ x. x) (map whole ws ++ whole w ∷ []) (map whole more)
       ∙ ap (λ n. n + sum (map whole more)) (sum_by_push (λ x. x) (map whole ws) (whole w)) in
-      let positive : All (λ x. 0 < x) ((map whole ws ++ whole w ∷ []) ++ map whole more) = rw (← split) (accepted-positive infer xs a) in
+      let positive : All (λ x. 0 < x) ((map whole ws ++ whole w ∷ []) ++ map whole more) =
+      rw (← split) (accepted-positive infer xs a) in
       let some : 0 < whole w =
       All-contains (λ x. 0 < x) _ (whole w) positive
       (Contains-append_left _ (map whole more) (whole w) (Contains-push (map whole ws) (whole w))) in
@@ -85,7 +88,8 @@ module _ {W : Type 0} (whole : W → ℕ) (bits precision : ℕ) where
       All-contains (λ x. 0 < x) _ _ a.tiles.positive (Contains-push (map whole ws) (2 ^ precision - sum (map whole ws))) in
       omega (arith, f.is)
 
-  pub bad-wide : (ws table : List W) (left : W) → IsFilled whole bits precision ws table (Some left) → 2 ^ bits + whole left ≤ 2 ^ precision
+  pub bad-wide : (ws table : List W) (left : W) → IsFilled whole bits precision ws table (Some left)
+      → 2 ^ bits + whole left ≤ 2 ^ precision
       → ¬ (IsAccepted bits precision (completed precision true (map whole ws)))
   bad-wide ws table left f wide a =
       let last : 2 ^ precision - sum (map whole ws) < 2 ^ bits =

@@ -7,8 +7,8 @@ pub record Tiles (precision : ℕ) (weights : List ℕ) : Type 0 where
   pub positive : All (λ w. 0 < w) weights
   pub total : sum weights ≡ 2 ^ precision
 
--- The weights, and behind them the inferred one where the last one is inferred: what the others leave of 2 ^ precision. Where they
--- leave nothing or less, that is 0 here, and weights with a 0 among them never tile.
+-- The weights, and after them the inferred one where the last one is inferred: what the others leave of 2 ^ precision.
+-- Where they leave nothing or less, that is 0 here, and weights with a 0 among them never tile.
 abbrev pub completed : ℕ → Bool → List ℕ → List ℕ
 completed precision infer weights = if infer then weights ++ (2 ^ precision - sum weights) ∷ [] else weights
 

@@ -11,7 +11,8 @@ use Rattle.constriction.specs.Rows.{Row, rows_from, entry_of}
 
 -- ---- the rows of symbols and weights
 
-pub length-rows_from : {S : Type 0} (l : ℕ) (ss : List S) (ws : List ℕ) → length ss ≡ length ws → length (rows_from l ss ws) ≡ length ws
+pub length-rows_from : {S : Type 0} (l : ℕ) (ss : List S) (ws : List ℕ) → length ss ≡ length ws
+    → length (rows_from l ss ws) ≡ length ws
 length-rows_from l [] [] e = refl
 length-rows_from l [] (w ∷ ws) e = e
 length-rows_from l (s ∷ ss) [] e = refl
@@ -45,7 +46,8 @@ rows_from-at l (s ∷ ss) (w ∷ ws) (suc i) d e h =
 
 -- ---- the entry of a symbol
 
-option_map-or : {X Y : Type 0} (f : X → Y) (a b : Option X) → option_map f (option_or a b) ≡ option_or (option_map f a) (option_map f b)
+option_map-or : {X Y : Type 0} (f : X → Y) (a b : Option X)
+    → option_map f (option_or a b) ≡ option_or (option_map f a) (option_map f b)
 option_map-or f (Some x) b = refl
 option_map-or f None b = refl
 
@@ -90,4 +92,5 @@ contiguous-at a l (w ∷ ws) (suc i) h =
     let e : a + suc i ≡ (a + 1) + i = omega arith in
     let later : entry_of nat_eq rs (a + suc i) ≡ Some (l + w + sum (take i ws), get_or ws i 0) =
     ap (entry_of nat_eq rs) e ∙ contiguous-at (a + 1) (l + w) ws i (omega arith) in
-    entry_of-cons nat_eq (a + suc i) r rs ∙ rw later (ap (λ n. Some (n, get_or ws i 0)) (omega (arith, sum_by-cons (λ x. x) w (take i ws))))
+    entry_of-cons nat_eq (a + suc i) r rs
+    ∙ rw later (ap (λ n. Some (n, get_or ws i 0)) (omega (arith, sum_by-cons (λ x. x) w (take i ws))))

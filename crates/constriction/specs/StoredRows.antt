@@ -38,7 +38,8 @@ module _ (bits precision : ℕ) (lefts : List ℕ) (t : IsStored bits precision 
   stored-within = λ i d h.
       let here : i < length lefts = omega (arith, length-rows (weights_of precision lefts), length-gaps (2 ^ precision) lefts) in
       let row = stored-row bits precision lefts i t here in
-      subst (λ (r : Row ℕ). (0 < r.weight) × (r.left + r.weight ≤ 2 ^ precision)) (sym (stored-at i d here)) (row.positive, row.within)
+      subst (λ (r : Row ℕ). (0 < r.weight) × (r.left + r.weight ≤ 2 ^ precision)) (sym (stored-at i d here))
+      (row.positive, row.within)
 
   pub stored-tiles : RowsTile bits precision (contiguous_rows (weights_of precision lefts))
   stored-tiles =

@@ -4,6 +4,6 @@ use Rattle.constriction_backends.proofs.cursor.Cursor.buf_mut.Goals as goal
 
 pub returns : goal.returns
 returns g c = (
-  (refl, λ w. over_in_range c.args.self.now (g.Buf.SafeBufMut.with_words c.args.self.now.buf w) _),
+  (refl, λ w. search (over_in_range c.args.self.now (g.Buf.SafeBufMut.with_words c.args.self.now.buf w))),
   record { writes_back = tt; value = c.words_mut.ensures.value },
 )

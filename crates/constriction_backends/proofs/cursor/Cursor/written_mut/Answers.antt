@@ -1,4 +1,4 @@
-use Rattle.std.proofs.Common.{refl, ap, ◌∙◌, ◌≡◌, length, take, drop, ◌++◌}
+use Rattle.std.proofs.Common.{◌≡◌, length, take, drop, ◌++◌}
 use Rattle.std.proofs.lemmas.List.{length-take-le}
 use Rattle.constriction_backends.proofs.Parts.{part-begin}
 use Rattle.constriction_backends.proofs.Over.{over_in_range}
@@ -8,7 +8,7 @@ pub returns : goal.returns
 returns g c =
     let self = c.args.self.now in
     let words = g.Buf.SafeBuf.words_of self.buf in
-    let value : c.part_mut.result.now ≡ take self.pos words = c.part_mut.ensures.value ∙ part-begin words self.pos in (
-      (refl, λ w. over_in_range self (g.Buf.SafeBufMut.with_words self.buf (w ++ drop self.pos words)) _),
-      record { writes_back = tt; value = value; len = ap length value ∙ length-take-le self.pos words self.in_range },
+    let value : c.part_mut.result.now ≡ take self.pos words = cc (c.part_mut.ensures.value, part-begin words self.pos) in (
+      ((cc), λ w. search (over_in_range self (g.Buf.SafeBufMut.with_words self.buf (w ++ drop self.pos words)))),
+      record { writes_back = tt; value = value; len = rw value (length-take-le self.pos words self.in_range) },
     )

@@ -17,7 +17,8 @@ returns-in_default-clause-invalid g c = λ _.
         _,
         _,
         yields-more g.I.IntoIter.Iterator.next_gives _ _ _ w _ c.rows.yielded_by c.in-Some.ensures.steps,
-        λ more. bad-more whole g.P.WholeNumber.BITS g.row.PRECISION c.args.infer_last c.rows.yielded more w (zero-or-much (whole w) _ _ f.is),
+        λ more. bad-more whole g.P.WholeNumber.BITS g.row.PRECISION c.args.infer_last c.rows.yielded more w
+            (zero-or-much (whole w) _ _ f.is),
       ),
     )
 
@@ -47,7 +48,8 @@ rows-preserved g c =
       next.0,
       next.1,
       rw c.in_ok-push.ensures.items
-          (filled-more whole g.P.WholeNumber.BITS g.row.PRECISION c.rows.yielded c.rows.table.items c.in-Some-end.left c.in-Some.weight c.in_ok-next.next f c.in_ok-next.ensures.ok),
+          (filled-more whole g.P.WholeNumber.BITS g.row.PRECISION c.rows.yielded c.rows.table.items c.in-Some-end.left
+          c.in-Some.weight c.in_ok-next.next f c.in_ok-next.ensures.ok),
     )
 
 pub returns-then-infer_last-clause-invalid : goal.returns-then-infer_last-clause-invalid
@@ -98,7 +100,14 @@ returns-in_ok-push-in-Some-end-2-clause-ok g c =
               | inl narrow ↦ narrow
               | inr wide ↦
                   let last : whole c.minus.result + 1 ≡ 2 ^ g.P.WholeNumber.BITS =
-                  omega (arith, c.minus.ensures, c.greatest-greatest.ensures.value, c.greatest-greatest.ensures.within, f.below, pow_pos g.P.WholeNumber.BITS) in
+                  omega (
+                    arith,
+                    c.minus.ensures,
+                    c.greatest-greatest.ensures.value,
+                    c.greatest-greatest.ensures.within,
+                    f.below,
+                    pow_pos g.P.WholeNumber.BITS,
+                  ) in
                   absurd (search (rules, tests))
             ])),
       ),

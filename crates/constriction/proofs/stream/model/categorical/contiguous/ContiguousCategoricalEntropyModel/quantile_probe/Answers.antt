@@ -12,7 +12,8 @@ pub returns-clause-searchable : goal.returns-clause-searchable
 returns-clause-searchable g c =
     let whole = g.Probability.BitArray.whole in
     let lefts = map whole (g.Cdf.SafeBuf.words_of c.args.self.now.cdf) in
-    rw (c.new.ensures.cumulatives, c.words.ensures) (stored-searchable g.Probability.BitArray.BITS g.row.PRECISION lefts c.args.self.now.stored (whole c.args.quantile))
+    rw (c.new.ensures.cumulatives, c.words.ensures)
+    (stored-searchable g.Probability.BitArray.BITS g.row.PRECISION lefts c.args.self.now.stored (whole c.args.quantile))
 
 pub returns-clause-found : goal.returns-clause-found
 returns-clause-found g c =
