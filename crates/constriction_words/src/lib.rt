@@ -11,8 +11,6 @@ mod infallible;
 mod position;
 mod read_write_error;
 mod semantics;
-#[cfg(test)]
-mod tests;
 mod words;
 
 pub use crate::bit_array::{BitArray, NonZeroBitArray};

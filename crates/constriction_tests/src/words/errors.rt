@@ -2,10 +2,10 @@
 
 ghost use Rattle.std.specs.Prelude.{◌≡◌, ◌+◌, ◌<◌};
 
-use crate::coder_error::{CoderError, DefaultEncoderFrontendError, NanError};
-use crate::infallible::UnwrapInfallible;
-use crate::read_write_error::ReadWriteError;
-use crate::semantics::{Queue, Semantics, Stack};
+use constriction_words::{
+    CoderError, DefaultEncoderFrontendError, NanError, Queue, ReadWriteError, Semantics, Stack,
+    UnwrapInfallible,
+};
 use std::convert::Infallible;
 use std::error::Error;
 use std::test::Fail;

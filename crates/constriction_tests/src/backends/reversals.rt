@@ -1,13 +1,10 @@
 //! Backends that are read in the other order, and cursors that are turned round.
 
-use crate::buf::SafeBufMut;
-use crate::cursor::Cursor;
-use crate::error::BoundedWriteError;
-use crate::laws;
-use crate::read::{BoundedReadWords, ReadWords};
-use crate::reverse::Reverse;
-use crate::tests::marked::Marked;
-use crate::write::{BoundedWriteWords, WriteWords};
+use crate::backends::marked::Marked;
+use constriction_backends::{
+    BoundedReadWords, BoundedWriteError, BoundedWriteWords, Cursor, ReadWords, Reverse, SafeBufMut,
+    WriteWords, laws,
+};
 use constriction_words::{Pos, Queue, Seek, Stack};
 use std::process::Abort;
 use std::test::Fail;

@@ -1,11 +1,10 @@
 //! Each call of a cursor, over each kind of buffer.
 
-use crate::buf::{SafeBuf, SafeBufMut};
-use crate::cursor::Cursor;
-use crate::error::BoundedWriteError;
-use crate::read::{BoundedReadWords, ReadWords};
-use crate::tests::marked::Marked;
-use crate::write::{BoundedWriteWords, WriteWords};
+use crate::backends::marked::Marked;
+use constriction_backends::{
+    BoundedReadWords, BoundedWriteError, BoundedWriteWords, Cursor, ReadWords, SafeBuf, SafeBufMut,
+    WriteWords,
+};
 use constriction_words::{Pos, Queue, Seek, Stack};
 use std::alloc::{AllocError, Global};
 use std::convert::Infallible;

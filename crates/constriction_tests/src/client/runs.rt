@@ -1,14 +1,15 @@
 //! Runs over whole inputs, and over readers and writers that give or take little, fail, or end.
 
-use crate::answers::answer;
-use crate::fault::RunFault;
-use crate::laws::{
+use constriction_client::laws::{
     each_quantile_in_range_has_a_row, reads_back, reads_back_reversed,
     the_row_found_is_the_row_of_the_quantile, weights_are_tested_as_models_accept_them,
 };
-use crate::program::{LIMIT, run};
+use constriction_client::{RunFault, answer, run};
 use std::io::{self, Read, Write};
 use std::test::Fail;
+
+/// The most bytes of an input.
+const LIMIT: usize = 1_048_576;
 
 /// Gives one byte a turn, and fails after so many turns.
 #[derive(Drop)]

@@ -4,7 +4,7 @@ ghost use Rattle.std.proofs.Common.{ap};
 ghost use Rattle.std.specs.Vec.{with_items};
 ghost use Rattle.constriction_backends.specs.VecBuffer.{with_items_stand, with_items-length, with_items_unchanged, with_items_again};
 
-use crate::buf::{SafeBuf, SafeBufMut};
+use constriction_backends::{SafeBuf, SafeBufMut};
 
 #[derive(Debug, Drop)]
 pub struct Marked {

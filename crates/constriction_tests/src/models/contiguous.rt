@@ -1,9 +1,8 @@
 //! The contiguous model and the counted search, over worked tables.
 
-ghost use Rattle.std.specs.Prelude.{◌^◌, ◌<◌, ◌≤◌};
-ghost use Rattle.constriction.specs.Evens.{evens};
+ghost use Rattle.std.specs.Prelude.{◌^◌, ◌<◌};
 
-use crate::stream::model::{
+use constriction::stream::model::{
     ContiguousCategoricalEntropyModel, DecoderModel, EncoderModel, ModelError, Probe,
     row_of_quantile,
 };
@@ -106,7 +105,7 @@ fn weights_are_accepted_exactly_where_they_tile(rt: HostRuntime) {
         ("no weight", [].as_slice(), false, false),
         ("one weight too few", [3, 18, 1].as_slice(), false, false),
         (
-            "a weight behind the last quantile",
+            "a weight after the last quantile",
             [64, 1].as_slice(),
             false,
             false,
@@ -191,48 +190,6 @@ fn a_probe_of_256_rows_is_asked_at_most_8_questions(rt: HostRuntime) -> Result<(
     assert!(rt; rows.asked() >= 1);
     assert!(rt; rows.asked() <= 8);
     Ok(())
-}
-
-/// A table of the caller that is computed: the even numbers from 0 on.
-#[derive(Drop)]
-struct Evens {
-    size: usize,
-    asked: usize,
-    ghost few: { size ≤ 1000 },
-}
-
-impl Probe for Evens {
-    type Word = u16;
-
-    ghost cumulatives = { λ p. evens p.size };
-
-    ghost questions = { λ p. p.asked };
-
-    #[tactic(auto, using(crate::proofs::EvenLemmas::length_evens))]
-    fn len(&self) -> usize {
-        self.size
-    }
-
-    fn asked(&self) -> usize {
-        self.asked
-    }
-
-    #[tactic(auto, using(crate::proofs::EvenLemmas::length_evens, crate::proofs::EvenLemmas::evens_at))]
-    fn at_most(&mut self, index: usize, q: u16) -> bool {
-        self.asked += 1;
-        2 * index <= q as usize
-    }
-}
-
-#[test]
-#[tactic(auto, using(crate::proofs::EvenLemmas::length_evens))]
-fn a_table_of_the_caller_is_searched(rt: HostRuntime) {
-    let mut rows = Evens {
-        size: 1000,
-        asked: 0,
-    };
-    assert_eq!(rt; row_of_quantile(&mut rows, 999u16), 499);
-    assert!(rt; rows.asked() <= 10);
 }
 
 /// The symbol of a quantile and whether it has an entry, through the bounds alone.

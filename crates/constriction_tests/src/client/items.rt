@@ -5,12 +5,12 @@ ghost use Rattle.std.proofs.Common.{rules};
 ghost use Rattle.constriction.specs.Rows.{rows_of};
 ghost use Rattle.constriction_backends.specs.Stack.{Pushes, Pushes-told};
 
-use super::{QuantileFault, ReadFault, read_symbols, write_quantiles};
-use crate::laws::there_and_back;
 use constriction::stream::model::{
     ContiguousCategoricalEntropyModel, DecoderModel, EncoderModel, EntropyModel, ModelError, Weight,
 };
 use constriction_backends::{ReadWords, WriteWords};
+use constriction_client::laws::there_and_back;
+use constriction_client::{QuantileFault, ReadFault, read_symbols, write_quantiles};
 use constriction_words::{BitArray, CoderError, Queue, Stack};
 use std::alloc::{AllocError, Global};
 use std::test::Fail;

@@ -2,8 +2,7 @@
 
 ghost use Rattle.std.specs.Prelude.{◌≡◌, ◌+◌, ◌-◌, ◌*◌, ◌/◌, ◌%◌, ◌<◌, ◌≤◌, ◌^◌};
 
-use crate::bit_array::{BitArray, NonZeroBitArray};
-use crate::index_word::IndexWord;
+use constriction_words::{BitArray, IndexWord, NonZeroBitArray};
 use std::default::Default;
 use std::process::Abort;
 

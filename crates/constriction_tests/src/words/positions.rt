@@ -2,7 +2,7 @@
 
 ghost use Rattle.std.specs.Prelude.{◌<◌, ◌≤◌, MatchResult};
 
-use crate::position::{Pos, PosSeek, Seek};
+use constriction_words::{Pos, PosSeek, Seek};
 
 /// A place on a line of ten steps.
 #[derive(Drop, PartialEq)]

@@ -1,8 +1,6 @@
 //! `Vec` and `SmallVec` as stacks.
 
-use crate::laws;
-use crate::read::{BoundedReadWords, ReadWords};
-use crate::write::WriteWords;
+use constriction_backends::{BoundedReadWords, ReadWords, WriteWords, laws};
 use constriction_words::{Pos, PosSeek, Seek, Stack};
 use smallvec::SmallVec;
 use std::alloc::AllocError;

@@ -4,10 +4,9 @@ ghost use Rattle.std.specs.Prelude.{◌≡◌, ◌<◌, ◌≤◌, Err, MatchRes
 ghost use Rattle.constriction_backends.specs.Source.{CountsRead};
 ghost use Rattle.constriction_backends.specs.Sink.{CountsWrite};
 
-use crate::error::BoundedWriteError;
-use crate::laws;
-use crate::read::{BoundedReadWords, ReadWords};
-use crate::write::{BoundedWriteWords, WriteWords};
+use constriction_backends::{
+    BoundedReadWords, BoundedWriteError, BoundedWriteWords, ReadWords, WriteWords, laws,
+};
 use constriction_words::{Queue, Stack};
 use std::convert::Infallible;
 

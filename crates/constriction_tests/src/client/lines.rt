@@ -1,7 +1,7 @@
 //! Lines that ask for something, and lines that do not.
 
-use crate::laws::reading_is_exactly_spelling;
-use crate::line::{Command, Form, parse};
+use constriction_client::laws::reading_is_exactly_spelling;
+use constriction_client::{Command, Form, parse};
 use std::test::Fail;
 
 #[test]

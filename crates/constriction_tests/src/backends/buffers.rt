@@ -1,7 +1,7 @@
 //! Each buffer lends its words.
 
-use crate::buf::{SafeBuf, SafeBufMut};
-use crate::tests::marked::Marked;
+use crate::backends::marked::Marked;
+use constriction_backends::{SafeBuf, SafeBufMut};
 use std::process::Abort;
 use std::test::Fail;
 
