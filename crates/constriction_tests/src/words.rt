@@ -1,5 +1,5 @@
 //! Words, positions and errors: worked values, texts, and calls through a bound.
 
 mod errors;
-mod numbers;
+pub mod numbers;
 mod positions;

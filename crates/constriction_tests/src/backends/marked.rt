@@ -13,6 +13,17 @@ pub struct Marked {
     pub last: u8,
 }
 
+impl Marked {
+    /// The words between the marks 7 and 9.
+    pub fn new(words: Vec<u8>) -> Marked {
+        Marked {
+            first: 7,
+            words,
+            last: 9,
+        }
+    }
+}
+
 impl SafeBuf<u8> for Marked {
     ghost words_of = { λ s. s.words.items };
 

@@ -5,53 +5,59 @@ use constriction_words::{Pos, PosSeek, Seek, Stack};
 use smallvec::SmallVec;
 use std::alloc::AllocError;
 use std::convert::Infallible;
-use std::process::Abort;
 use std::test::Fail;
 
-fn counts_and_reads<W>(rt: &impl Abort, words: &mut W, remaining: usize, word: Option<u8>)
+/// How many words remain, whether that is none, and the next one.
+fn counted<W>(words: &mut W) -> (usize, bool, Result<Option<u8>, Infallible>)
 where
     W: BoundedReadWords<u8, Stack, ReadError = Infallible>,
     requires { W.can_read words.old }
 {
-    assert_eq!(rt; words.remaining(), remaining);
-    assert_eq!(rt; words.is_exhausted(), remaining == 0, "with {remaining}");
-    assert_eq!(rt; words.read(), Ok(word));
+    (words.remaining(), words.is_exhausted(), words.read())
 }
 
-fn seeks<W>(rt: &impl Abort, words: &mut W, pos: usize, answer: Result<(), ()>, after: usize)
+/// What a seek answers, and where it leaves the stack.
+fn sought<W>(words: &mut W, pos: usize) -> (Result<(), ()>, usize)
 where
     W: PosSeek<Position = usize> + Pos + Seek,
 {
-    assert_eq!(rt; words.seek(pos), answer, "to {pos}");
-    assert_eq!(rt; words.pos(), after, "to {pos}");
+    (words.seek(pos), words.pos())
 }
+
+/// How many of three words remain at each read, and the word that is read.
+const READS: [(usize, Option<u8>); 5] = [
+    (3, Some(3)),
+    (2, Some(2)),
+    (1, Some(1)),
+    (0, None),
+    (0, None),
+];
+
+/// Seeks in a stack of three words, and where each leaves it.
+const SEEKS: [(usize, Result<(), ()>, usize); 4] = [
+    (4, Err(()), 3),
+    (3, Ok(()), 3),
+    (1, Ok(()), 1),
+    (2, Err(()), 1),
+];
 
 #[test]
 fn a_vec_is_a_stack(rt: HostRuntime) -> Result<(), Fail> {
     let mut words = Vec::new(rt.alloc());
-    assert!(rt; ReadWords::<u8, Stack>::maybe_exhausted(&words));
+    let was_exhausted = ReadWords::<u8, Stack>::maybe_exhausted(&words);
     words.write(1u8)?;
     words.extend_from_iter([2u8, 3].iter().copied())?;
-    assert!(rt; !words.maybe_full());
-    assert!(rt; !ReadWords::<u8, Stack>::maybe_exhausted(&words));
-    assert_eq!(rt; words.as_slice(), [1, 2, 3].as_slice());
-    for expected in [Some(3), Some(2), Some(1), None, None] {
-        assert_eq!(rt; ReadWords::<u8, Stack>::read(&mut words), Ok(expected));
-    }
-    Ok(())
-}
-
-#[test]
-fn a_vec_counts_its_words(rt: HostRuntime) -> Result<(), Fail> {
-    let mut words = [1u8, 2, 3].to_vec(rt.alloc())?;
-    for (remaining, word) in [
-        (3, Some(3)),
-        (2, Some(2)),
-        (1, Some(1)),
-        (0, None),
-        (0, None),
-    ] {
-        counts_and_reads(&rt, &mut words, remaining, word);
+    assert_eq!(rt;
+        (
+            was_exhausted,
+            ReadWords::<u8, Stack>::maybe_exhausted(&words),
+            words.maybe_full(),
+            words.as_slice()
+        ),
+        (true, false, false, [1, 2, 3].as_slice())
+    );
+    for (remaining, word) in READS {
+        assert_eq!(rt; counted(&mut words), (remaining, remaining == 0, Ok(word)));
     }
     Ok(())
 }
@@ -60,13 +66,8 @@ fn a_vec_counts_its_words(rt: HostRuntime) -> Result<(), Fail> {
 fn a_vec_goes_back_for_good(rt: HostRuntime) -> Result<(), Fail> {
     let mut words = [1u8, 2, 3].to_vec(rt.alloc())?;
     assert_eq!(rt; words.pos(), 3);
-    for (pos, answer, after) in [
-        (4, Err(()), 3),
-        (3, Ok(()), 3),
-        (1, Ok(()), 1),
-        (2, Err(()), 1),
-    ] {
-        seeks(&rt, &mut words, pos, answer, after);
+    for (pos, answer, after) in SEEKS {
+        assert_eq!(rt; sought(&mut words, pos), (answer, after), "to {pos}");
     }
     assert_eq!(rt; words.as_slice(), [1].as_slice());
     Ok(())
@@ -75,20 +76,20 @@ fn a_vec_goes_back_for_good(rt: HostRuntime) -> Result<(), Fail> {
 #[test]
 fn a_small_vec_is_a_stack(rt: HostRuntime) -> Result<(), Fail> {
     let mut words: SmallVec<u8, 2> = SmallVec::new(rt.alloc());
-    assert!(rt; ReadWords::<u8, Stack>::maybe_exhausted(&words));
+    let was_exhausted = ReadWords::<u8, Stack>::maybe_exhausted(&words);
     words.write(1)?;
     words.extend_from_iter([2u8, 3].iter().copied())?;
-    assert!(rt; !words.maybe_full());
-    assert!(rt; !ReadWords::<u8, Stack>::maybe_exhausted(&words));
-    assert_eq!(rt; words.as_slice(), [1, 2, 3].as_slice());
-    for (remaining, word) in [
-        (3, Some(3)),
-        (2, Some(2)),
-        (1, Some(1)),
-        (0, None),
-        (0, None),
-    ] {
-        counts_and_reads(&rt, &mut words, remaining, word);
+    assert_eq!(rt;
+        (
+            was_exhausted,
+            ReadWords::<u8, Stack>::maybe_exhausted(&words),
+            words.maybe_full(),
+            words.as_slice()
+        ),
+        (true, false, false, [1, 2, 3].as_slice())
+    );
+    for (remaining, word) in READS {
+        assert_eq!(rt; counted(&mut words), (remaining, remaining == 0, Ok(word)));
     }
     Ok(())
 }
@@ -98,13 +99,8 @@ fn a_small_vec_goes_back_for_good(rt: HostRuntime) -> Result<(), Fail> {
     let mut words: SmallVec<u8, 2> = SmallVec::new(rt.alloc());
     words.extend_from_iter([1u8, 2, 3].iter().copied())?;
     assert_eq!(rt; words.pos(), 3);
-    for (pos, answer, after) in [
-        (4, Err(()), 3),
-        (3, Ok(()), 3),
-        (1, Ok(()), 1),
-        (2, Err(()), 1),
-    ] {
-        seeks(&rt, &mut words, pos, answer, after);
+    for (pos, answer, after) in SEEKS {
+        assert_eq!(rt; sought(&mut words, pos), (answer, after), "to {pos}");
     }
     assert_eq!(rt; words.as_slice(), [1].as_slice());
     Ok(())
@@ -114,22 +110,24 @@ fn a_small_vec_goes_back_for_good(rt: HostRuntime) -> Result<(), Fail> {
 #[test]
 fn words_within_the_value_need_no_memory(rt: HostRuntime) {
     let mut words: SmallVec<u8, 2> = SmallVec::new(rt.alloc());
-    assert_eq!(rt; words.write(1), Ok(()));
-    assert_eq!(rt; words.write(2), Ok(()));
-    match words.extend_from_iter([3u8, 4].iter().copied()) {
-        Ok(()) => assert_eq!(rt; words.as_slice(), [1, 2, 3, 4].as_slice()),
-        Err(AllocError) => assert_eq!(rt; words.as_slice(), [1, 2].as_slice()),
-    }
+    assert_eq!(rt; (words.write(1), words.write(2)), (Ok(()), Ok(())));
+    let extended = words.extend_from_iter([3u8, 4].iter().copied());
+    let held = match extended {
+        Ok(()) => [1u8, 2, 3, 4].as_slice(),
+        Err(AllocError) => [1, 2].as_slice(),
+    };
+    assert_eq!(rt; words.as_slice(), held);
 }
 
 /// It asks for memory once, as above, within a call that has written two words by then.
 #[test]
 fn refused_memory_keeps_the_words_before(rt: HostRuntime) {
     let mut words: SmallVec<u8, 2> = SmallVec::new(rt.alloc());
-    match words.extend_from_iter([1u8, 2, 3, 4].iter().copied()) {
-        Ok(()) => assert_eq!(rt; words.as_slice(), [1, 2, 3, 4].as_slice()),
-        Err(AllocError) => assert_eq!(rt; words.as_slice(), [1, 2].as_slice()),
-    }
+    let held = match words.extend_from_iter([1u8, 2, 3, 4].iter().copied()) {
+        Ok(()) => [1u8, 2, 3, 4].as_slice(),
+        Err(AllocError) => [1, 2].as_slice(),
+    };
+    assert_eq!(rt; words.as_slice(), held);
 }
 
 /// Nine words make a `Vec` and a `SmallVec` grow more than once. Whichever growth is refused, the
@@ -139,12 +137,19 @@ fn each_refused_growth_keeps_the_words_before(rt: HostRuntime) {
     let words = [1u8, 2, 3, 4, 5, 6, 7, 8, 9];
     let mut vec = Vec::new(rt.alloc());
     let refused = vec.extend_from_iter(words.iter().copied()).is_err();
-    assert_eq!(rt; vec.len() < words.len(), refused);
-    assert!(rt; words.starts_with(vec.as_slice()));
+    assert_eq!(rt;
+        (vec.len() < words.len(), words.starts_with(vec.as_slice())),
+        (refused, true)
+    );
     let mut small: SmallVec<u8, 2> = SmallVec::new(rt.alloc());
     let refused = small.extend_from_iter(words.iter().copied()).is_err();
-    assert_eq!(rt; small.len() < words.len(), refused);
-    assert!(rt; words.starts_with(small.as_slice()));
+    assert_eq!(rt;
+        (
+            small.len() < words.len(),
+            words.starts_with(small.as_slice())
+        ),
+        (refused, true)
+    );
 }
 
 #[test]
