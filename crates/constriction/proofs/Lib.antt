@@ -1,5 +1,4 @@
 mod Digits
-mod EvenLemmas
 mod FillLemmas
 mod Halving
 mod ProbeLemmas

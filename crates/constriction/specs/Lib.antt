@@ -1,5 +1,4 @@
 pub mod Acceptance
-pub mod Evens
 pub mod Filling
 pub mod Model
 pub mod Probe

@@ -12,8 +12,6 @@ pub mod laws;
 mod read;
 mod reverse;
 mod small_vec;
-#[cfg(test)]
-mod tests;
 mod vec;
 mod write;
 

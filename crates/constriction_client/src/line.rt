@@ -7,9 +7,6 @@ ghost use Rattle.constriction_client.specs.Parts.{parts_of};
 ghost use Rattle.constriction_client.specs.Reading.{first_and_others, read_form, read_line};
 ghost use Rattle.constriction_client.specs.Reading.{read_number, read_numbers, read_request, view};
 
-#[cfg(test)]
-mod tests;
-
 use crate::cut::cut;
 use std::alloc::{AllocError, Global};
 

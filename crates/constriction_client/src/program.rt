@@ -6,9 +6,6 @@ ghost use Rattle.std.specs.Io.KnownBytes.{Appends, Consumes, IsAtEnd, Keeps};
 ghost use Rattle.constriction_client.specs.Runs.{limit, HasRead, WritesBeginning, WritesFirstAnswers};
 ghost use Rattle.constriction_client.specs.Text.{lines_of, text_of};
 
-#[cfg(test)]
-mod tests;
-
 use crate::answers::answer;
 use crate::cut::cut;
 use crate::fault::RunFault;

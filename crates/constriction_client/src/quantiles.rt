@@ -8,9 +8,6 @@ use constriction::stream::model::{DecoderModel, EncoderModel};
 use constriction_backends::{ReadWords, WriteWords};
 use constriction_words::{BitArray, CoderError, NonZeroBitArray, Semantics};
 
-#[cfg(test)]
-mod tests;
-
 /// Why an item has no quantile.
 #[derive(Debug, PartialEq, Eq, Drop)]
 pub enum QuantileFault {

@@ -6,6 +6,7 @@ ghost use Rattle.constriction_backends.specs.Cursor.{buf_of, pos_of};
 
 use constriction_backends::{Cursor, ReadWords, SafeBuf, SafeBufMut, WriteWords};
 use constriction_words::{Pos, Queue, Seek};
+use std::process::Abort;
 use std::test::Fail;
 
 /// Sets the first word through the loan of all words.
@@ -29,7 +30,7 @@ fn set_written<Word: Copy, Buf: SafeBufMut<Word>>(cursor: &mut Cursor<Word, Buf>
     words[0] = word;
 }
 
-/// Sets the word behind the position through the loan of the words behind it.
+/// Sets the word at the position through the loan of the words from it on.
 #[tactic(auto, using(constriction_backends::specs::BufferLaws::set_back))]
 fn set_unwritten<Word: Copy, Buf: SafeBufMut<Word>>(cursor: &mut Cursor<Word, Buf>, word: Word)
     requires { pos_of cursor.old < length (Buf.words_of (buf_of cursor.old)) }
@@ -95,25 +96,37 @@ where
     words: Cursor<Word, Vec<Word>>,
 }
 
+/// A cursor at 1 holds these words.
+fn holds(rt: &impl Abort, cursor: &Cursor<u8, Vec<u8>>, words: [u8; 3]) {
+    assert_eq!(rt;
+        (cursor.buf().as_slice(), cursor.pos()),
+        (words.as_slice(), 1)
+    );
+}
+
 #[test]
 fn what_is_written_through_a_loan_stands(rt: HostRuntime) -> Result<(), Fail> {
-    let mut cursor = Cursor::<u8, _>::new_at_write_beginning([1u8, 2, 3].to_vec(rt.alloc())?);
-    assert_eq!(rt; cursor.seek(1), Ok(()));
+    let words = [1u8, 2, 3].to_vec(rt.alloc())?;
+    let Ok(mut cursor) = Cursor::<u8, _>::new_at_pos_mut(words, 1) else {
+        panic!(rt; "1 is past the end of three words");
+    };
     set_first(&mut cursor, 10);
-    assert_eq!(rt; cursor.buf().as_slice(), [10, 2, 3].as_slice());
+    holds(&rt, &cursor, [10, 2, 3]);
     set_written(&mut cursor, 11);
     set_unwritten(&mut cursor, 21);
-    assert_eq!(rt; cursor.buf().as_slice(), [11, 21, 3].as_slice());
+    holds(&rt, &cursor, [11, 21, 3]);
     set_through_another(&mut cursor, 22);
-    assert_eq!(rt; cursor.buf().as_slice(), [11, 22, 3].as_slice());
+    holds(&rt, &cursor, [11, 22, 3]);
     move_a_view(&mut cursor);
-    assert_eq!(rt; cursor.buf().as_slice(), [8, 22, 3].as_slice());
-    assert_eq!(rt; cursor.pos(), 1);
+    holds(&rt, &cursor, [8, 22, 3]);
+    Ok(())
+}
+
+#[test]
+fn a_slice_of_the_callers_own_is_written(rt: HostRuntime) {
     let mut own = [5u8, 6];
     set_slice(&mut own, 1, 7);
-    assert_eq!(rt; read_a_slice(&mut own), Some(5));
-    assert_eq!(rt; own.as_slice(), [5, 7].as_slice());
-    Ok(())
+    assert_eq!(rt; (read_a_slice(&mut own), own), (Some(5), [5, 7]));
 }
 
 #[test]
@@ -122,10 +135,9 @@ fn a_coder_holds_a_cursor(rt: HostRuntime) -> Result<(), Fail> {
     let coder = Coder {
         words: Cursor::new_at_write_end(words.as_slice()),
     };
-    assert_eq!(rt; coder.words.pos(), 3);
-    let coder = VecCoder {
+    let vec_coder = VecCoder {
         words: Cursor::new_at_write_end(words.to_vec(rt.alloc())?),
     };
-    assert_eq!(rt; coder.words.pos(), 3);
+    assert_eq!(rt; (coder.words.pos(), vec_coder.words.pos()), (3, 3));
     Ok(())
 }

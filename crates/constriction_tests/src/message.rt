@@ -1,18 +1,29 @@
 //! The example of the README: a table, and a message there and back.
 
 use constriction::Stack;
-use constriction::stream::model::ContiguousCategoricalEntropyModel;
-use constriction_client::{read_symbols, write_quantiles};
+use constriction::stream::model::{ContiguousCategoricalEntropyModel, ModelError};
+use constriction_client::{QuantileFault, read_symbols, write_quantiles};
+use constriction_words::CoderError;
+use std::alloc::{AllocError, Global};
 use std::test::Fail;
 
 type Model = ContiguousCategoricalEntropyModel<u8, Vec<u8>, 6>;
 
+fn table(alloc: Global) -> Result<Model, ModelError> {
+    Model::from_nonzero_fixed_point_probabilities(alloc, [3, 18, 1, 42], false)
+}
+
+fn written(alloc: Global, model: &Model) -> Result<Vec<u8>, CoderError<QuantileFault, AllocError>> {
+    let mut words = Vec::new(alloc);
+    let items = [(0, 2), (3, 41), (1, 0)];
+    write_quantiles(model, &items, &mut words)?;
+    Ok(words)
+}
+
 #[test]
 fn a_message_goes_there_and_back(rt: HostRuntime) -> Result<(), Fail> {
-    let model = Model::from_nonzero_fixed_point_probabilities(rt.alloc(), [3, 18, 1, 42], false)?;
-    let mut words = Vec::new(rt.alloc());
-    let items = [(0, 2), (3, 41), (1, 0)];
-    write_quantiles(&model, &items, &mut words)?;
+    let model = table(rt.alloc())?;
+    let mut words = written(rt.alloc(), &model)?;
     assert_eq!(rt; words.as_slice(), [2, 63, 3].as_slice());
     let mut back = Vec::new(rt.alloc());
     read_symbols::<Stack, _, _, 6>(&model, &mut words, 3, &mut back)?;

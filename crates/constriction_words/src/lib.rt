@@ -11,8 +11,6 @@ mod infallible;
 mod position;
 mod read_write_error;
 mod semantics;
-#[cfg(test)]
-mod tests;
 mod whole_number;
 mod words;
 

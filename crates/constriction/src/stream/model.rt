@@ -6,8 +6,6 @@ mod error;
 mod probe;
 mod reference;
 mod search;
-#[cfg(test)]
-mod tests;
 mod traits;
 
 pub use crate::stream::model::categorical::contiguous::ContiguousCategoricalEntropyModel;

@@ -2,7 +2,7 @@
 use Rattle.std.proofs.Common.{◌≡◌, ℕ, ◌+◌, ◌*◌, ◌<◌, length, get_or, ap, ◌∙◌, arith}
 use Rattle.std.proofs.lemmas.List.{length-map, get_or-map}
 use Rattle.std.proofs.lemmas.List.FromFn.{length-range_with_len, get_or-range_with_len}
-use Rattle.constriction.specs.Evens.{evens}
+use Rattle.constriction_tests.specs.Evens.{evens}
 use Rattle.constriction.specs.Probe.{IsSearchable}
 use Rattle.constriction.specs.Rows.{indices}
 

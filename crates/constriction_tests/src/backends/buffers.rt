@@ -1,7 +1,7 @@
 //! Each buffer lends its words.
 
-use crate::buf::{SafeBuf, SafeBufMut};
-use crate::tests::marked::Marked;
+use crate::backends::marked::Marked;
+use constriction_backends::{SafeBuf, SafeBufMut};
 use std::process::Abort;
 use std::test::Fail;
 
@@ -12,7 +12,6 @@ fn lends<Buf: SafeBuf<u8>>(rt: &impl Abort, buf: &Buf) {
 fn is_written<Buf: SafeBufMut<u8>>(rt: &impl Abort, buf: &mut Buf) {
     lends(rt, buf);
     let words = buf.words_mut();
-    assert_eq!(rt; words.len(), 4);
     if words.len() == 4 {
         words[1] = 20;
     }
@@ -24,23 +23,20 @@ fn buffers_lend_their_words(rt: HostRuntime) -> Result<(), Fail> {
     let words = [3u8, 18, 1, 42];
     lends(&rt, &words.as_slice());
     lends(&rt, &&words);
-    lends(&rt, &words.to_vec(rt.alloc())?);
-    lends(&rt, &words.to_vec(rt.alloc())?.into_boxed_slice());
+    let vec = words.to_vec(rt.alloc())?;
+    lends(&rt, &vec);
+    lends(&rt, &vec.into_boxed_slice());
     Ok(())
 }
 
 #[test]
 fn buffers_are_written(rt: HostRuntime) -> Result<(), Fail> {
     let mut words = [3u8, 18, 1, 42];
+    let mut copy = words;
     is_written(&rt, &mut words.to_vec(rt.alloc())?);
-    let mut marked = Marked {
-        first: 7,
-        words: words.to_vec(rt.alloc())?,
-        last: 9,
-    };
+    let mut marked = Marked::new(words.to_vec(rt.alloc())?);
     is_written(&rt, &mut marked);
     assert_eq!(rt; (marked.first, marked.last), (7, 9));
-    let mut copy = words;
     let mut array: &mut [u8; 4] = &mut copy;
     is_written(&rt, &mut array);
     let mut slice: &mut [u8] = &mut words;

@@ -1,7 +1,7 @@
 //! Lines that ask for something, and lines that do not.
 
-use crate::laws::reading_is_exactly_spelling;
-use crate::line::{Command, Form, parse};
+use constriction_client::laws::reading_is_exactly_spelling;
+use constriction_client::{Command, Form, parse};
 use std::test::Fail;
 
 #[test]
@@ -10,8 +10,10 @@ fn a_table_has_its_weights(rt: HostRuntime) -> Result<(), Fail> {
     let Some(Command::Table { form, weights }) = found else {
         panic!(rt; "no table");
     };
-    assert_eq!(rt; form, Form::U8Precision6);
-    assert_eq!(rt; weights.as_slice(), [3, 18, u64::MAX].as_slice());
+    assert_eq!(rt;
+        (form, weights.as_slice()),
+        (Form::U8Precision6, [3, 18, u64::MAX].as_slice())
+    );
     Ok(())
 }
 
@@ -28,9 +30,10 @@ fn a_quantile_stands_before_the_weights(rt: HostRuntime) -> Result<(), Fail> {
     else {
         panic!(rt; "no quantile");
     };
-    assert_eq!(rt; form, Form::U8Precision6);
-    assert_eq!(rt; quantile, 21);
-    assert_eq!(rt; weights.as_slice(), [64].as_slice());
+    assert_eq!(rt;
+        (form, quantile, weights.as_slice()),
+        (Form::U8Precision6, 21, [64].as_slice())
+    );
     Ok(())
 }
 
@@ -39,18 +42,19 @@ fn a_symbol_stands_before_the_weights(rt: HostRuntime) -> Result<(), Fail> {
     let Some(command) = parse(rt.alloc(), b"symbol u8/6 4")? else {
         panic!(rt; "no request");
     };
-    assert_eq!(rt; command.form(), Form::U8Precision6);
-    match &command {
-        Command::Symbol {
-            symbol,
-            weights,
-            ..
-        } => {
-            assert_eq!(rt; *symbol, 4);
-            assert!(rt; weights.is_empty());
-        }
-        _ => panic!(rt; "no symbol"),
-    }
+    let form = command.form();
+    let Command::Symbol {
+        symbol,
+        weights,
+        ..
+    } = command
+    else {
+        panic!(rt; "no symbol");
+    };
+    assert_eq!(rt;
+        (form, symbol, weights.is_empty()),
+        (Form::U8Precision6, 4, true)
+    );
     Ok(())
 }
 

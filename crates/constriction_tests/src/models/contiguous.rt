@@ -1,14 +1,14 @@
 //! The contiguous model and the counted search, over worked tables.
 
-ghost use Rattle.std.specs.Prelude.{◌^◌, ◌<◌, ◌≤◌};
-ghost use Rattle.constriction.specs.Evens.{evens};
+ghost use Rattle.std.specs.Prelude.{◌^◌, ◌<◌};
 
-use crate::stream::model::{
-    ContiguousCategoricalEntropyModel, DecoderModel, EncoderModel, ModelError, Probe,
+use constriction::stream::model::{
+    ContiguousCategoricalEntropyModel, DecoderModel, EncoderModel, ModelError, Probe, Weight,
     row_of_quantile,
 };
 use constriction_words::NonZeroBitArray;
 use std::alloc::Global;
+use std::process::Abort;
 use std::test::Fail;
 
 type Small = ContiguousCategoricalEntropyModel<u8, Vec<u8>, 6>;
@@ -37,47 +37,72 @@ fn row_by_scan(weights: &[u8], quantile: u8) -> Option<(usize, u8, u8)> {
     None
 }
 
+/// A row with its weight as a plain word.
+fn plain(row: (usize, u8, Weight<u8>)) -> (usize, u8, u8) {
+    let (symbol, left, weight) = row;
+    (symbol, left, weight.get())
+}
+
+/// The entry of a symbol with its weight as a plain word.
+fn entry_of(model: &Small, symbol: usize) -> Option<(u8, u8)> {
+    let (left, weight) = model.left_cumulative_and_probability(&symbol)?;
+    Some((left, weight.get()))
+}
+
 #[test]
 fn each_quantile_has_the_row_that_a_scan_finds(rt: HostRuntime) -> Result<(), Fail> {
     let model = small(rt.alloc(), &WEIGHTS, false)?;
     for quantile in 0..64u8 {
-        let (symbol, left, weight) = model.quantile_function(quantile)?;
+        let (symbol, left, weight) = plain(model.quantile_function(quantile)?);
         assert_eq!(rt;
-            Some((symbol, left, weight.get())),
-            row_by_scan(&WEIGHTS, quantile)
-        );
-        let entry = model.left_cumulative_and_probability(&symbol);
-        assert_eq!(rt;
-            entry.map(|(left, weight)| (left, weight.get())),
-            Some((left, weight.get()))
+            (Some((symbol, left, weight)), entry_of(&model, symbol)),
+            (row_by_scan(&WEIGHTS, quantile), Some((left, weight)))
         );
     }
     Ok(())
 }
 
 #[test]
-fn the_four_rows(rt: HostRuntime) -> Result<(), Fail> {
+fn symbols_have_their_entries(rt: HostRuntime) -> Result<(), Fail> {
     let model = small(rt.alloc(), &WEIGHTS, false)?;
     assert_eq!(rt; model.support_size(), 4);
-    for (symbol, left, weight) in [(0usize, 0u8, 3u8), (1, 3, 18), (2, 21, 1), (3, 22, 42)] {
-        let entry = model.left_cumulative_and_probability(&symbol);
-        assert_eq!(rt;
-            entry.map(|(left, weight)| (left, weight.get())),
-            Some((left, weight)),
-            "{symbol}"
-        );
+    for (symbol, entry) in [
+        (0, Some((0, 3))),
+        (1, Some((3, 18))),
+        (2, Some((21, 1))),
+        (3, Some((22, 42))),
+        (4, None),
+        (usize::MAX, None),
+    ] {
+        assert_eq!(rt; entry_of(&model, symbol), entry, "{symbol}");
     }
-    assert!(rt; model.left_cumulative_and_probability(&4).is_none());
-    assert!(rt; model.left_cumulative_and_probability(&usize::MAX).is_none());
+    Ok(())
+}
+
+/// The row that the counted search finds, how many rows there are, and the questions before the
+/// search and after it.
+fn searched(model: &Small, quantile: u8) -> (Option<usize>, usize, usize, usize)
+    requires { quantile < 64 }
+{
+    let (first, mut rows) = model.quantile_probe(quantile);
+    let before = rows.asked();
+    let size = rows.len();
+    let index = row_of_quantile(&mut rows, quantile);
+    (first.checked_add(index), size, before, rows.asked())
+}
+
+#[test]
+fn the_search_asks_at_most_two_questions_of_four_rows(rt: HostRuntime) -> Result<(), Fail> {
+    let model = small(rt.alloc(), &WEIGHTS, false)?;
     for (quantile, symbol) in [(2u8, 0usize), (3, 1), (20, 1), (21, 2), (22, 3), (63, 3)] {
         assert!(rt; quantile < 64);
-        assert_eq!(rt; model.quantile_function(quantile)?.0, symbol, "{quantile}");
-        let (first, mut rows) = model.quantile_probe(quantile);
-        assert_eq!(rt; rows.asked(), 0);
-        assert_eq!(rt; rows.len(), 4);
-        let index = row_of_quantile(&mut rows, quantile);
-        assert_eq!(rt; first.checked_add(index), Some(symbol), "{quantile}");
-        assert!(rt; rows.asked() <= 2, "{quantile}");
+        let (answered, _, _) = plain(model.quantile_function(quantile)?);
+        let (found, size, before, asked) = searched(&model, quantile);
+        assert_eq!(rt;
+            (answered, found, size, before, asked <= 2),
+            (symbol, Some(symbol), 4, 0, true),
+            "{quantile}"
+        );
     }
     Ok(())
 }
@@ -85,12 +110,22 @@ fn the_four_rows(rt: HostRuntime) -> Result<(), Fail> {
 #[test]
 fn one_row_is_found_without_a_question(rt: HostRuntime) -> Result<(), Fail> {
     let model = small(rt.alloc(), &[64], false)?;
-    let (_, mut rows) = model.quantile_probe(63);
-    assert_eq!(rt; row_of_quantile(&mut rows, 63), 0);
-    assert_eq!(rt; rows.asked(), 0);
-    let (symbol, left, weight) = model.quantile_function(63)?;
-    assert_eq!(rt; (symbol, left, weight.get()), (0, 0, 64));
+    assert_eq!(rt;
+        (searched(&model, 63), plain(model.quantile_function(63)?)),
+        ((Some(0), 1, 0, 0), (0, 0, 64))
+    );
     Ok(())
+}
+
+/// Whether weights are accepted; they are not where they are an invalid table.
+fn is_accepted<Model: Drop>(rt: &impl Abort, name: &str, made: Result<Model, ModelError>) -> bool {
+    match made {
+        Ok(_) => true,
+        Err(error) => {
+            assert_eq!(rt; error, ModelError::InvalidTable, "{name}");
+            false
+        }
+    }
 }
 
 #[test]
@@ -106,7 +141,7 @@ fn weights_are_accepted_exactly_where_they_tile(rt: HostRuntime) {
         ("no weight", [].as_slice(), false, false),
         ("one weight too few", [3, 18, 1].as_slice(), false, false),
         (
-            "a weight behind the last quantile",
+            "a weight after the last quantile",
             [64, 1].as_slice(),
             false,
             false,
@@ -129,14 +164,14 @@ fn weights_are_accepted_exactly_where_they_tile(rt: HostRuntime) {
         ("nothing is left to infer", [64].as_slice(), true, false),
         ("less than nothing is left", [60, 5].as_slice(), true, false),
     ];
-    for (name, weights, infer, is_accepted) in cases {
+    for (name, weights, infer, expected) in cases {
         let made = small(rt.alloc(), weights, infer);
-        assert_eq!(rt; made.is_ok(), is_accepted, "{name}");
-        assert!(rt;
-            is_accepted || matches!(made, Err(ModelError::InvalidTable)),
-            "{name}"
-        );
+        assert_eq!(rt; is_accepted(&rt, name, made), expected, "{name}");
     }
+}
+
+#[test]
+fn weights_are_accepted_at_the_full_width_exactly_where_they_tile(rt: HostRuntime) {
     let cases = [
         (
             "the wrapped sum is 0",
@@ -156,13 +191,9 @@ fn weights_are_accepted_exactly_where_they_tile(rt: HostRuntime) {
             false,
         ),
     ];
-    for (name, weights, infer, is_accepted) in cases {
+    for (name, weights, infer, expected) in cases {
         let made = full(rt.alloc(), weights, infer);
-        assert_eq!(rt; made.is_ok(), is_accepted, "{name}");
-        assert!(rt;
-            is_accepted || matches!(made, Err(ModelError::InvalidTable)),
-            "{name}"
-        );
+        assert_eq!(rt; is_accepted(&rt, name, made), expected, "{name}");
     }
 }
 
@@ -175,8 +206,7 @@ fn last_rows_at_the_full_width(rt: HostRuntime) -> Result<(), Fail> {
     ];
     for (weights, infer, row) in cases {
         let model = full(rt.alloc(), weights, infer)?;
-        let (symbol, left, weight) = model.quantile_function(255)?;
-        assert_eq!(rt; (symbol, left, weight.get()), row);
+        assert_eq!(rt; plain(model.quantile_function(255)?), row);
     }
     Ok(())
 }
@@ -185,54 +215,14 @@ fn last_rows_at_the_full_width(rt: HostRuntime) -> Result<(), Fail> {
 fn a_probe_of_256_rows_is_asked_at_most_8_questions(rt: HostRuntime) -> Result<(), Fail> {
     let ones = vec![in rt.alloc(); 1u8; 256]?;
     let model = full(rt.alloc(), &ones, false)?;
-    assert_eq!(rt; model.quantile_function(200)?.0, 200);
+    let (symbol, _, _) = plain(model.quantile_function(200)?);
     let (_, mut rows) = model.quantile_probe(200);
-    assert_eq!(rt; row_of_quantile(&mut rows, 200), 200);
-    assert!(rt; rows.asked() >= 1);
-    assert!(rt; rows.asked() <= 8);
+    let index = row_of_quantile(&mut rows, 200);
+    assert_eq!(rt;
+        (symbol, index, rows.asked() >= 1, rows.asked() <= 8),
+        (200, 200, true, true)
+    );
     Ok(())
-}
-
-/// A table of the caller that is computed: the even numbers from 0 on.
-#[derive(Drop)]
-struct Evens {
-    size: usize,
-    asked: usize,
-    ghost few: { size ≤ 1000 },
-}
-
-impl Probe for Evens {
-    type Word = u16;
-
-    ghost cumulatives = { λ p. evens p.size };
-
-    ghost questions = { λ p. p.asked };
-
-    #[tactic(auto, using(crate::proofs::EvenLemmas::length_evens))]
-    fn len(&self) -> usize {
-        self.size
-    }
-
-    fn asked(&self) -> usize {
-        self.asked
-    }
-
-    #[tactic(auto, using(crate::proofs::EvenLemmas::length_evens, crate::proofs::EvenLemmas::evens_at))]
-    fn at_most(&mut self, index: usize, q: u16) -> bool {
-        self.asked += 1;
-        2 * index <= q as usize
-    }
-}
-
-#[test]
-#[tactic(auto, using(crate::proofs::EvenLemmas::length_evens))]
-fn a_table_of_the_caller_is_searched(rt: HostRuntime) {
-    let mut rows = Evens {
-        size: 1000,
-        asked: 0,
-    };
-    assert_eq!(rt; row_of_quantile(&mut rows, 999u16), 499);
-    assert!(rt; rows.asked() <= 10);
 }
 
 /// The symbol of a quantile and whether it has an entry, through the bounds alone.
@@ -256,8 +246,13 @@ where
 #[test]
 fn a_reference_to_a_model_is_a_model(rt: HostRuntime) -> Result<(), Fail> {
     let model = small(rt.alloc(), &WEIGHTS, false)?;
-    assert_eq!(rt; symbol_through_bounds(&model, 21u8), Some(2));
-    assert_eq!(rt; symbol_through_bounds(&&model, 22u8), Some(3));
-    assert_eq!(rt; symbol_through_bounds(model, 3u8), Some(1));
+    assert_eq!(rt;
+        [
+            symbol_through_bounds(&model, 21u8),
+            symbol_through_bounds(&&model, 22),
+            symbol_through_bounds(model, 3)
+        ],
+        [Some(2), Some(3), Some(1)]
+    );
     Ok(())
 }

@@ -1,6 +1,6 @@
 //! What errors print, and how they compare.
 
-use crate::error::BoundedWriteError;
+use constriction_backends::BoundedWriteError;
 use constriction_words::CoderError;
 use std::error::Error;
 use std::test::Fail;

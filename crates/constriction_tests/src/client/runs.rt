@@ -1,14 +1,16 @@
 //! Runs over whole inputs, and over readers and writers that give or take little, fail, or end.
 
-use crate::answers::answer;
-use crate::fault::RunFault;
-use crate::laws::{
+use constriction_client::laws::{
     each_quantile_in_range_has_a_row, reads_back, reads_back_reversed,
     the_row_found_is_the_row_of_the_quantile, weights_are_tested_as_models_accept_them,
 };
-use crate::program::{LIMIT, run};
+use constriction_client::{RunFault, answer, run};
+use std::alloc::Global;
 use std::io::{self, Read, Write};
 use std::test::Fail;
+
+/// The most bytes of an input.
+const LIMIT: usize = 1_048_576;
 
 /// Gives one byte a turn, and fails after so many turns.
 #[derive(Drop)]
@@ -62,8 +64,25 @@ impl Write for SlowWriter {
     }
 }
 
+/// The answer to an input, read at once, and read byte by byte.
+fn answers(
+    alloc: Global,
+    input: &str,
+) -> (Result<(), RunFault>, Vec<u8>, Result<(), RunFault>, Vec<u8>) {
+    let mut reader = input.as_bytes();
+    let mut written = Vec::new(alloc);
+    let result = run(alloc, &mut reader, &mut written);
+    let mut slow = SlowReader {
+        rest: input.as_bytes(),
+        turns: 1000,
+    };
+    let mut again = Vec::new(alloc);
+    let slow_result = run(alloc, &mut slow, &mut again);
+    (result, written, slow_result, again)
+}
+
 #[test]
-fn lines_are_answered(rt: HostRuntime) -> Result<(), Fail> {
+fn lines_are_answered(rt: HostRuntime) {
     let cases = [
         ("", ""),
         ("table u8/6", "invalid\n"),
@@ -105,97 +124,89 @@ fn lines_are_answered(rt: HostRuntime) -> Result<(), Fail> {
         ),
     ];
     for (input, text) in cases {
-        let mut reader = input.as_bytes();
-        let mut written = Vec::new(rt.alloc());
-        assert!(rt;
-            run(rt.alloc(), &mut reader, &mut written).is_ok(),
+        let (result, written, slow_result, again) = answers(rt.alloc(), input);
+        assert_eq!(rt;
+            (result, written.as_slice(), slow_result, again.as_slice()),
+            (Ok(()), text.as_bytes(), Ok(()), text.as_bytes()),
             "{input}"
         );
-        assert_eq!(rt; written.as_slice(), text.as_bytes(), "{input}");
-        let mut slow = SlowReader {
-            rest: input.as_bytes(),
-            turns: 1000,
-        };
-        let mut again = Vec::new(rt.alloc());
-        assert!(rt;
-            run(rt.alloc(), &mut slow, &mut again).is_ok(),
-            "{input}, byte by byte"
-        );
-        assert_eq!(rt; again.as_slice(), text.as_bytes(), "{input}, byte by byte");
     }
-    Ok(())
 }
 
 #[test]
-fn a_reader_that_fails_leaves_nothing_written(rt: HostRuntime) -> Result<(), Fail> {
+fn a_reader_that_fails_leaves_nothing_written(rt: HostRuntime) {
     let mut reader = SlowReader {
         rest: b"a\nb",
         turns: 2,
     };
     let mut written = Vec::new(rt.alloc());
-    assert_eq!(rt;
-        run(rt.alloc(), &mut reader, &mut written),
-        Err(RunFault::Read)
-    );
-    assert!(rt; written.is_empty());
-    Ok(())
+    let result = run(rt.alloc(), &mut reader, &mut written);
+    assert_eq!(rt; (result, written.is_empty()), (Err(RunFault::Read), true));
 }
 
 #[test]
-fn a_writer_that_fails_has_a_beginning(rt: HostRuntime) -> Result<(), Fail> {
+fn a_writer_that_fails_has_a_beginning(rt: HostRuntime) {
     let mut reader = b"a\nb".as_slice();
     let mut writer = SlowWriter {
         taken: Vec::new(rt.alloc()),
         turns: 12,
     };
+    let result = run(rt.alloc(), &mut reader, &mut writer);
     assert_eq!(rt;
-        run(rt.alloc(), &mut reader, &mut writer),
-        Err(RunFault::Write)
+        (result, writer.taken.as_slice()),
+        (Err(RunFault::Write), b"bad line\nbad".as_slice())
     );
-    assert_eq!(rt; writer.taken.as_slice(), b"bad line\nbad".as_slice());
-    Ok(())
 }
 
 #[test]
-fn a_writer_that_takes_no_byte_has_a_beginning(rt: HostRuntime) -> Result<(), Fail> {
+fn a_writer_that_takes_no_byte_has_a_beginning(rt: HostRuntime) {
     let mut room = [0u8; 12];
     let mut reader = b"a\nb".as_slice();
     let mut writer = room.as_mut_slice();
+    let result = run(rt.alloc(), &mut reader, &mut writer);
     assert_eq!(rt;
-        run(rt.alloc(), &mut reader, &mut writer),
-        Err(RunFault::Write)
+        (result, room.as_slice()),
+        (Err(RunFault::Write), b"bad line\nbad".as_slice())
     );
-    assert_eq!(rt; room.as_slice(), b"bad line\nbad".as_slice());
+}
+
+#[test]
+fn an_input_of_the_limit_is_answered(rt: HostRuntime) -> Result<(), Fail> {
+    let input = vec![in rt.alloc(); b'\n'; LIMIT]?;
+    let mut reader = input.as_slice();
+    let mut written = Vec::new(rt.alloc());
+    let result = run(rt.alloc(), &mut reader, &mut written);
+    assert_eq!(rt; (result, written.len()), (Ok(()), LIMIT * 9));
+    for line in written.chunks(9) {
+        assert_eq!(rt; line, b"bad line\n".as_slice());
+    }
     Ok(())
 }
 
 #[test]
-fn an_input_of_the_limit_is_answered_and_a_longer_one_is_not(rt: HostRuntime) -> Result<(), Fail> {
-    let mut input = vec![in rt.alloc(); b'\n'; LIMIT]?;
+fn a_longer_input_is_not_answered(rt: HostRuntime) -> Result<(), Fail> {
+    let input = vec![in rt.alloc(); b'\n'; LIMIT + 1]?;
     let mut reader = input.as_slice();
     let mut written = Vec::new(rt.alloc());
-    assert_eq!(rt; run(rt.alloc(), &mut reader, &mut written), Ok(()));
-    assert_eq!(rt; written.len(), LIMIT * 9);
-    for line in written.chunks(9) {
-        assert_eq!(rt; line, b"bad line\n".as_slice());
-    }
-    input.push(b'\n')?;
-    let mut reader = input.as_slice();
-    let mut written = Vec::new(rt.alloc());
+    let result = run(rt.alloc(), &mut reader, &mut written);
     assert_eq!(rt;
-        run(rt.alloc(), &mut reader, &mut written),
-        Err(RunFault::TooLong)
+        (result, written.is_empty()),
+        (Err(RunFault::TooLong), true)
     );
-    assert!(rt; written.is_empty());
     Ok(())
 }
 
 #[test]
 fn faults_have_their_status(rt: HostRuntime) {
-    assert_eq!(rt; RunFault::Read.status(), 1);
-    assert_eq!(rt; RunFault::Write.status(), 1);
-    assert_eq!(rt; RunFault::TooLong.status(), 2);
-    assert_eq!(rt; RunFault::OutOfMemory.status(), 3);
+    assert_eq!(rt;
+        [
+            RunFault::Read.status(),
+            RunFault::Write.status(),
+            RunFault::TooLong.status(),
+            RunFault::OutOfMemory.status()
+        ],
+        [1, 1, 2, 3]
+    );
 }
 
 #[test]
@@ -205,9 +216,7 @@ fn laws_and_answers_may_be_called(rt: HostRuntime) -> Result<(), Fail> {
     each_quantile_in_range_has_a_row();
     reads_back::<usize, u8>();
     reads_back_reversed::<usize, u8>();
-    assert_eq!(rt;
-        answer(rt.alloc(), b"table u8/6 1 63")?.as_str(),
-        "0 0 1\n1 1 63\n"
-    );
+    let text = answer(rt.alloc(), b"table u8/6 1 63")?;
+    assert_eq!(rt; text.as_str(), "0 0 1\n1 1 63\n");
     Ok(())
 }

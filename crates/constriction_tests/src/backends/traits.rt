@@ -4,10 +4,9 @@ ghost use Rattle.std.specs.Prelude.{◌≡◌, ◌<◌, ◌≤◌, Err, MatchRes
 ghost use Rattle.constriction_backends.specs.Source.{CountsRead};
 ghost use Rattle.constriction_backends.specs.Sink.{CountsWrite};
 
-use crate::error::BoundedWriteError;
-use crate::laws;
-use crate::read::{BoundedReadWords, ReadWords};
-use crate::write::{BoundedWriteWords, WriteWords};
+use constriction_backends::{
+    BoundedReadWords, BoundedWriteError, BoundedWriteWords, ReadWords, WriteWords, laws,
+};
 use constriction_words::{Queue, Stack};
 use std::convert::Infallible;
 
@@ -53,15 +52,16 @@ impl WriteWords<u8> for Small {
 #[test]
 fn default_answers_say_nothing(rt: HostRuntime) {
     let mut source = Endless;
-    assert!(rt; source.maybe_exhausted());
-    assert_eq!(rt; source.read(), Err(7));
+    assert_eq!(rt; (source.maybe_exhausted(), source.read()), (true, Err(7)));
     let mut sink = Small { last: 0 };
-    assert!(rt; sink.maybe_full());
     assert_eq!(rt;
-        sink.extend_from_iter([4u8, 5, 10, 6].iter().copied()),
-        Err(10)
+        (
+            sink.maybe_full(),
+            sink.extend_from_iter([4u8, 5, 10, 6].iter().copied()),
+            sink.last
+        ),
+        (true, Err(10), 5)
     );
-    assert_eq!(rt; sink.last, 5);
 }
 
 /// Words that count down to 1, and tell how many are left.
@@ -140,10 +140,15 @@ fn a_source_is_exhausted_where_nothing_remains(rt: HostRuntime) {
     laws::remaining_counts::<u8, Queue, Countdown>();
     let mut source = Countdown { left: 2 };
     for (remaining, word) in [(2, Some(2)), (1, Some(1)), (0, None), (0, None)] {
-        assert_eq!(rt; source.remaining(), remaining);
-        assert_eq!(rt; source.is_exhausted(), remaining == 0, "with {remaining}");
-        assert!(rt; source.maybe_exhausted());
-        assert_eq!(rt; source.read(), Ok(word));
+        assert_eq!(rt;
+            (
+                source.remaining(),
+                source.is_exhausted(),
+                source.maybe_exhausted(),
+                source.read()
+            ),
+            (remaining, remaining == 0, true, Ok(word))
+        );
     }
 }
 
@@ -155,24 +160,26 @@ fn a_sink_is_full_where_no_place_is_free(rt: HostRuntime) {
         (1, Ok(())),
         (0, Err(BoundedWriteError::OutOfSpace)),
     ] {
-        assert_eq!(rt; sink.space_left(), free);
-        assert_eq!(rt; sink.is_full(), free == 0, "with {free}");
-        assert!(rt; sink.maybe_full());
-        assert_eq!(rt; sink.write(9), answer);
+        assert_eq!(rt;
+            (
+                sink.space_left(),
+                sink.is_full(),
+                sink.maybe_full(),
+                sink.write(9)
+            ),
+            (free, free == 0, true, answer)
+        );
     }
 }
 
 #[test]
 fn more_words_than_places_are_refused(rt: HostRuntime) {
     let mut sink = Places { free: 4 };
-    assert_eq!(rt;
-        laws::extending_counts(&mut sink, [1u8, 2, 3].iter().copied()),
-        Ok(())
-    );
-    assert_eq!(rt; sink.space_left(), 1);
-    assert_eq!(rt;
-        laws::extending_counts(&mut sink, [4u8, 5].iter().copied()),
-        Err(BoundedWriteError::OutOfSpace)
-    );
-    assert_eq!(rt; sink.space_left(), 0);
+    for (words, answer, free) in [
+        ([1u8, 2, 3].as_slice(), Ok(()), 1),
+        ([4, 5].as_slice(), Err(BoundedWriteError::OutOfSpace), 0),
+    ] {
+        let extended = laws::extending_counts(&mut sink, words.iter().copied());
+        assert_eq!(rt; (extended, sink.space_left()), (answer, free));
+    }
 }

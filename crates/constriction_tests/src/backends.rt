@@ -1,4 +1,4 @@
-//! The calls of sources, sinks and buffers, at their types and through their bounds.
+//! Sources, sinks and buffers: their calls at their types and through their bounds.
 
 mod buffers;
 mod cursors;

@@ -4,13 +4,24 @@ ghost use Rattle.std.proofs.Common.{ap};
 ghost use Rattle.std.specs.Vec.{with_items};
 ghost use Rattle.constriction_backends.specs.VecBuffer.{with_items_stand, with_items-length, with_items_unchanged, with_items_again};
 
-use crate::buf::{SafeBuf, SafeBufMut};
+use constriction_backends::{SafeBuf, SafeBufMut};
 
 #[derive(Debug, Drop)]
 pub struct Marked {
     pub first: u8,
     pub words: Vec<u8>,
     pub last: u8,
+}
+
+impl Marked {
+    /// The words between the marks 7 and 9.
+    pub fn new(words: Vec<u8>) -> Marked {
+        Marked {
+            first: 7,
+            words,
+            last: 9,
+        }
+    }
 }
 
 impl SafeBuf<u8> for Marked {

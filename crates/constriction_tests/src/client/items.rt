@@ -6,12 +6,12 @@ ghost use Rattle.constriction.specs.Rows.{rows_of};
 ghost use Rattle.constriction_backends.specs.Stack.{Pushes};
 ghost use Rattle.constriction_backends.specs.StackLaws.{Pushes-told};
 
-use super::{QuantileFault, ReadFault, read_symbols, write_quantiles};
-use crate::laws::there_and_back;
 use constriction::stream::model::{
     ContiguousCategoricalEntropyModel, DecoderModel, EncoderModel, EntropyModel, ModelError, Weight,
 };
 use constriction_backends::{ReadWords, WriteWords};
+use constriction_client::laws::there_and_back;
+use constriction_client::{QuantileFault, ReadFault, read_symbols, write_quantiles};
 use constriction_words::{BitArray, CoderError, Queue, Stack};
 use std::alloc::{AllocError, Global};
 use std::test::Fail;
@@ -33,21 +33,27 @@ fn full(alloc: Global) -> Result<Full, ModelError> {
 #[test]
 fn three_items_come_back_from_a_stack_reversed(rt: HostRuntime) -> Result<(), Fail> {
     let model = small(rt.alloc())?;
-    let mut words = Vec::new(rt.alloc());
     let items = [(0usize, 2u8), (3, 41), (1, 0)];
-    assert_eq!(rt; write_quantiles(&model, &items, &mut words), Ok(()));
-    assert_eq!(rt; words.as_slice(), [2, 63, 3].as_slice());
-
-    let mut out = Vec::new(rt.alloc());
+    let mut words = Vec::new(rt.alloc());
+    let written = write_quantiles(&model, &items, &mut words);
     assert_eq!(rt;
-        read_symbols::<Stack, _, _, 6>(&model, &mut words, 3, &mut out),
-        Ok(3)
+        (written, words.as_slice()),
+        (Ok(()), [2, 63, 3].as_slice())
     );
-    assert_eq!(rt; out.as_slice(), [(1, 0), (3, 41), (0, 2)].as_slice());
-    assert!(rt; words.is_empty());
+    let mut out = Vec::new(rt.alloc());
+    let read = read_symbols::<Stack, _, _, 6>(&model, &mut words, 3, &mut out);
+    assert_eq!(rt;
+        (read, out.as_slice(), words.is_empty()),
+        (Ok(3), [(1, 0), (3, 41), (0, 2)].as_slice(), true)
+    );
+    Ok(())
+}
 
-    let again = there_and_back(rt.alloc(), &model, &items)?;
-    assert_eq!(rt; again.as_slice(), [(1, 0), (3, 41), (0, 2)].as_slice());
+#[test]
+fn three_items_go_there_and_back(rt: HostRuntime) -> Result<(), Fail> {
+    let model = small(rt.alloc())?;
+    let back = there_and_back(rt.alloc(), &model, &[(0, 2), (3, 41), (1, 0)])?;
+    assert_eq!(rt; back.as_slice(), [(1, 0), (3, 41), (0, 2)].as_slice());
     Ok(())
 }
 
@@ -73,14 +79,11 @@ fn the_words_before_a_fault_stay_written(rt: HostRuntime) -> Result<(), Fail> {
     ];
     for (name, items, fault) in cases {
         let mut words = [7u8].to_vec(rt.alloc())?;
+        let written = write_quantiles(&model, &items, &mut words);
+        let is_refused = there_and_back(rt.alloc(), &model, &items).is_err();
         assert_eq!(rt;
-            write_quantiles(&model, &items, &mut words),
-            Err(CoderError::Frontend(fault)),
-            "{name}"
-        );
-        assert_eq!(rt; words.as_slice(), [7, 2].as_slice(), "{name}");
-        assert!(rt;
-            there_and_back(rt.alloc(), &model, &items).is_err(),
+            (written, words.as_slice(), is_refused),
+            (Err(CoderError::Frontend(fault)), [7, 2].as_slice(), true),
             "{name}"
         );
     }
@@ -92,12 +95,15 @@ fn a_word_that_is_no_quantile_is_gone(rt: HostRuntime) -> Result<(), Fail> {
     let model = small(rt.alloc())?;
     let mut words = [2u8, 64, 63].to_vec(rt.alloc())?;
     let mut out = [(2usize, 0u8)].to_vec(rt.alloc())?;
+    let read = read_symbols::<Stack, _, _, 6>(&model, &mut words, 3, &mut out);
     assert_eq!(rt;
-        read_symbols::<Stack, _, _, 6>(&model, &mut words, 3, &mut out),
-        Err(CoderError::Frontend(ReadFault::QuantileTooLarge))
+        (read, words.as_slice(), out.as_slice()),
+        (
+            Err(CoderError::Frontend(ReadFault::QuantileTooLarge)),
+            [2].as_slice(),
+            [(2, 0), (3, 41)].as_slice()
+        )
     );
-    assert_eq!(rt; words.as_slice(), [2].as_slice());
-    assert_eq!(rt; out.as_slice(), [(2, 0), (3, 41)].as_slice());
     Ok(())
 }
 
@@ -110,16 +116,15 @@ fn no_more_words_are_read_than_are_asked_for(rt: HostRuntime) -> Result<(), Fail
         (2, 2, [].as_slice(), [(3, 41), (0, 2)].as_slice()),
         (5, 2, [].as_slice(), [(3, 41), (0, 2)].as_slice()),
     ];
-    for (count, pairs, left, read) in cases {
+    for (count, pairs, left, expected) in cases {
         let mut words = [2u8, 63].to_vec(rt.alloc())?;
         let mut out = Vec::new(rt.alloc());
+        let read = read_symbols::<Stack, _, _, 6>(&model, &mut words, count, &mut out);
         assert_eq!(rt;
-            read_symbols::<Stack, _, _, 6>(&model, &mut words, count, &mut out),
-            Ok(pairs),
+            (read, words.as_slice(), out.as_slice()),
+            (Ok(pairs), left, expected),
             "{count}"
         );
-        assert_eq!(rt; words.as_slice(), left, "{count}");
-        assert_eq!(rt; out.as_slice(), read, "{count}");
     }
     Ok(())
 }
@@ -129,54 +134,79 @@ fn at_the_full_width_each_word_is_a_quantile(rt: HostRuntime) -> Result<(), Fail
     let model = full(rt.alloc())?;
     let mut words = Vec::new(rt.alloc());
     let items = [(1usize, 55u8), (0, 199), (1, 0)];
-    assert_eq!(rt; write_quantiles(&model, &items, &mut words), Ok(()));
-    assert_eq!(rt; words.as_slice(), [255, 199, 200].as_slice());
-    let mut out = Vec::new(rt.alloc());
+    let written = write_quantiles(&model, &items, &mut words);
     assert_eq!(rt;
-        read_symbols::<Stack, _, _, 8>(&model, &mut words, 4, &mut out),
-        Ok(3)
+        (written, words.as_slice()),
+        (Ok(()), [255, 199, 200].as_slice())
     );
-    assert_eq!(rt; out.as_slice(), [(1, 0), (0, 199), (1, 55)].as_slice());
+    let mut out = Vec::new(rt.alloc());
+    let read = read_symbols::<Stack, _, _, 8>(&model, &mut words, 4, &mut out);
+    assert_eq!(rt;
+        (read, out.as_slice()),
+        (Ok(3), [(1, 0), (0, 199), (1, 55)].as_slice())
+    );
     Ok(())
 }
+
+/// Six items, their quantiles, and the items from the last to the first.
+const ITEMS: [(usize, u8); 6] = [(0, 2), (3, 41), (1, 0), (2, 0), (0, 0), (3, 0)];
+
+const QUANTILES: [u8; 6] = [2, 63, 3, 21, 0, 22];
+
+const REVERSED: [(usize, u8); 6] = [(3, 0), (0, 0), (2, 0), (1, 0), (3, 41), (0, 2)];
 
 /// An answer, or the refusal of memory and what it leaves: `rt try --test --fail-alloc N` makes each
 /// growth fail in turn.
 #[test]
-fn a_refusal_of_memory_is_answered_in_its_place(rt: HostRuntime) {
-    let items = [(0usize, 2u8), (3, 41), (1, 0), (2, 0), (0, 0), (3, 0)];
-    let quantiles = [2u8, 63, 3, 21, 0, 22];
+fn a_refusal_of_memory_ends_what_is_written(rt: HostRuntime) {
     let Ok(model) = small(rt.alloc()) else {
         return;
     };
     let mut words = Vec::new(rt.alloc());
-    match write_quantiles(&model, &items, &mut words) {
-        Ok(()) => assert_eq!(rt; words.len(), 6),
-        Err(fault) => {
-            assert_eq!(rt; fault, CoderError::Backend(AllocError));
-            assert!(rt; words.len() < 6);
-        }
-    }
-    assert!(rt; quantiles.starts_with(words.as_slice()));
+    let written = write_quantiles(&model, &ITEMS, &mut words);
+    let expected = match words.len() {
+        6 => Ok(()),
+        _ => Err(CoderError::Backend(AllocError)),
+    };
+    assert_eq!(rt;
+        (written, QUANTILES.starts_with(words.as_slice())),
+        (expected, true)
+    );
+}
 
-    let Ok(mut words) = quantiles.to_vec(rt.alloc()) else {
+/// The same of reads: the word whose pair found no room has been read.
+#[test]
+fn a_refusal_of_memory_ends_what_is_read(rt: HostRuntime) {
+    let Ok(model) = small(rt.alloc()) else {
+        return;
+    };
+    let Ok(mut words) = QUANTILES.to_vec(rt.alloc()) else {
         return;
     };
     let mut out = Vec::new(rt.alloc());
-    match read_symbols::<Stack, _, _, 6>(&model, &mut words, 6, &mut out) {
-        Ok(count) => {
-            assert_eq!(rt; count, 6);
-            assert!(rt; words.is_empty());
-        }
-        Err(fault) => {
-            assert_eq!(rt; fault, CoderError::Frontend(ReadFault::OutOfMemory));
-            assert_eq!(rt; out.len().checked_add(words.len()), Some(5));
-        }
-    }
-    let reversed = [(3usize, 0u8), (0, 0), (2, 0), (1, 0), (3, 41), (0, 2)];
-    assert!(rt; reversed.starts_with(out.as_slice()));
-    match there_and_back(rt.alloc(), &model, &items) {
-        Ok(pairs) => assert_eq!(rt; pairs.as_slice(), reversed.as_slice()),
+    let read = read_symbols::<Stack, _, _, 6>(&model, &mut words, 6, &mut out);
+    let (expected, in_all) = match out.len() {
+        6 => (Ok(6), 6),
+        _ => (Err(CoderError::Frontend(ReadFault::OutOfMemory)), 5),
+    };
+    assert_eq!(rt;
+        (
+            read,
+            out.len().checked_add(words.len()),
+            REVERSED.starts_with(out.as_slice())
+        ),
+        (expected, Some(in_all), true)
+    );
+}
+
+/// And of the way there and back.
+#[test]
+fn a_refusal_of_memory_ends_the_way(rt: HostRuntime) {
+    let Ok(model) = small(rt.alloc()) else {
+        return;
+    };
+    match there_and_back(rt.alloc(), &model, &ITEMS) {
+        Ok(pairs) => assert_eq!(rt; pairs.as_slice(), REVERSED.as_slice()),
         Err(fault) => assert_eq!(rt; fault, CoderError::Backend(AllocError)),
     }
 }
@@ -220,12 +250,14 @@ fn a_refusal_of_the_sink_is_handed_on(rt: HostRuntime) -> Result<(), Fail> {
     let mut sink = TwoWords {
         words: Vec::new(rt.alloc()),
     };
-    let items = [(0usize, 2u8), (3, 41), (1, 0), (4, 0)];
+    let written = write_quantiles(&model, &[(0, 2), (3, 41), (1, 0), (4, 0)], &mut sink);
     assert_eq!(rt;
-        write_quantiles(&model, &items, &mut sink),
-        Err(CoderError::Backend(Refusal::Full(3)))
+        (written, sink.words.as_slice()),
+        (
+            Err(CoderError::Backend(Refusal::Full(3))),
+            [2, 63].as_slice()
+        )
     );
-    assert_eq!(rt; sink.words.as_slice(), [2, 63].as_slice());
     Ok(())
 }
 
@@ -259,18 +291,21 @@ fn an_error_of_the_source_is_handed_on(rt: HostRuntime) -> Result<(), Fail> {
     let model = small(rt.alloc())?;
     let mut source = Interrupted { reads: 0 };
     let mut out = Vec::new(rt.alloc());
-    assert_eq!(rt;
-        read_symbols::<Queue, _, _, 6>(&model, &mut source, 3, &mut out),
-        Err(CoderError::Backend("interrupted"))
-    );
-    assert_eq!(rt; out.as_slice(), [(3, 41)].as_slice());
-    assert_eq!(rt; source.reads, 2);
-    assert_eq!(rt;
-        read_symbols::<Queue, _, _, 6>(&model, &mut source, 3, &mut out),
-        Ok(1)
-    );
-    assert_eq!(rt; out.as_slice(), [(3, 41), (0, 2)].as_slice());
-    assert_eq!(rt; source.reads, 4);
+    let turns = [
+        (
+            Err(CoderError::Backend("interrupted")),
+            2,
+            [(3usize, 41u8)].as_slice(),
+        ),
+        (Ok(1), 4, [(3, 41), (0, 2)].as_slice()),
+    ];
+    for (answer, reads, pairs) in turns {
+        let read = read_symbols::<Queue, _, _, 6>(&model, &mut source, 3, &mut out);
+        assert_eq!(rt;
+            (read, source.reads, out.as_slice()),
+            (answer, reads, pairs)
+        );
+    }
     Ok(())
 }
 
@@ -317,14 +352,18 @@ impl DecoderModel<2> for Letters {
 #[test]
 fn a_model_of_the_caller_may_name_a_symbol_twice(rt: HostRuntime) -> Result<(), Fail> {
     let items = [(b'a', 0u8), (b'b', 1)];
-    let mut words = Vec::new(rt.alloc());
-    assert_eq!(rt; write_quantiles(&Letters, &items, &mut words), Ok(()));
-    assert_eq!(rt; words.as_slice(), [3, 2].as_slice());
     let back = there_and_back(rt.alloc(), &Letters, &items)?;
     assert_eq!(rt; back.as_slice(), [(b'b', 1), (b'a', 0)].as_slice());
+    let mut words = Vec::new(rt.alloc());
+    let written = write_quantiles(&Letters, &items, &mut words);
+    let refused = write_quantiles(&Letters, &[(b'c', 0)], &mut words);
     assert_eq!(rt;
-        write_quantiles(&Letters, &[(b'c', 0)], &mut words),
-        Err(CoderError::Frontend(QuantileFault::ImpossibleSymbol))
+        (written, refused, words.as_slice()),
+        (
+            Ok(()),
+            Err(CoderError::Frontend(QuantileFault::ImpossibleSymbol)),
+            [3, 2].as_slice()
+        )
     );
     Ok(())
 }

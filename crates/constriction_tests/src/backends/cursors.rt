@@ -1,0 +1,285 @@
+//! Each call of a cursor, over each kind of buffer.
+
+use crate::backends::marked::Marked;
+use constriction_backends::{
+    BoundedReadWords, BoundedWriteError, BoundedWriteWords, Cursor, ReadWords, SafeBuf, SafeBufMut,
+    WriteWords,
+};
+use constriction_words::{Pos, Queue, Seek, Stack};
+use std::alloc::{AllocError, Global};
+use std::convert::Infallible;
+use std::process::Abort;
+use std::test::Fail;
+
+type Read = Result<Option<u8>, Infallible>;
+
+fn pop<Buf: SafeBuf<u8>>(cursor: &mut Cursor<u8, Buf>) -> Read {
+    ReadWords::<u8, Stack>::read(cursor)
+}
+
+fn next<Buf: SafeBuf<u8>>(cursor: &mut Cursor<u8, Buf>) -> Read {
+    ReadWords::<u8, Queue>::read(cursor)
+}
+
+/// A cursor begins where its constructor says.
+fn begins<Buf: SafeBufMut<u8> + Drop>(rt: &impl Abort, buf: Buf) -> Result<Buf, ()> {
+    let (buf, beginning) = Cursor::<u8, Buf>::new_at_write_beginning(buf).into_buf_and_pos();
+    let (buf, end) = Cursor::<u8, Buf>::new_at_write_end(buf).into_buf_and_pos();
+    let (buf, end_to_write) = Cursor::<u8, Buf>::new_at_write_end_mut(buf).into_buf_and_pos();
+    let (buf, third) = Cursor::<u8, Buf>::new_at_pos(buf, 3)?.into_buf_and_pos();
+    let (buf, second) = Cursor::<u8, Buf>::new_at_pos_mut(buf, 2)?.into_buf_and_pos();
+    assert_eq!(rt;
+        [beginning, end, end_to_write, third, second],
+        [0, 3, 3, 3, 2]
+    );
+    Ok(buf)
+}
+
+/// What a call of a cursor asks for.
+#[derive(Clone, Copy)]
+enum Call {
+    Pop,
+    Next,
+    Write(u8),
+    Seek(usize),
+}
+
+/// What it answers.
+#[derive(Clone, Copy, Debug, PartialEq, Eq)]
+enum Answer {
+    Word(Option<u8>),
+    Done,
+    Full,
+    OutOfRange,
+}
+
+fn called<Buf: SafeBufMut<u8>>(cursor: &mut Cursor<u8, Buf>, call: Call) -> Answer {
+    let word = match call {
+        Call::Pop => pop(cursor),
+        Call::Next => next(cursor),
+        Call::Write(word) => {
+            return match cursor.write(word) {
+                Ok(()) => Answer::Done,
+                Err(BoundedWriteError::OutOfSpace) => Answer::Full,
+            };
+        }
+        Call::Seek(pos) => {
+            return match cursor.seek(pos) {
+                Ok(()) => Answer::Done,
+                Err(()) => Answer::OutOfRange,
+            };
+        }
+    };
+    match word {
+        Ok(word) => Answer::Word(word),
+        Err(never) => match never {},
+    }
+}
+
+/// A cursor of 10, 20, 30 is read and written to its ends.
+fn goes_to_its_ends<Buf: SafeBufMut<u8>>(rt: &impl Abort, buf: Buf) -> Buf {
+    let mut cursor = Cursor::<u8, Buf>::new_at_write_beginning(buf);
+    let calls = [
+        (Call::Seek(1), Answer::Done, 1, 20),
+        (Call::Pop, Answer::Word(Some(10)), 0, 20),
+        (Call::Pop, Answer::Word(None), 0, 20),
+        (Call::Next, Answer::Word(Some(10)), 1, 20),
+        (Call::Write(99), Answer::Done, 2, 99),
+        (Call::Seek(4), Answer::OutOfRange, 2, 99),
+        (Call::Seek(3), Answer::Done, 3, 99),
+        (Call::Next, Answer::Word(None), 3, 99),
+        (Call::Write(5), Answer::Full, 3, 99),
+    ];
+    for (call, answer, pos, second) in calls {
+        assert_eq!(rt;
+            (
+                called(&mut cursor, call),
+                cursor.pos(),
+                cursor.buf().words()
+            ),
+            (answer, pos, [10, second, 30].as_slice())
+        );
+    }
+    let (buf, pos) = cursor.into_buf_and_pos();
+    assert_eq!(rt; pos, 3);
+    buf
+}
+
+/// A cursor counts the words before its position and those from it on, and says where it is at an
+/// end.
+fn counts<Buf: SafeBufMut<u8>>(rt: &impl Abort, buf: Buf) -> Buf {
+    let mut cursor = Cursor::<u8, Buf>::new_at_write_end(buf);
+    let ends = [
+        (0, [true, true, false, false, true, false]),
+        (1, [false, false, false, false, true, false]),
+        (3, [false, false, true, true, true, true]),
+    ];
+    for (pos, at_ends) in ends {
+        let sought = cursor.seek(pos);
+        assert_eq!(rt;
+            (
+                sought,
+                BoundedReadWords::<u8, Stack>::remaining(&cursor),
+                BoundedReadWords::<u8, Queue>::remaining(&cursor),
+                cursor.space_left()
+            ),
+            (
+                Ok(()),
+                pos,
+                3usize.saturating_sub(pos),
+                3usize.saturating_sub(pos)
+            )
+        );
+        assert_eq!(rt;
+            [
+                ReadWords::<u8, Stack>::maybe_exhausted(&cursor),
+                BoundedReadWords::<u8, Stack>::is_exhausted(&cursor),
+                ReadWords::<u8, Queue>::maybe_exhausted(&cursor),
+                BoundedReadWords::<u8, Queue>::is_exhausted(&cursor),
+                cursor.maybe_full(),
+                cursor.is_full()
+            ],
+            at_ends,
+            "at {pos}"
+        );
+    }
+    cursor.into_buf_and_pos().0
+}
+
+/// A cursor of 10, 99, 30 is filled from its second word on.
+fn is_filled<Buf: SafeBufMut<u8>>(rt: &impl Abort, buf: Buf) -> Buf {
+    let mut cursor = Cursor::<u8, Buf>::new_at_write_beginning(buf);
+    let fills = [
+        (
+            [1u8, 2, 3].as_slice(),
+            Err(BoundedWriteError::OutOfSpace),
+            [10, 1, 2],
+        ),
+        ([20, 30].as_slice(), Ok(()), [10, 20, 30]),
+    ];
+    for (added, answer, words) in fills {
+        let sought = cursor.seek(1);
+        let filled = cursor.extend_from_iter(added.iter().copied());
+        assert_eq!(rt;
+            (sought, filled, cursor.pos(), cursor.buf().words()),
+            (Ok(()), answer, 3, words.as_slice())
+        );
+    }
+    cursor.into_buf_and_pos().0
+}
+
+/// A view and a copy of a cursor of 10, 20, 30 leave it at its position, with its words.
+fn is_copied<Buf: SafeBufMut<u8>>(
+    rt: &impl Abort,
+    alloc: Global,
+    cursor: &mut Cursor<u8, Buf>,
+) -> Result<(), AllocError> {
+    assert_eq!(rt;
+        (cursor.seek(1), cursor.written(), cursor.unwritten()),
+        (Ok(()), [10].as_slice(), [20, 30].as_slice())
+    );
+    let mut view = cursor.as_view();
+    assert_eq!(rt; (next(&mut view), view.pos()), (Ok(Some(20)), 2));
+    let mut copy = cursor.cloned(alloc)?;
+    assert_eq!(rt;
+        (
+            copy.write(21),
+            copy.buf().as_slice(),
+            cursor.buf().words(),
+            cursor.pos()
+        ),
+        (Ok(()), [10, 21, 30].as_slice(), [10, 20, 30].as_slice(), 1)
+    );
+    Ok(())
+}
+
+/// A cursor at 1 holds these words.
+fn holds<Buf: SafeBuf<u8>>(rt: &impl Abort, cursor: &Cursor<u8, Buf>, words: [u8; 3]) {
+    assert_eq!(rt; (cursor.buf().words(), cursor.pos()), (words.as_slice(), 1));
+}
+
+/// What is written through a loan of a cursor of 10, 20, 30 at 1 stands in its buffer.
+fn is_lent<Buf: SafeBufMut<u8>>(rt: &impl Abort, cursor: &mut Cursor<u8, Buf>) {
+    cursor.written_mut().fill(7);
+    holds(rt, cursor, [7, 20, 30]);
+    let mut view = cursor.as_mut_view();
+    assert_eq!(rt; (view.write(8), view.pos()), (Ok(()), 2));
+    holds(rt, cursor, [7, 8, 30]);
+    cursor.unwritten_mut().fill(9);
+    holds(rt, cursor, [7, 9, 9]);
+    cursor.buf_mut().fill(5);
+    holds(rt, cursor, [5, 5, 5]);
+}
+
+fn does_all<Buf: SafeBufMut<u8> + Drop>(
+    rt: &impl Abort,
+    alloc: Global,
+    buf: Buf,
+) -> Result<(), AllocError> {
+    let Ok(buf) = begins(rt, buf) else {
+        panic!(rt; "a position up to the end is refused");
+    };
+    let buf = is_filled(rt, counts(rt, goes_to_its_ends(rt, buf)));
+    let mut cursor = Cursor::<u8, Buf>::new_at_write_beginning(buf);
+    is_copied(rt, alloc, &mut cursor)?;
+    is_lent(rt, &mut cursor);
+    Ok(())
+}
+
+#[test]
+fn a_cursor_over_each_buffer(rt: HostRuntime) -> Result<(), Fail> {
+    let mut words = [10u8, 20, 30];
+    let mut copy = words;
+    let alloc = rt.alloc();
+    does_all(&rt, alloc, words.to_vec(alloc)?)?;
+    does_all(&rt, alloc, Marked::new(words.to_vec(alloc)?))?;
+    let array: &mut [u8; 3] = &mut copy;
+    does_all(&rt, alloc, array)?;
+    let slice: &mut [u8] = &mut words;
+    does_all(&rt, alloc, slice)?;
+    assert_eq!(rt; (words, copy), ([5, 5, 5], [5, 5, 5]));
+    Ok(())
+}
+
+#[test]
+fn positions_past_the_end_are_refused(rt: HostRuntime) -> Result<(), Fail> {
+    let words = [1u8, 2, 3];
+    let vec = words.to_vec(rt.alloc())?;
+    assert_eq!(rt;
+        (
+            Cursor::<u8, _>::new_at_pos(&words, 4).is_err(),
+            Cursor::<u8, _>::new_at_pos_mut(vec, 4).is_err()
+        ),
+        (true, true)
+    );
+    Ok(())
+}
+
+fn popped<Buf: SafeBuf<u8> + Drop>(buf: Buf) -> Read {
+    pop(&mut Cursor::<u8, Buf>::new_at_write_end(buf))
+}
+
+/// Buffers that are only read.
+#[test]
+fn a_cursor_over_words_that_are_read(rt: HostRuntime) -> Result<(), Fail> {
+    let words = [1u8, 2, 3];
+    let boxed = words.to_vec(rt.alloc())?.into_boxed_slice();
+    let mut cursor = Cursor::<u8, _>::new_at_write_beginning(words.as_slice());
+    assert_eq!(rt;
+        (popped(&words), next(&mut cursor), popped(boxed)),
+        (Ok(Some(3)), Ok(Some(1)), Ok(Some(3)))
+    );
+    Ok(())
+}
+
+/// A copy asks for memory once. Where that is refused, the cursor is as it was.
+#[test]
+fn a_refused_copy_leaves_the_cursor(rt: HostRuntime) {
+    let words = [10u8, 20, 30];
+    let cursor = Cursor::<u8, _>::new_at_write_end(words.as_slice());
+    match cursor.cloned(rt.alloc()) {
+        Ok(copy) => assert_eq!(rt; copy.written(), words.as_slice()),
+        Err(AllocError) => {}
+    }
+    assert_eq!(rt; (cursor.written(), cursor.pos()), (words.as_slice(), 3));
+}

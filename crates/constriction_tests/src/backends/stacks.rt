@@ -1,0 +1,165 @@
+//! `Vec` and `SmallVec` as stacks.
+
+use constriction_backends::{BoundedReadWords, ReadWords, WriteWords, laws};
+use constriction_words::{Pos, PosSeek, Seek, Stack};
+use smallvec::SmallVec;
+use std::alloc::AllocError;
+use std::convert::Infallible;
+use std::test::Fail;
+
+/// How many words remain, whether that is none, and the next one.
+fn counted<W>(words: &mut W) -> (usize, bool, Result<Option<u8>, Infallible>)
+where
+    W: BoundedReadWords<u8, Stack, ReadError = Infallible>,
+    requires { W.can_read words.old }
+{
+    (words.remaining(), words.is_exhausted(), words.read())
+}
+
+/// What a seek answers, and where it leaves the stack.
+fn sought<W>(words: &mut W, pos: usize) -> (Result<(), ()>, usize)
+where
+    W: PosSeek<Position = usize> + Pos + Seek,
+{
+    (words.seek(pos), words.pos())
+}
+
+/// How many of three words remain at each read, and the word that is read.
+const READS: [(usize, Option<u8>); 5] = [
+    (3, Some(3)),
+    (2, Some(2)),
+    (1, Some(1)),
+    (0, None),
+    (0, None),
+];
+
+/// Seeks in a stack of three words, and where each leaves it.
+const SEEKS: [(usize, Result<(), ()>, usize); 4] = [
+    (4, Err(()), 3),
+    (3, Ok(()), 3),
+    (1, Ok(()), 1),
+    (2, Err(()), 1),
+];
+
+#[test]
+fn a_vec_is_a_stack(rt: HostRuntime) -> Result<(), Fail> {
+    let mut words = Vec::new(rt.alloc());
+    let was_exhausted = ReadWords::<u8, Stack>::maybe_exhausted(&words);
+    words.write(1u8)?;
+    words.extend_from_iter([2u8, 3].iter().copied())?;
+    assert_eq!(rt;
+        (
+            was_exhausted,
+            ReadWords::<u8, Stack>::maybe_exhausted(&words),
+            words.maybe_full(),
+            words.as_slice()
+        ),
+        (true, false, false, [1, 2, 3].as_slice())
+    );
+    for (remaining, word) in READS {
+        assert_eq!(rt; counted(&mut words), (remaining, remaining == 0, Ok(word)));
+    }
+    Ok(())
+}
+
+#[test]
+fn a_vec_goes_back_for_good(rt: HostRuntime) -> Result<(), Fail> {
+    let mut words = [1u8, 2, 3].to_vec(rt.alloc())?;
+    assert_eq!(rt; words.pos(), 3);
+    for (pos, answer, after) in SEEKS {
+        assert_eq!(rt; sought(&mut words, pos), (answer, after), "to {pos}");
+    }
+    assert_eq!(rt; words.as_slice(), [1].as_slice());
+    Ok(())
+}
+
+#[test]
+fn a_small_vec_is_a_stack(rt: HostRuntime) -> Result<(), Fail> {
+    let mut words: SmallVec<u8, 2> = SmallVec::new(rt.alloc());
+    let was_exhausted = ReadWords::<u8, Stack>::maybe_exhausted(&words);
+    words.write(1)?;
+    words.extend_from_iter([2u8, 3].iter().copied())?;
+    assert_eq!(rt;
+        (
+            was_exhausted,
+            ReadWords::<u8, Stack>::maybe_exhausted(&words),
+            words.maybe_full(),
+            words.as_slice()
+        ),
+        (true, false, false, [1, 2, 3].as_slice())
+    );
+    for (remaining, word) in READS {
+        assert_eq!(rt; counted(&mut words), (remaining, remaining == 0, Ok(word)));
+    }
+    Ok(())
+}
+
+#[test]
+fn a_small_vec_goes_back_for_good(rt: HostRuntime) -> Result<(), Fail> {
+    let mut words: SmallVec<u8, 2> = SmallVec::new(rt.alloc());
+    words.extend_from_iter([1u8, 2, 3].iter().copied())?;
+    assert_eq!(rt; words.pos(), 3);
+    for (pos, answer, after) in SEEKS {
+        assert_eq!(rt; sought(&mut words, pos), (answer, after), "to {pos}");
+    }
+    assert_eq!(rt; words.as_slice(), [1].as_slice());
+    Ok(())
+}
+
+/// It asks for memory once. `rt try --test --fail-alloc 1` refuses that: the first two words stay.
+#[test]
+fn words_within_the_value_need_no_memory(rt: HostRuntime) {
+    let mut words: SmallVec<u8, 2> = SmallVec::new(rt.alloc());
+    assert_eq!(rt; (words.write(1), words.write(2)), (Ok(()), Ok(())));
+    let extended = words.extend_from_iter([3u8, 4].iter().copied());
+    let held = match extended {
+        Ok(()) => [1u8, 2, 3, 4].as_slice(),
+        Err(AllocError) => [1, 2].as_slice(),
+    };
+    assert_eq!(rt; words.as_slice(), held);
+}
+
+/// It asks for memory once, as above, within a call that has written two words by then.
+#[test]
+fn refused_memory_keeps_the_words_before(rt: HostRuntime) {
+    let mut words: SmallVec<u8, 2> = SmallVec::new(rt.alloc());
+    let held = match words.extend_from_iter([1u8, 2, 3, 4].iter().copied()) {
+        Ok(()) => [1u8, 2, 3, 4].as_slice(),
+        Err(AllocError) => [1, 2].as_slice(),
+    };
+    assert_eq!(rt; words.as_slice(), held);
+}
+
+/// Nine words make a `Vec` and a `SmallVec` grow more than once. Whichever growth is refused, the
+/// words before the refused one stand.
+#[test]
+fn each_refused_growth_keeps_the_words_before(rt: HostRuntime) {
+    let words = [1u8, 2, 3, 4, 5, 6, 7, 8, 9];
+    let mut vec = Vec::new(rt.alloc());
+    let refused = vec.extend_from_iter(words.iter().copied()).is_err();
+    assert_eq!(rt;
+        (vec.len() < words.len(), words.starts_with(vec.as_slice())),
+        (refused, true)
+    );
+    let mut small: SmallVec<u8, 2> = SmallVec::new(rt.alloc());
+    let refused = small.extend_from_iter(words.iter().copied()).is_err();
+    assert_eq!(rt;
+        (
+            small.len() < words.len(),
+            words.starts_with(small.as_slice())
+        ),
+        (refused, true)
+    );
+}
+
+#[test]
+fn what_was_pushed_is_popped(rt: HostRuntime) {
+    laws::pushed_is_popped::<u8, AllocError, Infallible>();
+    laws::seek_back::<u8>();
+    let mut words = Vec::new(rt.alloc());
+    match laws::push_then_pop(&mut words, 7u8) {
+        Ok(word) => assert_eq!(rt; word, Some(7)),
+        Err(AllocError) => {}
+    }
+    assert!(rt; words.is_empty());
+}

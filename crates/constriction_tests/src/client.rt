@@ -1,0 +1,5 @@
+//! Items to words and back, and lines and whole inputs.
+
+mod items;
+mod lines;
+mod runs;

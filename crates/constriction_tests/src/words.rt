@@ -1,0 +1,5 @@
+//! Words, positions and errors: worked values, texts, and calls through a bound.
+
+mod errors;
+pub mod numbers;
+mod positions;
