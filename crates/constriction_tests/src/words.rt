@@ -3,3 +3,4 @@
 mod errors;
 pub mod numbers;
 mod positions;
+mod whole_numbers;

@@ -16,6 +16,8 @@ struct Evens {
 impl Probe for Evens {
     type Word = u16;
 
+    ghost number = { λ word. word };
+
     ghost cumulatives = { λ p. evens p.size };
 
     ghost questions = { λ p. p.asked };
