@@ -1,13 +1,16 @@
 //! Why there is no model.
 
 use std::alloc::{AllocError, AllocFailed};
+use thiserror::Error;
 
 /// Why there is no model.
-#[derive(Debug, PartialEq, Eq, Drop)]
+#[derive(Debug, PartialEq, Eq, Drop, Error)]
 pub enum ModelError {
     /// The weights, and where there are any the symbols, are not accepted.
+    #[error("The weights, or the symbols, are not accepted.")]
     InvalidTable,
     /// Memory was refused.
+    #[error("Memory was refused.")]
     OutOfMemory,
 }
 

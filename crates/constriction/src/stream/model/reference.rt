@@ -23,11 +23,15 @@ impl<M: EncoderModel<PRECISION>, const PRECISION: usize> EncoderModel<PRECISION>
         (**self).left_cumulative_and_probability(symbol)
     }
 
+    ghost reflexive_law = { M.reflexive_law };
+
     ghost within_law = { λ m. M.within_law m.now };
 }
 
 impl<M: DecoderModel<PRECISION>, const PRECISION: usize> DecoderModel<PRECISION> for &M {
     ghost clones_are_same = { M.clones_are_same };
+
+    ghost may_refuse = { M.may_refuse };
 
     fn quantile_function(
         &self,

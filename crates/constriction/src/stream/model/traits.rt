@@ -1,6 +1,6 @@
 //! The traits of models: what a model tells, and what it answers in each direction.
 
-ghost use Rattle.std.specs.Prelude.{◌≡◌, ◌^◌, ◌<◌, Bool, List, All, IfOk};
+ghost use Rattle.std.specs.Prelude.{◌≡◌, ◌^◌, ◌<◌, Bool, List, All, IfOk, IfErr, IsTrue};
 ghost use Rattle.std.specs.Option.{option_map};
 ghost use Rattle.constriction.specs.Rows.{Row, RowsTile, IsRowOf, entry_of};
 ghost use Rattle.constriction.specs.Model.{row_of, entry_in, LiesWithin};
@@ -40,6 +40,9 @@ pub trait EncoderModel<const PRECISION: usize>: EntropyModel<PRECISION> {
         ensures { option_map (entry_in Self.Probability.whole Self.Probability.NonZero.base) result
             ≡ entry_of symbol_eq (Self.rows self.now) symbol.now };
 
+    // Each symbol is equal to itself.
+    ghost reflexive_law: { (s : Self.Symbol) → IsTrue (symbol_eq s s) };
+
     // Each row has quantiles, and all of them lie below 2 ^ PRECISION.
     ghost within_law: { (m : Self) → All (LiesWithin PRECISION) (Self.rows m) };
 }
@@ -48,6 +51,9 @@ pub trait EncoderModel<const PRECISION: usize>: EntropyModel<PRECISION> {
 pub trait DecoderModel<const PRECISION: usize>: EntropyModel<PRECISION> {
     // Where answers are clones of symbols: that a clone is the same value. A model that clones none owes nothing.
     ghost clones_are_same: { Type 0 };
+
+    // That a look-up may be refused, for want of memory. Of a model that takes none it is ⊥.
+    ghost may_refuse: { Type 0 };
 
     /// The row of a quantile: the symbol whose interval holds it, the left cumulative and the
     /// weight. It fails only where memory for a clone of the symbol is refused.
@@ -58,7 +64,10 @@ pub trait DecoderModel<const PRECISION: usize>: EntropyModel<PRECISION> {
         requires clones { clones_are_same }
         requires in_range { Self.Probability.whole quantile < 2 ^ PRECISION }
         ensures row { IfOk result (λ x. IsRowOf (Self.rows self.now) (Self.Probability.whole quantile)
-            (row_of Self.Probability.whole Self.Probability.NonZero.base x)) };
+            (row_of Self.Probability.whole Self.Probability.NonZero.base x)) }
+        ensures within { IfOk result (λ x. LiesWithin PRECISION
+            (row_of Self.Probability.whole Self.Probability.NonZero.base x)) }
+        ensures refused { IfErr result (λ _. may_refuse) };
 
     // The rows tile the quantiles, so that each quantile has exactly one row.
     ghost tile_law: { (m : Self) → RowsTile Self.Probability.BITS PRECISION (Self.rows m) };

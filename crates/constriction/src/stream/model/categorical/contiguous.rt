@@ -1,9 +1,10 @@
 //! Models of the symbols 0, 1, .., which find the row of a quantile by a search.
 
-ghost use Rattle.std.specs.Prelude.{◌≡◌, ◌+◌, ◌^◌, ◌<◌, ◌≤◌, ℕ, length, map, nat_eq, IfOk, IsOk, ⊤};
+ghost use Rattle.std.specs.Prelude.{◌≡◌, ◌+◌, ◌^◌, ◌<◌, ◌≤◌, ℕ, length, map, nat_eq, IfOk, IfErr, IsOk, ⊤};
 ghost use Rattle.std.specs.Iterator.{IsFiniteIterable};
 ghost use Rattle.constriction.specs.Acceptance.{completed, IsAccepted, GaveGood, GaveBad};
-ghost use Rattle.constriction.specs.Model.{row_of};
+ghost use Rattle.std.proofs.Common.{eq-eqb, refl};
+ghost use Rattle.constriction.specs.Model.{row_of, LiesWithin};
 ghost use Rattle.constriction.specs.Probe.{TellsRows, IsRowIndexOf, IsSearchable, IsLastAtMost};
 ghost use Rattle.constriction.specs.Rows.{contiguous_rows, IsRowOf};
 ghost use Rattle.constriction.specs.Stored.{IsStored, weights_of};
@@ -152,6 +153,8 @@ impl<Probability: BitArray, Cdf: SafeBuf<Probability>, const PRECISION: usize> E
         }
     }
 
+    ghost reflexive_law = { λ s. eq-eqb s s refl };
+
     ghost within_law = { λ m. stored-within _ _ _ m.stored };
 }
 
@@ -159,6 +162,8 @@ impl<Probability: BitArray, Cdf: SafeBuf<Probability>, const PRECISION: usize> D
     PRECISION,
 > for ContiguousCategoricalEntropyModel<Probability, Cdf, PRECISION> {
     ghost clones_are_same = { ⊤ };
+
+    ghost may_refuse = { ⊥ };
 
     /// The row of a quantile, by [`row_of_quantile`]. It takes no memory and always succeeds.
     #[inline]
@@ -171,7 +176,10 @@ impl<Probability: BitArray, Cdf: SafeBuf<Probability>, const PRECISION: usize> D
         ensures row { IfOk result (λ x. IsRowOf
             (⟦<ContiguousCategoricalEntropyModel<Probability, Cdf, PRECISION> as EntropyModel<PRECISION>>⟧.rows self.now)
             (Probability.whole quantile) (row_of Probability.whole Probability.NonZero.base x)) }
+        ensures within { IfOk result (λ x. LiesWithin PRECISION
+            (row_of Probability.whole Probability.NonZero.base x)) }
         ensures succeeds { IsOk result }
+        ensures refused { IfErr result (λ _. ⊥) }
     {
         let cdf = self.cdf.words();
         let (first, mut rows) = self.quantile_probe(quantile);
