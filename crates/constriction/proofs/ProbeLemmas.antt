@@ -6,7 +6,7 @@ use Rattle.std.specs.List.Sorted.{IsStrictlyIncreasing}
 use Rattle.constriction.specs.Rows.{Row, contiguous_rows, indices, IsRowOf}
 use Rattle.constriction.specs.Stored.{IsStored, weights_of}
 use Rattle.constriction.specs.StoredLemmas.{stored-row, stored-some, stored-first, length-gaps, lefts-rows_from, take-length}
-use Rattle.constriction.specs.StoredRows.{stored-at, stored-row_of, length-rows}
+use Rattle.constriction.specs.StoredRowLemmas.{stored-at, stored-row_of, length-rows}
 use Rattle.constriction.specs.Probe.{TellsRows, IsRowIndexOf}
 use Rattle.constriction.specs.Probe.{IsSearchable, IsLastAtMost}
 

@@ -7,4 +7,4 @@ pub mod Rows
 pub mod Searching
 pub mod Stored
 pub mod StoredLemmas
-pub mod StoredRows
+pub mod StoredRowLemmas

@@ -1,4 +1,5 @@
--- How models store their rows: by the left cumulatives alone. No public clause cites this module.
+-- How models store their rows: by the left cumulatives alone. No public clause cites this module, but the member `rows` of the
+-- contiguous model and a ghost field of it do.
 use Rattle.std.specs.Prelude.{◌≡◌, ℕ, ◌+◌, ◌-◌, ◌^◌, List, [], ◌∷◌}
 use Rattle.constriction.specs.Acceptance.{IsAccepted}
 

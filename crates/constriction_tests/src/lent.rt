@@ -4,6 +4,7 @@
 ghost use Rattle.std.specs.Prelude.{◌≡◌, ◌<◌, length, slice_set};
 ghost use Rattle.constriction_backends.specs.Cursor.{buf_of, pos_of};
 
+use crate::checks::same;
 use constriction_backends::{Cursor, ReadWords, SafeBuf, SafeBufMut, WriteWords};
 use constriction_words::{Pos, Queue, Seek};
 use std::process::Abort;
@@ -98,10 +99,8 @@ where
 
 /// A cursor at 1 holds these words.
 fn holds(rt: &impl Abort, cursor: &Cursor<u8, Vec<u8>>, words: [u8; 3]) {
-    assert_eq!(rt;
-        (cursor.buf().as_slice(), cursor.pos()),
-        (words.as_slice(), 1)
-    );
+    same(rt, cursor.buf().as_slice(), words.as_slice());
+    same(rt, cursor.pos(), 1);
 }
 
 #[test]
@@ -126,7 +125,7 @@ fn what_is_written_through_a_loan_stands(rt: HostRuntime) -> Result<(), Fail> {
 fn a_slice_of_the_callers_own_is_written(rt: HostRuntime) {
     let mut own = [5u8, 6];
     set_slice(&mut own, 1, 7);
-    assert_eq!(rt; (read_a_slice(&mut own), own), (Some(5), [5, 7]));
+    same(&rt, (read_a_slice(&mut own), own), (Some(5), [5, 7]));
 }
 
 #[test]
@@ -138,6 +137,6 @@ fn a_coder_holds_a_cursor(rt: HostRuntime) -> Result<(), Fail> {
     let vec_coder = VecCoder {
         words: Cursor::new_at_write_end(words.to_vec(rt.alloc())?),
     };
-    assert_eq!(rt; (coder.words.pos(), vec_coder.words.pos()), (3, 3));
+    same(&rt, (coder.words.pos(), vec_coder.words.pos()), (3, 3));
     Ok(())
 }

@@ -7,6 +7,8 @@
 #[cfg(test)]
 mod backends;
 #[cfg(test)]
+mod checks;
+#[cfg(test)]
 mod client;
 #[cfg(test)]
 mod lent;

@@ -1,12 +1,13 @@
 //! Each buffer lends its words.
 
 use crate::backends::marked::Marked;
+use crate::checks::same;
 use constriction_backends::{SafeBuf, SafeBufMut};
 use std::process::Abort;
 use std::test::Fail;
 
 fn lends<Buf: SafeBuf<u8>>(rt: &impl Abort, buf: &Buf) {
-    assert_eq!(rt; buf.words(), [3, 18, 1, 42].as_slice());
+    same(rt, buf.words(), [3, 18, 1, 42].as_slice());
 }
 
 fn is_written<Buf: SafeBufMut<u8>>(rt: &impl Abort, buf: &mut Buf) {
@@ -15,7 +16,7 @@ fn is_written<Buf: SafeBufMut<u8>>(rt: &impl Abort, buf: &mut Buf) {
     if words.len() == 4 {
         words[1] = 20;
     }
-    assert_eq!(rt; buf.words(), [3, 20, 1, 42].as_slice());
+    same(rt, buf.words(), [3, 20, 1, 42].as_slice());
 }
 
 #[test]
@@ -36,7 +37,7 @@ fn buffers_are_written(rt: HostRuntime) -> Result<(), Fail> {
     is_written(&rt, &mut words.to_vec(rt.alloc())?);
     let mut marked = Marked::new(words.to_vec(rt.alloc())?);
     is_written(&rt, &mut marked);
-    assert_eq!(rt; (marked.first, marked.last), (7, 9));
+    same(&rt, (marked.first, marked.last), (7, 9));
     let mut array: &mut [u8; 4] = &mut copy;
     is_written(&rt, &mut array);
     let mut slice: &mut [u8] = &mut words;

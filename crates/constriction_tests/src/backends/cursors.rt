@@ -1,6 +1,7 @@
 //! Each call of a cursor, over each kind of buffer.
 
 use crate::backends::marked::Marked;
+use crate::checks::{same, same_at};
 use constriction_backends::{
     BoundedReadWords, BoundedWriteError, BoundedWriteWords, Cursor, ReadWords, SafeBuf, SafeBufMut,
     WriteWords,
@@ -28,9 +29,10 @@ fn begins<Buf: SafeBufMut<u8> + Drop>(rt: &impl Abort, buf: Buf) -> Result<Buf, 
     let (buf, end_to_write) = Cursor::<u8, Buf>::new_at_write_end_mut(buf).into_buf_and_pos();
     let (buf, third) = Cursor::<u8, Buf>::new_at_pos(buf, 3)?.into_buf_and_pos();
     let (buf, second) = Cursor::<u8, Buf>::new_at_pos_mut(buf, 2)?.into_buf_and_pos();
-    assert_eq!(rt;
+    same(
+        rt,
         [beginning, end, end_to_write, third, second],
-        [0, 3, 3, 3, 2]
+        [0, 3, 3, 3, 2],
     );
     Ok(buf)
 }
@@ -91,17 +93,12 @@ fn goes_to_its_ends<Buf: SafeBufMut<u8>>(rt: &impl Abort, buf: Buf) -> Buf {
         (Call::Write(5), Answer::Full, 3, 99),
     ];
     for (call, answer, pos, second) in calls {
-        assert_eq!(rt;
-            (
-                called(&mut cursor, call),
-                cursor.pos(),
-                cursor.buf().words()
-            ),
-            (answer, pos, [10, second, 30].as_slice())
-        );
+        same(rt, called(&mut cursor, call), answer);
+        same(rt, cursor.pos(), pos);
+        same(rt, cursor.buf().words(), [10, second, 30].as_slice());
     }
     let (buf, pos) = cursor.into_buf_and_pos();
-    assert_eq!(rt; pos, 3);
+    same(rt, pos, 3);
     buf
 }
 
@@ -116,31 +113,33 @@ fn counts<Buf: SafeBufMut<u8>>(rt: &impl Abort, buf: Buf) -> Buf {
     ];
     for (pos, at_ends) in ends {
         let sought = cursor.seek(pos);
-        assert_eq!(rt;
+        same(
+            rt,
             (
                 sought,
                 BoundedReadWords::<u8, Stack>::remaining(&cursor),
                 BoundedReadWords::<u8, Queue>::remaining(&cursor),
-                cursor.space_left()
+                cursor.space_left(),
             ),
             (
                 Ok(()),
                 pos,
                 3usize.saturating_sub(pos),
-                3usize.saturating_sub(pos)
-            )
+                3usize.saturating_sub(pos),
+            ),
         );
-        assert_eq!(rt;
+        same_at(
+            rt,
+            pos,
             [
                 ReadWords::<u8, Stack>::maybe_exhausted(&cursor),
                 BoundedReadWords::<u8, Stack>::is_exhausted(&cursor),
                 ReadWords::<u8, Queue>::maybe_exhausted(&cursor),
                 BoundedReadWords::<u8, Queue>::is_exhausted(&cursor),
                 cursor.maybe_full(),
-                cursor.is_full()
+                cursor.is_full(),
             ],
             at_ends,
-            "at {pos}"
         );
     }
     cursor.into_buf_and_pos().0
@@ -160,10 +159,10 @@ fn is_filled<Buf: SafeBufMut<u8>>(rt: &impl Abort, buf: Buf) -> Buf {
     for (added, answer, words) in fills {
         let sought = cursor.seek(1);
         let filled = cursor.extend_from_iter(added.iter().copied());
-        assert_eq!(rt;
-            (sought, filled, cursor.pos(), cursor.buf().words()),
-            (Ok(()), answer, 3, words.as_slice())
-        );
+        same(rt, sought, Ok(()));
+        same(rt, filled, answer);
+        same(rt, cursor.pos(), 3);
+        same(rt, cursor.buf().words(), words.as_slice());
     }
     cursor.into_buf_and_pos().0
 }
@@ -174,28 +173,23 @@ fn is_copied<Buf: SafeBufMut<u8>>(
     alloc: Global,
     cursor: &mut Cursor<u8, Buf>,
 ) -> Result<(), AllocError> {
-    assert_eq!(rt;
-        (cursor.seek(1), cursor.written(), cursor.unwritten()),
-        (Ok(()), [10].as_slice(), [20, 30].as_slice())
-    );
+    same(rt, cursor.seek(1), Ok(()));
+    same(rt, cursor.written(), [10].as_slice());
+    same(rt, cursor.unwritten(), [20, 30].as_slice());
     let mut view = cursor.as_view();
-    assert_eq!(rt; (next(&mut view), view.pos()), (Ok(Some(20)), 2));
+    same(rt, (next(&mut view), view.pos()), (Ok(Some(20)), 2));
     let mut copy = cursor.cloned(alloc)?;
-    assert_eq!(rt;
-        (
-            copy.write(21),
-            copy.buf().as_slice(),
-            cursor.buf().words(),
-            cursor.pos()
-        ),
-        (Ok(()), [10, 21, 30].as_slice(), [10, 20, 30].as_slice(), 1)
-    );
+    same(rt, copy.write(21), Ok(()));
+    same(rt, copy.buf().as_slice(), [10, 21, 30].as_slice());
+    same(rt, cursor.buf().words(), [10, 20, 30].as_slice());
+    same(rt, cursor.pos(), 1);
     Ok(())
 }
 
 /// A cursor at 1 holds these words.
 fn holds<Buf: SafeBuf<u8>>(rt: &impl Abort, cursor: &Cursor<u8, Buf>, words: [u8; 3]) {
-    assert_eq!(rt; (cursor.buf().words(), cursor.pos()), (words.as_slice(), 1));
+    same(rt, cursor.buf().words(), words.as_slice());
+    same(rt, cursor.pos(), 1);
 }
 
 /// What is written through a loan of a cursor of 10, 20, 30 at 1 stands in its buffer.
@@ -203,7 +197,7 @@ fn is_lent<Buf: SafeBufMut<u8>>(rt: &impl Abort, cursor: &mut Cursor<u8, Buf>) {
     cursor.written_mut().fill(7);
     holds(rt, cursor, [7, 20, 30]);
     let mut view = cursor.as_mut_view();
-    assert_eq!(rt; (view.write(8), view.pos()), (Ok(()), 2));
+    same(rt, (view.write(8), view.pos()), (Ok(()), 2));
     holds(rt, cursor, [7, 8, 30]);
     cursor.unwritten_mut().fill(9);
     holds(rt, cursor, [7, 9, 9]);
@@ -237,7 +231,7 @@ fn a_cursor_over_each_buffer(rt: HostRuntime) -> Result<(), Fail> {
     does_all(&rt, alloc, array)?;
     let slice: &mut [u8] = &mut words;
     does_all(&rt, alloc, slice)?;
-    assert_eq!(rt; (words, copy), ([5, 5, 5], [5, 5, 5]));
+    same(&rt, (words, copy), ([5, 5, 5], [5, 5, 5]));
     Ok(())
 }
 
@@ -245,12 +239,13 @@ fn a_cursor_over_each_buffer(rt: HostRuntime) -> Result<(), Fail> {
 fn positions_past_the_end_are_refused(rt: HostRuntime) -> Result<(), Fail> {
     let words = [1u8, 2, 3];
     let vec = words.to_vec(rt.alloc())?;
-    assert_eq!(rt;
+    same(
+        &rt,
         (
             Cursor::<u8, _>::new_at_pos(&words, 4).is_err(),
-            Cursor::<u8, _>::new_at_pos_mut(vec, 4).is_err()
+            Cursor::<u8, _>::new_at_pos_mut(vec, 4).is_err(),
         ),
-        (true, true)
+        (true, true),
     );
     Ok(())
 }
@@ -265,9 +260,10 @@ fn a_cursor_over_words_that_are_read(rt: HostRuntime) -> Result<(), Fail> {
     let words = [1u8, 2, 3];
     let boxed = words.to_vec(rt.alloc())?.into_boxed_slice();
     let mut cursor = Cursor::<u8, _>::new_at_write_beginning(words.as_slice());
-    assert_eq!(rt;
+    same(
+        &rt,
         (popped(&words), next(&mut cursor), popped(boxed)),
-        (Ok(Some(3)), Ok(Some(1)), Ok(Some(3)))
+        (Ok(Some(3)), Ok(Some(1)), Ok(Some(3))),
     );
     Ok(())
 }
@@ -278,8 +274,9 @@ fn a_refused_copy_leaves_the_cursor(rt: HostRuntime) {
     let words = [10u8, 20, 30];
     let cursor = Cursor::<u8, _>::new_at_write_end(words.as_slice());
     match cursor.cloned(rt.alloc()) {
-        Ok(copy) => assert_eq!(rt; copy.written(), words.as_slice()),
+        Ok(copy) => same(&rt, copy.written(), words.as_slice()),
         Err(AllocError) => {}
     }
-    assert_eq!(rt; (cursor.written(), cursor.pos()), (words.as_slice(), 3));
+    same(&rt, cursor.written(), words.as_slice());
+    same(&rt, cursor.pos(), 3);
 }

@@ -1,6 +1,7 @@
 //! Backends that are read in the other order, and cursors that are turned round.
 
 use crate::backends::marked::Marked;
+use crate::checks::same;
 use constriction_backends::{
     BoundedReadWords, BoundedWriteError, BoundedWriteWords, Cursor, ReadWords, Reverse, SafeBufMut,
     WriteWords, laws,
@@ -11,24 +12,26 @@ use std::test::Fail;
 
 /// A reversed cursor of 1, 2, 3 at 2 is read to the beginning, as a stack.
 fn is_read_backwards<Buf: SafeBufMut<u8>>(rt: &impl Abort, turned: &mut Reverse<Cursor<u8, Buf>>) {
-    assert_eq!(rt;
+    same(
+        rt,
         (
             BoundedReadWords::<u8, Stack>::remaining(turned),
             BoundedReadWords::<u8, Queue>::remaining(turned),
             ReadWords::<u8, Stack>::maybe_exhausted(turned),
-            ReadWords::<u8, Queue>::maybe_exhausted(turned)
+            ReadWords::<u8, Queue>::maybe_exhausted(turned),
         ),
-        (2, 1, false, false)
+        (2, 1, false, false),
     );
     for expected in [Some(2), Some(1), None] {
-        assert_eq!(rt; ReadWords::<u8, Stack>::read(turned), Ok(expected));
+        same(rt, ReadWords::<u8, Stack>::read(turned), Ok(expected));
     }
-    assert_eq!(rt;
+    same(
+        rt,
         (
             ReadWords::<u8, Stack>::maybe_exhausted(turned),
-            BoundedReadWords::<u8, Stack>::is_exhausted(turned)
+            BoundedReadWords::<u8, Stack>::is_exhausted(turned),
         ),
-        (true, true)
+        (true, true),
     );
 }
 
@@ -37,57 +40,40 @@ fn turns_round<Buf: SafeBufMut<u8>>(rt: &impl Abort, buf: Buf) -> Buf {
     let mut cursor = Cursor::<u8, Buf>::new_at_write_beginning(buf);
     let sought = cursor.seek(2);
     let turned = cursor.into_reversed();
-    assert_eq!(rt;
-        (
-            sought,
-            turned.0.buf().words(),
-            turned.pos(),
-            turned.space_left()
-        ),
-        (Ok(()), [3, 2, 1].as_slice(), 1, 1)
-    );
+    same(rt, sought, Ok(()));
+    same(rt, turned.0.buf().words(), [3, 2, 1].as_slice());
+    same(rt, turned.pos(), 1);
+    same(rt, turned.space_left(), 1);
     let cursor = turned.into_reversed();
-    assert_eq!(rt;
-        (cursor.buf().words(), cursor.pos()),
-        ([1, 2, 3].as_slice(), 2)
-    );
+    same(rt, cursor.buf().words(), [1, 2, 3].as_slice());
+    same(rt, cursor.pos(), 2);
     let mut turned = cursor.into_reversed();
     is_read_backwards(rt, &mut turned);
     let (buf, pos) = turned.into_reversed().into_buf_and_pos();
-    assert_eq!(rt; (buf.words(), pos), ([1, 2, 3].as_slice(), 0));
+    same(rt, buf.words(), [1, 2, 3].as_slice());
+    same(rt, pos, 0);
     buf
 }
 
 /// A reversed cursor of 1, 2, 3 is written from its inner position down.
 fn is_written_downwards<Buf: SafeBufMut<u8>>(rt: &impl Abort, buf: Buf) -> Buf {
     let mut reversed = Reverse(Cursor::<u8, Buf>::new_at_write_beginning(buf));
-    assert_eq!(rt;
+    same(
+        rt,
         (
-            (
-                reversed.space_left(),
-                reversed.is_full(),
-                reversed.maybe_full()
-            ),
-            reversed.write(7),
-            reversed.seek(4),
-            reversed.0.buf().words()
+            reversed.space_left(),
+            reversed.is_full(),
+            reversed.maybe_full(),
         ),
-        (
-            (0, true, true),
-            Err(BoundedWriteError::OutOfSpace),
-            Err(()),
-            [1, 2, 3].as_slice()
-        )
+        (0, true, true),
     );
-    assert_eq!(rt;
-        (
-            (reversed.seek(2), reversed.space_left()),
-            (reversed.write(8), reversed.write(9)),
-            reversed.0.buf().words(),
-            reversed.pos()
-        ),
-        ((Ok(()), 2), (Ok(()), Ok(())), [9, 8, 3].as_slice(), 0)
-    );
+    same(rt, reversed.write(7), Err(BoundedWriteError::OutOfSpace));
+    same(rt, reversed.seek(4), Err(()));
+    same(rt, reversed.0.buf().words(), [1, 2, 3].as_slice());
+    same(rt, (reversed.seek(2), reversed.space_left()), (Ok(()), 2));
+    same(rt, (reversed.write(8), reversed.write(9)), (Ok(()), Ok(())));
+    same(rt, reversed.0.buf().words(), [9, 8, 3].as_slice());
+    same(rt, reversed.pos(), 0);
     is_filled_downwards(rt, &mut reversed);
     reversed.0.into_buf_and_pos().0
 }
@@ -97,19 +83,20 @@ fn is_filled_downwards<Buf: SafeBufMut<u8>>(
     rt: &impl Abort,
     reversed: &mut Reverse<Cursor<u8, Buf>>,
 ) {
-    assert_eq!(rt;
+    same(
+        rt,
         (
             reversed.seek(2),
             reversed.extend_from_iter([4u8, 5, 6].iter().copied()),
-            ReadWords::<u8, Queue>::read(reversed)
+            ReadWords::<u8, Queue>::read(reversed),
         ),
-        (Ok(()), Err(BoundedWriteError::OutOfSpace), Ok(None))
+        (Ok(()), Err(BoundedWriteError::OutOfSpace), Ok(None)),
     );
 }
 
 fn is_reversed<Buf: SafeBufMut<u8> + Drop>(rt: &impl Abort, buf: Buf) {
     let buf = is_written_downwards(rt, turns_round(rt, buf));
-    assert_eq!(rt; buf.words(), [5, 4, 3].as_slice());
+    same(rt, buf.words(), [5, 4, 3].as_slice());
 }
 
 #[test]
@@ -122,31 +109,33 @@ fn a_cursor_over_each_buffer_is_reversed(rt: HostRuntime) -> Result<(), Fail> {
     is_reversed(&rt, array);
     let slice: &mut [u8] = &mut words;
     is_reversed(&rt, slice);
-    assert_eq!(rt; words, [5, 4, 3]);
+    same(&rt, words, [5, 4, 3]);
     Ok(())
 }
 
 #[test]
 fn a_reversed_stack_is_a_queue(rt: HostRuntime) -> Result<(), Fail> {
     let mut reversed = Reverse([1u8, 2, 3].to_vec(rt.alloc())?);
-    assert_eq!(rt;
+    same(
+        &rt,
         (
             BoundedReadWords::<u8, Queue>::remaining(&reversed),
             ReadWords::<u8, Queue>::maybe_exhausted(&reversed),
             ReadWords::<u8, Queue>::read(&mut reversed),
             BoundedReadWords::<u8, Queue>::remaining(&reversed),
             BoundedReadWords::<u8, Queue>::is_exhausted(&reversed),
-            reversed.pos()
+            reversed.pos(),
         ),
-        (3, false, Ok(Some(3)), 2, false, 2)
+        (3, false, Ok(Some(3)), 2, false, 2),
     );
-    assert_eq!(rt;
+    same(
+        &rt,
         (
             reversed.seek(0),
             reversed.seek(1),
-            ReadWords::<u8, Queue>::read(&mut reversed)
+            ReadWords::<u8, Queue>::read(&mut reversed),
         ),
-        (Ok(()), Err(()), Ok(None))
+        (Ok(()), Err(()), Ok(None)),
     );
     Ok(())
 }
@@ -160,9 +149,8 @@ fn laws_of_cursors_may_be_called(rt: HostRuntime) -> Result<(), Fail> {
     let mut cursor = Cursor::<u8, _>::new_at_write_end([1u8, 2, 3].to_vec(rt.alloc())?);
     let sought = cursor.seek(1);
     let cursor = laws::turned_twice(cursor);
-    assert_eq!(rt;
-        (sought, cursor.buf().as_slice(), cursor.pos()),
-        (Ok(()), [1, 2, 3].as_slice(), 1)
-    );
+    same(&rt, sought, Ok(()));
+    same(&rt, cursor.buf().as_slice(), [1, 2, 3].as_slice());
+    same(&rt, cursor.pos(), 1);
     Ok(())
 }

@@ -1,5 +1,6 @@
 //! `Vec` and `SmallVec` as stacks.
 
+use crate::checks::{same, same_at};
 use constriction_backends::{BoundedReadWords, ReadWords, WriteWords, laws};
 use constriction_words::{Pos, PosSeek, Seek, Stack};
 use smallvec::SmallVec;
@@ -47,17 +48,16 @@ fn a_vec_is_a_stack(rt: HostRuntime) -> Result<(), Fail> {
     let was_exhausted = ReadWords::<u8, Stack>::maybe_exhausted(&words);
     words.write(1u8)?;
     words.extend_from_iter([2u8, 3].iter().copied())?;
-    assert_eq!(rt;
-        (
-            was_exhausted,
-            ReadWords::<u8, Stack>::maybe_exhausted(&words),
-            words.maybe_full(),
-            words.as_slice()
-        ),
-        (true, false, false, [1, 2, 3].as_slice())
-    );
+    same(&rt, was_exhausted, true);
+    same(&rt, ReadWords::<u8, Stack>::maybe_exhausted(&words), false);
+    same(&rt, words.maybe_full(), false);
+    same(&rt, words.as_slice(), [1, 2, 3].as_slice());
     for (remaining, word) in READS {
-        assert_eq!(rt; counted(&mut words), (remaining, remaining == 0, Ok(word)));
+        same(
+            &rt,
+            counted(&mut words),
+            (remaining, remaining == 0, Ok(word)),
+        );
     }
     Ok(())
 }
@@ -65,11 +65,11 @@ fn a_vec_is_a_stack(rt: HostRuntime) -> Result<(), Fail> {
 #[test]
 fn a_vec_goes_back_for_good(rt: HostRuntime) -> Result<(), Fail> {
     let mut words = [1u8, 2, 3].to_vec(rt.alloc())?;
-    assert_eq!(rt; words.pos(), 3);
+    same(&rt, words.pos(), 3);
     for (pos, answer, after) in SEEKS {
-        assert_eq!(rt; sought(&mut words, pos), (answer, after), "to {pos}");
+        same_at(&rt, pos, sought(&mut words, pos), (answer, after));
     }
-    assert_eq!(rt; words.as_slice(), [1].as_slice());
+    same(&rt, words.as_slice(), [1].as_slice());
     Ok(())
 }
 
@@ -79,17 +79,16 @@ fn a_small_vec_is_a_stack(rt: HostRuntime) -> Result<(), Fail> {
     let was_exhausted = ReadWords::<u8, Stack>::maybe_exhausted(&words);
     words.write(1)?;
     words.extend_from_iter([2u8, 3].iter().copied())?;
-    assert_eq!(rt;
-        (
-            was_exhausted,
-            ReadWords::<u8, Stack>::maybe_exhausted(&words),
-            words.maybe_full(),
-            words.as_slice()
-        ),
-        (true, false, false, [1, 2, 3].as_slice())
-    );
+    same(&rt, was_exhausted, true);
+    same(&rt, ReadWords::<u8, Stack>::maybe_exhausted(&words), false);
+    same(&rt, words.maybe_full(), false);
+    same(&rt, words.as_slice(), [1, 2, 3].as_slice());
     for (remaining, word) in READS {
-        assert_eq!(rt; counted(&mut words), (remaining, remaining == 0, Ok(word)));
+        same(
+            &rt,
+            counted(&mut words),
+            (remaining, remaining == 0, Ok(word)),
+        );
     }
     Ok(())
 }
@@ -98,11 +97,11 @@ fn a_small_vec_is_a_stack(rt: HostRuntime) -> Result<(), Fail> {
 fn a_small_vec_goes_back_for_good(rt: HostRuntime) -> Result<(), Fail> {
     let mut words: SmallVec<u8, 2> = SmallVec::new(rt.alloc());
     words.extend_from_iter([1u8, 2, 3].iter().copied())?;
-    assert_eq!(rt; words.pos(), 3);
+    same(&rt, words.pos(), 3);
     for (pos, answer, after) in SEEKS {
-        assert_eq!(rt; sought(&mut words, pos), (answer, after), "to {pos}");
+        same_at(&rt, pos, sought(&mut words, pos), (answer, after));
     }
-    assert_eq!(rt; words.as_slice(), [1].as_slice());
+    same(&rt, words.as_slice(), [1].as_slice());
     Ok(())
 }
 
@@ -110,13 +109,13 @@ fn a_small_vec_goes_back_for_good(rt: HostRuntime) -> Result<(), Fail> {
 #[test]
 fn words_within_the_value_need_no_memory(rt: HostRuntime) {
     let mut words: SmallVec<u8, 2> = SmallVec::new(rt.alloc());
-    assert_eq!(rt; (words.write(1), words.write(2)), (Ok(()), Ok(())));
+    same(&rt, (words.write(1), words.write(2)), (Ok(()), Ok(())));
     let extended = words.extend_from_iter([3u8, 4].iter().copied());
     let held = match extended {
         Ok(()) => [1u8, 2, 3, 4].as_slice(),
         Err(AllocError) => [1, 2].as_slice(),
     };
-    assert_eq!(rt; words.as_slice(), held);
+    same(&rt, words.as_slice(), held);
 }
 
 /// It asks for memory once, as above, within a call that has written two words by then.
@@ -127,7 +126,7 @@ fn refused_memory_keeps_the_words_before(rt: HostRuntime) {
         Ok(()) => [1u8, 2, 3, 4].as_slice(),
         Err(AllocError) => [1, 2].as_slice(),
     };
-    assert_eq!(rt; words.as_slice(), held);
+    same(&rt, words.as_slice(), held);
 }
 
 /// Nine words make a `Vec` and a `SmallVec` grow more than once. Whichever growth is refused, the
@@ -137,19 +136,12 @@ fn each_refused_growth_keeps_the_words_before(rt: HostRuntime) {
     let words = [1u8, 2, 3, 4, 5, 6, 7, 8, 9];
     let mut vec = Vec::new(rt.alloc());
     let refused = vec.extend_from_iter(words.iter().copied()).is_err();
-    assert_eq!(rt;
-        (vec.len() < words.len(), words.starts_with(vec.as_slice())),
-        (refused, true)
-    );
+    same(&rt, vec.len() < words.len(), refused);
+    same(&rt, words.starts_with(vec.as_slice()), true);
     let mut small: SmallVec<u8, 2> = SmallVec::new(rt.alloc());
     let refused = small.extend_from_iter(words.iter().copied()).is_err();
-    assert_eq!(rt;
-        (
-            small.len() < words.len(),
-            words.starts_with(small.as_slice())
-        ),
-        (refused, true)
-    );
+    same(&rt, small.len() < words.len(), refused);
+    same(&rt, words.starts_with(small.as_slice()), true);
 }
 
 #[test]
@@ -158,7 +150,7 @@ fn what_was_pushed_is_popped(rt: HostRuntime) {
     laws::seek_back::<u8>();
     let mut words = Vec::new(rt.alloc());
     match laws::push_then_pop(&mut words, 7u8) {
-        Ok(word) => assert_eq!(rt; word, Some(7)),
+        Ok(word) => same(&rt, word, Some(7)),
         Err(AllocError) => {}
     }
     assert!(rt; words.is_empty());

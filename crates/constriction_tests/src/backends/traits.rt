@@ -4,6 +4,7 @@ ghost use Rattle.std.specs.Prelude.{◌≡◌, ◌<◌, ◌≤◌, Err, MatchRes
 ghost use Rattle.constriction_backends.specs.Source.{CountsRead};
 ghost use Rattle.constriction_backends.specs.Sink.{CountsWrite};
 
+use crate::checks::same;
 use constriction_backends::{
     BoundedReadWords, BoundedWriteError, BoundedWriteWords, ReadWords, WriteWords, laws,
 };
@@ -52,15 +53,20 @@ impl WriteWords<u8> for Small {
 #[test]
 fn default_answers_say_nothing(rt: HostRuntime) {
     let mut source = Endless;
-    assert_eq!(rt; (source.maybe_exhausted(), source.read()), (true, Err(7)));
+    same(
+        &rt,
+        (source.maybe_exhausted(), source.read()),
+        (true, Err(7)),
+    );
     let mut sink = Small { last: 0 };
-    assert_eq!(rt;
+    same(
+        &rt,
         (
             sink.maybe_full(),
             sink.extend_from_iter([4u8, 5, 10, 6].iter().copied()),
-            sink.last
+            sink.last,
         ),
-        (true, Err(10), 5)
+        (true, Err(10), 5),
     );
 }
 
@@ -140,14 +146,15 @@ fn a_source_is_exhausted_where_nothing_remains(rt: HostRuntime) {
     laws::remaining_counts::<u8, Queue, Countdown>();
     let mut source = Countdown { left: 2 };
     for (remaining, word) in [(2, Some(2)), (1, Some(1)), (0, None), (0, None)] {
-        assert_eq!(rt;
+        same(
+            &rt,
             (
                 source.remaining(),
                 source.is_exhausted(),
                 source.maybe_exhausted(),
-                source.read()
+                source.read(),
             ),
-            (remaining, remaining == 0, true, Ok(word))
+            (remaining, remaining == 0, true, Ok(word)),
         );
     }
 }
@@ -160,14 +167,15 @@ fn a_sink_is_full_where_no_place_is_free(rt: HostRuntime) {
         (1, Ok(())),
         (0, Err(BoundedWriteError::OutOfSpace)),
     ] {
-        assert_eq!(rt;
+        same(
+            &rt,
             (
                 sink.space_left(),
                 sink.is_full(),
                 sink.maybe_full(),
-                sink.write(9)
+                sink.write(9),
             ),
-            (free, free == 0, true, answer)
+            (free, free == 0, true, answer),
         );
     }
 }
@@ -180,6 +188,6 @@ fn more_words_than_places_are_refused(rt: HostRuntime) {
         ([4, 5].as_slice(), Err(BoundedWriteError::OutOfSpace), 0),
     ] {
         let extended = laws::extending_counts(&mut sink, words.iter().copied());
-        assert_eq!(rt; (extended, sink.space_left()), (answer, free));
+        same(&rt, (extended, sink.space_left()), (answer, free));
     }
 }

@@ -6,6 +6,7 @@ ghost use Rattle.constriction.specs.Rows.{rows_of};
 ghost use Rattle.constriction_backends.specs.Stack.{Pushes};
 ghost use Rattle.constriction_backends.specs.StackLaws.{Pushes-told};
 
+use crate::checks::{same, same_at};
 use constriction::stream::model::{
     ContiguousCategoricalEntropyModel, DecoderModel, EncoderModel, EntropyModel, ModelError, Weight,
 };
@@ -36,16 +37,13 @@ fn three_items_come_back_from_a_stack_reversed(rt: HostRuntime) -> Result<(), Fa
     let items = [(0usize, 2u8), (3, 41), (1, 0)];
     let mut words = Vec::new(rt.alloc());
     let written = write_quantiles(&model, &items, &mut words);
-    assert_eq!(rt;
-        (written, words.as_slice()),
-        (Ok(()), [2, 63, 3].as_slice())
-    );
+    same(&rt, written, Ok(()));
+    same(&rt, words.as_slice(), [2, 63, 3].as_slice());
     let mut out = Vec::new(rt.alloc());
     let read = read_symbols::<Stack, _, _, 6>(&model, &mut words, 3, &mut out);
-    assert_eq!(rt;
-        (read, out.as_slice(), words.is_empty()),
-        (Ok(3), [(1, 0), (3, 41), (0, 2)].as_slice(), true)
-    );
+    same(&rt, read, Ok(3));
+    same(&rt, out.as_slice(), [(1, 0), (3, 41), (0, 2)].as_slice());
+    same(&rt, words.is_empty(), true);
     Ok(())
 }
 
@@ -53,7 +51,7 @@ fn three_items_come_back_from_a_stack_reversed(rt: HostRuntime) -> Result<(), Fa
 fn three_items_go_there_and_back(rt: HostRuntime) -> Result<(), Fail> {
     let model = small(rt.alloc())?;
     let back = there_and_back(rt.alloc(), &model, &[(0, 2), (3, 41), (1, 0)])?;
-    assert_eq!(rt; back.as_slice(), [(1, 0), (3, 41), (0, 2)].as_slice());
+    same(&rt, back.as_slice(), [(1, 0), (3, 41), (0, 2)].as_slice());
     Ok(())
 }
 
@@ -81,11 +79,9 @@ fn the_words_before_a_fault_stay_written(rt: HostRuntime) -> Result<(), Fail> {
         let mut words = [7u8].to_vec(rt.alloc())?;
         let written = write_quantiles(&model, &items, &mut words);
         let is_refused = there_and_back(rt.alloc(), &model, &items).is_err();
-        assert_eq!(rt;
-            (written, words.as_slice(), is_refused),
-            (Err(CoderError::Frontend(fault)), [7, 2].as_slice(), true),
-            "{name}"
-        );
+        same_at(&rt, name, written, Err(CoderError::Frontend(fault)));
+        same_at(&rt, name, words.as_slice(), [7, 2].as_slice());
+        same_at(&rt, name, is_refused, true);
     }
     Ok(())
 }
@@ -96,14 +92,13 @@ fn a_word_that_is_no_quantile_is_gone(rt: HostRuntime) -> Result<(), Fail> {
     let mut words = [2u8, 64, 63].to_vec(rt.alloc())?;
     let mut out = [(2usize, 0u8)].to_vec(rt.alloc())?;
     let read = read_symbols::<Stack, _, _, 6>(&model, &mut words, 3, &mut out);
-    assert_eq!(rt;
-        (read, words.as_slice(), out.as_slice()),
-        (
-            Err(CoderError::Frontend(ReadFault::QuantileTooLarge)),
-            [2].as_slice(),
-            [(2, 0), (3, 41)].as_slice()
-        )
+    same(
+        &rt,
+        read,
+        Err(CoderError::Frontend(ReadFault::QuantileTooLarge)),
     );
+    same(&rt, words.as_slice(), [2].as_slice());
+    same(&rt, out.as_slice(), [(2, 0), (3, 41)].as_slice());
     Ok(())
 }
 
@@ -120,11 +115,9 @@ fn no_more_words_are_read_than_are_asked_for(rt: HostRuntime) -> Result<(), Fail
         let mut words = [2u8, 63].to_vec(rt.alloc())?;
         let mut out = Vec::new(rt.alloc());
         let read = read_symbols::<Stack, _, _, 6>(&model, &mut words, count, &mut out);
-        assert_eq!(rt;
-            (read, words.as_slice(), out.as_slice()),
-            (Ok(pairs), left, expected),
-            "{count}"
-        );
+        same_at(&rt, count, read, Ok(pairs));
+        same_at(&rt, count, words.as_slice(), left);
+        same_at(&rt, count, out.as_slice(), expected);
     }
     Ok(())
 }
@@ -135,16 +128,12 @@ fn at_the_full_width_each_word_is_a_quantile(rt: HostRuntime) -> Result<(), Fail
     let mut words = Vec::new(rt.alloc());
     let items = [(1usize, 55u8), (0, 199), (1, 0)];
     let written = write_quantiles(&model, &items, &mut words);
-    assert_eq!(rt;
-        (written, words.as_slice()),
-        (Ok(()), [255, 199, 200].as_slice())
-    );
+    same(&rt, written, Ok(()));
+    same(&rt, words.as_slice(), [255, 199, 200].as_slice());
     let mut out = Vec::new(rt.alloc());
     let read = read_symbols::<Stack, _, _, 8>(&model, &mut words, 4, &mut out);
-    assert_eq!(rt;
-        (read, out.as_slice()),
-        (Ok(3), [(1, 0), (0, 199), (1, 55)].as_slice())
-    );
+    same(&rt, read, Ok(3));
+    same(&rt, out.as_slice(), [(1, 0), (0, 199), (1, 55)].as_slice());
     Ok(())
 }
 
@@ -168,10 +157,8 @@ fn a_refusal_of_memory_ends_what_is_written(rt: HostRuntime) {
         6 => Ok(()),
         _ => Err(CoderError::Backend(AllocError)),
     };
-    assert_eq!(rt;
-        (written, QUANTILES.starts_with(words.as_slice())),
-        (expected, true)
-    );
+    same(&rt, written, expected);
+    same(&rt, QUANTILES.starts_with(words.as_slice()), true);
 }
 
 /// The same of reads: the word whose pair found no room has been read.
@@ -189,14 +176,9 @@ fn a_refusal_of_memory_ends_what_is_read(rt: HostRuntime) {
         6 => (Ok(6), 6),
         _ => (Err(CoderError::Frontend(ReadFault::OutOfMemory)), 5),
     };
-    assert_eq!(rt;
-        (
-            read,
-            out.len().checked_add(words.len()),
-            REVERSED.starts_with(out.as_slice())
-        ),
-        (expected, Some(in_all), true)
-    );
+    same(&rt, read, expected);
+    same(&rt, out.len().checked_add(words.len()), Some(in_all));
+    same(&rt, REVERSED.starts_with(out.as_slice()), true);
 }
 
 /// And of the way there and back.
@@ -206,8 +188,8 @@ fn a_refusal_of_memory_ends_the_way(rt: HostRuntime) {
         return;
     };
     match there_and_back(rt.alloc(), &model, &ITEMS) {
-        Ok(pairs) => assert_eq!(rt; pairs.as_slice(), REVERSED.as_slice()),
-        Err(fault) => assert_eq!(rt; fault, CoderError::Backend(AllocError)),
+        Ok(pairs) => same(&rt, pairs.as_slice(), REVERSED.as_slice()),
+        Err(fault) => same(&rt, fault, CoderError::Backend(AllocError)),
     }
 }
 
@@ -251,13 +233,8 @@ fn a_refusal_of_the_sink_is_handed_on(rt: HostRuntime) -> Result<(), Fail> {
         words: Vec::new(rt.alloc()),
     };
     let written = write_quantiles(&model, &[(0, 2), (3, 41), (1, 0), (4, 0)], &mut sink);
-    assert_eq!(rt;
-        (written, sink.words.as_slice()),
-        (
-            Err(CoderError::Backend(Refusal::Full(3))),
-            [2, 63].as_slice()
-        )
-    );
+    same(&rt, written, Err(CoderError::Backend(Refusal::Full(3))));
+    same(&rt, sink.words.as_slice(), [2, 63].as_slice());
     Ok(())
 }
 
@@ -291,21 +268,14 @@ fn an_error_of_the_source_is_handed_on(rt: HostRuntime) -> Result<(), Fail> {
     let model = small(rt.alloc())?;
     let mut source = Interrupted { reads: 0 };
     let mut out = Vec::new(rt.alloc());
-    let turns = [
-        (
-            Err(CoderError::Backend("interrupted")),
-            2,
-            [(3usize, 41u8)].as_slice(),
-        ),
-        (Ok(1), 4, [(3, 41), (0, 2)].as_slice()),
-    ];
-    for (answer, reads, pairs) in turns {
-        let read = read_symbols::<Queue, _, _, 6>(&model, &mut source, 3, &mut out);
-        assert_eq!(rt;
-            (read, source.reads, out.as_slice()),
-            (answer, reads, pairs)
-        );
-    }
+    let interrupted = read_symbols::<Queue, _, _, 6>(&model, &mut source, 3, &mut out);
+    same(&rt, interrupted, Err(CoderError::Backend("interrupted")));
+    same(&rt, source.reads, 2);
+    same(&rt, out.as_slice(), [(3, 41)].as_slice());
+    let read = read_symbols::<Queue, _, _, 6>(&model, &mut source, 3, &mut out);
+    same(&rt, read, Ok(1));
+    same(&rt, source.reads, 4);
+    same(&rt, out.as_slice(), [(3, 41), (0, 2)].as_slice());
     Ok(())
 }
 
@@ -353,17 +323,16 @@ impl DecoderModel<2> for Letters {
 fn a_model_of_the_caller_may_name_a_symbol_twice(rt: HostRuntime) -> Result<(), Fail> {
     let items = [(b'a', 0u8), (b'b', 1)];
     let back = there_and_back(rt.alloc(), &Letters, &items)?;
-    assert_eq!(rt; back.as_slice(), [(b'b', 1), (b'a', 0)].as_slice());
+    same(&rt, back.as_slice(), [(b'b', 1), (b'a', 0)].as_slice());
     let mut words = Vec::new(rt.alloc());
     let written = write_quantiles(&Letters, &items, &mut words);
     let refused = write_quantiles(&Letters, &[(b'c', 0)], &mut words);
-    assert_eq!(rt;
-        (written, refused, words.as_slice()),
-        (
-            Ok(()),
-            Err(CoderError::Frontend(QuantileFault::ImpossibleSymbol)),
-            [3, 2].as_slice()
-        )
+    same(&rt, written, Ok(()));
+    same(
+        &rt,
+        refused,
+        Err(CoderError::Frontend(QuantileFault::ImpossibleSymbol)),
     );
+    same(&rt, words.as_slice(), [3, 2].as_slice());
     Ok(())
 }

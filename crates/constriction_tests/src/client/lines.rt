@@ -1,5 +1,6 @@
 //! Lines that ask for something, and lines that do not.
 
+use crate::checks::same;
 use constriction_client::laws::reading_is_exactly_spelling;
 use constriction_client::{Command, Form, parse};
 use std::test::Fail;
@@ -10,10 +11,8 @@ fn a_table_has_its_weights(rt: HostRuntime) -> Result<(), Fail> {
     let Some(Command::Table { form, weights }) = found else {
         panic!(rt; "no table");
     };
-    assert_eq!(rt;
-        (form, weights.as_slice()),
-        (Form::U8Precision6, [3, 18, u64::MAX].as_slice())
-    );
+    same(&rt, form, Form::U8Precision6);
+    same(&rt, weights.as_slice(), [3, 18, u64::MAX].as_slice());
     Ok(())
 }
 
@@ -30,10 +29,9 @@ fn a_quantile_stands_before_the_weights(rt: HostRuntime) -> Result<(), Fail> {
     else {
         panic!(rt; "no quantile");
     };
-    assert_eq!(rt;
-        (form, quantile, weights.as_slice()),
-        (Form::U8Precision6, 21, [64].as_slice())
-    );
+    same(&rt, form, Form::U8Precision6);
+    same(&rt, quantile, 21);
+    same(&rt, weights.as_slice(), [64].as_slice());
     Ok(())
 }
 
@@ -42,19 +40,15 @@ fn a_symbol_stands_before_the_weights(rt: HostRuntime) -> Result<(), Fail> {
     let Some(command) = parse(rt.alloc(), b"symbol u8/6 4")? else {
         panic!(rt; "no request");
     };
-    let form = command.form();
-    let Command::Symbol {
-        symbol,
-        weights,
-        ..
-    } = command
-    else {
-        panic!(rt; "no symbol");
-    };
-    assert_eq!(rt;
-        (form, symbol, weights.is_empty()),
-        (Form::U8Precision6, 4, true)
-    );
+    same(&rt, command.form(), Form::U8Precision6);
+    match &command {
+        Command::Symbol {
+            symbol,
+            weights,
+            ..
+        } => same(&rt, (*symbol, weights.is_empty()), (4, true)),
+        _ => panic!(rt; "no symbol"),
+    }
     Ok(())
 }
 

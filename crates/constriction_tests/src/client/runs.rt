@@ -1,5 +1,6 @@
 //! Runs over whole inputs, and over readers and writers that give or take little, fail, or end.
 
+use crate::checks::{same, same_at};
 use constriction_client::laws::{
     each_quantile_in_range_has_a_row, reads_back, reads_back_reversed,
     the_row_found_is_the_row_of_the_quantile, weights_are_tested_as_models_accept_them,
@@ -125,11 +126,10 @@ fn lines_are_answered(rt: HostRuntime) {
     ];
     for (input, text) in cases {
         let (result, written, slow_result, again) = answers(rt.alloc(), input);
-        assert_eq!(rt;
-            (result, written.as_slice(), slow_result, again.as_slice()),
-            (Ok(()), text.as_bytes(), Ok(()), text.as_bytes()),
-            "{input}"
-        );
+        same_at(&rt, input, result, Ok(()));
+        same_at(&rt, input, written.as_slice(), text.as_bytes());
+        same_at(&rt, input, slow_result, Ok(()));
+        same_at(&rt, input, again.as_slice(), text.as_bytes());
     }
 }
 
@@ -141,7 +141,11 @@ fn a_reader_that_fails_leaves_nothing_written(rt: HostRuntime) {
     };
     let mut written = Vec::new(rt.alloc());
     let result = run(rt.alloc(), &mut reader, &mut written);
-    assert_eq!(rt; (result, written.is_empty()), (Err(RunFault::Read), true));
+    same(
+        &rt,
+        (result, written.is_empty()),
+        (Err(RunFault::Read), true),
+    );
 }
 
 #[test]
@@ -152,10 +156,8 @@ fn a_writer_that_fails_has_a_beginning(rt: HostRuntime) {
         turns: 12,
     };
     let result = run(rt.alloc(), &mut reader, &mut writer);
-    assert_eq!(rt;
-        (result, writer.taken.as_slice()),
-        (Err(RunFault::Write), b"bad line\nbad".as_slice())
-    );
+    same(&rt, result, Err(RunFault::Write));
+    same(&rt, writer.taken.as_slice(), b"bad line\nbad".as_slice());
 }
 
 #[test]
@@ -164,10 +166,8 @@ fn a_writer_that_takes_no_byte_has_a_beginning(rt: HostRuntime) {
     let mut reader = b"a\nb".as_slice();
     let mut writer = room.as_mut_slice();
     let result = run(rt.alloc(), &mut reader, &mut writer);
-    assert_eq!(rt;
-        (result, room.as_slice()),
-        (Err(RunFault::Write), b"bad line\nbad".as_slice())
-    );
+    same(&rt, result, Err(RunFault::Write));
+    same(&rt, room.as_slice(), b"bad line\nbad".as_slice());
 }
 
 #[test]
@@ -176,9 +176,9 @@ fn an_input_of_the_limit_is_answered(rt: HostRuntime) -> Result<(), Fail> {
     let mut reader = input.as_slice();
     let mut written = Vec::new(rt.alloc());
     let result = run(rt.alloc(), &mut reader, &mut written);
-    assert_eq!(rt; (result, written.len()), (Ok(()), LIMIT * 9));
+    same(&rt, (result, written.len()), (Ok(()), LIMIT * 9));
     for line in written.chunks(9) {
-        assert_eq!(rt; line, b"bad line\n".as_slice());
+        same(&rt, line, b"bad line\n".as_slice());
     }
     Ok(())
 }
@@ -189,23 +189,25 @@ fn a_longer_input_is_not_answered(rt: HostRuntime) -> Result<(), Fail> {
     let mut reader = input.as_slice();
     let mut written = Vec::new(rt.alloc());
     let result = run(rt.alloc(), &mut reader, &mut written);
-    assert_eq!(rt;
+    same(
+        &rt,
         (result, written.is_empty()),
-        (Err(RunFault::TooLong), true)
+        (Err(RunFault::TooLong), true),
     );
     Ok(())
 }
 
 #[test]
 fn faults_have_their_status(rt: HostRuntime) {
-    assert_eq!(rt;
+    same(
+        &rt,
         [
             RunFault::Read.status(),
             RunFault::Write.status(),
             RunFault::TooLong.status(),
-            RunFault::OutOfMemory.status()
+            RunFault::OutOfMemory.status(),
         ],
-        [1, 1, 2, 3]
+        [1, 1, 2, 3],
     );
 }
 
@@ -217,6 +219,6 @@ fn laws_and_answers_may_be_called(rt: HostRuntime) -> Result<(), Fail> {
     reads_back::<usize, u8>();
     reads_back_reversed::<usize, u8>();
     let text = answer(rt.alloc(), b"table u8/6 1 63")?;
-    assert_eq!(rt; text.as_str(), "0 0 1\n1 1 63\n");
+    same(&rt, text.as_str(), "0 0 1\n1 1 63\n");
     Ok(())
 }

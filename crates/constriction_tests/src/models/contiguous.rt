@@ -2,6 +2,7 @@
 
 ghost use Rattle.std.specs.Prelude.{◌^◌, ◌<◌};
 
+use crate::checks::{same, same_at};
 use constriction::stream::model::{
     ContiguousCategoricalEntropyModel, DecoderModel, EncoderModel, ModelError, Probe, Weight,
     row_of_quantile,
@@ -54,9 +55,10 @@ fn each_quantile_has_the_row_that_a_scan_finds(rt: HostRuntime) -> Result<(), Fa
     let model = small(rt.alloc(), &WEIGHTS, false)?;
     for quantile in 0..64u8 {
         let (symbol, left, weight) = plain(model.quantile_function(quantile)?);
-        assert_eq!(rt;
+        same(
+            &rt,
             (Some((symbol, left, weight)), entry_of(&model, symbol)),
-            (row_by_scan(&WEIGHTS, quantile), Some((left, weight)))
+            (row_by_scan(&WEIGHTS, quantile), Some((left, weight))),
         );
     }
     Ok(())
@@ -65,7 +67,7 @@ fn each_quantile_has_the_row_that_a_scan_finds(rt: HostRuntime) -> Result<(), Fa
 #[test]
 fn symbols_have_their_entries(rt: HostRuntime) -> Result<(), Fail> {
     let model = small(rt.alloc(), &WEIGHTS, false)?;
-    assert_eq!(rt; model.support_size(), 4);
+    same(&rt, model.support_size(), 4);
     for (symbol, entry) in [
         (0, Some((0, 3))),
         (1, Some((3, 18))),
@@ -74,7 +76,7 @@ fn symbols_have_their_entries(rt: HostRuntime) -> Result<(), Fail> {
         (4, None),
         (usize::MAX, None),
     ] {
-        assert_eq!(rt; entry_of(&model, symbol), entry, "{symbol}");
+        same_at(&rt, symbol, entry_of(&model, symbol), entry);
     }
     Ok(())
 }
@@ -98,10 +100,11 @@ fn the_search_asks_at_most_two_questions_of_four_rows(rt: HostRuntime) -> Result
         assert!(rt; quantile < 64);
         let (answered, _, _) = plain(model.quantile_function(quantile)?);
         let (found, size, before, asked) = searched(&model, quantile);
-        assert_eq!(rt;
+        same_at(
+            &rt,
+            quantile,
             (answered, found, size, before, asked <= 2),
             (symbol, Some(symbol), 4, 0, true),
-            "{quantile}"
         );
     }
     Ok(())
@@ -110,9 +113,10 @@ fn the_search_asks_at_most_two_questions_of_four_rows(rt: HostRuntime) -> Result
 #[test]
 fn one_row_is_found_without_a_question(rt: HostRuntime) -> Result<(), Fail> {
     let model = small(rt.alloc(), &[64], false)?;
-    assert_eq!(rt;
+    same(
+        &rt,
         (searched(&model, 63), plain(model.quantile_function(63)?)),
-        ((Some(0), 1, 0, 0), (0, 0, 64))
+        ((Some(0), 1, 0, 0), (0, 0, 64)),
     );
     Ok(())
 }
@@ -122,7 +126,7 @@ fn is_accepted<Model: Drop>(rt: &impl Abort, name: &str, made: Result<Model, Mod
     match made {
         Ok(_) => true,
         Err(error) => {
-            assert_eq!(rt; error, ModelError::InvalidTable, "{name}");
+            same_at(rt, name, error, ModelError::InvalidTable);
             false
         }
     }
@@ -166,7 +170,7 @@ fn weights_are_accepted_exactly_where_they_tile(rt: HostRuntime) {
     ];
     for (name, weights, infer, expected) in cases {
         let made = small(rt.alloc(), weights, infer);
-        assert_eq!(rt; is_accepted(&rt, name, made), expected, "{name}");
+        same_at(&rt, name, is_accepted(&rt, name, made), expected);
     }
 }
 
@@ -193,7 +197,7 @@ fn weights_are_accepted_at_the_full_width_exactly_where_they_tile(rt: HostRuntim
     ];
     for (name, weights, infer, expected) in cases {
         let made = full(rt.alloc(), weights, infer);
-        assert_eq!(rt; is_accepted(&rt, name, made), expected, "{name}");
+        same_at(&rt, name, is_accepted(&rt, name, made), expected);
     }
 }
 
@@ -206,7 +210,7 @@ fn last_rows_at_the_full_width(rt: HostRuntime) -> Result<(), Fail> {
     ];
     for (weights, infer, row) in cases {
         let model = full(rt.alloc(), weights, infer)?;
-        assert_eq!(rt; plain(model.quantile_function(255)?), row);
+        same(&rt, plain(model.quantile_function(255)?), row);
     }
     Ok(())
 }
@@ -218,9 +222,10 @@ fn a_probe_of_256_rows_is_asked_at_most_8_questions(rt: HostRuntime) -> Result<(
     let (symbol, _, _) = plain(model.quantile_function(200)?);
     let (_, mut rows) = model.quantile_probe(200);
     let index = row_of_quantile(&mut rows, 200);
-    assert_eq!(rt;
+    same(
+        &rt,
         (symbol, index, rows.asked() >= 1, rows.asked() <= 8),
-        (200, 200, true, true)
+        (200, 200, true, true),
     );
     Ok(())
 }
@@ -246,13 +251,14 @@ where
 #[test]
 fn a_reference_to_a_model_is_a_model(rt: HostRuntime) -> Result<(), Fail> {
     let model = small(rt.alloc(), &WEIGHTS, false)?;
-    assert_eq!(rt;
+    same(
+        &rt,
         [
             symbol_through_bounds(&model, 21u8),
             symbol_through_bounds(&&model, 22),
-            symbol_through_bounds(model, 3)
+            symbol_through_bounds(model, 3),
         ],
-        [Some(2), Some(3), Some(1)]
+        [Some(2), Some(3), Some(1)],
     );
     Ok(())
 }

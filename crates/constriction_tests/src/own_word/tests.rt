@@ -2,6 +2,7 @@
 
 ghost use Rattle.std.specs.Prelude.{◌≡◌, ◌/◌, ◌<◌};
 
+use crate::checks::{same, same_at};
 use crate::own_word::Sample;
 use crate::own_word::nonzero::NonZeroSample;
 use crate::words::numbers::{
@@ -23,55 +24,59 @@ fn half_of_sample(a: Sample) -> Sample
 
 #[test]
 fn operations_give_the_exact_number(rt: HostRuntime) {
-    assert_eq!(rt;
+    same(
+        &rt,
         [
             half_way(Sample(3), Sample(65535)),
             half_of_sample(Sample(65535)),
             remainder_of_product(Sample(255), Sample(257), Sample(1000)),
             moved_up(Sample(0x8001), 1),
-            lower(Sample(400), Sample(399))
+            lower(Sample(400), Sample(399)),
         ],
         [
             Sample(32766),
             Sample(32767),
             Sample(535),
             Sample(2),
-            Sample(399)
-        ]
+            Sample(399),
+        ],
     );
 }
 
 #[test]
 fn samples_are_words(rt: HostRuntime) {
-    assert_eq!(rt;
+    same(
+        &rt,
         (
             <Sample as BitArray>::BITS,
             wrapped(),
-            zero_is_refused::<Sample>()
+            zero_is_refused::<Sample>(),
         ),
         (
             16,
             (Sample(0), Sample(65535), Sample(1)),
-            (true, true, true)
-        )
+            (true, true, true),
+        ),
     );
-    assert_eq!(rt;
+    same(
+        &rt,
         held(),
         Some((
             Sample(1),
             Sample(65535),
             Sample(65535),
             Sample(1),
-            Sample(1)
-        ))
+            Sample(1),
+        )),
     );
-    assert_eq!(rt;
+    same(
+        &rt,
         (
             Sample(3).pow(4),
             Sample(65535).to_index(),
-            Sample::from_index(258)
+            Sample::from_index(258),
         ),
-        (Sample(81), 65535, Sample(258))
+        (Sample(81), 65535, Sample(258)),
     );
 }
 
@@ -118,17 +123,20 @@ fn combined_bits<W: BitArray>(x: W) -> (W, W, W, W, W, W) {
 #[test]
 fn bits_are_those_of_the_number(rt: HostRuntime) {
     for bits in [counted_bits(Sample(0x8003)), counted_bits(0x8003u16)] {
-        assert_eq!(rt; bits, [3, 13, 1, 0, 2, 0]);
+        same(&rt, bits, [3, 13, 1, 0, 2, 0]);
     }
-    assert_eq!(rt;
+    same(
+        &rt,
         moved_bits(0x8003u16),
-        (7, 0xc001, 6, 0x4001, 0xc001, 0x0380, 0xc001)
+        (7, 0xc001, 6, 0x4001, 0xc001, 0x0380, 0xc001),
     );
-    assert_eq!(rt;
+    same(
+        &rt,
         combined_bits(0x8003u16),
-        (0x7ffc, 0x8002, 65535, 0, 0x8003, 0x8003)
+        (0x7ffc, 0x8002, 65535, 0, 0x8003, 0x8003),
     );
-    assert_eq!(rt;
+    same(
+        &rt,
         moved_bits(Sample(0x8003)),
         (
             Sample(7),
@@ -137,10 +145,11 @@ fn bits_are_those_of_the_number(rt: HostRuntime) {
             Sample(0x4001),
             Sample(0xc001),
             Sample(0x0380),
-            Sample(0xc001)
-        )
+            Sample(0xc001),
+        ),
     );
-    assert_eq!(rt;
+    same(
+        &rt,
         combined_bits(Sample(0x8003)),
         (
             Sample(0x7ffc),
@@ -148,8 +157,8 @@ fn bits_are_those_of_the_number(rt: HostRuntime) {
             Sample(65535),
             Sample(0),
             Sample(0x8003),
-            Sample(0x8003)
-        )
+            Sample(0x8003),
+        ),
     );
 }
 
@@ -192,29 +201,33 @@ fn saturated<W: BitArray>(x: W) -> (W, W, W) {
 #[test]
 fn numbers_are_those_of_the_bits(rt: HostRuntime) {
     for numbers in [as_numbers(Sample(0x8003)), as_numbers(0x8003u16)] {
-        assert_eq!(rt;
+        same(
+            &rt,
             numbers,
             (
                 false,
                 Some(0x8003),
                 Some(0x8003),
                 Some(32771.0),
-                Some(32771.0)
-            )
+                Some(32771.0),
+            ),
         );
     }
-    assert_eq!(rt;
+    same(
+        &rt,
         (from_numbers(), from_numbers()),
         (
             (Some(0x8003u16), true, None),
-            (Some(Sample(0x8003)), true, None)
-        )
+            (Some(Sample(0x8003)), true, None),
+        ),
     );
-    assert_eq!(rt;
+    same(
+        &rt,
         checked(0x8003u16),
-        [None, Some(0), None, Some(1), None, Some(0x8003), None]
+        [None, Some(0), None, Some(1), None, Some(0x8003), None],
     );
-    assert_eq!(rt;
+    same(
+        &rt,
         checked(Sample(0x8003)),
         [
             None,
@@ -223,12 +236,13 @@ fn numbers_are_those_of_the_bits(rt: HostRuntime) {
             Some(Sample(1)),
             None,
             Some(Sample(0x8003)),
-            None
-        ]
+            None,
+        ],
     );
-    assert_eq!(rt;
+    same(
+        &rt,
         (saturated(0x8003u16), saturated(Sample(0x8003))),
-        ((65535, 0, 0), (Sample(65535), Sample(0), Sample(0)))
+        ((65535, 0, 0), (Sample(65535), Sample(0), Sample(0))),
     );
 }
 
@@ -237,9 +251,10 @@ fn samples_are_shown_as_their_numbers(rt: HostRuntime) -> Result<(), Fail> {
     let sample = Sample(40);
     let held = NonZeroSample::new_unchecked(sample);
     let text = format!(in rt.alloc(); "{sample} {held:>4} {sample:?} {held:?}")?;
-    assert_eq!(rt;
+    same(
+        &rt,
         text.as_str(),
-        "40   40 Sample(40) NonZeroSample { sample: Sample(40) }"
+        "40   40 Sample(40) NonZeroSample { sample: Sample(40) }",
     );
     Ok(())
 }
@@ -255,15 +270,16 @@ fn samples_are_the_probabilities_of_a_model(rt: HostRuntime) -> Result<(), Fail>
     for (quantile, symbol) in [(3u16, 3usize), (4, 4), (4095, 4)] {
         assert!(rt; quantile < 4096);
         let (found, _, _) = model.quantile_function(Sample(quantile))?;
-        assert_eq!(rt; found, symbol, "{quantile}");
+        same_at(&rt, quantile, found, symbol);
     }
     let entry = model.left_cumulative_and_probability(&4);
-    assert_eq!(rt;
+    same(
+        &rt,
         (
             model.support_size(),
-            entry.map(|(left, weight)| (left, weight.get()))
+            entry.map(|(left, weight)| (left, weight.get())),
         ),
-        (5, Some((Sample(4), Sample(4092))))
+        (5, Some((Sample(4), Sample(4092)))),
     );
     Ok(())
 }

@@ -2,6 +2,7 @@
 
 ghost use Rattle.std.specs.Prelude.{◌≡◌, ◌+◌, ◌<◌};
 
+use crate::checks::same;
 use constriction_words::{
     CoderError, DefaultEncoderFrontendError, NanError, Queue, ReadWriteError, Semantics, Stack,
     UnwrapInfallible,
@@ -18,9 +19,10 @@ fn marker<S: Semantics>() -> S {
 fn markers_have_a_default(rt: HostRuntime) -> Result<(), Fail> {
     let stack = marker::<Stack>();
     let queue = marker::<Queue>();
-    assert_eq!(rt;
+    same(
+        &rt,
         format!(in rt.alloc(); "{stack:?} {queue:?}")?.as_str(),
-        "Stack Queue"
+        "Stack Queue",
     );
     Ok(())
 }
@@ -36,15 +38,17 @@ fn texts_say_which_side_failed(rt: HostRuntime) -> Result<(), Fail> {
     let back: Both = CoderError::from(NanError);
     is_an_error(&front);
     let text = format!(in rt.alloc(); "{front}\n{back}")?;
-    assert_eq!(rt;
+    same(
+        &rt,
         text.as_str(),
-        "Invalid compressed data: Tried to encode symbol that has zero probability under the used entropy model.\nError while reading compressed data: NaN encountered."
+        "Invalid compressed data: Tried to encode symbol that has zero probability under the used entropy model.\nError while reading compressed data: NaN encountered.",
     );
     let nested: CoderError<u8, Both> = CoderError::Backend(back);
     let text = format!(in rt.alloc(); "{nested}")?;
-    assert_eq!(rt;
+    same(
+        &rt,
         text.as_str(),
-        "Error while reading compressed data: Error while reading compressed data: NaN encountered."
+        "Error while reading compressed data: Error while reading compressed data: NaN encountered.",
     );
     Ok(())
 }
@@ -57,21 +61,23 @@ fn each_side_is_mapped_alone(rt: HostRuntime) {
     { x + 1 };
     let front: CoderError<u8, u8> = CoderError::Frontend(3);
     let back: CoderError<u8, u8> = CoderError::Backend(3);
-    assert_eq!(rt;
+    same(
+        &rt,
         (front.map_frontend(next), back.map_backend(next)),
         (
             CoderError::<u8, u8>::Frontend(4),
-            CoderError::<u8, u8>::Backend(4)
-        )
+            CoderError::<u8, u8>::Backend(4),
+        ),
     );
     let front: CoderError<u8, u8> = CoderError::Frontend(3);
     let back: CoderError<u8, u8> = CoderError::Backend(3);
-    assert_eq!(rt;
+    same(
+        &rt,
         (front.map_backend(next), back.map_frontend(next)),
         (
             CoderError::<u8, u8>::Frontend(3),
-            CoderError::<u8, u8>::Backend(3)
-        )
+            CoderError::<u8, u8>::Backend(3),
+        ),
     );
 }
 
@@ -82,21 +88,31 @@ fn fails(read_error: u8) -> Result<u8, CoderError<Infallible, u8>> {
 #[test]
 fn errors_are_compared_and_cloned(rt: HostRuntime) -> Result<(), Fail> {
     let back: CoderError<u8, u8> = CoderError::Backend(3);
-    assert_eq!(rt;
+    same(
+        &rt,
         (back.clone()?, fails(7), NanError.clone()?),
         (
             CoderError::Backend(3),
             Err(CoderError::Backend(7)),
-            NanError
-        )
+            NanError,
+        ),
     );
-    for other in [CoderError::Frontend(3), CoderError::Backend(4)] {
-        assert!(rt; back != other, "{other:?}");
-    }
+    same(
+        &rt,
+        [
+            back != CoderError::Frontend(3),
+            back != CoderError::Backend(4),
+        ],
+        [true, true],
+    );
     let error = DefaultEncoderFrontendError::ImpossibleSymbol;
-    assert_eq!(rt; error.clone()?, error);
+    same(
+        &rt,
+        error.clone()?,
+        DefaultEncoderFrontendError::ImpossibleSymbol,
+    );
     let text = format!(in rt.alloc(); "{error:?}")?;
-    assert_eq!(rt; text.as_str(), "ImpossibleSymbol");
+    same(&rt, text.as_str(), "ImpossibleSymbol");
     Ok(())
 }
 
@@ -105,13 +121,14 @@ fn what_cannot_fail_is_unwrapped(rt: HostRuntime) {
     let plain: Result<u8, Infallible> = Ok(7);
     let nested: Result<u8, CoderError<CoderError<Infallible, Infallible>, Infallible>> = Ok(8);
     let both: Result<u8, ReadWriteError<Infallible, Infallible>> = Ok(9);
-    assert_eq!(rt;
+    same(
+        &rt,
         [
             plain.unwrap_infallible(),
             nested.unwrap_infallible(),
-            both.unwrap_infallible()
+            both.unwrap_infallible(),
         ],
-        [7, 8, 9]
+        [7, 8, 9],
     );
 }
 
@@ -119,11 +136,16 @@ fn what_cannot_fail_is_unwrapped(rt: HostRuntime) {
 fn a_failed_read_is_no_failed_write(rt: HostRuntime) -> Result<(), Fail> {
     let read: ReadWriteError<u8, u8> = ReadWriteError::Read(3);
     let copied = read;
-    assert_eq!(rt; copied, read.clone()?);
-    for other in [ReadWriteError::Read(4), ReadWriteError::Write(3)] {
-        assert!(rt; read != other, "{other:?}");
-    }
+    same(&rt, copied, read.clone()?);
+    same(
+        &rt,
+        [
+            read != ReadWriteError::Read(4),
+            read != ReadWriteError::Write(3),
+        ],
+        [true, true],
+    );
     let text = format!(in rt.alloc(); "{read:?} {:?}", ReadWriteError::<u8, u8>::Write(4))?;
-    assert_eq!(rt; text.as_str(), "Read(3) Write(4)");
+    same(&rt, text.as_str(), "Read(3) Write(4)");
     Ok(())
 }

@@ -2,6 +2,7 @@
 
 ghost use Rattle.std.specs.Prelude.{◌≡◌, ◌+◌, ◌-◌, ◌*◌, ◌/◌, ◌%◌, ◌<◌, ◌≤◌, ◌^◌};
 
+use crate::checks::same;
 use constriction_words::{BitArray, IndexWord, NonZeroBitArray};
 
 /// The sum of two words.
@@ -65,7 +66,8 @@ pub fn lower<P: BitArray>(a: P, b: P) -> P
 
 #[test]
 fn operations_give_the_exact_number(rt: HostRuntime) {
-    assert_eq!(rt;
+    same(
+        &rt,
         [
             plus(200u8, 55),
             half_way(55, 200),
@@ -76,9 +78,9 @@ fn operations_give_the_exact_number(rt: HostRuntime) {
             remainder_of_product(15, 17, 255),
             moved_up(0x81, 1),
             lower(3, 4),
-            lower(4, 3)
+            lower(4, 3),
         ],
-        [255, 72, 127, 1, 127, 15, 0, 2, 3, 3]
+        [255, 72, 127, 1, 127, 15, 0, 2, 3, 3],
     );
 }
 
@@ -116,28 +118,31 @@ pub fn zero_is_refused<P: BitArray>() -> (bool, bool, bool) {
 
 #[test]
 fn wrapping_calls_are_modulo_the_width(rt: HostRuntime) {
-    assert_eq!(rt;
+    same(
+        &rt,
         (wrapped(), wrapped(), wrapped()),
         (
             (0u8, u8::MAX, 1u8),
             (0u16, u16::MAX, 1u16),
-            (0u32, u32::MAX, 1u32)
-        )
+            (0u32, u32::MAX, 1u32),
+        ),
     );
-    assert_eq!(rt;
+    same(
+        &rt,
         (wrapped(), wrapped(), wrapped()),
         (
             (0u64, u64::MAX, 1u64),
             (0usize, usize::MAX, 1usize),
-            (0u128, u128::MAX, 1u128)
-        )
+            (0u128, u128::MAX, 1u128),
+        ),
     );
-    assert_eq!(rt;
+    same(
+        &rt,
         (
             BitArray::wrapping_mul(&16u8, &17),
-            BitArray::wrapping_mul(&(1u128 << 127), &2)
+            BitArray::wrapping_mul(&(1u128 << 127), &2),
         ),
-        (16, 0)
+        (16, 0),
     );
 }
 
@@ -151,49 +156,54 @@ fn a_word_is_nonzero_unless_it_is_0(rt: HostRuntime) {
         zero_is_refused::<usize>(),
         zero_is_refused::<u128>(),
     ] {
-        assert_eq!(rt; refused, (true, true, true));
+        same(&rt, refused, (true, true, true));
     }
-    assert_eq!(rt;
+    same(
+        &rt,
         (held(), held(), held()),
         (
             Some((1u8, u8::MAX, u8::MAX, 1u8, 1u8)),
             Some((1u16, u16::MAX, u16::MAX, 1u16, 1u16)),
-            Some((1u32, u32::MAX, u32::MAX, 1u32, 1u32))
-        )
+            Some((1u32, u32::MAX, u32::MAX, 1u32, 1u32)),
+        ),
     );
-    assert_eq!(rt;
+    same(
+        &rt,
         (held(), held(), held()),
         (
             Some((1u64, u64::MAX, u64::MAX, 1u64, 1u64)),
             Some((1usize, usize::MAX, usize::MAX, 1usize, 1usize)),
-            Some((1u128, u128::MAX, u128::MAX, 1u128, 1u128))
-        )
+            Some((1u128, u128::MAX, u128::MAX, 1u128, 1u128)),
+        ),
     );
 }
 
 #[test]
 fn words_have_their_width_and_indices(rt: HostRuntime) {
-    assert_eq!(rt;
+    same(
+        &rt,
         [
             <u8 as BitArray>::BITS,
             <u16 as BitArray>::BITS,
             <u32 as BitArray>::BITS,
             <u64 as BitArray>::BITS,
             <usize as BitArray>::BITS,
-            <u128 as BitArray>::BITS
+            <u128 as BitArray>::BITS,
         ],
-        [8, 16, 32, 64, 64, 128]
+        [8, 16, 32, 64, 64, 128],
     );
-    assert_eq!(rt;
+    same(
+        &rt,
         [255u8.to_index(), 65535u16.to_index(), usize::MAX.to_index()],
-        [255, 65535, usize::MAX]
+        [255, 65535, usize::MAX],
     );
-    assert_eq!(rt;
+    same(
+        &rt,
         (
             u8::from_index(255),
             u16::from_index(258),
-            usize::from_index(usize::MAX)
+            usize::from_index(usize::MAX),
         ),
-        (255, 258, usize::MAX)
+        (255, 258, usize::MAX),
     );
 }

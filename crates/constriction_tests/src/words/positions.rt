@@ -2,6 +2,7 @@
 
 ghost use Rattle.std.specs.Prelude.{◌<◌, ◌≤◌, MatchResult};
 
+use crate::checks::same;
 use constriction_words::{Pos, PosSeek, Seek};
 
 /// A place on a line of ten steps.
@@ -43,12 +44,13 @@ fn there_and_back<P: Pos + Seek>(place: &mut P, to: P::Position) -> Result<(), (
 #[test]
 fn a_position_is_sought_back(rt: HostRuntime) {
     let mut place = Place { at: 3 };
-    assert_eq!(rt;
+    same(
+        &rt,
         (
             (place.seek(11), place.pos()),
             (there_and_back(&mut place, 10), place.pos()),
-            (place.seek(10), place.pos())
+            (place.seek(10), place.pos()),
         ),
-        ((Err(()), 3), (Ok(()), 3), (Ok(()), 10))
+        ((Err(()), 3), (Ok(()), 3), (Ok(()), 10)),
     );
 }

@@ -3,7 +3,7 @@ use Rattle.std.specs.Result.{IfOk}
 use Rattle.std.specs.String.{string_bytes}
 use Rattle.constriction.specs.Rows.{Row, IsRowOf, contiguous_rows}
 use Rattle.constriction.specs.Stored.{weights_of}
-use Rattle.constriction.specs.StoredRows.{stored-tiles}
+use Rattle.constriction.specs.StoredRowLemmas.{stored-tiles}
 use Rattle.constriction_client.proofs.Accepting.{narrowed_same}
 use Rattle.constriction_client.proofs.RowTexts.{is_below, quantile_line, same_row}
 use Rattle.constriction_client.proofs.answers.answer_quantile.Goals as goal

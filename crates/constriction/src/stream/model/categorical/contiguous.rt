@@ -8,7 +8,7 @@ ghost use Rattle.constriction.specs.Model.{row_of, LiesWithin};
 ghost use Rattle.constriction.specs.Probe.{TellsRows, IsRowIndexOf, IsSearchable, IsLastAtMost};
 ghost use Rattle.constriction.specs.Rows.{contiguous_rows, IsRowOf};
 ghost use Rattle.constriction.specs.Stored.{IsStored, weights_of};
-ghost use Rattle.constriction.specs.StoredRows.{stored-within, stored-tiles};
+ghost use Rattle.constriction.specs.StoredRowLemmas.{stored-within, stored-tiles};
 
 use crate::stream::model::categorical::filling::lefts_of;
 use crate::stream::model::categorical::stored::row_at;

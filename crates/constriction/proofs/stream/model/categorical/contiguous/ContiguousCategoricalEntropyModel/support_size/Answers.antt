@@ -1,6 +1,6 @@
 use Rattle.std.proofs.Common.{length, map, ap, sym, ◌∙◌}
 use Rattle.std.proofs.lemmas.List.{length-map}
-use Rattle.constriction.specs.StoredRows.{rows-many}
+use Rattle.constriction.specs.StoredRowLemmas.{rows-many}
 use Rattle.constriction.proofs.stream.model.categorical.contiguous.ContiguousCategoricalEntropyModel.support_size.Goals as goal
 
 pub returns : goal.returns

@@ -1,6 +1,6 @@
 use Rattle.std.proofs.Common.{◌≡◌, length, map, refl, arith}
 use Rattle.std.proofs.lemmas.List.{length-map}
-use Rattle.constriction.specs.StoredRows.{stored-entry, stored-no_entry}
+use Rattle.constriction.specs.StoredRowLemmas.{stored-entry, stored-no_entry}
 use Rattle.constriction.proofs.stream.model.categorical.contiguous.ContiguousCategoricalEntropyModelEncoderModel.left_cumulative_and_probability.Goals as goal
 
 pub returns-then-symbol-cdf : goal.returns-then-symbol-cdf
