@@ -1,6 +1,6 @@
 -- A list as a stack, whose top is its end.
-use Rattle.std.specs.Prelude.{◌≡◌, ◌↔◌, ◌≤◌, List, [], ◌∷◌, ◌++◌, length, Option, Some, Result, Ok, MatchResult, MatchOption, IsOk}
-use Rattle.constriction_words.specs.Rewinding.{Rewinds}
+use Rattle.std.specs.Prelude.{◌≡◌, ◌↔◌, ◌<◌, ◌≤◌, ℕ, List, [], ◌∷◌, ◌++◌, length, Option, Some, Result, Ok, MatchResult, MatchOption, IsOk}
+use Rattle.constriction_words.specs.Rewinding.{Rewinds, Storage}
 
 -- a read answers the last word and drops it, or None on the empty list, and no error
 abbrev pub Pops : {W E : Type 0} → List W → Result (Option W) E → List W → Type 0
@@ -9,6 +9,20 @@ Pops old r new = MatchResult r (λ o. MatchOption o ((old ≡ []) × (new ≡ []
 -- a write puts the word at the end, or is refused and leaves the list
 abbrev pub Pushes : {W E : Type 0} → List W → W → Result (Unit {0}) E → List W → Type 0
 Pushes old w r new = MatchResult r (λ _. new ≡ old ++ w ∷ []) (λ _. new ≡ old)
+
+-- a read pops a word, and the capacity stays, which is never below `least`
+pub record PopsFrom {W E : Type 0} (least : ℕ) (old : Storage W) (r : Result (Option W) E) (new : Storage W) : Type 0 where
+  pub pops : Pops old.words r new.words
+  pub capacity : new.capacity ≡ old.capacity
+  pub at_least : least ≤ old.capacity
+
+-- A write pushes the word. It succeeds where there is capacity left, and the capacity, which is never below `least`, does not fall.
+pub record PushesTo {W E : Type 0} (least : ℕ) (old : Storage W) (w : W) (r : Result (Unit {0}) E) (new : Storage W)
+    : Type 0 where
+  pub pushes : Pushes old.words w r new.words
+  pub succeeds : length old.words < old.capacity → IsOk r
+  pub capacity : old.capacity ≤ new.capacity
+  pub at_least : least ≤ old.capacity
 
 -- what is read after a write that succeeded is the word that was written, and the list is the old one again
 abbrev pub PopsWhatWasPushed : Type 0 → Type 0 → Type 0 → Type 0

@@ -4,8 +4,7 @@
 
 ghost use Rattle.std.specs.Prelude.{◌≡◌, ◌≢◌, ◌↔◌, ◌≤◌, List, [], ⊤, false, reverse, length, IsTrue, IsOk};
 ghost use Rattle.std.specs.Bool.{OnFalse};
-ghost use Rattle.smallvec.specs.SmallVec.{HasRoomFor};
-ghost use Rattle.constriction_backends.specs.Stack.{Pops, Pushes};
+ghost use Rattle.constriction_backends.specs.Stack.{PopsFrom, PushesTo};
 ghost use Rattle.constriction_backends.specs.StackLaws.{Pops-told, Pops-counted, Pushes-told, tells_all};
 
 use crate::read::{BoundedReadWords, ReadWords};
@@ -20,12 +19,15 @@ impl<Word: MadeWith<A> + Drop, const N: usize, A: Allocator + Copy> ReadWords<Wo
     for SmallVec<Word, N, A> {
     type ReadError = Infallible;
 
-    ghost read_gives = { λ s r t. Pops s.items r t.items };
+    ghost read_gives = { λ s r t. PopsFrom N
+        (record { words = s.items; capacity = s.capacity }) r
+        (record { words = t.items; capacity = t.capacity }) };
 
     ghost tells_upcoming = { λ s words. words ≡ reverse s.items };
 
     #[inline]
     fn read(&mut self) -> Result<Option<Word>, Infallible> {
+        let _at_least = self.capacity();
         Ok(self.pop())
     }
 
@@ -37,7 +39,7 @@ impl<Word: MadeWith<A> + Drop, const N: usize, A: Allocator + Copy> ReadWords<Wo
         self.is_empty()
     }
 
-    ghost reads_told = { Pops-told (λ s. s.items) };
+    ghost reads_told = { λ s r t gives. Pops-told (λ (u : _). u.items) s r t gives.pops };
 }
 
 impl<Word: MadeWith<A> + Drop, const N: usize, A: Allocator + Copy> BoundedReadWords<Word, Stack>
@@ -49,7 +51,7 @@ impl<Word: MadeWith<A> + Drop, const N: usize, A: Allocator + Copy> BoundedReadW
         self.len()
     }
 
-    ghost counts_reads = { Pops-counted (λ s. s.items) };
+    ghost counts_reads = { λ s r t exact gives. Pops-counted (λ (u : _). u.items) s r t exact gives.pops };
 
     ghost counts_told = { tells_all (λ s. s.items) };
 }
@@ -58,21 +60,17 @@ impl<Word: MadeWith<A> + Drop, const N: usize, A: Allocator + Copy> WriteWords<W
     for SmallVec<Word, N, A> {
     type WriteError = AllocError;
 
-    ghost write_gives = { λ s w r t. Pushes s.items w r t.items };
+    ghost write_gives = { λ s w r t. PushesTo N
+        (record { words = s.items; capacity = s.capacity }) w r
+        (record { words = t.items; capacity = t.capacity }) };
 
     ghost tells_written = { λ s words. words ≡ s.items };
 
     ghost has_room = { λ _. ⊤ };
 
     #[inline]
-    fn write(&mut self, word: Word) -> Result<(), AllocError>
-        ensures gives { Pushes self.old.items word result self.new.items }
-        ensures goes_on { ⊤ }
-
-        // Memory is asked for only where the capacity, at least N, is used up.
-        ensures succeeds { HasRoomFor self.old 1 → IsOk result }
-        ensures capacity { self.old.capacity ≤ self.new.capacity }
-    {
+    fn write(&mut self, word: Word) -> Result<(), AllocError> {
+        let _at_least = self.capacity();
         self.push(word)?;
         Ok(())
     }
@@ -85,5 +83,5 @@ impl<Word: MadeWith<A> + Drop, const N: usize, A: Allocator + Copy> WriteWords<W
         false
     }
 
-    ghost writes_told = { Pushes-told (λ s. s.items) };
+    ghost writes_told = { λ s w r t gives. Pushes-told (λ (u : _). u.items) s w r t gives.pushes };
 }

@@ -1,7 +1,7 @@
 //! `Vec` as a stack: a write pushes, and a read pops.
 
 ghost use Rattle.std.specs.Prelude.{◌≡◌, ◌↔◌, ◌<◌, ◌≤◌, [], ⊤, false, reverse, length, IsTrue, IsOk, vec_capacity};
-ghost use Rattle.constriction_backends.specs.Stack.{Pops, Pushes};
+ghost use Rattle.constriction_backends.specs.Stack.{PopsFrom, PushesTo};
 ghost use Rattle.constriction_backends.specs.StackLaws.{Pops-told, Pops-counted, Pushes-told, tells_all};
 
 use crate::read::{BoundedReadWords, ReadWords};
@@ -13,7 +13,9 @@ use std::convert::Infallible;
 impl<Word> ReadWords<Word, Stack> for Vec<Word> {
     type ReadError = Infallible;
 
-    ghost read_gives = { λ s r t. Pops s.items r t.items };
+    ghost read_gives = { λ s r t. PopsFrom 0
+        (record { words = s.items; capacity = vec_capacity s }) r
+        (record { words = t.items; capacity = vec_capacity t }) };
 
     ghost tells_upcoming = { λ s words. words ≡ reverse s.items };
 
@@ -29,7 +31,7 @@ impl<Word> ReadWords<Word, Stack> for Vec<Word> {
         self.is_empty()
     }
 
-    ghost reads_told = { Pops-told (λ s. s.items) };
+    ghost reads_told = { λ s r t gives. Pops-told (λ (u : _). u.items) s r t gives.pops };
 }
 
 impl<Word> BoundedReadWords<Word, Stack> for Vec<Word> {
@@ -40,7 +42,7 @@ impl<Word> BoundedReadWords<Word, Stack> for Vec<Word> {
         self.len()
     }
 
-    ghost counts_reads = { Pops-counted (λ s. s.items) };
+    ghost counts_reads = { λ s r t exact gives. Pops-counted (λ (u : _). u.items) s r t exact gives.pops };
 
     ghost counts_told = { tells_all (λ s. s.items) };
 }
@@ -48,7 +50,9 @@ impl<Word> BoundedReadWords<Word, Stack> for Vec<Word> {
 impl<Word: Drop> WriteWords<Word> for Vec<Word> {
     type WriteError = AllocError;
 
-    ghost write_gives = { λ s w r t. Pushes s.items w r t.items };
+    ghost write_gives = { λ s w r t. PushesTo 0
+        (record { words = s.items; capacity = vec_capacity s }) w r
+        (record { words = t.items; capacity = vec_capacity t }) };
 
     ghost tells_written = { λ s words. words ≡ s.items };
 
@@ -56,12 +60,6 @@ impl<Word: Drop> WriteWords<Word> for Vec<Word> {
 
     #[inline]
     fn write(&mut self, word: Word) -> Result<(), AllocError>
-        ensures gives { Pushes self.old.items word result self.new.items }
-        ensures goes_on { ⊤ }
-
-        // Memory is asked for only where the capacity is used up.
-        ensures succeeds { length self.old.items < vec_capacity self.old → IsOk result }
-        ensures capacity { vec_capacity self.old ≤ vec_capacity self.new }
     {
         self.push(word)?;
         Ok(())
@@ -74,5 +72,5 @@ impl<Word: Drop> WriteWords<Word> for Vec<Word> {
         false
     }
 
-    ghost writes_told = { Pushes-told (λ s. s.items) };
+    ghost writes_told = { λ s w r t gives. Pushes-told (λ (u : _). u.items) s w r t gives.pushes };
 }

@@ -4,7 +4,7 @@
 //! or with its type.
 
 ghost use Rattle.std.specs.Prelude.{length};
-ghost use Rattle.constriction_words.specs.Rewinding.{Rewinds};
+ghost use Rattle.constriction_words.specs.Rewinding.{RewindsIn};
 
 use crate::position::{Pos, PosSeek, Seek};
 use smallvec::SmallVec;
@@ -26,10 +26,13 @@ impl<Word, const N: usize, A: Allocator> Pos for SmallVec<Word, N, A> {
 
 /// Going back drops the words from the position on, for good: there is no going forward again.
 impl<Word: MadeWith<A> + Drop, const N: usize, A: Allocator + Copy> Seek for SmallVec<Word, N, A> {
-    ghost seek_gives = { λ s pos r t. Rewinds s.items pos r t.items };
+    ghost seek_gives = { λ s pos r t. RewindsIn N
+        (record { words = s.items; capacity = s.capacity }) pos r
+        (record { words = t.items; capacity = t.capacity }) };
 
     #[inline]
     fn seek(&mut self, pos: usize) -> Result<(), ()> {
+        let _at_least = self.capacity();
         if pos > self.len() {
             return Err(());
         }

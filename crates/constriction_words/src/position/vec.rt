@@ -3,8 +3,8 @@
 //! These stand here and not with the stack's reads and writes, since an impl stands with its trait
 //! or with its type.
 
-ghost use Rattle.std.specs.Prelude.{length};
-ghost use Rattle.constriction_words.specs.Rewinding.{Rewinds};
+ghost use Rattle.std.specs.Prelude.{length, vec_capacity};
+ghost use Rattle.constriction_words.specs.Rewinding.{RewindsIn};
 
 use crate::position::{Pos, PosSeek, Seek};
 
@@ -23,7 +23,9 @@ impl<Word> Pos for Vec<Word> {
 
 /// Going back drops the words from the position on, for good: there is no going forward again.
 impl<Word: Drop> Seek for Vec<Word> {
-    ghost seek_gives = { λ s pos r t. Rewinds s.items pos r t.items };
+    ghost seek_gives = { λ s pos r t. RewindsIn 0
+        (record { words = s.items; capacity = vec_capacity s }) pos r
+        (record { words = t.items; capacity = vec_capacity t }) };
 
     #[inline]
     fn seek(&mut self, pos: usize) -> Result<(), ()> {
