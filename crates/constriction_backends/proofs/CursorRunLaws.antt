@@ -7,8 +7,9 @@ use Rattle.std.proofs.Math.Bridge.{le_prop}
 use Rattle.constriction_backends.specs.declared.buf.SafeBuf.{Ghosts}
 use Rattle.constriction_backends.specs.declared.cursor.Cursor.{Cursor}
 use Rattle.constriction_backends.specs.Cursor.{state_of}
+use Rattle.constriction_backends.specs.CursorLaws.{same_cursor}
 use Rattle.constriction_backends.specs.CursorState.{State, reversal, StackReads, QueueReads}
-use Rattle.constriction_backends.specs.CursorRuns.{ReversalTwice, ReversalReads, CursorSeeksBack, ExtendingOverwrites}
+use Rattle.constriction_backends.specs.CursorRuns.{ReversalTwice, ReversalReads, CursorSeeksBack, SeekStays, TurnedTwice, ExtendingOverwrites}
 
 pub reversal-twice : {W : Type 0} → ReversalTwice W
 reversal-twice {W = W} s =
@@ -47,15 +48,12 @@ module _ {W B : Type 0} {g : Ghosts B W} where
       let past : length (g.words_of later.buf) < taken.pos = h.0 in
       absurd (omega arith)
 
-  abbrev Made : (b : B) (p : ℕ) → p ≤ length (g.words_of b) → Cursor W B g
-  Made b p h = record { buf = b; pos = p; phantom = record {}; in_range = h }
-
-  -- a cursor is its buffer and its position
-  same_cursor : (c d : Cursor W B g) → d.buf ≡ c.buf → d.pos ≡ c.pos → d ≡ c
-  same_cursor c d e k =
-      let ranges = λ (h : c.pos ≤ length (g.words_of c.buf)). ap (Made c.buf c.pos) (le_prop h c.in_range) in
-      let positions = subst (λ (p : ℕ). (h : p ≤ length (g.words_of c.buf)) → Made c.buf p h ≡ c) (sym k) ranges in
-      subst (λ (b : B). (h : d.pos ≤ length (g.words_of b)) → Made b d.pos h ≡ c) (sym e) positions d.in_range
+  pub seek_stays : SeekStays W B g
+  seek_stays c (Ok x) t h = (search, same_cursor c t h.1 h.2)
+  seek_stays c (Err x) t h =
+      let in_range : c.pos ≤ length (g.words_of c.buf) = c.in_range in
+      let past : length (g.words_of c.buf) < c.pos = h.0 in
+      absurd (omega arith)
 
   module _ (with_words : B → List W → B)
       (stand : (b : B) (ws : List W) → length ws ≡ length (g.words_of b) → g.words_of (with_words b ws) ≡ ws)
@@ -84,16 +82,13 @@ module _ {W B : Type 0} {g : Ghosts B W} where
         )
 
     -- a cursor that was turned round and turned back
-    pub turned_back : (c t d : Cursor W B g)
-        → t.buf ≡ with_words c.buf (reverse (g.words_of c.buf)) → t.pos ≡ length (g.words_of c.buf) - c.pos
-        → d.buf ≡ with_words t.buf (reverse (g.words_of t.buf)) → d.pos ≡ length (g.words_of t.buf) - t.pos
-        → d ≡ c
-    turned_back c t d tb tp db dp =
+    pub turned_twice : TurnedTwice W B g with_words
+    turned_twice c t d once back_again =
         let all = g.words_of c.buf in
-        let turned : g.words_of t.buf ≡ reverse all = ap g.words_of tb ∙ stand c.buf (reverse all) (length-reverse all) in
+        let turned : g.words_of t.buf ≡ reverse all = ap g.words_of once.buf ∙ stand c.buf (reverse all) (length-reverse all) in
         let back : reverse (g.words_of t.buf) ≡ all = ap reverse turned ∙ reverse-reverse all in
         let long : length (g.words_of t.buf) ≡ length all = ap length turned ∙ length-reverse all in
         let in_range : c.pos ≤ length all = c.in_range in
-        let pos : d.pos ≡ c.pos = omega arith in
-        same_cursor c d (db ∙ (ap (with_words t.buf) back ∙ (ap (λ b. with_words b all) tb ∙ (again c.buf (reverse all) all refl
+        let pos : d.pos ≡ c.pos = omega (arith, once.pos, back_again.pos) in
+        same_cursor c d (back_again.buf ∙ (ap (with_words t.buf) back ∙ (ap (λ b. with_words b all) once.buf ∙ (again c.buf (reverse all) all refl
         ∙ unchanged c.buf)))) pos

@@ -1,5 +1,5 @@
 -- What the contracts of a cursor name: its buffer, its position and its state.
-use Rattle.std.specs.Prelude.{◌≡◌, ℕ, List, length, slice_set, ◌<◌, ◌≤◌, ◌⊎◌, Result, MatchResult}
+use Rattle.std.specs.Prelude.{◌≡◌, ◌-◌, ℕ, List, length, reverse, slice_set, ◌<◌, ◌≤◌, ◌⊎◌, Result, MatchResult}
 use Rattle.std.proofs.Common.{inl, inr}
 use Rattle.std.proofs.lemmas.Bool.{cases_lt}
 use Rattle.constriction_backends.specs.declared.buf.SafeBuf.{Ghosts}
@@ -47,3 +47,10 @@ module _ {W B : Type 0} {g : Ghosts B W} (c : Cursor W B g) where
     -- lends its words becomes shorter by it.
     abbrev pub over : Cursor W B g
     over = over_if (cases_lt (length (g.words_of b)) c.pos)
+
+-- A cursor was turned round, and is t now: its words are reversed in the same buffer, where `with_words b ws` is the buffer b with the
+-- words ws in it, and are cut at the same place.
+pub record TurnsRound {W B : Type 0} {g : Ghosts B W} (with_words : B → List W → B) (c t : Cursor W B g) : Type 0 where
+  pub buf : t.buf ≡ with_words c.buf (reverse (g.words_of c.buf))
+  pub pos : t.pos ≡ length (g.words_of c.buf) - c.pos
+  pub state : state_of t ≡ reversal (state_of c)

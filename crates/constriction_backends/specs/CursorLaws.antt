@@ -1,7 +1,10 @@
 -- The steps of a cursor's state meet the laws of sources and sinks: the impls cite these. No public clause cites this module.
-use Rattle.std.specs.Prelude.{◌≡◌, List, [], ◌∷◌, ◌++◌, length, reverse, Option, Some, None, Result, Ok, Err}
-use Rattle.std.proofs.Common.{sym, ◌∙◌, ap, length-append, add-one}
+use Rattle.std.specs.Prelude.{◌≡◌, ◌≤◌, ℕ, List, [], ◌∷◌, ◌++◌, length, reverse, Option, Some, None, Result, Ok, Err}
+use Rattle.std.proofs.Common.{sym, ◌∙◌, ap, subst, length-append, add-one}
 use Rattle.std.proofs.lemmas.List.{reverse-append}
+use Rattle.std.proofs.Math.Bridge.{le_prop}
+use Rattle.constriction_backends.specs.declared.buf.SafeBuf.{Ghosts}
+use Rattle.constriction_backends.specs.declared.cursor.Cursor.{Cursor}
 use Rattle.constriction_backends.specs.Source.{ReadsTold, CountsRead}
 use Rattle.constriction_backends.specs.Sink.{WritesTold, CountsWrite}
 use Rattle.constriction_backends.specs.CursorState.{State, StackReads, QueueReads, Overwrites}
@@ -45,3 +48,14 @@ module _ {S W E : Type 0} (view : S → State W) where
       → CountsWrite (length (view s).after) r (length (view t).after)
   Overwrites-counts s w (Ok x) t h = rw add-one (ap length h.1.1)
   Overwrites-counts s w (Err x) t h = (ap length h.0, ap (λ u. length u.after) h.1 ∙ ap length h.0)
+
+module _ {W B : Type 0} {g : Ghosts B W} where
+  abbrev at_position : (b : B) (p : ℕ) → p ≤ length (g.words_of b) → Cursor W B g
+  at_position b p h = record { buf = b; pos = p; phantom = record {}; in_range = h }
+
+  -- a cursor is its buffer and its position
+  pub same_cursor : (c d : Cursor W B g) → d.buf ≡ c.buf → d.pos ≡ c.pos → d ≡ c
+  same_cursor c d e k =
+      let ranges = λ (h : c.pos ≤ length (g.words_of c.buf)). ap (at_position c.buf c.pos) (le_prop h c.in_range) in
+      let positions = subst (λ (p : ℕ). (h : p ≤ length (g.words_of c.buf)) → at_position c.buf p h ≡ c) (sym k) ranges in
+      subst (λ (b : B). (h : d.pos ≤ length (g.words_of b)) → at_position b d.pos h ≡ c) (sym e) positions d.in_range

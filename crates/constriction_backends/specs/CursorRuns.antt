@@ -2,7 +2,7 @@
 use Rattle.std.specs.Prelude.{◌≡◌, ◌↔◌, List, ◌++◌, length, drop, reverse, Option, Result, IsOk}
 use Rattle.constriction_backends.specs.declared.buf.SafeBuf.{Ghosts}
 use Rattle.constriction_backends.specs.declared.cursor.Cursor.{Cursor}
-use Rattle.constriction_backends.specs.Cursor.{state_of, SeeksTo, WritesTo}
+use Rattle.constriction_backends.specs.Cursor.{state_of, SeeksTo, WritesTo, TurnsRound}
 use Rattle.constriction_backends.specs.CursorState.{State, reversal, StackReads, QueueReads}
 use Rattle.constriction_backends.specs.Sink.{Writes}
 
@@ -26,6 +26,14 @@ module _ (W B : Type 0) (g : Ghosts B W) where
       (taken later : Cursor W B g) (r : Result (Unit {0}) (Unit {0})) (t : Cursor W B g)
       → length (g.words_of later.buf) ≡ length (g.words_of taken.buf) → SeeksTo later taken.pos r t
       → IsOk r × (t.pos ≡ taken.pos) × (t.buf ≡ later.buf)
+
+  -- a seek to the position that the cursor stands at succeeds, and leaves the very same cursor
+  abbrev pub SeekStays : Type 0
+  SeekStays = (c : Cursor W B g) (r : Result (Unit {0}) (Unit {0})) (t : Cursor W B g) → SeeksTo c c.pos r t → IsOk r × (t ≡ c)
+
+  -- a cursor that is turned round twice is the very same cursor
+  abbrev pub TurnedTwice : (B → List W → B) → Type 0
+  TurnedTwice with_words = (c t d : Cursor W B g) → TurnsRound with_words c t → TurnsRound with_words t d → d ≡ c
 
   -- Writes in a row that succeeded: their words stand after those that were written before, they took the places of as many others, and
   -- the buffer is the old one with other words.

@@ -9,7 +9,8 @@ ghost use Rattle.constriction_backends.specs.Stack.{PopsWhatWasPushed, SeeksBack
 mod cursor;
 
 pub use self::cursor::{
-    extending_overwrites, reversal_reads, reversal_twice, seek_back_in_a_cursor, turned_twice,
+    extending_overwrites, reversal_reads, reversal_twice, seek_back_in_a_cursor, seek_stays,
+    turned_twice,
 };
 use crate::read::{BoundedReadWords, ReadWords};
 use crate::write::{BoundedWriteWords, WriteWords};

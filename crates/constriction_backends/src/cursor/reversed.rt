@@ -1,7 +1,7 @@
 //! Turning a cursor round, and writing to one that was turned round.
 
-ghost use Rattle.std.specs.Prelude.{◌≡◌, ◌<◌, ◌↔◌, ◌-◌, ⊤, length, reverse, IsOk};
-ghost use Rattle.constriction_backends.specs.Cursor.{buf_of, pos_of, state_of, WritesBackTo};
+ghost use Rattle.std.specs.Prelude.{◌≡◌, ◌<◌, ◌↔◌, ⊤, length, IsOk};
+ghost use Rattle.constriction_backends.specs.Cursor.{buf_of, pos_of, state_of, TurnsRound, WritesBackTo};
 ghost use Rattle.constriction_backends.specs.CursorState.{reversal};
 ghost use Rattle.constriction_backends.specs.CursorLaws.{Overwrites-told, Overwrites-counts};
 
@@ -16,9 +16,7 @@ impl<Word, Buf: SafeBufMut<Word>> Cursor<Word, Buf> {
     /// reads, inside `Reverse`, the same words in the same orders, and overwrites the same ones.
     /// One pass over the words.
     pub fn into_reversed(self) -> Reverse<Self>
-        ensures buf { buf_of result.0 ≡ Buf.with_words (buf_of self) (reverse (Buf.words_of (buf_of self))) }
-        ensures pos { pos_of result.0 ≡ length (Buf.words_of (buf_of self)) - pos_of self }
-        ensures state { state_of result.0 ≡ reversal (state_of self) }
+        ensures { TurnsRound Buf.with_words self result.0 }
     {
         Reverse(turned(self))
     }
@@ -28,9 +26,7 @@ impl<Word, Buf: SafeBufMut<Word>> Reverse<Cursor<Word, Buf>> {
     /// Takes [`Cursor::into_reversed`] back: turned round twice, a cursor is as it was. One pass
     /// over the words.
     pub fn into_reversed(self) -> Cursor<Word, Buf>
-        ensures buf { buf_of result ≡ Buf.with_words (buf_of self.0) (reverse (Buf.words_of (buf_of self.0))) }
-        ensures pos { pos_of result ≡ length (Buf.words_of (buf_of self.0)) - pos_of self.0 }
-        ensures state { state_of result ≡ reversal (state_of self.0) }
+        ensures { TurnsRound Buf.with_words self.0 result }
     {
         turned(self.0)
     }
@@ -38,9 +34,7 @@ impl<Word, Buf: SafeBufMut<Word>> Reverse<Cursor<Word, Buf>> {
 
 /// Reverses the words in place, and moves the position to the same cut.
 fn turned<Word, Buf: SafeBufMut<Word>>(mut cursor: Cursor<Word, Buf>) -> Cursor<Word, Buf>
-    ensures buf { buf_of result ≡ Buf.with_words (buf_of cursor) (reverse (Buf.words_of (buf_of cursor))) }
-    ensures pos { pos_of result ≡ length (Buf.words_of (buf_of cursor)) - pos_of cursor }
-    ensures state { state_of result ≡ reversal (state_of cursor) }
+    ensures { TurnsRound Buf.with_words cursor result }
 {
     let words = cursor.buf.words_mut();
     words.reverse();

@@ -1,10 +1,9 @@
 //! What follows from the steps of a cursor.
 
-ghost use Rattle.std.specs.Prelude.{◌≡◌};
-ghost use Rattle.constriction_backends.specs.CursorRuns.{ReversalTwice, ReversalReads, CursorSeeksBack, ExtendingOverwrites};
+ghost use Rattle.constriction_backends.specs.CursorRuns.{ReversalTwice, ReversalReads, TurnedTwice};
+ghost use Rattle.constriction_backends.specs.CursorRuns.{CursorSeeksBack, SeekStays, ExtendingOverwrites};
 
 use crate::buf::{SafeBuf, SafeBufMut};
-use crate::cursor::Cursor;
 
 /// The reversal of the reversal of a cursor's state is that state.
 pub fn reversal_twice<Word>()
@@ -17,12 +16,16 @@ pub fn reversal_reads<Word, ReadError>()
     ensures { ReversalReads Word ReadError }
 {}
 
-/// Turns a cursor round and back. It is as it was: the same buffer, at the same position.
-pub fn turned_twice<Word, Buf: SafeBufMut<Word>>(cursor: Cursor<Word, Buf>) -> Cursor<Word, Buf>
-    ensures { result ≡ cursor }
-{
-    cursor.into_reversed().into_reversed()
-}
+/// A cursor that is turned round and back, as by both `into_reversed`, is as it was: the same
+/// buffer, at the same position.
+pub fn turned_twice<Word, Buf: SafeBufMut<Word>>()
+    ensures { TurnedTwice Word Buf Buf.SafeBuf Buf.with_words }
+{}
+
+/// A seek to the position where a cursor stands succeeds, and leaves the cursor as it was.
+pub fn seek_stays<Word, Buf: SafeBuf<Word>>()
+    ensures { SeekStays Word Buf Buf.SafeBuf }
+{}
 
 /// A position that was taken from a cursor is sought back, as long as there are as many words as
 /// there were then. No call of a cursor changes their number, as its clause says of the buffer.

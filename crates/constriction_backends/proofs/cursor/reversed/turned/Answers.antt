@@ -1,9 +1,9 @@
-use Rattle.std.proofs.Common.{ap, ◌∙◌, ◌≡◌, length, reverse}
+use Rattle.std.proofs.Common.{refl, ap, ◌∙◌, ◌≡◌, length, reverse}
 use Rattle.constriction_backends.proofs.Turning.{state-turned}
 use Rattle.constriction_backends.proofs.cursor.reversed.turned.Goals as goal
 
-pub returns-clause-state : goal.returns-clause-state
-returns-clause-state g c =
+pub returns : goal.returns
+returns g c =
     let words = g.Buf.SafeBuf.words_of c.args.cursor.buf in
     let new = c.reverse.new.self in
     let lent : c.words_mut-words.result.now ≡ words = c.words_mut-words.ensures.value in
@@ -11,4 +11,8 @@ returns-clause-state g c =
     let same : length new ≡ length words = c.reverse.ensures.len ∙ ap length lent in
     let made = g.Buf.SafeBuf.words_of (g.Buf.SafeBufMut.with_words c.args.cursor.buf new) in
     let stands : made ≡ new = g.met.Buf.SafeBufMut.stand c.args.cursor.buf new same in
-    state-turned made new words c.args.cursor.pos stands turned c.args.cursor.in_range
+    record {
+      buf = ap (g.Buf.SafeBufMut.with_words c.args.cursor.buf) turned;
+      pos = rw same refl;
+      state = state-turned made new words c.args.cursor.pos stands turned c.args.cursor.in_range;
+    }
