@@ -164,13 +164,6 @@ entry_at weights i h =
     let same : i ≡ 0 + i = omega arith in
     ap (entry_of nat_eq (contiguous_rows weights)) same ∙ contiguous-at 0 0 weights i (omega (arith, length-contiguous weights))
 
-pub entry_is_there : {E : Type 0} (entry : E → ℕ × ℕ) (weights : List ℕ) (i : ℕ) (found : Option E) → i < length (contiguous_rows weights)
-    → option_map entry found ≡ entry_of nat_eq (contiguous_rows weights) i → IsSome found
-entry_is_there entry weights i None h e =
-    let none : None ≡ Some (0 + sum (take i weights), get_or weights i 0) = e ∙ entry_at weights i h in
-    absurd (none_is_some _ none)
-entry_is_there entry weights i (Some x) h e = refl
-
 -- the row of a symbol of contiguous rows
 row_at : (weights : List ℕ) (i left weight : ℕ) (d : Row ℕ) → i < length (contiguous_rows weights)
     → Some (left, weight) ≡ entry_of nat_eq (contiguous_rows weights) i
@@ -185,18 +178,39 @@ row_at weights i left weight d h entry =
     ∙ ap (λ s. record { symbol = s; left = 0 + sum (take i weights); weight = get_or weights i 0 }) symbol
     ∙ ap (λ (p : ℕ × ℕ). record { symbol = i; left = p.0; weight = p.1 }) (sym parts)
 
+-- a symbol of contiguous rows has an entry
+pub entry_is_there : (rows : List (Row ℕ)) → (weights : List ℕ) × (rows ≡ contiguous_rows weights)
+    → (i : ℕ) (found : Option (ℕ × ℕ)) → i < length rows → found ≡ entry_of nat_eq rows i → IsSome found
+entry_is_there rows are i found =
+    let P : List (Row ℕ) → Type 0 = λ rs. i < length rs → found ≡ entry_of nat_eq rs i → IsSome found in
+    subst P (sym are.1) (λ h e. some_is (found) _ (e ∙ entry_at are.0 i h))
+  where
+    some_is : (o : Option (ℕ × ℕ)) (x : ℕ × ℕ) → o ≡ Some x → IsSome o
+    some_is o x e = rw e refl
+
 -- one more line
-pub rows_more : {E : Type 0} (entry : E → ℕ × ℕ) (found : Option E) (x : E) (weights : List ℕ) (i left weight : ℕ) (text more all : List ℕ)
-    → i < length (contiguous_rows weights) → option_map entry found ≡ entry_of nat_eq (contiguous_rows weights) i → found ≡ Some x
-    → left ≡ (entry x).0 → weight ≡ (entry x).1 → more ≡ text ++ row_text (record { symbol = i; left = left; weight = weight })
-    → text ++ rows_text (drop i (contiguous_rows weights)) ≡ all → more ++ rows_text (drop (i + 1) (contiguous_rows weights)) ≡ all
-rows_more entry found x weights i left weight text more all h is_entry is_found is_left is_weight pushed before =
+more_at : (weights : List ℕ) (i left weight : ℕ) (found : Option (ℕ × ℕ)) (text more all : List ℕ)
+    → i < length (contiguous_rows weights) → found ≡ entry_of nat_eq (contiguous_rows weights) i
+    → found ≡ Some (left, weight) → more ≡ text ++ row_text (record { symbol = i; left = left; weight = weight })
+    → text ++ rows_text (drop i (contiguous_rows weights)) ≡ all
+    → more ++ rows_text (drop (i + 1) (contiguous_rows weights)) ≡ all
+more_at weights i left weight found text more all h is_entry is_found pushed before =
     let rows = contiguous_rows weights in
     let row : Row ℕ = record { symbol = i; left = left; weight = weight } in
-    let same : Some (left, weight) ≡ Some (entry x) = rw (is_left, is_weight) refl in
-    let has : Some (left, weight) ≡ entry_of nat_eq rows i = same ∙ ap (option_map entry) (sym is_found) ∙ is_entry in
+    let has : Some (left, weight) ≡ entry_of nat_eq rows i = sym is_found ∙ is_entry in
     let cut : drop i rows ≡ row ∷ drop (i + 1) rows =
     drop-cons rows i row h ∙ ap (λ r. r ∷ drop (suc i) rows) (row_at weights i left weight row h has)
     ∙ ap (λ n. row ∷ drop n rows) (sym (add-one i)) in
     ap (λ t. t ++ rows_text (drop (i + 1) rows)) pushed ∙ append_assoc text (row_text row) (rows_text (drop (i + 1) rows))
     ∙ ap (λ t. text ++ t) (sym (flat_map-cons row_text row (drop (i + 1) rows)) ∙ ap rows_text (sym cut)) ∙ before
+
+pub rows_more : (rows : List (Row ℕ)) → (weights : List ℕ) × (rows ≡ contiguous_rows weights)
+    → (i left weight : ℕ) (found : Option (ℕ × ℕ)) (text more all : List ℕ) → i < length rows
+    → found ≡ entry_of nat_eq rows i → found ≡ Some (left, weight)
+    → more ≡ text ++ row_text (record { symbol = i; left = left; weight = weight })
+    → text ++ rows_text (drop i rows) ≡ all → more ++ rows_text (drop (i + 1) rows) ≡ all
+rows_more rows are i left weight found text more all =
+    let P : List (Row ℕ) → Type 0 = λ rs. i < length rs → found ≡ entry_of nat_eq rs i → found ≡ Some (left, weight)
+    → more ≡ text ++ row_text (record { symbol = i; left = left; weight = weight })
+    → text ++ rows_text (drop i rs) ≡ all → more ++ rows_text (drop (i + 1) rs) ≡ all in
+    subst P (sym are.1) (more_at are.0 i left weight found text more all)

@@ -1,3 +1,4 @@
+pub mod Collecting
 pub mod Grammar
 pub mod Narrowing
 pub mod Parts
@@ -6,3 +7,4 @@ pub mod Reading
 pub mod Runs
 pub mod Text
 pub mod ThereAndBack
+pub mod Weights

@@ -6,8 +6,8 @@ use Rattle.constriction.specs.Stored.{weights_of}
 use Rattle.constriction_client.specs.Narrowing.{narrowed_to}
 use Rattle.constriction_client.specs.Text.{are_accepted}
 use Rattle.constriction_client.proofs.Accepting.{made_of, refused_of}
-use Rattle.constriction_client.proofs.answers.make_model.Given as given
-use Rattle.constriction_client.proofs.answers.make_model.Goals as goal
+use Rattle.constriction_client.proofs.contiguous.ContiguousCategoricalEntropyModelVecLineModel.of_weights.Given as given
+use Rattle.constriction_client.proofs.contiguous.ContiguousCategoricalEntropyModelVecLineModel.of_weights.Goals as goal
 
 -- the model is one of the weights, and they are accepted
 made : (g : given.Over) (c : goal.In-Ok g) → (are_accepted g.Word.BitArray.BITS g.row.PRECISION c.args.weights.now ≡ true)
