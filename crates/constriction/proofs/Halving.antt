@@ -2,7 +2,7 @@
 use Rattle.std.proofs.Common.{◌≡◌, ℕ, ◌+◌, ◌-◌, ◌<◌, ◌≤◌, suc, zero, List, length, get_or, arith, inl, inr}
 use Rattle.std.proofs.lemmas.Bool.{cases_lt}
 use Rattle.std.specs.List.Sorted.{IsStrictlyIncreasing}
-use Rattle.constriction.specs.Narrowing.{IsNarrowed}
+use Rattle.constriction.specs.Searching.{IsNarrowed}
 use Rattle.constriction.specs.Probe.{IsSearchable, IsLastAtMost}
 
 -- in a list that increases, whatever comes later is greater

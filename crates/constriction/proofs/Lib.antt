@@ -2,5 +2,4 @@ mod Digits
 mod EvenLemmas
 mod FillLemmas
 mod Halving
-mod Powers
 mod ProbeLemmas

@@ -2,10 +2,10 @@ pub mod Acceptance
 pub mod Evens
 pub mod Filling
 pub mod Model
-pub mod Narrowing
 pub mod Probe
 pub mod RowLemmas
 pub mod Rows
+pub mod Searching
 pub mod Stored
 pub mod StoredLemmas
 pub mod StoredRows

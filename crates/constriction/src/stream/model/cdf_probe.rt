@@ -3,33 +3,39 @@
 ghost use Rattle.std.specs.Prelude.{◌≡◌, ◌↔◌, ◌+◌, ◌<◌, ◌≤◌, ℕ, IsTrue, length, map};
 
 use crate::stream::model::probe::Probe;
-use constriction_words::BitArray;
+use constriction_words::WholeNumber;
 use std::marker::PhantomData;
 
 /// How the entries of a stored table tell their cumulatives.
 pub trait CdfEntry<Entry> {
-    type Word: BitArray;
+    /// What cumulatives are compared with.
+    type Word: Copy;
+
+    // The number of a word.
+    ghost number: { Self.Word → ℕ };
 
     // The cumulative of an entry.
     ghost cumulative: { Entry → ℕ };
 
     /// Whether the entry's cumulative is at most `q`.
     fn is_at_most(entry: &Entry, q: Self::Word) -> bool
-        ensures { IsTrue result ↔ (cumulative entry.now ≤ Self.Word.whole q) };
+        ensures { IsTrue result ↔ (cumulative entry.now ≤ number q) };
 }
 
 /// Entries that are a cumulative alone, as contiguous models store them.
 #[derive(Drop)]
 pub struct Alone;
 
-impl<P: BitArray> CdfEntry<P> for Alone {
+impl<P: WholeNumber> CdfEntry<P> for Alone {
     type Word = P;
+
+    ghost number = { P.whole };
 
     ghost cumulative = { P.whole };
 
     #[inline]
     fn is_at_most(entry: &P, q: P) -> bool {
-        *entry <= q
+        (*entry).is_at_most(q)
     }
 }
 
@@ -37,14 +43,16 @@ impl<P: BitArray> CdfEntry<P> for Alone {
 #[derive(Drop)]
 pub struct WithSymbol;
 
-impl<P: BitArray, Symbol> CdfEntry<(P, Symbol)> for WithSymbol {
+impl<P: WholeNumber, Symbol> CdfEntry<(P, Symbol)> for WithSymbol {
     type Word = P;
+
+    ghost number = { P.whole };
 
     ghost cumulative = { λ x. P.whole x.0 };
 
     #[inline]
     fn is_at_most(entry: &(P, Symbol), q: P) -> bool {
-        entry.0 <= q
+        entry.0.is_at_most(q)
     }
 }
 
@@ -73,6 +81,8 @@ impl<'c, Entry, Kind: CdfEntry<Entry>> CdfProbe<'c, Entry, Kind> {
 
 impl<'c, Entry, Kind: CdfEntry<Entry>> Probe for CdfProbe<'c, Entry, Kind> {
     type Word = Kind::Word;
+
+    ghost number = { Kind.number };
 
     ghost cumulatives = { λ p. map Kind.cumulative p.entries.now };
 

@@ -2,15 +2,16 @@
 
 ghost use Rattle.std.specs.Prelude.{◌≡◌, ◌↔◌, ◌+◌, ◌<◌, ◌≤◌, ℕ, List, IsTrue, length, slice_index};
 
-use constriction_words::BitArray;
-
 /// A list of cumulatives that is asked about one of them at a time, and counts the questions.
 ///
 /// [`row_of_quantile`](crate::stream::model::row_of_quantile) searches it. A caller's own table
 /// may be one.
 pub trait Probe {
     /// What the cumulatives are compared with.
-    type Word: BitArray;
+    type Word: Copy;
+
+    // The number of a word.
+    ghost number: { Self.Word → ℕ };
 
     // The cumulatives, in order.
     ghost cumulatives: { Self → List ℕ };
@@ -30,7 +31,7 @@ pub trait Probe {
     fn at_most(&mut self, index: usize, q: Self::Word) -> bool
         requires in_bounds { index < length (cumulatives self.old) }
         requires room { questions self.old < usize.MAX }
-        ensures answer { IsTrue result ↔ (slice_index (cumulatives self.old) index ≤ Self.Word.whole q) }
+        ensures answer { IsTrue result ↔ (slice_index (cumulatives self.old) index ≤ number q) }
         ensures same { cumulatives self.new ≡ cumulatives self.old }
         ensures counted { questions self.new ≡ questions self.old + 1 };
 }

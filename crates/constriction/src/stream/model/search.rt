@@ -1,7 +1,7 @@
 //! The search for the row of a quantile, by halving.
 
 ghost use Rattle.std.specs.Prelude.{◌≡◌, ◌+◌, ◌-◌, ◌<◌, ◌≤◌, length};
-ghost use Rattle.constriction.specs.Narrowing.{IsNarrowed};
+ghost use Rattle.constriction.specs.Searching.{IsNarrowed};
 ghost use Rattle.constriction.specs.Probe.{digits, IsSearchable, IsLastAtMost};
 
 use crate::stream::model::probe::Probe;
@@ -10,11 +10,11 @@ use crate::stream::model::probe::Probe;
 #[inline]
 #[tactic(auto, using(crate::proofs::Digits::digits_step))]
 fn halve<R: Probe>(rows: &mut R, q: R::Word, first: usize, size: usize) -> (usize, usize)
-    requires searchable { IsSearchable (R.cumulatives rows.old) (R.Word.whole q) }
+    requires searchable { IsSearchable (R.cumulatives rows.old) (R.number q) }
     requires word { length (R.cumulatives rows.old) ≤ usize.MAX }
-    requires narrowed { IsNarrowed (R.cumulatives rows.old) (R.Word.whole q) first size }
+    requires narrowed { IsNarrowed (R.cumulatives rows.old) (R.number q) first size }
     requires room { R.questions rows.old + digits (size - 1) ≤ usize.MAX }
-    ensures narrowed { IsNarrowed (R.cumulatives rows.old) (R.Word.whole q) result.0 result.1 }
+    ensures narrowed { IsNarrowed (R.cumulatives rows.old) (R.number q) result.0 result.1 }
     ensures same { R.cumulatives rows.new ≡ R.cumulatives rows.old }
     ensures counted { R.questions rows.new + digits (result.1 - 1) ≡ R.questions rows.old + digits (size - 1) }
     ensures no_more { result.1 ≤ size }
@@ -35,11 +35,11 @@ fn halve<R: Probe>(rows: &mut R, q: R::Word, first: usize, size: usize) -> (usiz
 /// depend on the answers, and not to jumps, which is several times as fast on random quantiles.
 #[inline(never)]
 fn halve_four_times<R: Probe>(rows: &mut R, q: R::Word, first: usize, size: usize) -> (usize, usize)
-    requires searchable { IsSearchable (R.cumulatives rows.old) (R.Word.whole q) }
+    requires searchable { IsSearchable (R.cumulatives rows.old) (R.number q) }
     requires word { length (R.cumulatives rows.old) ≤ usize.MAX }
-    requires narrowed { IsNarrowed (R.cumulatives rows.old) (R.Word.whole q) first size }
+    requires narrowed { IsNarrowed (R.cumulatives rows.old) (R.number q) first size }
     requires room { R.questions rows.old + digits (size - 1) ≤ usize.MAX }
-    ensures narrowed { IsNarrowed (R.cumulatives rows.old) (R.Word.whole q) result.0 result.1 }
+    ensures narrowed { IsNarrowed (R.cumulatives rows.old) (R.number q) result.0 result.1 }
     ensures same { R.cumulatives rows.new ≡ R.cumulatives rows.old }
     ensures counted { R.questions rows.new + digits (result.1 - 1) ≡ R.questions rows.old + digits (size - 1) }
     ensures fewer { 1 < size → result.1 < size }
@@ -56,9 +56,9 @@ fn halve_four_times<R: Probe>(rows: &mut R, q: R::Word, first: usize, size: usiz
 /// questions as one less than the number of rows has binary digits.
 #[tactic(auto, using(crate::proofs::Digits::digits_word, crate::proofs::Digits::digits_more, crate::proofs::Halving::narrowed_one))]
 pub fn row_of_quantile<R: Probe>(rows: &mut R, q: R::Word) -> usize
-    requires searchable { IsSearchable (R.cumulatives rows.old) (R.Word.whole q) }
+    requires searchable { IsSearchable (R.cumulatives rows.old) (R.number q) }
     requires room { R.questions rows.old ≤ usize.MAX - 64 }
-    ensures found { IsLastAtMost (R.cumulatives rows.old) (R.Word.whole q) result }
+    ensures found { IsLastAtMost (R.cumulatives rows.old) (R.number q) result }
     ensures same { R.cumulatives rows.new ≡ R.cumulatives rows.old }
     ensures few { R.questions rows.new ≤ R.questions rows.old + digits (length (R.cumulatives rows.old) - 1) }
     ensures some { 1 < length (R.cumulatives rows.old) → R.questions rows.old < R.questions rows.new }

@@ -7,48 +7,39 @@ ghost use Rattle.constriction.specs.Acceptance.{completed, IsAccepted, GaveGood,
 ghost use Rattle.constriction.specs.Stored.{lefts_from};
 
 use crate::stream::model::error::ModelError;
-use constriction_words::BitArray;
+use constriction_words::WholeNumber;
 use std::alloc::Global;
 
-/// The greatest quantile.
-pub(crate) fn greatest_quantile<P: BitArray, const PRECISION: usize>() -> P
-    requires positive { 0 < PRECISION }
-    requires fits { PRECISION ≤ P.BITS }
-    ensures value { P.whole result + 1 ≡ 2 ^ PRECISION }
-    ensures within { 2 ^ PRECISION ≤ 2 ^ P.BITS }
-{
-    P::max_value() >> (P::BITS - PRECISION) as u32
-}
-
 /// Where the quantiles end of a row that begins at `left`: none where they are the last ones.
-pub(crate) fn row_end<P: BitArray, const PRECISION: usize>(
+fn row_end<P: WholeNumber, const PRECISION: usize>(
     left: P,
     weight: P,
+    greatest: P,
 ) -> Result<Option<P>, ModelError>
-    requires positive { 0 < PRECISION }
-    requires fits { PRECISION ≤ P.BITS }
     requires below { P.whole left < 2 ^ PRECISION }
+    requires greatest { P.whole greatest + 1 ≡ 2 ^ PRECISION }
+    requires within { 2 ^ PRECISION ≤ 2 ^ P.BITS }
     ensures ok { IfOk result (IsRowEnd P.whole P.BITS PRECISION left weight) }
     ensures err { IfErr result (λ e. (e ≡ ModelError.InvalidTable)
         × ((P.whole weight ≡ 0) ⊎ (2 ^ PRECISION < P.whole left + P.whole weight))) }
 {
-    if weight.into_nonzero().is_none() {
+    if weight.is_least() {
         return Err(ModelError::InvalidTable);
     }
-    let last = weight - P::one();
-    let room = greatest_quantile::<P, PRECISION>() - left;
-    if room < last {
+    let last = weight.predecessor();
+    let room = greatest.minus(left);
+    if room.is_below(last) {
         return Err(ModelError::InvalidTable);
     }
-    if last < room {
-        Ok(Some(left + weight))
+    if last.is_below(room) {
+        Ok(Some(left.plus(weight)))
     } else {
         Ok(None)
     }
 }
 
 /// Where the rows of these weights begin, the last of which may be inferred.
-pub(crate) fn lefts_of<P: BitArray, I: IntoIterator<Item = P>, const PRECISION: usize>(
+pub(crate) fn lefts_of<P: WholeNumber, I: IntoIterator<Item = P>, const PRECISION: usize>(
     alloc: Global,
     weights: I,
     infer_last: bool,
@@ -64,13 +55,14 @@ pub(crate) fn lefts_of<P: BitArray, I: IntoIterator<Item = P>, const PRECISION: 
         × GaveBad I.IntoIter.next_gives it (λ ws.
         IsAccepted P.BITS PRECISION (completed PRECISION infer_last (map P.whole ws))) }
 {
+    let greatest = P::greatest(PRECISION);
     let mut table = Vec::new(alloc);
-    let mut end = Some(P::zero());
+    let mut end = Some(P::least());
     'rows: for weight in weights {
         let Some(left) = end else {
             return Err(ModelError::InvalidTable);
         };
-        let next = row_end::<P, PRECISION>(left, weight)?;
+        let next = row_end::<P, PRECISION>(left, weight, greatest)?;
         table.push(left)?;
         end = next;
     }
@@ -85,7 +77,7 @@ pub(crate) fn lefts_of<P: BitArray, I: IntoIterator<Item = P>, const PRECISION: 
             if !infer_last {
                 return Err(ModelError::InvalidTable);
             }
-            if greatest_quantile::<P, PRECISION>() - left == P::max_value() {
+            if greatest.minus(left).is_greatest() {
                 return Err(ModelError::InvalidTable);
             }
             table.push(left)?;

@@ -1,11 +1,11 @@
 use Rattle.std.proofs.Common.{◌-◌, ◌≡◌, ◌+◌, length}
 use Rattle.constriction.specs.Probe.{digits}
-use Rattle.constriction.specs.Narrowing.{IsNarrowed}
+use Rattle.constriction.specs.Searching.{IsNarrowed}
 use Rattle.constriction.proofs.stream.model.search.row_of_quantile.Given as goal
 
 abbrev pub invariant-rows : goal.invariant-rows
 invariant-rows g l =
-    IsNarrowed (g.R.Probe.cumulatives l.rows) (g.R.Word.BitArray.whole l.q) l.first l.size
+    IsNarrowed (g.R.Probe.cumulatives l.rows) (g.R.Probe.number l.q) l.first l.size
     × (g.R.Probe.cumulatives l.rows ≡ g.R.Probe.cumulatives l.fn.rows)
     × (g.R.Probe.questions l.rows + digits (l.size - 1) ≡ g.R.Probe.questions l.fn.rows + digits (length (g.R.Probe.cumulatives l.fn.rows) - 1))
 

@@ -7,9 +7,9 @@ use Rattle.constriction.proofs.stream.model.categorical.filling.lefts_of.Goals a
 
 pub returns-in_default-clause-invalid : goal.returns-in_default-clause-invalid
 returns-in_default-clause-invalid g c = λ _.
-    let whole = g.P.BitArray.whole in
+    let whole = g.P.WholeNumber.whole in
     let w = c.in-Some.weight in
-    let f = filled-at whole g.P.BitArray.BITS g.row.PRECISION c.rows.yielded c.rows.table.items c.rows.end
+    let f = filled-at whole g.P.WholeNumber.BITS g.row.PRECISION c.rows.yielded c.rows.table.items c.rows.end
     None (let none : c.rows.end ≡ None = search rules in none) c.rows.invariant.2 in (
       c.into_iter-weight-iterator.result,
       c.into_iter-weight-iterator.ensures.into_iter_gives,
@@ -17,15 +17,15 @@ returns-in_default-clause-invalid g c = λ _.
         _,
         _,
         yields-more g.I.IntoIter.Iterator.next_gives _ _ _ w _ c.rows.yielded_by c.in-Some.ensures.steps,
-        λ more. bad-more whole g.P.BitArray.BITS g.row.PRECISION c.args.infer_last c.rows.yielded more w (zero-or-much (whole w) _ _ f.is),
+        λ more. bad-more whole g.P.WholeNumber.BITS g.row.PRECISION c.args.infer_last c.rows.yielded more w (zero-or-much (whole w) _ _ f.is),
       ),
     )
 
 pub returns-in_err-next-clause-invalid : goal.returns-in_err-next-clause-invalid
 returns-in_err-next-clause-invalid g c = λ _.
-    let whole = g.P.BitArray.whole in
+    let whole = g.P.WholeNumber.whole in
     let w = c.in-Some.weight in
-    let f = filled-at whole g.P.BitArray.BITS g.row.PRECISION c.rows.yielded c.rows.table.items c.rows.end
+    let f = filled-at whole g.P.WholeNumber.BITS g.row.PRECISION c.rows.yielded c.rows.table.items c.rows.end
     (Some c.in-Some-end.left) c.in-Some-end.is c.rows.invariant.2 in (
       c.into_iter-weight-iterator.result,
       c.into_iter-weight-iterator.ensures.into_iter_gives,
@@ -33,42 +33,41 @@ returns-in_err-next-clause-invalid g c = λ _.
         _,
         _,
         yields-more g.I.IntoIter.Iterator.next_gives _ _ _ w _ c.rows.yielded_by c.in-Some.ensures.steps,
-        λ more. bad-more whole g.P.BitArray.BITS g.row.PRECISION c.args.infer_last c.rows.yielded more w
+        λ more. bad-more whole g.P.WholeNumber.BITS g.row.PRECISION c.args.infer_last c.rows.yielded more w
             (rw (← f.is) c.in_err-next.ensures.err.1),
       ),
     )
 
 pub rows-preserved : goal.rows-preserved
 rows-preserved g c =
-    let whole = g.P.BitArray.whole in
-    let f = filled-at whole g.P.BitArray.BITS g.row.PRECISION c.rows.yielded c.rows.table.items c.rows.end
+    let whole = g.P.WholeNumber.whole in
+    let f = filled-at whole g.P.WholeNumber.BITS g.row.PRECISION c.rows.yielded c.rows.table.items c.rows.end
     (Some c.in-Some-end.left) c.in-Some-end.is c.rows.invariant.2 in
     let next = c.in-Some.ensures.goes.on c.rows.invariant.1 in (
       next.0,
       next.1,
       rw c.in_ok-push.ensures.items
-          (filled-more whole g.P.BitArray.BITS g.row.PRECISION c.rows.yielded c.rows.table.items c.in-Some-end.left c.in-Some.weight c.in_ok-next.next f c.in_ok-next.ensures.ok),
+          (filled-more whole g.P.WholeNumber.BITS g.row.PRECISION c.rows.yielded c.rows.table.items c.in-Some-end.left c.in-Some.weight c.in_ok-next.next f c.in_ok-next.ensures.ok),
     )
 
 pub returns-then-infer_last-clause-invalid : goal.returns-then-infer_last-clause-invalid
 returns-then-infer_last-clause-invalid g c = λ _.
-    let whole = g.P.BitArray.whole in
-    let f = filled-at whole g.P.BitArray.BITS g.row.PRECISION c.rows.yielded c.rows.table.items c.rows.end
+    let whole = g.P.WholeNumber.whole in
+    let f = filled-at whole g.P.WholeNumber.BITS g.row.PRECISION c.rows.yielded c.rows.table.items c.rows.end
     None c.in-None-end.is c.rows.invariant.2 in (
       c.into_iter-weight-iterator.result,
       c.into_iter-weight-iterator.ensures.into_iter_gives,
       inl (
         c.rows.yielded,
         (_, (_, c.rows.yielded_by, c.in-None.ensures.steps)),
-        rw c.if-infer_last.true (bad-full whole g.P.BitArray.BITS g.row.PRECISION c.rows.yielded c.rows.table.items f),
+        rw c.if-infer_last.true (bad-full whole g.P.WholeNumber.BITS g.row.PRECISION c.rows.yielded c.rows.table.items f),
       ),
     )
 
-pub returns-then-eq-clause-invalid : goal.returns-then-eq-clause-invalid
-returns-then-eq-clause-invalid g c = λ _.
-    let P = g.met.P.BitArray in
-    let whole = g.P.BitArray.whole in
-    let f = filled-at whole g.P.BitArray.BITS g.row.PRECISION c.rows.yielded c.rows.table.items c.rows.end
+pub returns-then-is_greatest-clause-invalid : goal.returns-then-is_greatest-clause-invalid
+returns-then-is_greatest-clause-invalid g c = λ _.
+    let whole = g.P.WholeNumber.whole in
+    let f = filled-at whole g.P.WholeNumber.BITS g.row.PRECISION c.rows.yielded c.rows.table.items c.rows.end
     (Some c.in-Some-end-2.left) c.in-Some-end-2.is c.rows.invariant.2 in (
       c.into_iter-weight-iterator.result,
       c.into_iter-weight-iterator.ensures.into_iter_gives,
@@ -76,20 +75,16 @@ returns-then-eq-clause-invalid g c = λ _.
         c.rows.yielded,
         (_, (_, c.rows.yielded_by, c.in-None.ensures.steps)),
         let infer : c.args.infer_last ≡ true = search rules in
-            rw infer (bad-wide whole g.P.BitArray.BITS g.row.PRECISION c.rows.yielded c.rows.table.items c.in-Some-end-2.left f
-            (let top : whole c.max_value.result ≡ 2 ^ g.P.BitArray.BITS - 1 = ap whole c.max_value.ensures.own ∙ P.highest_law in
-            let same : whole c.sub.result ≡ whole c.max_value.result =
-            (P.eq_law _ _).0 (let is : IsTrue (g.P.PartialEq.eq c.sub.result c.max_value.result) = search rules in
-            is) in
-            omega (arith, P.sub_law _ _ _ c.sub.ensures, c.greatest_quantile.ensures.value, f.below, pow_pos g.P.BitArray.BITS))),
+            rw infer (bad-wide whole g.P.WholeNumber.BITS g.row.PRECISION c.rows.yielded c.rows.table.items c.in-Some-end-2.left f
+            (let last : whole c.minus.result + 1 ≡ 2 ^ g.P.WholeNumber.BITS = search rules in
+            omega (arith, c.minus.ensures, c.greatest-greatest.ensures.value, f.below, pow_pos g.P.WholeNumber.BITS))),
       ),
     )
 
 pub returns-in_ok-push-in-Some-end-2-clause-ok : goal.returns-in_ok-push-in-Some-end-2-clause-ok
 returns-in_ok-push-in-Some-end-2-clause-ok g c =
-    let P = g.met.P.BitArray in
-    let whole = g.P.BitArray.whole in
-    let f = filled-at whole g.P.BitArray.BITS g.row.PRECISION c.rows.yielded c.rows.table.items c.rows.end
+    let whole = g.P.WholeNumber.whole in
+    let f = filled-at whole g.P.WholeNumber.BITS g.row.PRECISION c.rows.yielded c.rows.table.items c.rows.end
     (Some c.in-Some-end-2.left) c.in-Some-end-2.is c.rows.invariant.2 in (
       c.into_iter-weight-iterator.result,
       c.into_iter-weight-iterator.ensures.into_iter_gives,
@@ -98,14 +93,12 @@ returns-in_ok-push-in-Some-end-2-clause-ok g c =
         (_, (_, c.rows.yielded_by, c.in-None.ensures.steps)),
         let infer : c.args.infer_last ≡ true = search rules in
             rw (infer, c.in_ok-push-in-Some-end-2.ensures.items)
-            (good-inferred whole g.P.BitArray.BITS g.row.PRECISION c.rows.yielded c.rows.table.items c.in-Some-end-2.left f
-            (let top : whole c.max_value.result ≡ 2 ^ g.P.BitArray.BITS - 1 = ap whole c.max_value.ensures.own ∙ P.highest_law in
-            elim (cases_lt (2 ^ g.row.PRECISION) (2 ^ g.P.BitArray.BITS + whole c.in-Some-end-2.left)) [
+            (good-inferred whole g.P.WholeNumber.BITS g.row.PRECISION c.rows.yielded c.rows.table.items c.in-Some-end-2.left f
+            (elim (cases_lt (2 ^ g.row.PRECISION) (2 ^ g.P.WholeNumber.BITS + whole c.in-Some-end-2.left)) [
               | inl narrow ↦ narrow
               | inr wide ↦
-                  let same : whole c.sub.result ≡ whole c.max_value.result =
-                  omega (arith, P.sub_law _ _ _ c.sub.ensures, c.greatest_quantile.ensures.value, c.greatest_quantile.ensures.within, f.below, pow_pos g.P.BitArray.BITS) in
-                  let is : IsTrue (g.P.PartialEq.eq c.sub.result c.max_value.result) = (P.eq_law _ _).1 same in
+                  let last : whole c.minus.result + 1 ≡ 2 ^ g.P.WholeNumber.BITS =
+                  omega (arith, c.minus.ensures, c.greatest-greatest.ensures.value, c.greatest-greatest.ensures.within, f.below, pow_pos g.P.WholeNumber.BITS) in
                   absurd (search (rules, tests))
             ])),
       ),

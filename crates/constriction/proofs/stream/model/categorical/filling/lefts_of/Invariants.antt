@@ -5,4 +5,4 @@ abbrev pub invariant-rows : goal.invariant-rows
 invariant-rows g l =
     (goal.iterator-rows g).can_next l.weight-iterator ×
     (goal.iterator-rows g).is_finite l.weight-iterator ×
-    IsFilled g.P.BitArray.whole g.P.BitArray.BITS g.row.PRECISION l.yielded l.table.items l.end
+    IsFilled g.P.WholeNumber.whole g.P.WholeNumber.BITS g.row.PRECISION l.yielded l.table.items l.end
