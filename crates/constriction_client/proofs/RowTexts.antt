@@ -67,11 +67,13 @@ find_row bits precision rows q r tile is =
     let weights = map (λ (x : Row ℕ). x.weight) rows in
     let k = is.among.0 in
     let within : k < length (rows_from 0 symbols weights) = subst (λ (xs : List (Row ℕ)). k < length xs) tile.in_order is.among.1 in
-    let here : get_or (rows_from 0 symbols weights) k r ≡ r = subst (λ (xs : List (Row ℕ)). get_or xs k r ≡ r) tile.in_order is.among.2 in
+    let here : get_or (rows_from 0 symbols weights) k r ≡ r = subst (λ (xs : List (Row ℕ)). get_or xs k r ≡ r)
+        tile.in_order is.among.2 in
     subst (λ (xs : List (Row ℕ)). find (holds q) xs ≡ Some r) (sym tile.in_order)
     (find_at 0 symbols weights q r k within here is.from is.to)
 
-holds_from : (q : ℕ) (r : Row ℕ) (a b : Bool) → nat_le r.left q ≡ a → nat_lt q (r.left + r.weight) ≡ b → (a && b) ≡ true → r.left ≤ q
+holds_from : (q : ℕ) (r : Row ℕ) (a b : Bool) → nat_le r.left q ≡ a → nat_lt q (r.left + r.weight) ≡ b
+    → (a && b) ≡ true → r.left ≤ q
 holds_from q r true b e f t = leb-true r.left q e
 holds_from q r false b e f t = absurd (cc)
 
@@ -104,7 +106,8 @@ pub find_iff : (bits precision : ℕ) (rows : List (Row ℕ)) (q : ℕ) (r : Row
 find_iff bits precision rows q r tile = (found_in q rows r, find_row bits precision rows q r tile)
 
 -- one row holds a quantile that the weights reach
-find_some : (left : ℕ) (symbols weights : List ℕ) (q : ℕ) → length symbols ≡ length weights → left ≤ q → q < left + sum weights
+find_some : (left : ℕ) (symbols weights : List ℕ) (q : ℕ) → length symbols ≡ length weights → left ≤ q
+    → q < left + sum weights
     → IsSome (find (holds q) (rows_from left symbols weights))
 find_some left [] [] q e from to = absurd (omega arith)
 find_some left [] (w ∷ ws) q e from to = absurd (omega arith)

@@ -47,7 +47,7 @@ module _ {Symbol Word Source Error : Type 0} (precision : ℕ) (rows : List (Row
     told = λ upcoming h. (upcoming, refl, h);
   }
 
-  -- a source that told the words before still tells those behind one more
+  -- a source that told the words before still tells those after one more
   told-more : (s : Source) (words : List Word) (j : Source) (word : Word) (t : Source)
       → gives j (Ok (Some word)) t
       → ((upcoming : List Word) → tells s upcoming

@@ -25,7 +25,8 @@ written_more a b c at count bytes before turn =
     ∙ sym (take-add at count bytes)) (Appends-trans a b c _ _ before turn)
 
 -- a turn that took none
-pub stopped_at : (a b c : Option (List ℕ)) (at : ℕ) (bytes : List ℕ) → Appends a b (take at bytes) → Keeps b c → WritesBeginning a c bytes
+pub stopped_at : (a b c : Option (List ℕ)) (at : ℕ) (bytes : List ℕ) → Appends a b (take at bytes) → Keeps b c
+    → WritesBeginning a c bytes
 stopped_at a b c at bytes before kept =
     (take at bytes, drop at bytes, take-append-drop at bytes, Appends-kept a b c (take at bytes) before kept)
 
@@ -43,11 +44,13 @@ stopped_empty a b c at bytes before turn = (
 lines_more : (first : List (List ℕ)) (line input rest after : List ℕ) → first ++ lines_of rest ≡ lines_of input
     → lines_of rest ≡ line ∷ lines_of after
     → (first ++ line ∷ []) ++ lines_of after ≡ lines_of input
-lines_more first line input rest after all cut = append_assoc first (line ∷ []) (lines_of after) ∙ ap (λ ls. first ++ ls) (sym cut) ∙ all
+lines_more first line input rest after all cut = append_assoc first (line ∷ []) (lines_of after)
+    ∙ ap (λ ls. first ++ ls) (sym cut) ∙ all
 
 -- the answers so far, and one more
 answers_more : (first : List (List ℕ)) (line : List ℕ) → answers_of (first ++ line ∷ []) ≡ answers_of first ++ answer_to line
-answers_more first line = flat_map-append answer_to first (line ∷ []) ∙ ap (λ text. answers_of first ++ text) (append-nil (answer_to line))
+answers_more first line = flat_map-append answer_to first (line ∷ [])
+    ∙ ap (λ text. answers_of first ++ text) (append-nil (answer_to line))
 
 -- What was answered so far: the lines before the rest were. Some first answers were written, and the text has the others.
 pub record Answered (old new : Option (List ℕ)) (input rest text : List ℕ) : Type 0 where
@@ -124,7 +127,8 @@ answered-stopped a b c input rest text so_far turn =
 
 -- the whole answers stand first in a text that has a part of one more
 pub answered-kept : (a b c : Option (List ℕ)) (input rest text more bytes : List ℕ) (n : ℕ) → Answered a b input rest text
-    → StartsWith more text → n ≡ length text → bytes ≡ more → WritesBeginning b c (take n bytes) → WritesBeginning a c (text_of input)
+    → StartsWith more text → n ≡ length text → bytes ≡ more → WritesBeginning b c (take n bytes)
+        → WritesBeginning a c (text_of input)
 answered-kept a b c input rest text more bytes n so_far kept all is turn =
     answered-stopped a b c input rest text so_far
     (subst (WritesBeginning b c) (ap (take n) is ∙ kept-first text more n all kept) turn)

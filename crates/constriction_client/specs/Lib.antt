@@ -1,6 +1,6 @@
 pub mod Collecting
 pub mod Grammar
-pub mod Narrowing
+pub mod NumberWords
 pub mod Parts
 pub mod Quantiles
 pub mod Reading

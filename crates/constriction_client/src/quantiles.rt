@@ -108,7 +108,7 @@ fn pair_of<M: DecoderModel<PRECISION>, const PRECISION: usize>(
 ///
 /// It stops at the first item that is refused, with `Frontend` where the item has no quantile and
 /// with `Backend` where the sink refuses it. The words of the items before it stay written, and
-/// those behind it are not looked at. One pass over the items, and one write for each.
+/// those after it are not looked at. One pass over the items, and one write for each.
 pub fn write_quantiles<M, W, const PRECISION: usize>(
     model: &M,
     items: &[(M::Symbol, M::Probability)],
@@ -139,12 +139,12 @@ where
 }
 
 /// Reads up to `count` words, and adds the pair of each to `out`: the symbol of the word's row and
-/// the offset, which is how far the word lies behind the left cumulative of that row.
+/// the offset, which is how far the word lies after the left cumulative of that row.
 ///
 /// The answer is the number of pairs that were added. It is below `count` only where the source
 /// ended, which is no fault. `Frontend` is answered at a word that is no quantile, and where memory
 /// for a pair is refused: that word has been read. `Backend` is answered where a read fails. In
-/// each case `out` keeps its pairs and those of the words before, and reading may go on behind the
+/// each case `out` keeps its pairs and those of the words before, and reading may go on after the
 /// fault. One look-up for each word; memory for the symbols and for `out` alone.
 pub fn read_symbols<S: Semantics, M, R, const PRECISION: usize>(
     model: &M,

@@ -9,7 +9,8 @@ loop-rest-init g c = answered-none _ c.args.input.now _ c.new-text.ensures.bytes
 pub loop-rest-preserved : goal.loop-rest-preserved
 loop-rest-preserved g c =
     answered-written _ _ _ c.args.input.now _ _ _
-    (answered-more _ _ c.first_line.result.0.now c.args.input.now _ c.first_line.result.1.now _ _ c.loop-rest.invariant c.first_line.ensures.lines c.in-Ok.ensures.added)
+    (answered-more _ _ c.first_line.result.0.now c.args.input.now _ c.first_line.result.1.now _ _
+        c.loop-rest.invariant c.first_line.ensures.lines c.in-Ok.ensures.added)
     c.in_ok-write_many.ensures.ok
 
 pub returns-in-Err-clause-out_of_memory : goal.returns-in-Err-clause-out_of_memory
@@ -25,7 +26,8 @@ returns-in-Err-clause-write g c = λ e.
 pub returns-in_err-write_many-clause-write : goal.returns-in_err-write_many-clause-write
 returns-in_err-write_many-clause-write g c = λ e.
     answered-stopped _ _ _ c.args.input.now _ _
-    (answered-more _ _ c.first_line.result.0.now c.args.input.now _ c.first_line.result.1.now _ _ c.loop-rest.invariant c.first_line.ensures.lines c.in-Ok.ensures.added)
+    (answered-more _ _ c.first_line.result.0.now c.args.input.now _ c.first_line.result.1.now _ _
+        c.loop-rest.invariant c.first_line.ensures.lines c.in-Ok.ensures.added)
     c.in_err-write_many.ensures.err
 
 pub returns-clause-ok : goal.returns-clause-ok
