@@ -1,4 +1,5 @@
-use Rattle.constriction_client.proofs.WordReading.{read-none, read-more, read-to-end, read-fault, read-failed}
+use Rattle.std.proofs.Common.{arith}
+use Rattle.constriction_client.proofs.WordReading.{read-counted, read-none, read-more, read-to-end, read-fault, read-failed}
 use Rattle.constriction_client.proofs.quantiles.read_symbols.Goals as goal
 
 pub loop-done-init : goal.loop-done-init
@@ -47,3 +48,42 @@ loop-done-preserved g c = record {
       (rw c.in-Ok-Some.field-0-is at c.in-Ok-Some.ensures.gives) c.in-Ok.ensures.in_range c.in-Ok.ensures.ok
       c.in-Ok-push.ensures.items;
 }
+
+pub returns-in-Ok-None-clause-counted : goal.returns-in-Ok-None-clause-counted
+returns-in-Ok-None-clause-counted g c =
+    read-counted g.row.PRECISION (g.M.EntropyModel.rows c.args.model.now) g.M.Probability.BitArray.whole
+    g.R.ReadWords.read_gives g.R.ReadWords.tells_upcoming g.met.R.ReadWords.reads_told
+    _ _ c.loop-done.done _ _ c.loop-done.invariant.so_far
+
+pub returns-in-Ok-None-clause-at_most : goal.returns-in-Ok-None-clause-at_most
+returns-in-Ok-None-clause-at_most g c = omega (arith, c.loop-done-test.true)
+
+pub returns-in-Ok-None-clause-goes_on : goal.returns-in-Ok-None-clause-goes_on
+returns-in-Ok-None-clause-goes_on g c = c.read.ensures.goes_on
+
+pub returns-in-Err-clause-counted : goal.returns-in-Err-clause-counted
+returns-in-Err-clause-counted g c = tt
+
+pub returns-in-Err-clause-at_most : goal.returns-in-Err-clause-at_most
+returns-in-Err-clause-at_most g c = tt
+
+pub returns-in-Err-clause-goes_on : goal.returns-in-Err-clause-goes_on
+returns-in-Err-clause-goes_on g c = c.read.ensures.goes_on
+
+pub returns-in-Err-pair_of-clause-counted : goal.returns-in-Err-pair_of-clause-counted
+returns-in-Err-pair_of-clause-counted g c = tt
+
+pub returns-in-Err-pair_of-clause-at_most : goal.returns-in-Err-pair_of-clause-at_most
+returns-in-Err-pair_of-clause-at_most g c = tt
+
+pub returns-in-Err-pair_of-clause-goes_on : goal.returns-in-Err-pair_of-clause-goes_on
+returns-in-Err-pair_of-clause-goes_on g c = c.read.ensures.goes_on
+
+pub returns-in-Err-push-clause-counted : goal.returns-in-Err-push-clause-counted
+returns-in-Err-push-clause-counted g c = tt
+
+pub returns-in-Err-push-clause-at_most : goal.returns-in-Err-push-clause-at_most
+returns-in-Err-push-clause-at_most g c = tt
+
+pub returns-in-Err-push-clause-goes_on : goal.returns-in-Err-push-clause-goes_on
+returns-in-Err-push-clause-goes_on g c = c.read.ensures.goes_on
