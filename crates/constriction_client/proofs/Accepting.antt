@@ -10,7 +10,7 @@ use Rattle.std.proofs.lemmas.List.{map-append}
 use Rattle.std.proofs.lemmas.List.Elements.{All-head, All-tail, All-drop}
 use Rattle.std.proofs.lemmas.List.Sums.{AllPass-from_list_all, list_all-from_AllPass}
 use Rattle.constriction.specs.Acceptance.{IsAccepted, GaveGood, GaveBad}
-use Rattle.constriction_client.specs.Narrowing.{narrowed_to}
+use Rattle.constriction_client.specs.NumberWords.{narrowed_to}
 use Rattle.constriction_client.specs.Text.{are_accepted}
 
 -- ---- the test and what it tests
@@ -63,7 +63,8 @@ narrowed_same bits precision number le below =
     ap (λ b. cond b number 0) (lt-ltb number (2 ^ bits) (omega arith))
 
 -- narrowed weights of which none is 0 are the weights
-all_positive : (bits : ℕ) (weights : List ℕ) → All (λ w. 0 < w) (map (narrowed_to bits) weights) → map (narrowed_to bits) weights ≡ weights
+all_positive : (bits : ℕ) (weights : List ℕ) → All (λ w. 0 < w) (map (narrowed_to bits) weights)
+    → map (narrowed_to bits) weights ≡ weights
 all_positive bits [] h = refl
 all_positive bits (w ∷ ws) h =
     let first = All-head (λ w. 0 < w) (narrowed_to bits w) (map (narrowed_to bits) ws) h in
@@ -83,7 +84,8 @@ not_true true h = absurd (h refl)
 not_true false h = refl
 
 -- words that stand for numbers
-words_for : {Word : Type 0} (whole : Word → ℕ) (word_of : ℕ → Word) (bits : ℕ) → ((n : ℕ) → n < 2 ^ bits → whole (word_of n) ≡ n)
+words_for : {Word : Type 0} (whole : Word → ℕ) (word_of : ℕ → Word) (bits : ℕ)
+    → ((n : ℕ) → n < 2 ^ bits → whole (word_of n) ≡ n)
     → (numbers : List ℕ) → All (λ n. n < 2 ^ bits) numbers → map whole (map word_of numbers) ≡ numbers
 words_for whole word_of bits law [] h = refl
 words_for whole word_of bits law (n ∷ ns) h =
@@ -92,7 +94,8 @@ words_for whole word_of bits law (n ∷ ns) h =
 
 -- ---- what an iterator of narrowed weights gave
 
-module _ {S Word : Type 0} (steps : S → Option Word → S → Type 0) (it : S) (whole : Word → ℕ) (bits precision : ℕ) (weights : List ℕ) where
+module _ {S Word : Type 0} (steps : S → Option Word → S → Type 0) (it : S) (whole : Word → ℕ) (bits precision : ℕ)
+    (weights : List ℕ) where
   -- all of it is the narrowed weights
   given_all : (xs : List Word) → YieldsList steps whole it (map (narrowed_to bits) weights) → Drains steps it xs
       → map whole xs ≡ map (narrowed_to bits) weights

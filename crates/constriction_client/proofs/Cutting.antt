@@ -47,12 +47,14 @@ before_others (byte ∷ bytes) (next ∷ parts) some = refl
 pub lines_of-cut : (bytes line rest : List ℕ) → slice_split (λ b. eqb b 10) bytes ≡ line ∷ slice_split (λ b. eqb b 10) rest
     → lines_of bytes ≡ line ∷ lines_of rest
 lines_of-cut bytes line rest e =
-    ap without_last_empty e ∙ before_others line (slice_split (λ b. eqb b 10) rest) (omega (arith, length-slice_split (λ b. eqb b 10) rest))
+    ap without_last_empty e ∙ before_others line (slice_split (λ b. eqb b 10) rest)
+        (omega (arith, length-slice_split (λ b. eqb b 10) rest))
 
 last_line : (line : List ℕ) → 0 < length line → without_last_empty (line ∷ []) ≡ line ∷ []
 last_line [] some = absurd (omega arith)
 last_line (byte ∷ bytes) some = refl
 
 -- where none stands, the bytes are a line
-pub lines_of-last : (bytes line : List ℕ) → slice_split (λ b. eqb b 10) bytes ≡ line ∷ [] → 0 < length line → lines_of bytes ≡ line ∷ []
+pub lines_of-last : (bytes line : List ℕ) → slice_split (λ b. eqb b 10) bytes ≡ line ∷ [] → 0 < length line
+    → lines_of bytes ≡ line ∷ []
 lines_of-last bytes line e some = ap without_last_empty e ∙ last_line line some

@@ -52,7 +52,8 @@ neither true b e = absurd (cc)
 neither false b e = (refl, e)
 
 -- the parts of a chain that found something
-bind_some : {A B : Type 0} (o : Option A) (f : A → Option B) (y : B) → (o >>= f) ≡ Some y → (x : A) × (o ≡ Some x) × (f x ≡ Some y)
+bind_some : {A B : Type 0} (o : Option A) (f : A → Option B) (y : B) → (o >>= f) ≡ Some y
+    → (x : A) × (o ≡ Some x) × (f x ≡ Some y)
 bind_some None f y e = absurd (cc)
 bind_some (Some x) f y e = (x, refl, e)
 
@@ -207,7 +208,8 @@ words_read : (request : Request) (words : List (List ℕ)) → AllZip IsNumber w
 unfolding read_words
 words_read request words h = rw (form_read (form_of request), numbers_read words (numbers_of request) h) (request_read request)
 
-words_spelled : (words : List (List ℕ)) (request : Request) → read_words words ≡ Some request → Spells (join_with_byte 32 words) request
+words_spelled : (words : List (List ℕ)) (request : Request) → read_words words ≡ Some request
+    → Spells (join_with_byte 32 words) request
 unfolding read_words
 words_spelled [] request e = absurd (none_is_none _ e)
 words_spelled (key ∷ []) request e = absurd (none_is_none _ e)
@@ -239,13 +241,15 @@ line_read line request h =
     ap read_words words ∙ words_read request h.0 h.1
 
 -- what a parser found, in either case
-pub line_found : {E : Type 0} (line : List ℕ) (r : Result (Option Command) E) → IfOk r (λ found. option_map view found ≡ read_line line)
+pub line_found : {E : Type 0} (line : List ℕ) (r : Result (Option Command) E)
+    → IfOk r (λ found. option_map view found ≡ read_line line)
     → IfOk r (λ found. IfSome found (λ command. Spells line (view command)))
 line_found line (Ok None) h = tt
 line_found line (Ok (Some command)) h = line_spelled line (view command) (sym h)
 line_found line (Err e) h = tt
 
-pub line_none : {E : Type 0} (line : List ℕ) (r : Result (Option Command) E) → IfOk r (λ found. option_map view found ≡ read_line line)
+pub line_none : {E : Type 0} (line : List ℕ) (r : Result (Option Command) E)
+    → IfOk r (λ found. option_map view found ≡ read_line line)
     → IfOk r (λ found. IfNone found ((request : Request) → Spells line request → ⊥))
 line_none line (Ok None) h = λ request s. none_is_none request (h ∙ line_read line request s)
 line_none line (Ok (Some command)) h = tt

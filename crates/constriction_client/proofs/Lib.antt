@@ -2,6 +2,7 @@ mod Accepting
 mod Cutting
 mod EntryRows
 mod Exactly
+mod Growing
 mod ItemWriting
 mod Numbers
 mod Returning

@@ -61,10 +61,10 @@ reads-back-reversed Symbol Word eq whole bits precision rows items pairs words t
     (AllZip-reverse (λ item word. IsQuantileOf (entry_of eq rows) whole item (whole word)) items words h) k
 
 -- a list whose first part is as long as the whole has nothing more
-nothing-behind : {X : Type 0} (all first rest : List X) → all ≡ first ++ rest → length all ≤ length first
+nothing-after : {X : Type 0} (all first rest : List X) → all ≡ first ++ rest → length all ≤ length first
     → rest ≡ []
-nothing-behind all first [] e h = refl
-nothing-behind all first (r ∷ rs) e h = absurd (omega (arith, ap length e, length-append first (r ∷ rs)))
+nothing-after all first [] e h = refl
+nothing-after all first (r ∷ rs) e h = absurd (omega (arith, ap length e, length-append first (r ∷ rs)))
 
 module _ {Symbol Word : Type 0} (eq : Symbol → Symbol → Bool) (whole : Word
     → ℕ) (bits precision : ℕ) (rows : List (Row Symbol)) where
@@ -80,7 +80,7 @@ module _ {Symbol Word : Type 0} (eq : Symbol → Symbol → Bool) (whole : Word
       let long_written : length written ≡ length items =
       AllZip-long (λ item word. IsQuantileOf (entry_of eq rows) whole item (whole word)) items written quantiles in
       let ended : rest ≡ [] = elim ends [
-        | inl all ↦ nothing-behind (reverse written) words rest split (omega (arith, length-reverse written))
+        | inl all ↦ nothing-after (reverse written) words rest split (omega (arith, length-reverse written))
         | inr fewer ↦ none fewer
       ] in
       let whole_list : words ≡ reverse written = sym (split ∙ ap (λ ws. words ++ ws) ended ∙ append-nil words) in

@@ -67,11 +67,13 @@ find_row bits precision rows q r tile is =
     let weights = map (λ (x : Row ℕ). x.weight) rows in
     let k = is.among.0 in
     let within : k < length (rows_from 0 symbols weights) = subst (λ (xs : List (Row ℕ)). k < length xs) tile.in_order is.among.1 in
-    let here : get_or (rows_from 0 symbols weights) k r ≡ r = subst (λ (xs : List (Row ℕ)). get_or xs k r ≡ r) tile.in_order is.among.2 in
+    let here : get_or (rows_from 0 symbols weights) k r ≡ r = subst (λ (xs : List (Row ℕ)). get_or xs k r ≡ r)
+        tile.in_order is.among.2 in
     subst (λ (xs : List (Row ℕ)). find (holds q) xs ≡ Some r) (sym tile.in_order)
     (find_at 0 symbols weights q r k within here is.from is.to)
 
-holds_from : (q : ℕ) (r : Row ℕ) (a b : Bool) → nat_le r.left q ≡ a → nat_lt q (r.left + r.weight) ≡ b → (a && b) ≡ true → r.left ≤ q
+holds_from : (q : ℕ) (r : Row ℕ) (a b : Bool) → nat_le r.left q ≡ a → nat_lt q (r.left + r.weight) ≡ b
+    → (a && b) ≡ true → r.left ≤ q
 holds_from q r true b e f t = leb-true r.left q e
 holds_from q r false b e f t = absurd (cc)
 
@@ -104,7 +106,8 @@ pub find_iff : (bits precision : ℕ) (rows : List (Row ℕ)) (q : ℕ) (r : Row
 find_iff bits precision rows q r tile = (found_in q rows r, find_row bits precision rows q r tile)
 
 -- one row holds a quantile that the weights reach
-find_some : (left : ℕ) (symbols weights : List ℕ) (q : ℕ) → length symbols ≡ length weights → left ≤ q → q < left + sum weights
+find_some : (left : ℕ) (symbols weights : List ℕ) (q : ℕ) → length symbols ≡ length weights → left ≤ q
+    → q < left + sum weights
     → IsSome (find (holds q) (rows_from left symbols weights))
 find_some left [] [] q e from to = absurd (omega arith)
 find_some left [] (w ∷ ws) q e from to = absurd (omega arith)
@@ -164,13 +167,6 @@ entry_at weights i h =
     let same : i ≡ 0 + i = omega arith in
     ap (entry_of nat_eq (contiguous_rows weights)) same ∙ contiguous-at 0 0 weights i (omega (arith, length-contiguous weights))
 
-pub entry_is_there : {E : Type 0} (entry : E → ℕ × ℕ) (weights : List ℕ) (i : ℕ) (found : Option E) → i < length (contiguous_rows weights)
-    → option_map entry found ≡ entry_of nat_eq (contiguous_rows weights) i → IsSome found
-entry_is_there entry weights i None h e =
-    let none : None ≡ Some (0 + sum (take i weights), get_or weights i 0) = e ∙ entry_at weights i h in
-    absurd (none_is_some _ none)
-entry_is_there entry weights i (Some x) h e = refl
-
 -- the row of a symbol of contiguous rows
 row_at : (weights : List ℕ) (i left weight : ℕ) (d : Row ℕ) → i < length (contiguous_rows weights)
     → Some (left, weight) ≡ entry_of nat_eq (contiguous_rows weights) i
@@ -185,18 +181,39 @@ row_at weights i left weight d h entry =
     ∙ ap (λ s. record { symbol = s; left = 0 + sum (take i weights); weight = get_or weights i 0 }) symbol
     ∙ ap (λ (p : ℕ × ℕ). record { symbol = i; left = p.0; weight = p.1 }) (sym parts)
 
+-- a symbol of contiguous rows has an entry
+pub entry_is_there : (rows : List (Row ℕ)) → (weights : List ℕ) × (rows ≡ contiguous_rows weights)
+    → (i : ℕ) (found : Option (ℕ × ℕ)) → i < length rows → found ≡ entry_of nat_eq rows i → IsSome found
+entry_is_there rows are i found =
+    let P : List (Row ℕ) → Type 0 = λ rs. i < length rs → found ≡ entry_of nat_eq rs i → IsSome found in
+    subst P (sym are.1) (λ h e. some_is (found) _ (e ∙ entry_at are.0 i h))
+  where
+    some_is : (o : Option (ℕ × ℕ)) (x : ℕ × ℕ) → o ≡ Some x → IsSome o
+    some_is o x e = rw e refl
+
 -- one more line
-pub rows_more : {E : Type 0} (entry : E → ℕ × ℕ) (found : Option E) (x : E) (weights : List ℕ) (i left weight : ℕ) (text more all : List ℕ)
-    → i < length (contiguous_rows weights) → option_map entry found ≡ entry_of nat_eq (contiguous_rows weights) i → found ≡ Some x
-    → left ≡ (entry x).0 → weight ≡ (entry x).1 → more ≡ text ++ row_text (record { symbol = i; left = left; weight = weight })
-    → text ++ rows_text (drop i (contiguous_rows weights)) ≡ all → more ++ rows_text (drop (i + 1) (contiguous_rows weights)) ≡ all
-rows_more entry found x weights i left weight text more all h is_entry is_found is_left is_weight pushed before =
+more_at : (weights : List ℕ) (i left weight : ℕ) (found : Option (ℕ × ℕ)) (text more all : List ℕ)
+    → i < length (contiguous_rows weights) → found ≡ entry_of nat_eq (contiguous_rows weights) i
+    → found ≡ Some (left, weight) → more ≡ text ++ row_text (record { symbol = i; left = left; weight = weight })
+    → text ++ rows_text (drop i (contiguous_rows weights)) ≡ all
+    → more ++ rows_text (drop (i + 1) (contiguous_rows weights)) ≡ all
+more_at weights i left weight found text more all h is_entry is_found pushed before =
     let rows = contiguous_rows weights in
     let row : Row ℕ = record { symbol = i; left = left; weight = weight } in
-    let same : Some (left, weight) ≡ Some (entry x) = rw (is_left, is_weight) refl in
-    let has : Some (left, weight) ≡ entry_of nat_eq rows i = same ∙ ap (option_map entry) (sym is_found) ∙ is_entry in
+    let has : Some (left, weight) ≡ entry_of nat_eq rows i = sym is_found ∙ is_entry in
     let cut : drop i rows ≡ row ∷ drop (i + 1) rows =
     drop-cons rows i row h ∙ ap (λ r. r ∷ drop (suc i) rows) (row_at weights i left weight row h has)
     ∙ ap (λ n. row ∷ drop n rows) (sym (add-one i)) in
     ap (λ t. t ++ rows_text (drop (i + 1) rows)) pushed ∙ append_assoc text (row_text row) (rows_text (drop (i + 1) rows))
     ∙ ap (λ t. text ++ t) (sym (flat_map-cons row_text row (drop (i + 1) rows)) ∙ ap rows_text (sym cut)) ∙ before
+
+pub rows_more : (rows : List (Row ℕ)) → (weights : List ℕ) × (rows ≡ contiguous_rows weights)
+    → (i left weight : ℕ) (found : Option (ℕ × ℕ)) (text more all : List ℕ) → i < length rows
+    → found ≡ entry_of nat_eq rows i → found ≡ Some (left, weight)
+    → more ≡ text ++ row_text (record { symbol = i; left = left; weight = weight })
+    → text ++ rows_text (drop i rows) ≡ all → more ++ rows_text (drop (i + 1) rows) ≡ all
+rows_more rows are i left weight found text more all =
+    let P : List (Row ℕ) → Type 0 = λ rs. i < length rs → found ≡ entry_of nat_eq rs i → found ≡ Some (left, weight)
+    → more ≡ text ++ row_text (record { symbol = i; left = left; weight = weight })
+    → text ++ rows_text (drop i rs) ≡ all → more ++ rows_text (drop (i + 1) rs) ≡ all in
+    subst P (sym are.1) (more_at are.0 i left weight found text more all)

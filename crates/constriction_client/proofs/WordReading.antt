@@ -47,7 +47,7 @@ module _ {Symbol Word Source Error : Type 0} (precision : ℕ) (rows : List (Row
     told = λ upcoming h. (upcoming, refl, h);
   }
 
-  -- a source that told the words before still tells those behind one more
+  -- a source that told the words before still tells those after one more
   told-more : (s : Source) (words : List Word) (j : Source) (word : Word) (t : Source)
       → gives j (Ok (Some word)) t
       → ((upcoming : List Word) → tells s upcoming
@@ -77,6 +77,12 @@ module _ {Symbol Word Source Error : Type 0} (precision : ℕ) (rows : List (Row
         let now = told-more s so_far.words j word t took so_far.told upcoming h in
         (now.0, now.1 ∙ sym (append_assoc so_far.words (word ∷ []) now.0), now.2);
   }
+
+  -- as many pairs were added as words were read
+  pub read-counted : (s : Source) (old : List (Symbol × Word)) (n : ℕ) (t : Source) (new : List (Symbol × Word))
+      → HasRead precision rows whole gives tells s old n t new → length new ≡ length old + n
+  read-counted s old n t new so_far =
+      omega (arith, ap length so_far.added, length-append old so_far.pairs, so_far.many)
 
   -- all that were asked for
   pub read-all : (s : Source) (old : List (Symbol × Word)) (count n : ℕ) (t : Source) (new : List (Symbol × Word))

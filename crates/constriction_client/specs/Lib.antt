@@ -1,8 +1,10 @@
+pub mod Collecting
 pub mod Grammar
-pub mod Narrowing
+pub mod NumberWords
 pub mod Parts
 pub mod Quantiles
 pub mod Reading
 pub mod Runs
 pub mod Text
 pub mod ThereAndBack
+pub mod Weights

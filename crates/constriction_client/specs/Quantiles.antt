@@ -35,7 +35,7 @@ abbrev pub AreQuantiles : {Symbol Word : Type 0} → (Symbol → Option (ℕ × 
     → List Word → Type 0
 AreQuantiles entry whole items words = AllZip (λ item word. IsQuantileOf entry whole item (whole word)) items words
 
--- the pair of a word: the symbol of the word's row, and how far the word lies behind the left cumulative of that row
+-- the pair of a word: the symbol of the word's row, and how far the word lies after the left cumulative of that row
 pub record IsPairOf {Symbol Word : Type 0} (rows : List (Row Symbol)) (whole : Word → ℕ) (word : Word)
     (pair : Symbol × Word) : Type 0 where
   pub row : Row Symbol
@@ -112,7 +112,7 @@ LeavesWords count (Ok n) rest = n < count → rest ≡ []
 LeavesWords count (Err (Frontend fault)) rest = Unit {0}
 LeavesWords count (Err (Backend e)) rest = rest ≢ []
 
--- Words were read in order, and their pairs were put behind the old ones. Where s tells the words to come, t tells
+-- Words were read in order, and their pairs were put after the old ones. Where s tells the words to come, t tells
 -- those that are left.
 pub record ReadsPairs {Symbol Word Source Error : Type 0} (precision : ℕ) (rows : List (Row Symbol)) (whole : Word → ℕ)
     (gives : Source → Result (Option Word) Error → Source → Type 0) (tells : Source → List Word → Type 0) (count : ℕ)

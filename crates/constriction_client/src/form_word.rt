@@ -2,7 +2,7 @@
 
 ghost use Rattle.std.specs.Prelude.{◌≡◌, ◌^◌, ◌<◌, ℕ};
 ghost use Rattle.std.proofs.Common.{refl};
-ghost use Rattle.constriction_client.specs.Narrowing.{narrowed_to};
+ghost use Rattle.constriction_client.specs.NumberWords.{narrowed_to};
 
 use constriction_words::BitArray;
 

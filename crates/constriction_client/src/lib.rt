@@ -6,13 +6,16 @@
 #![tactic(auto)]
 
 mod answers;
+mod contiguous;
 mod cut;
 mod fault;
 mod form_word;
 pub mod laws;
 mod line;
+mod line_model;
 mod program;
 mod quantiles;
+mod row_texts;
 
 pub use crate::answers::answer;
 pub use crate::fault::RunFault;

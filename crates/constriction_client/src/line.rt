@@ -6,6 +6,7 @@ ghost use Rattle.constriction_client.specs.Grammar.{Request, Spells, form_of};
 ghost use Rattle.constriction_client.specs.Parts.{parts_of};
 ghost use Rattle.constriction_client.specs.Reading.{first_and_others, read_form, read_line};
 ghost use Rattle.constriction_client.specs.Reading.{read_number, read_numbers, read_request, view};
+ghost use Rattle.constriction_client.specs.Weights.{weights_in};
 
 use crate::cut::cut;
 use std::alloc::{AllocError, Global};
@@ -48,6 +49,17 @@ impl Command {
             Command::Table { form, .. } => *form,
             Command::Quantile { form, .. } => *form,
             Command::Symbol { form, .. } => *form,
+        }
+    }
+
+    /// The weights that the line names.
+    pub(crate) fn weights(&self) -> &[u64]
+        ensures { result.now ≡ weights_in (view self.now) }
+    {
+        match self {
+            Command::Table { weights, .. } => weights,
+            Command::Quantile { weights, .. } => weights,
+            Command::Symbol { weights, .. } => weights,
         }
     }
 }

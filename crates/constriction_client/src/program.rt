@@ -1,12 +1,13 @@
 //! A run over a reader and a writer.
 
 ghost use Rattle.std.specs.Prelude.{◌≡◌, ◌≢◌, ◌<◌, ◌≤◌, ◌+◌, ◌++◌, ◌∷◌, ◌⊎◌, Err, length};
-ghost use Rattle.std.specs.Prelude.{IfOk, IfErr, OnOk, OnErr};
+ghost use Rattle.std.specs.Prelude.{IfOk, IfErr, OnOk, OnErr, string_bytes};
 ghost use Rattle.std.specs.Io.KnownBytes.{Appends, Consumes, IsAtEnd, Keeps};
 ghost use Rattle.constriction_client.specs.Runs.{limit, HasRead, WritesBeginning, WritesFirstAnswers};
+ghost use Rattle.constriction_client.specs.Collecting.{WritesFront};
 ghost use Rattle.constriction_client.specs.Text.{lines_of, text_of};
 
-use crate::answers::answer;
+use crate::answers::push_answer;
 use crate::cut::cut;
 use crate::fault::RunFault;
 use std::alloc::Global;
@@ -17,6 +18,9 @@ const LIMIT: usize = 1_048_576;
 
 /// The most bytes that one turn of the reader takes.
 const CHUNK: usize = 8192;
+
+/// How many bytes of answers are many.
+const MANY: usize = 65_536;
 
 /// One turn of the reader, of at most `room` bytes, which are put at the end of the input. It answers
 /// how many there were.
@@ -101,7 +105,38 @@ fn first_line(bytes: &[u8]) -> (&[u8], &[u8])
     }
 }
 
-/// Writes the answers to the lines of an input, each made whole before it is written.
+/// Writes collected answers, and keeps none of them, where there are many bytes of them.
+fn write_many<W: Write>(writer: &mut W, text: &mut String) -> Result<(), RunFault>
+    ensures ok { OnOk result (WritesFront (W.contents writer.old) (W.contents writer.new)
+        (string_bytes text.old) (string_bytes text.new)) }
+    ensures err { OnErr result (WritesBeginning (W.contents writer.old) (W.contents writer.new)
+        (string_bytes text.old)) }
+    ensures fault { OnErr result (result ≡ Err RunFault.Write) }
+{
+    if text.len() >= MANY {
+        write_whole(writer, text.as_bytes())?;
+        text.clear();
+    }
+    Ok(())
+}
+
+/// Writes the answers that were collected before memory was refused, and answers the fault.
+fn write_last<W: Write>(writer: &mut W, answers: &[u8]) -> RunFault
+    ensures out_of_memory { result ≡ RunFault.OutOfMemory →
+        Appends (W.contents writer.old) (W.contents writer.new) answers.now }
+    ensures write { result ≡ RunFault.Write →
+        WritesBeginning (W.contents writer.old) (W.contents writer.new) answers.now }
+    ensures faults { (result ≢ RunFault.Read) × (result ≢ RunFault.TooLong) }
+{
+    match write_whole(writer, answers) {
+        Ok(()) => RunFault::OutOfMemory,
+        Err(_) => RunFault::Write,
+    }
+}
+
+/// Writes the answers to the lines of an input, each made whole before a byte of it is written.
+///
+/// They are collected, and written once there are many bytes of them, and at the end.
 fn write_answers<W: Write>(alloc: Global, input: &[u8], writer: &mut W) -> Result<(), RunFault>
     ensures ok { OnOk result (Appends (W.contents writer.old) (W.contents writer.new) (text_of input.now)) }
     ensures out_of_memory { result ≡ Err RunFault.OutOfMemory →
@@ -110,17 +145,19 @@ fn write_answers<W: Write>(alloc: Global, input: &[u8], writer: &mut W) -> Resul
         WritesBeginning (W.contents writer.old) (W.contents writer.new) (text_of input.now) }
     ensures faults { IfErr result (λ fault. (fault ≢ RunFault.Read) × (fault ≢ RunFault.TooLong)) }
 {
+    let mut text = String::new(alloc);
     let mut rest = input;
     while !rest.is_empty() {
         let (line, after) = first_line(rest);
-        let text = match answer(alloc, line) {
-            Ok(text) => text,
-            Err(_) => return Err(RunFault::OutOfMemory),
-        };
-        write_whole(writer, text.as_bytes())?;
+        let whole = text.len();
+        match push_answer(alloc, &mut text, line) {
+            Ok(()) => {}
+            Err(_) => return Err(write_last(writer, &text.as_bytes()[..whole])),
+        }
+        write_many(writer, &mut text)?;
         rest = after;
     }
-    Ok(())
+    write_whole(writer, text.as_bytes())
 }
 
 /// Reads an input to its end, and writes the answers to its lines.

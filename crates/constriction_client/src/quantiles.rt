@@ -1,12 +1,14 @@
 //! Items as quantiles into a sink, and words from a source as pairs.
 
-ghost use Rattle.std.specs.Prelude.{◌≡◌, ◌↔◌, ◌+◌, ◌^◌, ◌<◌, ◌≤◌, length, IsTrue, IfOk, IfErr, OnOk};
+ghost use Rattle.std.specs.Prelude.{◌≡◌, ◌↔◌, ◌+◌, ◌^◌, ◌<◌, ◌≤◌, ℕ, length, IsTrue, IfOk, IfErr, OnOk};
+ghost use Rattle.std.specs.Prelude.{Option, Some};
 ghost use Rattle.constriction.specs.Rows.{entry_of};
-ghost use Rattle.constriction_client.specs.Quantiles.{IsQuantileOf, IsFaultOf, WritesItems, StopsAtItem, ReadsPairs};
+ghost use Rattle.constriction_client.specs.Quantiles.{IsQuantileOf, IsFaultOf, WritesItems, StopsAtItem};
+ghost use Rattle.constriction_client.specs.Quantiles.{IsPairOf, IsReadFaultOf, ReadsPairs};
 
 use constriction::stream::model::{DecoderModel, EncoderModel};
 use constriction_backends::{ReadWords, WriteWords};
-use constriction_words::{BitArray, CoderError, NonZeroBitArray, Semantics};
+use constriction_words::{CoderError, NonZeroBitArray, Semantics, WholeNumber};
 
 /// Why an item has no quantile.
 #[derive(Debug, PartialEq, Eq, Drop)]
@@ -26,6 +28,28 @@ pub enum ReadFault {
     QuantileTooLarge,
 }
 
+/// The quantile of an item whose symbol has this left cumulative and this weight.
+#[inline]
+fn quantile_within<Symbol, P: WholeNumber>(
+    item: &(Symbol, P),
+    left: P,
+    weight: P,
+) -> Result<P, QuantileFault>
+    requires { P.whole left + P.whole weight ≤ 2 ^ P.BITS }
+    ensures ok { IfOk result (λ word. (entry : Symbol → Option (ℕ × ℕ))
+        → Some (P.whole left, P.whole weight) ≡ entry item.now.0
+        → IsQuantileOf entry P.whole item.now (P.whole word)) }
+    ensures err { IfErr result (λ fault. (entry : Symbol → Option (ℕ × ℕ))
+        → Some (P.whole left, P.whole weight) ≡ entry item.now.0
+        → IsFaultOf entry P.whole item.now fault) }
+{
+    if item.1.is_below(weight) {
+        Ok(left.plus(item.1))
+    } else {
+        Err(QuantileFault::OffsetTooLarge)
+    }
+}
+
 /// The quantile of an item.
 #[inline]
 fn quantile_of<M: EncoderModel<PRECISION>, const PRECISION: usize>(
@@ -38,24 +62,42 @@ fn quantile_of<M: EncoderModel<PRECISION>, const PRECISION: usize>(
     ensures err { IfErr result (IsFaultOf (entry_of M.symbol_eq (M.rows model.now))
         M.Probability.whole item.now) }
 {
-    let Some((left, weight)) = model.left_cumulative_and_probability(&item.0) else {
-        return Err(QuantileFault::ImpossibleSymbol);
-    };
-    if item.1 < weight.get() {
-        Ok(left + item.1)
-    } else {
-        Err(QuantileFault::OffsetTooLarge)
+    match model.left_cumulative_and_probability(&item.0) {
+        Some((left, weight)) => quantile_within(item, left, weight.get()),
+        None => Err(QuantileFault::ImpossibleSymbol),
     }
 }
 
 /// Whether a word is a quantile: below `2^PRECISION`, which may be more than any word.
 #[inline]
-pub(crate) fn is_quantile<P: BitArray, const PRECISION: usize>(word: P) -> bool
+pub(crate) fn is_quantile<P: WholeNumber, const PRECISION: usize>(word: P) -> bool
     requires positive { 0 < PRECISION }
     requires fits { PRECISION ≤ P.BITS }
     ensures { IsTrue result ↔ (P.whole word < 2 ^ PRECISION) }
 {
-    word >> (PRECISION - 1) as u32 <= P::one()
+    word.is_at_most(P::greatest(PRECISION))
+}
+
+/// The pair of a word, where it is a quantile.
+#[inline]
+fn pair_of<M: DecoderModel<PRECISION>, const PRECISION: usize>(
+    model: &M,
+    word: M::Probability,
+) -> Result<(M::Symbol, M::Probability), ReadFault>
+    requires positive { 0 < PRECISION }
+    requires fits { PRECISION ≤ M.Probability.BITS }
+    requires clones { M.clones_are_same }
+    ensures ok { IfOk result (IsPairOf (M.rows model.now) M.Probability.whole word) }
+    ensures in_range { OnOk result (M.Probability.whole word < 2 ^ PRECISION) }
+    ensures err { IfErr result (IsReadFaultOf PRECISION (M.Probability.whole word)) }
+{
+    if !is_quantile::<M::Probability, PRECISION>(word) {
+        return Err(ReadFault::QuantileTooLarge);
+    }
+    match model.quantile_function(word) {
+        Ok((symbol, left, _)) => Ok((symbol, WholeNumber::minus(word, left))),
+        Err(_) => Err(ReadFault::OutOfMemory),
+    }
 }
 
 /// Writes the quantile of each item, in order: the left cumulative of its symbol plus its offset,
@@ -63,7 +105,7 @@ pub(crate) fn is_quantile<P: BitArray, const PRECISION: usize>(word: P) -> bool
 ///
 /// It stops at the first item that is refused, with `Frontend` where the item has no quantile and
 /// with `Backend` where the sink refuses it. The words of the items before it stay written, and
-/// those behind it are not looked at. One pass over the items, and one write for each.
+/// those after it are not looked at. One pass over the items, and one write for each.
 pub fn write_quantiles<M, W, const PRECISION: usize>(
     model: &M,
     items: &[(M::Symbol, M::Probability)],
@@ -94,12 +136,12 @@ where
 }
 
 /// Reads up to `count` words, and adds the pair of each to `out`: the symbol of the word's row and
-/// the offset, which is how far the word lies behind the left cumulative of that row.
+/// the offset, which is how far the word lies after the left cumulative of that row.
 ///
 /// The answer is the number of pairs that were added. It is below `count` only where the source
 /// ended, which is no fault. `Frontend` is answered at a word that is no quantile, and where memory
 /// for a pair is refused: that word has been read. `Backend` is answered where a read fails. In
-/// each case `out` keeps its pairs and those of the words before, and reading may go on behind the
+/// each case `out` keeps its pairs and those of the words before, and reading may go on after the
 /// fault. One look-up for each word; memory for the symbols and for `out` alone.
 pub fn read_symbols<S: Semantics, M, R, const PRECISION: usize>(
     model: &M,
@@ -127,12 +169,9 @@ where
             Ok(None) => return Ok(done),
             Err(error) => return Err(CoderError::Backend(error)),
         };
-        if !is_quantile::<M::Probability, PRECISION>(word) {
-            return Err(CoderError::Frontend(ReadFault::QuantileTooLarge));
-        }
-        let pair = match model.quantile_function(word) {
-            Ok((symbol, left, _)) => (symbol, word - left),
-            Err(_) => return Err(CoderError::Frontend(ReadFault::OutOfMemory)),
+        let pair = match pair_of(model, word) {
+            Ok(pair) => pair,
+            Err(fault) => return Err(CoderError::Frontend(fault)),
         };
         match out.push(pair) {
             Ok(()) => {}

@@ -1,13 +1,42 @@
-use Rattle.std.proofs.Common.{◌∙◌}
-use Rattle.constriction_client.proofs.Writing.{answered_more, stopped_in}
+use Rattle.std.proofs.Common.{rules}
+use Rattle.constriction_client.proofs.Writing.{answered-none, answered-more, answered-written, answered-all, answered-stopped}
+use Rattle.constriction_client.proofs.Writing.{answered-kept, answered-whole, same-fault, if-ok}
 use Rattle.constriction_client.proofs.program.write_answers.Goals as goal
 
-pub returns-in_err-write_whole-clause-write : goal.returns-in_err-write_whole-clause-write
-returns-in_err-write_whole-clause-write g c _ =
-    let before = c.loop-rest.invariant in
-    stopped_in _ _ _ _ c.args.input.now c.loop-rest.rest.now c.first_line.result.1.now _ before.0 before.1 before.2 c.first_line.ensures.lines (c.as_bytes.ensures.value ∙ c.in-Ok.ensures) c.in_err-write_whole.ensures.err
+pub loop-rest-init : goal.loop-rest-init
+loop-rest-init g c = answered-none _ c.args.input.now _ c.new-text.ensures.bytes
 
 pub loop-rest-preserved : goal.loop-rest-preserved
 loop-rest-preserved g c =
-    let before = c.loop-rest.invariant in
-    answered_more _ _ _ _ c.args.input.now c.loop-rest.rest.now c.first_line.result.1.now _ before.0 before.1 before.2 c.first_line.ensures.lines (c.as_bytes.ensures.value ∙ c.in-Ok.ensures) c.in_ok-write_whole.ensures.ok
+    answered-written _ _ _ c.args.input.now _ _ _
+    (answered-more _ _ c.first_line.result.0.now c.args.input.now _ c.first_line.result.1.now _ _
+        c.loop-rest.invariant c.first_line.ensures.lines c.in-Ok.ensures.added)
+    c.in_ok-write_many.ensures.ok
+
+pub returns-in-Err-clause-out_of_memory : goal.returns-in-Err-clause-out_of_memory
+returns-in-Err-clause-out_of_memory g c = λ e.
+    answered-whole _ _ _ c.args.input.now _ _ _ _ c.len-whole.result c.loop-rest.invariant c.push_answer.ensures.kept (search rules)
+    c.as_bytes.ensures.value (c.write_last.ensures.out_of_memory (same-fault _ _ e))
+
+pub returns-in-Err-clause-write : goal.returns-in-Err-clause-write
+returns-in-Err-clause-write g c = λ e.
+    answered-kept _ _ _ c.args.input.now _ _ _ _ c.len-whole.result c.loop-rest.invariant c.push_answer.ensures.kept (search rules)
+    c.as_bytes.ensures.value (c.write_last.ensures.write (same-fault _ _ e))
+
+pub returns-in_err-write_many-clause-write : goal.returns-in_err-write_many-clause-write
+returns-in_err-write_many-clause-write g c = λ e.
+    answered-stopped _ _ _ c.args.input.now _ _
+    (answered-more _ _ c.first_line.result.0.now c.args.input.now _ c.first_line.result.1.now _ _
+        c.loop-rest.invariant c.first_line.ensures.lines c.in-Ok.ensures.added)
+    c.in_err-write_many.ensures.err
+
+pub returns-clause-ok : goal.returns-clause-ok
+returns-clause-ok g c =
+    if-ok c.write_whole.result _ _
+    (λ turn. answered-all _ _ _ c.args.input.now _ _ c.loop-rest.invariant (rw c.as_bytes-2.ensures.value at turn) (search rules))
+    c.write_whole.ensures.ok
+
+pub returns-clause-write : goal.returns-clause-write
+returns-clause-write g c = λ e.
+    answered-stopped _ _ _ c.args.input.now _ _ c.loop-rest.invariant
+    (rw c.as_bytes-2.ensures.value at (rw e at c.write_whole.ensures.err))

@@ -1,0 +1,51 @@
+//! Contiguous models of the weights of lines.
+
+ghost use Rattle.std.specs.Prelude.{map};
+ghost use Rattle.std.proofs.Common.{refl};
+ghost use Rattle.constriction.specs.Stored.{weights_of};
+ghost use Rattle.constriction.specs.StoredRows.{stored-tiles};
+
+use crate::form_word::FormWord;
+use crate::line_model::LineModel;
+use constriction::stream::model::{
+    ContiguousCategoricalEntropyModel, DecoderModel, EncoderModel, EntropyModel, ModelError,
+};
+use constriction_words::NonZeroBitArray;
+use std::alloc::{AllocError, Global};
+
+impl<Word: FormWord, const PRECISION: usize> LineModel<PRECISION>
+    for ContiguousCategoricalEntropyModel<Word, Vec<Word>, PRECISION> {
+    ghost BITS = { Word.BITS };
+
+    ghost line_rows = { ⟦<ContiguousCategoricalEntropyModel<Word, Vec<Word>, PRECISION> as EntropyModel<PRECISION>>⟧.rows };
+
+    /// A weight that is no word is taken for 0, which no model accepts.
+    fn of_weights(alloc: Global, weights: &[u64]) -> Result<Option<Self>, AllocError> {
+        let words = weights.iter().map(|weight| Word::narrowed(*weight));
+        match Self::from_nonzero_fixed_point_probabilities(alloc, words, false) {
+            Ok(model) => Ok(Some(model)),
+            Err(ModelError::InvalidTable) => Ok(None),
+            Err(ModelError::OutOfMemory) => Err(AllocError),
+        }
+    }
+
+    fn row_count(&self) -> usize {
+        self.support_size()
+    }
+
+    fn entry(&self, symbol: usize) -> Option<(u64, u64)> {
+        match self.left_cumulative_and_probability(&symbol) {
+            Some((left, weight)) => Some((left.number(), weight.get().number())),
+            None => None,
+        }
+    }
+
+    fn row(&self, quantile: u64) -> Result<(usize, u64, u64), AllocError> {
+        let (symbol, left, weight) = self.quantile_function(Word::narrowed(quantile))?;
+        Ok((symbol, left.number(), weight.get().number()))
+    }
+
+    ghost contiguous_law = { λ m. (weights_of PRECISION (map Word.whole m.cdf.items), refl) };
+
+    ghost tile_law = { λ m. stored-tiles _ _ _ m.stored };
+}
