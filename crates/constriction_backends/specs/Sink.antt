@@ -32,3 +32,12 @@ module _ {S W E : Type 0} (gives : S → W → Result (Unit {0}) E → S → Typ
       (λ _. (ws : List W) × Drains next items ws × Writes s ws t)
       (λ e. (ws : List W) × (w : W) × (rest : I) × (j : S) × YieldsThen next items ws (Some w) rest
       × Writes s ws j × gives j w (Err e) t)
+
+  -- where an iterator's items were all written, they come after the words that were written before; and where one was refused, those
+  -- before it do
+  abbrev pub ExtendingTells : {I : Type 0} → (S → List W → Type 0) → (I → Option W → I → Type 0) → Type 0
+  ExtendingTells {I} tells next =
+      (s : S) (items : I) (r : Result (Unit {0}) E) (t : S) (old : List W) → ExtendsBy next s items r t → tells s old
+      → MatchResult r
+      (λ _. (ws : List W) × Drains next items ws × tells t (old ++ ws))
+      (λ _. (ws : List W) × (w : W) × (rest : I) × YieldsThen next items ws (Some w) rest × tells t (old ++ ws))

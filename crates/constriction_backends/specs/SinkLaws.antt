@@ -1,7 +1,7 @@
 -- Writes in a row: a default method cites these, and a caller's proof may. No public clause cites this module.
-use Rattle.std.specs.Prelude.{List, [], ◌∷◌, ◌++◌, Result, Ok}
+use Rattle.std.specs.Prelude.{List, [], ◌∷◌, ◌++◌, Option, Result, Ok, Err}
 use Rattle.std.proofs.Common.{subst, sym, append_assoc, append-nil}
-use Rattle.constriction_backends.specs.Sink.{WritesTold, Writes}
+use Rattle.constriction_backends.specs.Sink.{WritesTold, Writes, ExtendingTells}
 
 module _ {S W E : Type 0} (gives : S → W → Result (Unit {0}) E → S → Type 0) where
   -- one more write after others
@@ -20,3 +20,13 @@ module _ {S W E : Type 0} (gives : S → W → Result (Unit {0}) E → S → Typ
   writes_told_all tells law s (w ∷ ws) t p old h =
       subst (λ (ys : List W). tells t ys) (append_assoc old (w ∷ []) ws)
       (writes_told_all tells law p.0 ws t p.2 (old ++ w ∷ []) (law s w (Ok tt) p.0 p.1 old h))
+
+  -- so are those of an iterator
+  pub extending_tells : {I : Type 0} (tells : S → List W → Type 0) (next : I → Option W → I → Type 0)
+      → ((s : S) (w : W) (r : Result (Unit {0}) E) (t : S) → gives s w r t
+      → (ws : List W) → tells s ws → WritesTold tells ws w r t)
+      → ExtendingTells gives tells next
+  extending_tells tells next law s items (Ok x) t old (ws, drained, written) told =
+      (ws, drained, writes_told_all tells law s ws t written old told)
+  extending_tells tells next law s items (Err e) t old (ws, w, rest, j, yielded, written, refused) told =
+      (ws, w, rest, yielded, law j w (Err e) t refused (old ++ ws) (writes_told_all tells law s ws j written old told))

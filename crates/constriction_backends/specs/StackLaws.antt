@@ -1,8 +1,8 @@
 -- The steps of a stack meet the laws of sources and sinks: the impls cite these, and a caller's own may. No public clause cites this
 -- module.
 use Rattle.std.specs.Prelude.{◌≡◌, List, [], ◌∷◌, ◌++◌, ⊤, reverse, length, Option, Some, None, Result, Ok, Err}
-use Rattle.std.proofs.Common.{sym, ◌∙◌, ap}
-use Rattle.std.proofs.lemmas.List.{reverse-append, length-append, length-reverse}
+use Rattle.std.proofs.Common.{sym, ◌∙◌, ap, subst}
+use Rattle.std.proofs.lemmas.List.{reverse-append, reverse-reverse, length-append, length-reverse}
 use Rattle.constriction_backends.specs.Source.{ReadsTold, CountsRead}
 use Rattle.constriction_backends.specs.Sink.{WritesTold}
 use Rattle.constriction_backends.specs.Stack.{Pops, Pushes}
@@ -33,3 +33,26 @@ module _ {S W : Type 0} (items : S → List W) {E : Type 0} where
 pub tells_all : {S W : Type 0} (items : S → List W) (s : S) → ⊤ → (words : List W) → words ≡ reverse (items s)
     → length (items s) ≡ length words
 tells_all items s exact words e = sym (ap length e ∙ length-reverse (items s))
+
+last_first : {W : Type 0} (words : List W) (w : W) → reverse (words ++ w ∷ []) ≡ w ∷ reverse words
+last_first words w = reverse-append words (w ∷ [])
+
+module _ {S W : Type 0} (E : Type 0) (upcoming written : S → List W → Type 0)
+    (upcoming_is_written : (s : S) (words : List W) → upcoming s words → written s (reverse words))
+    (words : List W) (w : W) (t : S) where
+  -- a read of a stack where a word was written last answers that word, and the words before it are left
+  pub read_back : (o : Option W) → (let r : Result (Option W) E = Ok o in ReadsTold upcoming (reverse (words ++ w ∷ [])) r t)
+      → (o ≡ Some w) × written t words
+  read_back None h = absurd (let e = h.0 in cc (last_first words w))
+  read_back (Some x) (rest, e, told) =
+      let same : x ≡ w = cc (last_first words w) in
+      let left : rest ≡ reverse words = cc (last_first words w) in
+      let back : reverse rest ≡ words = ap reverse left ∙ reverse-reverse words in
+      (ap Some same, subst (λ (ws : List W). written t ws) back (upcoming_is_written t rest told))
+
+  -- or it fails, and the word is still there
+  pub still_there : (e : E) → (let r : Result (Option W) E = Err e in ReadsTold upcoming (reverse (words ++ w ∷ [])) r t)
+      → written t (words ++ w ∷ [])
+  still_there e h =
+      subst (λ (ws : List W). written t ws) (reverse-reverse (words ++ w ∷ []))
+      (upcoming_is_written t (reverse (words ++ w ∷ [])) h.1)

@@ -1,9 +1,9 @@
 //! What follows from the contracts of sources and sinks, each law the contract of a function.
 
-ghost use Rattle.std.specs.Prelude.{◌≡◌, ◌<◌, length, IfOk, IsOk, vec_capacity};
+ghost use Rattle.std.specs.Prelude.{◌≡◌, [], ◌∷◌, ◌++◌, List, Some, Err, IfOk};
 ghost use Rattle.std.specs.Iterator.{IsFinite};
 ghost use Rattle.constriction_backends.specs.Source.{RemainingCounts};
-ghost use Rattle.constriction_backends.specs.Sink.{CountsExtend};
+ghost use Rattle.constriction_backends.specs.Sink.{CountsExtend, ExtendingTells};
 ghost use Rattle.constriction_backends.specs.Stack.{PopsWhatWasPushed, SeeksBack};
 
 mod cursor;
@@ -12,28 +12,41 @@ pub use self::cursor::{
     extending_overwrites, reversal_reads, reversal_twice, seek_back_in_a_cursor, seek_stays,
     turned_twice,
 };
-use crate::read::{BoundedReadWords, ReadWords};
+use crate::read::BoundedReadWords;
+use crate::stack::StackBackend;
 use crate::write::{BoundedWriteWords, WriteWords};
-use constriction_words::{Semantics, Stack, UnwrapInfallible};
-use std::alloc::AllocError;
+use constriction_words::{ReadWriteError, Semantics};
 
 /// A word that was written to a stack is read next, and then the stack has its old words again.
 pub fn pushed_is_popped<Word, WriteError, ReadError>()
     ensures { PopsWhatWasPushed Word WriteError ReadError }
 {}
 
-/// Writes a word to a `Vec` and reads it back. The `Vec` is left with its old words, also where the
-/// write is refused.
-pub fn push_then_pop<Word: Drop>(
-    words: &mut Vec<Word>,
+/// Writes a word to a stack and reads it back. Where the stack tells its words, the word is read,
+/// and the stack is left with its old words, also where the write is refused; where the read fails,
+/// the word still comes after them.
+pub fn push_then_pop<Word, Backend: StackBackend<Word>>(
+    backend: &mut Backend,
     word: Word,
-) -> Result<Option<Word>, AllocError>
-    ensures ok { IfOk result (λ read. read ≡ Some word) }
-    ensures same { words.new.items ≡ words.old.items }
-    ensures succeeds { length words.old.items < vec_capacity words.old → IsOk result }
+) -> Result<Option<Word>, ReadWriteError<Backend::ReadError, Backend::WriteError>>
+    requires { Backend.can_write backend.old }
+    ensures read { IfOk result (λ read. (words : List Word) → Backend.tells_written backend.old words
+        → (read ≡ Some word) × Backend.tells_written backend.new words) }
+    ensures refused { (error : Backend.WriteError) → result ≡ Err (ReadWriteError.Write error)
+        → (words : List Word) → Backend.tells_written backend.old words → Backend.tells_written backend.new words }
+    ensures failed { (error : Backend.ReadError) → result ≡ Err (ReadWriteError.Read error)
+        → (words : List Word) → Backend.tells_written backend.old words
+        → Backend.tells_written backend.new (words ++ word ∷ []) }
+    ensures goes_on { Backend.can_write backend.new }
 {
-    words.write(word)?;
-    Ok(ReadWords::<Word, Stack>::read(words).unwrap_infallible())
+    match backend.write(word) {
+        Ok(()) => {}
+        Err(error) => return Err(ReadWriteError::Write(error)),
+    }
+    match backend.read() {
+        Ok(read) => Ok(read),
+        Err(error) => Err(ReadWriteError::Read(error)),
+    }
 }
 
 /// A position of a stack that was taken earlier is sought back exactly where the stack is no
@@ -58,6 +71,12 @@ pub fn extending_counts<Word, Sink: BoundedWriteWords<Word>, Words: Iterator<Ite
 {
     sink.extend_from_iter(words)
 }
+
+/// Where an iterator's words were all written, they come after those that were written before; and
+/// where one was refused, those before it do.
+pub fn extending_tells<Word, Sink: WriteWords<Word>, Words: Iterator<Item = Word>>()
+    ensures { ExtendingTells Sink.write_gives Sink.tells_written Words.next_gives }
+{}
 
 /// Where the count of a source is right, its reads give so many items, and then answer `Ok(None)`.
 pub fn remaining_counts<Word, S: Semantics, Source: BoundedReadWords<Word, S>>()

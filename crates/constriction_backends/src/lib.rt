@@ -12,6 +12,7 @@ pub mod laws;
 mod read;
 mod reverse;
 mod small_vec;
+mod stack;
 mod vec;
 mod write;
 
@@ -20,5 +21,6 @@ pub use crate::cursor::Cursor;
 pub use crate::error::BoundedWriteError;
 pub use crate::read::{BoundedReadWords, ReadWords};
 pub use crate::reverse::Reverse;
+pub use crate::stack::StackBackend;
 pub use crate::write::{BoundedWriteWords, WriteWords};
 pub use constriction_words::ReadWriteError;
