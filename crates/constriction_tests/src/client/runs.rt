@@ -8,6 +8,7 @@ use constriction_client::laws::{
 use constriction_client::{RunFault, answer, run};
 use std::alloc::Global;
 use std::io::{self, Read, Write};
+use std::process::Abort;
 use std::test::Fail;
 
 /// The most bytes of an input.
@@ -65,21 +66,24 @@ impl Write for SlowWriter {
     }
 }
 
-/// The answer to an input, read at once, and read byte by byte.
-fn answers(
-    alloc: Global,
-    input: &str,
-) -> (Result<(), RunFault>, Vec<u8>, Result<(), RunFault>, Vec<u8>) {
+/// An input is answered by this text, read at once, and read byte by byte.
+fn is_answered(rt: &impl Abort, alloc: Global, input: &str, text: &str) {
     let mut reader = input.as_bytes();
     let mut written = Vec::new(alloc);
     let result = run(alloc, &mut reader, &mut written);
-    let mut slow = SlowReader {
+    same_at(rt, input, result, Ok(()));
+    same_at(rt, input, written.as_slice(), text.as_bytes());
+}
+
+fn is_answered_slowly(rt: &impl Abort, alloc: Global, input: &str, text: &str) {
+    let mut reader = SlowReader {
         rest: input.as_bytes(),
         turns: 1000,
     };
-    let mut again = Vec::new(alloc);
-    let slow_result = run(alloc, &mut slow, &mut again);
-    (result, written, slow_result, again)
+    let mut written = Vec::new(alloc);
+    let result = run(alloc, &mut reader, &mut written);
+    same_at(rt, input, result, Ok(()));
+    same_at(rt, input, written.as_slice(), text.as_bytes());
 }
 
 #[test]
@@ -125,11 +129,8 @@ fn lines_are_answered(rt: HostRuntime) {
         ),
     ];
     for (input, text) in cases {
-        let (result, written, slow_result, again) = answers(rt.alloc(), input);
-        same_at(&rt, input, result, Ok(()));
-        same_at(&rt, input, written.as_slice(), text.as_bytes());
-        same_at(&rt, input, slow_result, Ok(()));
-        same_at(&rt, input, again.as_slice(), text.as_bytes());
+        is_answered(&rt, rt.alloc(), input, text);
+        is_answered_slowly(&rt, rt.alloc(), input, text);
     }
 }
 
