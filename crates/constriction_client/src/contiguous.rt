@@ -3,7 +3,7 @@
 ghost use Rattle.std.specs.Prelude.{map};
 ghost use Rattle.std.proofs.Common.{refl};
 ghost use Rattle.constriction.specs.Stored.{weights_of};
-ghost use Rattle.constriction.specs.StoredRows.{stored-tiles};
+ghost use Rattle.constriction.specs.StoredRowLemmas.{stored-tiles};
 
 use crate::form_word::FormWord;
 use crate::line_model::LineModel;
