@@ -1,4 +1,4 @@
-use Rattle.std.proofs.Common.{◌≡◌, ap, map, ◌∙◌}
+use Rattle.std.proofs.Common.{◌≡◌, map, ◌∙◌}
 use Rattle.constriction.specs.Rows.{contiguous_rows}
 use Rattle.constriction.specs.Stored.{weights_of}
 use Rattle.constriction_client.proofs.Accepting.{narrowed_same}
@@ -13,4 +13,4 @@ returns g c =
     same_row (contiguous_rows (weights_of g.row.PRECISION (map whole c.args.self.now.cdf.items))) c.args.quantile
     (whole c.narrowed.result) c.in_ok-symbol.symbol c.number.result (whole c.in_ok-symbol.left) c.number-2.result _
     c.in_ok-symbol.ensures.row same c.number.ensures
-    (◌∙◌ {b = whole c.get.result} c.number-2.ensures (ap whole c.get.ensures.value))
+    (rw c.get.ensures.value at c.number-2.ensures)
