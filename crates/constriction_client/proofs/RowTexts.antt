@@ -68,7 +68,7 @@ find_row bits precision rows q r tile is =
     let k = is.among.0 in
     let within : k < length (rows_from 0 symbols weights) = subst (λ (xs : List (Row ℕ)). k < length xs) tile.in_order is.among.1 in
     let here : get_or (rows_from 0 symbols weights) k r ≡ r = subst (λ (xs : List (Row ℕ)). get_or xs k r ≡ r)
-        tile.in_order is.among.2 in
+    tile.in_order is.among.2 in
     subst (λ (xs : List (Row ℕ)). find (holds q) xs ≡ Some r) (sym tile.in_order)
     (find_at 0 symbols weights q r k within here is.from is.to)
 

@@ -128,7 +128,7 @@ answered-stopped a b c input rest text so_far turn =
 -- the whole answers stand first in a text that has a part of one more
 pub answered-kept : (a b c : Option (List ℕ)) (input rest text more bytes : List ℕ) (n : ℕ) → Answered a b input rest text
     → StartsWith more text → n ≡ length text → bytes ≡ more → WritesBeginning b c (take n bytes)
-        → WritesBeginning a c (text_of input)
+    → WritesBeginning a c (text_of input)
 answered-kept a b c input rest text more bytes n so_far kept all is turn =
     answered-stopped a b c input rest text so_far
     (subst (WritesBeginning b c) (ap (take n) is ∙ kept-first text more n all kept) turn)

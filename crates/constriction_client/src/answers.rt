@@ -11,7 +11,7 @@ ghost use Rattle.constriction_client.specs.Text.{rows_text, quantile_text, symbo
 ghost use Rattle.constriction_client.specs.Weights.{weights_in};
 
 use crate::line::{Command, Form, parse};
-use crate::line_model::LineModel;
+use crate::line_model::{LineModel, model_of};
 use crate::row_texts::push_row;
 use constriction::stream::model::ContiguousCategoricalEntropyModel;
 use std::alloc::{AllocError, Global};
@@ -98,15 +98,15 @@ fn push_at<M: LineModel<PRECISION>, const PRECISION: usize>(
     command: &Command,
 ) -> Result<(), AllocError>
     requires positive { 0 < PRECISION }
-    requires fits { PRECISION ≤ M.BITS }
+    requires fits { PRECISION ≤ M.Word.BITS }
     requires small { PRECISION < 64 }
-    requires bits { M.BITS ≡ bits_of (form_of (view command.now)) }
+    requires bits { M.Word.BITS ≡ bits_of (form_of (view command.now)) }
     requires precision { PRECISION ≡ precision_of (form_of (view command.now)) }
     ensures added { OnOk result (string_bytes text.new ≡ string_bytes text.old
         ++ answer_of (view command.now)) }
     ensures kept { StartsWith (string_bytes text.new) (string_bytes text.old) }
 {
-    match M::of_weights(alloc, command.weights())? {
+    match model_of::<M, PRECISION>(alloc, command.weights())? {
         Some(model) => push_by_model(text, &model, command),
         None => text.push_str("invalid\n"),
     }

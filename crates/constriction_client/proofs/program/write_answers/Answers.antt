@@ -10,7 +10,7 @@ pub loop-rest-preserved : goal.loop-rest-preserved
 loop-rest-preserved g c =
     answered-written _ _ _ c.args.input.now _ _ _
     (answered-more _ _ c.first_line.result.0.now c.args.input.now _ c.first_line.result.1.now _ _
-        c.loop-rest.invariant c.first_line.ensures.lines c.in-Ok.ensures.added)
+    c.loop-rest.invariant c.first_line.ensures.lines c.in-Ok.ensures.added)
     c.in_ok-write_many.ensures.ok
 
 pub returns-in-Err-clause-out_of_memory : goal.returns-in-Err-clause-out_of_memory
@@ -27,7 +27,7 @@ pub returns-in_err-write_many-clause-write : goal.returns-in_err-write_many-clau
 returns-in_err-write_many-clause-write g c = λ e.
     answered-stopped _ _ _ c.args.input.now _ _
     (answered-more _ _ c.first_line.result.0.now c.args.input.now _ c.first_line.result.1.now _ _
-        c.loop-rest.invariant c.first_line.ensures.lines c.in-Ok.ensures.added)
+    c.loop-rest.invariant c.first_line.ensures.lines c.in-Ok.ensures.added)
     c.in_err-write_many.ensures.err
 
 pub returns-clause-ok : goal.returns-clause-ok
