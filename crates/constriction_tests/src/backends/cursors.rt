@@ -80,21 +80,23 @@ fn called<Buf: SafeBufMut<u8>>(cursor: &mut Cursor<u8, Buf>, call: Call) -> Answ
     }
 }
 
+/// Calls of a cursor of 10, 20, 30: the answer to each, the position after it and the second word.
+const CALLS: [(Call, Answer, usize, u8); 9] = [
+    (Call::Seek(1), Answer::Done, 1, 20),
+    (Call::Pop, Answer::Word(Some(10)), 0, 20),
+    (Call::Pop, Answer::Word(None), 0, 20),
+    (Call::Next, Answer::Word(Some(10)), 1, 20),
+    (Call::Write(99), Answer::Done, 2, 99),
+    (Call::Seek(4), Answer::OutOfRange, 2, 99),
+    (Call::Seek(3), Answer::Done, 3, 99),
+    (Call::Next, Answer::Word(None), 3, 99),
+    (Call::Write(5), Answer::Full, 3, 99),
+];
+
 /// A cursor of 10, 20, 30 is read and written to its ends.
 fn goes_to_its_ends<Buf: SafeBufMut<u8>>(rt: &impl Abort, buf: Buf) -> Buf {
     let mut cursor = Cursor::<u8, Buf>::new_at_write_beginning(buf);
-    let calls = [
-        (Call::Seek(1), Answer::Done, 1, 20),
-        (Call::Pop, Answer::Word(Some(10)), 0, 20),
-        (Call::Pop, Answer::Word(None), 0, 20),
-        (Call::Next, Answer::Word(Some(10)), 1, 20),
-        (Call::Write(99), Answer::Done, 2, 99),
-        (Call::Seek(4), Answer::OutOfRange, 2, 99),
-        (Call::Seek(3), Answer::Done, 3, 99),
-        (Call::Next, Answer::Word(None), 3, 99),
-        (Call::Write(5), Answer::Full, 3, 99),
-    ];
-    for (call, answer, pos, second) in calls {
+    for (call, answer, pos, second) in CALLS {
         same(rt, called(&mut cursor, call), answer);
         same(rt, cursor.pos(), pos);
         same(rt, cursor.buf().words(), [10, second, 30].as_slice());
@@ -104,16 +106,18 @@ fn goes_to_its_ends<Buf: SafeBufMut<u8>>(rt: &impl Abort, buf: Buf) -> Buf {
     buf
 }
 
+/// Positions among three words, and which ends they are at.
+const ENDS: [(usize, [bool; 6]); 3] = [
+    (0, [true, true, false, false, true, false]),
+    (1, [false, false, false, false, true, false]),
+    (3, [false, false, true, true, true, true]),
+];
+
 /// A cursor counts the words before its position and those from it on, and says where it is at an
 /// end.
 fn counts<Buf: SafeBufMut<u8>>(rt: &impl Abort, buf: Buf) -> Buf {
     let mut cursor = Cursor::<u8, Buf>::new_at_write_end(buf);
-    let ends = [
-        (0, [true, true, false, false, true, false]),
-        (1, [false, false, false, false, true, false]),
-        (3, [false, false, true, true, true, true]),
-    ];
-    for (pos, at_ends) in ends {
+    for (pos, at_ends) in ENDS {
         let sought = cursor.seek(pos);
         same(
             rt,

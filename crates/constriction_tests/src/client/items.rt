@@ -68,6 +68,25 @@ fn three_items_go_there_and_back(rt: HostRuntime) -> Result<(), Fail> {
     Ok(())
 }
 
+/// Items of which one has no quantile, and why.
+const FAULTS: [(&str, [(usize, u8); 3], QuantileFault); 3] = [
+    (
+        "an offset of the weight",
+        [(0, 2), (2, 1), (9, 0)],
+        QuantileFault::OffsetTooLarge,
+    ),
+    (
+        "a symbol past the last one",
+        [(0, 2), (4, 0), (2, 1)],
+        QuantileFault::ImpossibleSymbol,
+    ),
+    (
+        "a symbol that is no word",
+        [(0, 2), (usize::MAX, 9), (2, 1)],
+        QuantileFault::ImpossibleSymbol,
+    ),
+];
+
 fn is_refused(alloc: Global, model: &Small, items: &[(usize, u8)]) -> bool {
     there_and_back(alloc, model, items).is_err()
 }
@@ -75,24 +94,7 @@ fn is_refused(alloc: Global, model: &Small, items: &[(usize, u8)]) -> bool {
 #[test]
 fn the_words_before_a_fault_stay_written(rt: HostRuntime) -> Result<(), Fail> {
     let model = small(rt.alloc())?;
-    let cases = [
-        (
-            "an offset of the weight",
-            [(0usize, 2u8), (2, 1), (9, 0)],
-            QuantileFault::OffsetTooLarge,
-        ),
-        (
-            "a symbol past the last one",
-            [(0, 2), (4, 0), (2, 1)],
-            QuantileFault::ImpossibleSymbol,
-        ),
-        (
-            "a symbol that is no word",
-            [(0, 2), (usize::MAX, 9), (2, 1)],
-            QuantileFault::ImpossibleSymbol,
-        ),
-    ];
-    for (name, items, fault) in cases {
+    for (name, items, fault) in FAULTS {
         let mut words = [7u8].to_vec(rt.alloc())?;
         let written = write(&model, &items, &mut words);
         same_at(&rt, name, written, Err(CoderError::Frontend(fault)));

@@ -66,6 +66,48 @@ impl Write for SlowWriter {
     }
 }
 
+/// Inputs, and what is answered to them.
+const CASES: [(&str, &str); 35] = [
+    ("", ""),
+    ("table u8/6", "invalid\n"),
+    ("table u8/6\n", "invalid\n"),
+    ("table u8/6 064\n", "0 0 64\n"),
+    ("\n", "bad line\n"),
+    ("\n\n", "bad line\nbad line\n"),
+    ("table\n", "bad line\n"),
+    ("quantile u8/6\n", "bad line\n"),
+    ("symbol u8/6\n", "bad line\n"),
+    ("table  u8/6 64\n", "bad line\n"),
+    (" table u8/6 64\n", "bad line\n"),
+    ("table u8/6 64 \n", "bad line\n"),
+    ("table u8/6 64\r\n", "bad line\n"),
+    ("table u8/6 +64\n", "bad line\n"),
+    ("table u8/6 00000000000000000064\n", "0 0 64\n"),
+    ("table u8/6 000000000000000000064\n", "bad line\n"),
+    ("table u8/6 18446744073709551616\n", "bad line\n"),
+    ("table u8/6 18446744073709551615\n", "invalid\n"),
+    ("table u8/6 320\n", "invalid\n"),
+    ("table u8/6 3 18 1 43\n", "invalid\n"),
+    ("table u8/6 3 0 61\n", "invalid\n"),
+    ("table u7/6 1\n", "bad line\n"),
+    ("infer u8/8 200\n", "bad line\n"),
+    ("table u8/6 3 18 1 42\n", "0 0 3\n1 3 18\n2 21 1\n3 22 42\n"),
+    ("quantile u8/6 21 3 18 1 42\n", "2 21 1\n"),
+    ("quantile u8/6 63 3 18 1 42\n", "3 22 42\n"),
+    ("quantile u8/6 64 64\n", "range\n"),
+    ("quantile u8/6 256 64\n", "range\n"),
+    ("quantile u8/6 64 63\n", "invalid\n"),
+    ("quantile u8/6 3\n", "invalid\n"),
+    ("symbol u8/6 1 3 18 1 42\n", "1 3 18\n"),
+    ("symbol u8/6 4 3 18 1 42\n", "none\n"),
+    ("symbol u8/6 18446744073709551615 64\n", "none\n"),
+    ("symbol u8/6 5 63\n", "invalid\n"),
+    (
+        "table u8/6 64\n\nsymbol u8/6 0 64",
+        "0 0 64\nbad line\n0 0 64\n",
+    ),
+];
+
 /// An input is answered by this text, read at once, and read byte by byte.
 fn is_answered(rt: &impl Abort, alloc: Global, input: &str, text: &str) {
     let mut reader = input.as_bytes();
@@ -88,47 +130,7 @@ fn is_answered_slowly(rt: &impl Abort, alloc: Global, input: &str, text: &str) {
 
 #[test]
 fn lines_are_answered(rt: HostRuntime) {
-    let cases = [
-        ("", ""),
-        ("table u8/6", "invalid\n"),
-        ("table u8/6\n", "invalid\n"),
-        ("table u8/6 064\n", "0 0 64\n"),
-        ("\n", "bad line\n"),
-        ("\n\n", "bad line\nbad line\n"),
-        ("table\n", "bad line\n"),
-        ("quantile u8/6\n", "bad line\n"),
-        ("symbol u8/6\n", "bad line\n"),
-        ("table  u8/6 64\n", "bad line\n"),
-        (" table u8/6 64\n", "bad line\n"),
-        ("table u8/6 64 \n", "bad line\n"),
-        ("table u8/6 64\r\n", "bad line\n"),
-        ("table u8/6 +64\n", "bad line\n"),
-        ("table u8/6 00000000000000000064\n", "0 0 64\n"),
-        ("table u8/6 000000000000000000064\n", "bad line\n"),
-        ("table u8/6 18446744073709551616\n", "bad line\n"),
-        ("table u8/6 18446744073709551615\n", "invalid\n"),
-        ("table u8/6 320\n", "invalid\n"),
-        ("table u8/6 3 18 1 43\n", "invalid\n"),
-        ("table u8/6 3 0 61\n", "invalid\n"),
-        ("table u7/6 1\n", "bad line\n"),
-        ("infer u8/8 200\n", "bad line\n"),
-        ("table u8/6 3 18 1 42\n", "0 0 3\n1 3 18\n2 21 1\n3 22 42\n"),
-        ("quantile u8/6 21 3 18 1 42\n", "2 21 1\n"),
-        ("quantile u8/6 63 3 18 1 42\n", "3 22 42\n"),
-        ("quantile u8/6 64 64\n", "range\n"),
-        ("quantile u8/6 256 64\n", "range\n"),
-        ("quantile u8/6 64 63\n", "invalid\n"),
-        ("quantile u8/6 3\n", "invalid\n"),
-        ("symbol u8/6 1 3 18 1 42\n", "1 3 18\n"),
-        ("symbol u8/6 4 3 18 1 42\n", "none\n"),
-        ("symbol u8/6 18446744073709551615 64\n", "none\n"),
-        ("symbol u8/6 5 63\n", "invalid\n"),
-        (
-            "table u8/6 64\n\nsymbol u8/6 0 64",
-            "0 0 64\nbad line\n0 0 64\n",
-        ),
-    ];
-    for (input, text) in cases {
+    for (input, text) in CASES {
         is_answered(&rt, rt.alloc(), input, text);
         is_answered_slowly(&rt, rt.alloc(), input, text);
     }

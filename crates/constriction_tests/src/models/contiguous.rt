@@ -144,70 +144,44 @@ fn is_accepted<Model: Drop>(rt: &impl Abort, name: &str, made: Result<Model, Mod
     }
 }
 
+/// Weights, whether the last one is inferred, and whether they are accepted.
+const TABLES: [(&str, &[u8], bool, bool); 12] = [
+    ("the sum is one too many", &[3, 18, 1, 43], false, false),
+    ("a weight of 0", &[3, 0, 61], false, false),
+    ("no weight", &[], false, false),
+    ("one weight too few", &[3, 18, 1], false, false),
+    ("a weight after the last quantile", &[64, 1], false, false),
+    ("a greater word than quantiles", &[65], false, false),
+    ("the wrapped sum is 64", &[255, 65], false, false),
+    ("one symbol", &[64], false, true),
+    ("the last one is inferred", &[3, 18, 1], true, true),
+    ("the only one is inferred", &[], true, true),
+    ("nothing is left to infer", &[64], true, false),
+    ("less than nothing is left", &[60, 5], true, false),
+];
+
 #[test]
 fn weights_are_accepted_exactly_where_they_tile(rt: HostRuntime) {
-    let cases = [
-        (
-            "the sum is one too many",
-            [3u8, 18, 1, 43].as_slice(),
-            false,
-            false,
-        ),
-        ("a weight of 0", [3, 0, 61].as_slice(), false, false),
-        ("no weight", [].as_slice(), false, false),
-        ("one weight too few", [3, 18, 1].as_slice(), false, false),
-        (
-            "a weight after the last quantile",
-            [64, 1].as_slice(),
-            false,
-            false,
-        ),
-        (
-            "a greater word than quantiles",
-            [65].as_slice(),
-            false,
-            false,
-        ),
-        ("the wrapped sum is 64", [255, 65].as_slice(), false, false),
-        ("one symbol", [64].as_slice(), false, true),
-        (
-            "the last one is inferred",
-            [3, 18, 1].as_slice(),
-            true,
-            true,
-        ),
-        ("the only one is inferred", [].as_slice(), true, true),
-        ("nothing is left to infer", [64].as_slice(), true, false),
-        ("less than nothing is left", [60, 5].as_slice(), true, false),
-    ];
-    for (name, weights, infer, expected) in cases {
+    for (name, weights, infer, expected) in TABLES {
         let made = small(rt.alloc(), weights, infer);
         same_at(&rt, name, is_accepted(&rt, name, made), expected);
     }
 }
 
+/// The same at the full width.
+const FULL_TABLES: [(&str, &[u8], bool, bool); 7] = [
+    ("the wrapped sum is 0", &[128, 128, 128, 128], false, false),
+    ("a weight of 0 for all", &[0], false, false),
+    ("two halves", &[128, 128], false, true),
+    ("56 is inferred", &[200], true, true),
+    ("1 is inferred", &[255], true, true),
+    ("256 is no word", &[], true, false),
+    ("nothing is left to infer", &[128, 128], true, false),
+];
+
 #[test]
 fn weights_are_accepted_at_the_full_width_exactly_where_they_tile(rt: HostRuntime) {
-    let cases = [
-        (
-            "the wrapped sum is 0",
-            [128u8, 128, 128, 128].as_slice(),
-            false,
-            false,
-        ),
-        ("a weight of 0 for all", [0].as_slice(), false, false),
-        ("two halves", [128, 128].as_slice(), false, true),
-        ("56 is inferred", [200].as_slice(), true, true),
-        ("1 is inferred", [255].as_slice(), true, true),
-        ("256 is no word", [].as_slice(), true, false),
-        (
-            "nothing is left to infer",
-            [128, 128].as_slice(),
-            true,
-            false,
-        ),
-    ];
-    for (name, weights, infer, expected) in cases {
+    for (name, weights, infer, expected) in FULL_TABLES {
         let made = full(rt.alloc(), weights, infer);
         same_at(&rt, name, is_accepted(&rt, name, made), expected);
     }
