@@ -66,6 +66,25 @@ impl Write for SlowWriter {
     }
 }
 
+/// Takes all that it is given, and counts the turns.
+#[derive(Drop)]
+struct CountingWriter {
+    bytes: usize,
+    turns: usize,
+}
+
+impl Write for CountingWriter {
+    fn write(&mut self, buf: &[u8]) -> io::Result<usize> {
+        self.bytes = self.bytes.saturating_add(buf.len());
+        self.turns = self.turns.saturating_add(1);
+        Ok(buf.len())
+    }
+
+    fn flush(&mut self) -> io::Result<()> {
+        Ok(())
+    }
+}
+
 /// Inputs, and what is answered to them.
 const CASES: [(&str, &str); 35] = [
     ("", ""),
@@ -224,4 +243,38 @@ fn laws_and_answers_may_be_called(rt: HostRuntime) -> Result<(), Fail> {
     let text = answer(rt.alloc(), b"table u8/6 1 63")?;
     same(&rt, text.as_str(), "0 0 1\n1 1 63\n");
     Ok(())
+}
+
+/// The answers to 20,000 lines, 9 bytes each, are two pieces of 65,538 bytes and what is left.
+#[test]
+fn answers_are_written_in_large_pieces(rt: HostRuntime) -> Result<(), Fail> {
+    let input = vec![in rt.alloc(); b'\n'; 20_000]?;
+    let mut reader = input.as_slice();
+    let mut writer = CountingWriter { bytes: 0, turns: 0 };
+    let result = run(rt.alloc(), &mut reader, &mut writer);
+    same(&rt, result, Ok(()));
+    same(&rt, (writer.bytes, writer.turns), (180_000, 3));
+    Ok(())
+}
+
+/// The whole text, or the answers before a refusal of memory, each of them whole:
+/// `rt try --test --fail-alloc N` refuses each request in turn.
+#[test]
+fn answers_before_a_refusal_of_memory_are_written(rt: HostRuntime) {
+    let mut room = [0u8; 29];
+    let mut reader = b"table u8/6 64\n\ntable u8/6 1 63\n".as_slice();
+    let mut writer = room.as_mut_slice();
+    let result = run(rt.alloc(), &mut reader, &mut writer);
+    let places = writer.len();
+    match result {
+        Ok(()) => same(&rt, places, 0),
+        Err(fault) => {
+            same(&rt, fault, RunFault::OutOfMemory);
+            assert!(rt; matches!(places, 29 | 22 | 13));
+        }
+    }
+    let text = b"0 0 64\nbad line\n0 0 1\n1 1 63\n".as_slice();
+    for (byte, expected) in room.iter().zip(text) {
+        assert!(rt; *byte == *expected || *byte == 0);
+    }
 }
