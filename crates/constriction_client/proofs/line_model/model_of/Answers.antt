@@ -1,4 +1,4 @@
-use Rattle.std.proofs.Common.{rules, tests, true, ◌≡◌, ℕ, List}
+use Rattle.std.proofs.Common.{rules, tests, true, ◌≡◌}
 use Rattle.std.specs.Prelude.{IfOk, IfSome}
 use Rattle.std.proofs.lemmas.Iterator.{YieldsList-from_slice, YieldsList-from_map_by}
 use Rattle.std.proofs.lemmas.Iterator.Consumers.{YieldsList-at}
