@@ -1,11 +1,12 @@
 -- Which weights are accepted, and that a model of narrowed weights is a model of the weights.
-use Rattle.std.proofs.Common.{refl, subst, ◌≡◌, ℕ, ◌^◌, ◌<◌, ◌≤◌, Bool, true, false, ◌&&◌, cond, eqb, List, [], ◌∷◌, ◌++◌, Option, None, ap, sym, ◌∙◌, length, get_or, take, drop, map, sum, arith, nat_lt, All, inl, inr, take-append-drop}
+use Rattle.std.proofs.Common.{refl, subst, ◌≡◌, ℕ, ◌^◌, ◌<◌, ◌≤◌, Bool, true, false, ◌&&◌, cond, eqb, List, [], ◌∷◌, ◌++◌, Option, Some, None, Result, Ok, Err, ap, sym, ◌∙◌, length, get_or, take, drop, map, sum, arith, nat_lt, All, inl, inr, take-append-drop}
 use Rattle.std.specs.List.{list_all}
 use Rattle.std.specs.Iterator.{Drains}
+use Rattle.std.specs.Prelude.{IfOk, IfSome, IfNone}
 use Rattle.std.proofs.Math.Nat.{pow-le-pow_right}
 use Rattle.std.proofs.lemmas.Bool.{ltb-true, lt-ltb, eqb-true, eq-eqb}
 use Rattle.std.proofs.lemmas.Iterator.{YieldsList}
-use Rattle.std.proofs.lemmas.Iterator.Consumers.{YieldsList-so_far, YieldsList-end}
+use Rattle.std.proofs.lemmas.Iterator.Consumers.{YieldsList-at, YieldsList-so_far, YieldsList-end}
 use Rattle.std.proofs.lemmas.List.{map-append}
 use Rattle.std.proofs.lemmas.List.Elements.{All-head, All-tail, All-drop}
 use Rattle.std.proofs.lemmas.List.Sums.{AllPass-from_list_all, list_all-from_AllPass}
@@ -131,3 +132,48 @@ module _ {S Word : Type 0} (steps : S → Option Word → S → Type 0) (it : S)
             ∙ ap (λ xs. take n weights ++ xs) back ∙ take-append-drop n weights in
             some.3 (map word_of (drop n weights)) (subst (IsAccepted bits precision) (sym whole_list) accepted)
       ])
+
+-- ---- what was made of such an iterator, of which only what it came from is known
+
+module _ {S Word : Type 0} (steps : S → Option Word → S → Type 0) (came : S → Type 0) (whole : Word → ℕ)
+    (bits precision : ℕ) (weights : List ℕ) where
+  -- it came from one iterator, which gives the narrowed weights
+  pub record GivesNarrowed : Type 0 where
+    pub start : S
+    pub alone : (it : S) → came it → it ≡ start
+    pub narrowed : YieldsList steps whole start (map (narrowed_to bits) weights)
+
+  pub found_made : {Model Error : Type 0} (result : Result (Option Model) Error) (rows : Model → List ℕ → Type 0)
+      → IfOk result (λ found. IfSome found (λ model. (it : S) × came it
+      × GaveGood steps it (λ xs. IsAccepted bits precision (map whole xs) × rows model (map whole xs))))
+      → GivesNarrowed
+      → IfOk result (λ found. IfSome found (λ model. (are_accepted bits precision weights ≡ true) × rows model weights))
+  found_made (Ok (Some model)) rows h gives =
+      made_of steps h.0 whole bits precision weights (rows model) h.2
+      (YieldsList-at (gives.alone h.0 h.1) gives.narrowed)
+  found_made (Ok None) rows h gives = tt
+  found_made (Err error) rows h gives = tt
+
+  pub found_refused : {Model Error : Type 0} (result : Result (Option Model) Error) (word_of : ℕ → Word)
+      → ((n : ℕ) → n < 2 ^ bits → whole (word_of n) ≡ n)
+      → IfOk result (λ found. IfNone found ((it : S) × came it
+      × GaveBad steps it (λ xs. IsAccepted bits precision (map whole xs))))
+      → GivesNarrowed → IfOk result (λ found. IfNone found (are_accepted bits precision weights ≡ false))
+  found_refused (Ok (Some model)) word_of law h gives = tt
+  found_refused (Ok None) word_of law h gives =
+      refused_of steps h.0 whole bits precision weights word_of law h.2
+      (YieldsList-at (gives.alone h.0 h.1) gives.narrowed)
+  found_refused (Err error) word_of law h gives = tt
+
+-- each of two facts of what was found
+pub first_found : {Model Error : Type 0} (result : Result (Option Model) Error) (P : Type 0) (Q : Model → Type 0)
+    → IfOk result (λ found. IfSome found (λ model. P × Q model)) → IfOk result (λ found. IfSome found (λ _. P))
+first_found (Ok (Some model)) P Q h = h.0
+first_found (Ok None) P Q h = tt
+first_found (Err error) P Q h = tt
+
+pub second_found : {Model Error : Type 0} (result : Result (Option Model) Error) (P : Type 0) (Q : Model → Type 0)
+    → IfOk result (λ found. IfSome found (λ model. P × Q model)) → IfOk result (λ found. IfSome found Q)
+second_found (Ok (Some model)) P Q h = h.1
+second_found (Ok None) P Q h = tt
+second_found (Err error) P Q h = tt

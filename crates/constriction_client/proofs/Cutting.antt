@@ -48,7 +48,7 @@ pub lines_of-cut : (bytes line rest : List ℕ) → slice_split (λ b. eqb b 10)
     → lines_of bytes ≡ line ∷ lines_of rest
 lines_of-cut bytes line rest e =
     ap without_last_empty e ∙ before_others line (slice_split (λ b. eqb b 10) rest)
-        (omega (arith, length-slice_split (λ b. eqb b 10) rest))
+    (omega (arith, length-slice_split (λ b. eqb b 10) rest))
 
 last_line : (line : List ℕ) → 0 < length line → without_last_empty (line ∷ []) ≡ line ∷ []
 last_line [] some = absurd (omega arith)

@@ -32,7 +32,7 @@ module _ {Symbol Word Sink Error : Type 0} (entry : Symbol → Option (ℕ × �
       → WritesItems entry whole gives tells (take (i + 1) items) s t
   wrote-more items i item word s j t h e so_far quantile wrote =
       let more : take (i + 1) items ≡ take i items ++ item ∷ [] = take_more items i item h
-          ∙ ap (λ y. take i items ++ y ∷ []) (sym e) in
+      ∙ ap (λ y. take i items ++ y ∷ []) (sym e) in
       subst (λ (xs : List (Symbol × Word)). WritesItems entry whole gives tells xs s t) (sym more) (record {
         words = so_far.words ++ word ∷ [];
         quantiles =

@@ -2,7 +2,6 @@ mod Accepting
 mod Cutting
 mod EntryRows
 mod Exactly
-mod Growing
 mod ItemWriting
 mod Numbers
 mod Returning

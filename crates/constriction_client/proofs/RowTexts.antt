@@ -1,6 +1,5 @@
 -- How the rows of a model are found and printed.
 use Rattle.std.proofs.Common.{suc, zero, refl, subst, ◌≡◌, ℕ, ◌+◌, ◌/◌, ◌^◌, ◌<◌, ◌≤◌, Bool, true, false, ◌&&◌, cond, List, [], ◌∷◌, ◌++◌, Option, Some, None, ap, sym, ◌∙◌, length, get_or, take, drop, sum, arith, nat_eq, nat_le, nat_lt, find, append_assoc, add-one, drop-cons, map, IsSome, inl, inr, ◌↔◌}
-use Rattle.std.specs.Option.{option_map}
 use Rattle.std.proofs.Math.Nat.{div-lt_iff_lt-mul}
 use Rattle.std.proofs.Math.Pow.{pow_pos}
 use Rattle.std.proofs.lemmas.Bool.{ltb-true, leb-true, lt-ltb, le-leb, cases_lt}
@@ -68,7 +67,7 @@ find_row bits precision rows q r tile is =
     let k = is.among.0 in
     let within : k < length (rows_from 0 symbols weights) = subst (λ (xs : List (Row ℕ)). k < length xs) tile.in_order is.among.1 in
     let here : get_or (rows_from 0 symbols weights) k r ≡ r = subst (λ (xs : List (Row ℕ)). get_or xs k r ≡ r)
-        tile.in_order is.among.2 in
+    tile.in_order is.among.2 in
     subst (λ (xs : List (Row ℕ)). find (holds q) xs ≡ Some r) (sym tile.in_order)
     (find_at 0 symbols weights q r k within here is.from is.to)
 

@@ -5,11 +5,9 @@ use Rattle.std.proofs.KnownBytes.{Appends-nil, Appends-trans, Appends-kept}
 use Rattle.std.proofs.lemmas.List.Concat.{flat_map-append}
 use lib.Seq.{take-add}
 use Rattle.constriction_client.specs.Text.{answer_to, answers_of, lines_of, text_of}
-use Rattle.std.specs.Io.{StartsWith}
 use Rattle.std.specs.Result.{OnOk}
 use Rattle.std.specs.declared.result.Result.{Result}
 use Rattle.std.specs.declared.result.Result.TheVariants.{Ok, Err}
-use Rattle.constriction_client.proofs.Growing.{kept-first}
 use Rattle.constriction_client.specs.Collecting.{WritesFront}
 use Rattle.constriction_client.specs.Runs.{WritesBeginning, WritesFirstAnswers}
 
@@ -124,20 +122,6 @@ answered-stopped a b c input rest text so_far turn =
     ∙ sym (flat_map-append answer_to so_far.first (lines_of rest))
     ∙ ap answers_of so_far.lines in
     (so_far.written ++ turn.0, turn.1 ++ others, joined, Appends-trans a b c so_far.written turn.0 so_far.wrote turn.3)
-
--- the whole answers stand first in a text that has a part of one more
-pub answered-kept : (a b c : Option (List ℕ)) (input rest text more bytes : List ℕ) (n : ℕ) → Answered a b input rest text
-    → StartsWith more text → n ≡ length text → bytes ≡ more → WritesBeginning b c (take n bytes)
-        → WritesBeginning a c (text_of input)
-answered-kept a b c input rest text more bytes n so_far kept all is turn =
-    answered-stopped a b c input rest text so_far
-    (subst (WritesBeginning b c) (ap (take n) is ∙ kept-first text more n all kept) turn)
-
-pub answered-whole : (a b c : Option (List ℕ)) (input rest text more bytes : List ℕ) (n : ℕ) → Answered a b input rest text
-    → StartsWith more text → n ≡ length text → bytes ≡ more → Appends b c (take n bytes) → WritesFirstAnswers a c input
-answered-whole a b c input rest text more bytes n so_far kept all is turn =
-    answered-first a b c input rest text so_far
-    (subst (Appends b c) (ap (take n) is ∙ kept-first text more n all kept) turn)
 
 -- a fault that was handed on
 pub same-fault : {T F : Type 0} (x y : F) → ◌≡◌ {A = Result T F} (Err x) (Err y) → x ≡ y

@@ -2,28 +2,34 @@
 
 ghost use Rattle.std.specs.Prelude.{◌≡◌, ◌^◌, ◌<◌, ◌≤◌, ◌++◌, true};
 ghost use Rattle.std.specs.Prelude.{IfOk, OnOk, string_bytes};
-ghost use Rattle.std.specs.Io.{StartsWith};
 ghost use Rattle.constriction.specs.Rows.{contiguous_rows};
 ghost use Rattle.constriction_client.specs.Reading.{view};
 ghost use Rattle.constriction_client.specs.Text.{answer_of, answer_to, are_accepted};
 ghost use Rattle.constriction_client.specs.Grammar.{bits_of, form_of, precision_of};
-ghost use Rattle.constriction_client.specs.Text.{rows_text, quantile_text, symbol_text};
+ghost use Rattle.constriction_client.specs.Text.{row_text, rows_text, quantile_text, symbol_text};
 ghost use Rattle.constriction_client.specs.Weights.{weights_in};
 
 use crate::line::{Command, Form, parse};
-use crate::line_model::LineModel;
-use crate::row_texts::push_row;
+use crate::line_model::{LineModel, model_of};
 use constriction::stream::model::ContiguousCategoricalEntropyModel;
 use std::alloc::{AllocError, Global};
+use std::fmt::Write;
+
+/// Adds the line of a row.
+fn push_row(text: &mut String, symbol: usize, left: u64, weight: u64) -> Result<(), AllocError>
+    ensures { OnOk result (string_bytes text.new ≡ string_bytes text.old
+        ++ row_text (record { symbol = symbol; left = left; weight = weight })) }
+{
+    writeln!(text, "{symbol} {left} {weight}")
+}
 
 /// Adds the lines of all rows of a model.
 fn push_table<M: LineModel<PRECISION>, const PRECISION: usize>(
     text: &mut String,
     model: &M,
 ) -> Result<(), AllocError>
-    ensures added { OnOk result (string_bytes text.new ≡ string_bytes text.old
+    ensures { OnOk result (string_bytes text.new ≡ string_bytes text.old
         ++ rows_text (M.line_rows model.now)) }
-    ensures kept { StartsWith (string_bytes text.new) (string_bytes text.old) }
 {
     for symbol in 0..model.row_count() {
         let (left, weight) = model.entry(symbol).unwrap();
@@ -39,9 +45,8 @@ fn push_quantile<M: LineModel<PRECISION>, const PRECISION: usize>(
     quantile: u64,
 ) -> Result<(), AllocError>
     requires small { PRECISION < 64 }
-    ensures added { OnOk result (string_bytes text.new ≡ string_bytes text.old
+    ensures { OnOk result (string_bytes text.new ≡ string_bytes text.old
         ++ quantile_text PRECISION (M.line_rows model.now) quantile) }
-    ensures kept { StartsWith (string_bytes text.new) (string_bytes text.old) }
 {
     if quantile >> PRECISION != 0 {
         return text.push_str("range\n");
@@ -56,9 +61,8 @@ fn push_symbol<M: LineModel<PRECISION>, const PRECISION: usize>(
     model: &M,
     symbol: u64,
 ) -> Result<(), AllocError>
-    ensures added { OnOk result (string_bytes text.new ≡ string_bytes text.old
+    ensures { OnOk result (string_bytes text.new ≡ string_bytes text.old
         ++ symbol_text (M.line_rows model.now) symbol) }
-    ensures kept { StartsWith (string_bytes text.new) (string_bytes text.old) }
 {
     let symbol = symbol as usize;
     match model.entry(symbol) {
@@ -79,9 +83,8 @@ fn push_by_model<M: LineModel<PRECISION>, const PRECISION: usize>(
     requires accepted { are_accepted (bits_of (form_of (view command.now)))
         (precision_of (form_of (view command.now))) (weights_in (view command.now)) ≡ true }
     requires rows { M.line_rows model.now ≡ contiguous_rows (weights_in (view command.now)) }
-    ensures added { OnOk result (string_bytes text.new ≡ string_bytes text.old
+    ensures { OnOk result (string_bytes text.new ≡ string_bytes text.old
         ++ answer_of (view command.now)) }
-    ensures kept { StartsWith (string_bytes text.new) (string_bytes text.old) }
 {
     match command {
         Command::Table { .. } => push_table(text, model),
@@ -98,15 +101,14 @@ fn push_at<M: LineModel<PRECISION>, const PRECISION: usize>(
     command: &Command,
 ) -> Result<(), AllocError>
     requires positive { 0 < PRECISION }
-    requires fits { PRECISION ≤ M.BITS }
+    requires fits { PRECISION ≤ M.Word.BITS }
     requires small { PRECISION < 64 }
-    requires bits { M.BITS ≡ bits_of (form_of (view command.now)) }
+    requires bits { M.Word.BITS ≡ bits_of (form_of (view command.now)) }
     requires precision { PRECISION ≡ precision_of (form_of (view command.now)) }
-    ensures added { OnOk result (string_bytes text.new ≡ string_bytes text.old
+    ensures { OnOk result (string_bytes text.new ≡ string_bytes text.old
         ++ answer_of (view command.now)) }
-    ensures kept { StartsWith (string_bytes text.new) (string_bytes text.old) }
 {
-    match M::of_weights(alloc, command.weights())? {
+    match model_of::<M, PRECISION>(alloc, command.weights())? {
         Some(model) => push_by_model(text, &model, command),
         None => text.push_str("invalid\n"),
     }
@@ -114,9 +116,8 @@ fn push_at<M: LineModel<PRECISION>, const PRECISION: usize>(
 
 /// Adds the answer to a command.
 fn push_command(alloc: Global, text: &mut String, command: &Command) -> Result<(), AllocError>
-    ensures added { OnOk result (string_bytes text.new ≡ string_bytes text.old
+    ensures { OnOk result (string_bytes text.new ≡ string_bytes text.old
         ++ answer_of (view command.now)) }
-    ensures kept { StartsWith (string_bytes text.new) (string_bytes text.old) }
 {
     match command.form() {
         Form::U8Precision6 => {
@@ -126,12 +127,9 @@ fn push_command(alloc: Global, text: &mut String, command: &Command) -> Result<(
 }
 
 /// Adds the answer to a line, which is given without the byte 10 that ends it.
-///
-/// Where memory is refused, a part of the answer may have been added.
 #[tactic(auto, unfolding(crate::specs::Text::answer_to))]
 pub(crate) fn push_answer(alloc: Global, text: &mut String, line: &[u8]) -> Result<(), AllocError>
-    ensures added { OnOk result (string_bytes text.new ≡ string_bytes text.old ++ answer_to line.now) }
-    ensures kept { StartsWith (string_bytes text.new) (string_bytes text.old) }
+    ensures { OnOk result (string_bytes text.new ≡ string_bytes text.old ++ answer_to line.now) }
 {
     match parse(alloc, line)? {
         Some(command) => push_command(alloc, text, &command),

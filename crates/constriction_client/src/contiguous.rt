@@ -3,7 +3,7 @@
 ghost use Rattle.std.specs.Prelude.{map};
 ghost use Rattle.std.proofs.Common.{refl};
 ghost use Rattle.constriction.specs.Stored.{weights_of};
-ghost use Rattle.constriction.specs.StoredRows.{stored-tiles};
+ghost use Rattle.constriction.specs.StoredRowLemmas.{stored-tiles};
 
 use crate::form_word::FormWord;
 use crate::line_model::LineModel;
@@ -15,13 +15,14 @@ use std::alloc::{AllocError, Global};
 
 impl<Word: FormWord, const PRECISION: usize> LineModel<PRECISION>
     for ContiguousCategoricalEntropyModel<Word, Vec<Word>, PRECISION> {
-    ghost BITS = { Word.BITS };
+    type Word = Word;
 
     ghost line_rows = { ⟦<ContiguousCategoricalEntropyModel<Word, Vec<Word>, PRECISION> as EntropyModel<PRECISION>>⟧.rows };
 
-    /// A weight that is no word is taken for 0, which no model accepts.
-    fn of_weights(alloc: Global, weights: &[u64]) -> Result<Option<Self>, AllocError> {
-        let words = weights.iter().map(|weight| Word::narrowed(*weight));
+    fn from_words<I: IntoIterator<Item = Word>>(
+        alloc: Global,
+        words: I,
+    ) -> Result<Option<Self>, AllocError> {
         match Self::from_nonzero_fixed_point_probabilities(alloc, words, false) {
             Ok(model) => Ok(Some(model)),
             Err(ModelError::InvalidTable) => Ok(None),

@@ -23,6 +23,38 @@ pub trait FormWord: BitArray {
     ghost word_of_law: { (n : ℕ) → n < 2 ^ Self.BITS → Self.whole (word_of n) ≡ n };
 }
 
+/// A word as narrowing alone sees it. Each [`FormWord`] is one: a proof over it carries no other laws.
+pub trait NumberWord: Copy {
+    // The number of a word.
+    ghost whole: { Self → ℕ };
+
+    // How many bits a word has.
+    ghost BITS: { ℕ };
+
+    // The word of a number.
+    ghost word_of: { ℕ → Self };
+
+    /// The word of a number, and 0 where no word has the number.
+    fn of_number(number: u64) -> Self
+        ensures { whole result ≡ narrowed_to BITS number };
+
+    ghost word_of_law: { (n : ℕ) → n < 2 ^ BITS → whole (word_of n) ≡ n };
+}
+
+impl<Word: FormWord> NumberWord for Word {
+    ghost whole = { Word.whole };
+
+    ghost BITS = { Word.BITS };
+
+    ghost word_of = { Word.word_of };
+
+    fn of_number(number: u64) -> Word {
+        Word::narrowed(number)
+    }
+
+    ghost word_of_law = { Word.word_of_law };
+}
+
 impl FormWord for u8 {
     ghost word_of = { λ n. n };
 

@@ -15,7 +15,6 @@ mod line;
 mod line_model;
 mod program;
 mod quantiles;
-mod row_texts;
 
 pub use crate::answers::answer;
 pub use crate::fault::RunFault;

@@ -1,33 +1,43 @@
 //! The models that answer lines.
 
 ghost use Rattle.std.specs.Prelude.{◌≡◌, ◌^◌, ◌<◌, ◌≤◌, ℕ, List, true, false, length, nat_eq};
-ghost use Rattle.std.specs.Prelude.{IfOk, IfSome, IfNone};
+ghost use Rattle.std.specs.Prelude.{IfOk, IfSome, IfNone, map};
+ghost use Rattle.std.specs.Iterator.{IsFiniteIterable};
+ghost use Rattle.constriction.specs.Acceptance.{IsAccepted, GaveGood, GaveBad};
 ghost use Rattle.constriction.specs.Rows.{Row, RowsTile, IsRowOf, contiguous_rows, entry_of};
 ghost use Rattle.constriction_client.specs.Text.{are_accepted};
 
+use crate::form_word::NumberWord;
 use std::alloc::{AllocError, Global};
 
 /// A model of the weights of a line. Whatever its words are, it speaks of numbers alone, which is
 /// all that a text has: a proof over it carries no laws of words.
 pub(crate) trait LineModel<const PRECISION: usize>: Drop {
-    // How many bits its words have.
-    ghost BITS: { ℕ };
+    /// The words that its weights are.
+    type Word: NumberWord;
 
     // Its rows.
     ghost line_rows: { Self → List (Row ℕ) };
 
-    /// The model of weights, if they are accepted. They are read once, and not copied.
-    fn of_weights(alloc: Global, weights: &[u64]) -> Result<Option<Self>, AllocError>
+    /// The model of words, if they are accepted.
+    fn from_words<I: IntoIterator<Item = Self::Word>>(
+        alloc: Global,
+        words: I,
+    ) -> Result<Option<Self>, AllocError>
     where
         Self: Sized,
         requires positive { 0 < PRECISION }
-        requires fits { PRECISION ≤ BITS }
-        ensures accepted { IfOk result (λ found. IfSome found (λ _.
-            are_accepted BITS PRECISION weights.now ≡ true)) }
-        ensures rows { IfOk result (λ found. IfSome found (λ model.
-            line_rows model ≡ contiguous_rows weights.now)) }
+        requires fits { PRECISION ≤ Self.Word.BITS }
+        requires ends { IsFiniteIterable I.into_iter_gives I.IntoIter.can_next I.IntoIter.remaining words }
+        ensures accepted { IfOk result (λ found. IfSome found (λ model.
+            (it : I.IntoIter) × I.into_iter_gives words it
+            × GaveGood I.IntoIter.next_gives it (λ ws.
+            IsAccepted Self.Word.BITS PRECISION (map Self.Word.whole ws)
+            × (line_rows model ≡ contiguous_rows (map Self.Word.whole ws))))) }
         ensures refused { IfOk result (λ found. IfNone found
-            (are_accepted BITS PRECISION weights.now ≡ false)) };
+            ((it : I.IntoIter) × I.into_iter_gives words it
+            × GaveBad I.IntoIter.next_gives it (λ ws.
+            IsAccepted Self.Word.BITS PRECISION (map Self.Word.whole ws)))) };
 
     /// How many rows it has.
     fn row_count(&self) -> usize
@@ -47,5 +57,26 @@ pub(crate) trait LineModel<const PRECISION: usize>: Drop {
     ghost contiguous_law: { (m : Self) → (weights : List ℕ) × (line_rows m ≡ contiguous_rows weights) };
 
     // The rows tile the quantiles.
-    ghost tile_law: { (m : Self) → RowsTile BITS PRECISION (line_rows m) };
+    ghost tile_law: { (m : Self) → RowsTile Self.Word.BITS PRECISION (line_rows m) };
+}
+
+/// The model of weights, if they are accepted. A weight that is no word is taken for 0, which no
+/// model accepts, so the weights are read once and not copied.
+pub(crate) fn model_of<M: LineModel<PRECISION>, const PRECISION: usize>(
+    alloc: Global,
+    weights: &[u64],
+) -> Result<Option<M>, AllocError>
+    requires positive { 0 < PRECISION }
+    requires fits { PRECISION ≤ M.Word.BITS }
+    ensures accepted { IfOk result (λ found. IfSome found (λ _.
+        are_accepted M.Word.BITS PRECISION weights.now ≡ true)) }
+    ensures rows { IfOk result (λ found. IfSome found (λ model.
+        M.line_rows model ≡ contiguous_rows weights.now)) }
+    ensures refused { IfOk result (λ found. IfNone found
+        (are_accepted M.Word.BITS PRECISION weights.now ≡ false)) }
+{
+    M::from_words(
+        alloc,
+        weights.iter().map(|weight| M::Word::of_number(*weight)),
+    )
 }

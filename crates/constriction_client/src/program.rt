@@ -5,12 +5,12 @@ ghost use Rattle.std.specs.Prelude.{IfOk, IfErr, OnOk, OnErr, string_bytes};
 ghost use Rattle.std.specs.Io.KnownBytes.{Appends, Consumes, IsAtEnd, Keeps};
 ghost use Rattle.constriction_client.specs.Runs.{limit, HasRead, WritesBeginning, WritesFirstAnswers};
 ghost use Rattle.constriction_client.specs.Collecting.{WritesFront};
-ghost use Rattle.constriction_client.specs.Text.{lines_of, text_of};
+ghost use Rattle.constriction_client.specs.Text.{answer_to, lines_of, text_of};
 
 use crate::answers::push_answer;
 use crate::cut::cut;
 use crate::fault::RunFault;
-use std::alloc::Global;
+use std::alloc::{AllocError, Global};
 use std::io::{Read, Write};
 
 /// The most bytes of an input.
@@ -105,6 +105,22 @@ fn first_line(bytes: &[u8]) -> (&[u8], &[u8])
     }
 }
 
+/// Collects the answer to a line. It is made whole in a text of its own, whose memory is used again,
+/// so that a refusal of memory leaves what was collected before.
+fn collect_answer(
+    alloc: Global,
+    line: &[u8],
+    one: &mut String,
+    text: &mut String,
+) -> Result<(), AllocError>
+    ensures ok { OnOk result (string_bytes text.new ≡ string_bytes text.old ++ answer_to line.now) }
+    ensures err { OnErr result (string_bytes text.new ≡ string_bytes text.old) }
+{
+    one.clear();
+    push_answer(alloc, one, line)?;
+    text.push_str(one.as_str())
+}
+
 /// Writes collected answers, and keeps none of them, where there are many bytes of them.
 fn write_many<W: Write>(writer: &mut W, text: &mut String) -> Result<(), RunFault>
     ensures ok { OnOk result (WritesFront (W.contents writer.old) (W.contents writer.new)
@@ -146,13 +162,13 @@ fn write_answers<W: Write>(alloc: Global, input: &[u8], writer: &mut W) -> Resul
     ensures faults { IfErr result (λ fault. (fault ≢ RunFault.Read) × (fault ≢ RunFault.TooLong)) }
 {
     let mut text = String::new(alloc);
+    let mut one = String::new(alloc);
     let mut rest = input;
     while !rest.is_empty() {
         let (line, after) = first_line(rest);
-        let whole = text.len();
-        match push_answer(alloc, &mut text, line) {
+        match collect_answer(alloc, line, &mut one, &mut text) {
             Ok(()) => {}
-            Err(_) => return Err(write_last(writer, &text.as_bytes()[..whole])),
+            Err(_) => return Err(write_last(writer, text.as_bytes())),
         }
         write_many(writer, &mut text)?;
         rest = after;

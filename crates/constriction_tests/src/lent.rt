@@ -35,7 +35,8 @@ fn set_written<Word: Copy, Buf: SafeBufMut<Word>>(cursor: &mut Cursor<Word, Buf>
 #[tactic(auto, using(constriction_backends::specs::BufferLaws::set_back))]
 fn set_unwritten<Word: Copy, Buf: SafeBufMut<Word>>(cursor: &mut Cursor<Word, Buf>, word: Word)
     requires { pos_of cursor.old < length (Buf.words_of (buf_of cursor.old)) }
-    ensures buf { buf_of cursor.new ≡ Buf.with_words (buf_of cursor.old) (slice_set (Buf.words_of (buf_of cursor.old)) (pos_of cursor.old) word) }
+    ensures buf { buf_of cursor.new ≡ Buf.with_words (buf_of cursor.old)
+        (slice_set (Buf.words_of (buf_of cursor.old)) (pos_of cursor.old) word) }
     ensures pos { pos_of cursor.new ≡ pos_of cursor.old }
 {
     let words = cursor.unwritten_mut();
@@ -55,7 +56,8 @@ fn set_slice(words: &mut [u8], pos: usize, word: u8)
 /// The words that a cursor lends, written through another cursor.
 fn set_through_another<Buf: SafeBufMut<u8>>(cursor: &mut Cursor<u8, Buf>, word: u8)
     requires { pos_of cursor.old < length (Buf.words_of (buf_of cursor.old)) }
-    ensures buf { buf_of cursor.new ≡ Buf.with_words (buf_of cursor.old) (slice_set (Buf.words_of (buf_of cursor.old)) (pos_of cursor.old) word) }
+    ensures buf { buf_of cursor.new ≡ Buf.with_words (buf_of cursor.old)
+        (slice_set (Buf.words_of (buf_of cursor.old)) (pos_of cursor.old) word) }
     ensures pos { pos_of cursor.new ≡ pos_of cursor.old }
 {
     let pos = cursor.pos();

@@ -32,15 +32,20 @@ fn buffers_lend_their_words(rt: HostRuntime) -> Result<(), Fail> {
 
 #[test]
 fn buffers_are_written(rt: HostRuntime) -> Result<(), Fail> {
-    let mut words = [3u8, 18, 1, 42];
-    let mut copy = words;
+    let words = [3u8, 18, 1, 42];
     is_written(&rt, &mut words.to_vec(rt.alloc())?);
     let mut marked = Marked::new(words.to_vec(rt.alloc())?);
     is_written(&rt, &mut marked);
     same(&rt, (marked.first, marked.last), (7, 9));
+    Ok(())
+}
+
+#[test]
+fn borrowed_buffers_are_written(rt: HostRuntime) {
+    let mut words = [3u8, 18, 1, 42];
+    let mut copy = words;
     let mut array: &mut [u8; 4] = &mut copy;
     is_written(&rt, &mut array);
     let mut slice: &mut [u8] = &mut words;
     is_written(&rt, &mut slice);
-    Ok(())
 }

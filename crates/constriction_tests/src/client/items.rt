@@ -15,6 +15,7 @@ use constriction_client::laws::there_and_back;
 use constriction_client::{QuantileFault, ReadFault, read_symbols, write_quantiles};
 use constriction_words::{BitArray, CoderError, Queue, Stack};
 use std::alloc::{AllocError, Global};
+use std::convert::Infallible;
 use std::test::Fail;
 
 type Small = ContiguousCategoricalEntropyModel<u8, Vec<u8>, 6>;
@@ -24,6 +25,18 @@ type Full = ContiguousCategoricalEntropyModel<u8, Vec<u8>, 8>;
 /// The model of the weights 3, 18, 1 and 42.
 fn small(alloc: Global) -> Result<Small, ModelError> {
     Small::from_nonzero_fixed_point_probabilities(alloc, [3u8, 18, 1, 42].iter().copied(), false)
+}
+
+type Written = Result<(), CoderError<QuantileFault, AllocError>>;
+
+type Read = Result<usize, CoderError<ReadFault, Infallible>>;
+
+fn write(model: &Small, items: &[(usize, u8)], words: &mut Vec<u8>) -> Written {
+    write_quantiles(model, items, words)
+}
+
+fn read(model: &Small, words: &mut Vec<u8>, count: usize, out: &mut Vec<(usize, u8)>) -> Read {
+    read_symbols::<Stack, _, _, 6>(model, words, count, out)
 }
 
 /// The model of the weights 200 and 56, whose quantiles are all words.
@@ -36,12 +49,12 @@ fn three_items_come_back_from_a_stack_reversed(rt: HostRuntime) -> Result<(), Fa
     let model = small(rt.alloc())?;
     let items = [(0usize, 2u8), (3, 41), (1, 0)];
     let mut words = Vec::new(rt.alloc());
-    let written = write_quantiles(&model, &items, &mut words);
+    let written = write(&model, &items, &mut words);
     same(&rt, written, Ok(()));
     same(&rt, words.as_slice(), [2, 63, 3].as_slice());
     let mut out = Vec::new(rt.alloc());
-    let read = read_symbols::<Stack, _, _, 6>(&model, &mut words, 3, &mut out);
-    same(&rt, read, Ok(3));
+    let answer = read(&model, &mut words, 3, &mut out);
+    same(&rt, answer, Ok(3));
     same(&rt, out.as_slice(), [(1, 0), (3, 41), (0, 2)].as_slice());
     same(&rt, words.is_empty(), true);
     Ok(())
@@ -55,33 +68,38 @@ fn three_items_go_there_and_back(rt: HostRuntime) -> Result<(), Fail> {
     Ok(())
 }
 
+/// Items of which one has no quantile, and why.
+const FAULTS: [(&str, [(usize, u8); 3], QuantileFault); 3] = [
+    (
+        "an offset of the weight",
+        [(0, 2), (2, 1), (9, 0)],
+        QuantileFault::OffsetTooLarge,
+    ),
+    (
+        "a symbol past the last one",
+        [(0, 2), (4, 0), (2, 1)],
+        QuantileFault::ImpossibleSymbol,
+    ),
+    (
+        "a symbol that is no word",
+        [(0, 2), (usize::MAX, 9), (2, 1)],
+        QuantileFault::ImpossibleSymbol,
+    ),
+];
+
+fn is_refused(alloc: Global, model: &Small, items: &[(usize, u8)]) -> bool {
+    there_and_back(alloc, model, items).is_err()
+}
+
 #[test]
 fn the_words_before_a_fault_stay_written(rt: HostRuntime) -> Result<(), Fail> {
     let model = small(rt.alloc())?;
-    let cases = [
-        (
-            "an offset of the weight",
-            [(0usize, 2u8), (2, 1), (9, 0)],
-            QuantileFault::OffsetTooLarge,
-        ),
-        (
-            "a symbol past the last one",
-            [(0, 2), (4, 0), (2, 1)],
-            QuantileFault::ImpossibleSymbol,
-        ),
-        (
-            "a symbol that is no word",
-            [(0, 2), (usize::MAX, 9), (2, 1)],
-            QuantileFault::ImpossibleSymbol,
-        ),
-    ];
-    for (name, items, fault) in cases {
+    for (name, items, fault) in FAULTS {
         let mut words = [7u8].to_vec(rt.alloc())?;
-        let written = write_quantiles(&model, &items, &mut words);
-        let is_refused = there_and_back(rt.alloc(), &model, &items).is_err();
+        let written = write(&model, &items, &mut words);
         same_at(&rt, name, written, Err(CoderError::Frontend(fault)));
         same_at(&rt, name, words.as_slice(), [7, 2].as_slice());
-        same_at(&rt, name, is_refused, true);
+        same_at(&rt, name, is_refused(rt.alloc(), &model, &items), true);
     }
     Ok(())
 }
@@ -91,10 +109,10 @@ fn a_word_that_is_no_quantile_is_gone(rt: HostRuntime) -> Result<(), Fail> {
     let model = small(rt.alloc())?;
     let mut words = [2u8, 64, 63].to_vec(rt.alloc())?;
     let mut out = [(2usize, 0u8)].to_vec(rt.alloc())?;
-    let read = read_symbols::<Stack, _, _, 6>(&model, &mut words, 3, &mut out);
+    let answer = read(&model, &mut words, 3, &mut out);
     same(
         &rt,
-        read,
+        answer,
         Err(CoderError::Frontend(ReadFault::QuantileTooLarge)),
     );
     same(&rt, words.as_slice(), [2].as_slice());
@@ -114,8 +132,8 @@ fn no_more_words_are_read_than_are_asked_for(rt: HostRuntime) -> Result<(), Fail
     for (count, pairs, left, expected) in cases {
         let mut words = [2u8, 63].to_vec(rt.alloc())?;
         let mut out = Vec::new(rt.alloc());
-        let read = read_symbols::<Stack, _, _, 6>(&model, &mut words, count, &mut out);
-        same_at(&rt, count, read, Ok(pairs));
+        let answer = read(&model, &mut words, count, &mut out);
+        same_at(&rt, count, answer, Ok(pairs));
         same_at(&rt, count, words.as_slice(), left);
         same_at(&rt, count, out.as_slice(), expected);
     }
@@ -152,7 +170,7 @@ fn a_refusal_of_memory_ends_what_is_written(rt: HostRuntime) {
         return;
     };
     let mut words = Vec::new(rt.alloc());
-    let written = write_quantiles(&model, &ITEMS, &mut words);
+    let written = write(&model, &ITEMS, &mut words);
     let expected = match words.len() {
         6 => Ok(()),
         _ => Err(CoderError::Backend(AllocError)),
@@ -171,12 +189,12 @@ fn a_refusal_of_memory_ends_what_is_read(rt: HostRuntime) {
         return;
     };
     let mut out = Vec::new(rt.alloc());
-    let read = read_symbols::<Stack, _, _, 6>(&model, &mut words, 6, &mut out);
+    let answer = read(&model, &mut words, 6, &mut out);
     let (expected, in_all) = match out.len() {
         6 => (Ok(6), 6),
         _ => (Err(CoderError::Frontend(ReadFault::OutOfMemory)), 5),
     };
-    same(&rt, read, expected);
+    same(&rt, answer, expected);
     same(&rt, out.len().checked_add(words.len()), Some(in_all));
     same(&rt, REVERSED.starts_with(out.as_slice()), true);
 }

@@ -8,6 +8,7 @@ use constriction_client::laws::{
 use constriction_client::{RunFault, answer, run};
 use std::alloc::Global;
 use std::io::{self, Read, Write};
+use std::process::Abort;
 use std::test::Fail;
 
 /// The most bytes of an input.
@@ -65,71 +66,92 @@ impl Write for SlowWriter {
     }
 }
 
-/// The answer to an input, read at once, and read byte by byte.
-fn answers(
-    alloc: Global,
-    input: &str,
-) -> (Result<(), RunFault>, Vec<u8>, Result<(), RunFault>, Vec<u8>) {
+/// Takes all that it is given, and counts the turns.
+#[derive(Drop)]
+struct CountingWriter {
+    bytes: usize,
+    turns: usize,
+}
+
+impl Write for CountingWriter {
+    fn write(&mut self, buf: &[u8]) -> io::Result<usize> {
+        self.bytes = self.bytes.saturating_add(buf.len());
+        self.turns = self.turns.saturating_add(1);
+        Ok(buf.len())
+    }
+
+    fn flush(&mut self) -> io::Result<()> {
+        Ok(())
+    }
+}
+
+/// Inputs, and what is answered to them.
+const CASES: [(&str, &str); 35] = [
+    ("", ""),
+    ("table u8/6", "invalid\n"),
+    ("table u8/6\n", "invalid\n"),
+    ("table u8/6 064\n", "0 0 64\n"),
+    ("\n", "bad line\n"),
+    ("\n\n", "bad line\nbad line\n"),
+    ("table\n", "bad line\n"),
+    ("quantile u8/6\n", "bad line\n"),
+    ("symbol u8/6\n", "bad line\n"),
+    ("table  u8/6 64\n", "bad line\n"),
+    (" table u8/6 64\n", "bad line\n"),
+    ("table u8/6 64 \n", "bad line\n"),
+    ("table u8/6 64\r\n", "bad line\n"),
+    ("table u8/6 +64\n", "bad line\n"),
+    ("table u8/6 00000000000000000064\n", "0 0 64\n"),
+    ("table u8/6 000000000000000000064\n", "bad line\n"),
+    ("table u8/6 18446744073709551616\n", "bad line\n"),
+    ("table u8/6 18446744073709551615\n", "invalid\n"),
+    ("table u8/6 320\n", "invalid\n"),
+    ("table u8/6 3 18 1 43\n", "invalid\n"),
+    ("table u8/6 3 0 61\n", "invalid\n"),
+    ("table u7/6 1\n", "bad line\n"),
+    ("infer u8/8 200\n", "bad line\n"),
+    ("table u8/6 3 18 1 42\n", "0 0 3\n1 3 18\n2 21 1\n3 22 42\n"),
+    ("quantile u8/6 21 3 18 1 42\n", "2 21 1\n"),
+    ("quantile u8/6 63 3 18 1 42\n", "3 22 42\n"),
+    ("quantile u8/6 64 64\n", "range\n"),
+    ("quantile u8/6 256 64\n", "range\n"),
+    ("quantile u8/6 64 63\n", "invalid\n"),
+    ("quantile u8/6 3\n", "invalid\n"),
+    ("symbol u8/6 1 3 18 1 42\n", "1 3 18\n"),
+    ("symbol u8/6 4 3 18 1 42\n", "none\n"),
+    ("symbol u8/6 18446744073709551615 64\n", "none\n"),
+    ("symbol u8/6 5 63\n", "invalid\n"),
+    (
+        "table u8/6 64\n\nsymbol u8/6 0 64",
+        "0 0 64\nbad line\n0 0 64\n",
+    ),
+];
+
+/// An input is answered by this text, read at once, and read byte by byte.
+fn is_answered(rt: &impl Abort, alloc: Global, input: &str, text: &str) {
     let mut reader = input.as_bytes();
     let mut written = Vec::new(alloc);
     let result = run(alloc, &mut reader, &mut written);
-    let mut slow = SlowReader {
+    same_at(rt, input, result, Ok(()));
+    same_at(rt, input, written.as_slice(), text.as_bytes());
+}
+
+fn is_answered_slowly(rt: &impl Abort, alloc: Global, input: &str, text: &str) {
+    let mut reader = SlowReader {
         rest: input.as_bytes(),
         turns: 1000,
     };
-    let mut again = Vec::new(alloc);
-    let slow_result = run(alloc, &mut slow, &mut again);
-    (result, written, slow_result, again)
+    let mut written = Vec::new(alloc);
+    let result = run(alloc, &mut reader, &mut written);
+    same_at(rt, input, result, Ok(()));
+    same_at(rt, input, written.as_slice(), text.as_bytes());
 }
 
 #[test]
 fn lines_are_answered(rt: HostRuntime) {
-    let cases = [
-        ("", ""),
-        ("table u8/6", "invalid\n"),
-        ("table u8/6\n", "invalid\n"),
-        ("table u8/6 064\n", "0 0 64\n"),
-        ("\n", "bad line\n"),
-        ("\n\n", "bad line\nbad line\n"),
-        ("table\n", "bad line\n"),
-        ("quantile u8/6\n", "bad line\n"),
-        ("symbol u8/6\n", "bad line\n"),
-        ("table  u8/6 64\n", "bad line\n"),
-        (" table u8/6 64\n", "bad line\n"),
-        ("table u8/6 64 \n", "bad line\n"),
-        ("table u8/6 64\r\n", "bad line\n"),
-        ("table u8/6 +64\n", "bad line\n"),
-        ("table u8/6 00000000000000000064\n", "0 0 64\n"),
-        ("table u8/6 000000000000000000064\n", "bad line\n"),
-        ("table u8/6 18446744073709551616\n", "bad line\n"),
-        ("table u8/6 18446744073709551615\n", "invalid\n"),
-        ("table u8/6 320\n", "invalid\n"),
-        ("table u8/6 3 18 1 43\n", "invalid\n"),
-        ("table u8/6 3 0 61\n", "invalid\n"),
-        ("table u7/6 1\n", "bad line\n"),
-        ("infer u8/8 200\n", "bad line\n"),
-        ("table u8/6 3 18 1 42\n", "0 0 3\n1 3 18\n2 21 1\n3 22 42\n"),
-        ("quantile u8/6 21 3 18 1 42\n", "2 21 1\n"),
-        ("quantile u8/6 63 3 18 1 42\n", "3 22 42\n"),
-        ("quantile u8/6 64 64\n", "range\n"),
-        ("quantile u8/6 256 64\n", "range\n"),
-        ("quantile u8/6 64 63\n", "invalid\n"),
-        ("quantile u8/6 3\n", "invalid\n"),
-        ("symbol u8/6 1 3 18 1 42\n", "1 3 18\n"),
-        ("symbol u8/6 4 3 18 1 42\n", "none\n"),
-        ("symbol u8/6 18446744073709551615 64\n", "none\n"),
-        ("symbol u8/6 5 63\n", "invalid\n"),
-        (
-            "table u8/6 64\n\nsymbol u8/6 0 64",
-            "0 0 64\nbad line\n0 0 64\n",
-        ),
-    ];
-    for (input, text) in cases {
-        let (result, written, slow_result, again) = answers(rt.alloc(), input);
-        same_at(&rt, input, result, Ok(()));
-        same_at(&rt, input, written.as_slice(), text.as_bytes());
-        same_at(&rt, input, slow_result, Ok(()));
-        same_at(&rt, input, again.as_slice(), text.as_bytes());
+    for (input, text) in CASES {
+        is_answered(&rt, rt.alloc(), input, text);
+        is_answered_slowly(&rt, rt.alloc(), input, text);
     }
 }
 
@@ -221,4 +243,38 @@ fn laws_and_answers_may_be_called(rt: HostRuntime) -> Result<(), Fail> {
     let text = answer(rt.alloc(), b"table u8/6 1 63")?;
     same(&rt, text.as_str(), "0 0 1\n1 1 63\n");
     Ok(())
+}
+
+/// The answers to 20,000 lines, 9 bytes each, are two pieces of 65,538 bytes and what is left.
+#[test]
+fn answers_are_written_in_large_pieces(rt: HostRuntime) -> Result<(), Fail> {
+    let input = vec![in rt.alloc(); b'\n'; 20_000]?;
+    let mut reader = input.as_slice();
+    let mut writer = CountingWriter { bytes: 0, turns: 0 };
+    let result = run(rt.alloc(), &mut reader, &mut writer);
+    same(&rt, result, Ok(()));
+    same(&rt, (writer.bytes, writer.turns), (180_000, 3));
+    Ok(())
+}
+
+/// The whole text, or the answers before a refusal of memory, each of them whole:
+/// `rt try --test --fail-alloc N` refuses each request in turn.
+#[test]
+fn answers_before_a_refusal_of_memory_are_written(rt: HostRuntime) {
+    let mut room = [0u8; 29];
+    let mut reader = b"table u8/6 64\n\ntable u8/6 1 63\n".as_slice();
+    let mut writer = room.as_mut_slice();
+    let result = run(rt.alloc(), &mut reader, &mut writer);
+    let places = writer.len();
+    match result {
+        Ok(()) => same(&rt, places, 0),
+        Err(fault) => {
+            same(&rt, fault, RunFault::OutOfMemory);
+            assert!(rt; matches!(places, 29 | 22 | 13));
+        }
+    }
+    let text = b"0 0 64\nbad line\n0 0 1\n1 1 63\n".as_slice();
+    for (byte, expected) in room.iter().zip(text) {
+        assert!(rt; *byte == *expected || *byte == 0);
+    }
 }

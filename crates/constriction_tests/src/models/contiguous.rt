@@ -8,7 +8,7 @@ use constriction::stream::model::{
     row_of_quantile,
 };
 use constriction_words::NonZeroBitArray;
-use std::alloc::Global;
+use std::alloc::{AllocError, Global};
 use std::process::Abort;
 use std::test::Fail;
 
@@ -44,6 +44,18 @@ fn plain(row: (usize, u8, Weight<u8>)) -> (usize, u8, u8) {
     (symbol, left, weight.get())
 }
 
+/// The row of a quantile.
+fn row_of(model: &Small, quantile: u8) -> Result<(usize, u8, u8), AllocError>
+    requires { quantile < 64 }
+{
+    Ok(plain(model.quantile_function(quantile)?))
+}
+
+/// The same at the full width.
+fn row_at_the_full_width(model: &Full, quantile: u8) -> Result<(usize, u8, u8), AllocError> {
+    Ok(plain(model.quantile_function(quantile)?))
+}
+
 /// The entry of a symbol with its weight as a plain word.
 fn entry_of(model: &Small, symbol: usize) -> Option<(u8, u8)> {
     let (left, weight) = model.left_cumulative_and_probability(&symbol)?;
@@ -54,7 +66,7 @@ fn entry_of(model: &Small, symbol: usize) -> Option<(u8, u8)> {
 fn each_quantile_has_the_row_that_a_scan_finds(rt: HostRuntime) -> Result<(), Fail> {
     let model = small(rt.alloc(), &WEIGHTS, false)?;
     for quantile in 0..64u8 {
-        let (symbol, left, weight) = plain(model.quantile_function(quantile)?);
+        let (symbol, left, weight) = row_of(&model, quantile)?;
         same(
             &rt,
             (Some((symbol, left, weight)), entry_of(&model, symbol)),
@@ -98,7 +110,7 @@ fn the_search_asks_at_most_two_questions_of_four_rows(rt: HostRuntime) -> Result
     let model = small(rt.alloc(), &WEIGHTS, false)?;
     for (quantile, symbol) in [(2u8, 0usize), (3, 1), (20, 1), (21, 2), (22, 3), (63, 3)] {
         assert!(rt; quantile < 64);
-        let (answered, _, _) = plain(model.quantile_function(quantile)?);
+        let (answered, _, _) = row_of(&model, quantile)?;
         let (found, size, before, asked) = searched(&model, quantile);
         same_at(
             &rt,
@@ -115,7 +127,7 @@ fn one_row_is_found_without_a_question(rt: HostRuntime) -> Result<(), Fail> {
     let model = small(rt.alloc(), &[64], false)?;
     same(
         &rt,
-        (searched(&model, 63), plain(model.quantile_function(63)?)),
+        (searched(&model, 63), row_of(&model, 63)?),
         ((Some(0), 1, 0, 0), (0, 0, 64)),
     );
     Ok(())
@@ -132,70 +144,44 @@ fn is_accepted<Model: Drop>(rt: &impl Abort, name: &str, made: Result<Model, Mod
     }
 }
 
+/// Weights, whether the last one is inferred, and whether they are accepted.
+const TABLES: [(&str, &[u8], bool, bool); 12] = [
+    ("the sum is one too many", &[3, 18, 1, 43], false, false),
+    ("a weight of 0", &[3, 0, 61], false, false),
+    ("no weight", &[], false, false),
+    ("one weight too few", &[3, 18, 1], false, false),
+    ("a weight after the last quantile", &[64, 1], false, false),
+    ("a greater word than quantiles", &[65], false, false),
+    ("the wrapped sum is 64", &[255, 65], false, false),
+    ("one symbol", &[64], false, true),
+    ("the last one is inferred", &[3, 18, 1], true, true),
+    ("the only one is inferred", &[], true, true),
+    ("nothing is left to infer", &[64], true, false),
+    ("less than nothing is left", &[60, 5], true, false),
+];
+
 #[test]
 fn weights_are_accepted_exactly_where_they_tile(rt: HostRuntime) {
-    let cases = [
-        (
-            "the sum is one too many",
-            [3u8, 18, 1, 43].as_slice(),
-            false,
-            false,
-        ),
-        ("a weight of 0", [3, 0, 61].as_slice(), false, false),
-        ("no weight", [].as_slice(), false, false),
-        ("one weight too few", [3, 18, 1].as_slice(), false, false),
-        (
-            "a weight after the last quantile",
-            [64, 1].as_slice(),
-            false,
-            false,
-        ),
-        (
-            "a greater word than quantiles",
-            [65].as_slice(),
-            false,
-            false,
-        ),
-        ("the wrapped sum is 64", [255, 65].as_slice(), false, false),
-        ("one symbol", [64].as_slice(), false, true),
-        (
-            "the last one is inferred",
-            [3, 18, 1].as_slice(),
-            true,
-            true,
-        ),
-        ("the only one is inferred", [].as_slice(), true, true),
-        ("nothing is left to infer", [64].as_slice(), true, false),
-        ("less than nothing is left", [60, 5].as_slice(), true, false),
-    ];
-    for (name, weights, infer, expected) in cases {
+    for (name, weights, infer, expected) in TABLES {
         let made = small(rt.alloc(), weights, infer);
         same_at(&rt, name, is_accepted(&rt, name, made), expected);
     }
 }
 
+/// The same at the full width.
+const FULL_TABLES: [(&str, &[u8], bool, bool); 7] = [
+    ("the wrapped sum is 0", &[128, 128, 128, 128], false, false),
+    ("a weight of 0 for all", &[0], false, false),
+    ("two halves", &[128, 128], false, true),
+    ("56 is inferred", &[200], true, true),
+    ("1 is inferred", &[255], true, true),
+    ("256 is no word", &[], true, false),
+    ("nothing is left to infer", &[128, 128], true, false),
+];
+
 #[test]
 fn weights_are_accepted_at_the_full_width_exactly_where_they_tile(rt: HostRuntime) {
-    let cases = [
-        (
-            "the wrapped sum is 0",
-            [128u8, 128, 128, 128].as_slice(),
-            false,
-            false,
-        ),
-        ("a weight of 0 for all", [0].as_slice(), false, false),
-        ("two halves", [128, 128].as_slice(), false, true),
-        ("56 is inferred", [200].as_slice(), true, true),
-        ("1 is inferred", [255].as_slice(), true, true),
-        ("256 is no word", [].as_slice(), true, false),
-        (
-            "nothing is left to infer",
-            [128, 128].as_slice(),
-            true,
-            false,
-        ),
-    ];
-    for (name, weights, infer, expected) in cases {
+    for (name, weights, infer, expected) in FULL_TABLES {
         let made = full(rt.alloc(), weights, infer);
         same_at(&rt, name, is_accepted(&rt, name, made), expected);
     }
@@ -210,7 +196,7 @@ fn last_rows_at_the_full_width(rt: HostRuntime) -> Result<(), Fail> {
     ];
     for (weights, infer, row) in cases {
         let model = full(rt.alloc(), weights, infer)?;
-        same(&rt, plain(model.quantile_function(255)?), row);
+        same(&rt, row_at_the_full_width(&model, 255)?, row);
     }
     Ok(())
 }
@@ -219,7 +205,7 @@ fn last_rows_at_the_full_width(rt: HostRuntime) -> Result<(), Fail> {
 fn a_probe_of_256_rows_is_asked_at_most_8_questions(rt: HostRuntime) -> Result<(), Fail> {
     let ones = vec![in rt.alloc(); 1u8; 256]?;
     let model = full(rt.alloc(), &ones, false)?;
-    let (symbol, _, _) = plain(model.quantile_function(200)?);
+    let (symbol, _, _) = row_at_the_full_width(&model, 200)?;
     let (_, mut rows) = model.quantile_probe(200);
     let index = row_of_quantile(&mut rows, 200);
     same(
@@ -249,16 +235,22 @@ where
 }
 
 #[test]
+fn a_model_is_used_through_bounds(rt: HostRuntime) -> Result<(), Fail> {
+    let model = small(rt.alloc(), &WEIGHTS, false)?;
+    same(&rt, symbol_through_bounds(model, 3u8), Some(1));
+    Ok(())
+}
+
+#[test]
 fn a_reference_to_a_model_is_a_model(rt: HostRuntime) -> Result<(), Fail> {
     let model = small(rt.alloc(), &WEIGHTS, false)?;
-    same(
-        &rt,
-        [
-            symbol_through_bounds(&model, 21u8),
-            symbol_through_bounds(&&model, 22),
-            symbol_through_bounds(model, 3),
-        ],
-        [Some(2), Some(3), Some(1)],
-    );
+    same(&rt, symbol_through_bounds(&model, 21u8), Some(2));
+    Ok(())
+}
+
+#[test]
+fn a_reference_to_a_reference_is_a_model(rt: HostRuntime) -> Result<(), Fail> {
+    let model = small(rt.alloc(), &WEIGHTS, false)?;
+    same(&rt, symbol_through_bounds(&&model, 22u8), Some(3));
     Ok(())
 }

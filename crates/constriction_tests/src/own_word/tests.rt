@@ -1,6 +1,6 @@
 //! Samples where only the bound of words is known, and as the probabilities of a model.
 
-ghost use Rattle.std.specs.Prelude.{◌≡◌, ◌/◌, ◌<◌};
+ghost use Rattle.std.specs.Prelude.{◌≡◌, ◌/◌};
 
 use crate::checks::{same, same_at};
 use crate::own_word::Sample;

@@ -5,14 +5,14 @@ use Rattle.constriction.specs.Rows.{Row}
 use Rattle.constriction_client.proofs.RowTexts.{is_below, quantile_line}
 use Rattle.constriction_client.proofs.answers.push_quantile.Goals as goal
 
-pub returns-clause-added : goal.returns-clause-added
-returns-clause-added g c =
+pub returns : goal.returns
+returns g c =
     let rows = g.M.LineModel.line_rows c.args.model.now in
     let q = c.args.quantile in
     let below = is_below g.row.PRECISION q c.if-quantile-ne0.false in
     let row : Row ℕ = record { symbol = c.in_ok-symbol.symbol; left = c.in_ok-symbol.left; weight = c.in_ok-symbol.weight } in
-    let line = quantile_line g.M.LineModel.BITS g.row.PRECISION rows q row below
-        (g.met.M.LineModel.tile_law c.args.model.now) c.in_ok-symbol.ensures in
+    let line = quantile_line g.M.Word.NumberWord.BITS g.row.PRECISION rows q row below
+    (g.met.M.LineModel.tile_law c.args.model.now) c.in_ok-symbol.ensures in
     let P : List ℕ → Type 0 =
     λ bytes. OnOk c.push_row.result (string_bytes c.push_row.new.text ≡ string_bytes c.args.text.now ++ bytes) in
-    subst P line c.push_row.ensures.added
+    subst P line c.push_row.ensures

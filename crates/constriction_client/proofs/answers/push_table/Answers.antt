@@ -1,5 +1,4 @@
 use Rattle.std.proofs.Common.{arith, rules}
-use Rattle.constriction_client.proofs.Growing.{kept-on}
 use Rattle.constriction_client.proofs.RowTexts.{entry_is_there, rows_more}
 use Rattle.constriction_client.proofs.answers.push_table.Goals as goal
 
@@ -9,10 +8,7 @@ unwrap-left-requires g c =
     (omega (arith, c.row_count-symbol-end.ensures)) c.entry.ensures
 
 pub loop-symbol-preserved : goal.loop-symbol-preserved
-loop-symbol-preserved g c = record {
-  so_far =
-      rows_more _ (g.met.M.LineModel.contiguous_law c.args.model.now) c.loop-symbol.symbol _ _ c.entry.result _ _ _
-      (omega (arith, c.row_count-symbol-end.ensures)) c.entry.ensures (search rules) c.in_ok-push_row.ensures.added
-      c.loop-symbol.invariant.so_far;
-  kept = kept-on _ _ _ c.loop-symbol.invariant.kept c.push_row.ensures.kept;
-}
+loop-symbol-preserved g c =
+    rows_more _ (g.met.M.LineModel.contiguous_law c.args.model.now) c.loop-symbol.symbol _ _ c.entry.result _ _ _
+    (omega (arith, c.row_count-symbol-end.ensures)) c.entry.ensures (search rules) c.in_ok-push_row.ensures
+    c.loop-symbol.invariant

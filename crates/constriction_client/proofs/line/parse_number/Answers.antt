@@ -23,5 +23,5 @@ returns-in_err-value c =
 pub returns : goal.returns
 returns c =
     read_number-end c.args.word.now c.loop-byte.byte-index c.loop-byte.value c.loop-byte-test.false
-        c.loop-byte.invariant.digits c.loop-byte.invariant.value
+    c.loop-byte.invariant.digits c.loop-byte.invariant.value
     (omega (arith, eqb-false (length c.args.word.now) 0 (sym c.if-is_empty.ensures))) c.if-word-gt-DIGITS.false c.loop-byte.invariant.small

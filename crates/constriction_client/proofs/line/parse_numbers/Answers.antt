@@ -12,7 +12,7 @@ returns-in-None c =
 pub loop-rest-preserved : goal.loop-rest-preserved
 loop-rest-preserved c =
     numbers_some c.cut.result.0.now _ _ c.in-Some-parse_number.number c.loop-rest.numbers.items _ _
-        c.cut.ensures.parts c.in-Some-parse_number.ensures
+    c.cut.ensures.parts c.in-Some-parse_number.ensures
     c.in_ok-push-in-Some-parse_number.ensures.items (rw c.in-Some.is at c.loop-rest.invariant)
 
 pub returns : goal.returns

@@ -1,6 +1,6 @@
 use Rattle.std.proofs.Common.{rules}
-use Rattle.constriction_client.proofs.Writing.{answered-none, answered-more, answered-written, answered-all, answered-stopped}
-use Rattle.constriction_client.proofs.Writing.{answered-kept, answered-whole, same-fault, if-ok}
+use Rattle.constriction_client.proofs.Writing.{answered-none, answered-more, answered-written, answered-first}
+use Rattle.constriction_client.proofs.Writing.{answered-all, answered-stopped, same-fault, if-ok}
 use Rattle.constriction_client.proofs.program.write_answers.Goals as goal
 
 pub loop-rest-init : goal.loop-rest-init
@@ -10,24 +10,24 @@ pub loop-rest-preserved : goal.loop-rest-preserved
 loop-rest-preserved g c =
     answered-written _ _ _ c.args.input.now _ _ _
     (answered-more _ _ c.first_line.result.0.now c.args.input.now _ c.first_line.result.1.now _ _
-        c.loop-rest.invariant c.first_line.ensures.lines c.in-Ok.ensures.added)
+    c.loop-rest.invariant c.first_line.ensures.lines c.in-Ok.ensures.ok)
     c.in_ok-write_many.ensures.ok
 
 pub returns-in-Err-clause-out_of_memory : goal.returns-in-Err-clause-out_of_memory
 returns-in-Err-clause-out_of_memory g c = λ e.
-    answered-whole _ _ _ c.args.input.now _ _ _ _ c.len-whole.result c.loop-rest.invariant c.push_answer.ensures.kept (search rules)
-    c.as_bytes.ensures.value (c.write_last.ensures.out_of_memory (same-fault _ _ e))
+    answered-first _ _ _ c.args.input.now _ _ c.loop-rest.invariant
+    (rw (c.as_bytes.ensures.value, c.in-Err.ensures.err) at (c.write_last.ensures.out_of_memory (same-fault _ _ e)))
 
 pub returns-in-Err-clause-write : goal.returns-in-Err-clause-write
 returns-in-Err-clause-write g c = λ e.
-    answered-kept _ _ _ c.args.input.now _ _ _ _ c.len-whole.result c.loop-rest.invariant c.push_answer.ensures.kept (search rules)
-    c.as_bytes.ensures.value (c.write_last.ensures.write (same-fault _ _ e))
+    answered-stopped _ _ _ c.args.input.now _ _ c.loop-rest.invariant
+    (rw (c.as_bytes.ensures.value, c.in-Err.ensures.err) at (c.write_last.ensures.write (same-fault _ _ e)))
 
 pub returns-in_err-write_many-clause-write : goal.returns-in_err-write_many-clause-write
 returns-in_err-write_many-clause-write g c = λ e.
     answered-stopped _ _ _ c.args.input.now _ _
     (answered-more _ _ c.first_line.result.0.now c.args.input.now _ c.first_line.result.1.now _ _
-        c.loop-rest.invariant c.first_line.ensures.lines c.in-Ok.ensures.added)
+    c.loop-rest.invariant c.first_line.ensures.lines c.in-Ok.ensures.ok)
     c.in_err-write_many.ensures.err
 
 pub returns-clause-ok : goal.returns-clause-ok
