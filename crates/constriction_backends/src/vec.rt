@@ -59,8 +59,7 @@ impl<Word: Drop> WriteWords<Word> for Vec<Word> {
     ghost has_room = { λ _. ⊤ };
 
     #[inline]
-    fn write(&mut self, word: Word) -> Result<(), AllocError>
-    {
+    fn write(&mut self, word: Word) -> Result<(), AllocError> {
         self.push(word)?;
         Ok(())
     }

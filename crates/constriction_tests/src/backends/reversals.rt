@@ -1,5 +1,7 @@
 //! Backends that are read in the other order, and cursors that are turned round.
 
+ghost use Rattle.std.specs.Prelude.{◌≡◌};
+
 use crate::backends::marked::Marked;
 use crate::checks::same;
 use constriction_backends::{
@@ -141,14 +143,28 @@ fn a_reversed_stack_is_a_queue(rt: HostRuntime) -> Result<(), Fail> {
 }
 
 #[test]
-fn laws_of_cursors_may_be_called(rt: HostRuntime) -> Result<(), Fail> {
+fn laws_of_cursors_may_be_called(_rt: HostRuntime) {
     laws::reversal_twice::<u8>();
     laws::reversal_reads::<u8, u8>();
     laws::seek_back_in_a_cursor::<u8, Vec<u8>>();
     laws::extending_overwrites::<u8, Vec<u8>, BoundedWriteError>();
+    laws::turned_twice::<u8, Vec<u8>>();
+    laws::seek_stays::<u8, Vec<u8>>();
+}
+
+/// A cursor that is turned round and back: the caller knows by the law that it is the very same one.
+fn turned_and_back<Buf: SafeBufMut<u8>>(cursor: Cursor<u8, Buf>) -> Cursor<u8, Buf>
+    ensures { result ≡ cursor }
+{
+    laws::turned_twice::<u8, Buf>();
+    cursor.into_reversed().into_reversed()
+}
+
+#[test]
+fn a_cursor_turned_twice_stands_where_it_stood(rt: HostRuntime) -> Result<(), Fail> {
     let mut cursor = Cursor::<u8, _>::new_at_write_end([1u8, 2, 3].to_vec(rt.alloc())?);
     let sought = cursor.seek(1);
-    let cursor = laws::turned_twice(cursor);
+    let cursor = turned_and_back(cursor);
     same(&rt, sought, Ok(()));
     same(&rt, cursor.buf().as_slice(), [1, 2, 3].as_slice());
     same(&rt, cursor.pos(), 1);

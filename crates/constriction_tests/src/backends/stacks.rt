@@ -1,8 +1,12 @@
 //! `Vec` and `SmallVec` as stacks.
 
+ghost use Rattle.std.specs.Prelude.{◌<◌, IsOk, length};
+
 use crate::checks::{same, same_at};
-use constriction_backends::{BoundedReadWords, ReadWords, WriteWords, laws};
-use constriction_words::{Pos, PosSeek, Seek, Stack};
+use constriction_backends::{
+    BoundedReadWords, Cursor, ReadWords, Reverse, StackBackend, WriteWords, laws,
+};
+use constriction_words::{Pos, PosSeek, Queue, ReadWriteError, Seek, Stack};
 use smallvec::SmallVec;
 use std::alloc::AllocError;
 use std::convert::Infallible;
@@ -144,14 +148,95 @@ fn each_refused_growth_keeps_the_words_before(rt: HostRuntime) {
     same(&rt, words.starts_with(small.as_slice()), true);
 }
 
+fn tells_what_it_was_extended_by<Words: Iterator<Item = u8> + Drop>(_words: Words) {
+    laws::extending_tells::<u8, Vec<u8>, Words>();
+}
+
 #[test]
 fn what_was_pushed_is_popped(rt: HostRuntime) {
     laws::pushed_is_popped::<u8, AllocError, Infallible>();
     laws::seek_back::<u8>();
+    tells_what_it_was_extended_by([1u8, 2].iter().copied());
     let mut words = Vec::new(rt.alloc());
     match laws::push_then_pop(&mut words, 7u8) {
         Ok(word) => same(&rt, word, Some(7)),
-        Err(AllocError) => {}
+        Err(ReadWriteError::Write(AllocError)) => {}
+        Err(ReadWriteError::Read(never)) => match never {},
     }
     assert!(rt; words.is_empty());
+}
+
+/// The last word of a stack is replaced: that needs no memory.
+fn replace_last(words: &mut Vec<u8>, word: u8) -> Result<(), AllocError>
+    requires { 0 < length words.old.items }
+    ensures { IsOk result }
+{
+    let _ = ReadWords::<u8, Stack>::read(words);
+    words.write(word)
+}
+
+/// The same of a queue that is a reversed stack.
+fn replace_first(words: &mut Reverse<Vec<u8>>, word: u8) -> Result<(), AllocError>
+    requires { 0 < length words.old.0.items }
+    ensures { IsOk result }
+{
+    let _ = ReadWords::<u8, Queue>::read(words);
+    words.0.write(word)
+}
+
+#[test]
+fn a_popped_word_leaves_its_place(rt: HostRuntime) -> Result<(), Fail> {
+    let mut words = [1u8, 2, 3].to_vec(rt.alloc())?;
+    same(&rt, replace_last(&mut words, 4), Ok(()));
+    same(&rt, words.as_slice(), [1, 2, 4].as_slice());
+    let mut reversed = Reverse(words);
+    same(&rt, replace_first(&mut reversed, 5), Ok(()));
+    same(&rt, reversed.0.as_slice(), [1, 2, 5].as_slice());
+    Ok(())
+}
+
+/// Two words through any stack, as a stack coder writes and reads them.
+fn there_and_back<Backend: StackBackend<u8>>(
+    backend: &mut Backend,
+    first: u8,
+    second: u8,
+) -> Option<(Option<u8>, Option<u8>)>
+where
+    Backend::WriteError: Drop,
+    Backend::ReadError: Drop,
+    requires { Backend.can_write backend.old }
+{
+    backend.write(first).ok()?;
+    backend.write(second).ok()?;
+    let last = backend.read().ok()?;
+    Some((last, backend.read().ok()?))
+}
+
+#[test]
+fn any_stack_gives_back_what_was_written(rt: HostRuntime) -> Result<(), Fail> {
+    let mut words = [0u8; 3].to_vec(rt.alloc())?;
+    same(
+        &rt,
+        there_and_back(&mut words, 1, 2),
+        Some((Some(2), Some(1))),
+    );
+    let mut small: SmallVec<u8, 2> = SmallVec::new(rt.alloc());
+    same(
+        &rt,
+        there_and_back(&mut small, 1, 2),
+        Some((Some(2), Some(1))),
+    );
+    let mut cursor = Cursor::<u8, _>::new_at_write_beginning(words);
+    same(
+        &rt,
+        there_and_back(&mut cursor, 1, 2),
+        Some((Some(2), Some(1))),
+    );
+    let mut reversed = Reverse(Cursor::<u8, _>::new_at_write_end([0u8; 3].to_vec(rt.alloc())?));
+    same(
+        &rt,
+        there_and_back(&mut reversed, 1, 2),
+        Some((Some(2), Some(1))),
+    );
+    Ok(())
 }

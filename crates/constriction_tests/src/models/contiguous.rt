@@ -254,3 +254,16 @@ fn a_reference_to_a_reference_is_a_model(rt: HostRuntime) -> Result<(), Fail> {
     same(&rt, symbol_through_bounds(&&model, 22u8), Some(3));
     Ok(())
 }
+
+#[test]
+fn why_there_is_no_model_is_said_in_a_sentence(rt: HostRuntime) -> Result<(), Fail> {
+    let invalid = ModelError::InvalidTable;
+    let refused = ModelError::OutOfMemory;
+    let text = format!(in rt.alloc(); "{invalid} {refused}")?;
+    same(
+        &rt,
+        text.as_str(),
+        "The weights, or the symbols, are not accepted. Memory was refused.",
+    );
+    Ok(())
+}
