@@ -17,14 +17,15 @@ use Rattle.constriction_client.specs.ThereAndBack.{AreItems, ReadsBack, ReadsBac
 use Rattle.constriction_client.proofs.EntryRows.{entry-row, entry-below, one-row, unreversed}
 
 -- one item
-same-item : {Symbol Word : Type 0} (eq : Symbol → Symbol → Bool) (whole : Word
-    → ℕ) (bits precision : ℕ) (rows : List (Row Symbol))
+same-item : {Symbol Word : Type 0} (eq : Symbol → Symbol → Bool) (entry : Symbol → Option (ℕ × ℕ)) (whole : Word → ℕ)
+    (bits precision : ℕ) (rows : List (Row Symbol))
     (item pair : Symbol × Word) (word : Word) → RowsTile bits precision rows → ((a b : Word)
     → whole a ≡ whole b → a ≡ b)
-    → IsQuantileOf (entry_of eq rows) whole item (whole word) → IsPairOf rows whole word pair
+    → ((s : Symbol) → entry s ≡ entry_of eq rows s)
+    → IsQuantileOf entry whole item (whole word) → IsPairOf rows whole word pair
     → IsTrue (eq pair.0 item.0) × (pair.1 ≡ item.1)
-same-item {Symbol = Symbol} eq whole bits precision rows item pair word tile one_word quantile is =
-    let has = entry-row eq rows item.0 quantile.left quantile.weight quantile.known in
+same-item {Symbol = Symbol} eq entry whole bits precision rows item pair word tile one_word agree quantile is =
+    let has = entry-row eq rows item.0 quantile.left quantile.weight (sym (agree item.0) ∙ quantile.known) in
     let row : is.row ≡ has.row = one-row bits precision rows (whole word) is.row has.row tile is.found (record {
       among = has.among;
       from = omega (arith, has.left_is, quantile.sum);
@@ -35,14 +36,14 @@ same-item {Symbol = Symbol} eq whole bits precision rows item pair word tile one
     (ap (λ s. eq s item.0) symbol ∙ has.same, one_word pair.1 item.1 (omega (arith, left, is.offset, quantile.sum)))
 
 pub reads-back : (Symbol Word : Type 0) → ReadsBack Symbol Word
-reads-back Symbol Word eq whole bits precision rows [] [] [] tile one_word h k = tt
-reads-back Symbol Word eq whole bits precision rows [] (p ∷ ps) [] tile one_word h k = absurd k
-reads-back Symbol Word eq whole bits precision rows [] ps (w ∷ ws) tile one_word h k = absurd h
-reads-back Symbol Word eq whole bits precision rows (i ∷ is) ps [] tile one_word h k = absurd h
-reads-back Symbol Word eq whole bits precision rows (i ∷ is) [] (w ∷ ws) tile one_word h k = absurd k
-reads-back Symbol Word eq whole bits precision rows (i ∷ is) (p ∷ ps) (w ∷ ws) tile one_word h k = (
-  same-item eq whole bits precision rows i p w tile one_word h.0 k.0,
-  reads-back Symbol Word eq whole bits precision rows is ps ws tile one_word h.1 k.1,
+reads-back Symbol Word eq entry whole bits precision rows [] [] [] tile one_word agree h k = tt
+reads-back Symbol Word eq entry whole bits precision rows [] (p ∷ ps) [] tile one_word agree h k = absurd k
+reads-back Symbol Word eq entry whole bits precision rows [] ps (w ∷ ws) tile one_word agree h k = absurd h
+reads-back Symbol Word eq entry whole bits precision rows (i ∷ is) ps [] tile one_word agree h k = absurd h
+reads-back Symbol Word eq entry whole bits precision rows (i ∷ is) [] (w ∷ ws) tile one_word agree h k = absurd k
+reads-back Symbol Word eq entry whole bits precision rows (i ∷ is) (p ∷ ps) (w ∷ ws) tile one_word agree h k = (
+  same-item eq entry whole bits precision rows i p w tile one_word agree h.0 k.0,
+  reads-back Symbol Word eq entry whole bits precision rows is ps ws tile one_word agree h.1 k.1,
 )
 
 -- what holds of two lists one by one holds of the reversed ones
@@ -56,9 +57,9 @@ AllZip-reverse R (x ∷ xs) (y ∷ ys) h =
     (all_zipped_more R (reverse xs) (reverse ys) x y (AllZip-reverse R xs ys h.1) h.0)
 
 pub reads-back-reversed : (Symbol Word : Type 0) → ReadsBackReversed Symbol Word
-reads-back-reversed Symbol Word eq whole bits precision rows items pairs words tile one_word h k =
-    reads-back Symbol Word eq whole bits precision rows (reverse items) pairs (reverse words) tile one_word
-    (AllZip-reverse (λ item word. IsQuantileOf (entry_of eq rows) whole item (whole word)) items words h) k
+reads-back-reversed Symbol Word eq entry whole bits precision rows items pairs words tile one_word agree h k =
+    reads-back Symbol Word eq entry whole bits precision rows (reverse items) pairs (reverse words) tile one_word agree
+    (AllZip-reverse (λ item word. IsQuantileOf entry whole item (whole word)) items words h) k
 
 -- a list whose first part is as long as the whole has nothing more
 nothing-after : {X : Type 0} (all first rest : List X) → all ≡ first ++ rest → length all ≤ length first
@@ -84,7 +85,8 @@ module _ {Symbol Word : Type 0} (eq : Symbol → Symbol → Bool) (whole : Word
         | inr fewer ↦ none fewer
       ] in
       let whole_list : words ≡ reverse written = sym (split ∙ ap (λ ws. words ++ ws) ended ∙ append-nil words) in
-      reads-back-reversed Symbol Word eq whole bits precision rows items pairs written tile one_word quantiles
+      reads-back-reversed Symbol Word eq (entry_of eq rows) whole bits precision rows items pairs written tile one_word
+      (λ s. refl) quantiles
       (subst (λ (ws : List Word). ArePairs rows whole ws pairs) whole_list of_words)
 
   -- the words of items are quantiles

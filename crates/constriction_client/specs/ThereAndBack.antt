@@ -10,22 +10,25 @@ abbrev pub AreItems : {Symbol Word : Type 0} → (Symbol → Symbol → Bool) �
     → Type 0
 AreItems eq items pairs = AllZip (λ item pair. IsTrue (eq pair.0 item.0) × (pair.1 ≡ item.1)) items pairs
 
--- In rows that tile, the pairs of the words of items are the items. Two words of one number are one word, and that is
--- all that is asked of words; nothing is asked of the equality of symbols, and rows may repeat a symbol.
+-- In rows that tile, the pairs of the words of items are the items. The items' entries may be those of another model, as long
+-- as they are the entries of these rows. Two words of one number are one word, and that is all that is asked of words;
+-- nothing is asked of the equality of symbols, and rows may repeat a symbol.
 abbrev pub ReadsBack : Type 0 → Type 0 → Type 0
 ReadsBack Symbol Word =
-    (eq : Symbol → Symbol → Bool) (whole : Word → ℕ) (bits precision : ℕ) (rows : List (Row Symbol))
-    (items pairs : List (Symbol × Word)) (words : List Word)
+    (eq : Symbol → Symbol → Bool) (entry : Symbol → Option (ℕ × ℕ)) (whole : Word → ℕ) (bits precision : ℕ)
+    (rows : List (Row Symbol)) (items pairs : List (Symbol × Word)) (words : List Word)
     → RowsTile bits precision rows → ((a b : Word) → whole a ≡ whole b → a ≡ b)
-    → AreQuantiles (entry_of eq rows) whole items words → ArePairs rows whole words pairs → AreItems eq items pairs
+    → ((s : Symbol) → entry s ≡ entry_of eq rows s)
+    → AreQuantiles entry whole items words → ArePairs rows whole words pairs → AreItems eq items pairs
 
 -- From the last word to the first one they are the items from the last to the first.
 abbrev pub ReadsBackReversed : Type 0 → Type 0 → Type 0
 ReadsBackReversed Symbol Word =
-    (eq : Symbol → Symbol → Bool) (whole : Word → ℕ) (bits precision : ℕ) (rows : List (Row Symbol))
-    (items pairs : List (Symbol × Word)) (words : List Word)
+    (eq : Symbol → Symbol → Bool) (entry : Symbol → Option (ℕ × ℕ)) (whole : Word → ℕ) (bits precision : ℕ)
+    (rows : List (Row Symbol)) (items pairs : List (Symbol × Word)) (words : List Word)
     → RowsTile bits precision rows → ((a b : Word) → whole a ≡ whole b → a ≡ b)
-    → AreQuantiles (entry_of eq rows) whole items words → ArePairs rows whole (reverse words) pairs
+    → ((s : Symbol) → entry s ≡ entry_of eq rows s)
+    → AreQuantiles entry whole items words → ArePairs rows whole (reverse words) pairs
     → AreItems eq (reverse items) pairs
 
 -- an item has no quantile for this reason, and those before it have one

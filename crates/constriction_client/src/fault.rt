@@ -3,16 +3,22 @@
 ghost use Rattle.std.specs.Prelude.{◌≡◌};
 ghost use Rattle.constriction_client.specs.Runs.{status_of};
 
+use thiserror::Error;
+
 /// What stops a run before the whole text is written.
-#[derive(Debug, PartialEq, Eq, Drop)]
+#[derive(Debug, PartialEq, Eq, Drop, Error)]
 pub enum RunFault {
     /// The reader answered an error, an interruption too. Nothing was written.
+    #[error("The input could not be read.")]
     Read,
     /// The writer answered an error, or took no byte. A beginning of the text was written.
+    #[error("The answers could not be written.")]
     Write,
     /// The input is longer than 1,048,576 bytes. Nothing was written.
+    #[error("The input is too long.")]
     TooLong,
     /// Memory was refused. The answers to some first lines were written, each of them whole.
+    #[error("Memory was refused.")]
     OutOfMemory,
 }
 

@@ -194,10 +194,11 @@ pub fn run<R: Read, W: Write>(alloc: Global, reader: &mut R, writer: &mut W) -> 
     ensures nothing_written { IfErr result (λ fault. (fault ≡ RunFault.Read) ⊎ (fault ≡ RunFault.TooLong) →
         Keeps (W.contents writer.old) (W.contents writer.new)) }
 
-    // The answers to some first lines, each whole.
+    // The answers to some first lines, each whole, of all that the reader had; or nothing.
     ensures out_of_memory { result ≡ Err RunFault.OutOfMemory →
         HasRead (R.remaining reader.old) (R.remaining reader.new) (λ input.
-        WritesFirstAnswers (W.contents writer.old) (W.contents writer.new) input) }
+        WritesFirstAnswers (W.contents writer.old) (W.contents writer.new) input
+        × (IsAtEnd (R.remaining reader.new) ⊎ Keeps (W.contents writer.old) (W.contents writer.new))) }
 
     // A beginning of the text of all that the reader had.
     ensures write { result ≡ Err RunFault.Write →

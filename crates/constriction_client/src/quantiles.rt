@@ -9,22 +9,27 @@ ghost use Rattle.constriction_client.specs.Quantiles.{IsPairOf, IsReadFaultOf, R
 use constriction::stream::model::{DecoderModel, EncoderModel};
 use constriction_backends::{ReadWords, WriteWords};
 use constriction_words::{CoderError, NonZeroBitArray, Semantics, WholeNumber};
+use thiserror::Error;
 
 /// Why an item has no quantile.
-#[derive(Debug, PartialEq, Eq, Drop)]
+#[derive(Debug, PartialEq, Eq, Drop, Error)]
 pub enum QuantileFault {
     /// The model has no entry of the symbol.
+    #[error("The model has no entry of the symbol.")]
     ImpossibleSymbol,
     /// The offset is not below the weight of the symbol.
+    #[error("The offset is not below the weight of the symbol.")]
     OffsetTooLarge,
 }
 
 /// Why a word gives no pair.
-#[derive(Debug, PartialEq, Eq, Drop)]
+#[derive(Debug, PartialEq, Eq, Drop, Error)]
 pub enum ReadFault {
     /// Memory for the symbol, or for one more pair, was refused.
+    #[error("Memory for a pair was refused.")]
     OutOfMemory,
     /// The word is no quantile: it is not below `2^PRECISION`.
+    #[error("The word is no quantile.")]
     QuantileTooLarge,
 }
 
