@@ -90,5 +90,7 @@ module _ {W B : Type 0} {g : Ghosts B W} where
         let long : length (g.words_of t.buf) ≡ length all = ap length turned ∙ length-reverse all in
         let in_range : c.pos ≤ length all = c.in_range in
         let pos : d.pos ≡ c.pos = omega (arith, once.pos, back_again.pos) in
-        same_cursor c d (back_again.buf ∙ (ap (with_words t.buf) back ∙ (ap (λ b. with_words b all) once.buf ∙ (again c.buf (reverse all) all refl
+        same_cursor c d
+        (back_again.buf ∙ (ap (with_words t.buf) back ∙ (ap (λ b. with_words b all) once.buf
+        ∙ (again c.buf (reverse all) all refl
         ∙ unchanged c.buf)))) pos

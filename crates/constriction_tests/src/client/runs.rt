@@ -5,7 +5,7 @@ use constriction_client::laws::{
     each_quantile_in_range_has_a_row, reads_back, reads_back_reversed,
     the_row_found_is_the_row_of_the_quantile, weights_are_tested_as_models_accept_them,
 };
-use constriction_client::{RunFault, answer, run};
+use constriction_client::{QuantileFault, ReadFault, RunFault, answer, run};
 use std::alloc::Global;
 use std::io::{self, Read, Write};
 use std::process::Abort;
@@ -277,4 +277,26 @@ fn answers_before_a_refusal_of_memory_are_written(rt: HostRuntime) {
     for (byte, expected) in room.iter().zip(text) {
         assert!(rt; *byte == *expected || *byte == 0);
     }
+}
+
+#[test]
+fn faults_are_sentences(rt: HostRuntime) -> Result<(), Fail> {
+    let text = format!(in rt.alloc();
+        "{} {} {} {} {} {} {} {}",
+        RunFault::Read,
+        RunFault::Write,
+        RunFault::TooLong,
+        RunFault::OutOfMemory,
+        QuantileFault::ImpossibleSymbol,
+        QuantileFault::OffsetTooLarge,
+        ReadFault::OutOfMemory,
+        ReadFault::QuantileTooLarge
+    )?;
+    same(
+        &rt,
+        text.as_str(),
+        "The input could not be read. The answers could not be written. The input is too long. Memory was refused. \
+The model has no entry of the symbol. The offset is not below the weight of the symbol. Memory for a pair was refused. The word is no quantile.",
+    );
+    Ok(())
 }

@@ -52,6 +52,7 @@ returns-clause-within g c =
     (stored-index g.Probability.BitArray.BITS g.row.PRECISION lefts c.args.self.now.stored (whole c.args.quantile) index
     (c.quantile_probe-first.ensures.found c.row_of_quantile.result c.row_of_quantile.ensures.found)) in
     let left : whole c.row_at-left.result.0 ≡ get_or lefts index 0 = rw (← same) c.row_at-left.ensures.left in
-    let weight : whole (g.Probability.NonZero.NonZeroBitArray.base c.row_at-left.result.1) ≡ get_or (weights_of g.row.PRECISION lefts) index 0 =
+    let weight : whole (g.Probability.NonZero.NonZeroBitArray.base c.row_at-left.result.1)
+    ≡ get_or (weights_of g.row.PRECISION lefts) index 0 =
     rw (← same) c.row_at-left.ensures.weight in
     rw (left, weight) (row.positive, row.within)
