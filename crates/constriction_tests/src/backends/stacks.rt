@@ -189,7 +189,7 @@ fn a_popped_word_leaves_its_place(rt: HostRuntime) -> Result<(), Fail> {
     let mut words = [1u8, 2, 3].to_vec(rt.alloc())?;
     same(&rt, replace_last(&mut words, 4), Ok(()));
     same(&rt, words.as_slice(), [1, 2, 4].as_slice());
-    let mut reversed = Reverse(words);
+    let mut reversed = Reverse([1u8, 2, 3].to_vec(rt.alloc())?);
     same(&rt, replace_first(&mut reversed, 5), Ok(()));
     same(&rt, reversed.0.as_slice(), [1, 2, 5].as_slice());
     Ok(())
