@@ -1,4 +1,5 @@
 pub mod Acceptance
+pub mod CodingLemmas
 pub mod Filling
 pub mod Model
 pub mod Probe

@@ -1,6 +1,5 @@
 mod Accepting
 mod Cutting
-mod EntryRows
 mod Exactly
 mod ItemWriting
 mod Numbers

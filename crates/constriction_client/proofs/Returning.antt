@@ -14,7 +14,7 @@ use Rattle.constriction_client.specs.declared.quantiles.ReadFault.{ReadFault}
 use Rattle.constriction_client.specs.declared.quantiles.ReadFault.TheVariants.{QuantileTooLarge}
 use Rattle.constriction_client.specs.Quantiles.{IsQuantileOf, AreQuantiles, IsPairOf, ArePairs, StopsAtItem, ReadsPairs}
 use Rattle.constriction_client.specs.ThereAndBack.{AreItems, ReadsBack, ReadsBackReversed, HasFault}
-use Rattle.constriction_client.proofs.EntryRows.{entry-row, entry-below, one-row, unreversed}
+use Rattle.constriction.specs.CodingLemmas.{entry-row, entry-below, one-row, unreversed}
 
 -- one item
 same-item : {Symbol Word : Type 0} (eq : Symbol → Symbol → Bool) (entry : Symbol → Option (ℕ × ℕ)) (whole : Word → ℕ)

@@ -2,7 +2,7 @@
 
 ghost use Rattle.std.specs.Prelude.{map};
 ghost use Rattle.std.proofs.Common.{refl};
-ghost use Rattle.constriction.specs.Stored.{weights_of};
+ghost use Rattle.constriction.specs.Stored.{lefts_in, weights_of};
 ghost use Rattle.constriction.specs.StoredRowLemmas.{stored-tiles};
 
 use crate::form_word::FormWord;
@@ -46,7 +46,7 @@ impl<Word: FormWord, const PRECISION: usize> LineModel<PRECISION>
         Ok((symbol, left.number(), weight.get().number()))
     }
 
-    ghost contiguous_law = { λ m. (weights_of PRECISION (map Word.whole m.cdf.items), refl) };
+    ghost contiguous_law = { λ m. (weights_of PRECISION (lefts_in (map Word.whole m.cdf.items)), refl) };
 
-    ghost tile_law = { λ m. stored-tiles _ _ _ m.stored };
+    ghost tile_law = { λ m. stored-tiles _ _ _ m.stored.stored };
 }

@@ -6,7 +6,7 @@ ghost use Rattle.constriction.specs.Rows.{entry_of};
 ghost use Rattle.constriction_client.specs.Quantiles.{IsQuantileOf, IsFaultOf, WritesItems, StopsAtItem};
 ghost use Rattle.constriction_client.specs.Quantiles.{IsPairOf, IsReadFaultOf, ReadsPairs};
 
-use constriction::stream::model::{DecoderModel, EncoderModel};
+use constriction::stream::model::{DecoderModel, EncoderModel, is_quantile};
 use constriction_backends::{ReadWords, WriteWords};
 use constriction_words::{CoderError, NonZeroBitArray, Semantics, WholeNumber};
 use thiserror::Error;
@@ -71,16 +71,6 @@ fn quantile_of<M: EncoderModel<PRECISION>, const PRECISION: usize>(
         Some((left, weight)) => quantile_within(item, left, weight.get()),
         None => Err(QuantileFault::ImpossibleSymbol),
     }
-}
-
-/// Whether a word is a quantile: below `2^PRECISION`, which may be more than any word.
-#[inline]
-pub(crate) fn is_quantile<P: WholeNumber, const PRECISION: usize>(word: P) -> bool
-    requires positive { 0 < PRECISION }
-    requires fits { PRECISION ≤ P.BITS }
-    ensures { IsTrue result ↔ (P.whole word < 2 ^ PRECISION) }
-{
-    word.is_at_most(P::greatest(PRECISION))
 }
 
 /// The pair of a word, where it is a quantile.

@@ -4,13 +4,18 @@ mod categorical;
 mod cdf_probe;
 mod error;
 mod probe;
+mod quantile;
 mod reference;
 mod search;
 mod traits;
 
-pub use crate::stream::model::categorical::contiguous::ContiguousCategoricalEntropyModel;
+pub use crate::stream::model::categorical::contiguous::{
+    ContiguousCategoricalEntropyModel, DefaultContiguousCategoricalEntropyModel,
+    SmallContiguousCategoricalEntropyModel,
+};
 pub use crate::stream::model::cdf_probe::{Alone, CdfEntry, CdfProbe, WithSymbol};
 pub use crate::stream::model::error::ModelError;
 pub use crate::stream::model::probe::Probe;
+pub use crate::stream::model::quantile::is_quantile;
 pub use crate::stream::model::search::row_of_quantile;
 pub use crate::stream::model::traits::{DecoderModel, EncoderModel, EntropyModel, Weight};

@@ -1,6 +1,6 @@
 use Rattle.std.proofs.Common.{arith}
 use Rattle.std.proofs.Math.Pow.{pow_mono}
-use Rattle.constriction_client.proofs.EntryRows.{entry-within}
+use Rattle.constriction.specs.CodingLemmas.{entry-within}
 use Rattle.constriction_client.proofs.quantiles.quantile_of.Goals as goal
 
 pub quantile_within-requires : goal.quantile_within-requires

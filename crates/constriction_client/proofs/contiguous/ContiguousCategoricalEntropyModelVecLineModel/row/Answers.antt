@@ -1,6 +1,6 @@
 use Rattle.std.proofs.Common.{◌≡◌, map, ◌∙◌}
 use Rattle.constriction.specs.Rows.{contiguous_rows}
-use Rattle.constriction.specs.Stored.{weights_of}
+use Rattle.constriction.specs.Stored.{lefts_in, weights_of}
 use Rattle.constriction_client.proofs.Accepting.{narrowed_same}
 use Rattle.constriction_client.proofs.RowTexts.{same_row}
 use Rattle.constriction_client.proofs.contiguous.ContiguousCategoricalEntropyModelVecLineModel.row.Goals as goal
@@ -10,7 +10,7 @@ returns g c =
     let whole = g.Word.BitArray.whole in
     let same : whole c.narrowed.result ≡ c.args.quantile =
     c.narrowed.ensures ∙ narrowed_same g.Word.BitArray.BITS g.row.PRECISION c.args.quantile c.args.self.now.precise.1 c.requires in
-    same_row (contiguous_rows (weights_of g.row.PRECISION (map whole c.args.self.now.cdf.items))) c.args.quantile
+    same_row (contiguous_rows (weights_of g.row.PRECISION (lefts_in (map whole c.args.self.now.cdf.items)))) c.args.quantile
     (whole c.narrowed.result) c.in_ok-symbol.symbol c.number.result (whole c.in_ok-symbol.left) c.number-2.result _
     c.in_ok-symbol.ensures.row same c.number.ensures
     (rw c.get.ensures.value at c.number-2.ensures)

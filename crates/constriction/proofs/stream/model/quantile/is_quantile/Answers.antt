@@ -1,5 +1,5 @@
 use Rattle.std.proofs.Common.{arith}
-use Rattle.constriction_client.proofs.quantiles.is_quantile.Goals as goal
+use Rattle.constriction.proofs.stream.model.quantile.is_quantile.Goals as goal
 
 pub returns : goal.returns
 returns g c = (
