@@ -119,6 +119,13 @@ module _ {W : Type 0} (whole : W → ℕ) (bits precision : ℕ) where
             ∙ sym (lefts_from-push 0 xs (2 ^ precision - sum xs)),
       )
 
+-- a table is ended with the total
+pub ended : {W : Type 0} (whole : W → ℕ) (lefts filled table : List W) (total : W) (is : ℕ) (numbers : List ℕ)
+    → filled ≡ lefts → table ≡ filled ++ total ∷ [] → whole total ≡ is → map whole lefts ≡ numbers
+    → map whole table ≡ numbers ++ is ∷ []
+ended whole lefts filled table total is numbers f t e l =
+    ap (map whole) t ∙ map-append whole filled (total ∷ []) ∙ rw (f, e, l) refl
+
 -- one more call
 pub yields-more : {S A : Type 0} (steps : S → Option A → S → Type 0) (s : S) (xs : List A) (t : S) (x : A) (u : S)
     → Yields steps s xs t → steps t (Some x) u → Yields steps s (xs ++ x ∷ []) u

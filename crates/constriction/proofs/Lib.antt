@@ -2,3 +2,4 @@ mod Digits
 mod FillLemmas
 mod Halving
 mod ProbeLemmas
+mod TableLemmas

@@ -1,6 +1,6 @@
--- How models store their rows: by the left cumulatives alone. No public clause cites this module, but the member `rows` of the
--- contiguous model and a ghost field of it do.
-use Rattle.std.specs.Prelude.{◌≡◌, ℕ, ◌+◌, ◌-◌, ◌^◌, List, [], ◌∷◌}
+-- How models store their rows: by the left cumulatives, and after them the total. No public clause cites this module, but the
+-- member `rows` of the contiguous model and a ghost field of it do.
+use Rattle.std.specs.Prelude.{◌≡◌, ℕ, ◌+◌, ◌-◌, ◌%◌, ◌^◌, List, [], ◌∷◌, ◌++◌, length, take}
 use Rattle.constriction.specs.Acceptance.{IsAccepted}
 
 -- where the rows of these weights begin, the first at `left`
@@ -14,11 +14,21 @@ gaps total [] = []
 gaps total (l ∷ []) = (total - l) ∷ []
 gaps total (l ∷ (m ∷ ls)) = (m - l) ∷ gaps total (m ∷ ls)
 
--- the weights of a stored list
+-- the weights of rows that begin there and tile
 abbrev pub weights_of : ℕ → List ℕ → List ℕ
 weights_of precision lefts = gaps (2 ^ precision) lefts
 
--- a stored list that stands for accepted weights
+-- left cumulatives that stand for accepted weights
 pub record IsStored (bits precision : ℕ) (lefts : List ℕ) : Type 0 where
   pub accepted : IsAccepted bits precision (weights_of precision lefts)
   pub in_order : lefts ≡ lefts_from 0 (weights_of precision lefts)
+
+-- the left cumulatives of a table: all of it but its last number
+abbrev pub lefts_in : List ℕ → List ℕ
+lefts_in table = take (length table - 1) table
+
+-- a table over words of so many bits: the left cumulatives of accepted weights, and after them the total, which wraps to 0 where it is
+-- no word
+pub record IsTable (bits precision : ℕ) (table : List ℕ) : Type 0 where
+  pub stored : IsStored bits precision (lefts_in table)
+  pub ends : table ≡ lefts_in table ++ (2 ^ precision % 2 ^ bits) ∷ []

@@ -2,3 +2,4 @@
 
 mod contiguous;
 mod search;
+mod widths;

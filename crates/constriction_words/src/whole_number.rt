@@ -1,14 +1,14 @@
 //! Words as numbers: the little that tables and searches ask of a word.
 
-ghost use Rattle.std.specs.Prelude.{◌≡◌, ◌↔◌, ◌+◌, ◌-◌, ◌<◌, ◌≤◌, ◌^◌, ℕ, IsTrue};
+ghost use Rattle.std.specs.Prelude.{◌≡◌, ◌↔◌, ◌+◌, ◌-◌, ◌%◌, ◌<◌, ◌≤◌, ◌^◌, ℕ, IsTrue};
 
 use crate::bit_array::BitArray;
 
 /// A word as the whole number that it stands for. Each [`BitArray`] is one.
 ///
-/// Its calls are exact: a sum or a difference may be asked for where it is a word, and no call
-/// wraps. A caller of models has no need of it. It stands apart from [`BitArray`] since a proof
-/// over so few calls costs a fifth of the same proof over words.
+/// Its calls are exact: a sum or a difference may be asked for where it is a word. The two that wrap
+/// say so by their names. A caller of models has no need of it. It stands apart from [`BitArray`]
+/// since a proof over so few calls costs a fifth of the same proof over words.
 pub trait WholeNumber: Copy {
     // The whole number.
     ghost whole: { Self → ℕ };
@@ -27,6 +27,12 @@ pub trait WholeNumber: Copy {
         ensures value { whole result + 1 ≡ 2 ^ bits }
         ensures within { 2 ^ bits ≤ 2 ^ BITS };
 
+    /// The word `2^exponent`, modulo `2^BITS`: it is 0 where the exponent is the full width.
+    fn wrapping_pow2(exponent: usize) -> Self
+        requires some { 0 < exponent }
+        requires fits { exponent ≤ BITS }
+        ensures { whole result ≡ 2 ^ exponent % 2 ^ BITS };
+
     /// Whether the word is 0.
     fn is_least(self) -> bool
         ensures { IsTrue result ↔ (whole self ≡ 0) };
@@ -40,11 +46,6 @@ pub trait WholeNumber: Copy {
         requires { 0 < whole self }
         ensures value { whole result + 1 ≡ whole self }
         ensures range { whole self < 2 ^ BITS };
-
-    /// The word and one more.
-    fn successor(self) -> Self
-        requires { whole self + 1 < 2 ^ BITS }
-        ensures { whole result ≡ whole self + 1 };
 
     /// Whether the number is below another one.
     fn is_below(self, other: Self) -> bool
@@ -63,6 +64,11 @@ pub trait WholeNumber: Copy {
     fn minus(self, other: Self) -> Self
         requires { whole other ≤ whole self }
         ensures { whole result ≡ whole self - whole other };
+
+    /// The difference to another number, modulo `2^BITS`.
+    fn wrapping_minus(self, other: Self) -> Self
+        ensures range { whole result < 2 ^ BITS }
+        ensures difference { (whole result + whole other) % 2 ^ BITS ≡ whole self };
 
     // Two words of one number are one word.
     ghost same_law: { (a b : Self) → whole a ≡ whole b → a ≡ b };
@@ -84,6 +90,11 @@ impl<P: BitArray> WholeNumber for P {
     }
 
     #[inline]
+    fn wrapping_pow2(exponent: usize) -> P {
+        P::greatest(exponent).wrapping_add(&P::one())
+    }
+
+    #[inline]
     fn is_least(self) -> bool {
         self == P::zero()
     }
@@ -97,11 +108,6 @@ impl<P: BitArray> WholeNumber for P {
     fn predecessor(self) -> P {
         let _range = self.into_nonzero();
         self - P::one()
-    }
-
-    #[inline]
-    fn successor(self) -> P {
-        self + P::one()
     }
 
     #[inline]
@@ -122,6 +128,11 @@ impl<P: BitArray> WholeNumber for P {
     #[inline]
     fn minus(self, other: P) -> P {
         self - other
+    }
+
+    #[inline]
+    fn wrapping_minus(self, other: P) -> P {
+        self.wrapping_sub(&other)
     }
 
     ghost same_law = { P.same_law };

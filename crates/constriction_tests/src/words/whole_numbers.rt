@@ -15,22 +15,25 @@ fn distance<N: WholeNumber>(a: N, b: N) -> N
     }
 }
 
-/// The number after this one, and 0 after the greatest one.
-fn next_in_turn<N: WholeNumber>(a: N) -> N
-    requires { N.whole a < 2 ^ N.BITS }
-    ensures { N.whole result ≡ (N.whole a + 1) % 2 ^ N.BITS }
+/// How far it is from the one number up to the other, with 0 after the greatest one.
+fn way_up<N: WholeNumber>(from: N, to: N) -> N
+    ensures { (N.whole result + N.whole from) % 2 ^ N.BITS ≡ N.whole to }
 {
-    if a.is_greatest() {
-        N::least()
-    } else {
-        a.successor()
-    }
+    to.wrapping_minus(from)
 }
 
 #[test]
 fn words_are_whole_numbers(rt: HostRuntime) {
     assert_eq!(rt; (distance(3u8, 250), distance(250u8, 3)), (247, 247));
-    assert_eq!(rt; (next_in_turn(254u8), next_in_turn(255u8)), (255, 0));
+    assert_eq!(rt; (way_up(3u8, 250), way_up(250u8, 3)), (247, 9));
+    assert_eq!(rt;
+        (
+            u8::wrapping_pow2(7),
+            u8::wrapping_pow2(8),
+            u32::wrapping_pow2(24)
+        ),
+        (128, 0, 16777216)
+    );
     assert_eq!(rt;
         (u16::greatest(12), u8::greatest(8), u8::greatest(1)),
         (4095, 255, 1)

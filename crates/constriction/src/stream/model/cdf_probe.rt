@@ -1,6 +1,6 @@
 //! Probes of stored rows.
 
-ghost use Rattle.std.specs.Prelude.{◌≡◌, ◌↔◌, ◌+◌, ◌<◌, ◌≤◌, ℕ, IsTrue, length, map};
+ghost use Rattle.std.specs.Prelude.{◌≡◌, ◌+◌, ◌<◌, ◌≤◌, ℕ, length, map};
 
 use crate::stream::model::probe::Probe;
 use constriction_words::WholeNumber;
@@ -8,18 +8,15 @@ use std::marker::PhantomData;
 
 /// How the entries of a stored table tell their cumulatives.
 pub trait CdfEntry<Entry> {
-    /// What cumulatives are compared with.
-    type Word: Copy;
-
-    // The number of a word.
-    ghost number: { Self.Word → ℕ };
+    /// The words that cumulatives are.
+    type Word: WholeNumber;
 
     // The cumulative of an entry.
     ghost cumulative: { Entry → ℕ };
 
-    /// Whether the entry's cumulative is at most `q`.
-    fn is_at_most(entry: &Entry, q: Self::Word) -> bool
-        ensures { IsTrue result ↔ (cumulative entry.now ≤ number q) };
+    /// The cumulative of an entry.
+    fn cumulative_of(entry: &Entry) -> Self::Word
+        ensures { Self.Word.whole result ≡ cumulative entry.now };
 }
 
 /// Entries that are a cumulative alone, as contiguous models store them.
@@ -29,13 +26,11 @@ pub struct Alone;
 impl<P: WholeNumber> CdfEntry<P> for Alone {
     type Word = P;
 
-    ghost number = { P.whole };
-
     ghost cumulative = { P.whole };
 
     #[inline]
-    fn is_at_most(entry: &P, q: P) -> bool {
-        (*entry).is_at_most(q)
+    fn cumulative_of(entry: &P) -> P {
+        *entry
     }
 }
 
@@ -46,13 +41,11 @@ pub struct WithSymbol;
 impl<P: WholeNumber, Symbol> CdfEntry<(P, Symbol)> for WithSymbol {
     type Word = P;
 
-    ghost number = { P.whole };
-
     ghost cumulative = { λ x. P.whole x.0 };
 
     #[inline]
-    fn is_at_most(entry: &(P, Symbol), q: P) -> bool {
-        entry.0.is_at_most(q)
+    fn cumulative_of(entry: &(P, Symbol)) -> P {
+        entry.0
     }
 }
 
@@ -82,7 +75,7 @@ impl<'c, Entry, Kind: CdfEntry<Entry>> CdfProbe<'c, Entry, Kind> {
 impl<'c, Entry, Kind: CdfEntry<Entry>> Probe for CdfProbe<'c, Entry, Kind> {
     type Word = Kind::Word;
 
-    ghost number = { Kind.number };
+    ghost number = { Kind.Word.whole };
 
     ghost cumulatives = { λ p. map Kind.cumulative p.entries.now };
 
@@ -101,6 +94,6 @@ impl<'c, Entry, Kind: CdfEntry<Entry>> Probe for CdfProbe<'c, Entry, Kind> {
     #[inline]
     fn at_most(&mut self, index: usize, q: Kind::Word) -> bool {
         self.asked += 1;
-        Kind::is_at_most(&self.entries[index], q)
+        Kind::cumulative_of(&self.entries[index]).is_at_most(q)
     }
 }

@@ -7,10 +7,10 @@ ghost use Rattle.std.proofs.Common.{eq-eqb, refl};
 ghost use Rattle.constriction.specs.Model.{row_of, LiesWithin};
 ghost use Rattle.constriction.specs.Probe.{TellsRows, IsRowIndexOf, IsSearchable, IsLastAtMost};
 ghost use Rattle.constriction.specs.Rows.{contiguous_rows, IsRowOf};
-ghost use Rattle.constriction.specs.Stored.{IsStored, weights_of};
+ghost use Rattle.constriction.specs.Stored.{IsTable, lefts_in, weights_of};
 ghost use Rattle.constriction.specs.StoredRowLemmas.{stored-within, stored-tiles};
 
-use crate::stream::model::categorical::filling::lefts_of;
+use crate::stream::model::categorical::filling::table_of;
 use crate::stream::model::categorical::stored::row_at;
 use crate::stream::model::cdf_probe::{Alone, CdfProbe};
 use crate::stream::model::error::ModelError;
@@ -24,8 +24,9 @@ use std::marker::PhantomData;
 
 /// A model of the symbols 0, 1, .., given by their weights.
 ///
-/// It stores one word a symbol, the left cumulative, in a buffer of the caller's choice.
-#[derive(Drop)]
+/// It stores one word a symbol, the left cumulative, and one word more, the total, in a buffer of
+/// the caller's choice.
+#[derive(Debug, Drop)]
 pub struct ContiguousCategoricalEntropyModel<
     Probability: BitArray,
     Cdf: SafeBuf<Probability>,
@@ -34,8 +35,19 @@ pub struct ContiguousCategoricalEntropyModel<
     cdf: Cdf,
     probability: PhantomData<Probability>,
     ghost precise: { (0 < PRECISION) × (PRECISION ≤ Probability.BITS) },
-    ghost stored: { IsStored Probability.BITS PRECISION (map Probability.whole (Cdf.words_of cdf)) },
+    ghost stored: { IsTable Probability.BITS PRECISION (map Probability.whole (Cdf.words_of cdf)) },
 }
+
+/// The model over 24 bits of `u32`, which suits most uses.
+pub type DefaultContiguousCategoricalEntropyModel<Cdf = Vec<u32>> =
+    ContiguousCategoricalEntropyModel<u32, Cdf, 24>;
+
+/// The model over 12 bits of `u16`, for small tables of symbols.
+pub type SmallContiguousCategoricalEntropyModel<Cdf = Vec<u16>> = ContiguousCategoricalEntropyModel<
+    u16,
+    Cdf,
+    12,
+>;
 
 impl<Probability: BitArray, const PRECISION: usize> ContiguousCategoricalEntropyModel<
     Probability,
@@ -73,11 +85,27 @@ impl<Probability: BitArray, const PRECISION: usize> ContiguousCategoricalEntropy
             × GaveBad I.IntoIter.next_gives it (λ ws. IsAccepted Probability.BITS PRECISION
             (completed PRECISION infer_last_probability (map Probability.whole ws))) }
     {
-        let cdf = lefts_of::<Probability, I, PRECISION>(
+        let cdf = table_of::<Probability, I, PRECISION>(
             alloc,
             probabilities,
             infer_last_probability,
         )?;
+        Ok(Self {
+            cdf,
+            probability: PhantomData,
+        })
+    }
+
+    /// A model of the same rows, with a table of its own from the allocator of this one's.
+    ///
+    /// One allocation and one copy of the table.
+    pub fn clone(&self) -> Result<Self, AllocError>
+        ensures { IfOk result (λ m.
+            ⟦<ContiguousCategoricalEntropyModel<Probability, Vec<Probability>, PRECISION> as EntropyModel<PRECISION>>⟧.rows m
+            ≡ ⟦<ContiguousCategoricalEntropyModel<Probability, Vec<Probability>, PRECISION> as EntropyModel<PRECISION>>⟧.rows self.now) }
+    {
+        let mut cdf = Vec::with_capacity(*self.cdf.allocator(), self.cdf.len())?;
+        cdf.extend_from_slice(&self.cdf)?;
         Ok(Self {
             cdf,
             probability: PhantomData,
@@ -96,7 +124,21 @@ impl<
         ensures { result ≡ length
             (⟦<ContiguousCategoricalEntropyModel<Probability, Cdf, PRECISION> as EntropyModel<PRECISION>>⟧.rows self.now) }
     {
-        self.cdf.words().len()
+        self.cdf.words().len() - 1
+    }
+
+    /// The same model over the table of this one.
+    #[inline]
+    pub fn as_view<'m>(
+        &'m self,
+    ) -> ContiguousCategoricalEntropyModel<Probability, &'m [Probability], PRECISION>
+        ensures { ⟦<ContiguousCategoricalEntropyModel<Probability, &'m [Probability], PRECISION> as EntropyModel<PRECISION>>⟧.rows result
+            ≡ ⟦<ContiguousCategoricalEntropyModel<Probability, Cdf, PRECISION> as EntropyModel<PRECISION>>⟧.rows self.now }
+    {
+        ContiguousCategoricalEntropyModel {
+            cdf: self.cdf.words(),
+            probability: PhantomData,
+        }
     }
 
     /// A probe of the rows in question for a quantile, which are all rows, and the index of the
@@ -121,7 +163,8 @@ impl<
             (⟦<ContiguousCategoricalEntropyModel<Probability, Cdf, PRECISION> as EntropyModel<PRECISION>>⟧.rows self.now)
             (Probability.whole quantile) (result.0 + i) }
     {
-        (0, CdfProbe::new(self.cdf.words()))
+        let cdf = self.cdf.words();
+        (0, CdfProbe::new(&cdf[..cdf.len() - 1]))
     }
 }
 
@@ -132,7 +175,7 @@ impl<Probability: BitArray, Cdf: SafeBuf<Probability>, const PRECISION: usize> E
 
     type Probability = Probability;
 
-    ghost rows = { λ m. contiguous_rows (weights_of PRECISION (map Probability.whole (Cdf.words_of m.cdf))) };
+    ghost rows = { λ m. contiguous_rows (weights_of PRECISION (lefts_in (map Probability.whole (Cdf.words_of m.cdf)))) };
 }
 
 impl<Probability: BitArray, Cdf: SafeBuf<Probability>, const PRECISION: usize> EncoderModel<
@@ -146,7 +189,7 @@ impl<Probability: BitArray, Cdf: SafeBuf<Probability>, const PRECISION: usize> E
         symbol: &usize,
     ) -> Option<(Probability, Weight<Probability>)> {
         let cdf = self.cdf.words();
-        if *symbol < cdf.len() {
+        if *symbol < cdf.len() - 1 {
             Some(row_at::<Probability, PRECISION>(cdf, *symbol))
         } else {
             None
@@ -155,7 +198,7 @@ impl<Probability: BitArray, Cdf: SafeBuf<Probability>, const PRECISION: usize> E
 
     ghost reflexive_law = { λ s. eq-eqb s s refl };
 
-    ghost within_law = { λ m. stored-within _ _ _ m.stored };
+    ghost within_law = { λ m. stored-within _ _ _ m.stored.stored };
 }
 
 impl<Probability: BitArray, Cdf: SafeBuf<Probability>, const PRECISION: usize> DecoderModel<
@@ -188,5 +231,5 @@ impl<Probability: BitArray, Cdf: SafeBuf<Probability>, const PRECISION: usize> D
         Ok((index, left, weight))
     }
 
-    ghost tile_law = { λ m. stored-tiles _ _ _ m.stored };
+    ghost tile_law = { λ m. stored-tiles _ _ _ m.stored.stored };
 }

@@ -1,6 +1,6 @@
 //! Filling the quantiles below `2^PRECISION` with rows, one after another.
 
-ghost use Rattle.std.specs.Prelude.{◌≡◌, ◌+◌, ◌^◌, ◌<◌, ◌≤◌, ◌⊎◌, ℕ, List, IfOk, IfErr, map};
+ghost use Rattle.std.specs.Prelude.{◌≡◌, ◌+◌, ◌%◌, ◌^◌, ◌<◌, ◌≤◌, ◌⊎◌, ℕ, List, [], ◌∷◌, ◌++◌, IfOk, IfErr, map};
 ghost use Rattle.std.specs.Iterator.{IsFiniteIterable};
 ghost use Rattle.constriction.specs.Filling.{IsRowEnd};
 ghost use Rattle.constriction.specs.Acceptance.{completed, IsAccepted, GaveGood, GaveBad};
@@ -38,8 +38,18 @@ fn row_end<P: WholeNumber, const PRECISION: usize>(
     }
 }
 
-/// Where the rows of these weights begin, the last of which may be inferred.
-pub(crate) fn lefts_of<P: WholeNumber, I: IntoIterator<Item = P>, const PRECISION: usize>(
+/// How many words to ask memory for at once: one for each weight that is announced, and one for the
+/// total. A list that is announced to be longer than any that is accepted has no more than that one.
+#[inline]
+fn words_needed<const PRECISION: usize>(announced: usize) -> usize {
+    if PRECISION < 63 && announced > 1usize << PRECISION {
+        return 1 + (1usize << PRECISION);
+    }
+    announced.saturating_add(1)
+}
+
+/// The table of these weights, the last of which may be inferred.
+pub(crate) fn table_of<P: WholeNumber, I: IntoIterator<Item = P>, const PRECISION: usize>(
     alloc: Global,
     weights: I,
     infer_last: bool,
@@ -50,20 +60,24 @@ pub(crate) fn lefts_of<P: WholeNumber, I: IntoIterator<Item = P>, const PRECISIO
     ensures ok { IfOk result (λ v. (it : I.IntoIter) × I.into_iter_gives weights it
         × GaveGood I.IntoIter.next_gives it (λ ws.
         IsAccepted P.BITS PRECISION (completed PRECISION infer_last (map P.whole ws))
-        × (map P.whole v.items ≡ lefts_from 0 (completed PRECISION infer_last (map P.whole ws))))) }
+        × (map P.whole v.items ≡ lefts_from 0 (completed PRECISION infer_last (map P.whole ws))
+        ++ (2 ^ PRECISION % 2 ^ P.BITS) ∷ []))) }
     ensures invalid { result ≡ Err ModelError.InvalidTable → (it : I.IntoIter) × I.into_iter_gives weights it
         × GaveBad I.IntoIter.next_gives it (λ ws.
         IsAccepted P.BITS PRECISION (completed PRECISION infer_last (map P.whole ws))) }
 {
     let greatest = P::greatest(PRECISION);
-    let mut table = Vec::new(alloc);
+    let total = P::wrapping_pow2(PRECISION);
+    let weights = weights.into_iter();
+    let mut lefts = Vec::new(alloc);
+    let _ = lefts.reserve(words_needed::<PRECISION>(weights.size_hint().0));
     let mut end = Some(P::least());
     'rows: for weight in weights {
         let Some(left) = end else {
             return Err(ModelError::InvalidTable);
         };
         let next = row_end::<P, PRECISION>(left, weight, greatest)?;
-        table.push(left)?;
+        lefts.push(left)?;
         end = next;
     }
     match end {
@@ -71,7 +85,8 @@ pub(crate) fn lefts_of<P: WholeNumber, I: IntoIterator<Item = P>, const PRECISIO
             if infer_last {
                 return Err(ModelError::InvalidTable);
             }
-            Ok(table)
+            lefts.push(total)?;
+            Ok(lefts)
         }
         Some(left) => {
             if !infer_last {
@@ -80,8 +95,9 @@ pub(crate) fn lefts_of<P: WholeNumber, I: IntoIterator<Item = P>, const PRECISIO
             if greatest.minus(left).is_greatest() {
                 return Err(ModelError::InvalidTable);
             }
-            table.push(left)?;
-            Ok(table)
+            lefts.push(left)?;
+            lefts.push(total)?;
+            Ok(lefts)
         }
     }
 }

@@ -1,41 +1,28 @@
-//! The rows of a stored list of left cumulatives.
+//! The rows of a stored table.
 
 ghost use Rattle.std.specs.Prelude.{◌≡◌, ◌+◌, ◌<◌, ◌≤◌, length, map, slice_index};
-ghost use Rattle.constriction.specs.Stored.{IsStored, weights_of};
+ghost use Rattle.constriction.specs.Stored.{IsTable, lefts_in, weights_of};
 
+use crate::stream::model::cdf_probe::{Alone, CdfEntry};
 use constriction_words::{BitArray, WholeNumber};
 
-/// The last quantile of the row at `index`.
+/// Where the row at `index` begins, and its weight: the difference to where the next one begins.
 #[inline]
-fn last_quantile_at<P: WholeNumber, const PRECISION: usize>(cdf: &[P], index: usize) -> P
-    requires positive { 0 < PRECISION }
-    requires fits { PRECISION ≤ P.BITS }
-    requires table { IsStored P.BITS PRECISION (map P.whole cdf.now) }
-    requires in_bounds { index < length cdf.now }
-    ensures { P.whole result + 1 ≡ slice_index (map P.whole cdf.now) index
-        + slice_index (weights_of PRECISION (map P.whole cdf.now)) index }
+fn row_words_at<Entry, Kind: CdfEntry<Entry>, const PRECISION: usize>(
+    entries: &[Entry],
+    index: usize,
+) -> (Kind::Word, Kind::Word)
+    requires fits { PRECISION ≤ Kind.Word.BITS }
+    requires table { IsTable Kind.Word.BITS PRECISION (map Kind.cumulative entries.now) }
+    requires in_bounds { index + 1 < length entries.now }
+    ensures left { Kind.Word.whole result.0 ≡ slice_index (lefts_in (map Kind.cumulative entries.now)) index }
+    ensures weight { Kind.Word.whole result.1
+        ≡ slice_index (weights_of PRECISION (lefts_in (map Kind.cumulative entries.now))) index }
+    ensures positive { 0 < Kind.Word.whole result.1 }
 {
-    if index + 1 < cdf.len() {
-        cdf[index + 1].predecessor()
-    } else {
-        P::greatest(PRECISION)
-    }
-}
-
-/// Where the row at `index` begins, and its weight.
-#[inline]
-fn row_words_at<P: WholeNumber, const PRECISION: usize>(cdf: &[P], index: usize) -> (P, P)
-    requires positive { 0 < PRECISION }
-    requires fits { PRECISION ≤ P.BITS }
-    requires table { IsStored P.BITS PRECISION (map P.whole cdf.now) }
-    requires in_bounds { index < length cdf.now }
-    ensures left { P.whole result.0 ≡ slice_index (map P.whole cdf.now) index }
-    ensures weight { P.whole result.1 ≡ slice_index (weights_of PRECISION (map P.whole cdf.now)) index }
-    ensures positive { 0 < P.whole result.1 }
-{
-    let left = cdf[index];
-    let last = last_quantile_at::<P, PRECISION>(cdf, index);
-    (left, last.minus(left).successor())
+    let left = Kind::cumulative_of(&entries[index]);
+    let next = Kind::cumulative_of(&entries[index + 1]);
+    (left, next.wrapping_minus(left))
 }
 
 /// Where the row at `index` begins, and its weight as a word that is not 0.
@@ -44,14 +31,13 @@ pub(crate) fn row_at<P: BitArray, const PRECISION: usize>(
     cdf: &[P],
     index: usize,
 ) -> (P, P::NonZero)
-    requires positive { 0 < PRECISION }
     requires fits { PRECISION ≤ P.BITS }
-    requires table { IsStored P.BITS PRECISION (map P.whole cdf.now) }
-    requires in_bounds { index < length cdf.now }
-    ensures left { P.whole result.0 ≡ slice_index (map P.whole cdf.now) index }
+    requires table { IsTable P.BITS PRECISION (map P.whole cdf.now) }
+    requires in_bounds { index + 1 < length cdf.now }
+    ensures left { P.whole result.0 ≡ slice_index (lefts_in (map P.whole cdf.now)) index }
     ensures weight { P.whole (P.NonZero.base result.1)
-        ≡ slice_index (weights_of PRECISION (map P.whole cdf.now)) index }
+        ≡ slice_index (weights_of PRECISION (lefts_in (map P.whole cdf.now))) index }
 {
-    let (left, weight) = row_words_at::<P, PRECISION>(cdf, index);
+    let (left, weight) = row_words_at::<P, Alone, PRECISION>(cdf, index);
     (left, weight.into_nonzero_unchecked())
 }

@@ -1,7 +1,7 @@
 use Rattle.std.proofs.Common.{map, ap}
 use Rattle.constriction.specs.Acceptance.{completed}
 use Rattle.constriction.specs.Rows.{contiguous_rows}
-use Rattle.constriction.specs.StoredLemmas.{stored-of}
+use Rattle.constriction.proofs.TableLemmas.{table-of}
 use Rattle.constriction.proofs.stream.model.categorical.contiguous.ContiguousCategoricalEntropyModel+Probability+Vec+Probability+PRECISION.from_nonzero_fixed_point_probabilities.Goals as goal
 
 pub invariant_of-result : goal.invariant_of-result
@@ -12,7 +12,7 @@ invariant_of-result g c =
     let weights = completed g.row.PRECISION c.args.infer_last_probability (map whole given.2.0) in
     record {
       precise = (c.requires.positive, c.requires.fits);
-      stored = (stored-of g.Probability.BitArray.BITS g.row.PRECISION (map whole c.in_ok-cdf.cdf.items) weights good.1 good.0).0;
+      stored = (table-of g.Probability.BitArray.BITS g.row.PRECISION (map whole c.in_ok-cdf.cdf.items) weights good.0 good.1).0;
     }
 
 pub returns-clause-ok : goal.returns-clause-ok
@@ -21,5 +21,5 @@ returns-clause-ok g c =
     let given = c.in_ok-cdf.ensures.ok in
     let good = given.2.2 in
     let weights = completed g.row.PRECISION c.args.infer_last_probability (map whole given.2.0) in
-    let stored = stored-of g.Probability.BitArray.BITS g.row.PRECISION (map whole c.in_ok-cdf.cdf.items) weights good.1 good.0 in
-    (given.0, given.1, (given.2.0, given.2.1, (good.0, ap contiguous_rows stored.1)))
+    let table = table-of g.Probability.BitArray.BITS g.row.PRECISION (map whole c.in_ok-cdf.cdf.items) weights good.0 good.1 in
+    (given.0, given.1, (given.2.0, given.2.1, (good.0, ap contiguous_rows table.1)))

@@ -1,18 +1,20 @@
-use Rattle.std.proofs.Common.{◌≡◌, length, map, refl, arith}
+use Rattle.std.proofs.Common.{◌≡◌, ◌+◌, length, map, refl, arith}
 use Rattle.std.proofs.lemmas.List.{length-map}
+use Rattle.constriction.specs.Stored.{lefts_in}
 use Rattle.constriction.specs.StoredRowLemmas.{stored-entry, stored-no_entry}
+use Rattle.constriction.proofs.TableLemmas.{table-long}
 use Rattle.constriction.proofs.stream.model.categorical.contiguous.ContiguousCategoricalEntropyModelEncoderModel.left_cumulative_and_probability.Goals as goal
 
 pub returns-then-symbol-cdf : goal.returns-then-symbol-cdf
 returns-then-symbol-cdf g c =
     let whole = g.Probability.BitArray.whole in
     let words = c.words-cdf.result.now in
-    let lefts = map whole (g.Cdf.SafeBuf.words_of c.args.self.now.cdf) in
-    let same : map whole words ≡ lefts = rw c.words-cdf.ensures refl in
-    let long : length (map whole words) ≡ length words = length-map words whole in
-    stored-entry g.Probability.BitArray.BITS g.row.PRECISION lefts c.args.self.now.stored c.args.symbol.now
+    let table = map whole (g.Cdf.SafeBuf.words_of c.args.self.now.cdf) in
+    let same : map whole words ≡ table = rw c.words-cdf.ensures refl in
+    let long : length table ≡ length words = rw (← same) (length-map words whole) in
+    stored-entry g.Probability.BitArray.BITS g.row.PRECISION (lefts_in table) c.args.self.now.stored.stored c.args.symbol.now
     (whole c.row_at.result.0) (whole (g.Probability.NonZero.NonZeroBitArray.base c.row_at.result.1))
-    (rw (← same) (omega (arith, c.if-symbol-cdf.true)))
+    (omega (arith, c.if-symbol-cdf.true, table-long _ _ table c.args.self.now.stored))
     (rw (← same) c.row_at.ensures.left)
     (rw (← same) c.row_at.ensures.weight)
 
@@ -20,8 +22,8 @@ pub returns-else-symbol-cdf : goal.returns-else-symbol-cdf
 returns-else-symbol-cdf g c =
     let whole = g.Probability.BitArray.whole in
     let words = c.words-cdf.result.now in
-    let lefts = map whole (g.Cdf.SafeBuf.words_of c.args.self.now.cdf) in
-    let same : map whole words ≡ lefts = rw c.words-cdf.ensures refl in
-    let long : length (map whole words) ≡ length words = length-map words whole in
-    stored-no_entry g.Probability.BitArray.BITS g.row.PRECISION lefts c.args.self.now.stored c.args.symbol.now
-    (rw (← same) (omega (arith, c.if-symbol-cdf.false)))
+    let table = map whole (g.Cdf.SafeBuf.words_of c.args.self.now.cdf) in
+    let same : map whole words ≡ table = rw c.words-cdf.ensures refl in
+    let long : length table ≡ length words = rw (← same) (length-map words whole) in
+    stored-no_entry g.Probability.BitArray.BITS g.row.PRECISION (lefts_in table) c.args.self.now.stored.stored c.args.symbol.now
+    (omega (arith, c.if-symbol-cdf.false, table-long _ _ table c.args.self.now.stored))
