@@ -4,6 +4,8 @@ pub mod Cursor
 pub mod CursorLaws
 pub mod CursorRuns
 pub mod CursorState
+pub mod ItemLaws
+pub mod Items
 pub mod Part
 pub mod Sink
 pub mod SinkLaws

@@ -7,11 +7,13 @@ ghost use Rattle.constriction_backends.specs.Sink.{CountsExtend, ExtendingTells}
 ghost use Rattle.constriction_backends.specs.Stack.{PopsWhatWasPushed, SeeksBack};
 
 mod cursor;
+mod iterators;
 
 pub use self::cursor::{
     extending_overwrites, reversal_reads, reversal_twice, seek_back_in_a_cursor, seek_stays,
     turned_twice,
 };
+pub use self::iterators::{item_end_is_for_good, word_end_is_for_good};
 use crate::read::BoundedReadWords;
 use crate::stack::StackBackend;
 use crate::write::{BoundedWriteWords, WriteWords};

@@ -6,8 +6,11 @@
 #![tactic(auto)]
 
 mod buf;
+mod callbacks;
+mod convert;
 mod cursor;
 mod error;
+mod iterators;
 pub mod laws;
 mod read;
 mod reverse;
@@ -17,8 +20,11 @@ mod vec;
 mod write;
 
 pub use crate::buf::{SafeBuf, SafeBufMut};
+pub use crate::callbacks::{FallibleCallbackWriteWords, InfallibleCallbackWriteWords};
+pub use crate::convert::{AsReadWords, AsSeekReadWords, IntoReadWords, IntoSeekReadWords};
 pub use crate::cursor::Cursor;
 pub use crate::error::BoundedWriteError;
+pub use crate::iterators::{FallibleIteratorReadWords, FusedWords, InfallibleIteratorReadWords};
 pub use crate::read::{BoundedReadWords, ReadWords};
 pub use crate::reverse::Reverse;
 pub use crate::stack::StackBackend;
