@@ -1,5 +1,6 @@
 //! Sources, sinks and buffers: their calls at their types and through their bounds.
 
+mod adapters;
 mod buffers;
 mod cursors;
 mod errors;
