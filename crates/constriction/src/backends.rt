@@ -1,6 +1,8 @@
 //! Where words are written to and read from.
 
 pub use constriction_backends::{
-    BoundedReadWords, BoundedWriteError, BoundedWriteWords, Cursor, ReadWords, ReadWriteError,
-    Reverse, SafeBuf, SafeBufMut, WriteWords, laws,
+    AsReadWords, AsSeekReadWords, BoundedReadWords, BoundedWriteError, BoundedWriteWords, Cursor,
+    FallibleCallbackWriteWords, FallibleIteratorReadWords, FusedWords,
+    InfallibleCallbackWriteWords, InfallibleIteratorReadWords, IntoReadWords, IntoSeekReadWords,
+    ReadWords, ReadWriteError, Reverse, SafeBuf, SafeBufMut, StackBackend, WriteWords, laws,
 };

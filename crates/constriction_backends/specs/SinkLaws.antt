@@ -1,7 +1,8 @@
--- Writes in a row: a default method cites these, and a caller's proof may. No public clause cites this module.
-use Rattle.std.specs.Prelude.{List, [], ◌∷◌, ◌++◌, Option, Result, Ok, Err}
-use Rattle.std.proofs.Common.{subst, sym, append_assoc, append-nil}
-use Rattle.constriction_backends.specs.Sink.{WritesTold, Writes, ExtendingTells}
+-- Writes in a row, and those that are counted: a default method and impls cite these, and a caller's proof may. No public clause cites
+-- this module.
+use Rattle.std.specs.Prelude.{ℕ, ◌<◌, List, [], ◌∷◌, ◌++◌, Option, Result, Ok, Err, IfErr}
+use Rattle.std.proofs.Common.{subst, sym, append_assoc, append-nil, arith}
+use Rattle.constriction_backends.specs.Sink.{WritesTold, CountsWrite, Writes, ExtendingTells}
 
 module _ {S W E : Type 0} (gives : S → W → Result (Unit {0}) E → S → Type 0) where
   -- one more write after others
@@ -30,3 +31,8 @@ module _ {S W E : Type 0} (gives : S → W → Result (Unit {0}) E → S → Typ
       (ws, drained, writes_told_all tells law s ws t written old told)
   extending_tells tells next law s items (Err e) t old (ws, w, rest, j, yielded, written, refused) told =
       (ws, w, rest, yielded, law j w (Err e) t refused (old ++ ws) (writes_told_all tells law s ws j written old told))
+
+-- a write that is counted is not refused where a place was free
+pub free_is_taken : {E : Type 0} (m : ℕ) (r : Result (Unit {0}) E) (n : ℕ) → CountsWrite m r n → 0 < m → IfErr r (λ _. ⊥)
+free_is_taken m (Ok x) n h free = tt
+free_is_taken m (Err e) n h free = absurd (let none = h.0 in omega arith)

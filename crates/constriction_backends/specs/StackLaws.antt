@@ -1,6 +1,6 @@
 -- The steps of a stack meet the laws of sources and sinks: the impls cite these, and a caller's own may. No public clause cites this
 -- module.
-use Rattle.std.specs.Prelude.{◌≡◌, List, [], ◌∷◌, ◌++◌, ⊤, reverse, length, Option, Some, None, Result, Ok, Err}
+use Rattle.std.specs.Prelude.{◌≡◌, List, [], ◌∷◌, ◌++◌, ⊤, reverse, length, Option, Some, None, Result, Ok, Err, IfErr}
 use Rattle.std.proofs.Common.{sym, ◌∙◌, ap, subst}
 use Rattle.std.proofs.lemmas.List.{reverse-append, reverse-reverse, length-append, length-reverse}
 use Rattle.constriction_backends.specs.Source.{ReadsTold, CountsRead}
@@ -33,6 +33,11 @@ module _ {S W : Type 0} (items : S → List W) {E : Type 0} where
 pub tells_all : {S W : Type 0} (items : S → List W) (s : S) → ⊤ → (words : List W) → words ≡ reverse (items s)
     → length (items s) ≡ length words
 tells_all items s exact words e = sym (ap length e ∙ length-reverse (items s))
+
+-- where each error says that memory was refused, a refusal is for that
+pub any_error : {E : Type 0} (r : Result (Unit {0}) E) → IfErr r (λ _. ⊤)
+any_error (Ok x) = tt
+any_error (Err e) = tt
 
 last_first : {W : Type 0} (words : List W) (w : W) → reverse (words ++ w ∷ []) ≡ w ∷ reverse words
 last_first words w = reverse-append words (w ∷ [])

@@ -59,6 +59,8 @@ impl<Word, E: Debug, C: FnMut(Word) -> Result<(), E>> WriteWords<Word>
     }
 
     ghost writes_told = { λ _ _ _ _ _ _ h. absurd h };
+
+    ghost room_suffices = { λ _ _ _ _ _ h. absurd h };
 }
 
 /// A sink that hands each word to a callback, which takes it.
@@ -113,4 +115,6 @@ impl<Word, C: FnMut(Word)> WriteWords<Word> for InfallibleCallbackWriteWords<Wor
     }
 
     ghost writes_told = { λ _ _ _ _ _ _ h. absurd h };
+
+    ghost room_suffices = { λ _ _ _ _ _ h. absurd h };
 }

@@ -5,7 +5,7 @@
 ghost use Rattle.std.specs.Prelude.{◌≡◌, ◌≢◌, ◌↔◌, ◌≤◌, List, [], ⊤, false, reverse, length, IsTrue, IsOk};
 ghost use Rattle.std.specs.Bool.{OnFalse};
 ghost use Rattle.constriction_backends.specs.Stack.{PopsFrom, PushesTo};
-ghost use Rattle.constriction_backends.specs.StackLaws.{Pops-told, Pops-counted, Pushes-told, tells_all};
+ghost use Rattle.constriction_backends.specs.StackLaws.{Pops-told, Pops-counted, Pushes-told, tells_all, any_error};
 
 use crate::read::{BoundedReadWords, ReadWords};
 use crate::write::WriteWords;
@@ -68,6 +68,8 @@ impl<Word: MadeWith<A> + Drop, const N: usize, A: Allocator + Copy> WriteWords<W
 
     ghost has_room = { λ _. ⊤ };
 
+    ghost lacks_memory = { λ _. ⊤ };
+
     #[inline]
     fn write(&mut self, word: Word) -> Result<(), AllocError> {
         let _at_least = self.capacity();
@@ -84,4 +86,6 @@ impl<Word: MadeWith<A> + Drop, const N: usize, A: Allocator + Copy> WriteWords<W
     }
 
     ghost writes_told = { λ s w r t gives. Pushes-told (λ (u : _). u.items) s w r t gives.pushes };
+
+    ghost room_suffices = { λ s w r t gives room. any_error r };
 }

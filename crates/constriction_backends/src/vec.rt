@@ -2,7 +2,7 @@
 
 ghost use Rattle.std.specs.Prelude.{◌≡◌, ◌↔◌, ◌<◌, ◌≤◌, [], ⊤, false, reverse, length, IsTrue, IsOk, vec_capacity};
 ghost use Rattle.constriction_backends.specs.Stack.{PopsFrom, PushesTo};
-ghost use Rattle.constriction_backends.specs.StackLaws.{Pops-told, Pops-counted, Pushes-told, tells_all};
+ghost use Rattle.constriction_backends.specs.StackLaws.{Pops-told, Pops-counted, Pushes-told, tells_all, any_error};
 
 use crate::read::{BoundedReadWords, ReadWords};
 use crate::write::WriteWords;
@@ -58,6 +58,8 @@ impl<Word: Drop> WriteWords<Word> for Vec<Word> {
 
     ghost has_room = { λ _. ⊤ };
 
+    ghost lacks_memory = { λ _. ⊤ };
+
     #[inline]
     fn write(&mut self, word: Word) -> Result<(), AllocError> {
         self.push(word)?;
@@ -72,4 +74,6 @@ impl<Word: Drop> WriteWords<Word> for Vec<Word> {
     }
 
     ghost writes_told = { λ s w r t gives. Pushes-told (λ (u : _). u.items) s w r t gives.pushes };
+
+    ghost room_suffices = { λ s w r t gives room. any_error r };
 }

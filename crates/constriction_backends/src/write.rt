@@ -1,6 +1,6 @@
 //! Sinks of words.
 
-ghost use Rattle.std.specs.Prelude.{◌≡◌, ◌<◌, ◌↔◌, ℕ, List, ⊤, Result, IsTrue};
+ghost use Rattle.std.specs.Prelude.{◌≡◌, ◌<◌, ◌↔◌, ℕ, List, ⊤, Result, IsTrue, IfErr};
 ghost use Rattle.std.specs.Bool.{OnFalse};
 ghost use Rattle.std.specs.Iterator.{IsFinite};
 ghost use Rattle.constriction_backends.specs.Sink.{WritesTold, CountsWrite, ExtendsBy};
@@ -11,7 +11,8 @@ use std::fmt::Debug;
 ///
 /// An implementer says which answers a write may give (`write_gives`), and may tell the words that
 /// were written (`tells_written`): then a write that succeeds appends its word to them, and a
-/// refused one leaves them.
+/// refused one leaves them. It may also say where it surely has room (`has_room`): there a write is
+/// refused for want of memory alone (`lacks_memory`).
 pub trait WriteWords<Word> {
     /// Why a write may be refused.
     type WriteError: Debug;
@@ -24,6 +25,9 @@ pub trait WriteWords<Word> {
 
     // The sink surely takes one more word, want of memory aside.
     ghost has_room: { Self → Type 0 } = { λ _. ⊥ };
+
+    // The error says that memory was refused. No error does, where an implementer says nothing else.
+    ghost lacks_memory: { Self.WriteError → Type 0 } = { λ _. ⊥ };
 
     // The states in which the sink may be written. A write leads from one to another.
     ghost can_write: { Self → Type 0 } = { λ _. ⊤ };
@@ -63,6 +67,10 @@ pub trait WriteWords<Word> {
     // A write goes to the end of the told list.
     ghost writes_told: { (s : Self) (w : Word) (r : Result (Unit {0}) Self.WriteError) (t : Self)
         → write_gives s w r t → (words : List Word) → tells_written s words → WritesTold tells_written words w r t };
+
+    // Where there surely is room, a write is refused for want of memory alone.
+    ghost room_suffices: { (s : Self) (w : Word) (r : Result (Unit {0}) Self.WriteError) (t : Self)
+        → write_gives s w r t → has_room s → IfErr r lacks_memory };
 }
 
 /// A sink that knows how many words it still takes.

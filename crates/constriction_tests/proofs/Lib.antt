@@ -1,1 +1,2 @@
 mod EvenLemmas
+mod RowLemmas

@@ -3,4 +3,5 @@
 mod errors;
 pub mod numbers;
 mod positions;
+pub mod weights;
 mod whole_numbers;

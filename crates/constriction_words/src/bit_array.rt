@@ -34,6 +34,12 @@ pub trait NonZeroBitArray: Copy + Display + Debug + Eq + Hash {
         ensures range { Self.Base.fits (Self.Base.value result) };
 
     ghost nonzero_law: { (x : Self) → Self.Base.value (base x) ≢ pos 0 };
+
+    // Two that hold one word are one.
+    ghost same_law: { (a b : Self) → base a ≡ base b → a ≡ b };
+
+    // Equality is that of the words that are held.
+    ghost eq_law: { (a b : Self) → IsTrue (Self.eq a b) ↔ (base a ≡ base b) };
 }
 
 /// A word: an unsigned integer of a fixed number of bits.

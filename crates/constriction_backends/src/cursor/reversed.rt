@@ -4,6 +4,7 @@ ghost use Rattle.std.specs.Prelude.{◌≡◌, ◌<◌, ◌↔◌, ⊤, length, 
 ghost use Rattle.constriction_backends.specs.Cursor.{buf_of, pos_of, state_of, TurnsRound, WritesBackTo};
 ghost use Rattle.constriction_backends.specs.CursorState.{reversal};
 ghost use Rattle.constriction_backends.specs.CursorLaws.{Overwrites-told, Overwrites-counts};
+ghost use Rattle.constriction_backends.specs.SinkLaws.{free_is_taken};
 
 use crate::buf::SafeBufMut;
 use crate::cursor::Cursor;
@@ -50,6 +51,8 @@ impl<Word: Drop, Buf: SafeBufMut<Word>> WriteWords<Word> for Reverse<Cursor<Word
 
     ghost tells_written = { λ s words. (reversal (state_of s.0)).before ≡ words };
 
+    ghost has_room = { λ s. 0 < length (reversal (state_of s.0)).after };
+
     #[inline]
     fn write(&mut self, word: Word) -> Result<(), BoundedWriteError>
         ensures gives { WritesBackTo self.old.0 Buf.with_words word result self.new.0 }
@@ -69,6 +72,10 @@ impl<Word: Drop, Buf: SafeBufMut<Word>> WriteWords<Word> for Reverse<Cursor<Word
     }
 
     ghost writes_told = { λ s w r t h. Overwrites-told (λ (x : _). reversal (state_of x.0)) s w r t h.0 };
+
+    ghost room_suffices = { λ s w r t h.
+        free_is_taken (length (reversal (state_of s.0)).after) r (length (reversal (state_of t.0)).after)
+        (Overwrites-counts (λ (x : _). reversal (state_of x.0)) s w r t h.0) };
 }
 
 impl<Word: Drop, Buf: SafeBufMut<Word>> BoundedWriteWords<Word> for Reverse<Cursor<Word, Buf>> {
@@ -81,5 +88,5 @@ impl<Word: Drop, Buf: SafeBufMut<Word>> BoundedWriteWords<Word> for Reverse<Curs
 
     ghost counts_writes = { λ s w r t h. Overwrites-counts (λ (x : _). reversal (state_of x.0)) s w r t h.0 };
 
-    ghost room_counts = { λ _ h. absurd h };
+    ghost room_counts = { λ _ h. h };
 }

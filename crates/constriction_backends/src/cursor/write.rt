@@ -3,6 +3,7 @@
 ghost use Rattle.std.specs.Prelude.{◌≡◌, ◌<◌, ◌↔◌, ⊤, length, IsOk};
 ghost use Rattle.constriction_backends.specs.Cursor.{buf_of, pos_of, state_of, WritesTo};
 ghost use Rattle.constriction_backends.specs.CursorLaws.{Overwrites-told, Overwrites-counts};
+ghost use Rattle.constriction_backends.specs.SinkLaws.{free_is_taken};
 
 use crate::buf::{SafeBuf, SafeBufMut};
 use crate::cursor::Cursor;
@@ -15,6 +16,8 @@ impl<Word: Drop, Buf: SafeBufMut<Word>> WriteWords<Word> for Cursor<Word, Buf> {
     ghost write_gives = { λ s w r t. WritesTo s Buf.with_words w r t };
 
     ghost tells_written = { λ s words. (state_of s).before ≡ words };
+
+    ghost has_room = { λ s. 0 < length (state_of s).after };
 
     #[inline]
     fn write(&mut self, word: Word) -> Result<(), BoundedWriteError>
@@ -34,6 +37,9 @@ impl<Word: Drop, Buf: SafeBufMut<Word>> WriteWords<Word> for Cursor<Word, Buf> {
     }
 
     ghost writes_told = { λ s w r t h. Overwrites-told state_of s w r t h.0 };
+
+    ghost room_suffices = { λ s w r t h. free_is_taken (length (state_of s).after) r (length (state_of t).after)
+        (Overwrites-counts state_of s w r t h.0) };
 }
 
 impl<Word: Drop, Buf: SafeBufMut<Word>> BoundedWriteWords<Word> for Cursor<Word, Buf> {
@@ -46,5 +52,5 @@ impl<Word: Drop, Buf: SafeBufMut<Word>> BoundedWriteWords<Word> for Cursor<Word,
 
     ghost counts_writes = { λ s w r t h. Overwrites-counts state_of s w r t h.0 };
 
-    ghost room_counts = { λ _ h. absurd h };
+    ghost room_counts = { λ _ h. h };
 }

@@ -1,8 +1,9 @@
 //! Default answers, at sources and sinks of a caller's own.
 
-ghost use Rattle.std.specs.Prelude.{◌≡◌, ◌<◌, ◌≤◌, Err, MatchResult};
+ghost use Rattle.std.specs.Prelude.{◌≡◌, ◌<◌, ◌≤◌, Err, IfErr, MatchResult};
 ghost use Rattle.constriction_backends.specs.Source.{CountsRead};
 ghost use Rattle.constriction_backends.specs.Sink.{CountsWrite};
+ghost use Rattle.constriction_backends.specs.SinkLaws.{free_is_taken};
 
 use crate::checks::same;
 use constriction_backends::{
@@ -48,6 +49,8 @@ impl WriteWords<u8> for Small {
     }
 
     ghost writes_told = { λ s word r t h words told. absurd told };
+
+    ghost room_suffices = { λ s word r t h room. absurd room };
 }
 
 #[test]
@@ -127,6 +130,8 @@ impl WriteWords<u8> for Places {
     }
 
     ghost writes_told = { λ s word r t h words told. absurd told };
+
+    ghost room_suffices = { λ s word r t h. free_is_taken s.free r t.free h };
 }
 
 impl BoundedWriteWords<u8> for Places {
@@ -139,6 +144,29 @@ impl BoundedWriteWords<u8> for Places {
     ghost counts_writes = { λ s word r t h. h };
 
     ghost room_counts = { λ s h. h };
+}
+
+/// Writes a word, but where the sink may be full.
+fn write_where_there_is_room<Sink: WriteWords<u8>>(
+    sink: &mut Sink,
+    word: u8,
+) -> Result<(), Sink::WriteError>
+    requires { Sink.can_write sink.old }
+    ensures { IfErr result Sink.lacks_memory }
+{
+    if sink.maybe_full() {
+        return Ok(());
+    }
+    sink.write(word)
+}
+
+#[test]
+fn a_write_where_there_is_room_succeeds(rt: HostRuntime) {
+    let mut words = Vec::new(rt.alloc());
+    same(&rt, write_where_there_is_room(&mut words, 5), Ok(()));
+    same(&rt, words.as_slice(), [5].as_slice());
+    let mut places = Places { free: 0 };
+    same(&rt, write_where_there_is_room(&mut places, 5), Ok(()));
 }
 
 #[test]

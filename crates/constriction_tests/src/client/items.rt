@@ -242,6 +242,8 @@ impl WriteWords<u8> for TwoWords {
     }
 
     ghost writes_told = { Pushes-told (λ s. s.words.items) };
+
+    ghost room_suffices = { λ s word r t h room. absurd room };
 }
 
 #[test]

@@ -1,7 +1,9 @@
 //! Samples that are not 0.
 
 ghost use Rattle.std.specs.Prelude.{◌<◌, pos};
-ghost use Rattle.constriction_words.specs.Word.{pos-nonzero};
+ghost use Rattle.std.proofs.Common.{ap};
+ghost use Rattle.std.proofs.lemmas.Bool.Decides.{Decides-eqb};
+ghost use Rattle.constriction_words.specs.Word.{pos-nonzero, same-above-0};
 
 use crate::own_word::Sample;
 use constriction_words::NonZeroBitArray;
@@ -43,4 +45,10 @@ impl NonZeroBitArray for NonZeroSample {
     }
 
     ghost nonzero_law = { λ x e. pos-nonzero x.sample.0 x.positive e };
+
+    ghost same_law = { λ a b e. same-above-0 (λ n h. record { sample = record { 0 = n }; positive = h })
+        a.positive b.positive (ap (λ s. s.0) e) };
+
+    ghost eq_law = { λ a b. let equal = Decides-eqb a.sample.0 b.sample.0 in
+        ((λ h. ap (λ n. record { 0 = n }) (equal.0 h)), (λ e. equal.1 (ap (λ s. s.0) e))) };
 }

@@ -8,6 +8,7 @@ use crate::own_word::nonzero::NonZeroSample;
 use crate::words::numbers::{
     half_way, held, lower, moved_up, remainder_of_product, wrapped, zero_is_refused,
 };
+use crate::words::weights::greatest_is_same_as;
 use constriction::stream::model::{ContiguousCategoricalEntropyModel, DecoderModel, EncoderModel};
 use constriction_words::{BitArray, IndexWord, NonZeroBitArray};
 use num_traits::{PrimInt, cast};
@@ -77,6 +78,15 @@ fn samples_are_words(rt: HostRuntime) {
             Sample::from_index(258),
         ),
         (Sample(81), 65535, Sample(258)),
+    );
+}
+
+#[test]
+fn weights_are_compared_by_their_numbers(rt: HostRuntime) {
+    same(
+        &rt,
+        greatest_is_same_as::<Sample>(),
+        Some([true, false, false]),
     );
 }
 

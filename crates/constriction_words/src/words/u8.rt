@@ -4,7 +4,7 @@ ghost use Rattle.std.specs.Prelude.{ℕ};
 ghost use Rattle.std.specs.Int.NonZero.{non_zero_u8_get};
 ghost use Rattle.std.proofs.Common.{refl, lit≤};
 ghost use Rattle.std.proofs.lemmas.Bool.Decides.{Decides-eqb};
-ghost use Rattle.constriction_words.specs.Word.{pos-nonzero, lt-whole, le-whole};
+ghost use Rattle.constriction_words.specs.Word.{pos-nonzero, same-above-0, lt-whole, le-whole};
 
 use crate::bit_array::{BitArray, NonZeroBitArray};
 use crate::index_word::IndexWord;
@@ -28,6 +28,10 @@ impl NonZeroBitArray for NonZeroU8 {
     }
 
     ghost nonzero_law = { λ x e. pos-nonzero (non_zero_u8_get x) x.ok e };
+
+    ghost same_law = { λ a b e. same-above-0 (λ n h. record { value = n; ok = h }) a.ok b.ok e };
+
+    ghost eq_law = { λ a b. Decides-eqb (non_zero_u8_get a) (non_zero_u8_get b) };
 }
 
 impl BitArray for u8 {
