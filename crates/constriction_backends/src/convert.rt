@@ -73,7 +73,7 @@ impl<Word: Copy, Buf: SafeBuf<Word>> IntoReadWords<Word, Stack> for Buf {
 
     #[inline]
     fn into_read_words(self) -> Cursor<Word, Buf> {
-        Cursor::new_at_write_end(self)
+        IntoSeekReadWords::<Word, Stack>::into_seek_read_words(self)
     }
 }
 
@@ -84,7 +84,7 @@ impl<Word: Copy, Buf: SafeBuf<Word>> IntoReadWords<Word, Queue> for Buf {
 
     #[inline]
     fn into_read_words(self) -> Cursor<Word, Buf> {
-        Cursor::new_at_write_beginning(self)
+        IntoSeekReadWords::<Word, Queue>::into_seek_read_words(self)
     }
 }
 
@@ -117,7 +117,7 @@ impl<'a, Word: Copy + 'a, Buf: SafeBuf<Word> + 'a> AsReadWords<'a, Word, Stack> 
 
     #[inline]
     fn as_read_words(&'a self) -> Cursor<Word, &'a [Word]> {
-        Cursor::new_at_write_end(self.words())
+        AsSeekReadWords::<Word, Stack>::as_seek_read_words(self)
     }
 }
 
@@ -128,7 +128,7 @@ impl<'a, Word: Copy + 'a, Buf: SafeBuf<Word> + 'a> AsReadWords<'a, Word, Queue> 
 
     #[inline]
     fn as_read_words(&'a self) -> Cursor<Word, &'a [Word]> {
-        Cursor::new_at_write_beginning(self.words())
+        AsSeekReadWords::<Word, Queue>::as_seek_read_words(self)
     }
 }
 
