@@ -64,6 +64,37 @@ fn set_through_another<Buf: SafeBufMut<u8>>(cursor: &mut Cursor<u8, Buf>, word: 
     set_slice(cursor.buf_mut(), pos, word);
 }
 
+/// The same in one function. The loan is named once more at the end, so that the other cursor
+/// borrows it and does not take it.
+fn set_over_a_loan<Buf: SafeBufMut<u8>>(cursor: &mut Cursor<u8, Buf>, word: u8)
+    requires { pos_of cursor.old < length (Buf.words_of (buf_of cursor.old)) }
+    ensures buf { buf_of cursor.new ≡ Buf.with_words (buf_of cursor.old)
+        (slice_set (Buf.words_of (buf_of cursor.old)) (pos_of cursor.old) word) }
+    ensures pos { pos_of cursor.new ≡ pos_of cursor.old }
+{
+    let pos = cursor.pos();
+    let words = cursor.buf_mut();
+    let mut over = Cursor::<u8, &mut [u8]>::new_at_write_end_mut(words);
+    let _ = over.seek(pos);
+    let _ = over.write(word);
+    let _ = words;
+}
+
+/// The words that a cursor lends are as they were after reads by such a cursor.
+fn read_over_a_loan<Buf: SafeBufMut<u8>>(cursor: &mut Cursor<u8, Buf>) -> Option<u8>
+    ensures buf { buf_of cursor.new ≡ buf_of cursor.old }
+    ensures pos { pos_of cursor.new ≡ pos_of cursor.old }
+{
+    let words = cursor.buf_mut();
+    let mut over = Cursor::<u8, &mut [u8]>::new_at_write_beginning(words);
+    let read = ReadWords::<u8, Queue>::read(&mut over);
+    let _ = words;
+    match read {
+        Ok(word) => word,
+        Err(never) => match never {},
+    }
+}
+
 /// Whatever is done to a view, the cursor stays at its position and has as many words.
 fn move_a_view<Buf: SafeBufMut<u8>>(cursor: &mut Cursor<u8, Buf>)
     ensures pos { pos_of cursor.new ≡ pos_of cursor.old }
@@ -118,8 +149,11 @@ fn what_is_written_through_a_loan_stands(rt: HostRuntime) -> Result<(), Fail> {
     holds(&rt, &cursor, [11, 21, 3]);
     set_through_another(&mut cursor, 22);
     holds(&rt, &cursor, [11, 22, 3]);
+    set_over_a_loan(&mut cursor, 23);
+    same(&rt, read_over_a_loan(&mut cursor), Some(11));
+    holds(&rt, &cursor, [11, 23, 3]);
     move_a_view(&mut cursor);
-    holds(&rt, &cursor, [8, 22, 3]);
+    holds(&rt, &cursor, [8, 23, 3]);
     Ok(())
 }
 

@@ -51,6 +51,10 @@ impl<Word, Buf: SafeBufMut<Word>> Cursor<Word, Buf> {
 
     /// A cursor at the same position that borrows the words for writing. What it wrote stands in the
     /// words at the end of the loan, and its moves leave this one where it is.
+    ///
+    /// A caller's proof learns the position and the number of the words that are left, and no words.
+    /// One that needs them makes the cursor over a local that holds the loan of
+    /// [`buf_mut`](Self::buf_mut), and names that local once more when it is done.
     #[inline]
     pub fn as_mut_view(&mut self) -> Cursor<Word, &mut [Word]>
         ensures* writes_back { sem 𝓛 (follows (the_row Word.row Buf.row Buf.SafeBuf) (Array Word.row 0)
