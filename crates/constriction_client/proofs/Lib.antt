@@ -1,9 +1,11 @@
 mod Accepting
+mod ComingBack
 mod Cutting
 mod EntryRows
 mod Exactly
 mod ItemWriting
 mod Numbers
+mod Places
 mod Returning
 mod RowTexts
 mod WordNumbers
