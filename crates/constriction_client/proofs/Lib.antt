@@ -1,8 +1,10 @@
 mod Accepting
+mod ComingBack
 mod Cutting
 mod Exactly
 mod ItemWriting
 mod Numbers
+mod Places
 mod Returning
 mod RowTexts
 mod WordNumbers

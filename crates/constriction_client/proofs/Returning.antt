@@ -1,20 +1,18 @@
 -- The pair of an item's word is the item, one by one and over whole lists.
-use Rattle.std.proofs.Common.{◌≡◌, ℕ, ◌^◌, ◌<◌, ◌≤◌, Bool, List, [], ◌∷◌, ◌++◌, ◌⊎◌, Option, Result, Err, length, reverse, refl, ap, sym, ◌∙◌, subst, arith, inl, inr, append-nil, length-append}
-use Rattle.std.specs.Prelude.{All, Contains, IsTrue}
+use Rattle.std.proofs.Common.{◌≡◌, ℕ, ◌^◌, ◌<◌, Bool, List, [], ◌∷◌, Option, Result, length, reverse, ap, sym, ◌∙◌, subst, arith}
+use Rattle.std.specs.Prelude.{All, IsTrue}
 use Rattle.std.specs.List.{AllZip}
-use Rattle.std.proofs.lemmas.List.{reverse-append, length-reverse}
-use Rattle.std.proofs.lemmas.List.Elements.{All-nil, All-cons, All-contains, Contains-append_right}
+use Rattle.std.proofs.lemmas.List.{reverse-append}
+use Rattle.std.proofs.lemmas.List.Elements.{All-nil, All-cons}
 use Rattle.std.proofs.lemmas.Slice.Zip.{all_zipped_more, AllZip-long}
 use Rattle.constriction.specs.Model.{LiesWithin}
 use Rattle.constriction.specs.Rows.{Row, RowsTile, entry_of}
 use Rattle.constriction_words.specs.declared.coder_error.CoderError.{CoderError}
 use Rattle.constriction_words.specs.declared.coder_error.CoderError.TheVariants.{Frontend}
 use Rattle.constriction_client.specs.declared.quantiles.QuantileFault.{QuantileFault}
-use Rattle.constriction_client.specs.declared.quantiles.ReadFault.{ReadFault}
-use Rattle.constriction_client.specs.declared.quantiles.ReadFault.TheVariants.{QuantileTooLarge}
-use Rattle.constriction_client.specs.Quantiles.{IsQuantileOf, AreQuantiles, IsPairOf, ArePairs, StopsAtItem, ReadsPairs}
-use Rattle.constriction_client.specs.ThereAndBack.{AreItems, ReadsBack, ReadsBackReversed, HasFault}
-use Rattle.constriction.specs.CodingLemmas.{entry-row, entry-below, one-row, unreversed}
+use Rattle.constriction_client.specs.Quantiles.{IsQuantileOf, AreQuantiles, IsPairOf, StopsAtItem}
+use Rattle.constriction_client.specs.ThereAndBack.{ReadsBack, ReadsBackReversed, HasFault}
+use Rattle.constriction.specs.CodingLemmas.{entry-row, entry-below, one-row}
 
 -- one item
 same-item : {Symbol Word : Type 0} (eq : Symbol → Symbol → Bool) (entry : Symbol → Option (ℕ × ℕ)) (whole : Word → ℕ)
@@ -47,7 +45,7 @@ reads-back Symbol Word eq entry whole bits precision rows (i ∷ is) (p ∷ ps) 
 )
 
 -- what holds of two lists one by one holds of the reversed ones
-AllZip-reverse : {X Y : Type 0} (R : X → Y → Type 0) (xs : List X) (ys : List Y) → AllZip R xs ys
+pub AllZip-reverse : {X Y : Type 0} (R : X → Y → Type 0) (xs : List X) (ys : List Y) → AllZip R xs ys
     → AllZip R (reverse xs) (reverse ys)
 AllZip-reverse R [] [] h = tt
 AllZip-reverse R [] (y ∷ ys) h = absurd h
@@ -61,56 +59,23 @@ reads-back-reversed Symbol Word eq entry whole bits precision rows items pairs w
     reads-back Symbol Word eq entry whole bits precision rows (reverse items) pairs (reverse words) tile one_word agree
     (AllZip-reverse (λ item word. IsQuantileOf entry whole item (whole word)) items words h) k
 
--- a list whose first part is as long as the whole has nothing more
-nothing-after : {X : Type 0} (all first rest : List X) → all ≡ first ++ rest → length all ≤ length first
-    → rest ≡ []
-nothing-after all first [] e h = refl
-nothing-after all first (r ∷ rs) e h = absurd (omega (arith, ap length e, length-append first (r ∷ rs)))
+-- there are as many words as items
+pub as-many : {Symbol Word : Type 0} (entry : Symbol → Option (ℕ × ℕ)) (whole : Word → ℕ) (items : List (Symbol × Word))
+    (words : List Word) → AreQuantiles entry whole items words → length words ≡ length items
+as-many entry whole items words = AllZip-long (λ item word. IsQuantileOf entry whole item (whole word)) items words
 
-module _ {Symbol Word : Type 0} (eq : Symbol → Symbol → Bool) (whole : Word
-    → ℕ) (bits precision : ℕ) (rows : List (Row Symbol)) where
-  -- a stack that got the words of items gives the items back reversed, where as many words are asked for
-  pub back-from-stack : (items pairs : List (Symbol × Word)) (written words rest : List Word)
-      → RowsTile bits precision rows → ((a b : Word) → whole a ≡ whole b → a ≡ b)
-      → AreQuantiles (entry_of eq rows) whole items written → ArePairs rows whole words pairs
-      → reverse written ≡ words ++ rest → (length pairs ≡ length items) ⊎ (length pairs < length items)
-      → (length pairs < length items → rest ≡ [])
-      → AreItems eq (reverse items) pairs
-  back-from-stack items pairs written words rest tile one_word quantiles of_words split ends none =
-      let long_words : length words ≡ length pairs = sym (AllZip-long (IsPairOf rows whole) words pairs of_words) in
-      let long_written : length written ≡ length items =
-      AllZip-long (λ item word. IsQuantileOf (entry_of eq rows) whole item (whole word)) items written quantiles in
-      let ended : rest ≡ [] = elim ends [
-        | inl all ↦ nothing-after (reverse written) words rest split (omega (arith, length-reverse written))
-        | inr fewer ↦ none fewer
-      ] in
-      let whole_list : words ≡ reverse written = sym (split ∙ ap (λ ws. words ++ ws) ended ∙ append-nil words) in
-      reads-back-reversed Symbol Word eq (entry_of eq rows) whole bits precision rows items pairs written tile one_word
-      (λ s. refl) quantiles
-      (subst (λ (ws : List Word). ArePairs rows whole ws pairs) whole_list of_words)
-
-  -- the words of items are quantiles
-  quantiles-below : (items : List (Symbol × Word)) (words : List Word) → All (LiesWithin precision) rows
-      → AreQuantiles (entry_of eq rows) whole items words → All (λ w. whole w < 2 ^ precision) words
-  quantiles-below [] [] within h = All-nil (λ w. whole w < 2 ^ precision)
-  quantiles-below [] (w ∷ ws) within h = absurd h
-  quantiles-below (i ∷ is) [] within h = absurd h
-  quantiles-below (i ∷ is) (w ∷ ws) within h =
-      let q = h.0 in
-      let below = entry-below precision eq rows i.0 q.left q.weight (whole i.1) q.known within q.below in
-      All-cons (λ x. whole x < 2 ^ precision) w ws (omega (arith, below, q.sum)) (quantiles-below is ws within h.1)
-
-  -- so none of them is too large when it comes back
-  pub never-too-large : (items : List (Symbol × Word)) (written words rest : List Word) (word : Word)
-      → All (LiesWithin precision) rows
-      → AreQuantiles (entry_of eq rows) whole items written → reverse written ≡ words ++ word ∷ rest
-      → whole word < 2 ^ precision
-  never-too-large items written words rest word within quantiles split =
-      let here : Contains (word ∷ rest) word = (0, omega arith, refl) in
-      let among : Contains (reverse written) word =
-      subst (λ (ws : List Word). Contains ws word) (sym split) (Contains-append_right words (word ∷ rest) word here) in
-      All-contains (λ w. whole w < 2 ^ precision) written word (quantiles-below items written within quantiles)
-      (unreversed written word among)
+-- the words of items are quantiles
+pub quantiles-below : {Symbol Word : Type 0} (eq : Symbol → Symbol → Bool) (whole : Word → ℕ) (precision : ℕ)
+    (rows : List (Row Symbol)) (items : List (Symbol × Word)) (words : List Word) → All (LiesWithin precision) rows
+    → AreQuantiles (entry_of eq rows) whole items words → All (λ w. whole w < 2 ^ precision) words
+quantiles-below eq whole precision rows [] [] within h = All-nil (λ w. whole w < 2 ^ precision)
+quantiles-below eq whole precision rows [] (w ∷ ws) within h = absurd h
+quantiles-below eq whole precision rows (i ∷ is) [] within h = absurd h
+quantiles-below eq whole precision rows (i ∷ is) (w ∷ ws) within h =
+    let q = h.0 in
+    let below = entry-below precision eq rows i.0 q.left q.weight (whole i.1) q.known within q.below in
+    All-cons (λ x. whole x < 2 ^ precision) w ws (omega (arith, below, q.sum))
+    (quantiles-below eq whole precision rows is ws within h.1)
 
 -- where the writing stopped at a fault, that fault is the first one
 pub first-fault : {Symbol Word Sink Error : Type 0} (entry : Symbol → Option (ℕ × ℕ)) (whole : Word → ℕ)
@@ -130,18 +95,3 @@ first-fault entry whole gives tells items s error t fault stopped is =
       quantiles = at.wrote.quantiles;
       at_fault = at.refused.0;
     }
-
--- where the reading stopped at a word that is too large, that word was still to come
-pub large-word : {Symbol Word Source Error : Type 0} (precision : ℕ) (rows : List (Row Symbol)) (whole : Word → ℕ)
-    (gives : Source → Result (Option Word) Error → Source → Type 0) (tells : Source → List Word
-    → Type 0) (count : ℕ)
-    (s : Source) (old : List (Symbol × Word)) (error : CoderError ReadFault Error) (t : Source) (new : List (Symbol × Word))
-    → ReadsPairs precision rows whole gives tells count s old (Err error) t new
-    → error ≡ Frontend QuantileTooLarge
-    → (upcoming : List Word) → tells s upcoming
-    → (words rest : List Word) × (word : Word) × (upcoming ≡ words ++ word ∷ rest) × (2 ^ precision ≤ whole word)
-large-word precision rows whole gives tells count s old error t new read is upcoming h =
-    let at : ReadsPairs precision rows whole gives tells count s old (Err (Frontend QuantileTooLarge)) t new =
-    subst (λ e. ReadsPairs precision rows whole gives tells count s old (Err e) t new) is read in
-    let left = at.told upcoming h in
-    (at.words, left.0, at.ended.0, left.1 ∙ ap (λ ws. at.words ++ (ws ++ left.0)) at.ended.2, at.ended.4)

@@ -11,7 +11,7 @@ use Rattle.constriction_client.specs.Quantiles.{IsPairOf, ArePairs, Reads, IsRea
 
 module _ {Word Source Error : Type 0} (gives : Source → Result (Option Word) Error → Source → Type 0) where
   -- one more read after others
-  reads-more : (s : Source) (ws : List Word) (j : Source) (w : Word) (t : Source) → Reads gives s ws j
+  pub reads-more : (s : Source) (ws : List Word) (j : Source) (w : Word) (t : Source) → Reads gives s ws j
       → gives j (Ok (Some w)) t → Reads gives s (ws ++ w ∷ []) t
   reads-more s [] j w t e h = (t, subst (λ (x : Source). gives x (Ok (Some w)) t) (sym e) h, refl)
   reads-more s (x ∷ xs) j w t p h = (p.0, p.1, reads-more p.0 xs j w t p.2 h)

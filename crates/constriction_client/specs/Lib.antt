@@ -1,7 +1,9 @@
 pub mod Collecting
+pub mod Coming
 pub mod Grammar
 pub mod NumberWords
 pub mod Parts
+pub mod Placing
 pub mod Quantiles
 pub mod Reading
 pub mod Runs

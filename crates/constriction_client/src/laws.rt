@@ -1,16 +1,14 @@
 //! What follows from the definitions that the contracts cite, each law the contract of a function.
 
-ghost use Rattle.std.specs.Prelude.{◌≡◌, ◌<◌, ◌≤◌, Err, IfOk, reverse};
-ghost use Rattle.constriction.specs.Rows.{entry_of};
-ghost use Rattle.constriction_client.specs.declared.quantiles.QuantileFault.{QuantileFault};
-ghost use Rattle.constriction_client.specs.ThereAndBack.{AreItems, ReadsBack, ReadsBackReversed, HasFault};
+ghost use Rattle.constriction_client.specs.ThereAndBack.{ReadsBack, ReadsBackReversed};
 ghost use Rattle.constriction_client.specs.Reading.{ReadsExactly};
 ghost use Rattle.constriction_client.specs.Text.{FindsARow, FindsTheRow, TestsAcceptance};
 
-use crate::quantiles::{QuantileFault, ReadFault, read_symbols, write_quantiles};
-use constriction::stream::model::{DecoderModel, EncoderModel};
-use constriction_words::{CoderError, Stack};
-use std::alloc::{AllocError, Global};
+mod round_trips;
+
+pub use self::round_trips::{
+    CursorFault, there_and_back, there_and_back_in_a_cursor, there_and_back_of_two,
+};
 
 /// What was written for items is read back as these items, in the order of a queue.
 pub fn reads_back<Symbol, Word>()
@@ -22,38 +20,6 @@ pub fn reads_back<Symbol, Word>()
 pub fn reads_back_reversed<Symbol, Word>()
     ensures { ReadsBackReversed Symbol Word }
 {}
-
-/// Writes items to a stack in memory and reads them back, the last one first.
-///
-/// It fails with the fault of the first item that has no quantile, or where memory is refused.
-pub fn there_and_back<M, const PRECISION: usize>(
-    alloc: Global,
-    model: &M,
-    items: &[(M::Symbol, M::Probability)],
-) -> Result<Vec<(M::Symbol, M::Probability)>, CoderError<QuantileFault, AllocError>>
-where
-    M: EncoderModel<PRECISION> + DecoderModel<PRECISION>,
-    M::Symbol: Drop,
-    requires positive { 0 < PRECISION }
-    requires fits { PRECISION ≤ M.Probability.BITS }
-    requires clones { M.clones_are_same }
-    ensures ok { IfOk result (λ pairs. AreItems M.symbol_eq (reverse items.now) pairs.items) }
-    ensures fault { (fault : QuantileFault) → result ≡ Err (CoderError.Frontend fault)
-        → HasFault (entry_of M.symbol_eq (M.rows model.now)) M.Probability.whole items.now fault }
-{
-    let mut words = Vec::new(alloc);
-    match write_quantiles(model, items, &mut words) {
-        Ok(()) => {}
-        Err(fault) => return Err(fault),
-    }
-    let mut pairs = Vec::new(alloc);
-    match read_symbols::<Stack, _, _, PRECISION>(model, &mut words, items.len(), &mut pairs) {
-        Ok(_) => Ok(pairs),
-        Err(CoderError::Frontend(ReadFault::OutOfMemory)) => Err(CoderError::Backend(AllocError)),
-        Err(CoderError::Frontend(ReadFault::QuantileTooLarge)) => unreachable!(),
-        Err(CoderError::Backend(never)) => match never {},
-    }
-}
 
 /// A line spells at most one request, and reading the line finds it.
 pub fn reading_is_exactly_spelling()

@@ -6,9 +6,9 @@ ghost use Rattle.constriction.specs.Rows.{entry_of};
 ghost use Rattle.constriction_client.specs.Quantiles.{IsQuantileOf, IsFaultOf, WritesItems, StopsAtItem};
 ghost use Rattle.constriction_client.specs.Quantiles.{IsPairOf, IsReadFaultOf, ReadsPairs};
 
-use constriction::stream::model::{DecoderModel, EncoderModel, is_quantile};
+use constriction::stream::model::{DecoderModel, EncodesOver, is_quantile};
 use constriction_backends::{ReadWords, WriteWords};
-use constriction_words::{CoderError, NonZeroBitArray, Semantics, WholeNumber};
+use constriction_words::{BitArray, CoderError, NonZeroBitArray, Semantics, WholeNumber};
 use thiserror::Error;
 
 /// Why an item has no quantile.
@@ -57,17 +57,19 @@ fn quantile_within<Symbol, P: WholeNumber>(
 
 /// The quantile of an item.
 #[inline]
-fn quantile_of<M: EncoderModel<PRECISION>, const PRECISION: usize>(
-    model: &M,
-    item: &(M::Symbol, M::Probability),
-) -> Result<M::Probability, QuantileFault>
-    requires { PRECISION ≤ M.Probability.BITS }
-    ensures ok { IfOk result (λ word. IsQuantileOf (entry_of M.symbol_eq (M.rows model.now))
-        M.Probability.whole item.now (M.Probability.whole word)) }
-    ensures err { IfErr result (IsFaultOf (entry_of M.symbol_eq (M.rows model.now))
-        M.Probability.whole item.now) }
+fn quantile_of<Symbol, Word, E, const PRECISION: usize>(
+    encoder: &E,
+    item: &(Symbol, Word),
+) -> Result<Word, QuantileFault>
+where
+    Word: BitArray,
+    E: EncodesOver<Symbol, Word, PRECISION>,
+    requires { PRECISION ≤ Word.BITS }
+    ensures ok { IfOk result (λ word. IsQuantileOf (entry_of E.symbol_eq (E.rows encoder.now)) Word.whole
+        item.now (Word.whole word)) }
+    ensures err { IfErr result (IsFaultOf (entry_of E.symbol_eq (E.rows encoder.now)) Word.whole item.now) }
 {
-    match model.left_cumulative_and_probability(&item.0) {
+    match encoder.entry(&item.0) {
         Some((left, weight)) => quantile_within(item, left, weight.get()),
         None => Err(QuantileFault::ImpossibleSymbol),
     }
@@ -101,24 +103,25 @@ fn pair_of<M: DecoderModel<PRECISION>, const PRECISION: usize>(
 /// It stops at the first item that is refused, with `Frontend` where the item has no quantile and
 /// with `Backend` where the sink refuses it. The words of the items before it stay written, and
 /// those after it are not looked at. One pass over the items, and one write for each.
-pub fn write_quantiles<M, W, const PRECISION: usize>(
-    model: &M,
-    items: &[(M::Symbol, M::Probability)],
+pub fn write_quantiles<Symbol, Word, E, W, const PRECISION: usize>(
+    encoder: &E,
+    items: &[(Symbol, Word)],
     sink: &mut W,
 ) -> Result<(), CoderError<QuantileFault, W::WriteError>>
 where
-    M: EncoderModel<PRECISION>,
-    W: WriteWords<M::Probability>,
-    requires fits { PRECISION ≤ M.Probability.BITS }
+    Word: BitArray,
+    E: EncodesOver<Symbol, Word, PRECISION>,
+    W: WriteWords<Word>,
+    requires fits { PRECISION ≤ Word.BITS }
     requires can_write { W.can_write sink.old }
-    ensures ok { OnOk result (WritesItems (entry_of M.symbol_eq (M.rows model.now)) M.Probability.whole
+    ensures ok { OnOk result (WritesItems (entry_of E.symbol_eq (E.rows encoder.now)) Word.whole
         W.write_gives W.tells_written items.now sink.old sink.new) }
-    ensures err { IfErr result (λ fault. StopsAtItem (entry_of M.symbol_eq (M.rows model.now))
-        M.Probability.whole W.write_gives W.tells_written items.now sink.old fault sink.new) }
+    ensures err { IfErr result (λ fault. StopsAtItem (entry_of E.symbol_eq (E.rows encoder.now)) Word.whole
+        W.write_gives W.tells_written items.now sink.old fault sink.new) }
     ensures goes_on { W.can_write sink.new }
 {
     for item in items {
-        let word = match quantile_of(model, item) {
+        let word = match quantile_of(encoder, item) {
             Ok(word) => word,
             Err(fault) => return Err(CoderError::Frontend(fault)),
         };

@@ -3,3 +3,4 @@
 mod items;
 mod lines;
 mod runs;
+mod two_models;

@@ -2,6 +2,7 @@
 
 mod categorical;
 mod cdf_probe;
+mod encodes_over;
 mod error;
 mod probe;
 mod quantile;
@@ -14,6 +15,7 @@ pub use crate::stream::model::categorical::contiguous::{
     SmallContiguousCategoricalEntropyModel,
 };
 pub use crate::stream::model::cdf_probe::{Alone, CdfEntry, CdfProbe, WithSymbol};
+pub use crate::stream::model::encodes_over::EncodesOver;
 pub use crate::stream::model::error::ModelError;
 pub use crate::stream::model::probe::Probe;
 pub use crate::stream::model::quantile::is_quantile;

@@ -301,7 +301,7 @@ fn an_error_of_the_source_is_handed_on(rt: HostRuntime) -> Result<(), Fail> {
 
 /// A model of the caller that names a letter twice: `a`, `b` and `a` again have the weights 1, 2
 /// and 1.
-struct Letters;
+pub(crate) struct Letters;
 
 impl EntropyModel<2> for Letters {
     type Symbol = u8;

@@ -1,0 +1,58 @@
+use Rattle.std.proofs.Common.{◌∙◌}
+use Rattle.std.specs.declared.convert.Infallible.{Infallible}
+use Rattle.constriction.specs.Rows.{entry_of}
+use Rattle.constriction_client.proofs.Places.{come-next, placed-again, reads-on}
+use Rattle.constriction_client.proofs.Returning.{as-many, quantiles-below, reads-back}
+use Rattle.constriction_client.proofs.laws.round_trips.there_and_back_in_a_cursor.Goals as goal
+
+pub read_back-requires-clause-come : goal.read_back-requires-clause-come
+read_back-requires-clause-come g c =
+    let back = c.in-Ok.ensures.ok in
+    let entry = entry_of g.E.EncodesOver.symbol_eq (g.E.EncodesOver.rows c.args.encoder.now) in
+    record {
+      words = back.placed.words;
+      next =
+          come-next entry g.D.Probability.BitArray.whole g.Buf.SafeBufMut.with_words c.args.cursor.now c.args.items.now
+          c.write_and_go_back.new.cursor back;
+      many = as-many entry g.D.Probability.BitArray.whole c.args.items.now back.placed.words back.placed.quantiles;
+      in_range =
+          quantiles-below g.E.EncodesOver.symbol_eq g.D.Probability.BitArray.whole g.row.PRECISION
+          (g.E.EncodesOver.rows c.args.encoder.now) c.args.items.now back.placed.words
+          (g.met.E.EncodesOver.within_law c.args.encoder.now) back.placed.quantiles;
+    }
+
+pub returns-in-Ok-read_back-clause-ok : goal.returns-in-Ok-read_back-clause-ok
+returns-in-Ok-read_back-clause-ok g c =
+    let back = c.in-Ok.ensures.ok in
+    let entry = entry_of g.E.EncodesOver.symbol_eq (g.E.EncodesOver.rows c.args.encoder.now) in
+    let read = c.in-Ok-read_back.ensures.ok back.placed.words
+    (come-next entry g.D.Probability.BitArray.whole g.Buf.SafeBufMut.with_words c.args.cursor.now c.args.items.now
+    c.write_and_go_back.new.cursor back)
+    (as-many entry g.D.Probability.BitArray.whole c.args.items.now back.placed.words back.placed.quantiles) in
+    reads-back _ _ g.E.EncodesOver.symbol_eq entry g.D.Probability.BitArray.whole g.D.Probability.BitArray.BITS
+    g.row.PRECISION (g.D.EntropyModel.rows c.args.decoder.now) c.args.items.now c.in-Ok-read_back.pairs.items
+    back.placed.words (g.met.D.DecoderModel.tile_law c.args.decoder.now) g.met.D.Probability.BitArray.same_law
+    c.requires.alike back.placed.quantiles read.0
+
+pub returns-in-Ok-read_back-clause-placed : goal.returns-in-Ok-read_back-clause-placed
+returns-in-Ok-read_back-clause-placed g c =
+    let back = c.in-Ok.ensures.ok in
+    let entry = entry_of g.E.EncodesOver.symbol_eq (g.E.EncodesOver.rows c.args.encoder.now) in
+    let read = c.in-Ok-read_back.ensures.ok back.placed.words
+    (come-next entry g.D.Probability.BitArray.whole g.Buf.SafeBufMut.with_words c.args.cursor.now c.args.items.now
+    c.write_and_go_back.new.cursor back)
+    (as-many entry g.D.Probability.BitArray.whole c.args.items.now back.placed.words back.placed.quantiles) in
+    record {
+      words = back.placed.words;
+      quantiles = back.placed.quantiles;
+      placed =
+          placed-again g.Buf.SafeBufMut.with_words Infallible c.args.cursor.now back.reached c.write_and_go_back.new.cursor
+          back.placed.words c.read_back.new.source back.placed.placed back.buf back.pos read.1;
+    }
+
+pub returns-in-Err-read_back-clause-err : goal.returns-in-Err-read_back-clause-err
+returns-in-Err-read_back-clause-err g c =
+    let back = c.in-Ok.ensures.ok in
+    let read = c.in-Err-read_back.ensures.err in
+    let on = reads-on g.Buf.SafeBufMut.with_words Infallible c.write_and_go_back.new.cursor read.0 c.read_back.new.source read.1 in
+    (back.reached, back.placed, on.2 ∙ back.buf)

@@ -1,0 +1,177 @@
+//! Items that are written and read back, by one model or by two.
+
+ghost use Rattle.std.specs.Prelude.{◌≡◌, ◌<◌, ◌≤◌, List, length, reverse, Err, IfOk, IfErr, OnOk, OnErr};
+ghost use Rattle.constriction.specs.Rows.{entry_of};
+ghost use Rattle.constriction_client.specs.Coming.{ComeNext, QuantilesCome, GoesBack};
+ghost use Rattle.constriction_client.specs.declared.quantiles.QuantileFault.{QuantileFault};
+ghost use Rattle.constriction_client.specs.Placing.{PlacesItems, EndsPlacing};
+ghost use Rattle.constriction_client.specs.Quantiles.{ArePairs, Reads};
+ghost use Rattle.constriction_client.specs.ThereAndBack.{AreItems, HasFault};
+
+use crate::quantiles::{QuantileFault, ReadFault, read_symbols, write_quantiles};
+use constriction::stream::model::{DecoderModel, EncoderModel, EncodesOver};
+use constriction_backends::laws::extending_overwrites;
+use constriction_backends::{BoundedWriteError, Cursor, ReadWords, SafeBufMut};
+use constriction_words::{
+    BitArray, CoderError, Pos, Queue, ReadWriteError, Seek, Semantics, Stack,
+};
+use std::alloc::{AllocError, Global};
+use std::convert::Infallible;
+
+/// Why items did not come back from a cursor: the fault of an item, memory that was refused when
+/// they were read, or a quantile that found no place.
+pub type CursorFault = CoderError<QuantileFault, ReadWriteError<AllocError, BoundedWriteError>>;
+
+/// Reads so many words, which are quantiles, and answers their pairs.
+fn read_back<S: Semantics, D, R, const PRECISION: usize>(
+    alloc: Global,
+    decoder: &D,
+    source: &mut R,
+    count: usize,
+) -> Result<Vec<(D::Symbol, D::Probability)>, AllocError>
+where
+    D: DecoderModel<PRECISION>,
+    D::Symbol: Drop,
+    R: ReadWords<D::Probability, S, ReadError = Infallible>,
+    requires positive { 0 < PRECISION }
+    requires fits { PRECISION ≤ D.Probability.BITS }
+    requires clones { D.clones_are_same }
+    requires can_read { R.can_read source.old }
+    requires come { QuantilesCome PRECISION D.Probability.whole R.tells_upcoming count source.old }
+    ensures ok { IfOk result (λ pairs. (words : List D.Probability) → ComeNext R.tells_upcoming source.old words
+        → length words ≡ count → ArePairs (D.rows decoder.now) D.Probability.whole words pairs.items
+        × Reads R.read_gives source.old words source.new) }
+    ensures err { OnErr result ((words : List D.Probability) × Reads R.read_gives source.old words source.new) }
+{
+    let mut pairs = Vec::new(alloc);
+    match read_symbols::<S, _, _, PRECISION>(decoder, source, count, &mut pairs) {
+        Ok(_) => Ok(pairs),
+        Err(CoderError::Frontend(ReadFault::OutOfMemory)) => Err(AllocError),
+        Err(CoderError::Frontend(ReadFault::QuantileTooLarge)) => unreachable!(),
+        Err(CoderError::Backend(never)) => match never {},
+    }
+}
+
+/// Writes items to a stack in memory by the encoder and reads them back by the decoder, the last
+/// one first. The encoder's entries are those of the decoder's rows.
+///
+/// It fails with the fault of the first item that has no quantile, or where memory is refused.
+pub fn there_and_back_of_two<D, E, const PRECISION: usize>(
+    alloc: Global,
+    decoder: &D,
+    encoder: &E,
+    items: &[(D::Symbol, D::Probability)],
+) -> Result<Vec<(D::Symbol, D::Probability)>, CoderError<QuantileFault, AllocError>>
+where
+    D: DecoderModel<PRECISION>,
+    D::Symbol: Drop,
+    E: EncodesOver<D::Symbol, D::Probability, PRECISION>,
+    requires positive { 0 < PRECISION }
+    requires fits { PRECISION ≤ D.Probability.BITS }
+    requires clones { D.clones_are_same }
+    requires alike { (s : D.Symbol) → entry_of E.symbol_eq (E.rows encoder.now) s ≡ entry_of E.symbol_eq (D.rows decoder.now) s }
+    ensures ok { IfOk result (λ pairs. AreItems E.symbol_eq (reverse items.now) pairs.items) }
+    ensures fault { (fault : QuantileFault) → result ≡ Err (CoderError.Frontend fault)
+        → HasFault (entry_of E.symbol_eq (E.rows encoder.now)) D.Probability.whole items.now fault }
+{
+    let mut words = Vec::new(alloc);
+    match write_quantiles(encoder, items, &mut words) {
+        Ok(()) => {}
+        Err(fault) => return Err(fault),
+    }
+    match read_back::<Stack, _, _, PRECISION>(alloc, decoder, &mut words, items.len()) {
+        Ok(pairs) => Ok(pairs),
+        Err(error) => Err(CoderError::Backend(error)),
+    }
+}
+
+/// As [`there_and_back_of_two`], with one model that is both.
+pub fn there_and_back<M, const PRECISION: usize>(
+    alloc: Global,
+    model: &M,
+    items: &[(M::Symbol, M::Probability)],
+) -> Result<Vec<(M::Symbol, M::Probability)>, CoderError<QuantileFault, AllocError>>
+where
+    M: EncoderModel<PRECISION> + DecoderModel<PRECISION>,
+    M::Symbol: Drop,
+    requires positive { 0 < PRECISION }
+    requires fits { PRECISION ≤ M.Probability.BITS }
+    requires clones { M.clones_are_same }
+    ensures ok { IfOk result (λ pairs. AreItems M.symbol_eq (reverse items.now) pairs.items) }
+    ensures fault { (fault : QuantileFault) → result ≡ Err (CoderError.Frontend fault)
+        → HasFault (entry_of M.symbol_eq (M.rows model.now)) M.Probability.whole items.now fault }
+{
+    there_and_back_of_two(alloc, model, model, items)
+}
+
+/// Writes items to a cursor, and goes back to where it stood.
+fn write_and_go_back<Symbol, Word, E, Buf, const PRECISION: usize>(
+    encoder: &E,
+    items: &[(Symbol, Word)],
+    cursor: &mut Cursor<Word, Buf>,
+) -> Result<(), CursorFault>
+where
+    Word: BitArray,
+    E: EncodesOver<Symbol, Word, PRECISION>,
+    Buf: SafeBufMut<Word>,
+    requires { PRECISION ≤ Word.BITS }
+    ensures ok { OnOk result (GoesBack (entry_of E.symbol_eq (E.rows encoder.now)) Word.whole Buf.with_words
+        cursor.old items.now cursor.new) }
+    ensures err { IfErr result (λ fault. EndsPlacing (entry_of E.symbol_eq (E.rows encoder.now)) Word.whole
+        Buf.with_words cursor.old items.now fault cursor.new) }
+{
+    extending_overwrites::<Word, Buf, BoundedWriteError>();
+    let start = cursor.pos();
+    match write_quantiles(encoder, items, cursor) {
+        Ok(()) => {}
+        Err(CoderError::Frontend(fault)) => return Err(CoderError::Frontend(fault)),
+        Err(CoderError::Backend(full)) => {
+            let refused = ReadWriteError::Write(full);
+            return Err(CoderError::Backend(refused));
+        }
+    }
+    match cursor.seek(start) {
+        Ok(()) => Ok(()),
+        Err(()) => unreachable!(),
+    }
+}
+
+/// Writes items to a cursor by the encoder, from where it stands, goes back there, and reads them
+/// as a queue by the decoder: they come back in their order. The encoder's entries are those of the
+/// decoder's rows.
+///
+/// `Frontend` is answered at the first item that has no quantile, `Write` at the first one whose
+/// quantile finds no place, and `Read` where memory is refused. The words of the items before it
+/// stay, and the cursor stands after them; where memory is refused those of all items do. No word
+/// of the buffer changes but those.
+pub fn there_and_back_in_a_cursor<D, E, Buf, const PRECISION: usize>(
+    alloc: Global,
+    decoder: &D,
+    encoder: &E,
+    items: &[(D::Symbol, D::Probability)],
+    cursor: &mut Cursor<D::Probability, Buf>,
+) -> Result<Vec<(D::Symbol, D::Probability)>, CursorFault>
+where
+    D: DecoderModel<PRECISION>,
+    D::Symbol: Drop,
+    E: EncodesOver<D::Symbol, D::Probability, PRECISION>,
+    Buf: SafeBufMut<D::Probability>,
+    requires positive { 0 < PRECISION }
+    requires fits { PRECISION ≤ D.Probability.BITS }
+    requires clones { D.clones_are_same }
+    requires alike { (s : D.Symbol) → entry_of E.symbol_eq (E.rows encoder.now) s ≡ entry_of E.symbol_eq (D.rows decoder.now) s }
+    ensures ok { IfOk result (λ pairs. AreItems E.symbol_eq items.now pairs.items) }
+    ensures placed { OnOk result (PlacesItems (entry_of E.symbol_eq (E.rows encoder.now)) D.Probability.whole
+        Buf.with_words cursor.old items.now cursor.new) }
+    ensures err { IfErr result (λ fault. EndsPlacing (entry_of E.symbol_eq (E.rows encoder.now)) D.Probability.whole
+        Buf.with_words cursor.old items.now fault cursor.new) }
+{
+    match write_and_go_back(encoder, items, cursor) {
+        Ok(()) => {}
+        Err(error) => return Err(error),
+    }
+    match read_back::<Queue, _, _, PRECISION>(alloc, decoder, cursor, items.len()) {
+        Ok(pairs) => Ok(pairs),
+        Err(error) => Err(CoderError::Backend(ReadWriteError::Read(error))),
+    }
+}
