@@ -1,6 +1,7 @@
 -- Filling a table row by row.
-use Rattle.std.specs.Prelude.{◌≡◌, ℕ, ◌+◌, ◌-◌, ◌^◌, ◌<◌, ◌≤◌, ◌⊎◌, Bool, true, false, List, [], ◌∷◌, ◌++◌, length, map, sum, All, Option, Some, None}
+use Rattle.std.specs.Prelude.{◌≡◌, ℕ, ◌+◌, ◌-◌, ◌%◌, ◌^◌, ◌<◌, ◌≤◌, ◌⊎◌, Bool, true, false, List, [], ◌∷◌, ◌++◌, length, map, sum, All, Option, Some, None}
 use Rattle.std.proofs.Common.{suc, zero, refl, ap, sym, ◌∙◌, arith, subst, inl, inr}
+use Rattle.std.proofs.Math.Nat.{mod-eq_of_lt, mod-lt}
 use Rattle.std.proofs.lemmas.List.{map-append, length-append, get_or_append_left}
 use Rattle.std.proofs.lemmas.List.Elements.{All-push, All-nil, All-contains, Contains-append_left, Contains-push}
 use Rattle.std.proofs.lemmas.List.Sums.{sum_by-cons, sum_by-append, sum_by_push}
@@ -118,6 +119,52 @@ module _ {W : Type 0} (whole : W → ℕ) (bits precision : ℕ) where
             ∙ ap (λ x. lefts_from 0 xs ++ x ∷ []) (let e : whole left ≡ 0 + sum xs = omega (arith, f.is) in e)
             ∙ sym (lefts_from-push 0 xs (2 ^ precision - sum xs)),
       )
+
+  -- a row whose last quantile, counted from its first one, is below what is left after that one
+  pub row-within : (left w next : W) (room last : ℕ) → whole left + room + 1 ≡ 2 ^ precision → 2 ^ precision ≤ 2 ^ bits
+      → (last + 1) % 2 ^ bits ≡ whole w → last < room → whole next ≡ whole left + whole w
+      → IsRowEnd whole bits precision left w (Some next)
+  row-within left w next room last all narrow wrapped less is =
+      let one : (last + 1) % 2 ^ bits ≡ last + 1 = mod-eq_of_lt (omega arith) in
+      record {
+        positive = omega arith;
+        fits = omega arith;
+        is = is;
+        below = let b : whole next < 2 ^ precision = omega arith in b;
+      }
+
+  -- a row that takes all that is left
+  pub row-last : (left w : W) (room last : ℕ) → whole left + room + 1 ≡ 2 ^ precision
+      → (last + 1) % 2 ^ bits ≡ whole w → 0 < 2 ^ bits → 0 < whole w → whole w ≡ room + 1
+      → IsRowEnd whole bits precision left w None
+  row-last left w room last all wrapped up some is =
+      let range : (last + 1) % 2 ^ bits < 2 ^ bits = mod-lt (last + 1) up in
+      record {
+        positive = some;
+        fits = omega arith;
+        is = let e : 2 ^ precision ≡ whole left + whole w = omega arith in e;
+        below = tt;
+      }
+
+  -- weights that leave nothing, where one more is inferred, whatever follows
+  pub bad-full-more : (ws more : List W) → 2 ^ precision ≤ sum (map whole ws)
+      → ¬ (IsAccepted bits precision (completed precision true (map whole (ws ++ more))))
+  bad-full-more ws more much a =
+      let xs : List ℕ = map whole (ws ++ more) in
+      let total : sum xs ≡ sum (map whole ws) + sum (map whole more) =
+      ap sum (map-append whole ws more) ∙ sum_by-append (λ x. x) (map whole ws) (map whole more) in
+      let last : 0 < 2 ^ precision - sum xs =
+      All-contains (λ x. 0 < x) _ _ a.tiles.positive (Contains-push xs (2 ^ precision - sum xs)) in
+      omega arith
+
+  -- a weight after those that leave nothing
+  pub bad-after : (infer : Bool) (ws more : List W) (w : W) → 2 ^ precision ≤ sum (map whole ws)
+      → ¬ (IsAccepted bits precision (completed precision infer (map whole ((ws ++ w ∷ []) ++ more))))
+  bad-after infer ws more w much = bad-more infer ws more w (zero-or-more (whole w) (sum (map whole ws)) much)
+    where
+      zero-or-more : (n s : ℕ) → 2 ^ precision ≤ s → (n ≡ 0) ⊎ (2 ^ precision < s + n)
+      zero-or-more zero s h = inl refl
+      zero-or-more (suc n) s h = inr (omega arith)
 
 -- a table is ended with the total
 pub ended : {W : Type 0} (whole : W → ℕ) (lefts filled table : List W) (total : W) (is : ℕ) (numbers : List ℕ)

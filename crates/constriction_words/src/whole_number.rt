@@ -41,12 +41,6 @@ pub trait WholeNumber: Copy {
     fn is_greatest(self) -> bool
         ensures { IsTrue result ↔ (whole self + 1 ≡ 2 ^ BITS) };
 
-    /// The word less one.
-    fn predecessor(self) -> Self
-        requires { 0 < whole self }
-        ensures value { whole result + 1 ≡ whole self }
-        ensures range { whole self < 2 ^ BITS };
-
     /// Whether the number is below another one.
     fn is_below(self, other: Self) -> bool
         ensures { IsTrue result ↔ (whole self < whole other) };
@@ -102,12 +96,6 @@ impl<P: BitArray> WholeNumber for P {
     #[inline]
     fn is_greatest(self) -> bool {
         self == P::max_value()
-    }
-
-    #[inline]
-    fn predecessor(self) -> P {
-        let _range = self.into_nonzero();
-        self - P::one()
     }
 
     #[inline]

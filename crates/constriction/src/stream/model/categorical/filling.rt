@@ -1,54 +1,73 @@
 //! Filling the quantiles below `2^PRECISION` with rows, one after another.
 
-ghost use Rattle.std.specs.Prelude.{◌≡◌, ◌+◌, ◌%◌, ◌^◌, ◌<◌, ◌≤◌, ◌⊎◌, ℕ, List, [], ◌∷◌, ◌++◌, IfOk, IfErr, map};
+ghost use Rattle.std.specs.Prelude.{◌≡◌, ◌+◌, ◌%◌, ◌^◌, ◌<◌, ◌≤◌, ◌⊎◌, ℕ, List, [], ◌∷◌, ◌++◌, IfOk, IsTrue, false, map};
+ghost use Rattle.std.specs.Vec.{vec_len, vec_capacity};
 ghost use Rattle.std.specs.Iterator.{IsFiniteIterable};
-ghost use Rattle.constriction.specs.Filling.{IsRowEnd};
 ghost use Rattle.constriction.specs.Acceptance.{completed, IsAccepted, GaveGood, GaveBad};
 ghost use Rattle.constriction.specs.Stored.{lefts_from};
 
 use crate::stream::model::error::ModelError;
 use constriction_words::WholeNumber;
-use std::alloc::Global;
+use std::alloc::{AllocError, Global};
 
-/// Where the quantiles end of a row that begins at `left`: none where they are the last ones.
-fn row_end<P: WholeNumber, const PRECISION: usize>(
-    left: P,
-    weight: P,
-    greatest: P,
-) -> Result<Option<P>, ModelError>
-    requires below { P.whole left < 2 ^ PRECISION }
-    requires greatest { P.whole greatest + 1 ≡ 2 ^ PRECISION }
-    requires within { 2 ^ PRECISION ≤ 2 ^ P.BITS }
-    ensures ok { IfOk result (IsRowEnd P.whole P.BITS PRECISION left weight) }
-    ensures err { IfErr result (λ e. (e ≡ ModelError.InvalidTable)
-        × ((P.whole weight ≡ 0) ⊎ (2 ^ PRECISION < P.whole left + P.whole weight))) }
+/// The table, with room for one word more. It takes the table by value and stands out of line, so that
+/// the loop of [`table_of`] keeps its pointer, length and capacity in registers.
+#[cold]
+#[inline(never)]
+fn with_room<P: WholeNumber>(mut table: Vec<P>) -> Result<Vec<P>, AllocError>
+    ensures items { IfOk result (λ v. v.items ≡ table.items) }
+    ensures room { IfOk result (λ v. vec_len v < vec_capacity v) }
 {
-    if weight.is_least() {
-        return Err(ModelError::InvalidTable);
-    }
-    let last = weight.predecessor();
-    let room = greatest.minus(left);
-    if room.is_below(last) {
-        return Err(ModelError::InvalidTable);
-    }
-    if last.is_below(room) {
-        Ok(Some(left.plus(weight)))
-    } else {
-        Ok(None)
-    }
+    table.reserve(1)?;
+    Ok(table)
 }
 
-/// How many words to ask memory for at once: one for each weight that is announced, and one for the
-/// total. A list that is announced to be longer than any that is accepted has no more than that one.
+/// The table and one word more.
 #[inline]
-fn words_needed<const PRECISION: usize>(announced: usize) -> usize {
-    if PRECISION < 63 && announced > 1usize << PRECISION {
+fn and_word<P: WholeNumber>(mut table: Vec<P>, word: P) -> Result<Vec<P>, AllocError>
+    ensures { IfOk result (λ v. v.items ≡ table.items ++ word ∷ []) }
+{
+    if table.len() == table.capacity() {
+        table = with_room(table)?;
+    }
+    table.push_reserved(word);
+    Ok(table)
+}
+
+/// Whether a row of this weight fills the quantiles, where `last` is the weight less one, modulo
+/// `2^BITS`, and `room` the number of quantiles after the first one of the row. Otherwise the row takes
+/// no quantile, or more than there are.
+#[inline]
+fn is_filled_by<P: WholeNumber>(weight: P, last: P, room: P) -> bool
+    requires last { (P.whole last + 1) % 2 ^ P.BITS ≡ P.whole weight }
+    requires range { P.whole last < 2 ^ P.BITS }
+    requires too_much { P.whole room ≤ P.whole last }
+    ensures filled { IsTrue result → (0 < P.whole weight) × (P.whole weight ≡ P.whole room + 1) }
+    ensures bad { result ≡ false → (P.whole weight ≡ 0) ⊎ (P.whole room + 1 < P.whole weight) }
+{
+    !weight.is_least() && last.is_at_most(room)
+}
+
+/// How many words to ask memory for at once: one for each weight that is announced, one for the
+/// inferred one, and one for the total. A list that is announced to be longer than any that is
+/// accepted has no more than that one.
+#[inline]
+fn words_needed<const PRECISION: usize>(announced: usize, infer_last: bool) -> usize {
+    let rows = if infer_last {
+        announced.saturating_add(1)
+    } else {
+        announced
+    };
+    if PRECISION < 63 && rows > 1usize << PRECISION {
         return 1 + (1usize << PRECISION);
     }
-    announced.saturating_add(1)
+    rows.saturating_add(1)
 }
 
 /// The table of these weights, the last of which may be inferred.
+///
+/// One comparison tells a weight that leaves quantiles from all others: 0, one that fills them, and
+/// one that is too much.
 pub(crate) fn table_of<P: WholeNumber, I: IntoIterator<Item = P>, const PRECISION: usize>(
     alloc: Global,
     weights: I,
@@ -68,36 +87,43 @@ pub(crate) fn table_of<P: WholeNumber, I: IntoIterator<Item = P>, const PRECISIO
 {
     let greatest = P::greatest(PRECISION);
     let total = P::wrapping_pow2(PRECISION);
-    let weights = weights.into_iter();
-    let mut lefts = Vec::new(alloc);
-    let _ = lefts.reserve(words_needed::<PRECISION>(weights.size_hint().0));
-    let mut end = Some(P::least());
-    'rows: for weight in weights {
-        let Some(left) = end else {
-            return Err(ModelError::InvalidTable);
-        };
-        let next = row_end::<P, PRECISION>(left, weight, greatest)?;
-        lefts.push(left)?;
-        end = next;
-    }
-    match end {
-        None => {
+    let one = P::greatest(1);
+    let mut rest = weights.into_iter();
+    let mut table = match Vec::with_capacity(
+        alloc,
+        words_needed::<PRECISION>(rest.size_hint().0, infer_last),
+    ) {
+        Ok(table) => table,
+        Err(_) => Vec::new(alloc),
+    };
+    let mut left = P::least();
+    let mut room = greatest;
+    'rows: while let Some(weight) = rest.next() {
+        if table.len() == table.capacity() {
+            table = with_room(table)?;
+        }
+        table.push_reserved(left);
+        let last = weight.wrapping_minus(one);
+        if room.is_at_most(last) {
+            if !is_filled_by(weight, last, room) {
+                return Err(ModelError::InvalidTable);
+            }
             if infer_last {
                 return Err(ModelError::InvalidTable);
             }
-            lefts.push(total)?;
-            Ok(lefts)
-        }
-        Some(left) => {
-            if !infer_last {
+            if let Some(_) = rest.next() {
                 return Err(ModelError::InvalidTable);
             }
-            if greatest.minus(left).is_greatest() {
-                return Err(ModelError::InvalidTable);
-            }
-            lefts.push(left)?;
-            lefts.push(total)?;
-            Ok(lefts)
+            return Ok(and_word(table, total)?);
         }
+        left = left.plus(weight);
+        room = room.minus(weight);
     }
+    if !infer_last {
+        return Err(ModelError::InvalidTable);
+    }
+    if room.is_greatest() {
+        return Err(ModelError::InvalidTable);
+    }
+    Ok(and_word(and_word(table, left)?, total)?)
 }
