@@ -1,6 +1,6 @@
 //! Sources over iterators, sinks over callbacks, and buffers that turn into sources or lend them.
 
-ghost use Rattle.std.specs.Prelude.{◌≡◌, slice_get, IfOk};
+ghost use Rattle.std.specs.Prelude.{◌≡◌, ◌+◌, slice_get, Err};
 
 use crate::backends::marked::Marked;
 use crate::checks::same;
@@ -18,6 +18,31 @@ fn first_of(words: &[u8]) -> Option<u8>
 {
     let mut source = InfallibleIteratorReadWords::new(words.iter().copied());
     ReadWords::<u8, Queue>::read(&mut source).unwrap_infallible()
+}
+
+/// What a callback adds up of two words.
+fn sum_of_two(first: u8, second: u8) -> u32
+    ensures { result ≡ first + second }
+{
+    let mut total = 0u32;
+    let mut sink = InfallibleCallbackWriteWords::new(|word: u8| total = total.wrapping_add(u32::from(word)));
+    let _ = sink.write(first);
+    let _ = sink.write(second);
+    total
+}
+
+/// How often a callback was called, which refuses its second word.
+fn calls_of_two(first: u8, second: u8) -> (u8, bool)
+    ensures calls { result.0 ≡ 2 }
+{
+    let mut calls = 0u8;
+    let mut sink = FallibleCallbackWriteWords::new(|word: u8| -> Result<(), u8> {
+        calls = calls.saturating_add(1);
+        if calls == 2 { Err(word) } else { Ok(()) }
+    });
+    let _ = sink.write(first);
+    let refused = sink.write(second).is_err();
+    (calls, refused)
 }
 
 /// An iterator that has no item at its second call, and goes on after it.
@@ -117,6 +142,27 @@ fn a_callback_is_called_until_it_refuses(rt: HostRuntime) -> Result<(), Fail> {
     drop(callback);
     same(&rt, calls, 4);
     Ok(())
+}
+
+/// The number of calls that a callback answers once it was taken out of its sink.
+fn calls_of_three(word: u8) -> Result<(), u8>
+    ensures { result ≡ Err 3 }
+{
+    let mut calls = 0u8;
+    let mut sink = FallibleCallbackWriteWords::new(move |_: u8| -> Result<(), u8> {
+        calls = calls.saturating_add(1);
+        Err(calls)
+    });
+    let _ = sink.write(word);
+    let _ = sink.write(word);
+    let mut callback = sink.into_inner();
+    callback(word)
+}
+
+#[test]
+fn callers_know_what_their_callbacks_did(rt: HostRuntime) {
+    same(&rt, (sum_of_two(250, 9), calls_of_two(1, 2)), (259, (2, true)));
+    same(&rt, calls_of_three(7), Err(3));
 }
 
 #[test]
