@@ -2,7 +2,7 @@
 use Rattle.std.proofs.Common.{◌≡◌, ℕ, ◌+◌, ◌-◌, ◌%◌, ◌^◌, ◌<◌, ◌≤◌, ◌⊎◌, List, [], ◌∷◌, ◌++◌, length, get_or, map, refl, ap, sym, ◌∙◌, subst, arith, inl, inr}
 use Rattle.std.specs.Prelude.{take}
 use Rattle.std.proofs.Math.Nat.{mod-eq_of_lt, mod-lt, add-mod_left, pow-le-pow_right}
-use Rattle.std.proofs.Math.Seq.{take-length}
+use Rattle.std.proofs.Math.Seq.{take-length, take-append_seam}
 use Rattle.std.proofs.lemmas.Bool.{cases_lt}
 use Rattle.std.proofs.lemmas.List.{length-append, length-map, get_or_append_left, get_or-append_right, take-map}
 use Rattle.constriction.specs.Acceptance.{IsAccepted}
@@ -30,15 +30,11 @@ difference-mod m x y b hx hy hb e =
       | inr one ↦ elim (sum-mod m y b hy hb) [ inl two ↦ omega arith | inr two ↦ omega arith ]
     ]
 
-take-append : (xs ys : List ℕ) → take (length xs) (xs ++ ys) ≡ xs
-take-append [] ys = refl
-take-append (x ∷ xs) ys = ap (λ zs. x ∷ zs) (take-append xs ys)
-
 -- the left cumulatives of a list that ends with one number more
 pub lefts-ended : (lefts table : List ℕ) (total : ℕ) → table ≡ lefts ++ total ∷ [] → lefts_in table ≡ lefts
 lefts-ended lefts table total e =
     let long : length table - 1 ≡ length lefts = rw e (omega (arith, length-append lefts (total ∷ []))) in
-    rw long (ap (take (length lefts)) e ∙ take-append lefts (total ∷ []))
+    rw long (ap (take (length lefts)) e ∙ take-append_seam lefts (total ∷ []))
 
 -- accepted weights, the table that is filled from them, and back
 pub table-of : (bits precision : ℕ) (table ws : List ℕ) → IsAccepted bits precision ws

@@ -1,2 +1,3 @@
 mod EvenLemmas
 mod RowLemmas
+mod SliceReading

@@ -1,5 +1,6 @@
 //! Items to words and back, and lines and whole inputs.
 
+mod adapters;
 mod items;
 mod lines;
 mod runs;
