@@ -69,7 +69,8 @@ where
     requires positive { 0 < PRECISION }
     requires fits { PRECISION ≤ D.Probability.BITS }
     requires clones { D.clones_are_same }
-    requires alike { (s : D.Symbol) → entry_of E.symbol_eq (E.rows encoder.now) s ≡ entry_of E.symbol_eq (D.rows decoder.now) s }
+    requires alike { (s : D.Symbol) → entry_of E.symbol_eq (E.rows encoder.now) s
+        ≡ entry_of E.symbol_eq (D.rows decoder.now) s }
     ensures ok { IfOk result (λ pairs. AreItems E.symbol_eq (reverse items.now) pairs.items) }
     ensures fault { (fault : QuantileFault) → result ≡ Err (CoderError.Frontend fault)
         → HasFault (entry_of E.symbol_eq (E.rows encoder.now)) D.Probability.whole items.now fault }
@@ -159,7 +160,8 @@ where
     requires positive { 0 < PRECISION }
     requires fits { PRECISION ≤ D.Probability.BITS }
     requires clones { D.clones_are_same }
-    requires alike { (s : D.Symbol) → entry_of E.symbol_eq (E.rows encoder.now) s ≡ entry_of E.symbol_eq (D.rows decoder.now) s }
+    requires alike { (s : D.Symbol) → entry_of E.symbol_eq (E.rows encoder.now) s
+        ≡ entry_of E.symbol_eq (D.rows decoder.now) s }
     ensures ok { IfOk result (λ pairs. AreItems E.symbol_eq items.now pairs.items) }
     ensures placed { OnOk result (PlacesItems (entry_of E.symbol_eq (E.rows encoder.now)) D.Probability.whole
         Buf.with_words cursor.old items.now cursor.new) }

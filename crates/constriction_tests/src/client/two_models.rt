@@ -13,11 +13,13 @@ use constriction::stream::model::{
 use constriction_backends::{BoundedWriteError, Cursor};
 use constriction_client::QuantileFault;
 use constriction_client::laws::{CursorFault, there_and_back_in_a_cursor, there_and_back_of_two};
-use constriction_words::{BitArray, CoderError, Pos, ReadWriteError};
+use constriction_words::{BitArray, CoderError, Pos, ReadWriteError, Seek};
 use std::alloc::{AllocError, Global};
 use std::test::Fail;
 
 type Small = ContiguousCategoricalEntropyModel<u8, Vec<u8>, 6>;
+
+type Items = Vec<(usize, u8)>;
 
 /// The model of these weights.
 fn small(alloc: Global, weights: &[u8]) -> Result<Small, ModelError>
@@ -69,12 +71,13 @@ where
     requires positive { 0 < PRECISION }
     requires fits { PRECISION ≤ D.Probability.BITS }
     requires clones { D.clones_are_same }
-    requires alike { (s : D.Symbol) → entry_of E.symbol_eq (E.rows encoder.now) s ≡ entry_of E.symbol_eq (D.rows decoder.now) s }
+    requires alike { (s : D.Symbol) → entry_of E.symbol_eq (E.rows encoder.now) s
+        ≡ entry_of E.symbol_eq (D.rows decoder.now) s }
 {
     there_and_back_of_two(alloc, decoder, encoder, items).is_ok()
 }
 
-/// Two models of the weights 3, 18, 1 and 42.
+/// The weights of the models, items, and the same from the last to the first.
 const WEIGHTS: [u8; 4] = [3, 18, 1, 42];
 
 const ITEMS: [(usize, u8); 3] = [(0, 2), (3, 41), (1, 0)];
@@ -91,9 +94,7 @@ fn two_models_of_one_table_give_items_back(rt: HostRuntime) -> Result<(), Fail> 
     Ok(())
 }
 
-type Items = Vec<(usize, u8)>;
-
-/// The way in a cursor at 1 over some words, by a model and a reference to it.
+/// The way in a cursor, by a model and a reference to it.
 fn in_a_cursor(
     alloc: Global,
     model: &Small,
@@ -103,12 +104,11 @@ fn in_a_cursor(
     there_and_back_in_a_cursor(alloc, model, &model, items, cursor)
 }
 
-fn at_1(alloc: Global, places: &[u8]) -> Result<Cursor<u8, Vec<u8>>, AllocError> {
-    let words = places.to_vec(alloc)?;
-    match Cursor::new_at_pos_mut(words, 1) {
-        Ok(cursor) => Ok(cursor),
-        Err(()) => Err(AllocError),
-    }
+/// A cursor after the first of these words.
+fn at_1(alloc: Global, words: &[u8]) -> Result<Cursor<u8, Vec<u8>>, AllocError> {
+    let mut cursor = Cursor::new_at_write_end_mut(words.to_vec(alloc)?);
+    let _ = cursor.seek(1);
+    Ok(cursor)
 }
 
 #[test]

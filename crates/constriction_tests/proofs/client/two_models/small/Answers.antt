@@ -2,7 +2,6 @@ use Rattle.std.proofs.Common.{◌≡◌, ℕ, List, Option, None, Result, Ok, Er
 use Rattle.std.specs.Prelude.{IfOk}
 use Rattle.std.proofs.lemmas.Iterator.{YieldsList, YieldsList-from_slice}
 use Rattle.std.proofs.lemmas.Iterator.Consumers.{YieldsList-at, YieldsList-end, YieldsList-from_copied}
-use Rattle.std.proofs.lemmas.List.{map-id}
 use Rattle.constriction.specs.Acceptance.{IsAccepted, GaveGood}
 use Rattle.constriction.specs.Rows.{Row, contiguous_rows}
 use Rattle.constriction_tests.proofs.client.two_models.small.Goals as goal
