@@ -4,8 +4,8 @@ ghost use Rattle.std.specs.Prelude.{◌≡◌, ◌^◌, ◌<◌, ◌≤◌};
 
 use crate::checks::{same, same_at};
 use constriction::stream::model::{
-    ContiguousCategoricalEntropyModel, DecoderModel, EncoderModel, ModelError, Probe,
-    SmallContiguousCategoricalEntropyModel, row_of_quantile,
+    Alone, CdfEntry, ContiguousCategoricalEntropyModel, DecoderModel, EncoderModel, ModelError,
+    Probe, SmallContiguousCategoricalEntropyModel, WithSymbol, is_quantile, row_of_quantile,
 };
 use constriction_words::{BitArray, NonZeroBitArray};
 use std::alloc::Global;
@@ -178,4 +178,16 @@ fn the_views_and_clones_of_a_model_answer_as_it_does(rt: HostRuntime) -> Result<
     let text = format!(in rt.alloc(); "{view:?}")?;
     same(&rt, text.contains("[0, 96, 1096, 4096]"), true);
     Ok(())
+}
+
+#[test]
+fn words_below_the_total_are_quantiles(rt: HostRuntime) {
+    same(&rt, (is_quantile::<u8, 6>(63), is_quantile::<u8, 6>(64)), (true, false));
+    same(&rt, (is_quantile::<u16, 16>(u16::MAX), is_quantile::<u128, 1>(2)), (true, false));
+}
+
+#[test]
+fn entries_tell_their_cumulatives(rt: HostRuntime) {
+    same(&rt, <Alone as CdfEntry<u8>>::cumulative_of(&7), 7);
+    same(&rt, <WithSymbol as CdfEntry<(u16, char)>>::cumulative_of(&(9, 'a')), 9);
 }
