@@ -2,6 +2,7 @@
 
 ghost use Rattle.std.specs.Prelude.{◌≡◌, ◌+◌, ◌-◌, ◌<◌, ◌%◌, ◌^◌};
 
+use crate::checks::same;
 use constriction_words::WholeNumber;
 
 /// How far two numbers are apart.
@@ -29,15 +30,31 @@ fn next_in_turn<N: WholeNumber>(a: N) -> N
 
 #[test]
 fn words_are_whole_numbers(rt: HostRuntime) {
-    assert_eq!(rt; (distance(3u8, 250), distance(250u8, 3)), (247, 247));
-    assert_eq!(rt; (next_in_turn(254u8), next_in_turn(255u8)), (255, 0));
-    assert_eq!(rt;
-        (u16::greatest(12), u8::greatest(8), u8::greatest(1)),
-        (4095, 255, 1)
+    same(
+        &rt,
+        [
+            distance(3u8, 250),
+            distance(250, 3),
+            next_in_turn(254),
+            next_in_turn(255),
+            u8::greatest(8),
+            u8::greatest(1),
+            200u8.plus(55),
+        ],
+        [247, 247, 255, 0, 255, 1, 255],
     );
-    assert!(rt; u128::least().is_least() && !1u128.is_least());
-    assert!(rt; 255u8.is_greatest() && !254u8.is_greatest());
-    assert_eq!(rt; (1u32.predecessor(), 200u8.plus(55)), (0, 255));
-    assert!(rt; 3u64.is_at_most(3) && !4u64.is_at_most(3));
-    assert!(rt; !3usize.is_below(3));
+    same(&rt, (u16::greatest(12), 1u32.predecessor()), (4095, 0));
+    same(
+        &rt,
+        [
+            u128::least().is_least(),
+            1u128.is_least(),
+            255u8.is_greatest(),
+            254u8.is_greatest(),
+            3u64.is_at_most(3),
+            4u64.is_at_most(3),
+            3usize.is_below(3),
+        ],
+        [true, false, true, false, true, false, false],
+    );
 }
