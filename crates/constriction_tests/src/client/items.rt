@@ -44,10 +44,10 @@ fn read<const PRECISION: usize>(
     read_symbols::<Stack, _, _, PRECISION>(model, words, count, out)
 }
 
-type Back<Symbol> = Result<Vec<(Symbol, u8)>, CoderError<QuantileFault, AllocError>>;
+type Back = Result<Vec<(usize, u8)>, CoderError<QuantileFault, AllocError>>;
 
 /// The items, as they come back.
-fn back(alloc: Global, model: &Table<6>, items: &[(usize, u8)]) -> Back<usize> {
+fn back(alloc: Global, model: &Table<6>, items: &[(usize, u8)]) -> Back {
     there_and_back(alloc, model, items)
 }
 
@@ -155,36 +155,23 @@ fn a_word_that_is_no_quantile_is_gone(rt: HostRuntime) -> Result<(), Fail> {
     Ok(())
 }
 
-/// How many of the words 2 and 63 are asked for; the answer, the words left, and the pairs.
-const COUNTS: [(usize, usize, &[u8], &[(usize, u8)]); 4] = [
-    (0, 0, &[2, 63], &[]),
-    (1, 1, &[2], &[(3, 41)]),
-    (2, 2, &[], &[(3, 41), (0, 2)]),
-    (5, 2, &[], &[(3, 41), (0, 2)]),
-];
-
-fn give_pairs(
-    rt: &impl Abort,
-    alloc: Global,
-    model: &Table<6>,
-    counts: &[(usize, usize, &[u8], &[(usize, u8)])],
-) -> Result<(), AllocError> {
-    for each in counts {
-        let (count, answer, left, pairs) = *each;
-        let mut words = [2u8, 63].to_vec(alloc)?;
-        let mut out = Vec::new(alloc);
-        let found = read(model, &mut words, count, &mut out);
-        same_at(rt, count, found, Ok(answer));
-        same_at(rt, count, words.as_slice(), left);
-        same_at(rt, count, out.as_slice(), pairs);
-    }
-    Ok(())
-}
-
 #[test]
 fn no_more_words_are_read_than_are_asked_for(rt: HostRuntime) -> Result<(), Fail> {
     let model = small(rt.alloc())?;
-    give_pairs(&rt, rt.alloc(), &model, &COUNTS)?;
+    let cases = [
+        (0usize, 0usize, [2u8, 63].as_slice(), [].as_slice()),
+        (1, 1, [2].as_slice(), [(3usize, 41u8)].as_slice()),
+        (2, 2, [].as_slice(), [(3, 41), (0, 2)].as_slice()),
+        (5, 2, [].as_slice(), [(3, 41), (0, 2)].as_slice()),
+    ];
+    for (count, pairs, left, expected) in cases {
+        let mut words = [2u8, 63].to_vec(rt.alloc())?;
+        let mut out = Vec::new(rt.alloc());
+        let answer = read(&model, &mut words, count, &mut out);
+        same_at(&rt, count, answer, Ok(pairs));
+        same_at(&rt, count, words.as_slice(), left);
+        same_at(&rt, count, out.as_slice(), expected);
+    }
     Ok(())
 }
 
@@ -327,24 +314,16 @@ impl ReadWords<u8, Queue> for Interrupted {
     ghost reads_told = { λ s r t gives words told. absurd told };
 }
 
-fn read_interrupted(
-    model: &Table<6>,
-    source: &mut Interrupted,
-    out: &mut Vec<(usize, u8)>,
-) -> Result<usize, CoderError<ReadFault, &'static str>> {
-    read_symbols::<Queue, _, _, 6>(model, source, 3, out)
-}
-
 #[test]
 fn an_error_of_the_source_is_handed_on(rt: HostRuntime) -> Result<(), Fail> {
     let model = small(rt.alloc())?;
     let mut source = Interrupted { reads: 0 };
     let mut out = Vec::new(rt.alloc());
-    let interrupted = read_interrupted(&model, &mut source, &mut out);
+    let interrupted = read_symbols::<Queue, _, _, 6>(&model, &mut source, 3, &mut out);
     same(&rt, interrupted, Err(CoderError::Backend("interrupted")));
     same(&rt, source.reads, 2);
     same(&rt, out.as_slice(), [(3, 41)].as_slice());
-    let read = read_interrupted(&model, &mut source, &mut out);
+    let read = read_symbols::<Queue, _, _, 6>(&model, &mut source, 3, &mut out);
     same(&rt, read, Ok(1));
     same(&rt, source.reads, 4);
     same(&rt, out.as_slice(), [(3, 41), (0, 2)].as_slice());
@@ -395,22 +374,14 @@ impl DecoderModel<2> for Letters {
     ghost tile_law = { λ _. Prim.search rules };
 }
 
-fn write_letters(items: &[(u8, u8)], words: &mut Vec<u8>) -> Written {
-    write_quantiles(&Letters, items, words)
-}
-
-fn letters_back(alloc: Global, items: &[(u8, u8)]) -> Back<u8> {
-    there_and_back(alloc, &Letters, items)
-}
-
 #[test]
 fn a_model_of_the_caller_may_name_a_symbol_twice(rt: HostRuntime) -> Result<(), Fail> {
     let items = [(b'a', 0u8), (b'b', 1)];
-    let pairs = letters_back(rt.alloc(), &items)?;
+    let pairs = there_and_back(rt.alloc(), &Letters, &items)?;
     same(&rt, pairs.as_slice(), [(b'b', 1), (b'a', 0)].as_slice());
     let mut words = Vec::new(rt.alloc());
-    let written = write_letters(&items, &mut words);
-    let refused = write_letters(&[(b'c', 0)], &mut words);
+    let written = write_quantiles(&Letters, &items, &mut words);
+    let refused = write_quantiles(&Letters, &[(b'c', 0)], &mut words);
     same(&rt, written, Ok(()));
     same(
         &rt,
