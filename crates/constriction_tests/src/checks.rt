@@ -2,6 +2,7 @@
 //!
 //! A proof of `assert_eq!` costs much and a call of these costs nothing, so tests call these.
 
+use std::alloc::{AllocError, Global};
 use std::fmt::{Debug, Display};
 use std::process::Abort;
 
@@ -17,4 +18,28 @@ where
     T: PartialEq + Debug + Drop,
 {
     assert_eq!(rt; found, expected, "{name}");
+}
+
+/// Stops the test where the value is not printed as this text.
+pub fn prints<T: Display>(
+    rt: &impl Abort,
+    alloc: Global,
+    value: &T,
+    text: &str,
+) -> Result<(), AllocError> {
+    let printed = format!(in alloc; "{value}")?;
+    same(rt, printed.as_str(), text);
+    Ok(())
+}
+
+/// Stops the test where the value is not shown to a programmer as this text.
+pub fn shows<T: Debug>(
+    rt: &impl Abort,
+    alloc: Global,
+    value: &T,
+    text: &str,
+) -> Result<(), AllocError> {
+    let shown = format!(in alloc; "{value:?}")?;
+    same(rt, shown.as_str(), text);
+    Ok(())
 }

@@ -1,11 +1,12 @@
-//! The example of the README: a table, and a message there and back.
+//! A message there and back, where each fault is handed on.
 
 use crate::checks::same;
 use constriction::Stack;
 use constriction::stream::model::{ContiguousCategoricalEntropyModel, ModelError};
-use constriction_client::{QuantileFault, read_symbols, write_quantiles};
+use constriction_client::{QuantileFault, ReadFault, read_symbols, write_quantiles};
 use constriction_words::CoderError;
 use std::alloc::{AllocError, Global};
+use std::convert::Infallible;
 use std::test::Fail;
 
 type Model = ContiguousCategoricalEntropyModel<u8, Vec<u8>, 6>;
@@ -21,13 +22,19 @@ fn written(alloc: Global, model: &Model) -> Result<Vec<u8>, CoderError<QuantileF
     Ok(words)
 }
 
+type Read = Result<usize, CoderError<ReadFault, Infallible>>;
+
+fn read(model: &Model, words: &mut Vec<u8>, back: &mut Vec<(usize, u8)>) -> Read {
+    read_symbols::<Stack, _, _, 6>(model, words, 3, back)
+}
+
 #[test]
 fn a_message_goes_there_and_back(rt: HostRuntime) -> Result<(), Fail> {
     let model = table(rt.alloc())?;
     let mut words = written(rt.alloc(), &model)?;
     same(&rt, words.as_slice(), [2, 63, 3].as_slice());
     let mut back = Vec::new(rt.alloc());
-    read_symbols::<Stack, _, _, 6>(&model, &mut words, 3, &mut back)?;
+    read(&model, &mut words, &mut back)?;
     same(&rt, back.as_slice(), [(1, 0), (3, 41), (0, 2)].as_slice());
     Ok(())
 }

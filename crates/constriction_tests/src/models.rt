@@ -1,5 +1,5 @@
 //! Entropy models and the counted search, over worked tables and a caller's own.
 
-mod contiguous;
+pub mod contiguous;
 mod search;
 mod widths;

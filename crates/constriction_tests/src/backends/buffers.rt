@@ -10,13 +10,14 @@ fn lends<Buf: SafeBuf<u8>>(rt: &impl Abort, buf: &Buf) {
     same(rt, buf.words(), [3, 18, 1, 42].as_slice());
 }
 
-fn is_written<Buf: SafeBufMut<u8>>(rt: &impl Abort, buf: &mut Buf) {
-    lends(rt, buf);
+fn is_written<Buf: SafeBufMut<u8>>(rt: &impl Abort, mut buf: Buf) -> Buf {
+    lends(rt, &buf);
     let words = buf.words_mut();
     if words.len() == 4 {
         words[1] = 20;
     }
     same(rt, buf.words(), [3, 20, 1, 42].as_slice());
+    buf
 }
 
 #[test]
@@ -33,9 +34,8 @@ fn buffers_lend_their_words(rt: HostRuntime) -> Result<(), Fail> {
 #[test]
 fn buffers_are_written(rt: HostRuntime) -> Result<(), Fail> {
     let words = [3u8, 18, 1, 42];
-    is_written(&rt, &mut words.to_vec(rt.alloc())?);
-    let mut marked = Marked::new(words.to_vec(rt.alloc())?);
-    is_written(&rt, &mut marked);
+    is_written(&rt, words.to_vec(rt.alloc())?);
+    let marked = is_written(&rt, Marked::new(words.to_vec(rt.alloc())?));
     same(&rt, (marked.first, marked.last), (7, 9));
     Ok(())
 }
@@ -44,8 +44,8 @@ fn buffers_are_written(rt: HostRuntime) -> Result<(), Fail> {
 fn borrowed_buffers_are_written(rt: HostRuntime) {
     let mut words = [3u8, 18, 1, 42];
     let mut copy = words;
-    let mut array: &mut [u8; 4] = &mut copy;
-    is_written(&rt, &mut array);
-    let mut slice: &mut [u8] = &mut words;
-    is_written(&rt, &mut slice);
+    let array: &mut [u8; 4] = &mut copy;
+    is_written(&rt, array);
+    let slice: &mut [u8] = &mut words;
+    is_written(&rt, slice);
 }

@@ -51,7 +51,8 @@ enum Call {
 /// What it answers.
 #[derive(Clone, Copy, Debug, PartialEq, Eq)]
 enum Answer {
-    Word(Option<u8>),
+    Word(u8),
+    End,
     Done,
     Full,
     OutOfRange,
@@ -75,7 +76,8 @@ fn called<Buf: SafeBufMut<u8>>(cursor: &mut Cursor<u8, Buf>, call: Call) -> Answ
         }
     };
     match word {
-        Ok(word) => Answer::Word(word),
+        Ok(Some(word)) => Answer::Word(word),
+        Ok(None) => Answer::End,
         Err(never) => match never {},
     }
 }
@@ -83,24 +85,39 @@ fn called<Buf: SafeBufMut<u8>>(cursor: &mut Cursor<u8, Buf>, call: Call) -> Answ
 /// Calls of a cursor of 10, 20, 30: the answer to each, the position after it and the second word.
 const CALLS: [(Call, Answer, usize, u8); 9] = [
     (Call::Seek(1), Answer::Done, 1, 20),
-    (Call::Pop, Answer::Word(Some(10)), 0, 20),
-    (Call::Pop, Answer::Word(None), 0, 20),
-    (Call::Next, Answer::Word(Some(10)), 1, 20),
+    (Call::Pop, Answer::Word(10), 0, 20),
+    (Call::Pop, Answer::End, 0, 20),
+    (Call::Next, Answer::Word(10), 1, 20),
     (Call::Write(99), Answer::Done, 2, 99),
     (Call::Seek(4), Answer::OutOfRange, 2, 99),
     (Call::Seek(3), Answer::Done, 3, 99),
-    (Call::Next, Answer::Word(None), 3, 99),
+    (Call::Next, Answer::End, 3, 99),
     (Call::Write(5), Answer::Full, 3, 99),
 ];
+
+/// A cursor stands at this position, and holds these words.
+fn holds<Buf: SafeBuf<u8>>(rt: &impl Abort, cursor: &Cursor<u8, Buf>, pos: usize, words: [u8; 3]) {
+    same(rt, cursor.buf().words(), words.as_slice());
+    same(rt, cursor.pos(), pos);
+}
+
+/// Calls of a cursor, one after another.
+fn answers<Buf: SafeBufMut<u8>>(
+    rt: &impl Abort,
+    cursor: &mut Cursor<u8, Buf>,
+    calls: &[(Call, Answer, usize, u8)],
+) {
+    for each in calls {
+        let (call, answer, pos, second) = *each;
+        same(rt, called(cursor, call), answer);
+        holds(rt, cursor, pos, [10, second, 30]);
+    }
+}
 
 /// A cursor of 10, 20, 30 is read and written to its ends.
 fn goes_to_its_ends<Buf: SafeBufMut<u8>>(rt: &impl Abort, buf: Buf) -> Buf {
     let mut cursor = Cursor::<u8, Buf>::new_at_write_beginning(buf);
-    for (call, answer, pos, second) in CALLS {
-        same(rt, called(&mut cursor, call), answer);
-        same(rt, cursor.pos(), pos);
-        same(rt, cursor.buf().words(), [10, second, 30].as_slice());
-    }
+    answers(rt, &mut cursor, &CALLS);
     let (buf, pos) = cursor.into_buf_and_pos();
     same(rt, pos, 3);
     buf
@@ -113,40 +130,36 @@ const ENDS: [(usize, [bool; 6]); 3] = [
     (3, [false, false, true, true, true, true]),
 ];
 
+/// How many words remain as a stack and as a queue, and how many places are free.
+fn counts_of<Buf: SafeBufMut<u8>>(cursor: &Cursor<u8, Buf>) -> [usize; 3] {
+    [
+        BoundedReadWords::<u8, Stack>::remaining(cursor),
+        BoundedReadWords::<u8, Queue>::remaining(cursor),
+        cursor.space_left(),
+    ]
+}
+
+/// Whether the cursor is at the end of a stack, of a queue and of its places.
+fn ends_of<Buf: SafeBufMut<u8>>(cursor: &Cursor<u8, Buf>) -> [bool; 6] {
+    [
+        ReadWords::<u8, Stack>::maybe_exhausted(cursor),
+        BoundedReadWords::<u8, Stack>::is_exhausted(cursor),
+        ReadWords::<u8, Queue>::maybe_exhausted(cursor),
+        BoundedReadWords::<u8, Queue>::is_exhausted(cursor),
+        cursor.maybe_full(),
+        cursor.is_full(),
+    ]
+}
+
 /// A cursor counts the words before its position and those from it on, and says where it is at an
 /// end.
 fn counts<Buf: SafeBufMut<u8>>(rt: &impl Abort, buf: Buf) -> Buf {
     let mut cursor = Cursor::<u8, Buf>::new_at_write_end(buf);
     for (pos, at_ends) in ENDS {
-        let sought = cursor.seek(pos);
-        same(
-            rt,
-            (
-                sought,
-                BoundedReadWords::<u8, Stack>::remaining(&cursor),
-                BoundedReadWords::<u8, Queue>::remaining(&cursor),
-                cursor.space_left(),
-            ),
-            (
-                Ok(()),
-                pos,
-                3usize.saturating_sub(pos),
-                3usize.saturating_sub(pos),
-            ),
-        );
-        same_at(
-            rt,
-            pos,
-            [
-                ReadWords::<u8, Stack>::maybe_exhausted(&cursor),
-                BoundedReadWords::<u8, Stack>::is_exhausted(&cursor),
-                ReadWords::<u8, Queue>::maybe_exhausted(&cursor),
-                BoundedReadWords::<u8, Queue>::is_exhausted(&cursor),
-                cursor.maybe_full(),
-                cursor.is_full(),
-            ],
-            at_ends,
-        );
+        same(rt, cursor.seek(pos), Ok(()));
+        let after = 3usize.saturating_sub(pos);
+        same(rt, counts_of(&cursor), [pos, after, after]);
+        same_at(rt, pos, ends_of(&cursor), at_ends);
     }
     cursor.into_buf_and_pos().0
 }
@@ -173,42 +186,37 @@ fn is_filled<Buf: SafeBufMut<u8>>(rt: &impl Abort, buf: Buf) -> Buf {
     cursor.into_buf_and_pos().0
 }
 
-/// A view and a copy of a cursor of 10, 20, 30 leave it at its position, with its words.
-fn is_copied<Buf: SafeBufMut<u8>>(
-    rt: &impl Abort,
-    alloc: Global,
-    cursor: &mut Cursor<u8, Buf>,
-) -> Result<(), AllocError> {
-    same(rt, cursor.seek(1), Ok(()));
+/// A view of a cursor of 10, 20, 30 at 1 moves by itself.
+fn is_viewed<Buf: SafeBuf<u8>>(rt: &impl Abort, cursor: &Cursor<u8, Buf>) {
     same(rt, cursor.written(), [10].as_slice());
     same(rt, cursor.unwritten(), [20, 30].as_slice());
     let mut view = cursor.as_view();
     same(rt, (next(&mut view), view.pos()), (Ok(Some(20)), 2));
+}
+
+/// So does a copy of it.
+fn is_copied<Buf: SafeBuf<u8>>(
+    rt: &impl Abort,
+    alloc: Global,
+    cursor: &Cursor<u8, Buf>,
+) -> Result<(), AllocError> {
     let mut copy = cursor.cloned(alloc)?;
     same(rt, copy.write(21), Ok(()));
     same(rt, copy.buf().as_slice(), [10, 21, 30].as_slice());
-    same(rt, cursor.buf().words(), [10, 20, 30].as_slice());
-    same(rt, cursor.pos(), 1);
     Ok(())
-}
-
-/// A cursor at 1 holds these words.
-fn holds<Buf: SafeBuf<u8>>(rt: &impl Abort, cursor: &Cursor<u8, Buf>, words: [u8; 3]) {
-    same(rt, cursor.buf().words(), words.as_slice());
-    same(rt, cursor.pos(), 1);
 }
 
 /// What is written through a loan of a cursor of 10, 20, 30 at 1 stands in its buffer.
 fn is_lent<Buf: SafeBufMut<u8>>(rt: &impl Abort, cursor: &mut Cursor<u8, Buf>) {
     cursor.written_mut().fill(7);
-    holds(rt, cursor, [7, 20, 30]);
+    holds(rt, cursor, 1, [7, 20, 30]);
     let mut view = cursor.as_mut_view();
     same(rt, (view.write(8), view.pos()), (Ok(()), 2));
-    holds(rt, cursor, [7, 8, 30]);
+    holds(rt, cursor, 1, [7, 8, 30]);
     cursor.unwritten_mut().fill(9);
-    holds(rt, cursor, [7, 9, 9]);
+    holds(rt, cursor, 1, [7, 9, 9]);
     cursor.buf_mut().fill(5);
-    holds(rt, cursor, [5, 5, 5]);
+    holds(rt, cursor, 1, [5, 5, 5]);
 }
 
 fn lends_and_copies<Buf: SafeBufMut<u8> + Drop>(
@@ -217,7 +225,10 @@ fn lends_and_copies<Buf: SafeBufMut<u8> + Drop>(
     buf: Buf,
 ) -> Result<(), AllocError> {
     let mut cursor = Cursor::<u8, Buf>::new_at_write_beginning(buf);
-    is_copied(rt, alloc, &mut cursor)?;
+    same(rt, cursor.seek(1), Ok(()));
+    is_viewed(rt, &cursor);
+    is_copied(rt, alloc, &cursor)?;
+    holds(rt, &cursor, 1, [10, 20, 30]);
     is_lent(rt, &mut cursor);
     Ok(())
 }

@@ -1,6 +1,6 @@
 //! What errors print, and how they compare.
 
-use crate::checks::same;
+use crate::checks::{prints, same, shows};
 use constriction_backends::BoundedWriteError;
 use constriction_words::CoderError;
 use std::error::Error;
@@ -13,14 +13,14 @@ fn a_full_sink_is_out_of_space(rt: HostRuntime) -> Result<(), Fail> {
     let error = BoundedWriteError::OutOfSpace;
     is_an_error(&error);
     same(&rt, error.clone()?, BoundedWriteError::OutOfSpace);
-    let text = format!(in rt.alloc(); "{error} {error:?}")?;
-    same(&rt, text.as_str(), "Out of space. OutOfSpace");
+    prints(&rt, rt.alloc(), &error, "Out of space.")?;
+    shows(&rt, rt.alloc(), &error, "OutOfSpace")?;
     let nested: CoderError<u8, BoundedWriteError> = CoderError::Backend(error);
-    let text = format!(in rt.alloc(); "{nested}")?;
-    same(
+    prints(
         &rt,
-        text.as_str(),
+        rt.alloc(),
+        &nested,
         "Error while reading compressed data: Out of space.",
-    );
+    )?;
     Ok(())
 }

@@ -57,9 +57,8 @@ fn turns_round<Buf: SafeBufMut<u8>>(rt: &impl Abort, buf: Buf) -> Buf {
     buf
 }
 
-/// A reversed cursor of 1, 2, 3 is written from its inner position down.
-fn is_written_downwards<Buf: SafeBufMut<u8>>(rt: &impl Abort, buf: Buf) -> Buf {
-    let mut reversed = Reverse(Cursor::<u8, Buf>::new_at_write_beginning(buf));
+/// A reversed cursor of 1, 2, 3 at inner position 0 takes no word.
+fn is_full<Buf: SafeBufMut<u8>>(rt: &impl Abort, reversed: &mut Reverse<Cursor<u8, Buf>>) {
     same(
         rt,
         (
@@ -72,6 +71,12 @@ fn is_written_downwards<Buf: SafeBufMut<u8>>(rt: &impl Abort, buf: Buf) -> Buf {
     same(rt, reversed.write(7), Err(BoundedWriteError::OutOfSpace));
     same(rt, reversed.seek(4), Err(()));
     same(rt, reversed.0.buf().words(), [1, 2, 3].as_slice());
+}
+
+/// A reversed cursor of 1, 2, 3 is written from its inner position down.
+fn is_written_downwards<Buf: SafeBufMut<u8>>(rt: &impl Abort, buf: Buf) -> Buf {
+    let mut reversed = Reverse(Cursor::<u8, Buf>::new_at_write_beginning(buf));
+    is_full(rt, &mut reversed);
     same(rt, (reversed.seek(2), reversed.space_left()), (Ok(()), 2));
     same(rt, (reversed.write(8), reversed.write(9)), (Ok(()), Ok(())));
     same(rt, reversed.0.buf().words(), [9, 8, 3].as_slice());

@@ -10,15 +10,59 @@ use constriction_words::{Pos, PosSeek, Queue, ReadWriteError, Seek, Stack};
 use smallvec::SmallVec;
 use std::alloc::AllocError;
 use std::convert::Infallible;
+use std::process::Abort;
 use std::test::Fail;
+
+/// A stack that is empty takes 1, 2 and 3. It is then not exhausted, and never full.
+fn is_filled<W>(rt: &impl Abort, words: &mut W) -> Result<(), AllocError>
+where
+    W: ReadWords<u8, Stack> + WriteWords<u8, WriteError = AllocError>,
+    requires { W.can_write words.old }
+{
+    let was_exhausted = words.maybe_exhausted();
+    words.write(1)?;
+    words.extend_from_iter([2u8, 3].iter().copied())?;
+    same(
+        rt,
+        [was_exhausted, words.maybe_exhausted(), words.maybe_full()],
+        [true, false, false],
+    );
+    Ok(())
+}
 
 /// How many words remain, whether that is none, and the next one.
 fn counted<W>(words: &mut W) -> (usize, bool, Result<Option<u8>, Infallible>)
 where
     W: BoundedReadWords<u8, Stack, ReadError = Infallible>,
     requires { W.can_read words.old }
+    ensures { W.can_read words.new }
 {
     (words.remaining(), words.is_exhausted(), words.read())
+}
+
+/// A stack of 1, 2 and 3 is read to its end, and once more.
+fn is_emptied<W>(rt: &impl Abort, words: &mut W)
+where
+    W: BoundedReadWords<u8, Stack, ReadError = Infallible>,
+    requires { W.can_read words.old }
+{
+    same(
+        rt,
+        [
+            counted(words),
+            counted(words),
+            counted(words),
+            counted(words),
+            counted(words),
+        ],
+        [
+            (3, false, Ok(Some(3))),
+            (2, false, Ok(Some(2))),
+            (1, false, Ok(Some(1))),
+            (0, true, Ok(None)),
+            (0, true, Ok(None)),
+        ],
+    );
 }
 
 /// What a seek answers, and where it leaves the stack.
@@ -29,15 +73,6 @@ where
     (words.seek(pos), words.pos())
 }
 
-/// How many of three words remain at each read, and the word that is read.
-const READS: [(usize, Option<u8>); 5] = [
-    (3, Some(3)),
-    (2, Some(2)),
-    (1, Some(1)),
-    (0, None),
-    (0, None),
-];
-
 /// Seeks in a stack of three words, and where each leaves it.
 const SEEKS: [(usize, Result<(), ()>, usize); 4] = [
     (4, Err(()), 3),
@@ -46,33 +81,30 @@ const SEEKS: [(usize, Result<(), ()>, usize); 4] = [
     (2, Err(()), 1),
 ];
 
+/// A stack of three words is cut by seeks.
+fn goes_back<W>(rt: &impl Abort, words: &mut W)
+where
+    W: PosSeek<Position = usize> + Pos + Seek,
+{
+    same(rt, words.pos(), 3);
+    for (pos, answer, after) in SEEKS {
+        same_at(rt, pos, sought(words, pos), (answer, after));
+    }
+}
+
 #[test]
 fn a_vec_is_a_stack(rt: HostRuntime) -> Result<(), Fail> {
     let mut words = Vec::new(rt.alloc());
-    let was_exhausted = ReadWords::<u8, Stack>::maybe_exhausted(&words);
-    words.write(1u8)?;
-    words.extend_from_iter([2u8, 3].iter().copied())?;
-    same(&rt, was_exhausted, true);
-    same(&rt, ReadWords::<u8, Stack>::maybe_exhausted(&words), false);
-    same(&rt, words.maybe_full(), false);
+    is_filled(&rt, &mut words)?;
     same(&rt, words.as_slice(), [1, 2, 3].as_slice());
-    for (remaining, word) in READS {
-        same(
-            &rt,
-            counted(&mut words),
-            (remaining, remaining == 0, Ok(word)),
-        );
-    }
+    is_emptied(&rt, &mut words);
     Ok(())
 }
 
 #[test]
 fn a_vec_goes_back_for_good(rt: HostRuntime) -> Result<(), Fail> {
     let mut words = [1u8, 2, 3].to_vec(rt.alloc())?;
-    same(&rt, words.pos(), 3);
-    for (pos, answer, after) in SEEKS {
-        same_at(&rt, pos, sought(&mut words, pos), (answer, after));
-    }
+    goes_back(&rt, &mut words);
     same(&rt, words.as_slice(), [1].as_slice());
     Ok(())
 }
@@ -80,20 +112,9 @@ fn a_vec_goes_back_for_good(rt: HostRuntime) -> Result<(), Fail> {
 #[test]
 fn a_small_vec_is_a_stack(rt: HostRuntime) -> Result<(), Fail> {
     let mut words: SmallVec<u8, 2> = SmallVec::new(rt.alloc());
-    let was_exhausted = ReadWords::<u8, Stack>::maybe_exhausted(&words);
-    words.write(1)?;
-    words.extend_from_iter([2u8, 3].iter().copied())?;
-    same(&rt, was_exhausted, true);
-    same(&rt, ReadWords::<u8, Stack>::maybe_exhausted(&words), false);
-    same(&rt, words.maybe_full(), false);
+    is_filled(&rt, &mut words)?;
     same(&rt, words.as_slice(), [1, 2, 3].as_slice());
-    for (remaining, word) in READS {
-        same(
-            &rt,
-            counted(&mut words),
-            (remaining, remaining == 0, Ok(word)),
-        );
-    }
+    is_emptied(&rt, &mut words);
     Ok(())
 }
 
@@ -101,10 +122,7 @@ fn a_small_vec_is_a_stack(rt: HostRuntime) -> Result<(), Fail> {
 fn a_small_vec_goes_back_for_good(rt: HostRuntime) -> Result<(), Fail> {
     let mut words: SmallVec<u8, 2> = SmallVec::new(rt.alloc());
     words.extend_from_iter([1u8, 2, 3].iter().copied())?;
-    same(&rt, words.pos(), 3);
-    for (pos, answer, after) in SEEKS {
-        same_at(&rt, pos, sought(&mut words, pos), (answer, after));
-    }
+    goes_back(&rt, &mut words);
     same(&rt, words.as_slice(), [1].as_slice());
     Ok(())
 }
@@ -212,31 +230,24 @@ where
     Some((last, backend.read().ok()?))
 }
 
+fn gives_back<Backend: StackBackend<u8>>(rt: &impl Abort, backend: &mut Backend)
+where
+    Backend::WriteError: Drop,
+    Backend::ReadError: Drop,
+    requires { Backend.can_write backend.old }
+{
+    same(rt, there_and_back(backend, 1, 2), Some((Some(2), Some(1))));
+}
+
 #[test]
 fn any_stack_gives_back_what_was_written(rt: HostRuntime) -> Result<(), Fail> {
     let mut words = [0u8; 3].to_vec(rt.alloc())?;
-    same(
-        &rt,
-        there_and_back(&mut words, 1, 2),
-        Some((Some(2), Some(1))),
-    );
+    gives_back(&rt, &mut words);
     let mut small: SmallVec<u8, 2> = SmallVec::new(rt.alloc());
-    same(
-        &rt,
-        there_and_back(&mut small, 1, 2),
-        Some((Some(2), Some(1))),
-    );
+    gives_back(&rt, &mut small);
     let mut cursor = Cursor::<u8, _>::new_at_write_beginning(words);
-    same(
-        &rt,
-        there_and_back(&mut cursor, 1, 2),
-        Some((Some(2), Some(1))),
-    );
+    gives_back(&rt, &mut cursor);
     let mut reversed = Reverse(Cursor::<u8, _>::new_at_write_end([0u8; 3].to_vec(rt.alloc())?));
-    same(
-        &rt,
-        there_and_back(&mut reversed, 1, 2),
-        Some((Some(2), Some(1))),
-    );
+    gives_back(&rt, &mut reversed);
     Ok(())
 }

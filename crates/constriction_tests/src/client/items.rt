@@ -7,100 +7,135 @@ ghost use Rattle.constriction_backends.specs.Stack.{Pushes};
 ghost use Rattle.constriction_backends.specs.StackLaws.{Pushes-told};
 
 use crate::checks::{same, same_at};
-use constriction::stream::model::{
-    ContiguousCategoricalEntropyModel, DecoderModel, EncoderModel, EntropyModel, ModelError, Weight,
-};
+use crate::models::contiguous::{Table, table};
+use constriction::stream::model::{DecoderModel, EncoderModel, EntropyModel, ModelError, Weight};
 use constriction_backends::{ReadWords, WriteWords};
 use constriction_client::laws::there_and_back;
 use constriction_client::{QuantileFault, ReadFault, read_symbols, write_quantiles};
 use constriction_words::{BitArray, CoderError, Queue, Stack};
 use std::alloc::{AllocError, Global};
 use std::convert::Infallible;
+use std::process::Abort;
 use std::test::Fail;
 
-type Small = ContiguousCategoricalEntropyModel<u8, Vec<u8>, 6>;
-
-type Full = ContiguousCategoricalEntropyModel<u8, Vec<u8>, 8>;
-
 /// The model of the weights 3, 18, 1 and 42.
-fn small(alloc: Global) -> Result<Small, ModelError> {
-    Small::from_nonzero_fixed_point_probabilities(alloc, [3u8, 18, 1, 42].iter().copied(), false)
+fn small(alloc: Global) -> Result<Table<6>, ModelError> {
+    table(alloc, &[3, 18, 1, 42], false)
 }
 
 type Written = Result<(), CoderError<QuantileFault, AllocError>>;
 
 type Read = Result<usize, CoderError<ReadFault, Infallible>>;
 
-fn write(model: &Small, items: &[(usize, u8)], words: &mut Vec<u8>) -> Written {
+fn write<const PRECISION: usize>(
+    model: &Table<PRECISION>,
+    items: &[(usize, u8)],
+    words: &mut Vec<u8>,
+) -> Written {
     write_quantiles(model, items, words)
 }
 
-fn read(model: &Small, words: &mut Vec<u8>, count: usize, out: &mut Vec<(usize, u8)>) -> Read {
-    read_symbols::<Stack, _, _, 6>(model, words, count, out)
+fn read<const PRECISION: usize>(
+    model: &Table<PRECISION>,
+    words: &mut Vec<u8>,
+    count: usize,
+    out: &mut Vec<(usize, u8)>,
+) -> Read {
+    read_symbols::<Stack, _, _, PRECISION>(model, words, count, out)
 }
 
-/// The model of the weights 200 and 56, whose quantiles are all words.
-fn full(alloc: Global) -> Result<Full, ModelError> {
-    Full::from_nonzero_fixed_point_probabilities(alloc, [200u8].iter().copied(), true)
+type Back = Result<Vec<(usize, u8)>, CoderError<QuantileFault, AllocError>>;
+
+/// The items, as they come back.
+fn back(alloc: Global, model: &Table<6>, items: &[(usize, u8)]) -> Back {
+    there_and_back(alloc, model, items)
+}
+
+/// Items are written as these words, and these are read back as these pairs, the last one first.
+fn come_back<const PRECISION: usize>(
+    rt: &impl Abort,
+    alloc: Global,
+    model: &Table<PRECISION>,
+    items: &[(usize, u8)],
+    (quantiles, count, pairs): (&[u8], usize, &[(usize, u8)]),
+) {
+    let mut words = Vec::new(alloc);
+    same(rt, write(model, items, &mut words), Ok(()));
+    same(rt, words.as_slice(), quantiles);
+    let mut out = Vec::new(alloc);
+    same(
+        rt,
+        read(model, &mut words, count, &mut out),
+        Ok(pairs.len()),
+    );
+    same(rt, out.as_slice(), pairs);
+    same(rt, words.is_empty(), true);
 }
 
 #[test]
 fn three_items_come_back_from_a_stack_reversed(rt: HostRuntime) -> Result<(), Fail> {
     let model = small(rt.alloc())?;
-    let items = [(0usize, 2u8), (3, 41), (1, 0)];
-    let mut words = Vec::new(rt.alloc());
-    let written = write(&model, &items, &mut words);
-    same(&rt, written, Ok(()));
-    same(&rt, words.as_slice(), [2, 63, 3].as_slice());
-    let mut out = Vec::new(rt.alloc());
-    let answer = read(&model, &mut words, 3, &mut out);
-    same(&rt, answer, Ok(3));
-    same(&rt, out.as_slice(), [(1, 0), (3, 41), (0, 2)].as_slice());
-    same(&rt, words.is_empty(), true);
+    let items = [(0, 2), (3, 41), (1, 0)];
+    let read = (
+        [2u8, 63, 3].as_slice(),
+        3,
+        [(1usize, 0u8), (3, 41), (0, 2)].as_slice(),
+    );
+    come_back(&rt, rt.alloc(), &model, &items, read);
     Ok(())
 }
 
 #[test]
 fn three_items_go_there_and_back(rt: HostRuntime) -> Result<(), Fail> {
     let model = small(rt.alloc())?;
-    let back = there_and_back(rt.alloc(), &model, &[(0, 2), (3, 41), (1, 0)])?;
-    same(&rt, back.as_slice(), [(1, 0), (3, 41), (0, 2)].as_slice());
+    let pairs = back(rt.alloc(), &model, &[(0, 2), (3, 41), (1, 0)])?;
+    same(&rt, pairs.as_slice(), [(1, 0), (3, 41), (0, 2)].as_slice());
     Ok(())
 }
 
-/// Items of which one has no quantile, and why.
-const FAULTS: [(&str, [(usize, u8); 3], QuantileFault); 3] = [
-    (
-        "an offset of the weight",
-        [(0, 2), (2, 1), (9, 0)],
-        QuantileFault::OffsetTooLarge,
-    ),
-    (
-        "a symbol past the last one",
-        [(0, 2), (4, 0), (2, 1)],
-        QuantileFault::ImpossibleSymbol,
-    ),
-    (
-        "a symbol that is no word",
-        [(0, 2), (usize::MAX, 9), (2, 1)],
-        QuantileFault::ImpossibleSymbol,
-    ),
-];
-
-fn is_refused(alloc: Global, model: &Small, items: &[(usize, u8)]) -> bool {
-    there_and_back(alloc, model, items).is_err()
+/// The first of these items alone is written.
+fn stops_after_the_first(
+    rt: &impl Abort,
+    alloc: Global,
+    model: &Table<6>,
+    items: &[(usize, u8)],
+    (name, fault): (&str, QuantileFault),
+) -> Result<(), AllocError> {
+    let mut words = [7u8].to_vec(alloc)?;
+    let written = write(model, items, &mut words);
+    same_at(rt, name, written, Err(CoderError::Frontend(fault)));
+    same_at(rt, name, words.as_slice(), [7, 2].as_slice());
+    same_at(rt, name, back(alloc, model, items).is_err(), true);
+    Ok(())
 }
 
 #[test]
 fn the_words_before_a_fault_stay_written(rt: HostRuntime) -> Result<(), Fail> {
     let model = small(rt.alloc())?;
-    for (name, items, fault) in FAULTS {
-        let mut words = [7u8].to_vec(rt.alloc())?;
-        let written = write(&model, &items, &mut words);
-        same_at(&rt, name, written, Err(CoderError::Frontend(fault)));
-        same_at(&rt, name, words.as_slice(), [7, 2].as_slice());
-        same_at(&rt, name, is_refused(rt.alloc(), &model, &items), true);
-    }
+    stops_after_the_first(
+        &rt,
+        rt.alloc(),
+        &model,
+        &[(0, 2), (2, 1), (9, 0)],
+        ("an offset of the weight", QuantileFault::OffsetTooLarge),
+    )?;
+    stops_after_the_first(
+        &rt,
+        rt.alloc(),
+        &model,
+        &[(0, 2), (4, 0), (2, 1)],
+        (
+            "a symbol past the last one",
+            QuantileFault::ImpossibleSymbol,
+        ),
+    )?;
+    stops_after_the_first(
+        &rt,
+        rt.alloc(),
+        &model,
+        &[(0, 2), (usize::MAX, 9), (2, 1)],
+        ("a symbol that is no word", QuantileFault::ImpossibleSymbol),
+    )?;
     Ok(())
 }
 
@@ -142,16 +177,14 @@ fn no_more_words_are_read_than_are_asked_for(rt: HostRuntime) -> Result<(), Fail
 
 #[test]
 fn at_the_full_width_each_word_is_a_quantile(rt: HostRuntime) -> Result<(), Fail> {
-    let model = full(rt.alloc())?;
-    let mut words = Vec::new(rt.alloc());
-    let items = [(1usize, 55u8), (0, 199), (1, 0)];
-    let written = write_quantiles(&model, &items, &mut words);
-    same(&rt, written, Ok(()));
-    same(&rt, words.as_slice(), [255, 199, 200].as_slice());
-    let mut out = Vec::new(rt.alloc());
-    let read = read_symbols::<Stack, _, _, 8>(&model, &mut words, 4, &mut out);
-    same(&rt, read, Ok(3));
-    same(&rt, out.as_slice(), [(1, 0), (0, 199), (1, 55)].as_slice());
+    let model: Table<8> = table(rt.alloc(), &[200], true)?;
+    let items = [(1, 55), (0, 199), (1, 0)];
+    let read = (
+        [255u8, 199, 200].as_slice(),
+        4,
+        [(1usize, 0u8), (0, 199), (1, 55)].as_slice(),
+    );
+    come_back(&rt, rt.alloc(), &model, &items, read);
     Ok(())
 }
 
@@ -205,7 +238,7 @@ fn a_refusal_of_memory_ends_the_way(rt: HostRuntime) {
     let Ok(model) = small(rt.alloc()) else {
         return;
     };
-    match there_and_back(rt.alloc(), &model, &ITEMS) {
+    match back(rt.alloc(), &model, &ITEMS) {
         Ok(pairs) => same(&rt, pairs.as_slice(), REVERSED.as_slice()),
         Err(fault) => same(&rt, fault, CoderError::Backend(AllocError)),
     }
@@ -346,8 +379,8 @@ impl DecoderModel<2> for Letters {
 #[test]
 fn a_model_of_the_caller_may_name_a_symbol_twice(rt: HostRuntime) -> Result<(), Fail> {
     let items = [(b'a', 0u8), (b'b', 1)];
-    let back = there_and_back(rt.alloc(), &Letters, &items)?;
-    same(&rt, back.as_slice(), [(b'b', 1), (b'a', 0)].as_slice());
+    let pairs = there_and_back(rt.alloc(), &Letters, &items)?;
+    same(&rt, pairs.as_slice(), [(b'b', 1), (b'a', 0)].as_slice());
     let mut words = Vec::new(rt.alloc());
     let written = write_quantiles(&Letters, &items, &mut words);
     let refused = write_quantiles(&Letters, &[(b'c', 0)], &mut words);

@@ -1,12 +1,12 @@
 //! Runs over whole inputs, and over readers and writers that give or take little, fail, or end.
 
-use crate::checks::{same, same_at};
+use crate::checks::{prints, same, same_at};
 use constriction_client::laws::{
     each_quantile_in_range_has_a_row, reads_back, reads_back_reversed,
     the_row_found_is_the_row_of_the_quantile, weights_are_tested_as_models_accept_them,
 };
 use constriction_client::{QuantileFault, ReadFault, RunFault, answer, run};
-use std::alloc::Global;
+use std::alloc::{AllocError, Global};
 use std::io::{self, Read, Write};
 use std::process::Abort;
 use std::test::Fail;
@@ -147,12 +147,17 @@ fn is_answered_slowly(rt: &impl Abort, alloc: Global, input: &str, text: &str) {
     same_at(rt, input, written.as_slice(), text.as_bytes());
 }
 
+fn are_answered(rt: &impl Abort, alloc: Global, cases: &[(&str, &str)]) {
+    for case in cases {
+        let (input, text) = *case;
+        is_answered(rt, alloc, input, text);
+        is_answered_slowly(rt, alloc, input, text);
+    }
+}
+
 #[test]
 fn lines_are_answered(rt: HostRuntime) {
-    for (input, text) in CASES {
-        is_answered(&rt, rt.alloc(), input, text);
-        is_answered_slowly(&rt, rt.alloc(), input, text);
-    }
+    are_answered(&rt, rt.alloc(), &CASES);
 }
 
 #[test]
@@ -279,24 +284,48 @@ fn answers_before_a_refusal_of_memory_are_written(rt: HostRuntime) {
     }
 }
 
+fn run_faults_are_sentences(rt: &impl Abort, alloc: Global) -> Result<(), AllocError> {
+    prints(rt, alloc, &RunFault::Read, "The input could not be read.")?;
+    prints(
+        rt,
+        alloc,
+        &RunFault::Write,
+        "The answers could not be written.",
+    )?;
+    prints(rt, alloc, &RunFault::TooLong, "The input is too long.")?;
+    prints(rt, alloc, &RunFault::OutOfMemory, "Memory was refused.")
+}
+
+fn item_faults_are_sentences(rt: &impl Abort, alloc: Global) -> Result<(), AllocError> {
+    prints(
+        rt,
+        alloc,
+        &QuantileFault::ImpossibleSymbol,
+        "The model has no entry of the symbol.",
+    )?;
+    prints(
+        rt,
+        alloc,
+        &QuantileFault::OffsetTooLarge,
+        "The offset is not below the weight of the symbol.",
+    )?;
+    prints(
+        rt,
+        alloc,
+        &ReadFault::OutOfMemory,
+        "Memory for a pair was refused.",
+    )?;
+    prints(
+        rt,
+        alloc,
+        &ReadFault::QuantileTooLarge,
+        "The word is no quantile.",
+    )
+}
+
 #[test]
 fn faults_are_sentences(rt: HostRuntime) -> Result<(), Fail> {
-    let text = format!(in rt.alloc();
-        "{} {} {} {} {} {} {} {}",
-        RunFault::Read,
-        RunFault::Write,
-        RunFault::TooLong,
-        RunFault::OutOfMemory,
-        QuantileFault::ImpossibleSymbol,
-        QuantileFault::OffsetTooLarge,
-        ReadFault::OutOfMemory,
-        ReadFault::QuantileTooLarge
-    )?;
-    same(
-        &rt,
-        text.as_str(),
-        "The input could not be read. The answers could not be written. The input is too long. Memory was refused. \
-The model has no entry of the symbol. The offset is not below the weight of the symbol. Memory for a pair was refused. The word is no quantile.",
-    );
+    run_faults_are_sentences(&rt, rt.alloc())?;
+    item_faults_are_sentences(&rt, rt.alloc())?;
     Ok(())
 }

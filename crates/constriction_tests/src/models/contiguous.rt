@@ -1,8 +1,8 @@
 //! The contiguous model and the counted search, over worked tables.
 
-ghost use Rattle.std.specs.Prelude.{◌^◌, ◌<◌};
+ghost use Rattle.std.specs.Prelude.{◌^◌, ◌<◌, ◌≤◌};
 
-use crate::checks::{same, same_at};
+use crate::checks::{prints, same, same_at};
 use constriction::stream::model::{
     ContiguousCategoricalEntropyModel, DecoderModel, EncoderModel, ModelError, Probe, Weight,
     row_of_quantile,
@@ -12,18 +12,33 @@ use std::alloc::{AllocError, Global};
 use std::process::Abort;
 use std::test::Fail;
 
-type Small = ContiguousCategoricalEntropyModel<u8, Vec<u8>, 6>;
+/// A model whose words are `u8`.
+pub type Table<const PRECISION: usize> = ContiguousCategoricalEntropyModel<u8, Vec<u8>, PRECISION>;
 
-type Full = ContiguousCategoricalEntropyModel<u8, Vec<u8>, 8>;
+type Small = Table<6>;
+
+type Full = Table<8>;
 
 const WEIGHTS: [u8; 4] = [3, 18, 1, 42];
 
+/// The model of these weights.
+pub fn table<const PRECISION: usize>(
+    alloc: Global,
+    weights: &[u8],
+    infer: bool,
+) -> Result<Table<PRECISION>, ModelError>
+    requires positive { 0 < PRECISION }
+    requires fits { PRECISION ≤ 8 }
+{
+    Table::from_nonzero_fixed_point_probabilities(alloc, weights.iter().copied(), infer)
+}
+
 fn small(alloc: Global, weights: &[u8], infer: bool) -> Result<Small, ModelError> {
-    Small::from_nonzero_fixed_point_probabilities(alloc, weights.iter().copied(), infer)
+    table(alloc, weights, infer)
 }
 
 fn full(alloc: Global, weights: &[u8], infer: bool) -> Result<Full, ModelError> {
-    Full::from_nonzero_fixed_point_probabilities(alloc, weights.iter().copied(), infer)
+    table(alloc, weights, infer)
 }
 
 /// The row of a quantile by a plain scan of the weights.
@@ -45,14 +60,12 @@ fn plain(row: (usize, u8, Weight<u8>)) -> (usize, u8, u8) {
 }
 
 /// The row of a quantile.
-fn row_of(model: &Small, quantile: u8) -> Result<(usize, u8, u8), AllocError>
-    requires { quantile < 64 }
+fn row_of<const PRECISION: usize>(
+    model: &Table<PRECISION>,
+    quantile: u8,
+) -> Result<(usize, u8, u8), AllocError>
+    requires { quantile < 2 ^ PRECISION }
 {
-    Ok(plain(model.quantile_function(quantile)?))
-}
-
-/// The same at the full width.
-fn row_at_the_full_width(model: &Full, quantile: u8) -> Result<(usize, u8, u8), AllocError> {
     Ok(plain(model.quantile_function(quantile)?))
 }
 
@@ -76,27 +89,38 @@ fn each_quantile_has_the_row_that_a_scan_finds(rt: HostRuntime) -> Result<(), Fa
     Ok(())
 }
 
+/// Symbols of the model of four weights, and words that are none.
+const ENTRIES: [(usize, Option<(u8, u8)>); 6] = [
+    (0, Some((0, 3))),
+    (1, Some((3, 18))),
+    (2, Some((21, 1))),
+    (3, Some((22, 42))),
+    (4, None),
+    (usize::MAX, None),
+];
+
+fn has_entries(rt: &impl Abort, model: &Small, entries: &[(usize, Option<(u8, u8)>)]) {
+    for each in entries {
+        let (symbol, entry) = *each;
+        same_at(rt, symbol, entry_of(model, symbol), entry);
+    }
+}
+
 #[test]
 fn symbols_have_their_entries(rt: HostRuntime) -> Result<(), Fail> {
     let model = small(rt.alloc(), &WEIGHTS, false)?;
     same(&rt, model.support_size(), 4);
-    for (symbol, entry) in [
-        (0, Some((0, 3))),
-        (1, Some((3, 18))),
-        (2, Some((21, 1))),
-        (3, Some((22, 42))),
-        (4, None),
-        (usize::MAX, None),
-    ] {
-        same_at(&rt, symbol, entry_of(&model, symbol), entry);
-    }
+    has_entries(&rt, &model, &ENTRIES);
     Ok(())
 }
 
 /// The row that the counted search finds, how many rows there are, and the questions before the
 /// search and after it.
-fn searched(model: &Small, quantile: u8) -> (Option<usize>, usize, usize, usize)
-    requires { quantile < 64 }
+fn searched<const PRECISION: usize>(
+    model: &Table<PRECISION>,
+    quantile: u8,
+) -> (Option<usize>, usize, usize, usize)
+    requires { quantile < 2 ^ PRECISION }
 {
     let (first, mut rows) = model.quantile_probe(quantile);
     let before = rows.asked();
@@ -160,12 +184,24 @@ const TABLES: [(&str, &[u8], bool, bool); 12] = [
     ("less than nothing is left", &[60, 5], true, false),
 ];
 
+fn are_accepted<const PRECISION: usize>(
+    rt: &impl Abort,
+    alloc: Global,
+    tables: &[(&str, &[u8], bool, bool)],
+)
+    requires positive { 0 < PRECISION }
+    requires fits { PRECISION ≤ 8 }
+{
+    for each in tables {
+        let (name, weights, infer, expected) = *each;
+        let made = table::<PRECISION>(alloc, weights, infer);
+        same_at(rt, name, is_accepted(rt, name, made), expected);
+    }
+}
+
 #[test]
 fn weights_are_accepted_exactly_where_they_tile(rt: HostRuntime) {
-    for (name, weights, infer, expected) in TABLES {
-        let made = small(rt.alloc(), weights, infer);
-        same_at(&rt, name, is_accepted(&rt, name, made), expected);
-    }
+    are_accepted::<6>(&rt, rt.alloc(), &TABLES);
 }
 
 /// The same at the full width.
@@ -181,10 +217,7 @@ const FULL_TABLES: [(&str, &[u8], bool, bool); 7] = [
 
 #[test]
 fn weights_are_accepted_at_the_full_width_exactly_where_they_tile(rt: HostRuntime) {
-    for (name, weights, infer, expected) in FULL_TABLES {
-        let made = full(rt.alloc(), weights, infer);
-        same_at(&rt, name, is_accepted(&rt, name, made), expected);
-    }
+    are_accepted::<8>(&rt, rt.alloc(), &FULL_TABLES);
 }
 
 #[test]
@@ -196,7 +229,7 @@ fn last_rows_at_the_full_width(rt: HostRuntime) -> Result<(), Fail> {
     ];
     for (weights, infer, row) in cases {
         let model = full(rt.alloc(), weights, infer)?;
-        same(&rt, row_at_the_full_width(&model, 255)?, row);
+        same(&rt, row_of(&model, 255)?, row);
     }
     Ok(())
 }
@@ -205,13 +238,12 @@ fn last_rows_at_the_full_width(rt: HostRuntime) -> Result<(), Fail> {
 fn a_probe_of_256_rows_is_asked_at_most_8_questions(rt: HostRuntime) -> Result<(), Fail> {
     let ones = vec![in rt.alloc(); 1u8; 256]?;
     let model = full(rt.alloc(), &ones, false)?;
-    let (symbol, _, _) = row_at_the_full_width(&model, 200)?;
-    let (_, mut rows) = model.quantile_probe(200);
-    let index = row_of_quantile(&mut rows, 200);
+    let (symbol, _, _) = row_of(&model, 200)?;
+    let (index, size, before, asked) = searched(&model, 200);
     same(
         &rt,
-        (symbol, index, rows.asked() >= 1, rows.asked() <= 8),
-        (200, 200, true, true),
+        (symbol, index, size, before, asked >= 1, asked <= 8),
+        (200, Some(200), 256, 0, true, true),
     );
     Ok(())
 }
@@ -234,6 +266,19 @@ where
     Some(symbol)
 }
 
+/// The same of a reference to the model.
+fn symbol_through_a_reference<M: DecoderModel<6> + EncoderModel<6>>(
+    model: &M,
+    quantile: M::Probability,
+) -> Option<M::Symbol>
+where
+    M::Symbol: Drop,
+    requires clones { M.clones_are_same }
+    requires in_range { M.Probability.whole quantile < 2 ^ 6 }
+{
+    symbol_through_bounds(model, quantile)
+}
+
 #[test]
 fn a_model_is_used_through_bounds(rt: HostRuntime) -> Result<(), Fail> {
     let model = small(rt.alloc(), &WEIGHTS, false)?;
@@ -244,26 +289,27 @@ fn a_model_is_used_through_bounds(rt: HostRuntime) -> Result<(), Fail> {
 #[test]
 fn a_reference_to_a_model_is_a_model(rt: HostRuntime) -> Result<(), Fail> {
     let model = small(rt.alloc(), &WEIGHTS, false)?;
-    same(&rt, symbol_through_bounds(&model, 21u8), Some(2));
+    same(&rt, symbol_through_a_reference(&model, 21u8), Some(2));
     Ok(())
 }
 
 #[test]
 fn a_reference_to_a_reference_is_a_model(rt: HostRuntime) -> Result<(), Fail> {
     let model = small(rt.alloc(), &WEIGHTS, false)?;
-    same(&rt, symbol_through_bounds(&&model, 22u8), Some(3));
+    same(&rt, symbol_through_a_reference(&&model, 22u8), Some(3));
     Ok(())
 }
 
 #[test]
 fn why_there_is_no_model_is_said_in_a_sentence(rt: HostRuntime) -> Result<(), Fail> {
     let invalid = ModelError::InvalidTable;
-    let refused = ModelError::OutOfMemory;
-    let text = format!(in rt.alloc(); "{invalid} {refused}")?;
-    same(
+    prints(
         &rt,
-        text.as_str(),
-        "The weights, or the symbols, are not accepted. Memory was refused.",
-    );
+        rt.alloc(),
+        &invalid,
+        "The weights, or the symbols, are not accepted.",
+    )?;
+    let refused = ModelError::OutOfMemory;
+    prints(&rt, rt.alloc(), &refused, "Memory was refused.")?;
     Ok(())
 }

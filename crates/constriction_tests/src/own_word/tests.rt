@@ -2,7 +2,7 @@
 
 ghost use Rattle.std.specs.Prelude.{◌≡◌, ◌/◌};
 
-use crate::checks::{same, same_at};
+use crate::checks::{prints, same, same_at, shows};
 use crate::own_word::Sample;
 use crate::own_word::nonzero::NonZeroSample;
 use crate::words::numbers::{
@@ -12,6 +12,7 @@ use crate::words::weights::greatest_is_same_as;
 use constriction::stream::model::{ContiguousCategoricalEntropyModel, DecoderModel, EncoderModel};
 use constriction_words::{BitArray, IndexWord, NonZeroBitArray};
 use num_traits::{PrimInt, cast};
+use std::process::Abort;
 use std::test::Fail;
 
 type Model = ContiguousCategoricalEntropyModel<Sample, Vec<Sample>, 12>;
@@ -130,23 +131,22 @@ fn combined_bits<W: BitArray>(x: W) -> (W, W, W, W, W, W) {
     )
 }
 
-#[test]
-fn bits_are_those_of_the_number(rt: HostRuntime) {
-    for bits in [counted_bits(Sample(0x8003)), counted_bits(0x8003u16)] {
-        same(&rt, bits, [3, 13, 1, 0, 2, 0]);
-    }
+fn bits_of_a_word(rt: &impl Abort) {
     same(
-        &rt,
+        rt,
         moved_bits(0x8003u16),
         (7, 0xc001, 6, 0x4001, 0xc001, 0x0380, 0xc001),
     );
     same(
-        &rt,
+        rt,
         combined_bits(0x8003u16),
         (0x7ffc, 0x8002, 65535, 0, 0x8003, 0x8003),
     );
+}
+
+fn moved_bits_of_a_sample(rt: &impl Abort) {
     same(
-        &rt,
+        rt,
         moved_bits(Sample(0x8003)),
         (
             Sample(7),
@@ -158,8 +158,11 @@ fn bits_are_those_of_the_number(rt: HostRuntime) {
             Sample(0xc001),
         ),
     );
+}
+
+fn combined_bits_of_a_sample(rt: &impl Abort) {
     same(
-        &rt,
+        rt,
         combined_bits(Sample(0x8003)),
         (
             Sample(0x7ffc),
@@ -170,6 +173,16 @@ fn bits_are_those_of_the_number(rt: HostRuntime) {
             Sample(0x8003),
         ),
     );
+}
+
+#[test]
+fn bits_are_those_of_the_number(rt: HostRuntime) {
+    for bits in [counted_bits(Sample(0x8003)), counted_bits(0x8003u16)] {
+        same(&rt, bits, [3, 13, 1, 0, 2, 0]);
+    }
+    bits_of_a_word(&rt);
+    moved_bits_of_a_sample(&rt);
+    combined_bits_of_a_sample(&rt);
 }
 
 /// Whether a word is 0, and the word as other numbers.
@@ -260,12 +273,16 @@ fn numbers_are_those_of_the_bits(rt: HostRuntime) {
 fn samples_are_shown_as_their_numbers(rt: HostRuntime) -> Result<(), Fail> {
     let sample = Sample(40);
     let held = NonZeroSample::new_unchecked(sample);
-    let text = format!(in rt.alloc(); "{sample} {held:>4} {sample:?} {held:?}")?;
-    same(
+    prints(&rt, rt.alloc(), &sample, "40")?;
+    shows(&rt, rt.alloc(), &sample, "Sample(40)")?;
+    shows(
         &rt,
-        text.as_str(),
-        "40   40 Sample(40) NonZeroSample { sample: Sample(40) }",
-    );
+        rt.alloc(),
+        &held,
+        "NonZeroSample { sample: Sample(40) }",
+    )?;
+    let wide = format!(in rt.alloc(); "{held:>4}")?;
+    same(&rt, wide.as_str(), "  40");
     Ok(())
 }
 

@@ -2,7 +2,7 @@
 
 ghost use Rattle.std.specs.Prelude.{◌≡◌, ◌+◌, ◌<◌};
 
-use crate::checks::same;
+use crate::checks::{prints, same, shows};
 use constriction_words::{
     CoderError, DefaultEncoderFrontendError, NanError, Queue, ReadWriteError, Semantics, Stack,
     UnwrapInfallible,
@@ -19,11 +19,8 @@ fn marker<S: Semantics>() -> S {
 fn markers_have_a_default(rt: HostRuntime) -> Result<(), Fail> {
     let stack = marker::<Stack>();
     let queue = marker::<Queue>();
-    same(
-        &rt,
-        format!(in rt.alloc(); "{stack:?} {queue:?}")?.as_str(),
-        "Stack Queue",
-    );
+    shows(&rt, rt.alloc(), &stack, "Stack")?;
+    shows(&rt, rt.alloc(), &queue, "Queue")?;
     Ok(())
 }
 
@@ -37,19 +34,26 @@ fn texts_say_which_side_failed(rt: HostRuntime) -> Result<(), Fail> {
     let front: Both = CoderError::Frontend(DefaultEncoderFrontendError::ImpossibleSymbol);
     let back: Both = CoderError::from(NanError);
     is_an_error(&front);
-    let text = format!(in rt.alloc(); "{front}\n{back}")?;
-    same(
+    prints(
         &rt,
-        text.as_str(),
-        "Invalid compressed data: Tried to encode symbol that has zero probability under the used entropy model.\nError while reading compressed data: NaN encountered.",
-    );
+        rt.alloc(),
+        &front,
+        "Invalid compressed data: \
+         Tried to encode symbol that has zero probability under the used entropy model.",
+    )?;
+    prints(
+        &rt,
+        rt.alloc(),
+        &back,
+        "Error while reading compressed data: NaN encountered.",
+    )?;
     let nested: CoderError<u8, Both> = CoderError::Backend(back);
-    let text = format!(in rt.alloc(); "{nested}")?;
-    same(
+    prints(
         &rt,
-        text.as_str(),
+        rt.alloc(),
+        &nested,
         "Error while reading compressed data: Error while reading compressed data: NaN encountered.",
-    );
+    )?;
     Ok(())
 }
 
@@ -111,8 +115,7 @@ fn errors_are_compared_and_cloned(rt: HostRuntime) -> Result<(), Fail> {
         error.clone()?,
         DefaultEncoderFrontendError::ImpossibleSymbol,
     );
-    let text = format!(in rt.alloc(); "{error:?}")?;
-    same(&rt, text.as_str(), "ImpossibleSymbol");
+    shows(&rt, rt.alloc(), &error, "ImpossibleSymbol")?;
     Ok(())
 }
 
@@ -145,7 +148,8 @@ fn a_failed_read_is_no_failed_write(rt: HostRuntime) -> Result<(), Fail> {
         ],
         [true, true],
     );
-    let text = format!(in rt.alloc(); "{read:?} {:?}", ReadWriteError::<u8, u8>::Write(4))?;
-    same(&rt, text.as_str(), "Read(3) Write(4)");
+    shows(&rt, rt.alloc(), &read, "Read(3)")?;
+    let write: ReadWriteError<u8, u8> = ReadWriteError::Write(4);
+    shows(&rt, rt.alloc(), &write, "Write(4)")?;
     Ok(())
 }

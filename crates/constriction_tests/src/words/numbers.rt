@@ -4,6 +4,7 @@ ghost use Rattle.std.specs.Prelude.{◌≡◌, ◌+◌, ◌-◌, ◌*◌, ◌/�
 
 use crate::checks::same;
 use constriction_words::{BitArray, IndexWord, NonZeroBitArray};
+use std::process::Abort;
 
 /// The sum of two words.
 fn plus<P: BitArray>(a: P, b: P) -> P
@@ -116,26 +117,18 @@ pub fn zero_is_refused<P: BitArray>() -> (bool, bool, bool) {
     )
 }
 
+fn wraps<P: BitArray>(rt: &impl Abort, zero: P, one: P, greatest: P) {
+    same(rt, wrapped(), (zero, greatest, one));
+}
+
 #[test]
 fn wrapping_calls_are_modulo_the_width(rt: HostRuntime) {
-    same(
-        &rt,
-        (wrapped(), wrapped(), wrapped()),
-        (
-            (0u8, u8::MAX, 1u8),
-            (0u16, u16::MAX, 1u16),
-            (0u32, u32::MAX, 1u32),
-        ),
-    );
-    same(
-        &rt,
-        (wrapped(), wrapped(), wrapped()),
-        (
-            (0u64, u64::MAX, 1u64),
-            (0usize, usize::MAX, 1usize),
-            (0u128, u128::MAX, 1u128),
-        ),
-    );
+    wraps(&rt, 0, 1, u8::MAX);
+    wraps(&rt, 0, 1, u16::MAX);
+    wraps(&rt, 0, 1, u32::MAX);
+    wraps(&rt, 0, 1, u64::MAX);
+    wraps(&rt, 0, 1, usize::MAX);
+    wraps(&rt, 0, 1, u128::MAX);
     same(
         &rt,
         (
@@ -146,36 +139,19 @@ fn wrapping_calls_are_modulo_the_width(rt: HostRuntime) {
     );
 }
 
+fn is_nonzero_unless_0<P: BitArray>(rt: &impl Abort, one: P, greatest: P) {
+    same(rt, zero_is_refused::<P>(), (true, true, true));
+    same(rt, held(), Some((one, greatest, greatest, one, one)));
+}
+
 #[test]
 fn a_word_is_nonzero_unless_it_is_0(rt: HostRuntime) {
-    for refused in [
-        zero_is_refused::<u8>(),
-        zero_is_refused::<u16>(),
-        zero_is_refused::<u32>(),
-        zero_is_refused::<u64>(),
-        zero_is_refused::<usize>(),
-        zero_is_refused::<u128>(),
-    ] {
-        same(&rt, refused, (true, true, true));
-    }
-    same(
-        &rt,
-        (held(), held(), held()),
-        (
-            Some((1u8, u8::MAX, u8::MAX, 1u8, 1u8)),
-            Some((1u16, u16::MAX, u16::MAX, 1u16, 1u16)),
-            Some((1u32, u32::MAX, u32::MAX, 1u32, 1u32)),
-        ),
-    );
-    same(
-        &rt,
-        (held(), held(), held()),
-        (
-            Some((1u64, u64::MAX, u64::MAX, 1u64, 1u64)),
-            Some((1usize, usize::MAX, usize::MAX, 1usize, 1usize)),
-            Some((1u128, u128::MAX, u128::MAX, 1u128, 1u128)),
-        ),
-    );
+    is_nonzero_unless_0(&rt, 1, u8::MAX);
+    is_nonzero_unless_0(&rt, 1, u16::MAX);
+    is_nonzero_unless_0(&rt, 1, u32::MAX);
+    is_nonzero_unless_0(&rt, 1, u64::MAX);
+    is_nonzero_unless_0(&rt, 1, usize::MAX);
+    is_nonzero_unless_0(&rt, 1, u128::MAX);
 }
 
 #[test]

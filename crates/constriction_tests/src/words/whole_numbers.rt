@@ -2,6 +2,7 @@
 
 ghost use Rattle.std.specs.Prelude.{◌≡◌, ◌+◌, ◌-◌, ◌<◌, ◌%◌, ◌^◌};
 
+use crate::checks::same;
 use constriction_words::WholeNumber;
 
 /// How far two numbers are apart.
@@ -24,23 +25,34 @@ fn way_up<N: WholeNumber>(from: N, to: N) -> N
 
 #[test]
 fn words_are_whole_numbers(rt: HostRuntime) {
-    assert_eq!(rt; (distance(3u8, 250), distance(250u8, 3)), (247, 247));
-    assert_eq!(rt; (way_up(3u8, 250), way_up(250u8, 3)), (247, 9));
-    assert_eq!(rt;
-        (
+    same(
+        &rt,
+        [
+            distance(3u8, 250),
+            distance(250, 3),
+            way_up(3, 250),
+            way_up(250, 3),
             u8::wrapping_pow2(7),
             u8::wrapping_pow2(8),
-            u32::wrapping_pow2(24)
-        ),
-        (128, 0, 16777216)
+            u8::greatest(8),
+            u8::greatest(1),
+            200u8.plus(55),
+            200u8.minus(55),
+        ],
+        [247, 247, 247, 9, 128, 0, 255, 1, 255, 145],
     );
-    assert_eq!(rt;
-        (u16::greatest(12), u8::greatest(8), u8::greatest(1)),
-        (4095, 255, 1)
+    same(&rt, (u16::greatest(12), u32::wrapping_pow2(24)), (4095, 16777216));
+    same(
+        &rt,
+        [
+            u128::least().is_least(),
+            1u128.is_least(),
+            255u8.is_greatest(),
+            254u8.is_greatest(),
+            3u64.is_at_most(3),
+            4u64.is_at_most(3),
+            3usize.is_below(3),
+        ],
+        [true, false, true, false, true, false, false],
     );
-    assert!(rt; u128::least().is_least() && !1u128.is_least());
-    assert!(rt; 255u8.is_greatest() && !254u8.is_greatest());
-    assert_eq!(rt; (200u8.minus(55), 200u8.plus(55)), (145, 255));
-    assert!(rt; 3u64.is_at_most(3) && !4u64.is_at_most(3));
-    assert!(rt; !3usize.is_below(3));
 }
