@@ -25,7 +25,7 @@ pairs-of-first precision rows whole gives tells count s old n t new upcoming r t
     let split : upcoming ≡ r.words ++ left.0 = left.1 ∙ ap (λ more. r.words ++ (more ++ left.0)) r.ended.1 in
     let many : n ≡ length r.words = r.ended.0 ∙ sym (as-many _ r.words r.pairs r.of_words) in
     let first : take n upcoming ≡ r.words = ap (take n) split ∙ ap (λ k. take k (r.words ++ left.0)) many
-        ∙ take-append_seam r.words left.0 in
+    ∙ take-append_seam r.words left.0 in
     (r.pairs, rw first r.of_words, r.added)
 
 pub pairs-if-read : {Symbol Word Source Error : Type 0} (precision : ℕ) (rows : List (Row Symbol)) (whole : Word → ℕ)

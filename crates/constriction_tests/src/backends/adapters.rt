@@ -1,6 +1,7 @@
 //! Sources over iterators, sinks over callbacks, and buffers that turn into sources or lend them.
 
-ghost use Rattle.std.specs.Prelude.{◌≡◌, ◌+◌, slice_get, Err};
+ghost use Rattle.std.specs.Prelude.{◌≡◌, ◌+◌, ◌/◌, slice_get, Err};
+ghost use Rattle.std.specs.Option.{option_map};
 
 use crate::backends::marked::Marked;
 use crate::checks::same;
@@ -20,12 +21,65 @@ fn first_of(words: &[u8]) -> Option<u8>
     ReadWords::<u8, Queue>::read(&mut source).unwrap_infallible()
 }
 
+/// The same of a vector, which the source takes.
+fn first_of_vec(words: Vec<u8>) -> Option<u8>
+    ensures { result ≡ slice_get words.items 0 }
+{
+    let mut source = InfallibleIteratorReadWords::new(words);
+    ReadWords::<u8, Queue>::read(&mut source).unwrap_infallible()
+}
+
+/// The half of the first word of a slice.
+fn first_half_of(words: &[u8]) -> Option<u8>
+    ensures { result ≡ option_map (λ word. word / 2) (slice_get words.now 0) }
+{
+    let mut source = InfallibleIteratorReadWords::new(words.iter().map(|word| *word / 2));
+    ReadWords::<u8, Queue>::read(&mut source).unwrap_infallible()
+}
+
+/// The first word of a vector that turns into a source.
+fn first_turned(words: Vec<u8>) -> Option<u8>
+    ensures { result ≡ slice_get words.items 0 }
+{
+    let mut source = IntoReadWords::<u8, Queue>::into_read_words(words);
+    ReadWords::<u8, Queue>::read(&mut source).unwrap_infallible()
+}
+
+/// The first word of a slice that lends a source.
+fn first_lent(words: &[u8]) -> Option<u8>
+    ensures { result ≡ slice_get words.now 0 }
+{
+    let mut source = AsSeekReadWords::<u8, Queue>::as_seek_read_words(&words);
+    ReadWords::<u8, Queue>::read(&mut source).unwrap_infallible()
+}
+
+#[test]
+fn callers_know_which_word_comes_first(rt: HostRuntime) -> Result<(), Fail> {
+    let words = [8u8, 7];
+    let vec = || words.to_vec(rt.alloc());
+    same(
+        &rt,
+        [
+            first_of(&words),
+            first_of(&[]),
+            first_of_vec(vec()?),
+            first_half_of(&words),
+            first_turned(vec()?),
+            first_lent(&words),
+        ],
+        [Some(8), None, Some(8), Some(4), Some(8), Some(8)],
+    );
+    Ok(())
+}
+
 /// What a callback adds up of two words.
 fn sum_of_two(first: u8, second: u8) -> u32
     ensures { result ≡ first + second }
 {
     let mut total = 0u32;
-    let mut sink = InfallibleCallbackWriteWords::new(|word: u8| total = total.wrapping_add(u32::from(word)));
+    let mut sink = InfallibleCallbackWriteWords::new(|word: u8| total = total.wrapping_add(
+        u32::from(word),
+    ));
     let _ = sink.write(first);
     let _ = sink.write(second);
     total
@@ -85,7 +139,6 @@ fn an_iterator_of_words_is_read_in_its_order(rt: HostRuntime) -> Result<(), Fail
         same(&rt, ReadWords::<u8, Queue>::read(&mut source), Ok(None));
         same(&rt, ReadWords::<u8, Stack>::maybe_exhausted(&source), true);
     }
-    same(&rt, (first_of(&[7, 8]), first_of(&[])), (Some(7), None));
     Ok(())
 }
 
@@ -161,7 +214,11 @@ fn calls_of_three(word: u8) -> Result<(), u8>
 
 #[test]
 fn callers_know_what_their_callbacks_did(rt: HostRuntime) {
-    same(&rt, (sum_of_two(250, 9), calls_of_two(1, 2)), (259, (2, true)));
+    same(
+        &rt,
+        (sum_of_two(250, 9), calls_of_two(1, 2)),
+        (259, (2, true)),
+    );
     same(&rt, calls_of_three(7), Err(3));
 }
 

@@ -43,8 +43,16 @@ fn words_of_an_iterator_are_read_as_pairs(rt: HostRuntime) -> Result<(), Fail> {
     let model = small(rt.alloc())?;
     let mut out = Vec::new(rt.alloc());
     same(&rt, read_slice(&model, &[2, 63, 3], 2, &mut out), Ok(2));
-    same(&rt, read_slice(&model, &[3, 64], 5, &mut out).is_err(), true);
-    same(&rt, out.as_slice(), [(0, 2), (3, 41), (1, 0), (1, 0)].get(..3).unwrap_or(&[]));
+    same(
+        &rt,
+        read_slice(&model, &[3, 64], 5, &mut out).is_err(),
+        true,
+    );
+    same(
+        &rt,
+        out.as_slice(),
+        [(0, 2), (3, 41), (1, 0), (1, 0)].get(..3).unwrap_or(&[]),
+    );
     let mut turned = Reverse(InfallibleIteratorReadWords::new([2u8, 63].iter().copied()));
     let mut back = Vec::new(rt.alloc());
     let answer = read_symbols::<Stack, _, _, 6>(&model, &mut turned, 5, &mut back);
@@ -75,9 +83,12 @@ fn quantiles_are_handed_to_a_callback(rt: HostRuntime) -> Result<(), Fail> {
     let model = small(rt.alloc())?;
     let items = [(0usize, 2u8), (3, 41), (1, 0)];
     let mut total = 0u32;
-    let mut sink = InfallibleCallbackWriteWords::new(|word: u8| total = total.saturating_add(u32::from(word)));
-    let answer: Result<(), CoderError<QuantileFault, Infallible>> =
-        write_quantiles(&model, &items, &mut sink);
+    let mut sink = InfallibleCallbackWriteWords::new(|word: u8| total = total.saturating_add(
+        u32::from(word),
+    ));
+    let answer: Result<(), CoderError<QuantileFault, Infallible>> = write_quantiles(
+        &model, &items, &mut sink,
+    );
     same(&rt, answer, Ok(()));
     same(&rt, total, 68);
     let mut calls = 0u8;

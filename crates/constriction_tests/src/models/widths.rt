@@ -182,12 +182,24 @@ fn the_views_and_clones_of_a_model_answer_as_it_does(rt: HostRuntime) -> Result<
 
 #[test]
 fn words_below_the_total_are_quantiles(rt: HostRuntime) {
-    same(&rt, (is_quantile::<u8, 6>(63), is_quantile::<u8, 6>(64)), (true, false));
-    same(&rt, (is_quantile::<u16, 16>(u16::MAX), is_quantile::<u128, 1>(2)), (true, false));
+    same(
+        &rt,
+        (is_quantile::<u8, 6>(63), is_quantile::<u8, 6>(64)),
+        (true, false),
+    );
+    same(
+        &rt,
+        (is_quantile::<u16, 16>(u16::MAX), is_quantile::<u128, 1>(2)),
+        (true, false),
+    );
 }
 
 #[test]
 fn entries_tell_their_cumulatives(rt: HostRuntime) {
     same(&rt, <Alone as CdfEntry<u8>>::cumulative_of(&7), 7);
-    same(&rt, <WithSymbol as CdfEntry<(u16, char)>>::cumulative_of(&(9, 'a')), 9);
+    same(
+        &rt,
+        <WithSymbol as CdfEntry<(u16, char)>>::cumulative_of(&(9, 'a')),
+        9,
+    );
 }

@@ -41,7 +41,11 @@ fn words_are_whole_numbers(rt: HostRuntime) {
         ],
         [247, 247, 247, 9, 128, 0, 255, 1, 255, 145],
     );
-    same(&rt, (u16::greatest(12), u32::wrapping_pow2(24)), (4095, 16777216));
+    same(
+        &rt,
+        (u16::greatest(12), u32::wrapping_pow2(24)),
+        (4095, 16777216),
+    );
     same(
         &rt,
         [
