@@ -1,12 +1,12 @@
 -- Tables that end with the total, and differences of their neighbours.
-use Rattle.std.proofs.Common.{◌≡◌, ℕ, ◌+◌, ◌-◌, ◌%◌, ◌^◌, ◌<◌, ◌≤◌, ◌⊎◌, List, [], ◌∷◌, ◌++◌, length, get_or, map, refl, ap, sym, ◌∙◌, subst, arith, inl, inr}
+use Rattle.std.proofs.Common.{◌≡◌, ℕ, ◌+◌, ◌-◌, ◌%◌, ◌^◌, ◌<◌, ◌≤◌, ◌⊎◌, List, [], ◌∷◌, ◌++◌, length, get_or, map, refl, ap, sym, ◌∙◌, arith, inl, inr}
 use Rattle.std.specs.Prelude.{take}
-use Rattle.std.proofs.Math.Nat.{mod-eq_of_lt, mod-lt, add-mod_left, pow-le-pow_right}
-use Rattle.std.proofs.Math.Seq.{take-length, take-append_seam}
+use Rattle.std.proofs.Math.Nat.{mod-eq_of_lt, add-mod_left, pow-le-pow_right}
+use Rattle.std.proofs.Math.Seq.{take-append_seam}
 use Rattle.std.proofs.lemmas.Bool.{cases_lt}
 use Rattle.std.proofs.lemmas.List.{length-append, length-map, get_or_append_left, get_or-append_right, take-map}
 use Rattle.constriction.specs.Acceptance.{IsAccepted}
-use Rattle.constriction.specs.Stored.{IsStored, IsTable, lefts_in, lefts_from, weights_of}
+use Rattle.constriction.specs.Stored.{IsTable, lefts_in, lefts_from, weights_of}
 use Rattle.constriction.specs.Probe.{IsRowIndexOf}
 use Rattle.constriction.specs.Rows.{contiguous_rows}
 use Rattle.constriction.specs.StoredRowLemmas.{rows-many}

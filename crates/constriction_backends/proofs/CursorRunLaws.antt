@@ -1,11 +1,9 @@
 -- What follows from the steps of a cursor, proved. No public clause cites this module.
-use Rattle.std.proofs.Common.{◌≡◌, ◌<◌, ◌≤◌, ℕ, ◌-◌, suc, List, [], ◌∷◌, ◌++◌, length, drop, reverse, Option, Some, None, Result, Ok, Err}
+use Rattle.std.proofs.Common.{◌≡◌, ◌<◌, ◌≤◌, suc, List, [], ◌∷◌, ◌++◌, length, drop, reverse, Option, Some, None, Result, Ok, Err}
 use Rattle.std.specs.Prelude.{slice_set}
 use Rattle.std.proofs.Common.{sym, ◌∙◌, ap, subst, arith, refl, append_assoc, append-nil}
 use Rattle.std.proofs.lemmas.List.{reverse-append, reverse-reverse, length-reverse}
-use Rattle.std.proofs.Math.Bridge.{le_prop}
 use Rattle.constriction_backends.specs.declared.buf.SafeBuf.{Ghosts}
-use Rattle.constriction_backends.specs.declared.cursor.Cursor.{Cursor}
 use Rattle.constriction_backends.specs.Cursor.{state_of}
 use Rattle.constriction_backends.specs.CursorLaws.{same_cursor}
 use Rattle.constriction_backends.specs.CursorState.{State, reversal, StackReads, QueueReads}

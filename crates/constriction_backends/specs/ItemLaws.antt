@@ -2,7 +2,7 @@
 -- this module.
 use Rattle.std.specs.Prelude.{◌≡◌, ℕ, suc, zero, ◌+◌, List, [], ◌∷◌, length, Bool, true, false, Option, Some, None, Result, Ok, Err, MatchBool, MatchOption, All}
 use Rattle.std.specs.Iterator.{AlwaysYields, Count, size, count_unless}
-use Rattle.std.proofs.Common.{sym, ◌∙◌, ap, subst, refl, arith}
+use Rattle.std.proofs.Common.{sym, ap, subst, refl, arith}
 use Rattle.std.proofs.lemmas.List.Elements.{All-nil, All-cons}
 use Rattle.constriction_backends.specs.Source.{ReadsTold, CountsRead, GivesAnswers}
 use Rattle.constriction_backends.specs.Items.{item_of, GivesWord, IsCount, CountsDown, EndIsForGood}

@@ -61,10 +61,11 @@ impl<Probability: BitArray, const PRECISION: usize> ContiguousCategoricalEntropy
     /// their sum is `2^PRECISION`, and each of them is a word. So below the full width of the word
     /// the single weight `2^PRECISION` is accepted, and so is no weight at all where one is
     /// inferred; at the full width neither exists. `InvalidTable` comes where they are not
-    /// accepted, as soon as that is known: the iterator is then not read further. `OutOfMemory`
-    /// comes where memory for the table is refused. Either leaves no model.
+    /// accepted, whether the iterator was read to its end or only so far that no list that begins
+    /// so is accepted. `OutOfMemory` comes where memory for the table is refused.
     ///
-    /// One pass over the weights, and one word of memory a symbol.
+    /// One pass over the weights, one word of memory a symbol, and one allocation where the iterator
+    /// announces how many weights there are.
     pub fn from_nonzero_fixed_point_probabilities<I: IntoIterator<Item = Probability>>(
         alloc: Global,
         probabilities: I,

@@ -1,4 +1,4 @@
-use Rattle.std.proofs.Common.{◌≡◌, length, take, drop, ◌++◌}
+use Rattle.std.proofs.Common.{◌≡◌, take, drop, ◌++◌}
 use Rattle.std.proofs.lemmas.List.{length-take-le}
 use Rattle.constriction_backends.proofs.Parts.{part-begin}
 use Rattle.constriction_backends.proofs.Over.{over_in_range}

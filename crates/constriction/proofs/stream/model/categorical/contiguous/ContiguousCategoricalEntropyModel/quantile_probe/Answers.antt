@@ -1,5 +1,4 @@
-use Rattle.std.proofs.Common.{◌≡◌, ◌+◌, ◌-◌, length, List, map, ap, sym, ◌∙◌, refl, arith}
-use Rattle.std.specs.Prelude.{take}
+use Rattle.std.proofs.Common.{◌≡◌, ◌+◌, map, arith}
 use Rattle.constriction.specs.Stored.{lefts_in}
 use Rattle.constriction.proofs.ProbeLemmas.{stored-tells, stored-searchable, stored-found}
 use Rattle.constriction.proofs.TableLemmas.{lefts-words}

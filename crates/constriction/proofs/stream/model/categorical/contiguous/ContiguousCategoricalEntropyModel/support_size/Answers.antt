@@ -1,4 +1,4 @@
-use Rattle.std.proofs.Common.{◌≡◌, ◌+◌, length, map, ap, sym, ◌∙◌, arith}
+use Rattle.std.proofs.Common.{◌≡◌, length, map, ap, arith}
 use Rattle.std.proofs.lemmas.List.{length-map}
 use Rattle.constriction.proofs.TableLemmas.{table-rows}
 use Rattle.constriction.proofs.stream.model.categorical.contiguous.ContiguousCategoricalEntropyModel.support_size.Goals as goal

@@ -1,4 +1,4 @@
-use Rattle.std.proofs.Common.{◌≡◌, ◌+◌, length, map, refl, arith}
+use Rattle.std.proofs.Common.{◌≡◌, length, map, refl, arith}
 use Rattle.std.proofs.lemmas.List.{length-map}
 use Rattle.constriction.specs.Stored.{lefts_in}
 use Rattle.constriction.specs.StoredRowLemmas.{stored-entry, stored-no_entry}
