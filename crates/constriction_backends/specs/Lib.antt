@@ -4,6 +4,7 @@ pub mod Cursor
 pub mod CursorLaws
 pub mod CursorRuns
 pub mod CursorState
+pub mod ExtendingLaws
 pub mod ItemLaws
 pub mod Items
 pub mod Part

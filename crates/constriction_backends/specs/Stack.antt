@@ -31,6 +31,14 @@ PopsWhatWasPushed Word WriteError ReadError =
     → (let written : Result (Unit {0}) WriteError = Ok tt in Pushes old w written between) → Pops between r new
     → (r ≡ Ok (Some w)) × (new ≡ old)
 
+-- What is read after a write that succeeded, where the words before it are told: the word that was written, and the words before it are
+-- told again; or the read fails, and the word still comes after them. `writes`, `reads` and `tells` are those of a stack.
+abbrev pub ReadsWhatWasWritten : {S W R E : Type 0} → (S → W → Result (Unit {0}) E → S → Type 0)
+    → (S → Result (Option W) R → S → Type 0) → (S → List W → Type 0) → Type 0
+ReadsWhatWasWritten {S} {W} {R} writes reads tells =
+    (old between new : S) (w : W) (r : Result (Option W) R) (words : List W) → writes old w (Ok tt) between → reads between r new
+    → tells old words → MatchResult r (λ o. (o ≡ Some w) × tells new words) (λ _. tells new (words ++ w ∷ []))
+
 -- A position that was taken while the list was `taken` is sought back exactly where the list is no shorter now. And where
 -- the words of then still stand, they are what is left.
 abbrev pub SeeksBack : Type 0 → Type 0

@@ -4,7 +4,7 @@ ghost use Rattle.std.specs.Prelude.{◌≡◌, [], ◌∷◌, ◌++◌, List, So
 ghost use Rattle.std.specs.Iterator.{IsFinite};
 ghost use Rattle.constriction_backends.specs.Source.{RemainingCounts};
 ghost use Rattle.constriction_backends.specs.Sink.{CountsExtend, ExtendingTells};
-ghost use Rattle.constriction_backends.specs.Stack.{PopsWhatWasPushed, SeeksBack};
+ghost use Rattle.constriction_backends.specs.Stack.{PopsWhatWasPushed, ReadsWhatWasWritten, SeeksBack};
 
 mod cursor;
 mod iterators;
@@ -22,6 +22,13 @@ use constriction_words::{ReadWriteError, Semantics};
 /// A word that was written to a stack is read next, and then the stack has its old words again.
 pub fn pushed_is_popped<Word, WriteError, ReadError>()
     ensures { PopsWhatWasPushed Word WriteError ReadError }
+{}
+
+/// A word that was written to a stack is read next, whenever that is, and then the stack tells its
+/// old words again; or the read fails, and the word still comes after them. So it is of each backend
+/// that is a stack, where it tells its words.
+pub fn written_is_read<Word, Backend: StackBackend<Word>>()
+    ensures { ReadsWhatWasWritten Backend.write_gives Backend.read_gives Backend.tells_written }
 {}
 
 /// Writes a word to a stack and reads it back. Where the stack tells its words, the word is read,

@@ -173,6 +173,7 @@ fn tells_what_it_was_extended_by<Words: Iterator<Item = u8> + Drop>(_words: Word
 #[test]
 fn what_was_pushed_is_popped(rt: HostRuntime) {
     laws::pushed_is_popped::<u8, AllocError, Infallible>();
+    laws::written_is_read::<u8, Vec<u8>>();
     laws::seek_back::<u8>();
     tells_what_it_was_extended_by([1u8, 2].iter().copied());
     let mut words = Vec::new(rt.alloc());

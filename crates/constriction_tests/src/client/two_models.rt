@@ -77,6 +77,25 @@ where
     there_and_back_of_two(alloc, decoder, encoder, items).is_ok()
 }
 
+/// The same where the words are bytes.
+fn come_back_as_bytes<D, E, const PRECISION: usize>(
+    alloc: Global,
+    decoder: &D,
+    encoder: &E,
+    items: &[(D::Symbol, u8)],
+) -> bool
+where
+    D: DecoderModel<PRECISION, Probability = u8>,
+    D::Symbol: Drop,
+    E: EncodesOver<D::Symbol, u8, PRECISION>,
+    requires positive { 0 < PRECISION }
+    requires fits { PRECISION ≤ 8 }
+    requires clones { D.clones_are_same }
+    requires alike { (s : D.Symbol) → entry_of E.symbol_eq (E.rows encoder.now) s ≡ entry_of E.symbol_eq (D.rows decoder.now) s }
+{
+    there_and_back_of_two(alloc, decoder, encoder, items).is_ok()
+}
+
 /// The weights of the models, items, and the same from the last to the first.
 const WEIGHTS: [u8; 4] = [3, 18, 1, 42];
 
@@ -91,6 +110,11 @@ fn two_models_of_one_table_give_items_back(rt: HostRuntime) -> Result<(), Fail> 
     let back = there_and_back_of_two(rt.alloc(), &decoder, &encoder, &ITEMS)?;
     same(&rt, back.as_slice(), REVERSED.as_slice());
     same(&rt, come_back(rt.alloc(), &decoder, &encoder, &ITEMS), true);
+    same(
+        &rt,
+        come_back_as_bytes(rt.alloc(), &decoder, &encoder, &ITEMS),
+        true,
+    );
     Ok(())
 }
 

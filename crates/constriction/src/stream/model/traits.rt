@@ -57,6 +57,10 @@ pub trait DecoderModel<const PRECISION: usize>: EntropyModel<PRECISION> {
 
     /// The row of a quantile: the symbol whose interval holds it, the left cumulative and the
     /// weight. It fails only where memory for a clone of the symbol is refused.
+    ///
+    /// A coder that fails with a [`CoderError`](constriction_words::CoderError) passes the refusal on
+    /// by `map_err(CoderError::Frontend)` or a `match`: a bare `?` makes it an error of the backend
+    /// where the backend's error is `AllocError` too.
     fn quantile_function(
         &self,
         quantile: Self::Probability,
