@@ -27,11 +27,6 @@ module _ {W : Type 0} (whole : W → ℕ) (bits precision : ℕ) where
     below = rw e up;
   }
 
-  -- the same, where the end is known
-  pub filled-at : (ws table : List W) (end known : Option W) → end ≡ known
-      → IsFilled whole bits precision ws table end → IsFilled whole bits precision ws table known
-  filled-at ws table end known e f = subst (IsFilled whole bits precision ws table) e f
-
   pub filled-more : (ws table : List W) (left w : W) (end : Option W) → IsFilled whole bits precision ws table (Some left)
       → IsRowEnd whole bits precision left w end → IsFilled whole bits precision (ws ++ w ∷ []) (table ++ left ∷ []) end
   filled-more ws table left w end f r = record {
@@ -77,10 +72,6 @@ module _ {W : Type 0} (whole : W → ℕ) (bits precision : ℕ) where
   pub good-given : (ws table : List W) → IsFilled whole bits precision ws table None
       → IsAccepted bits precision (map whole ws) × (map whole table ≡ lefts_from 0 (map whole ws))
   good-given ws table f = (record { tiles = record { positive = f.positive; total = sym f.is }; fit = f.fit }, f.lefts)
-
-  pub bad-open : (ws table : List W) (left : W) → IsFilled whole bits precision ws table (Some left)
-      → ¬ (IsAccepted bits precision (map whole ws))
-  bad-open ws table left f a = omega (arith, f.is, f.below, a.tiles.total)
 
   pub bad-full : (ws table : List W) → IsFilled whole bits precision ws table None
       → ¬ (IsAccepted bits precision (completed precision true (map whole ws)))
@@ -178,8 +169,3 @@ pub yields-more : {S A : Type 0} (steps : S → Option A → S → Type 0) (s : 
     → Yields steps s xs t → steps t (Some x) u → Yields steps s (xs ++ x ∷ []) u
 yields-more steps s [] t x u e h = (u, (let P : _ → Type 0 = λ v. steps v (Some x) u in subst P (sym e) h), refl)
 yields-more steps s (y ∷ xs) t x u (j, k, r) h = (j, k, yields-more steps j xs t x u r h)
-
--- a weight of 0, and one that does not fit what is left
-pub zero-or-much : (n total sum' : ℕ) → total ≡ sum' → (n ≡ 0) ⊎ (total < sum' + n)
-zero-or-much zero total sum' e = inl refl
-zero-or-much (suc n) total sum' e = inr (omega arith)

@@ -10,7 +10,7 @@ use Rattle.constriction.specs.Stored.{IsTable, lefts_in, lefts_from, weights_of}
 use Rattle.constriction.specs.Probe.{IsRowIndexOf}
 use Rattle.constriction.specs.Rows.{contiguous_rows}
 use Rattle.constriction.specs.StoredRowLemmas.{rows-many}
-use Rattle.constriction.specs.StoredLemmas.{IsRowAt, stored-row, stored-of, stored-some}
+use Rattle.constriction.specs.StoredLemmas.{IsRowAt, stored-row, stored-of}
 
 -- the sum of two numbers below m, modulo m
 sum-mod : (m a b : ℕ) → a < m → b < m → ((a + b) % m ≡ a + b) ⊎ ((a + b) % m + m ≡ a + b)
@@ -48,9 +48,6 @@ table-of bits precision table ws a e =
 module _ (bits precision : ℕ) (table : List ℕ) (t : IsTable bits precision table) where
   pub table-long : length table ≡ length (lefts_in table) + 1
   table-long = ap length t.ends ∙ length-append (lefts_in table) ((2 ^ precision % 2 ^ bits) ∷ [])
-
-  pub table-some : 1 < length table
-  table-some = omega (arith, table-long, stored-some bits precision (lefts_in table) t.stored)
 
   pub table-here : (i : ℕ) → i + 1 < length table → get_or table i 0 ≡ get_or (lefts_in table) i 0
   table-here i h =
