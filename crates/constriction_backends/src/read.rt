@@ -49,7 +49,8 @@ pub trait ReadWords<Word, S: Semantics> {
 ///
 /// Where its count is exact (`is_exact`), a read answers `Ok(None)` exactly where none is left, any
 /// other answer takes one away, and the words that the source tells are as many as the items. The
-/// count of each source here is exact, and that of a `Reverse` where that of its backend is.
+/// count of each source in memory is exact, that of a `Reverse` where that of its backend is, and
+/// that of a source over an iterator where the iterator's contract counts its items.
 pub trait BoundedReadWords<Word, S: Semantics>: ReadWords<Word, S> {
     // How many items are left.
     ghost items_left: { Self → ℕ };
