@@ -9,3 +9,4 @@ pub mod Searching
 pub mod Stored
 pub mod StoredLemmas
 pub mod StoredRowLemmas
+pub mod Tables

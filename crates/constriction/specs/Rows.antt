@@ -1,5 +1,5 @@
 -- The rows of a model: which interval of 0 .. 2 ^ precision each symbol has.
-use Rattle.std.specs.Prelude.{◌≡◌, ℕ, ◌+◌, ◌<◌, ◌≤◌, Bool, List, [], ◌∷◌, length, map, reverse, Contains, find, Option}
+use Rattle.std.specs.Prelude.{◌≡◌, ℕ, ◌+◌, ◌-◌, ◌*◌, ◌/◌, ◌^◌, ◌<◌, ◌≤◌, Bool, List, [], ◌∷◌, ◌++◌, length, map, replicate, reverse, Contains, find, Option}
 use Rattle.std.specs.List.{range_with_len}
 use Rattle.std.specs.Option.{option_map}
 use Rattle.constriction.specs.Acceptance.{IsAccepted}
@@ -42,3 +42,13 @@ indices n = range_with_len 0 n
 -- the rows of a contiguous model of these weights
 abbrev pub contiguous_rows : List ℕ → List (Row ℕ)
 contiguous_rows weights = rows_of (indices (length weights)) weights
+
+-- the weights of a uniform model of n symbols: each is the whole part of 2 ^ precision / n, but for the last one, which is what the
+-- others leave
+abbrev pub uniform_weights : ℕ → ℕ → List ℕ
+uniform_weights precision n =
+    replicate (n - 1) (2 ^ precision / n) ++ (2 ^ precision - (n - 1) * (2 ^ precision / n)) ∷ []
+
+-- the rows of a uniform model of n symbols
+abbrev pub uniform_rows : ℕ → ℕ → List (Row ℕ)
+uniform_rows precision n = contiguous_rows (uniform_weights precision n)

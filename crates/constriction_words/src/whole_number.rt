@@ -1,6 +1,6 @@
 //! Words as numbers: the little that tables and searches ask of a word.
 
-ghost use Rattle.std.specs.Prelude.{◌≡◌, ◌↔◌, ◌+◌, ◌-◌, ◌%◌, ◌<◌, ◌≤◌, ◌^◌, ℕ, IsTrue};
+ghost use Rattle.std.specs.Prelude.{◌≡◌, ◌↔◌, ◌+◌, ◌-◌, ◌*◌, ◌/◌, ◌%◌, ◌<◌, ◌≤◌, ◌^◌, ℕ, IsTrue};
 
 use crate::bit_array::BitArray;
 
@@ -64,6 +64,26 @@ pub trait WholeNumber: Copy {
         ensures range { whole result < 2 ^ BITS }
         ensures difference { (whole result + whole other) % 2 ^ BITS ≡ whole self };
 
+    /// The product, which is a word.
+    fn times(self, other: Self) -> Self
+        requires { whole self * whole other < 2 ^ BITS }
+        ensures { whole result ≡ whole self * whole other };
+
+    /// The whole part of the quotient by another number, which is not 0.
+    fn divided_by(self, other: Self) -> Self
+        requires { 0 < whole other }
+        ensures { whole result ≡ whole self / whole other };
+
+    /// The word of a number, of which the caller knows that it is below `2^BITS`.
+    fn from_number(number: usize) -> Self
+        requires { number < 2 ^ BITS }
+        ensures { whole result ≡ number };
+
+    /// The number, of which the caller knows that it is a `usize`.
+    fn to_number(self) -> usize
+        requires { whole self < 2 ^ 64 }
+        ensures { result ≡ whole self };
+
     // Two words of one number are one word.
     ghost same_law: { (a b : Self) → whole a ≡ whole b → a ≡ b };
 }
@@ -121,6 +141,26 @@ impl<P: BitArray> WholeNumber for P {
     #[inline]
     fn wrapping_minus(self, other: P) -> P {
         self.wrapping_sub(&other)
+    }
+
+    #[inline]
+    fn times(self, other: P) -> P {
+        self * other
+    }
+
+    #[inline]
+    fn divided_by(self, other: P) -> P {
+        self / other
+    }
+
+    #[inline]
+    fn from_number(number: usize) -> P {
+        P::from(number).unwrap()
+    }
+
+    #[inline]
+    fn to_number(self) -> usize {
+        self.to_usize().unwrap()
     }
 
     ghost same_law = { P.same_law };

@@ -20,4 +20,6 @@ pub use crate::stream::model::error::ModelError;
 pub use crate::stream::model::probe::Probe;
 pub use crate::stream::model::quantile::is_quantile;
 pub use crate::stream::model::search::row_of_quantile;
-pub use crate::stream::model::traits::{DecoderModel, EncoderModel, EntropyModel, Weight};
+pub use crate::stream::model::traits::{
+    DecoderModel, EncoderModel, EntropyModel, IterableEntropyModel, Weight,
+};

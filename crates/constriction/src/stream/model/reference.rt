@@ -2,7 +2,9 @@
 
 ghost use Rattle.std.specs.Prelude.{◌≡◌, ◌<◌, ◌^◌};
 
-use crate::stream::model::traits::{DecoderModel, EncoderModel, EntropyModel, Weight};
+use crate::stream::model::traits::{
+    DecoderModel, EncoderModel, EntropyModel, IterableEntropyModel, Weight,
+};
 use std::alloc::AllocError;
 
 impl<M: EntropyModel<PRECISION>, const PRECISION: usize> EntropyModel<PRECISION> for &M {
@@ -39,6 +41,27 @@ impl<M: DecoderModel<PRECISION>, const PRECISION: usize> DecoderModel<PRECISION>
     ) -> Result<(M::Symbol, M::Probability, Weight<M::Probability>), AllocError> {
         (**self).quantile_function(quantile)
     }
+
+    ghost tile_law = { λ m. M.tile_law m.now };
+}
+
+/// So is a table's: a model that is copied into its table is walked through by reference too.
+impl<M: IterableEntropyModel<PRECISION> + Copy, const PRECISION: usize> IterableEntropyModel<
+    PRECISION,
+> for &M {
+    type SymbolTable = M::SymbolTable;
+
+    ghost clones_are_same = { M.clones_are_same };
+
+    ghost may_refuse = { M.may_refuse };
+
+    ghost rows_left = { M.rows_left };
+
+    fn symbol_table(self) -> M::SymbolTable {
+        (*self).symbol_table()
+    }
+
+    ghost steps_law = { M.steps_law };
 
     ghost tile_law = { λ m. M.tile_law m.now };
 }

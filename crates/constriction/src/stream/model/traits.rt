@@ -1,9 +1,11 @@
 //! The traits of models: what a model tells, and what it answers in each direction.
 
-ghost use Rattle.std.specs.Prelude.{◌≡◌, ◌^◌, ◌<◌, Bool, List, All, IfOk, IfErr, IsTrue};
+ghost use Rattle.std.specs.Prelude.{◌≡◌, ◌^◌, ◌<◌, Bool, List, All, IfOk, IfErr, IsTrue, length};
+ghost use Rattle.std.specs.Iterator.{UpTo};
 ghost use Rattle.std.specs.Option.{option_map};
 ghost use Rattle.constriction.specs.Rows.{Row, RowsTile, IsRowOf, entry_of};
 ghost use Rattle.constriction.specs.Model.{row_of, entry_in, LiesWithin};
+ghost use Rattle.constriction.specs.Tables.{YieldsRow};
 
 use constriction_words::BitArray;
 use std::alloc::AllocError;
@@ -72,6 +74,43 @@ pub trait DecoderModel<const PRECISION: usize>: EntropyModel<PRECISION> {
         ensures within { IfOk result (λ x. LiesWithin PRECISION
             (row_of Self.Probability.whole Self.Probability.NonZero.base x)) }
         ensures refused { IfErr result (λ _. may_refuse) };
+
+    // The rows tile the quantiles, so that each quantile has exactly one row.
+    ghost tile_law: { (m : Self) → RowsTile Self.Probability.BITS PRECISION (Self.rows m) };
+}
+
+/// A model whose rows can be walked through.
+///
+/// It is implemented for what a symbol table is made of: for a reference to a model that the table
+/// borrows from, and for a model that can be copied into it, whose references have it too.
+pub trait IterableEntropyModel<const PRECISION: usize>: EntropyModel<PRECISION> {
+    /// The walk through the rows.
+    type SymbolTable: Iterator<
+        Item = Result<(Self::Symbol, Self::Probability, Weight<Self::Probability>), AllocError>,
+    >;
+
+    // Where rows have clones of symbols: that a clone is the same value. A table that clones none owes nothing.
+    ghost clones_are_same: { Type 0 };
+
+    // That a row may be refused, for want of memory. Of a table that takes none it is ⊥.
+    ghost may_refuse: { Type 0 };
+
+    // The rows that a table has yet to give.
+    ghost rows_left: { Self.SymbolTable → List (Row Self.Symbol) };
+
+    /// All rows in order, each once: symbol, left cumulative and weight. Where memory for a clone of a
+    /// symbol is refused, the refusal stands in the row's place, and the walk goes on after it.
+    fn symbol_table(self) -> Self::SymbolTable
+        requires clones { clones_are_same }
+        ensures all { rows_left result ≡ Self.rows self }
+        ensures callable { Self.SymbolTable.can_next result }
+        ensures ends { UpTo (Self.SymbolTable.remaining result) (length (Self.rows self)) };
+
+    // Each step gives the first of the rows that are left, and nothing exactly where none is left.
+    ghost steps_law: { clones_are_same → (t : Self.SymbolTable) (r : _) (u : Self.SymbolTable)
+        → Self.SymbolTable.next_gives t r u
+        → YieldsRow Self.Probability.whole Self.Probability.NonZero.base may_refuse
+        (rows_left t) r (rows_left u) };
 
     // The rows tile the quantiles, so that each quantile has exactly one row.
     ghost tile_law: { (m : Self) → RowsTile Self.Probability.BITS PRECISION (Self.rows m) };

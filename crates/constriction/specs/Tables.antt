@@ -1,0 +1,24 @@
+-- Symbol tables: what one step of a walk through the rows of a model gives, from either end.
+use Rattle.std.specs.Prelude.{◌≡◌, ℕ, List, [], ◌∷◌, ◌++◌, take, drop, Option, Some, None, Result, IfOk, IfErr}
+use Rattle.constriction.specs.Rows.{Row}
+use Rattle.constriction.specs.Model.{row_of}
+
+module _ {Symbol Word Weight Refusal : Type 0} (whole : Word → ℕ) (base : Weight → Word) (MayRefuse : Type 0) where
+  -- the item stands for the row: it is the row, or where rows may be refused, a refusal in the row's place
+  abbrev pub StandsFor : Result (Symbol × Word × Weight) Refusal → Row Symbol → Type 0
+  StandsFor item row = IfOk item (λ x. row_of whole base x ≡ row) × IfErr item (λ _. MayRefuse)
+
+  -- A step from the front, with the rows that are left before it and after it: it gives the first of them, and nothing where none is
+  -- left.
+  abbrev pub YieldsRow : List (Row Symbol) → Option (Result (Symbol × Word × Weight) Refusal) → List (Row Symbol) → Type 0
+  YieldsRow before None after = (before ≡ []) × (after ≡ [])
+  YieldsRow before (Some item) after = (row : Row Symbol) × (before ≡ row ∷ after) × StandsFor item row
+
+  -- a step from the back: it gives the last of the rows that are left
+  abbrev pub YieldsLastRow : List (Row Symbol) → Option (Result (Symbol × Word × Weight) Refusal) → List (Row Symbol) → Type 0
+  YieldsLastRow before None after = (before ≡ []) × (after ≡ [])
+  YieldsLastRow before (Some item) after = (row : Row Symbol) × (before ≡ after ++ row ∷ []) × StandsFor item row
+
+-- the rows from one index up to another
+abbrev pub rows_between : {Symbol : Type 0} → ℕ → ℕ → List (Row Symbol) → List (Row Symbol)
+rows_between from to rows = drop from (take to rows)
