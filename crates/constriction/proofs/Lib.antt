@@ -3,3 +3,5 @@ mod FillLemmas
 mod Halving
 mod ProbeLemmas
 mod TableLemmas
+mod UniformLemmas
+mod Walking

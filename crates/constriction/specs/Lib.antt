@@ -10,3 +10,4 @@ pub mod Stored
 pub mod StoredLemmas
 pub mod StoredRowLemmas
 pub mod Tables
+pub mod UniformRowLemmas

@@ -9,6 +9,7 @@ mod quantile;
 mod reference;
 mod search;
 mod traits;
+mod uniform;
 
 pub use crate::stream::model::categorical::contiguous::{
     ContiguousCategoricalEntropyModel, DefaultContiguousCategoricalEntropyModel,
@@ -23,3 +24,5 @@ pub use crate::stream::model::search::row_of_quantile;
 pub use crate::stream::model::traits::{
     DecoderModel, EncoderModel, EntropyModel, IterableEntropyModel, Weight,
 };
+pub use crate::stream::model::uniform::symbol_table::UniformSymbolTable;
+pub use crate::stream::model::uniform::{DefaultUniformModel, SmallUniformModel, UniformModel};
