@@ -3,3 +3,4 @@ mod FillLemmas
 mod Halving
 mod ProbeLemmas
 mod TableLemmas
+mod WalkLemmas

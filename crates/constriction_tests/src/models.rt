@@ -2,4 +2,5 @@
 
 pub mod contiguous;
 mod search;
+mod tables;
 mod widths;
