@@ -4,4 +4,4 @@ mod Halving
 mod ProbeLemmas
 mod TableLemmas
 mod UniformLemmas
-mod Walking
+mod WalkLemmas

@@ -2,5 +2,6 @@
 
 pub mod contiguous;
 mod search;
+mod tables;
 mod uniform;
 mod widths;

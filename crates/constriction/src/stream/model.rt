@@ -15,6 +15,7 @@ pub use crate::stream::model::categorical::contiguous::{
     ContiguousCategoricalEntropyModel, DefaultContiguousCategoricalEntropyModel,
     SmallContiguousCategoricalEntropyModel,
 };
+pub use crate::stream::model::categorical::symbol_table::ContiguousSymbolTable;
 pub use crate::stream::model::cdf_probe::{Alone, CdfEntry, CdfProbe, WithSymbol};
 pub use crate::stream::model::encodes_over::EncodesOver;
 pub use crate::stream::model::error::ModelError;

@@ -1,7 +1,7 @@
 //! Models whose symbols all have the same weight, but for the last one.
 
 ghost use Rattle.std.specs.Prelude.{◌≡◌, ◌+◌, ◌*◌, ◌/◌, ◌^◌, ◌<◌, ◌≤◌, ℕ, nat_eq, length, IfOk, IfErr, IsOk, ⊤};
-ghost use Rattle.std.specs.Iterator.{UpTo};
+ghost use Rattle.std.specs.Iterator.{UpTo, size};
 ghost use Rattle.std.proofs.Common.{eq-eqb, refl};
 ghost use Rattle.constriction.specs.Model.{row_of, LiesWithin};
 ghost use Rattle.constriction.specs.Rows.{uniform_rows, IsRowOf};
@@ -177,8 +177,19 @@ impl<Probability: BitArray, const PRECISION: usize> IterableEntropyModel<PRECISI
 
     ghost rows_left = { λ t. rows_between t.from t.to (uniform_rows PRECISION (Probability.whole t.model.last_symbol + 1)) };
 
+    /// All rows in order, each once: symbol, left cumulative and weight. It takes no memory, and
+    /// every item is a row.
     #[inline]
-    fn symbol_table(self) -> UniformSymbolTable<Probability, PRECISION> {
+    fn symbol_table(self) -> UniformSymbolTable<Probability, PRECISION>
+        requires clones { ⊤ }
+        ensures all { ⟦<UniformModel<Probability, PRECISION> as IterableEntropyModel<PRECISION>>⟧.rows_left result
+            ≡ ⟦<UniformModel<Probability, PRECISION> as EntropyModel<PRECISION>>⟧.rows self }
+        ensures callable { ⟦<UniformSymbolTable<Probability, PRECISION> as Iterator>⟧.can_next result }
+        ensures ends { UpTo (⟦<UniformSymbolTable<Probability, PRECISION> as Iterator>⟧.remaining result)
+            (length (⟦<UniformModel<Probability, PRECISION> as EntropyModel<PRECISION>>⟧.rows self)) }
+        ensures counted { size (⟦<UniformSymbolTable<Probability, PRECISION> as Iterator>⟧.remaining result)
+            ≡ length (⟦<UniformModel<Probability, PRECISION> as EntropyModel<PRECISION>>⟧.rows self) }
+    {
         UniformSymbolTable::new(self)
     }
 

@@ -1,7 +1,8 @@
 //! A walk through the rows of a uniform model.
 
-ghost use Rattle.std.specs.Prelude.{◌≡◌, ◌+◌, ◌-◌, ◌<◌, ◌≤◌};
-ghost use Rattle.std.specs.Iterator.{at_most};
+ghost use Rattle.std.specs.Prelude.{◌≡◌, ◌+◌, ◌<◌, ◌≤◌, IfSome, length};
+ghost use Rattle.std.specs.Iterator.{UpTo, at_most, size};
+ghost use Rattle.std.specs.Iterator.SizeHint.{IsExactHint, IsWithinCount};
 ghost use Rattle.constriction.specs.Rows.{uniform_rows};
 ghost use Rattle.constriction.specs.Tables.{YieldsRow, YieldsLastRow, rows_between};
 
@@ -10,7 +11,10 @@ use crate::stream::model::uniform::UniformModel;
 use constriction_words::{BitArray, WholeNumber};
 use std::alloc::AllocError;
 
-/// The rows of a [`UniformModel`] that are left, from either end. Each item is `Ok`.
+/// The rows of a [`UniformModel`] that are left, walked through from either end.
+///
+/// Each row is given once, whichever end it is taken from, and either end answers `None` exactly
+/// where none is left. Every item is `Ok`: the walk takes no memory. A step costs a product.
 #[derive(Debug, Drop)]
 pub struct UniformSymbolTable<Probability: BitArray, const PRECISION: usize> {
     model: UniformModel<Probability, PRECISION>,
@@ -41,7 +45,7 @@ impl<Probability: BitArray, const PRECISION: usize> Iterator
         (rows_between t.from t.to (uniform_rows PRECISION (Probability.whole t.model.last_symbol + 1))) r
         (rows_between u.from u.to (uniform_rows PRECISION (Probability.whole u.model.last_symbol + 1))) };
 
-    ghost remaining = { λ t. at_most (t.to - t.from) };
+    ghost remaining = { λ t. at_most (length (rows_between t.from t.to (uniform_rows PRECISION (Probability.whole t.model.last_symbol + 1)))) };
 
     #[inline]
     fn next(&mut self) -> Option<Result<(usize, Probability, Weight<Probability>), AllocError>> {
@@ -54,10 +58,18 @@ impl<Probability: BitArray, const PRECISION: usize> Iterator
         Some(Ok((symbol, left, weight)))
     }
 
+    /// How many rows are left, exactly.
     #[inline]
-    fn size_hint(&self) -> (usize, Option<usize>) {
-        let left = self.to - self.from;
-        (left, Some(left))
+    fn size_hint(&self) -> (usize, Option<usize>)
+        ensures lower { IsWithinCount result.0
+            (⟦<UniformSymbolTable<Probability, PRECISION> as Iterator>⟧.remaining self.now) }
+        ensures upper { IfSome result.1 (UpTo
+            (⟦<UniformSymbolTable<Probability, PRECISION> as Iterator>⟧.remaining self.now)) }
+        ensures exact { IsExactHint result
+            (size (⟦<UniformSymbolTable<Probability, PRECISION> as Iterator>⟧.remaining self.now)) }
+    {
+        let size = self.len();
+        (size, Some(size))
     }
 }
 
@@ -83,6 +95,7 @@ impl<Probability: BitArray, const PRECISION: usize> DoubleEndedIterator
 
 impl<Probability: BitArray, const PRECISION: usize> ExactSizeIterator
     for UniformSymbolTable<Probability, PRECISION> {
+    /// How many rows are left.
     #[inline]
     fn len(&self) -> usize {
         self.to - self.from

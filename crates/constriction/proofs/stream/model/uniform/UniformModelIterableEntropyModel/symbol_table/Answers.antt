@@ -1,7 +1,7 @@
-use Rattle.std.proofs.Common.{◌+◌, arith}
+use Rattle.std.proofs.Common.{◌≡◌, ◌+◌, length, ap, sym}
 use Rattle.constriction.specs.Rows.{uniform_rows}
 use Rattle.constriction.specs.UniformRowLemmas.{length-uniform_rows}
-use Rattle.constriction.proofs.Walking.{all-left}
+use Rattle.constriction.proofs.WalkLemmas.{all-between}
 use Rattle.constriction.proofs.stream.model.uniform.UniformModelIterableEntropyModel.symbol_table.Goals as goal
 
 pub returns-clause-all : goal.returns-clause-all
@@ -9,9 +9,7 @@ returns-clause-all g c =
     let last = g.Probability.BitArray.whole c.args.self.last_symbol in
     let rows = uniform_rows g.row.PRECISION (last + 1) in
     rw (c.new.ensures.model, c.new.ensures.from, c.new.ensures.to)
-    (all-left rows (last + 1) (length-uniform_rows g.row.PRECISION last))
+    (all-between rows (last + 1) (sym (length-uniform_rows g.row.PRECISION last)))
 
-pub returns-clause-ends : goal.returns-clause-ends
-returns-clause-ends g c =
-    let last = g.Probability.BitArray.whole c.args.self.last_symbol in
-    (tt, omega (arith, c.new.ensures.from, c.new.ensures.to, length-uniform_rows g.row.PRECISION last))
+pub returns-clause-counted : goal.returns-clause-counted
+returns-clause-counted g c = ap length (returns-clause-all g c)
