@@ -1,3 +1,4 @@
+mod AnswerLemmas
 mod Digits
 mod FillLemmas
 mod Halving
