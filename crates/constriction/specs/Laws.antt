@@ -1,9 +1,9 @@
 -- What follows from the contracts of models: the functions of the module `laws` say it.
-use Rattle.std.specs.Prelude.{◌≡◌, ◌↔◌, ℕ, ◌+◌, ◌-◌, ◌^◌, ◌<◌, ◌≤◌, Bool, true, List, ◌++◌, length, map, Contains, Option, Some, Result, Ok, IfOk, IfErr}
+use Rattle.std.specs.Prelude.{◌≡◌, ◌↔◌, ℕ, ◌+◌, ◌-◌, ◌^◌, ◌<◌, ◌≤◌, Bool, true, List, ◌++◌, length, map, Contains, Option, Some, Result, Ok, IfOk, IfErr, nat_eq}
 use Rattle.std.specs.Cmp.{IsPartialEquivalence}
 use Rattle.std.specs.Iterator.{Yields, Drains}
 use Rattle.std.specs.List.{AllZip, IsDistinct}
-use Rattle.constriction.specs.Rows.{Row, IsRowOf, entry_of, uniform_rows}
+use Rattle.constriction.specs.Rows.{Row, IsRowOf, contiguous_rows, entry_of, uniform_rows}
 use Rattle.constriction.specs.Model.{row_of}
 use Rattle.constriction.specs.Tables.{StandsFor}
 
@@ -58,6 +58,10 @@ UniformRowsAreAsMany = (precision n : ℕ) → 0 < n → length (uniform_rows pr
 -- the symbols of rows, in order
 abbrev pub symbols_of : {Symbol : Type 0} → List (Row Symbol) → List Symbol
 symbols_of rows = map (λ r. r.symbol) rows
+
+-- no two symbols of a contiguous model are equal, and so of a uniform one
+abbrev pub ContiguousSymbolsDiffer : Type 0
+ContiguousSymbolsDiffer = (weights : List ℕ) → IsDistinct nat_eq (symbols_of (contiguous_rows weights))
 
 -- q is the quantile of a symbol and an offset: the symbol has an entry, the offset is below its weight, and q is its left cumulative
 -- plus the offset

@@ -12,7 +12,7 @@ use Rattle.std.proofs.lemmas.Map.Keys.{IsDistinct-head, IsDistinct-tail}
 use Rattle.constriction.specs.Rows.{Row, RowsTile, IsRowOf, rows_from, entry_of, indices, contiguous_rows}
 use Rattle.constriction.specs.RowLemmas.{entry_of-cons, symbols-rows_from}
 use Rattle.constriction.specs.CodingLemmas.{entry-row, entry-below, one-row, rows-within}
-use Rattle.constriction.specs.Laws.{symbols_of, IsQuantileAt, IsOneToOne, PairsAreQuantiles}
+use Rattle.constriction.specs.Laws.{symbols_of, ContiguousSymbolsDiffer, IsQuantileAt, IsOneToOne, PairsAreQuantiles}
 
 -- a row among others is one among more
 pub row-further : {Symbol : Type 0} (x : Row Symbol) (xs : List (Row Symbol)) (q : ℕ) (r : Row Symbol) → IsRowOf xs q r
@@ -96,7 +96,7 @@ range-distinct a zero = tt
 range-distinct a (suc n) = (range-apart a (a + 1) n (omega arith), range-distinct (a + 1) n)
 
 -- no two symbols of a contiguous model are equal
-pub contiguous-distinct : (ws : List ℕ) → IsDistinct nat_eq (symbols_of (contiguous_rows ws))
+pub contiguous-distinct : ContiguousSymbolsDiffer
 contiguous-distinct ws =
     let is : symbols_of (contiguous_rows ws) ≡ indices (length ws) =
     symbols-rows_from 0 (indices (length ws)) ws (length-range_with_len 0 (length ws)) in

@@ -2,7 +2,7 @@
 //! each model that meets the traits, those of the caller too.
 
 ghost use Rattle.constriction.specs.Laws.{WalksRows, GivesAllRows, GivesAsMany, AnswersAreInTable, UniformRowsAreAsMany};
-ghost use Rattle.constriction.specs.Laws.{PairsAreQuantiles, EqualAnswers};
+ghost use Rattle.constriction.specs.Laws.{PairsAreQuantiles, ContiguousSymbolsDiffer, EqualAnswers};
 
 use crate::stream::model::{DecoderModel, EncodesOver, EntropyModel, IterableEntropyModel};
 
@@ -58,6 +58,11 @@ where
     D: DecoderModel<PRECISION>,
     E: EncodesOver<D::Symbol, D::Probability, PRECISION>,
     ensures { PairsAreQuantiles E.symbol_eq PRECISION D.rows E.rows }
+{}
+
+/// No two symbols of a contiguous model are equal, and so of a uniform one.
+pub fn contiguous_symbols_differ()
+    ensures { ContiguousSymbolsDiffer }
 {}
 
 /// Two decoder models of the same symbols and the same `PRECISION` have the same row for each
