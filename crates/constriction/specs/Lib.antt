@@ -1,7 +1,9 @@
 pub mod Acceptance
 pub mod CodingLemmas
 pub mod Filling
+pub mod Laws
 pub mod Model
+pub mod PairLemmas
 pub mod Probe
 pub mod RowLemmas
 pub mod Rows
@@ -11,3 +13,4 @@ pub mod StoredLemmas
 pub mod StoredRowLemmas
 pub mod Tables
 pub mod UniformRowLemmas
+pub mod WalkLemmas

@@ -1,7 +1,7 @@
 use Rattle.std.proofs.Common.{◌≡◌, ◌+◌, length, ap, sym}
 use Rattle.constriction.specs.Rows.{uniform_rows}
 use Rattle.constriction.specs.UniformRowLemmas.{length-uniform_rows}
-use Rattle.constriction.proofs.WalkLemmas.{all-between}
+use Rattle.constriction.proofs.StepLemmas.{all-between}
 use Rattle.constriction.proofs.stream.model.uniform.UniformModelIterableEntropyModel.symbol_table.Goals as goal
 
 pub returns-clause-all : goal.returns-clause-all

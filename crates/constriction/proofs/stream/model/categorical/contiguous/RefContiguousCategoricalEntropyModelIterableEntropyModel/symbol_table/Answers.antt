@@ -4,7 +4,7 @@ use Rattle.constriction.specs.Rows.{contiguous_rows}
 use Rattle.constriction.specs.Stored.{lefts_in, weights_of}
 use Rattle.constriction.specs.Tables.{rows_stored}
 use Rattle.constriction.proofs.TableLemmas.{table-rows}
-use Rattle.constriction.proofs.WalkLemmas.{all-between}
+use Rattle.constriction.proofs.StepLemmas.{all-between}
 use Rattle.constriction.proofs.stream.model.categorical.contiguous.RefContiguousCategoricalEntropyModelIterableEntropyModel.symbol_table.Goals as goal
 
 pub returns-clause-all : goal.returns-clause-all

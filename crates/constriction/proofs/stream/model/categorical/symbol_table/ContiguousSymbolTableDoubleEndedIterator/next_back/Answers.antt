@@ -1,7 +1,7 @@
 use Rattle.std.proofs.Common.{◌≡◌, ◌+◌, ◌-◌, ◌<◌, ◌≤◌, [], ◌∷◌, length, map, ap, refl, ◌∙◌, arith}
 use Rattle.std.proofs.lemmas.List.{length-append, length-map}
 use Rattle.constriction.specs.Tables.{rows_stored}
-use Rattle.constriction.proofs.WalkLemmas.{last-stored}
+use Rattle.constriction.proofs.StepLemmas.{last-stored}
 use Rattle.constriction.proofs.stream.model.categorical.symbol_table.ContiguousSymbolTableDoubleEndedIterator.next_back.Goals as goal
 
 pub returns-clause-steps : goal.returns-clause-steps

@@ -1,6 +1,6 @@
 use Rattle.std.proofs.Common.{◌<◌, length, map, sym, arith}
 use Rattle.std.proofs.lemmas.List.{length-map}
-use Rattle.constriction.proofs.WalkLemmas.{length-stored}
+use Rattle.constriction.proofs.StepLemmas.{length-stored}
 use Rattle.constriction.proofs.stream.model.categorical.symbol_table.ContiguousSymbolTableExactSizeIterator.len.Goals as goal
 
 pub returns-clause-value : goal.returns-clause-value

@@ -1,6 +1,6 @@
 use Rattle.std.proofs.Common.{◌<◌, length, map, ap, refl, arith}
 use Rattle.std.proofs.lemmas.List.{length-map}
-use Rattle.constriction.proofs.WalkLemmas.{first-stored}
+use Rattle.constriction.proofs.StepLemmas.{first-stored}
 use Rattle.constriction.proofs.stream.model.categorical.symbol_table.ContiguousSymbolTableIterator.next.Goals as goal
 
 pub returns-clause-steps : goal.returns-clause-steps

@@ -3,7 +3,7 @@ use Rattle.std.proofs.lemmas.List.{length-append}
 use Rattle.constriction.specs.Rows.{uniform_rows}
 use Rattle.constriction.specs.Tables.{rows_between}
 use Rattle.constriction.specs.UniformRowLemmas.{uniform-at, length-uniform_rows}
-use Rattle.constriction.proofs.WalkLemmas.{last-between}
+use Rattle.constriction.proofs.StepLemmas.{last-between}
 use Rattle.constriction.proofs.stream.model.uniform.symbol_table.UniformSymbolTableDoubleEndedIterator.next_back.Goals as goal
 
 pub returns-clause-steps : goal.returns-clause-steps

@@ -1,7 +1,7 @@
 use Rattle.std.proofs.Common.{◌≡◌, ◌+◌, ◌≤◌, sym, arith}
 use Rattle.constriction.specs.Rows.{uniform_rows}
 use Rattle.constriction.specs.UniformRowLemmas.{length-uniform_rows}
-use Rattle.constriction.proofs.WalkLemmas.{length-between}
+use Rattle.constriction.proofs.StepLemmas.{length-between}
 use Rattle.constriction.proofs.stream.model.uniform.symbol_table.UniformSymbolTableExactSizeIterator.len.Goals as goal
 
 pub returns-clause-value : goal.returns-clause-value

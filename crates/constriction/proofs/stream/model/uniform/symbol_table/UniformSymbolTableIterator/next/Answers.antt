@@ -1,7 +1,7 @@
 use Rattle.std.proofs.Common.{◌≡◌, ℕ, ◌+◌, ◌<◌, ◌≤◌, length, ap, refl, arith}
 use Rattle.constriction.specs.Rows.{uniform_rows}
 use Rattle.constriction.specs.UniformRowLemmas.{uniform-at, length-uniform_rows}
-use Rattle.constriction.proofs.WalkLemmas.{first-between}
+use Rattle.constriction.proofs.StepLemmas.{first-between}
 use Rattle.constriction.proofs.stream.model.uniform.symbol_table.UniformSymbolTableIterator.next.Goals as goal
 
 pub returns-clause-steps : goal.returns-clause-steps
