@@ -1,17 +1,13 @@
 -- Walking through the rows of a stored table, from either end.
 use Rattle.std.specs.Prelude.{take, drop}
-use Rattle.std.proofs.Common.{◌≡◌, ℕ, ◌+◌, ◌-◌, ◌<◌, ◌≤◌, List, [], ◌∷◌, ◌++◌, length, get_or, refl, ap, sym, ◌∙◌, arith}
-use Rattle.std.proofs.lemmas.List.{length-drop, drop_all, drop_more, length-take, length-take-le, get_or-take, take_more, drop-append-le}
+use Rattle.std.proofs.Common.{◌≡◌, ℕ, ◌+◌, ◌-◌, ◌<◌, ◌≤◌, List, [], ◌∷◌, ◌++◌, length, get_or, refl, ap, ◌∙◌, arith}
+use Rattle.std.proofs.lemmas.List.{length-drop, drop_more, length-take, length-take-le, get_or-take, take_more, drop-append-le}
 use Rattle.constriction.specs.Rows.{Row, contiguous_rows}
 use Rattle.constriction.specs.Stored.{IsTable, lefts_in, weights_of}
 use Rattle.constriction.specs.StoredLemmas.{take-length}
 use Rattle.constriction.specs.StoredRowLemmas.{stored-at}
 use Rattle.constriction.specs.Tables.{rows_between, rows_stored}
 use Rattle.constriction.proofs.TableLemmas.{table-long, table-rows}
-
--- no row is left between an index and itself
-pub none-between : {Symbol : Type 0} (rows : List (Row Symbol)) (i : ℕ) → rows_between i i rows ≡ []
-none-between rows i = drop_all i (take i rows) (let e = length-take i rows in omega arith)
 
 -- as many rows as indices
 pub length-between : {Symbol : Type 0} (rows : List (Row Symbol)) (i j : ℕ) → j ≤ length rows
