@@ -14,8 +14,8 @@ use std::alloc::AllocError;
 /// The rows of a [`ContiguousCategoricalEntropyModel`] that are left, walked through from either end.
 ///
 /// Each row is given once, whichever end it is taken from, and either end answers `None` exactly
-/// where none is left. Every item is `Ok`: the walk takes no memory. A step costs two neighbours of
-/// the model's table.
+/// where none is left. Every item is `Ok`, as the walk takes no memory. A step reads two neighbours
+/// of the model's table.
 ///
 /// [`ContiguousCategoricalEntropyModel`]: crate::stream::model::ContiguousCategoricalEntropyModel
 #[derive(Debug, Drop)]
