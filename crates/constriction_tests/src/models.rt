@@ -1,5 +1,6 @@
 //! Entropy models and the counted search, over worked tables and a caller's own.
 
 pub mod contiguous;
+mod laws;
 mod search;
 mod widths;
