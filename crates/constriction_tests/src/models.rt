@@ -1,6 +1,7 @@
 //! Entropy models and the counted search, over worked tables and a caller's own.
 
 pub mod contiguous;
+mod laws;
 mod search;
 mod tables;
 mod uniform;
