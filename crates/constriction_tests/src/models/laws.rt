@@ -7,11 +7,13 @@ ghost use Rattle.std.proofs.Common.{eq-eqb, refl, rules};
 ghost use Rattle.constriction.specs.Rows.{Row, rows_of};
 ghost use Rattle.constriction.specs.Model.{row_of};
 ghost use Rattle.constriction.specs.Tables.{YieldsRow};
+ghost use Rattle.constriction.specs.Laws.{AnswerAlike};
 
 use crate::checks::same;
 use crate::models::contiguous::{Table, table};
 use constriction::laws::{
-    contiguous_symbols_differ, pairs_are_quantiles, table_gives_all_rows, table_length,
+    contiguous_symbols_differ, equal_answers, pairs_are_quantiles, table_gives_all_rows,
+    table_length,
 };
 use constriction::stream::model::{
     DecoderModel, EncoderModel, EntropyModel, IterableEntropyModel, Weight,
@@ -68,6 +70,40 @@ where
         rows.push(item?)?;
     }
     Ok(rows)
+}
+
+/// What [`read_table`] gives of a model.
+type Rows<M, const PRECISION: usize> = Vec<
+    (
+        <M as EntropyModel<PRECISION>>::Symbol,
+        <M as EntropyModel<PRECISION>>::Probability,
+        Weight<<M as EntropyModel<PRECISION>>::Probability>,
+    ),
+>;
+
+/// The rows of two models that answer alike, each by its own table: they are the same.
+fn read_both<M, N, const PRECISION: usize>(
+    alloc: Global,
+    model: M,
+    other: N,
+) -> Result<(Rows<M, PRECISION>, Rows<N, PRECISION>), AllocError>
+where
+    M: DecoderModel<PRECISION> + IterableEntropyModel<PRECISION>,
+    N: DecoderModel<PRECISION>
+        + IterableEntropyModel<PRECISION>
+        + EntropyModel<PRECISION, Symbol = M::Symbol>
+        + Drop,
+    M::Symbol: Drop,
+    requires clones { M.IterableEntropyModel.clones_are_same }
+    requires other_clones { N.IterableEntropyModel.clones_are_same }
+    requires alike { AnswerAlike PRECISION (M.rows model) (N.rows other) }
+    ensures { IfOk result (λ t. map (row_of M.Probability.whole M.Probability.NonZero.base) t.0.items
+        ≡ map (row_of N.Probability.whole N.Probability.NonZero.base) t.1.items) }
+{
+    equal_answers::<M, N, PRECISION>();
+    let rows = read_table(alloc, model)?;
+    let others = read_table(alloc, other)?;
+    Ok((rows, others))
 }
 
 /// A model of the caller: `a` at 0, `b` at 1 and 2, `c` at 3.
@@ -168,5 +204,7 @@ fn a_table_of_the_caller_is_read(rt: HostRuntime) -> Result<(), Fail> {
     let two = 2u8.into_nonzero_unchecked();
     let expected = [(b'a', 0, one), (b'b', 1, two), (b'c', 3, one)];
     same(&rt, rows.as_slice(), expected.as_slice());
+    let (rows, others) = read_both(rt.alloc(), ThreeLetters, &ThreeLetters)?;
+    same(&rt, rows.as_slice(), others.as_slice());
     Ok(())
 }
