@@ -48,6 +48,16 @@ fn words_are_whole_numbers(rt: HostRuntime) {
     );
     same(
         &rt,
+        [15u8.times(17), 255u8.divided_by(16), u8::from_number(255)],
+        [255, 15, 255],
+    );
+    same(
+        &rt,
+        (u128::from_number(usize::MAX), u64::MAX.to_number()),
+        (u128::from(u64::MAX), usize::MAX),
+    );
+    same(
+        &rt,
         [
             u128::least().is_least(),
             1u128.is_least(),
