@@ -24,14 +24,15 @@ pub fn table_gives_all_rows<M: IterableEntropyModel<PRECISION>, const PRECISION:
         M.SymbolTable.next_gives M.rows_left }
 {}
 
-/// It has as many items as rows were left, refusals counted. Where the model tells the number of its
-/// symbols, as by `support_size`, a fresh table has so many items.
+/// A symbol table that is walked to its end gives as many items as rows were left, refusals counted.
+/// Where a model tells the number of its symbols, as by `support_size`, a fresh table of it has so
+/// many items.
 pub fn table_length<M: IterableEntropyModel<PRECISION>, const PRECISION: usize>()
     requires clones { M.clones_are_same }
     ensures { GivesAsMany M.SymbolTable.next_gives M.rows_left }
 {}
 
-/// A uniform model of `n` symbols has `n` rows, and so has its table.
+/// A uniform model of `n` symbols has `n` rows, and by [`table_length`] its fresh table as many items.
 pub fn uniform_row_count()
     ensures { UniformRowsAreAsMany }
 {}

@@ -1,10 +1,10 @@
 //! What a caller has from the laws of models: over the contiguous model, and over a model of the
 //! caller with a table of its own.
 
-ghost use Rattle.std.specs.Prelude.{◌≡◌, ◌<◌, ◌≤◌, ◌^◌, ◌-◌, [], ◌∷◌, List, ⊤, nat_eq, length, map, drop, IfOk};
+ghost use Rattle.std.specs.Prelude.{◌≡◌, ◌<◌, ◌≤◌, ◌^◌, ◌-◌, [], ◌∷◌, ⊤, length, map, drop, IfOk};
 ghost use Rattle.std.specs.Iterator.{at_most};
-ghost use Rattle.std.proofs.Common.{eq-eqb, refl, rules};
-ghost use Rattle.constriction.specs.Rows.{Row, rows_of};
+ghost use Rattle.std.proofs.Common.{rules};
+ghost use Rattle.constriction.specs.Rows.{rows_of};
 ghost use Rattle.constriction.specs.Model.{row_of};
 ghost use Rattle.constriction.specs.Tables.{YieldsRow};
 ghost use Rattle.constriction.specs.Laws.{AnswerAlike};
