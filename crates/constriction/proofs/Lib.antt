@@ -1,5 +1,8 @@
+mod AnswerLemmas
 mod Digits
 mod FillLemmas
 mod Halving
 mod ProbeLemmas
+mod StepLemmas
 mod TableLemmas
+mod UniformLemmas

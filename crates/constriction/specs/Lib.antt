@@ -1,7 +1,9 @@
 pub mod Acceptance
 pub mod CodingLemmas
 pub mod Filling
+pub mod Laws
 pub mod Model
+pub mod PairLemmas
 pub mod Probe
 pub mod RowLemmas
 pub mod Rows
@@ -10,3 +12,5 @@ pub mod Stored
 pub mod StoredLemmas
 pub mod StoredRowLemmas
 pub mod Tables
+pub mod UniformRowLemmas
+pub mod WalkLemmas

@@ -1,7 +1,8 @@
 -- Symbol tables: what one step of a walk through the rows of a model gives, from either end.
 use Rattle.std.specs.Prelude.{◌≡◌, ℕ, List, [], ◌∷◌, ◌++◌, take, drop, Option, Some, None, Result, IfOk, IfErr}
-use Rattle.constriction.specs.Rows.{Row}
+use Rattle.constriction.specs.Rows.{Row, contiguous_rows}
 use Rattle.constriction.specs.Model.{row_of}
+use Rattle.constriction.specs.Stored.{lefts_in, weights_of}
 
 module _ {Symbol Word Weight Refusal : Type 0} (whole : Word → ℕ) (base : Weight → Word) (MayRefuse : Type 0) where
   -- the item stands for the row: it is the row, or where rows may be refused, a refusal in the row's place
@@ -22,3 +23,7 @@ module _ {Symbol Word Weight Refusal : Type 0} (whole : Word → ℕ) (base : We
 -- the rows from one index up to another
 abbrev pub rows_between : {Symbol : Type 0} → ℕ → ℕ → List (Row Symbol) → List (Row Symbol)
 rows_between from to rows = drop from (take to rows)
+
+-- the rows of a contiguous model with such a table, from one index up to another
+abbrev pub rows_stored : ℕ → List ℕ → ℕ → ℕ → List (Row ℕ)
+rows_stored precision table from to = rows_between from to (contiguous_rows (weights_of precision (lefts_in table)))

@@ -9,6 +9,7 @@
 #![tactic(auto)]
 
 pub mod backends;
+pub mod laws;
 pub mod stream;
 
 pub use constriction_words::{

@@ -9,11 +9,13 @@ mod quantile;
 mod reference;
 mod search;
 mod traits;
+mod uniform;
 
 pub use crate::stream::model::categorical::contiguous::{
     ContiguousCategoricalEntropyModel, DefaultContiguousCategoricalEntropyModel,
     SmallContiguousCategoricalEntropyModel,
 };
+pub use crate::stream::model::categorical::symbol_table::ContiguousSymbolTable;
 pub use crate::stream::model::cdf_probe::{Alone, CdfEntry, CdfProbe, WithSymbol};
 pub use crate::stream::model::encodes_over::EncodesOver;
 pub use crate::stream::model::error::ModelError;
@@ -23,3 +25,5 @@ pub use crate::stream::model::search::row_of_quantile;
 pub use crate::stream::model::traits::{
     DecoderModel, EncoderModel, EntropyModel, IterableEntropyModel, Weight,
 };
+pub use crate::stream::model::uniform::symbol_table::UniformSymbolTable;
+pub use crate::stream::model::uniform::{DefaultUniformModel, SmallUniformModel, UniformModel};

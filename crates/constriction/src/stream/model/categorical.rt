@@ -3,3 +3,4 @@
 pub mod contiguous;
 mod filling;
 mod stored;
+pub mod symbol_table;

@@ -1,7 +1,7 @@
 //! Models of the symbols 0, 1, .., which find the row of a quantile by a search.
 
 ghost use Rattle.std.specs.Prelude.{◌≡◌, ◌+◌, ◌^◌, ◌<◌, ◌≤◌, ℕ, length, map, nat_eq, IfOk, IfErr, IsOk, ⊤};
-ghost use Rattle.std.specs.Iterator.{IsFiniteIterable};
+ghost use Rattle.std.specs.Iterator.{IsFiniteIterable, UpTo, size};
 ghost use Rattle.constriction.specs.Acceptance.{completed, IsAccepted, GaveGood, GaveBad};
 ghost use Rattle.std.proofs.Common.{eq-eqb, refl};
 ghost use Rattle.constriction.specs.Model.{row_of, LiesWithin};
@@ -9,14 +9,18 @@ ghost use Rattle.constriction.specs.Probe.{TellsRows, IsRowIndexOf, IsSearchable
 ghost use Rattle.constriction.specs.Rows.{contiguous_rows, IsRowOf};
 ghost use Rattle.constriction.specs.Stored.{IsTable, lefts_in, weights_of};
 ghost use Rattle.constriction.specs.StoredRowLemmas.{stored-within, stored-tiles};
+ghost use Rattle.constriction.specs.Tables.{rows_stored};
 
 use crate::stream::model::categorical::filling::table_of;
 use crate::stream::model::categorical::stored::row_at;
+use crate::stream::model::categorical::symbol_table::ContiguousSymbolTable;
 use crate::stream::model::cdf_probe::{Alone, CdfProbe};
 use crate::stream::model::error::ModelError;
 use crate::stream::model::probe::Probe;
 use crate::stream::model::search::row_of_quantile;
-use crate::stream::model::traits::{DecoderModel, EncoderModel, EntropyModel, Weight};
+use crate::stream::model::traits::{
+    DecoderModel, EncoderModel, EntropyModel, IterableEntropyModel, Weight,
+};
 use constriction_backends::SafeBuf;
 use constriction_words::BitArray;
 use std::alloc::{AllocError, Global};
@@ -233,4 +237,47 @@ impl<Probability: BitArray, Cdf: SafeBuf<Probability>, const PRECISION: usize> D
     }
 
     ghost tile_law = { λ m. stored-tiles _ _ _ m.stored.stored };
+}
+
+impl<
+    'm,
+    Probability: BitArray + 'm,
+    Cdf: SafeBuf<Probability> + 'm,
+    const PRECISION: usize,
+> IterableEntropyModel<PRECISION>
+    for &'m ContiguousCategoricalEntropyModel<Probability, Cdf, PRECISION> {
+    type SymbolTable = ContiguousSymbolTable<'m, Probability, PRECISION>;
+
+    ghost clones_are_same = { ⊤ };
+
+    ghost may_refuse = { ⊥ };
+
+    ghost rows_left = { λ t. rows_stored PRECISION (map Probability.whole t.cdf.now) t.from t.to };
+
+    /// All rows in order, each once: symbol, left cumulative and weight. It takes no memory, and
+    /// every item is a row.
+    #[inline]
+    fn symbol_table(self) -> ContiguousSymbolTable<'m, Probability, PRECISION>
+        requires clones { ⊤ }
+        ensures all { ⟦<&'m ContiguousCategoricalEntropyModel<Probability, Cdf, PRECISION> as IterableEntropyModel<PRECISION>>⟧.rows_left result
+            ≡ ⟦<ContiguousCategoricalEntropyModel<Probability, Cdf, PRECISION> as EntropyModel<PRECISION>>⟧.rows self.now }
+        ensures callable { ⟦<ContiguousSymbolTable<'m, Probability, PRECISION> as Iterator>⟧.can_next result }
+        ensures ends { UpTo (⟦<ContiguousSymbolTable<'m, Probability, PRECISION> as Iterator>⟧.remaining result)
+            (length
+            (⟦<ContiguousCategoricalEntropyModel<Probability, Cdf, PRECISION> as EntropyModel<PRECISION>>⟧.rows self.now)) }
+        ensures counted { size (⟦<ContiguousSymbolTable<'m, Probability, PRECISION> as Iterator>⟧.remaining result)
+            ≡ length
+            (⟦<ContiguousCategoricalEntropyModel<Probability, Cdf, PRECISION> as EntropyModel<PRECISION>>⟧.rows self.now) }
+    {
+        let cdf = self.cdf.words();
+        ContiguousSymbolTable {
+            cdf,
+            from: 0,
+            to: cdf.len() - 1,
+        }
+    }
+
+    ghost steps_law = { λ _ t r u step. step };
+
+    ghost tile_law = { λ m. stored-tiles _ _ _ m.now.stored.stored };
 }

@@ -1,0 +1,67 @@
+-- Walking through rows, from either end.
+use Rattle.std.specs.Prelude.{take, drop}
+use Rattle.std.proofs.Common.{◌≡◌, ℕ, ◌+◌, ◌-◌, ◌<◌, ◌≤◌, List, [], ◌∷◌, ◌++◌, length, get_or, refl, ap, ◌∙◌, arith}
+use Rattle.std.proofs.lemmas.List.{length-drop, drop_all, drop_more, length-take, length-take-le, take_all, get_or-take, take_more}
+use Rattle.std.proofs.lemmas.List.{drop-append-le}
+use Rattle.constriction.specs.Rows.{Row, contiguous_rows}
+use Rattle.constriction.specs.Stored.{IsTable, lefts_in, weights_of}
+use Rattle.constriction.specs.StoredRowLemmas.{stored-at}
+use Rattle.constriction.specs.Tables.{rows_between, rows_stored}
+use Rattle.constriction.proofs.TableLemmas.{table-long, table-rows}
+
+module _ {Symbol : Type 0} (rows : List (Row Symbol)) where
+  -- all rows are left before the first step
+  pub all-between : (n : ℕ) → n ≡ length rows → rows_between 0 n rows ≡ rows
+  all-between n e = take_all n rows (omega arith)
+
+  -- none is left between an index and itself
+  pub none-between : (i : ℕ) → rows_between i i rows ≡ []
+  none-between i = drop_all i (take i rows) (let e = length-take i rows in omega arith)
+
+  -- as many rows as indices
+  pub length-between : (i j : ℕ) → j ≤ length rows → length (rows_between i j rows) ≡ j - i
+  length-between i j h = omega (arith, length-drop i (take j rows), length-take-le j rows h)
+
+  -- the first of the rows that are left
+  pub first-between : (i j : ℕ) (r : Row Symbol) → i < j → j ≤ length rows → get_or rows i r ≡ r
+      → rows_between i j rows ≡ r ∷ rows_between (i + 1) j rows
+  first-between i j r h k e =
+      let long : length (take j rows) ≡ j = length-take-le j rows k in
+      drop_more (take j rows) i r (omega arith)
+      ∙ ap (λ x. x ∷ drop (i + 1) (take j rows)) (get_or-take j rows i r h ∙ e)
+
+  -- the last of them
+  pub last-between : (i j : ℕ) (r : Row Symbol) → i ≤ j → j < length rows → get_or rows j r ≡ r
+      → rows_between i (j + 1) rows ≡ rows_between i j rows ++ r ∷ []
+  last-between i j r h k e =
+      let long : length (take j rows) ≡ j = length-take-le j rows (omega arith) in
+      ap (drop i) (take_more rows j r k)
+      ∙ drop-append-le i (take j rows) (get_or rows j r ∷ []) (omega arith)
+      ∙ ap (λ x. drop i (take j rows) ++ x ∷ []) e
+
+-- the same of the rows of a stored table
+module _ (bits precision : ℕ) (table : List ℕ) (t : IsTable bits precision table) where
+  pub length-stored : (i j : ℕ) → j < length table → length (rows_stored precision table i j) ≡ j - i
+  length-stored i j h =
+      length-between (contiguous_rows (weights_of precision (lefts_in table))) i j (omega (arith, table-rows bits precision table t))
+
+  here : (i l w : ℕ) → i + 1 < length table
+      → l ≡ get_or (lefts_in table) i 0 → w ≡ get_or (weights_of precision (lefts_in table)) i 0
+      → get_or (contiguous_rows (weights_of precision (lefts_in table))) i (record { symbol = i; left = l; weight = w })
+      ≡ record { symbol = i; left = l; weight = w }
+  here i l w h le we =
+      stored-at bits precision (lefts_in table) t.stored i _ (omega (arith, table-long bits precision table t)) ∙ rw (← le, ← we) refl
+
+  pub first-stored : (i j l w : ℕ) → i < j → j < length table
+      → l ≡ get_or (lefts_in table) i 0 → w ≡ get_or (weights_of precision (lefts_in table)) i 0
+      → rows_stored precision table i j ≡ record { symbol = i; left = l; weight = w } ∷ rows_stored precision table (i + 1) j
+  first-stored i j l w h k le we =
+      first-between (contiguous_rows (weights_of precision (lefts_in table))) i j _ h (omega (arith, table-rows bits precision table t))
+      (here i l w (omega arith) le we)
+
+  pub last-stored : (i j l w : ℕ) → i ≤ j → j + 1 < length table
+      → l ≡ get_or (lefts_in table) j 0 → w ≡ get_or (weights_of precision (lefts_in table)) j 0
+      → rows_stored precision table i (j + 1) ≡ rows_stored precision table i j ++ record { symbol = j; left = l; weight = w } ∷ []
+  last-stored i j l w h k le we =
+      last-between (contiguous_rows (weights_of precision (lefts_in table))) i j _ h (omega (arith, table-rows bits precision table t))
+      (here j l w k le we)

@@ -1,0 +1,8 @@
+use Rattle.constriction.specs.WalkLemmas.{gives-as-many}
+use Rattle.constriction.proofs.laws.table_length.Goals as goal
+
+pub returns : goal.returns
+returns g c =
+    gives-as-many g.M.Probability.BitArray.whole g.M.Probability.NonZero.NonZeroBitArray.base
+    g.M.IterableEntropyModel.may_refuse g.M.SymbolTable.Iterator.next_gives g.M.IterableEntropyModel.rows_left
+    (g.met.M.IterableEntropyModel.steps_law c.requires.clones)

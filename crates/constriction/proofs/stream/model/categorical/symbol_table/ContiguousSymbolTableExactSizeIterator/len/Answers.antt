@@ -1,0 +1,11 @@
+use Rattle.std.proofs.Common.{◌<◌, length, map, sym, arith}
+use Rattle.std.proofs.lemmas.List.{length-map}
+use Rattle.constriction.proofs.StepLemmas.{length-stored}
+use Rattle.constriction.proofs.stream.model.categorical.symbol_table.ContiguousSymbolTableExactSizeIterator.len.Goals as goal
+
+pub returns-clause-value : goal.returns-clause-value
+returns-clause-value g c =
+    let t = c.args.self.now in
+    let table = map g.Probability.BitArray.whole t.cdf.now in
+    let within : t.to < length table = omega (arith, t.in_bounds, length-map t.cdf.now g.Probability.BitArray.whole) in
+    sym (length-stored g.Probability.BitArray.BITS g.row.PRECISION table t.stored t.from t.to within)

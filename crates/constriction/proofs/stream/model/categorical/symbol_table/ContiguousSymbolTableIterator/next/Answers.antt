@@ -1,0 +1,21 @@
+use Rattle.std.proofs.Common.{◌<◌, length, map, ap, refl, arith}
+use Rattle.std.proofs.lemmas.List.{length-map}
+use Rattle.constriction.proofs.StepLemmas.{first-stored}
+use Rattle.constriction.proofs.stream.model.categorical.symbol_table.ContiguousSymbolTableIterator.next.Goals as goal
+
+pub returns-clause-steps : goal.returns-clause-steps
+returns-clause-steps g c =
+    let t = c.args.self.now in
+    let table = map g.Probability.BitArray.whole t.cdf.now in
+    let some : t.from < t.to = omega (arith, t.in_order, c.if-index-self.false) in
+    let within : t.to < length table = omega (arith, t.in_bounds, length-map t.cdf.now g.Probability.BitArray.whole) in (
+      _,
+      first-stored g.Probability.BitArray.BITS g.row.PRECISION table t.stored t.from t.to _ _ some within
+          c.row_at-left.ensures.left c.row_at-left.ensures.weight,
+      (refl, tt),
+    )
+
+pub returns-clause-goes : goal.returns-clause-goes
+returns-clause-goes g c =
+    let step = returns-clause-steps g c in
+    record { on = λ _. (tt, tt, omega (arith, ap length step.1)); keeps = tt; rests = λ _. tt }

@@ -1,0 +1,22 @@
+use Rattle.std.proofs.Common.{◌≡◌, ℕ, ◌+◌, ◌<◌, ◌≤◌, length, ap, refl, arith}
+use Rattle.constriction.specs.Rows.{uniform_rows}
+use Rattle.constriction.specs.UniformRowLemmas.{uniform-at, length-uniform_rows}
+use Rattle.constriction.proofs.StepLemmas.{first-between}
+use Rattle.constriction.proofs.stream.model.uniform.symbol_table.UniformSymbolTableIterator.next.Goals as goal
+
+pub returns-clause-steps : goal.returns-clause-steps
+returns-clause-steps g c =
+    let t = c.args.self.now in
+    let last : ℕ = g.Probability.BitArray.whole t.model.last_symbol in
+    let rows = uniform_rows g.row.PRECISION (last + 1) in
+    let row = c.row_words_of-left.ensures in
+    let many = length-uniform_rows g.row.PRECISION last in
+    let below : t.from < t.to = omega (arith, t.in_order, c.if-self.false) in
+    let within : t.to ≤ last + 1 = t.in_bounds in
+    let here = uniform-at g.row.PRECISION last t.model.within t.from _ _ _ c.from_number.ensures row.left row.weight _ (omega arith) in
+    (_, first-between rows t.from t.to _ below (omega arith) here, (refl, tt))
+
+pub returns-clause-goes : goal.returns-clause-goes
+returns-clause-goes g c =
+    let step = returns-clause-steps g c in
+    record { on = λ _. (tt, tt, omega (arith, ap length step.1)); keeps = tt; rests = λ _. tt }

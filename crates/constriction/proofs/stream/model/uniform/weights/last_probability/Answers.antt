@@ -1,0 +1,21 @@
+use Rattle.std.proofs.Common.{◌*◌, ap, ◌∙◌, arith}
+use Rattle.constriction.specs.UniformRowLemmas.{rest-positive}
+use Rattle.constriction.proofs.UniformLemmas.{bin-fits, rest-wrapped}
+use Rattle.constriction.proofs.stream.model.uniform.weights.last_probability.Goals as goal
+
+pub times-requires : goal.times-requires
+times-requires g c =
+    let fit = bin-fits _ g.row.PRECISION _ c.requires.fits c.requires.some c.requires.within in
+    rw c.requires.bin fit.1
+
+pub returns-clause-value : goal.returns-clause-value
+returns-clause-value g c =
+    let last = g.Word.WholeNumber.whole c.args.last_symbol in
+    let before = c.times.ensures ∙ ap (λ n. last * n) c.requires.bin in
+    rest-wrapped _ g.row.PRECISION last _ _ c.requires.fits c.requires.some c.requires.within before
+    c.wrapping_minus.ensures.range (c.wrapping_minus.ensures.difference ∙ c.wrapping_pow2.ensures)
+
+pub returns-clause-positive : goal.returns-clause-positive
+returns-clause-positive g c =
+    let value = returns-clause-value g c in
+    omega (arith, rest-positive g.row.PRECISION _ c.requires.within)

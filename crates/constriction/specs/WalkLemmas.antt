@@ -1,0 +1,148 @@
+-- Walks through a symbol table: what the items are that its steps give. No public clause cites this module.
+use Rattle.std.specs.Prelude.{◌≡◌, ℕ, ◌-◌, ◌*◌, ◌/◌, ◌^◌, ◌<◌, List, [], ◌∷◌, ◌++◌, length, map, replicate, Contains, Option, Some, None, Result, Ok, Err, IfOk}
+use Rattle.std.proofs.Common.{suc, zero, get_or, refl, ap, sym, subst, ◌∙◌, append-nil, arith}
+use Rattle.std.specs.Iterator.{Yields, Drains}
+use Rattle.std.specs.List.{AllZip}
+use Rattle.std.proofs.lemmas.List.{length-append, length-replicate}
+use Rattle.std.proofs.lemmas.Slice.Zip.{AllZip-long}
+use Rattle.constriction.specs.Rows.{Row, RowsTile, IsRowOf, uniform_weights}
+use Rattle.constriction.specs.Model.{row_of}
+use Rattle.constriction.specs.Tables.{StandsFor, YieldsRow}
+use Rattle.constriction.specs.CodingLemmas.{one-row}
+use Rattle.constriction.specs.StoredRowLemmas.{length-rows}
+use Rattle.constriction.specs.Laws.{AreRows, WalksRows, GivesAllRows, GivesAsMany, AnswersAreInTable, UniformRowsAreAsMany}
+
+-- where something relates two lists place by place, each element of one has a partner in the other
+partner : {X Y : Type 0} (R : X → Y → Type 0) (xs : List X) (ys : List Y) (k : ℕ) (y : Y) → AllZip R xs ys
+    → k < length ys → get_or ys k y ≡ y → (x : X) × Contains xs x × R x y
+partner R [] [] k y h l e = absurd (omega arith)
+partner R [] (z ∷ zs) k y h l e = absurd h
+partner R (x ∷ xs) [] k y h l e = absurd h
+partner R (x ∷ xs) (z ∷ zs) zero y h l e = (x, (0, omega arith, refl), subst (λ z. R x z) e h.0)
+partner R (x ∷ xs) (z ∷ zs) (suc k) y h l e =
+    let p = partner R xs zs k y h.1 (omega arith) e in
+    (p.0, (suc p.1.0, omega (arith, p.1.1), p.1.2), p.2)
+
+partner-back : {X Y : Type 0} (R : X → Y → Type 0) (xs : List X) (ys : List Y) (k : ℕ) (x : X) → AllZip R xs ys
+    → k < length xs → get_or xs k x ≡ x → (y : Y) × Contains ys y × R x y
+partner-back R [] ys k x h l e = absurd (omega arith)
+partner-back R (z ∷ zs) [] k x h l e = absurd h
+partner-back R (z ∷ zs) (y ∷ ys) zero x h l e = (y, (0, omega arith, refl), subst (λ z. R z y) e h.0)
+partner-back R (z ∷ zs) (y ∷ ys) (suc k) x h l e =
+    let p = partner-back R zs ys k x h.1 (omega arith) e in
+    (p.0, (suc p.1.0, omega (arith, p.1.1), p.1.2), p.2)
+
+-- two answers of one row are one, where words of one number are one
+pub one-answer : {Symbol Word Weight : Type 0} (whole : Word → ℕ) (base : Weight → Word)
+    → ((a b : Word) → whole a ≡ whole b → a ≡ b) → ((a b : Weight) → base a ≡ base b → a ≡ b)
+    → (y x : Symbol × Word × Weight) → row_of whole base y ≡ row_of whole base x → y ≡ x
+one-answer {Symbol = Symbol} whole base one_word one_weight y x e =
+    let symbol : y.0 ≡ x.0 = ap (λ (r : Row Symbol). r.symbol) e in
+    let left : y.1 ≡ x.1 = one_word y.1 x.1 (ap (λ (r : Row Symbol). r.left) e) in
+    let weight : y.2 ≡ x.2 = one_weight y.2 x.2 (one_word (base y.2) (base x.2) (ap (λ (r : Row Symbol). r.weight) e)) in
+    ap (λ s. (s, y.1, y.2)) symbol ∙ ap (λ l. (x.0, l, y.2)) left ∙ ap (λ w. (x.0, x.1, w)) weight
+
+module _ {Symbol Word Weight Refusal : Type 0} (whole : Word → ℕ) (base : Weight → Word) (MayRefuse : Type 0) where
+  -- items none of which is a refusal
+  unrefused-rows : (items : List (Result (Symbol × Word × Weight) Refusal)) (rows : List (Row Symbol))
+      → AllZip (StandsFor whole base MayRefuse) items rows → (xs : List (Symbol × Word × Weight)) → items ≡ map Ok xs
+      → map (row_of whole base) xs ≡ rows
+  unrefused-rows [] [] h [] e = refl
+  unrefused-rows [] (r ∷ rs) h xs e = absurd h
+  unrefused-rows (i ∷ is) rows h [] e = absurd (let long = ap length e in omega arith)
+  unrefused-rows [] [] h (x ∷ xs) e = absurd (let long = ap length e in omega arith)
+  unrefused-rows (i ∷ is) [] h (x ∷ xs) e = absurd h
+  unrefused-rows (Ok y ∷ is) (r ∷ rs) h (x ∷ xs) e =
+      let first : y ≡ x = cc in
+      let rest : is ≡ map Ok xs = cc in
+      ap (λ z. row_of whole base z ∷ map (row_of whole base) xs) (sym first)
+      ∙ ap (λ z. z ∷ map (row_of whole base) xs) h.0.0
+      ∙ ap (λ zs. r ∷ zs) (unrefused-rows is rs h.1 xs rest)
+  unrefused-rows (Err y ∷ is) (r ∷ rs) h (x ∷ xs) e = absurd (cc)
+
+  pub are-rows : (items : List (Result (Symbol × Word × Weight) Refusal)) (rows : List (Row Symbol))
+      → AllZip (StandsFor whole base MayRefuse) items rows → AreRows whole base MayRefuse items rows
+  are-rows items rows h = record {
+    stand = h;
+    unrefused = unrefused-rows items rows h;
+  }
+
+  -- where no row may be refused, no item is a refusal
+  pub never-refused : (MayRefuse → ⊥) → (items : List (Result (Symbol × Word × Weight) Refusal)) (rows : List (Row Symbol))
+      → AllZip (StandsFor whole base MayRefuse) items rows → (xs : List (Symbol × Word × Weight)) × (items ≡ map Ok xs)
+  never-refused never [] rows h = ([], refl)
+  never-refused never (i ∷ is) [] h = absurd h
+  never-refused never (Ok x ∷ is) (r ∷ rs) h =
+      let rest = never-refused never is rs h.1 in
+      (x ∷ rest.0, ap (λ (zs : List (Result (Symbol × Word × Weight) Refusal)). Ok x ∷ zs) rest.1)
+  never-refused never (Err e ∷ is) (r ∷ rs) h = absurd (never h.0.1)
+
+  is-answer : ((a b : Word) → whole a ≡ whole b → a ≡ b) → ((a b : Weight) → base a ≡ base b → a ≡ b)
+      → (x : Symbol × Word × Weight) (item : Result (Symbol × Word × Weight) Refusal)
+      → IfOk item (λ y. row_of whole base y ≡ row_of whole base x) → IfOk item (λ y. y ≡ x)
+  is-answer one_word one_weight x (Ok y) h = one-answer whole base one_word one_weight y x h
+  is-answer one_word one_weight x (Err e) h = tt
+
+  module _ {T : Type 0} (steps : T → Option (Result (Symbol × Word × Weight) Refusal) → T → Type 0)
+      (rows_left : T → List (Row Symbol))
+      (law : (t : T) (r : Option (Result (Symbol × Word × Weight) Refusal)) (u : T) → steps t r u
+      → YieldsRow whole base MayRefuse (rows_left t) r (rows_left u)) where
+    stand-for : (t : T) (items : List (Result (Symbol × Word × Weight) Refusal)) (u : T) → Yields steps t items u
+        → (rows : List (Row Symbol)) × (rows_left t ≡ rows ++ rows_left u)
+        × AllZip (StandsFor whole base MayRefuse) items rows
+    stand-for t [] u h = ([], ap rows_left h, tt)
+    stand-for t (x ∷ xs) u (j, step, rest) =
+        let one = law t (Some x) j step in
+        let more = stand-for j xs u rest in
+        (one.0 ∷ more.0, one.1 ∙ ap (λ zs. one.0 ∷ zs) more.1, (one.2, more.2))
+
+    pub walks-rows : WalksRows whole base MayRefuse steps rows_left
+    walks-rows t items u h =
+        let all = stand-for t items u h in
+        (all.0, all.1, are-rows items all.0 all.2)
+
+    drained : (t : T) (items : List (Result (Symbol × Word × Weight) Refusal)) → Drains steps t items
+        → AllZip (StandsFor whole base MayRefuse) items (rows_left t)
+    drained t items (u, (v, walk, end)) =
+        let all = stand-for t items v walk in
+        let none = law v None u end in
+        let is : all.0 ≡ rows_left t = sym (all.1 ∙ ap (λ zs. all.0 ++ zs) none.0 ∙ append-nil all.0) in
+        subst (λ (rows : List (Row Symbol)). AllZip (StandsFor whole base MayRefuse) items rows) is all.2
+
+    pub gives-all-rows : GivesAllRows whole base MayRefuse steps rows_left
+    gives-all-rows t items h = are-rows items (rows_left t) (drained t items h)
+
+    pub gives-as-many : GivesAsMany steps rows_left
+    gives-as-many t items h = sym (AllZip-long (StandsFor whole base MayRefuse) items (rows_left t) (drained t items h))
+
+    pub answers-are-in-table : {M : Type 0} (bits precision : ℕ) (rows : M → List (Row Symbol))
+        → ((m : M) → RowsTile bits precision (rows m)) → ((a b : Word) → whole a ≡ whole b → a ≡ b)
+        → ((a b : Weight) → base a ≡ base b → a ≡ b) → AnswersAreInTable whole base MayRefuse steps rows_left rows
+    answers-are-in-table bits precision rows tile one_word one_weight m t items q x e d found =
+        let all = subst (λ (rs : List (Row Symbol)). AllZip (StandsFor whole base MayRefuse) items rs) e (drained t items d) in
+        let among = found.among in
+        let p = partner (StandsFor whole base MayRefuse) items (rows m) among.0 (row_of whole base x) all among.1 among.2 in
+        record {
+          item = p.0;
+          among = p.1;
+          is = is-answer one_word one_weight x p.0 p.2.0;
+          refused = p.2.1;
+          alone = λ y given from to.
+              let r = partner-back (StandsFor whole base MayRefuse) items (rows m) given.0 (Ok y) all given.1 given.2 in
+              let is : row_of whole base y ≡ r.0 = r.2.0 in
+              let other : IsRowOf (rows m) q (row_of whole base y) = record {
+                among = subst (λ (z : Row Symbol). Contains (rows m) z) (sym is) r.1;
+                from = from;
+                to = to;
+              } in
+              one-answer whole base one_word one_weight y x
+              (one-row bits precision (rows m) q (row_of whole base y) (row_of whole base x) (tile m) other found);
+        }
+
+-- the number of uniform rows
+pub length-uniform_rows : UniformRowsAreAsMany
+length-uniform_rows precision n h =
+    let bin : ℕ = 2 ^ precision / n in
+    let last : List ℕ = (2 ^ precision - (n - 1) * bin) ∷ [] in
+    length-rows (uniform_weights precision n)
+    ∙ omega (arith, length-append (replicate (n - 1) bin) last, length-replicate (n - 1) bin)

@@ -1,0 +1,77 @@
+//! What follows from the contracts of models, each law the contract of a function. They hold of
+//! each model that meets the traits, those of the caller too.
+
+ghost use Rattle.constriction.specs.Laws.{WalksRows, GivesAllRows, GivesAsMany, AnswersAreInTable, UniformRowsAreAsMany};
+ghost use Rattle.constriction.specs.Laws.{PairsAreQuantiles, ContiguousSymbolsDiffer, EqualAnswers};
+
+use crate::stream::model::{DecoderModel, EncodesOver, EntropyModel, IterableEntropyModel};
+
+/// Steps of a symbol table give the first of the rows that it has yet to give, in order, and leave
+/// the others. Where memory for a clone of a symbol is refused, the refusal stands in the row's
+/// place.
+pub fn table_walks_rows<M: IterableEntropyModel<PRECISION>, const PRECISION: usize>()
+    requires clones { M.clones_are_same }
+    ensures { WalksRows M.Probability.whole M.Probability.NonZero.base M.may_refuse
+        M.SymbolTable.next_gives M.rows_left }
+{}
+
+/// A symbol table that is walked to its end gives all rows that were left, in order and each once:
+/// where it is fresh, those of its model. So a reader of tables has from it the model's rows, and
+/// where no item is a refusal nothing else.
+pub fn table_gives_all_rows<M: IterableEntropyModel<PRECISION>, const PRECISION: usize>()
+    requires clones { M.clones_are_same }
+    ensures { GivesAllRows M.Probability.whole M.Probability.NonZero.base M.may_refuse
+        M.SymbolTable.next_gives M.rows_left }
+{}
+
+/// It has as many items as rows were left, refusals counted. Where the model tells the number of its
+/// symbols, as by `support_size`, a fresh table has so many items.
+pub fn table_length<M: IterableEntropyModel<PRECISION>, const PRECISION: usize>()
+    requires clones { M.clones_are_same }
+    ensures { GivesAsMany M.SymbolTable.next_gives M.rows_left }
+{}
+
+/// A uniform model of `n` symbols has `n` rows, and so has its table.
+pub fn uniform_row_count()
+    ensures { UniformRowsAreAsMany }
+{}
+
+/// What [`DecoderModel::quantile_function`] answers for a quantile is in the model's symbol table,
+/// walked to its end: an item is this answer, or a refusal in its place, and no other item is a row
+/// that holds the quantile. So a decoder may look quantiles up in a table that was read before.
+pub fn answers_are_in_table<M, const PRECISION: usize>()
+where
+    M: DecoderModel<PRECISION> + IterableEntropyModel<PRECISION>,
+    requires clones { M.IterableEntropyModel.clones_are_same }
+    ensures { AnswersAreInTable M.Probability.whole M.Probability.NonZero.base M.IterableEntropyModel.may_refuse
+        M.SymbolTable.next_gives M.rows_left M.rows }
+{}
+
+/// Where no two symbols are equal, the symbols that have an entry, each with the offsets below its
+/// weight, and the quantiles below `2^PRECISION` correspond one to one: a coder that decodes a
+/// quantile to a symbol and an offset gets the quantile back when it encodes these, and the other
+/// way round. The encoder's entries are those of the decoder's rows.
+///
+/// Of the symbols' equality it asks that it is symmetric and transitive.
+pub fn pairs_are_quantiles<D, E, const PRECISION: usize>()
+where
+    D: DecoderModel<PRECISION>,
+    E: EncodesOver<D::Symbol, D::Probability, PRECISION>,
+    ensures { PairsAreQuantiles E.symbol_eq PRECISION D.rows E.rows }
+{}
+
+/// No two symbols of a contiguous model are equal, and so of a uniform one.
+pub fn contiguous_symbols_differ()
+    ensures { ContiguousSymbolsDiffer }
+{}
+
+/// Two decoder models of the same symbols and the same `PRECISION` have the same row for each
+/// quantile, and so answer alike, exactly where they have the same list of rows. So a model can be
+/// exchanged for another one where their tables are the same, and only there. The models may be over
+/// different words.
+pub fn equal_answers<M, N, const PRECISION: usize>()
+where
+    M: DecoderModel<PRECISION>,
+    N: DecoderModel<PRECISION> + EntropyModel<PRECISION, Symbol = M::Symbol>,
+    ensures { EqualAnswers PRECISION M.rows N.rows }
+{}

@@ -1,0 +1,172 @@
+//! What a caller has from the laws of models: over the contiguous model, and over a model of the
+//! caller with a table of its own.
+
+ghost use Rattle.std.specs.Prelude.{◌≡◌, ◌<◌, ◌≤◌, ◌^◌, ◌-◌, [], ◌∷◌, List, ⊤, nat_eq, length, map, drop, IfOk};
+ghost use Rattle.std.specs.Iterator.{at_most};
+ghost use Rattle.std.proofs.Common.{eq-eqb, refl, rules};
+ghost use Rattle.constriction.specs.Rows.{Row, rows_of};
+ghost use Rattle.constriction.specs.Model.{row_of};
+ghost use Rattle.constriction.specs.Tables.{YieldsRow};
+
+use crate::checks::same;
+use crate::models::contiguous::{Table, table};
+use constriction::laws::{
+    contiguous_symbols_differ, pairs_are_quantiles, table_gives_all_rows, table_length,
+};
+use constriction::stream::model::{
+    DecoderModel, EncoderModel, EntropyModel, IterableEntropyModel, Weight,
+};
+use constriction_words::{BitArray, NonZeroBitArray};
+use std::alloc::{AllocError, Global};
+use std::test::Fail;
+
+/// Decodes a quantile to a symbol and an offset, and encodes these: it comes back.
+fn back(model: &Table<6>, quantile: u8) -> u8
+    requires { quantile < 64 }
+    ensures { result ≡ quantile }
+{
+    contiguous_symbols_differ();
+    pairs_are_quantiles::<Table<6>, Table<6>, 6>();
+    let (symbol, left, _) = match model.quantile_function(quantile) {
+        Ok(row) => row,
+        Err(AllocError) => unreachable!(),
+    };
+    let offset = quantile - left;
+    match model.left_cumulative_and_probability(&symbol) {
+        Some((left, _)) => left + offset,
+        None => unreachable!(),
+    }
+}
+
+/// How many items a table has: as many as the model has rows.
+fn count<M, const PRECISION: usize>(model: M) -> usize
+where
+    M: IterableEntropyModel<PRECISION>,
+    M::Symbol: Drop,
+    requires clones { M.clones_are_same }
+    requires few { length (M.rows model) < 2 ^ 64 }
+    ensures { result ≡ length (M.rows model) }
+{
+    table_length::<M, PRECISION>();
+    model.symbol_table().count()
+}
+
+/// The rows of a model, as its table gives them.
+fn read_table<M, const PRECISION: usize>(
+    alloc: Global,
+    model: M,
+) -> Result<Vec<(M::Symbol, M::Probability, Weight<M::Probability>)>, AllocError>
+where
+    M: IterableEntropyModel<PRECISION>,
+    M::Symbol: Drop,
+    requires clones { M.clones_are_same }
+    ensures { IfOk result (λ rows. map (row_of M.Probability.whole M.Probability.NonZero.base) rows.items ≡ M.rows model) }
+{
+    table_gives_all_rows::<M, PRECISION>();
+    let mut rows = Vec::new(alloc);
+    for item in model.symbol_table() {
+        rows.push(item?)?;
+    }
+    Ok(rows)
+}
+
+/// A model of the caller: `a` at 0, `b` at 1 and 2, `c` at 3.
+#[derive(Clone, Copy)]
+struct ThreeLetters;
+
+impl EntropyModel<2> for ThreeLetters {
+    type Symbol = u8;
+
+    type Probability = u8;
+
+    ghost rows = { λ _. rows_of (97 ∷ 98 ∷ 99 ∷ []) (1 ∷ 2 ∷ 1 ∷ []) };
+}
+
+impl DecoderModel<2> for ThreeLetters {
+    ghost clones_are_same = { ⊤ };
+
+    ghost may_refuse = { ⊥ };
+
+    fn quantile_function(&self, quantile: u8) -> Result<(u8, u8, Weight<u8>), AllocError> {
+        match quantile {
+            0 => Ok((b'a', 0, 1u8.into_nonzero_unchecked())),
+            1 | 2 => Ok((b'b', 1, 2u8.into_nonzero_unchecked())),
+            _ => Ok((b'c', 3, 1u8.into_nonzero_unchecked())),
+        }
+    }
+
+    ghost tile_law = { λ _. Prim.search rules };
+}
+
+/// The walk through its rows.
+#[derive(Drop)]
+struct ThreeLetterTable {
+    next: u8,
+    ghost within: { next ≤ 3 },
+}
+
+impl Iterator for ThreeLetterTable {
+    type Item = Result<(u8, u8, Weight<u8>), AllocError>;
+
+    ghost next_gives = { λ t r u. YieldsRow ⟦<u8 as BitArray>⟧.whole ⟦<Weight<u8> as NonZeroBitArray>⟧.base ⊥
+        (drop t.next (rows_of (97 ∷ 98 ∷ 99 ∷ []) (1 ∷ 2 ∷ 1 ∷ []))) r
+        (drop u.next (rows_of (97 ∷ 98 ∷ 99 ∷ []) (1 ∷ 2 ∷ 1 ∷ []))) };
+
+    ghost remaining = { λ t. at_most (3 - t.next) };
+
+    fn next(&mut self) -> Option<Result<(u8, u8, Weight<u8>), AllocError>> {
+        let row = match self.next {
+            0 => (b'a', 0, 1u8.into_nonzero_unchecked()),
+            1 => (b'b', 1, 2u8.into_nonzero_unchecked()),
+            2 => (b'c', 3, 1u8.into_nonzero_unchecked()),
+            _ => return None,
+        };
+        self.next += 1;
+        Some(Ok(row))
+    }
+}
+
+impl IterableEntropyModel<2> for ThreeLetters {
+    type SymbolTable = ThreeLetterTable;
+
+    ghost clones_are_same = { ⊤ };
+
+    ghost may_refuse = { ⊥ };
+
+    ghost rows_left = { λ t. drop t.next (rows_of (97 ∷ 98 ∷ 99 ∷ []) (1 ∷ 2 ∷ 1 ∷ [])) };
+
+    fn symbol_table(self) -> ThreeLetterTable {
+        ThreeLetterTable { next: 0 }
+    }
+
+    ghost steps_law = { λ _ t r u h. h };
+
+    ghost tile_law = { λ _. Prim.search rules };
+}
+
+/// Its table has three items.
+fn count_letters() -> usize
+    ensures { result ≡ 3 }
+{
+    count(ThreeLetters)
+}
+
+#[test]
+fn quantiles_come_back_from_symbols_and_offsets(rt: HostRuntime) -> Result<(), Fail> {
+    let model = table::<6>(rt.alloc(), &[3, 18, 1, 42], false)?;
+    for quantile in 0..64u8 {
+        same(&rt, back(&model, quantile), quantile);
+    }
+    Ok(())
+}
+
+#[test]
+fn a_table_of_the_caller_is_read(rt: HostRuntime) -> Result<(), Fail> {
+    same(&rt, count_letters(), 3);
+    let rows = read_table(rt.alloc(), ThreeLetters)?;
+    let one = 1u8.into_nonzero_unchecked();
+    let two = 2u8.into_nonzero_unchecked();
+    let expected = [(b'a', 0, one), (b'b', 1, two), (b'c', 3, one)];
+    same(&rt, rows.as_slice(), expected.as_slice());
+    Ok(())
+}

@@ -1,0 +1,176 @@
+//! Uniform models, over worked ranges.
+
+ghost use Rattle.std.specs.Prelude.{◌^◌, ◌<◌, ◌≤◌};
+
+use crate::checks::{same, same_at};
+use constriction::stream::model::{
+    DecoderModel, DefaultUniformModel, EncoderModel, IterableEntropyModel, SmallUniformModel,
+    UniformModel, Weight,
+};
+use constriction_words::{BitArray, NonZeroBitArray};
+use std::alloc::AllocError;
+use std::test::Fail;
+
+/// A row, as tests write it down.
+type Row<Word> = (usize, Word, Word);
+
+/// A row of an answer, with its weight as a plain word.
+fn plain<Word: BitArray>(
+    answer: Result<(usize, Word, Weight<Word>), AllocError>,
+) -> Option<Row<Word>> {
+    let (symbol, left, weight) = answer.ok()?;
+    Some((symbol, left, weight.get()))
+}
+
+/// The row of a quantile.
+fn row<Word: BitArray, const PRECISION: usize>(
+    model: UniformModel<Word, PRECISION>,
+    quantile: Word,
+) -> Option<Row<Word>>
+    requires { Word.whole quantile < 2 ^ PRECISION }
+{
+    plain(model.quantile_function(quantile))
+}
+
+/// The left cumulative and the weight of a symbol.
+fn entry<Word: BitArray, const PRECISION: usize>(
+    model: UniformModel<Word, PRECISION>,
+    symbol: usize,
+) -> Option<(Word, Word)> {
+    let (left, weight) = model.left_cumulative_and_probability(&symbol)?;
+    Some((left, weight.get()))
+}
+
+#[test]
+fn five_symbols_over_12_bits(rt: HostRuntime) {
+    let model = SmallUniformModel::new(5);
+    for (quantile, found) in [
+        (0u16, (0, 0, 819)),
+        (818, (0, 0, 819)),
+        (819, (1, 819, 819)),
+        (3275, (3, 2457, 819)),
+        (3276, (4, 3276, 820)),
+        (4095, (4, 3276, 820)),
+    ] {
+        assert!(rt; quantile < 4096);
+        same_at(&rt, quantile, row(model, quantile), Some(found));
+    }
+    for (symbol, found) in [
+        (0, Some((0, 819))),
+        (4, Some((3276, 820))),
+        (5, None),
+        (65537, None),
+        (usize::MAX, None),
+    ] {
+        same_at(&rt, symbol, entry(model, symbol), found);
+    }
+    let of_ten = DefaultUniformModel::new(10);
+    same(&rt, entry(of_ten, 9), Some((15099489, 1677727)));
+}
+
+#[test]
+fn ranges_at_the_full_width_of_u8_and_at_one_bit(rt: HostRuntime) {
+    let three = UniformModel::<u8, 8>::new(3);
+    for (quantile, found) in [(0, (0, 0, 85)), (169, (1, 85, 85)), (255, (2, 170, 86))] {
+        same_at(&rt, quantile, row(three, quantile), Some(found));
+    }
+    let two = UniformModel::<u8, 8>::new(2);
+    same(&rt, row(two, 255), Some((1, 128, 128)));
+    let all = UniformModel::<u8, 8>::new(256);
+    for symbol in 0..=255u8 {
+        let index = usize::from(symbol);
+        same_at(&rt, symbol, row(all, symbol), Some((index, symbol, 1)));
+        same_at(&rt, symbol, entry(all, index), Some((symbol, 1)));
+    }
+    same(&rt, entry(all, 256), None);
+    let halves = UniformModel::<u8, 1>::new(2);
+    same(
+        &rt,
+        (row(halves, 0), row(halves, 1)),
+        (Some((0, 0, 1)), Some((1, 1, 1))),
+    );
+}
+
+#[test]
+fn ranges_of_wide_words(rt: HostRuntime) {
+    let all = UniformModel::<u16, 16>::new(65536);
+    same(&rt, row(all, 65535), Some((65535, 65535, 1)));
+    same(&rt, (entry(all, 65536), entry(all, 65537)), (None, None));
+    let three = UniformModel::<u64, 64>::new(3);
+    same(
+        &rt,
+        (entry(three, 1), entry(three, 2)),
+        (
+            Some((6148914691236517205, 6148914691236517205)),
+            Some((12297829382473034410, 6148914691236517206)),
+        ),
+    );
+    let most = UniformModel::<u128, 64>::new(usize::MAX);
+    same(
+        &rt,
+        row(most, 18446744073709551615),
+        Some((18446744073709551614, 18446744073709551614, 2)),
+    );
+    same(&rt, entry(most, usize::MAX), None);
+}
+
+#[test]
+fn a_table_is_walked_from_both_ends(rt: HostRuntime) {
+    let mut five = SmallUniformModel::new(5).symbol_table();
+    same(&rt, five.len(), 5);
+    same(&rt, five.next_back().and_then(plain), Some((4, 3276, 820)));
+    same(&rt, five.next_back().and_then(plain), Some((3, 2457, 819)));
+    same(&rt, five.next().and_then(plain), Some((0, 0, 819)));
+    same(&rt, (five.len(), five.size_hint()), (2, (2, Some(2))));
+    same(&rt, five.next().and_then(plain), Some((1, 819, 819)));
+    same(&rt, five.next_back().and_then(plain), Some((2, 1638, 819)));
+    same(&rt, five.next().and_then(plain), None);
+    same(&rt, five.next_back().and_then(plain), None);
+    let mut most = UniformModel::<u128, 64>::new(usize::MAX).symbol_table();
+    same(
+        &rt,
+        (
+            most.next_back().and_then(plain),
+            most.next_back().and_then(plain),
+        ),
+        (
+            Some((18446744073709551614, 18446744073709551614, 2)),
+            Some((18446744073709551613, 18446744073709551613, 1)),
+        ),
+    );
+    same(&rt, most.next().and_then(plain), Some((0, 0, 1)));
+}
+
+#[test]
+fn a_model_is_copied_and_its_references_have_tables(rt: HostRuntime) -> Result<(), Fail> {
+    let model = UniformModel::<u8, 6>::new(7);
+    let copy = model;
+    let clone = model.clone()?;
+    same(
+        &rt,
+        (row(copy, 63), row(clone, 63)),
+        (row(model, 63), Some((6, 54, 10))),
+    );
+    let by_reference = &model;
+    let rows = by_reference
+        .symbol_table()
+        .zip((&by_reference).symbol_table());
+    let mut left = 0u8;
+    let mut symbol = 0usize;
+    for (one, other) in rows {
+        let (found, begin, weight) = one?;
+        same_at(&rt, symbol, (found, begin), (symbol, left));
+        same_at(
+            &rt,
+            symbol,
+            plain(other),
+            Some((found, begin, weight.get())),
+        );
+        left = left.wrapping_add(weight.get());
+        symbol = symbol.wrapping_add(1);
+    }
+    same(&rt, (symbol, left), (7, 64));
+    let text = format!(in rt.alloc(); "{model:?}")?;
+    same(&rt, text.contains("UniformModel"), true);
+    Ok(())
+}
