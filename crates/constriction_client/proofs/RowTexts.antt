@@ -1,15 +1,12 @@
 -- How the rows of a model are found and printed.
-use Rattle.std.proofs.Common.{suc, zero, refl, subst, ◌≡◌, ℕ, ◌+◌, ◌/◌, ◌^◌, ◌<◌, ◌≤◌, Bool, true, false, ◌&&◌, cond, List, [], ◌∷◌, ◌++◌, Option, Some, None, ap, sym, ◌∙◌, length, get_or, take, drop, sum, arith, nat_eq, nat_le, nat_lt, find, append_assoc, append-nil, add-one, drop-cons, map, IsSome, inl, inr, ◌↔◌}
+use Rattle.std.proofs.Common.{suc, zero, refl, subst, ◌≡◌, ℕ, ◌+◌, ◌/◌, ◌^◌, ◌<◌, ◌≤◌, Bool, true, false, ◌&&◌, cond, List, [], ◌∷◌, Option, Some, None, ap, sym, ◌∙◌, length, get_or, sum, arith, nat_le, nat_lt, find, map, IsSome, inl, inr, ◌↔◌}
 use Rattle.std.proofs.Math.Nat.{div-lt_iff_lt-mul}
 use Rattle.std.proofs.Math.Pow.{pow_pos}
 use Rattle.std.proofs.lemmas.Bool.{ltb-true, leb-true, lt-ltb, le-leb, cases_lt}
 use Rattle.std.proofs.lemmas.List.{length-map}
 use Rattle.std.proofs.lemmas.List.Sums.{sum_by-cons}
-use Rattle.std.proofs.lemmas.List.Concat.{flat_map-cons}
-use Rattle.std.proofs.lemmas.List.FromFn.{length-range_with_len, get_or-range_with_len}
-use Rattle.constriction.specs.Rows.{Row, RowsTile, IsRowOf, contiguous_rows, entry_of, indices, rows_from}
-use Rattle.constriction.specs.RowLemmas.{length-rows_from, rows_from-at, contiguous-at}
-use Rattle.constriction_client.specs.Text.{holds, row_text, rows_text, quantile_text}
+use Rattle.constriction.specs.Rows.{Row, RowsTile, IsRowOf, rows_from}
+use Rattle.constriction_client.specs.Text.{holds, row_text, quantile_text}
 
 none_is_some : {A : Type 0} (x : A) → None ≡ Some x → ⊥
 none_is_some x e = cc
