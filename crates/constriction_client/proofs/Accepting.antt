@@ -1,5 +1,5 @@
 -- Which weights are accepted, and that a model of narrowed weights is a model of the weights.
-use Rattle.std.proofs.Common.{refl, subst, ◌≡◌, ℕ, ◌^◌, ◌<◌, ◌≤◌, Bool, true, false, ◌&&◌, cond, eqb, List, [], ◌∷◌, ◌++◌, Option, Some, None, Result, Ok, Err, ap, sym, ◌∙◌, length, get_or, take, drop, map, sum, arith, nat_lt, All, inl, inr, take-append-drop}
+use Rattle.std.proofs.Common.{refl, subst, ◌≡◌, ℕ, ◌-◌, ◌^◌, ◌<◌, ◌≤◌, Bool, true, false, ◌&&◌, cond, eqb, List, [], ◌∷◌, ◌++◌, Option, Some, None, Result, Ok, Err, ap, sym, ◌∙◌, length, get_or, take, drop, map, sum, arith, nat_lt, All, inl, inr, take-append-drop}
 use Rattle.std.specs.List.{list_all}
 use Rattle.std.specs.Iterator.{Drains}
 use Rattle.std.specs.Prelude.{IfOk, IfSome, IfNone}
@@ -7,10 +7,11 @@ use Rattle.std.proofs.Math.Nat.{pow-le-pow_right}
 use Rattle.std.proofs.lemmas.Bool.{ltb-true, lt-ltb, eqb-true, eq-eqb}
 use Rattle.std.proofs.lemmas.Iterator.{YieldsList}
 use Rattle.std.proofs.lemmas.Iterator.Consumers.{YieldsList-at, YieldsList-so_far, YieldsList-end}
+use Rattle.std.proofs.Math.Seq.{take-append_seam}
 use Rattle.std.proofs.lemmas.List.{map-append}
-use Rattle.std.proofs.lemmas.List.Elements.{All-head, All-tail, All-drop}
+use Rattle.std.proofs.lemmas.List.Elements.{All-head, All-tail, All-drop, All-take}
 use Rattle.std.proofs.lemmas.List.Sums.{AllPass-from_list_all, list_all-from_AllPass}
-use Rattle.constriction.specs.Acceptance.{IsAccepted, GaveGood, GaveBad}
+use Rattle.constriction.specs.Acceptance.{IsAccepted, GaveGood, GaveBad, completed}
 use Rattle.constriction_client.specs.NumberWords.{narrowed_to}
 use Rattle.constriction_client.specs.Text.{are_accepted}
 
@@ -93,50 +94,67 @@ words_for whole word_of bits law (n ∷ ns) h =
     ap (λ x. x ∷ map whole (map word_of ns)) (law n (All-head (λ n. n < 2 ^ bits) n ns h))
     ∙ ap (λ xs. n ∷ xs) (words_for whole word_of bits law ns (All-tail (λ n. n < 2 ^ bits) n ns h))
 
+-- what holds of completed weights holds of the given ones
+given_hold : (P : ℕ → Type 0) (precision : ℕ) (infer : Bool) (weights : List ℕ) → All P (completed precision infer weights)
+    → All P weights
+given_hold P precision true weights h =
+    subst (All P) (take-append_seam weights _) (All-take P (length weights) (weights ++ (2 ^ precision - sum weights) ∷ []) h)
+given_hold P precision false weights h = h
+
 -- ---- what an iterator of narrowed weights gave
 
 module _ {S Word : Type 0} (steps : S → Option Word → S → Type 0) (it : S) (whole : Word → ℕ) (bits precision : ℕ)
-    (weights : List ℕ) where
+    (infer : Bool) (weights : List ℕ) where
+  -- the numbers, completed, are accepted
+  abbrev Good : List ℕ → Type 0
+  Good numbers = IsAccepted bits precision (completed precision infer numbers)
+
   -- all of it is the narrowed weights
   given_all : (xs : List Word) → YieldsList steps whole it (map (narrowed_to bits) weights) → Drains steps it xs
       → map whole xs ≡ map (narrowed_to bits) weights
   given_all xs gives d = (YieldsList-end gives xs d.1.0 d.1.1 None d.0 refl d.1.2).0
 
   -- good ones are accepted weights
-  pub made_of : (rows : List ℕ → Type 0) → GaveGood steps it (λ xs. IsAccepted bits precision (map whole xs) × rows (map whole xs))
-      → YieldsList steps whole it (map (narrowed_to bits) weights) → (are_accepted bits precision weights ≡ true) × rows weights
+  pub made_of : (rows : List ℕ → Type 0)
+      → GaveGood steps it (λ xs. IsAccepted bits precision (completed precision infer (map whole xs))
+      × rows (completed precision infer (map whole xs)))
+      → YieldsList steps whole it (map (narrowed_to bits) weights)
+      → (are_accepted bits precision (completed precision infer weights) ≡ true) × rows (completed precision infer weights)
   made_of rows h gives =
       let given = given_all h.0 gives h.1 in
-      let P : List ℕ → Type 0 = λ numbers. IsAccepted bits precision numbers × rows numbers in
+      let P : List ℕ → Type 0 = λ numbers. Good numbers × rows (completed precision infer numbers) in
       let narrow : P (map (narrowed_to bits) weights) = subst P given h.2 in
-      let whole_weights : P weights = subst P (all_positive bits weights narrow.0.tiles.positive) narrow in
-      (are_accepted-from bits precision weights whole_weights.0, whole_weights.1)
+      let positive = given_hold (λ w. 0 < w) precision infer (map (narrowed_to bits) weights) narrow.0.tiles.positive in
+      let whole_weights : P weights = subst P (all_positive bits weights positive) narrow in
+      (are_accepted-from bits precision (completed precision infer weights) whole_weights.0, whole_weights.1)
 
   -- bad ones are not accepted
   pub refused_of : (word_of : ℕ → Word) → ((n : ℕ) → n < 2 ^ bits → whole (word_of n) ≡ n)
-      → GaveBad steps it (λ xs. IsAccepted bits precision (map whole xs)) → YieldsList steps whole it (map (narrowed_to bits) weights)
-      → are_accepted bits precision weights ≡ false
+      → GaveBad steps it (λ xs. IsAccepted bits precision (completed precision infer (map whole xs)))
+      → YieldsList steps whole it (map (narrowed_to bits) weights)
+      → are_accepted bits precision (completed precision infer weights) ≡ false
   refused_of word_of law h gives =
-      not_true (are_accepted bits precision weights) (λ e.
-      let accepted = are_accepted-to bits precision weights e in
-      let same = all_words bits weights accepted.fit in
+      not_true (are_accepted bits precision (completed precision infer weights)) (λ e.
+      let accepted : Good weights = are_accepted-to bits precision (completed precision infer weights) e in
+      let fit = given_hold (λ w. w < 2 ^ bits) precision infer weights accepted.fit in
+      let same = all_words bits weights fit in
       elim h [
-        | inl all ↦ all.2 (subst (IsAccepted bits precision) (sym (given_all all.0 gives all.1 ∙ same)) accepted)
+        | inl all ↦ all.2 (subst Good (sym (given_all all.0 gives all.1 ∙ same)) accepted)
         | inr some ↦
             let n = length some.0 in
             let front : map whole some.0 ≡ take n weights = YieldsList-so_far gives some.0 some.1 some.2 ∙ ap (take n) same in
             let back : map whole (map word_of (drop n weights)) ≡ drop n weights =
-            words_for whole word_of bits law (drop n weights) (All-drop (λ w. w < 2 ^ bits) n weights accepted.fit) in
+            words_for whole word_of bits law (drop n weights) (All-drop (λ w. w < 2 ^ bits) n weights fit) in
             let whole_list : map whole (some.0 ++ map word_of (drop n weights)) ≡ weights =
             map-append whole some.0 (map word_of (drop n weights)) ∙ ap (λ xs. xs ++ map whole (map word_of (drop n weights))) front
             ∙ ap (λ xs. take n weights ++ xs) back ∙ take-append-drop n weights in
-            some.3 (map word_of (drop n weights)) (subst (IsAccepted bits precision) (sym whole_list) accepted)
+            some.3 (map word_of (drop n weights)) (subst Good (sym whole_list) accepted)
       ])
 
 -- ---- what was made of such an iterator, of which only what it came from is known
 
 module _ {S Word : Type 0} (steps : S → Option Word → S → Type 0) (came : S → Type 0) (whole : Word → ℕ)
-    (bits precision : ℕ) (weights : List ℕ) where
+    (bits precision : ℕ) (infer : Bool) (weights : List ℕ) where
   -- it came from one iterator, which gives the narrowed weights
   pub record GivesNarrowed : Type 0 where
     pub start : S
@@ -145,11 +163,13 @@ module _ {S Word : Type 0} (steps : S → Option Word → S → Type 0) (came : 
 
   pub found_made : {Model Error : Type 0} (result : Result (Option Model) Error) (rows : Model → List ℕ → Type 0)
       → IfOk result (λ found. IfSome found (λ model. (it : S) × came it
-      × GaveGood steps it (λ xs. IsAccepted bits precision (map whole xs) × rows model (map whole xs))))
+      × GaveGood steps it (λ xs. IsAccepted bits precision (completed precision infer (map whole xs))
+      × rows model (completed precision infer (map whole xs)))))
       → GivesNarrowed
-      → IfOk result (λ found. IfSome found (λ model. (are_accepted bits precision weights ≡ true) × rows model weights))
+      → IfOk result (λ found. IfSome found (λ model.
+      (are_accepted bits precision (completed precision infer weights) ≡ true) × rows model (completed precision infer weights)))
   found_made (Ok (Some model)) rows h gives =
-      made_of steps h.0 whole bits precision weights (rows model) h.2
+      made_of steps h.0 whole bits precision infer weights (rows model) h.2
       (YieldsList-at (gives.alone h.0 h.1) gives.narrowed)
   found_made (Ok None) rows h gives = tt
   found_made (Err error) rows h gives = tt
@@ -157,11 +177,12 @@ module _ {S Word : Type 0} (steps : S → Option Word → S → Type 0) (came : 
   pub found_refused : {Model Error : Type 0} (result : Result (Option Model) Error) (word_of : ℕ → Word)
       → ((n : ℕ) → n < 2 ^ bits → whole (word_of n) ≡ n)
       → IfOk result (λ found. IfNone found ((it : S) × came it
-      × GaveBad steps it (λ xs. IsAccepted bits precision (map whole xs))))
-      → GivesNarrowed → IfOk result (λ found. IfNone found (are_accepted bits precision weights ≡ false))
+      × GaveBad steps it (λ xs. IsAccepted bits precision (completed precision infer (map whole xs)))))
+      → GivesNarrowed
+      → IfOk result (λ found. IfNone found (are_accepted bits precision (completed precision infer weights) ≡ false))
   found_refused (Ok (Some model)) word_of law h gives = tt
   found_refused (Ok None) word_of law h gives =
-      refused_of steps h.0 whole bits precision weights word_of law h.2
+      refused_of steps h.0 whole bits precision infer weights word_of law h.2
       (YieldsList-at (gives.alone h.0 h.1) gives.narrowed)
   found_refused (Err error) word_of law h gives = tt
 

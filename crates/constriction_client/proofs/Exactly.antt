@@ -13,8 +13,9 @@ use Rattle.std.specs.Str.{all_ascii_digits, bytes_eq}
 use Rattle.std.specs.Str.Parse.{AllDigits, digits_value}
 use Rattle.constriction_client.specs.declared.line.Command.{Command}
 use Rattle.constriction_client.specs.declared.line.Form.{Form}
-use Rattle.constriction_client.specs.declared.line.Form.TheVariants.{U8Precision6}
-use Rattle.constriction_client.specs.Grammar.{Request, table, quantile, symbol, keyword, form_of, form_word, numbers_of, IsNumber, Spells}
+use Rattle.constriction_client.specs.declared.line.Form.TheVariants.{U8Precision6, U8Precision8, U16Precision12}
+use Rattle.constriction_client.specs.Grammar.{Request, table, infer, quantile, symbol, uniform, keyword, form_of, form_word, numbers_of, IsNumber, Spells}
+use Rattle.constriction_client.specs.Parts.{only_number}
 use Rattle.constriction_client.specs.Reading.{forms, requests_of, read_number, read_numbers, read_form, read_request, read_words, read_line, view, ◌>>=◌}
 use Rattle.constriction_client.proofs.Numbers.{read_number-some}
 
@@ -105,6 +106,8 @@ numbers_read (word ∷ words) (n ∷ ns) h = rw (number_read word n h.0, numbers
 form_read : (form : Form) → read_form (form_word form) ≡ Some form
 unfolding read_form
 form_read U8Precision6 = refl
+form_read U8Precision8 = refl
+form_read U16Precision12 = refl
 
 form_spelled : (word : List ℕ) (form : Form) → read_form word ≡ Some form → word ≡ form_word form
 unfolding read_form
@@ -112,27 +115,51 @@ form_spelled word form e = same_text word (form_word form) (sym (found_passes (�
 
 request_read : (request : Request) → read_request (keyword request) (form_of request) (numbers_of request) ≡ Some request
 unfolding read_request
-request_read (table form []) = refl
-request_read (table form (w ∷ ws)) = refl
+request_read (table form ws) = refl
+request_read (infer form ws) = refl
 request_read (quantile form q ws) = refl
 request_read (symbol form s ws) = refl
+request_read (uniform form n) = refl
 
 -- a word that is no keyword
 pub no_request : (word : List ℕ) (form : Form) (numbers : Option (List ℕ)) → bytes_eq word (codes "table") ≡ false
+    → bytes_eq word (codes "infer") ≡ false
     → bytes_eq word (codes "quantile") ≡ false
-    → bytes_eq word (codes "symbol") ≡ false → None ≡ (numbers >>= read_request word form)
+    → bytes_eq word (codes "symbol") ≡ false
+    → bytes_eq word (codes "uniform") ≡ false → None ≡ (numbers >>= read_request word form)
 unfolding read_request
-no_request word form None no_table no_quantile no_symbol = refl
-no_request word form (Some []) no_table no_quantile no_symbol = rw no_table refl
-no_request word form (Some (n ∷ ns)) no_table no_quantile no_symbol = rw (no_table, no_quantile, no_symbol) refl
+no_request word form None no_table no_infer no_quantile no_symbol no_uniform = refl
+no_request word form (Some []) no_table no_infer no_quantile no_symbol no_uniform = rw (no_table, no_infer) refl
+no_request word form (Some (n ∷ [])) no_table no_infer no_quantile no_symbol no_uniform =
+    rw (no_table, no_infer, no_quantile, no_symbol, no_uniform) refl
+no_request word form (Some (n ∷ m ∷ ns)) no_table no_infer no_quantile no_symbol no_uniform =
+    rw (no_table, no_infer, no_quantile, no_symbol) refl
+
+-- the request for a uniform model, from one number alone
+uniform_request : (form : Form) (numbers : Option (List ℕ))
+    → (numbers >>= read_request (codes "uniform") form) ≡ option_map (uniform form) (numbers >>= only_number)
+unfolding read_request
+uniform_request form None = refl
+uniform_request form (Some []) = refl
+uniform_request form (Some (n ∷ [])) = refl
+uniform_request form (Some (n ∷ m ∷ ns)) = refl
+
+-- the keyword of that request
+pub uniform_read : (word : List ℕ) (form : Form) (numbers : Option (List ℕ)) (range : Option ℕ)
+    → bytes_eq word (codes "uniform") ≡ true → range ≡ (numbers >>= only_number)
+    → option_map (uniform form) range ≡ (numbers >>= read_request word form)
+uniform_read word form numbers range is alone =
+    ap (option_map (uniform form)) alone ∙ sym (uniform_request form numbers)
+    ∙ ap (λ w. numbers >>= read_request w form) (sym (same_text word (codes "uniform") (sym is)))
 
 -- the request has the form and the numbers
 abbrev IsOf : Form → List ℕ → Request → Type 0
 IsOf form numbers request = (form ≡ form_of request) × (numbers ≡ numbers_of request)
 
 all_are_of : (form : Form) (numbers : List ℕ) → AllByRecursion (IsOf form numbers) (requests_of form numbers)
-all_are_of form [] = ((refl, refl), tt)
-all_are_of form (n ∷ ns) = ((refl, refl), ((refl, refl), ((refl, refl), tt)))
+all_are_of form [] = ((refl, refl), ((refl, refl), tt))
+all_are_of form (n ∷ []) = ((refl, refl), ((refl, refl), ((refl, refl), ((refl, refl), ((refl, refl), tt)))))
+all_are_of form (n ∷ m ∷ ns) = ((refl, refl), ((refl, refl), ((refl, refl), ((refl, refl), tt))))
 
 request_keyword : (word : List ℕ) (form : Form) (numbers : List ℕ) (request : Request)
     → read_request word form numbers ≡ Some request → word ≡ keyword request
@@ -195,11 +222,15 @@ numbers_no_space (word ∷ words) (n ∷ ns) h = (digits_no_space word h.0.digit
 
 keyword_no_space : (request : Request) → has_space (keyword request) ≡ false
 keyword_no_space (table form ws) = refl
+keyword_no_space (infer form ws) = refl
 keyword_no_space (quantile form q ws) = refl
 keyword_no_space (symbol form s ws) = refl
+keyword_no_space (uniform form n) = refl
 
 form_no_space : (form : Form) → has_space (form_word form) ≡ false
 form_no_space U8Precision6 = refl
+form_no_space U8Precision8 = refl
+form_no_space U16Precision12 = refl
 
 -- Lines.
 

@@ -1,15 +1,12 @@
 -- How the rows of a model are found and printed.
-use Rattle.std.proofs.Common.{suc, zero, refl, subst, ◌≡◌, ℕ, ◌+◌, ◌/◌, ◌^◌, ◌<◌, ◌≤◌, Bool, true, false, ◌&&◌, cond, List, [], ◌∷◌, ◌++◌, Option, Some, None, ap, sym, ◌∙◌, length, get_or, take, drop, sum, arith, nat_eq, nat_le, nat_lt, find, append_assoc, add-one, drop-cons, map, IsSome, inl, inr, ◌↔◌}
+use Rattle.std.proofs.Common.{suc, zero, refl, subst, ◌≡◌, ℕ, ◌+◌, ◌/◌, ◌^◌, ◌<◌, ◌≤◌, Bool, true, false, ◌&&◌, cond, List, [], ◌∷◌, Option, Some, None, ap, sym, ◌∙◌, length, get_or, sum, arith, nat_le, nat_lt, find, map, IsSome, inl, inr, ◌↔◌}
 use Rattle.std.proofs.Math.Nat.{div-lt_iff_lt-mul}
 use Rattle.std.proofs.Math.Pow.{pow_pos}
 use Rattle.std.proofs.lemmas.Bool.{ltb-true, leb-true, lt-ltb, le-leb, cases_lt}
 use Rattle.std.proofs.lemmas.List.{length-map}
 use Rattle.std.proofs.lemmas.List.Sums.{sum_by-cons}
-use Rattle.std.proofs.lemmas.List.Concat.{flat_map-cons}
-use Rattle.std.proofs.lemmas.List.FromFn.{length-range_with_len, get_or-range_with_len}
-use Rattle.constriction.specs.Rows.{Row, RowsTile, IsRowOf, contiguous_rows, entry_of, indices, rows_from}
-use Rattle.constriction.specs.RowLemmas.{length-rows_from, rows_from-at, contiguous-at}
-use Rattle.constriction_client.specs.Text.{holds, row_text, rows_text, quantile_text}
+use Rattle.constriction.specs.Rows.{Row, RowsTile, IsRowOf, rows_from}
+use Rattle.constriction_client.specs.Text.{holds, row_text, quantile_text}
 
 none_is_some : {A : Type 0} (x : A) → None ≡ Some x → ⊥
 none_is_some x e = cc
@@ -153,66 +150,3 @@ pub is_below : (precision q : ℕ) → q / 2 ^ precision ≡ 0 → q < 2 ^ preci
 is_below precision q e =
     let below = (div-lt_iff_lt-mul {k = 2 ^ precision} {x = q} {y = 1} (pow_pos precision)).0 (omega (arith, e)) in
     omega (arith, below)
-
--- ---- the lines of rows
-
-length-contiguous : (weights : List ℕ) → length (contiguous_rows weights) ≡ length weights
-length-contiguous weights = length-rows_from 0 (indices (length weights)) weights (length-range_with_len 0 (length weights))
-
--- the entry of a symbol of contiguous rows
-entry_at : (weights : List ℕ) (i : ℕ) → i < length (contiguous_rows weights)
-    → entry_of nat_eq (contiguous_rows weights) i ≡ Some (0 + sum (take i weights), get_or weights i 0)
-entry_at weights i h =
-    let same : i ≡ 0 + i = omega arith in
-    ap (entry_of nat_eq (contiguous_rows weights)) same ∙ contiguous-at 0 0 weights i (omega (arith, length-contiguous weights))
-
--- the row of a symbol of contiguous rows
-row_at : (weights : List ℕ) (i left weight : ℕ) (d : Row ℕ) → i < length (contiguous_rows weights)
-    → Some (left, weight) ≡ entry_of nat_eq (contiguous_rows weights) i
-    → get_or (contiguous_rows weights) i d ≡ record { symbol = i; left = left; weight = weight }
-row_at weights i left weight d h entry =
-    let here : i < length weights = omega (arith, length-contiguous weights) in
-    let given : ℕ × ℕ = (left, weight) in
-    let parts : given ≡ (0 + sum (take i weights), get_or weights i 0) = some_inj _ _ (entry ∙ entry_at weights i h) in
-    let symbol : get_or (indices (length weights)) i d.symbol ≡ i =
-    get_or-range_with_len 0 (length weights) i d.symbol here ∙ (let e : 0 + i ≡ i = omega arith in e) in
-    rows_from-at 0 (indices (length weights)) weights i d (length-range_with_len 0 (length weights)) here
-    ∙ ap (λ s. record { symbol = s; left = 0 + sum (take i weights); weight = get_or weights i 0 }) symbol
-    ∙ ap (λ (p : ℕ × ℕ). record { symbol = i; left = p.0; weight = p.1 }) (sym parts)
-
--- a symbol of contiguous rows has an entry
-pub entry_is_there : (rows : List (Row ℕ)) → (weights : List ℕ) × (rows ≡ contiguous_rows weights)
-    → (i : ℕ) (found : Option (ℕ × ℕ)) → i < length rows → found ≡ entry_of nat_eq rows i → IsSome found
-entry_is_there rows are i found =
-    let P : List (Row ℕ) → Type 0 = λ rs. i < length rs → found ≡ entry_of nat_eq rs i → IsSome found in
-    subst P (sym are.1) (λ h e. some_is (found) _ (e ∙ entry_at are.0 i h))
-  where
-    some_is : (o : Option (ℕ × ℕ)) (x : ℕ × ℕ) → o ≡ Some x → IsSome o
-    some_is o x e = rw e refl
-
--- one more line
-more_at : (weights : List ℕ) (i left weight : ℕ) (found : Option (ℕ × ℕ)) (text more all : List ℕ)
-    → i < length (contiguous_rows weights) → found ≡ entry_of nat_eq (contiguous_rows weights) i
-    → found ≡ Some (left, weight) → more ≡ text ++ row_text (record { symbol = i; left = left; weight = weight })
-    → text ++ rows_text (drop i (contiguous_rows weights)) ≡ all
-    → more ++ rows_text (drop (i + 1) (contiguous_rows weights)) ≡ all
-more_at weights i left weight found text more all h is_entry is_found pushed before =
-    let rows = contiguous_rows weights in
-    let row : Row ℕ = record { symbol = i; left = left; weight = weight } in
-    let has : Some (left, weight) ≡ entry_of nat_eq rows i = sym is_found ∙ is_entry in
-    let cut : drop i rows ≡ row ∷ drop (i + 1) rows =
-    drop-cons rows i row h ∙ ap (λ r. r ∷ drop (suc i) rows) (row_at weights i left weight row h has)
-    ∙ ap (λ n. row ∷ drop n rows) (sym (add-one i)) in
-    ap (λ t. t ++ rows_text (drop (i + 1) rows)) pushed ∙ append_assoc text (row_text row) (rows_text (drop (i + 1) rows))
-    ∙ ap (λ t. text ++ t) (sym (flat_map-cons row_text row (drop (i + 1) rows)) ∙ ap rows_text (sym cut)) ∙ before
-
-pub rows_more : (rows : List (Row ℕ)) → (weights : List ℕ) × (rows ≡ contiguous_rows weights)
-    → (i left weight : ℕ) (found : Option (ℕ × ℕ)) (text more all : List ℕ) → i < length rows
-    → found ≡ entry_of nat_eq rows i → found ≡ Some (left, weight)
-    → more ≡ text ++ row_text (record { symbol = i; left = left; weight = weight })
-    → text ++ rows_text (drop i rows) ≡ all → more ++ rows_text (drop (i + 1) rows) ≡ all
-rows_more rows are i left weight found text more all =
-    let P : List (Row ℕ) → Type 0 = λ rs. i < length rs → found ≡ entry_of nat_eq rs i → found ≡ Some (left, weight)
-    → more ≡ text ++ row_text (record { symbol = i; left = left; weight = weight })
-    → text ++ rows_text (drop i rs) ≡ all → more ++ rows_text (drop (i + 1) rs) ≡ all in
-    subst P (sym are.1) (more_at are.0 i left weight found text more all)

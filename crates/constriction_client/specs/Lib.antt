@@ -9,4 +9,3 @@ pub mod Reading
 pub mod Runs
 pub mod Text
 pub mod ThereAndBack
-pub mod Weights

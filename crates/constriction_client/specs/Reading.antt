@@ -5,10 +5,11 @@ use Rattle.std.specs.List.{slice_split}
 use Rattle.std.specs.Str.{all_ascii_digits, bytes_eq}
 use Rattle.std.specs.Str.Parse.{digits_value}
 use Rattle.constriction_client.specs.declared.line.Form.{Form}
-use Rattle.constriction_client.specs.declared.line.Form.TheVariants.{U8Precision6}
+use Rattle.constriction_client.specs.declared.line.Form.TheVariants.{U8Precision6, U8Precision8, U16Precision12}
 use Rattle.constriction_client.specs.declared.line.Command.{Command}
 use Rattle.constriction_client.specs.declared.line.Command.TheVariants as command
-use Rattle.constriction_client.specs.Grammar.{Request, table, quantile, symbol, keyword, form_word, Spells}
+use Rattle.constriction_client.specs.Grammar.{Request, table, infer, quantile, symbol, uniform}
+use Rattle.constriction_client.specs.Grammar.{keyword, form_word, Spells}
 
 infixl 10 ◌>>=◌
 -- the next step, where the one before found something
@@ -29,24 +30,27 @@ read_numbers (word ∷ words) = do
   numbers ← read_numbers words
   Some (number ∷ numbers)
 
--- a first number and those after it
-abbrev pub first_and_others : List ℕ → Option (ℕ × List ℕ)
-first_and_others [] = None
-first_and_others (number ∷ numbers) = Some (number, numbers)
-
 -- the forms that a word can name
 abbrev pub forms : List Form
-forms = U8Precision6 ∷ []
+forms = U8Precision6 ∷ U8Precision8 ∷ U16Precision12 ∷ []
 
 -- the form that a word names
 unfoldable pub read_form : List ℕ → Option Form
 read_form word = find (λ form. bytes_eq word (form_word form)) forms
 
+-- the request that a form and one number alone can belong to
+abbrev pub requests_of_one : Form → ℕ → List ℕ → List Request
+requests_of_one form number [] = uniform form number ∷ []
+requests_of_one form number (other ∷ others) = []
+
+-- the requests that a form and a first number, with any others after it, can belong to
+abbrev pub requests_of_some : Form → List ℕ → List Request
+requests_of_some form [] = []
+requests_of_some form (first ∷ others) = quantile form first others ∷ symbol form first others ∷ requests_of_one form first others
+
 -- the requests that a form and numbers can belong to
 abbrev pub requests_of : Form → List ℕ → List Request
-requests_of form [] = table form [] ∷ []
-requests_of form (first ∷ others) =
-    table form (first ∷ others) ∷ quantile form first others ∷ symbol form first others ∷ []
+requests_of form numbers = table form numbers ∷ infer form numbers ∷ requests_of_some form numbers
 
 -- the one that a word is the keyword of
 unfoldable pub read_request : List ℕ → Form → List ℕ → Option Request
@@ -68,8 +72,10 @@ read_line line = read_words (slice_split (λ byte. byte == 32) line)
 -- the request that a command is, without where its numbers lie in memory
 abbrev pub view : Command → Request
 view (command.Table form weights) = table form weights.items
+view (command.Infer form weights) = infer form weights.items
 view (command.Quantile form q weights) = quantile form q weights.items
 view (command.Symbol form s weights) = symbol form s weights.items
+view (command.Uniform form n) = uniform form n
 
 -- reading a line finds exactly what it spells
 abbrev pub ReadsExactly : Type 0

@@ -4,10 +4,9 @@ use Rattle.std.specs.Prelude.{List, [], ◌∷◌, ◌++◌, codes, decimal, fin
 use Rattle.std.specs.Prelude.{Option, Some, None, if◌then◌else◌}
 use Rattle.std.specs.List.{flat_map, list_all, slice_split}
 use Rattle.std.specs.Option.{option_map_or}
-use Rattle.constriction.specs.Acceptance.{IsAccepted}
-use Rattle.constriction.specs.Rows.{Row, RowsTile, IsRowOf, contiguous_rows, entry_of}
-use Rattle.constriction_client.specs.declared.line.Form.{Form}
-use Rattle.constriction_client.specs.Grammar.{Request, table, quantile, symbol, bits_of, precision_of}
+use Rattle.constriction.specs.Acceptance.{IsAccepted, completed}
+use Rattle.constriction.specs.Rows.{Row, RowsTile, IsRowOf, contiguous_rows, uniform_rows, entry_of}
+use Rattle.constriction_client.specs.Grammar.{Request, table, infer, quantile, symbol, uniform, bits_of, precision_of}
 use Rattle.constriction_client.specs.Reading.{read_line}
 
 -- parts, of which a last empty one is dropped
@@ -67,16 +66,25 @@ symbol_text rows s =
     option_map_or (λ entry. row_text (record { symbol = s; left = entry.0; weight = entry.1 }))
     (entry_of nat_eq rows s) (codes "none\n")
 
--- the text of a model of these weights, where they are accepted
-abbrev pub text_of_model : Form → List ℕ → (List (Row ℕ) → List ℕ) → List ℕ
-text_of_model form weights text =
-    if are_accepted (bits_of form) (precision_of form) weights then text (contiguous_rows weights) else codes "invalid\n"
+-- the lines of a uniform model of n symbols, of which there are at least two, and no more than quantiles
+abbrev pub uniform_text : ℕ → ℕ → List ℕ
+uniform_text precision n =
+    if nat_le 2 n && nat_le n (2 ^ precision) then rows_text (uniform_rows precision n) else codes "range\n"
 
--- the text that answers a request
+-- the text of the rows of a model of these weights, where they are accepted
+abbrev pub text_of_model : ℕ → ℕ → List ℕ → (List (Row ℕ) → List ℕ) → List ℕ
+text_of_model bits precision weights text =
+    if are_accepted bits precision weights then text (contiguous_rows weights) else codes "invalid\n"
+
+-- the text that answers a request; only `infer` infers the last weight
 unfoldable pub answer_of : Request → List ℕ
-answer_of (table form weights) = text_of_model form weights rows_text
-answer_of (quantile form q weights) = text_of_model form weights (λ rows. quantile_text (precision_of form) rows q)
-answer_of (symbol form s weights) = text_of_model form weights (λ rows. symbol_text rows s)
+answer_of (table form weights) = text_of_model (bits_of form) (precision_of form) weights rows_text
+answer_of (infer form weights) =
+    text_of_model (bits_of form) (precision_of form) (completed (precision_of form) true weights) rows_text
+answer_of (quantile form q weights) =
+    text_of_model (bits_of form) (precision_of form) weights (λ rows. quantile_text (precision_of form) rows q)
+answer_of (symbol form s weights) = text_of_model (bits_of form) (precision_of form) weights (λ rows. symbol_text rows s)
+answer_of (uniform form n) = uniform_text (precision_of form) n
 
 -- the answer to what a line asks for
 abbrev pub reply_to : Option Request → List ℕ

@@ -1,12 +1,10 @@
 //! Contiguous models of the weights of lines.
 
-ghost use Rattle.std.specs.Prelude.{map};
-ghost use Rattle.std.proofs.Common.{refl};
-ghost use Rattle.constriction.specs.Stored.{lefts_in, weights_of};
 ghost use Rattle.constriction.specs.StoredRowLemmas.{stored-tiles};
 
 use crate::form_word::FormWord;
 use crate::line_model::LineModel;
+use crate::rows::push_rows;
 use constriction::stream::model::{
     ContiguousCategoricalEntropyModel, DecoderModel, EncoderModel, EntropyModel, ModelError,
 };
@@ -22,16 +20,17 @@ impl<Word: FormWord, const PRECISION: usize> LineModel<PRECISION>
     fn from_words<I: IntoIterator<Item = Word>>(
         alloc: Global,
         words: I,
+        infer: bool,
     ) -> Result<Option<Self>, AllocError> {
-        match Self::from_nonzero_fixed_point_probabilities(alloc, words, false) {
+        match Self::from_nonzero_fixed_point_probabilities(alloc, words, infer) {
             Ok(model) => Ok(Some(model)),
             Err(ModelError::InvalidTable) => Ok(None),
             Err(ModelError::OutOfMemory) => Err(AllocError),
         }
     }
 
-    fn row_count(&self) -> usize {
-        self.support_size()
+    fn push_rows(&self, text: &mut String) -> Result<(), AllocError> {
+        push_rows::<_, PRECISION>(text, self)
     }
 
     fn entry(&self, symbol: usize) -> Option<(u64, u64)> {
@@ -45,8 +44,6 @@ impl<Word: FormWord, const PRECISION: usize> LineModel<PRECISION>
         let (symbol, left, weight) = self.quantile_function(Word::narrowed(quantile))?;
         Ok((symbol, left.number(), weight.get().number()))
     }
-
-    ghost contiguous_law = { λ m. (weights_of PRECISION (lefts_in (map Word.whole m.cdf.items)), refl) };
 
     ghost tile_law = { λ m. stored-tiles _ _ _ m.stored.stored };
 }

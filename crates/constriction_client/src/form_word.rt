@@ -68,3 +68,17 @@ impl FormWord for u8 {
 
     ghost word_of_law = { λ n h. refl };
 }
+
+impl FormWord for u16 {
+    ghost word_of = { λ n. n };
+
+    fn narrowed(number: u64) -> u16 {
+        u16::try_from(number).unwrap_or(0)
+    }
+
+    fn number(self) -> u64 {
+        u64::from(self)
+    }
+
+    ghost word_of_law = { λ n h. refl };
+}

@@ -15,6 +15,8 @@ mod line;
 mod line_model;
 mod program;
 mod quantiles;
+mod rows;
+mod uniform;
 
 pub use crate::answers::answer;
 pub use crate::fault::RunFault;

@@ -3,10 +3,9 @@
 ghost use Rattle.std.specs.Prelude.{◌≡◌, ◌∷◌, IfOk, IfSome, IfNone, option_and_then};
 ghost use Rattle.std.specs.Option.{option_copied, option_map};
 ghost use Rattle.constriction_client.specs.Grammar.{Request, Spells, form_of};
-ghost use Rattle.constriction_client.specs.Parts.{parts_of};
-ghost use Rattle.constriction_client.specs.Reading.{first_and_others, read_form, read_line};
+ghost use Rattle.constriction_client.specs.Parts.{parts_of, first_and_others, only_number};
+ghost use Rattle.constriction_client.specs.Reading.{read_form, read_line};
 ghost use Rattle.constriction_client.specs.Reading.{read_number, read_numbers, read_request, view};
-ghost use Rattle.constriction_client.specs.Weights.{weights_in};
 
 use crate::cut::cut;
 use std::alloc::{AllocError, Global};
@@ -16,6 +15,10 @@ use std::alloc::{AllocError, Global};
 pub enum Form {
     /// `u8/6`: probabilities are `u8`, and they sum to `2^6`.
     U8Precision6,
+    /// `u8/8`: probabilities are `u8`, and they sum to `2^8`.
+    U8Precision8,
+    /// `u16/12`: probabilities are `u16`, and they sum to `2^12`.
+    U16Precision12,
 }
 
 /// What a line asks for.
@@ -23,6 +26,11 @@ pub enum Form {
 pub enum Command {
     /// `table FORM W..`: all rows of the weights.
     Table {
+        form: Form,
+        weights: Vec<u64>,
+    },
+    /// `infer FORM W..`: all rows of the weights and one more, which is what they leave.
+    Infer {
         form: Form,
         weights: Vec<u64>,
     },
@@ -38,6 +46,11 @@ pub enum Command {
         symbol: u64,
         weights: Vec<u64>,
     },
+    /// `uniform FORM N`: all rows of the uniform model of the symbols `0..range`.
+    Uniform {
+        form: Form,
+        range: u64,
+    },
 }
 
 impl Command {
@@ -47,19 +60,10 @@ impl Command {
     {
         match self {
             Command::Table { form, .. } => *form,
+            Command::Infer { form, .. } => *form,
             Command::Quantile { form, .. } => *form,
             Command::Symbol { form, .. } => *form,
-        }
-    }
-
-    /// The weights that the line names.
-    pub(crate) fn weights(&self) -> &[u64]
-        ensures { result.now ≡ weights_in (view self.now) }
-    {
-        match self {
-            Command::Table { weights, .. } => weights,
-            Command::Quantile { weights, .. } => weights,
-            Command::Symbol { weights, .. } => weights,
+            Command::Uniform { form, .. } => *form,
         }
     }
 }
@@ -94,10 +98,15 @@ fn parse_form(word: &[u8]) -> Option<Form>
     ensures { result ≡ read_form word.now }
 {
     if word == b"u8/6".as_slice() {
-        Some(Form::U8Precision6)
-    } else {
-        None
+        return Some(Form::U8Precision6);
     }
+    if word == b"u8/8".as_slice() {
+        return Some(Form::U8Precision8);
+    }
+    if word == b"u16/12".as_slice() {
+        return Some(Form::U16Precision12);
+    }
+    None
 }
 
 /// The numbers that the words of the rest of a line spell, if each of them spells one.
@@ -140,6 +149,21 @@ fn parse_first_and_others(
     }
 }
 
+/// The number of the rest of a line, if one stands there alone.
+#[tactic(auto, unfolding(crate::specs::Reading::read_numbers))]
+fn parse_only_number(text: Option<&[u8]>) -> Option<u64>
+    ensures { result ≡ option_and_then only_number (read_numbers (parts_of 32 (option_copied text.entry))) }
+{
+    let Some(words) = text else {
+        return None;
+    };
+    let (word, after) = cut(words, SPACE);
+    match after {
+        Some(_) => None,
+        None => parse_number(word),
+    }
+}
+
 /// What a keyword asks for with a form and the rest of a line.
 #[tactic(auto, unfolding(crate::specs::Reading::read_request))]
 fn parse_command(
@@ -154,6 +178,12 @@ fn parse_command(
     if keyword == b"table".as_slice() {
         return match parse_numbers(alloc, text)? {
             Some(weights) => Ok(Some(Command::Table { form, weights })),
+            None => Ok(None),
+        };
+    }
+    if keyword == b"infer".as_slice() {
+        return match parse_numbers(alloc, text)? {
+            Some(weights) => Ok(Some(Command::Infer { form, weights })),
             None => Ok(None),
         };
     }
@@ -174,6 +204,12 @@ fn parse_command(
                 symbol,
                 weights,
             })),
+            None => Ok(None),
+        };
+    }
+    if keyword == b"uniform".as_slice() {
+        return match parse_only_number(text) {
+            Some(range) => Ok(Some(Command::Uniform { form, range })),
             None => Ok(None),
         };
     }

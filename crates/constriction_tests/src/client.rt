@@ -4,4 +4,5 @@ mod adapters;
 mod items;
 mod lines;
 mod runs;
+mod tables;
 mod two_models;

@@ -53,6 +53,29 @@ fn a_symbol_stands_before_the_weights(rt: HostRuntime) -> Result<(), Fail> {
 }
 
 #[test]
+fn an_inferred_weight_is_not_written(rt: HostRuntime) -> Result<(), Fail> {
+    let Some(Command::Infer { form, weights }) = parse(rt.alloc(), b"infer u16/12 5")? else {
+        panic!(rt; "no weights");
+    };
+    same(&rt, form, Form::U16Precision12);
+    same(&rt, weights.as_slice(), [5].as_slice());
+    Ok(())
+}
+
+#[test]
+fn a_uniform_model_has_a_range(rt: HostRuntime) -> Result<(), Fail> {
+    let Some(command) = parse(rt.alloc(), b"uniform u8/8 3")? else {
+        panic!(rt; "no request");
+    };
+    same(&rt, command.form(), Form::U8Precision8);
+    match command {
+        Command::Uniform { range, .. } => same(&rt, range, 3),
+        _ => panic!(rt; "no uniform model"),
+    }
+    Ok(())
+}
+
+#[test]
 fn other_lines_ask_for_nothing(rt: HostRuntime) -> Result<(), Fail> {
     let lines = [
         "",
@@ -67,7 +90,13 @@ fn other_lines_ask_for_nothing(rt: HostRuntime) -> Result<(), Fail> {
         "table u8/60 64",
         "quantile u8/6",
         "symbol u8/6 ",
-        "uniform u8/6 3",
+        "table u16/6 64",
+        "infers u8/6",
+        "uniform u8/6",
+        "uniform u8/6 ",
+        "uniform u8/6 3 ",
+        "uniform u8/6 3 4",
+        "uniform u8/6 a",
     ];
     for line in lines {
         assert!(rt; parse(rt.alloc(), line.as_bytes())?.is_none(), "{line}");
