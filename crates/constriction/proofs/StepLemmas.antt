@@ -1,8 +1,8 @@
 -- Walking through rows, from either end.
 use Rattle.std.specs.Prelude.{take, drop}
-use Rattle.std.proofs.Common.{◌≡◌, ℕ, ◌+◌, ◌-◌, ◌<◌, ◌≤◌, List, [], ◌∷◌, ◌++◌, length, get_or, refl, ap, ◌∙◌, arith}
-use Rattle.std.proofs.lemmas.List.{length-drop, drop_all, drop_more, length-take, length-take-le, take_all, get_or-take, take_more}
-use Rattle.std.proofs.lemmas.List.{drop-append-le}
+use Rattle.std.proofs.Common.{◌≡◌, ℕ, ◌+◌, ◌-◌, ◌<◌, ◌≤◌, List, [], ◌∷◌, ◌++◌, length, get_or, map, refl, ap, ◌∙◌, arith}
+use Rattle.std.proofs.lemmas.List.{length-drop, drop_more, length-take-le, take_all, get_or-take, take_more}
+use Rattle.std.proofs.lemmas.List.{drop-append-le, length-append, length-map}
 use Rattle.constriction.specs.Rows.{Row, contiguous_rows}
 use Rattle.constriction.specs.Stored.{IsTable, lefts_in, weights_of}
 use Rattle.constriction.specs.StoredRowLemmas.{stored-at}
@@ -13,10 +13,6 @@ module _ {Symbol : Type 0} (rows : List (Row Symbol)) where
   -- all rows are left before the first step
   pub all-between : (n : ℕ) → n ≡ length rows → rows_between 0 n rows ≡ rows
   all-between n e = take_all n rows (omega arith)
-
-  -- none is left between an index and itself
-  pub none-between : (i : ℕ) → rows_between i i rows ≡ []
-  none-between i = drop_all i (take i rows) (let e = length-take i rows in omega arith)
 
   -- as many rows as indices
   pub length-between : (i j : ℕ) → j ≤ length rows → length (rows_between i j rows) ≡ j - i
@@ -31,13 +27,25 @@ module _ {Symbol : Type 0} (rows : List (Row Symbol)) where
       ∙ ap (λ x. x ∷ drop (i + 1) (take j rows)) (get_or-take j rows i r h ∙ e)
 
   -- the last of them
-  pub last-between : (i j : ℕ) (r : Row Symbol) → i ≤ j → j < length rows → get_or rows j r ≡ r
-      → rows_between i (j + 1) rows ≡ rows_between i j rows ++ r ∷ []
+  pub last-between : (i j : ℕ) (r : Row Symbol) → i < j → j ≤ length rows → get_or rows (j - 1) r ≡ r
+      → rows_between i j rows ≡ rows_between i (j - 1) rows ++ r ∷ []
   last-between i j r h k e =
-      let long : length (take j rows) ≡ j = length-take-le j rows (omega arith) in
-      ap (drop i) (take_more rows j r k)
-      ∙ drop-append-le i (take j rows) (get_or rows j r ∷ []) (omega arith)
-      ∙ ap (λ x. drop i (take j rows) ++ x ∷ []) e
+      let back : j ≡ j - 1 + 1 = omega arith in
+      let long : length (take (j - 1) rows) ≡ j - 1 = length-take-le (j - 1) rows (omega arith) in
+      ap (λ n. rows_between i n rows) back
+      ∙ ap (drop i) (take_more rows (j - 1) r (omega arith))
+      ∙ drop-append-le i (take (j - 1) rows) (get_or rows (j - 1) r ∷ []) (omega arith)
+      ∙ ap (λ x. drop i (take (j - 1) rows) ++ x ∷ []) e
+
+-- a step from either end leaves one row fewer
+pub one-fewer : {A : Type 0} (before after : List A) (x : A) → before ≡ x ∷ after → length before ≡ length after + 1
+one-fewer before after x e = rw e (omega arith)
+
+pub one-fewer-last : {A : Type 0} (before after : List A) (x : A) → before ≡ after ++ x ∷ [] → length before ≡ length after + 1
+one-fewer-last before after x e = rw e (length-append after (x ∷ []))
+
+pub same-length : {A : Type 0} (xs ys : List A) → xs ≡ ys → length xs ≡ length ys
+same-length xs ys e = ap length e
 
 -- the same of the rows of a stored table
 module _ (bits precision : ℕ) (table : List ℕ) (t : IsTable bits precision table) where
@@ -59,9 +67,19 @@ module _ (bits precision : ℕ) (table : List ℕ) (t : IsTable bits precision t
       first-between (contiguous_rows (weights_of precision (lefts_in table))) i j _ h (omega (arith, table-rows bits precision table t))
       (here i l w (omega arith) le we)
 
-  pub last-stored : (i j l w : ℕ) → i ≤ j → j + 1 < length table
-      → l ≡ get_or (lefts_in table) j 0 → w ≡ get_or (weights_of precision (lefts_in table)) j 0
-      → rows_stored precision table i (j + 1) ≡ rows_stored precision table i j ++ record { symbol = j; left = l; weight = w } ∷ []
+  pub last-stored : (i j l w : ℕ) → i < j → j < length table
+      → l ≡ get_or (lefts_in table) (j - 1) 0 → w ≡ get_or (weights_of precision (lefts_in table)) (j - 1) 0
+      → rows_stored precision table i j
+      ≡ rows_stored precision table i (j - 1) ++ record { symbol = j - 1; left = l; weight = w } ∷ []
   last-stored i j l w h k le we =
       last-between (contiguous_rows (weights_of precision (lefts_in table))) i j _ h (omega (arith, table-rows bits precision table t))
-      (here j l w k le we)
+      (here (j - 1) l w (omega arith) le we)
+
+-- at first all rows of a stored table of words are left
+pub all-stored : {Word : Type 0} (whole : Word → ℕ) (bits precision : ℕ) (words lent : List Word)
+    → IsTable bits precision (map whole words) → lent ≡ words
+    → rows_stored precision (map whole lent) 0 (length lent - 1) ≡ contiguous_rows (weights_of precision (lefts_in (map whole words)))
+all-stored whole bits precision words lent t e =
+    let long : length words - 1 ≡ length (contiguous_rows (weights_of precision (lefts_in (map whole words)))) =
+    omega (arith, table-rows bits precision (map whole words) t, length-map words whole) in
+    rw e (all-between (contiguous_rows (weights_of precision (lefts_in (map whole words)))) (length words - 1) long)

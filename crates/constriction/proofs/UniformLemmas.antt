@@ -1,5 +1,5 @@
 -- The weights of a uniform model as words give them.
-use Rattle.std.proofs.Common.{◌≡◌, ℕ, ◌+◌, ◌-◌, ◌*◌, ◌/◌, ◌%◌, ◌^◌, ◌<◌, ◌≤◌, ap, sym, ◌∙◌, arith}
+use Rattle.std.proofs.Common.{◌≡◌, ℕ, ◌+◌, ◌-◌, ◌*◌, ◌/◌, ◌%◌, ◌^◌, ◌<◌, ◌≤◌, refl, ap, sym, ◌∙◌, arith}
 use Rattle.std.proofs.Math.Nat.{add-div_right, pow-le-pow_right}
 use Rattle.std.proofs.lemmas.Nat.{le-div, div_below, mul-le}
 use Rattle.constriction.specs.UniformRowLemmas.{bin_of, rest_of, bin-positive, bins-fit}
@@ -31,13 +31,24 @@ bin-fits bits precision last narrow some h =
     let fits : last * bin + bin ≤ 2 ^ precision = bins-fit precision last h in
     (omega arith, omega arith, omega arith)
 
--- the last weight is what is below 2 ^ bits and gives 2 ^ precision with the others, modulo 2 ^ bits
-pub rest-wrapped : (bits precision last before rest : ℕ) → precision ≤ bits → 0 < last → last < 2 ^ precision
-    → before ≡ last * bin_of precision last → rest < 2 ^ bits → (rest + before) % 2 ^ bits ≡ 2 ^ precision % 2 ^ bits
-    → rest ≡ rest_of precision last
-rest-wrapped bits precision last before rest narrow some h b small e =
+-- the weight of each symbol but the last one, as it is calculated
+pub bin-calculated : (precision last greatest one left range quotient : ℕ) → last < 2 ^ precision
+    → greatest + 1 ≡ 2 ^ precision → one + 1 ≡ 2 ^ 1 → left ≡ greatest - last → range ≡ last + one → quotient ≡ left / range
+    → quotient + one ≡ bin_of precision last
+bin-calculated precision last greatest one left range quotient h g o l r q =
+    let less : left ≡ 2 ^ precision - 1 - last = omega arith in
+    let more : range ≡ last + 1 = omega arith in
+    let divided : quotient ≡ (2 ^ precision - 1 - last) / (last + 1) = rw (q, less, more) refl in
+    omega (arith, divided, bin-divided precision last h)
+
+-- The weight of the last symbol: what is below 2 ^ bits and gives 2 ^ precision with the others, modulo 2 ^ bits.
+pub rest-wrapped : (bits precision last bin before total rest : ℕ) → precision ≤ bits → 0 < last → last < 2 ^ precision
+    → bin ≡ bin_of precision last → before ≡ last * bin → total ≡ 2 ^ precision % 2 ^ bits
+    → rest < 2 ^ bits → (rest + before) % 2 ^ bits ≡ total → rest ≡ rest_of precision last
+rest-wrapped bits precision last bin before total rest narrow some h b e t small wrapped =
     let fit = bin-fits bits precision last narrow some h in
+    let taken : before ≡ last * bin_of precision last = e ∙ ap (λ n. last * n) b in
     let whole : rest_of precision last + last * bin_of precision last ≡ 2 ^ precision =
     omega (arith, bins-fit precision last h) in
     difference-mod (2 ^ bits) rest (rest_of precision last) (last * bin_of precision last) small fit.2 fit.1
-    (ap (λ n. (rest + n) % 2 ^ bits) (sym b) ∙ e ∙ ap (λ n. n % 2 ^ bits) (sym whole))
+    (ap (λ n. (rest + n) % 2 ^ bits) (sym taken) ∙ wrapped ∙ t ∙ ap (λ n. n % 2 ^ bits) (sym whole))

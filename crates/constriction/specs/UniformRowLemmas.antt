@@ -149,11 +149,14 @@ module _ (precision last : ℕ) (within : last < 2 ^ precision) where
         ∙ ap (λ n. Some (n, get_or ws k 0)) left ∙ ap (λ n. Some (l, n)) (weight-at k w at_k.1))
 
     -- it is the row of a quantile where it is the quotient by the weight, or the last one and the quotient is no less
-    pub uniform-row_of : (q : ℕ) → q < 2 ^ precision → (s < last → s ≡ q / bin_of precision last)
-        → (s ≡ last → last ≤ q / bin_of precision last)
+    pub uniform-row_of : (q b : ℕ) → q < 2 ^ precision → b ≡ bin_of precision last → (s < last → s ≡ q / b)
+        → (s ≡ last → last ≤ q / b)
         → IsRowOf (uniform_rows precision (last + 1)) q (record { symbol = k; left = l; weight = w })
-    uniform-row_of q below first others =
+    uniform-row_of q b below bin_is before after =
         let bin : ℕ = bin_of precision last in
+        let same_quotient : q / b ≡ q / bin = ap (λ n. q / n) bin_is in
+        let first : s < last → s ≡ q / bin = λ x. before x ∙ same_quotient in
+        let others : s ≡ last → last ≤ q / bin = λ x. omega (arith, after x, same_quotient) in
         let split : q / bin * bin + q % bin ≡ q = div-add-mod' q bin in
         let less : q % bin < bin = mod_below q bin bin-positive in
         let h : k ≤ last = elim at_k.1 [ inl x ↦ omega (arith, x.0) | inr x ↦ omega (arith, x.0) ] in
@@ -172,6 +175,12 @@ module _ (precision last : ℕ) (within : last < 2 ^ precision) where
             | inr x ↦ omega (arith, x.1, ap (λ i. i * bin) x.0, bins-fit)
           ];
         }
+
+  -- the same where the word of the symbol came first
+  pub uniform-found : (k s l w : ℕ) → k ≡ s → l ≡ s * bin_of precision last → IsWeight precision last s w
+      → (q b : ℕ) → q < 2 ^ precision → b ≡ bin_of precision last → (s < last → s ≡ q / b) → (s ≡ last → last ≤ q / b)
+      → IsRowOf (uniform_rows precision (last + 1)) q (record { symbol = k; left = l; weight = w })
+  uniform-found k s l w same = uniform-row_of k s l w (sym same)
 
   -- what is no symbol has no entry
   pub uniform-no_entry : (k : ℕ) → last < k → None ≡ entry_of nat_eq (uniform_rows precision (last + 1)) k

@@ -1,15 +1,14 @@
 -- Walks through a symbol table: what the items are that its steps give. No public clause cites this module.
-use Rattle.std.specs.Prelude.{◌≡◌, ℕ, ◌-◌, ◌*◌, ◌/◌, ◌^◌, ◌<◌, List, [], ◌∷◌, ◌++◌, length, map, replicate, Contains, Option, Some, None, Result, Ok, Err, IfOk}
+use Rattle.std.specs.Prelude.{◌≡◌, ℕ, ◌+◌, ◌-◌, ◌<◌, List, [], ◌∷◌, ◌++◌, length, map, Contains, Option, Some, None, Result, Ok, Err, IfOk}
 use Rattle.std.proofs.Common.{suc, zero, get_or, refl, ap, sym, subst, ◌∙◌, append-nil, arith}
 use Rattle.std.specs.Iterator.{Yields, Drains}
 use Rattle.std.specs.List.{AllZip}
-use Rattle.std.proofs.lemmas.List.{length-append, length-replicate}
 use Rattle.std.proofs.lemmas.Slice.Zip.{AllZip-long}
-use Rattle.constriction.specs.Rows.{Row, RowsTile, IsRowOf, uniform_weights}
+use Rattle.constriction.specs.Rows.{Row, RowsTile, IsRowOf, uniform_rows}
 use Rattle.constriction.specs.Model.{row_of}
 use Rattle.constriction.specs.Tables.{StandsFor, YieldsRow}
 use Rattle.constriction.specs.CodingLemmas.{one-row}
-use Rattle.constriction.specs.StoredRowLemmas.{length-rows}
+use Rattle.constriction.specs.UniformRowLemmas.{length-uniform_rows}
 use Rattle.constriction.specs.Laws.{AreRows, WalksRows, GivesAllRows, GivesAsMany, AnswersAreInTable, UniformRowsAreAsMany}
 
 -- where something relates two lists place by place, each element of one has a partner in the other
@@ -140,9 +139,7 @@ module _ {Symbol Word Weight Refusal : Type 0} (whole : Word → ℕ) (base : We
         }
 
 -- the number of uniform rows
-pub length-uniform_rows : UniformRowsAreAsMany
-length-uniform_rows precision n h =
-    let bin : ℕ = 2 ^ precision / n in
-    let last : List ℕ = (2 ^ precision - (n - 1) * bin) ∷ [] in
-    length-rows (uniform_weights precision n)
-    ∙ omega (arith, length-append (replicate (n - 1) bin) last, length-replicate (n - 1) bin)
+pub row-count : UniformRowsAreAsMany
+row-count precision n h =
+    let last : n - 1 + 1 ≡ n = omega arith in
+    ap (λ k. length (uniform_rows precision k)) (sym last) ∙ length-uniform_rows precision (n - 1) ∙ last

@@ -1,5 +1,5 @@
-use Rattle.constriction.specs.WalkLemmas.{length-uniform_rows}
+use Rattle.constriction.specs.WalkLemmas.{row-count}
 use Rattle.constriction.proofs.laws.uniform_row_count.Goals as goal
 
 pub returns : goal.returns
-returns c = length-uniform_rows
+returns c = row-count

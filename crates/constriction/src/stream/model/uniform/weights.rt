@@ -11,7 +11,9 @@ use constriction_words::WholeNumber;
 /// At the full width `2^PRECISION` is no word. So each symbol is given one quantile, and what is left
 /// is divided.
 #[inline]
-pub fn probability_per_bin<Word: WholeNumber, const PRECISION: usize>(last_symbol: Word) -> Word
+pub(crate) fn probability_per_bin<Word: WholeNumber, const PRECISION: usize>(
+    last_symbol: Word,
+) -> Word
     requires positive { 0 < PRECISION }
     requires fits { PRECISION ≤ Word.BITS }
     requires some { 0 < Word.whole last_symbol }
@@ -30,7 +32,7 @@ pub fn probability_per_bin<Word: WholeNumber, const PRECISION: usize>(last_symbo
 
 /// The weight of the last symbol: what the others leave of `2^PRECISION`.
 #[inline]
-pub fn last_probability<Word: WholeNumber, const PRECISION: usize>(
+pub(crate) fn last_probability<Word: WholeNumber, const PRECISION: usize>(
     last_symbol: Word,
     bin: Word,
 ) -> Word
@@ -47,7 +49,7 @@ pub fn last_probability<Word: WholeNumber, const PRECISION: usize>(
 
 /// The symbol of a quantile: the quotient by the weight, or the last symbol where that is less.
 #[inline]
-pub fn symbol_of<Word: WholeNumber>(quantile: Word, bin: Word, last_symbol: Word) -> Word
+pub(crate) fn symbol_of<Word: WholeNumber>(quantile: Word, bin: Word, last_symbol: Word) -> Word
     requires { 0 < Word.whole bin }
     ensures within { Word.whole result ≤ Word.whole last_symbol }
     ensures before { Word.whole result < Word.whole last_symbol → Word.whole result ≡ Word.whole quantile / Word.whole bin }

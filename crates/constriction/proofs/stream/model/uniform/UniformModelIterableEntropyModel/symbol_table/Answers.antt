@@ -1,7 +1,7 @@
-use Rattle.std.proofs.Common.{◌≡◌, ◌+◌, length, ap, sym}
+use Rattle.std.proofs.Common.{◌≡◌, ◌+◌, sym}
 use Rattle.constriction.specs.Rows.{uniform_rows}
 use Rattle.constriction.specs.UniformRowLemmas.{length-uniform_rows}
-use Rattle.constriction.proofs.StepLemmas.{all-between}
+use Rattle.constriction.proofs.StepLemmas.{all-between, same-length}
 use Rattle.constriction.proofs.stream.model.uniform.UniformModelIterableEntropyModel.symbol_table.Goals as goal
 
 pub returns-clause-all : goal.returns-clause-all
@@ -12,4 +12,4 @@ returns-clause-all g c =
     (all-between rows (last + 1) (sym (length-uniform_rows g.row.PRECISION last)))
 
 pub returns-clause-counted : goal.returns-clause-counted
-returns-clause-counted g c = ap length (returns-clause-all g c)
+returns-clause-counted g c = same-length _ _ (returns-clause-all g c)

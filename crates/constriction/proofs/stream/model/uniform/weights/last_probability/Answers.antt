@@ -1,4 +1,4 @@
-use Rattle.std.proofs.Common.{◌*◌, ap, ◌∙◌, arith}
+use Rattle.std.proofs.Common.{◌≡◌, ◌*◌, ◌^◌, ◌<◌, arith}
 use Rattle.constriction.specs.UniformRowLemmas.{rest-positive}
 use Rattle.constriction.proofs.UniformLemmas.{bin-fits, rest-wrapped}
 use Rattle.constriction.proofs.stream.model.uniform.weights.last_probability.Goals as goal
@@ -10,10 +10,8 @@ times-requires g c =
 
 pub returns-clause-value : goal.returns-clause-value
 returns-clause-value g c =
-    let last = g.Word.WholeNumber.whole c.args.last_symbol in
-    let before = c.times.ensures ∙ ap (λ n. last * n) c.requires.bin in
-    rest-wrapped _ g.row.PRECISION last _ _ c.requires.fits c.requires.some c.requires.within before
-    c.wrapping_minus.ensures.range (c.wrapping_minus.ensures.difference ∙ c.wrapping_pow2.ensures)
+    rest-wrapped _ g.row.PRECISION _ _ _ _ _ c.requires.fits c.requires.some c.requires.within c.requires.bin c.times.ensures
+    c.wrapping_pow2.ensures c.wrapping_minus.ensures.range c.wrapping_minus.ensures.difference
 
 pub returns-clause-positive : goal.returns-clause-positive
 returns-clause-positive g c =

@@ -1,6 +1,7 @@
-use Rattle.std.proofs.Common.{◌<◌, length, map, ap, refl, arith}
+use Rattle.std.proofs.Common.{◌+◌, ◌<◌, length, map, refl, arith}
 use Rattle.std.proofs.lemmas.List.{length-map}
-use Rattle.constriction.proofs.StepLemmas.{first-stored}
+use Rattle.constriction.specs.Tables.{rows_stored}
+use Rattle.constriction.proofs.StepLemmas.{first-stored, one-fewer}
 use Rattle.constriction.proofs.stream.model.categorical.symbol_table.ContiguousSymbolTableIterator.next.Goals as goal
 
 pub returns-clause-steps : goal.returns-clause-steps
@@ -17,5 +18,8 @@ returns-clause-steps g c =
 
 pub returns-clause-goes : goal.returns-clause-goes
 returns-clause-goes g c =
+    let t = c.args.self.now in
+    let left = rows_stored g.row.PRECISION (map g.Probability.BitArray.whole t.cdf.now) in
     let step = returns-clause-steps g c in
-    record { on = λ _. (tt, tt, omega (arith, ap length step.1)); keeps = tt; rests = λ _. tt }
+    let fewer = one-fewer (left t.from t.to) (left (t.from + 1) t.to) step.0 step.1 in
+    record { on = λ _. (tt, tt, omega (arith, fewer)); keeps = tt; rests = λ _. tt }

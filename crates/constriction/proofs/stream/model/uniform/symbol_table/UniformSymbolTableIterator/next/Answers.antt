@@ -1,7 +1,8 @@
-use Rattle.std.proofs.Common.{◌≡◌, ℕ, ◌+◌, ◌<◌, ◌≤◌, length, ap, refl, arith}
+use Rattle.std.proofs.Common.{◌≡◌, ℕ, ◌+◌, ◌<◌, ◌≤◌, refl, arith}
 use Rattle.constriction.specs.Rows.{uniform_rows}
+use Rattle.constriction.specs.Tables.{rows_between}
 use Rattle.constriction.specs.UniformRowLemmas.{uniform-at, length-uniform_rows}
-use Rattle.constriction.proofs.StepLemmas.{first-between}
+use Rattle.constriction.proofs.StepLemmas.{first-between, one-fewer}
 use Rattle.constriction.proofs.stream.model.uniform.symbol_table.UniformSymbolTableIterator.next.Goals as goal
 
 pub returns-clause-steps : goal.returns-clause-steps
@@ -18,5 +19,8 @@ returns-clause-steps g c =
 
 pub returns-clause-goes : goal.returns-clause-goes
 returns-clause-goes g c =
+    let t = c.args.self.now in
+    let rows = uniform_rows g.row.PRECISION (g.Probability.BitArray.whole t.model.last_symbol + 1) in
     let step = returns-clause-steps g c in
-    record { on = λ _. (tt, tt, omega (arith, ap length step.1)); keeps = tt; rests = λ _. tt }
+    let fewer = one-fewer (rows_between t.from t.to rows) (rows_between (t.from + 1) t.to rows) step.0 step.1 in
+    record { on = λ _. (tt, tt, omega (arith, fewer)); keeps = tt; rests = λ _. tt }
