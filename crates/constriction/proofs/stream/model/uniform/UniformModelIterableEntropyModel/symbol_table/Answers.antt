@@ -1,4 +1,4 @@
-use Rattle.std.proofs.Common.{◌≡◌, ◌+◌, sym}
+use Rattle.std.proofs.Common.{◌+◌, sym}
 use Rattle.constriction.specs.Rows.{uniform_rows}
 use Rattle.constriction.specs.UniformRowLemmas.{length-uniform_rows}
 use Rattle.constriction.proofs.StepLemmas.{all-between, same-length}

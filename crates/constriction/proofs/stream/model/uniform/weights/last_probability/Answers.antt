@@ -1,4 +1,4 @@
-use Rattle.std.proofs.Common.{◌≡◌, ◌*◌, ◌^◌, ◌<◌, arith}
+use Rattle.std.proofs.Common.{arith}
 use Rattle.constriction.specs.UniformRowLemmas.{rest-positive}
 use Rattle.constriction.proofs.UniformLemmas.{bin-fits, rest-wrapped}
 use Rattle.constriction.proofs.stream.model.uniform.weights.last_probability.Goals as goal

@@ -1,4 +1,3 @@
-use Rattle.std.proofs.Common.{◌≡◌, ◌∙◌}
 use Rattle.constriction.proofs.UniformLemmas.{bin-calculated}
 use Rattle.constriction.proofs.stream.model.uniform.weights.probability_per_bin.Goals as goal
 

@@ -1,4 +1,4 @@
-use Rattle.std.proofs.Common.{◌≡◌, ◌+◌, ◌≤◌, sym, arith}
+use Rattle.std.proofs.Common.{◌+◌, sym, arith}
 use Rattle.constriction.specs.Rows.{uniform_rows}
 use Rattle.constriction.specs.UniformRowLemmas.{length-uniform_rows}
 use Rattle.constriction.proofs.StepLemmas.{length-between}

@@ -1,4 +1,4 @@
-use Rattle.std.proofs.Common.{◌≡◌, ℕ, ◌+◌, ◌<◌, ◌≤◌, refl, arith}
+use Rattle.std.proofs.Common.{ℕ, ◌+◌, ◌<◌, ◌≤◌, refl, arith}
 use Rattle.constriction.specs.Rows.{uniform_rows}
 use Rattle.constriction.specs.Tables.{rows_between}
 use Rattle.constriction.specs.UniformRowLemmas.{uniform-at, length-uniform_rows}
