@@ -4,8 +4,8 @@ ghost use Rattle.std.specs.Prelude.{◌≡◌, ◌^◌, ◌<◌, ◌≤◌, leng
 
 use crate::checks::{same, same_at};
 use constriction::stream::model::{
-    ContiguousCategoricalEntropyModel, ContiguousSymbolTable, IterableEntropyModel, ModelError,
-    Weight,
+    ContiguousCategoricalEntropyModel, ContiguousSymbolTable, DecoderModel, EncoderModel,
+    IterableEntropyModel, ModelError, UniformModel, Weight, is_quantile,
 };
 use constriction_words::{BitArray, NonZeroBitArray};
 use std::alloc::{AllocError, Global};
@@ -98,6 +98,35 @@ where
     same(rt, end, 1u64 << PRECISION);
 }
 
+/// Stops the test where a row of the table is not what the model answers for the row's symbol, and for
+/// the first, the middle and the last quantile of it.
+fn answers<M, const PRECISION: usize>(rt: &impl Abort, model: M)
+where
+    M: IterableEntropyModel<PRECISION, Symbol = usize, Probability = u8>
+        + EncoderModel<PRECISION>
+        + DecoderModel<PRECISION>
+        + Copy,
+    requires rows { M.IterableEntropyModel.clones_are_same }
+    requires look_ups { M.DecoderModel.clones_are_same }
+    requires positive { 0 < PRECISION }
+    requires fits { PRECISION ≤ 8 }
+{
+    'rows: for item in model.symbol_table() {
+        let Some((symbol, left, weight)) = row(Some(item)) else {
+            return same(rt, "a row", "no row");
+        };
+        let entry = model.left_cumulative_and_probability(&symbol);
+        let answered = entry.map(|(left, weight)| (symbol, left, weight.get()));
+        same(rt, answered, Some((symbol, left, weight)));
+        for offset in [0, weight / 2, weight.wrapping_sub(1)] {
+            let quantile = left.wrapping_add(offset);
+            assert!(rt; is_quantile::<u8, PRECISION>(quantile));
+            let found = row(Some(model.quantile_function(quantile)));
+            same_at(rt, quantile, found, Some((symbol, left, weight)));
+        }
+    }
+}
+
 const WEIGHTS: [u8; 4] = [3, 18, 1, 42];
 
 /// Whether a step is from the back, how many rows are left before it, and the row that it gives.
@@ -163,5 +192,24 @@ fn rows_of_a_reference_and_of_a_reference_to_it_tile(rt: HostRuntime) -> Result<
     let full = model_of::<u8, 8>(rt.alloc(), &[200], true)?;
     tile::<_, 8>(&rt, &full);
     same(&rt, counts(&full), (2, 2));
+    Ok(())
+}
+
+#[test]
+fn tables_are_what_their_models_answer(rt: HostRuntime) -> Result<(), Fail> {
+    let model = model_of::<u8, 6>(rt.alloc(), &WEIGHTS, false)?;
+    answers::<_, 6>(&rt, &model);
+    let full = model_of::<u8, 8>(rt.alloc(), &[200], true)?;
+    answers::<_, 8>(&rt, &full);
+    for range in [2, 3, 64] {
+        let uniform = UniformModel::<u8, 6>::new(range);
+        tile::<_, 6>(&rt, uniform);
+        answers::<_, 6>(&rt, uniform);
+    }
+    for range in [2, 3, 255, 256] {
+        let uniform = UniformModel::<u8, 8>::new(range);
+        tile::<_, 8>(&rt, &uniform);
+        answers::<_, 8>(&rt, &uniform);
+    }
     Ok(())
 }
