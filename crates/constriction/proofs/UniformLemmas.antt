@@ -1,7 +1,7 @@
 -- The weights of a uniform model as words give them.
 use Rattle.std.proofs.Common.{◌≡◌, ℕ, ◌+◌, ◌-◌, ◌*◌, ◌/◌, ◌%◌, ◌^◌, ◌<◌, ◌≤◌, refl, ap, sym, ◌∙◌, arith}
 use Rattle.std.proofs.Math.Nat.{add-div_right, pow-le-pow_right}
-use Rattle.std.proofs.lemmas.Nat.{le-div, div_below, mul-le}
+use Rattle.std.proofs.lemmas.Nat.{mul-le}
 use Rattle.constriction.specs.UniformRowLemmas.{bin_of, rest_of, bin-positive, bins-fit}
 use Rattle.constriction.proofs.TableLemmas.{difference-mod}
 
@@ -11,14 +11,6 @@ pub bin-divided : (precision last : ℕ) → last < 2 ^ precision
 bin-divided precision last h =
     let all : 2 ^ precision - 1 - last + (last + 1) ≡ 2 ^ precision = omega arith in
     sym (add-div_right (2 ^ precision - 1 - last) {k = last + 1} (omega arith)) ∙ ap (λ n. n / (last + 1)) all
-
--- as many symbols as quantiles
-pub bin-one : (precision last : ℕ) → last + 1 ≡ 2 ^ precision → 1 ≡ bin_of precision last
-bin-one precision last e =
-    let some : 0 < last + 1 = omega arith in
-    let least : 1 ≤ bin_of precision last = le-div 1 (2 ^ precision) (last + 1) some (omega arith) in
-    let most : bin_of precision last < 2 = div_below (2 ^ precision) (last + 1) 2 some (omega arith) in
-    omega arith
 
 -- where there are two symbols, each weight is a word
 pub bin-fits : (bits precision last : ℕ) → precision ≤ bits → 0 < last → last < 2 ^ precision
