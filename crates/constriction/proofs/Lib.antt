@@ -1,8 +1,12 @@
 mod AnswerLemmas
+mod CollectLemmas
 mod Digits
 mod FillLemmas
 mod Halving
+mod HashLemmas
+mod PairedLemmas
 mod ProbeLemmas
+mod ReadLemmas
 mod StepLemmas
 mod TableLemmas
 mod UniformLemmas

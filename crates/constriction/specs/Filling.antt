@@ -1,5 +1,7 @@
 -- How far the quantiles below 2 ^ precision are filled. No public clause cites this module.
-use Rattle.std.specs.Prelude.{◌≡◌, ℕ, ◌+◌, ◌^◌, ◌<◌, List, All, map, sum, Option, Some, None, IfSome}
+use Rattle.std.specs.Prelude.{◌≡◌, ℕ, ◌+◌, ◌^◌, ◌<◌, Bool, List, All, map, sum, Option, Some, None, IfSome}
+use Rattle.std.specs.Option.{option_map}
+use Rattle.constriction.specs.Rows.{Row, symbols_of, entry_of}
 use Rattle.constriction.specs.Stored.{lefts_from}
 
 -- where the next row would begin: none where all quantiles are filled
@@ -22,3 +24,13 @@ pub record IsFilled {Word : Type 0} (whole : Word → ℕ) (bits precision : ℕ
   pub lefts : map whole table ≡ lefts_from 0 (map whole weights)
   pub is : end_of whole precision end ≡ sum (map whole weights)
   pub below : IfSome end (λ next. whole next < 2 ^ precision)
+
+-- these entries hold these rows: the symbol and the left cumulative of each, in order
+abbrev pub HoldsRows : {Word Symbol : Type 0} → (Word → ℕ) → List (Word × Symbol) → List (Row Symbol) → Type 0
+HoldsRows whole entries rows =
+    (map (λ x. x.1) entries ≡ symbols_of rows) × (map (λ x. whole x.0) entries ≡ map (λ r. r.left) rows)
+
+-- a table finds for each symbol its entry in these rows, and nothing where it has none
+abbrev pub HoldsEntries : {Symbol Entry : Type 0} → (Symbol → Symbol → Bool) → (Entry → ℕ × ℕ) → (Symbol → Option Entry) → List (Row Symbol)
+    → Type 0
+HoldsEntries {Symbol} eq numbers found rows = (s : Symbol) → option_map numbers (found s) ≡ entry_of eq rows s

@@ -1,6 +1,7 @@
 pub mod Acceptance
 pub mod CodingLemmas
 pub mod Filling
+pub mod Hashed
 pub mod Laws
 pub mod Model
 pub mod PairLemmas
@@ -11,6 +12,7 @@ pub mod Searching
 pub mod Stored
 pub mod StoredLemmas
 pub mod StoredRowLemmas
+pub mod SymbolRowLemmas
 pub mod Tables
 pub mod UniformRowLemmas
 pub mod WalkLemmas

@@ -20,6 +20,10 @@ rows_from left (s ∷ ss) [] = []
 abbrev pub rows_of : {Symbol : Type 0} → List Symbol → List ℕ → List (Row Symbol)
 rows_of = rows_from 0
 
+-- the symbols of rows, in order
+abbrev pub symbols_of : {Symbol : Type 0} → List (Row Symbol) → List Symbol
+symbols_of rows = map (λ r. r.symbol) rows
+
 -- rows tile: they are the rows of their symbols and weights, and a model accepts these weights
 pub record RowsTile {Symbol : Type 0} (bits precision : ℕ) (rows : List (Row Symbol)) : Type 0 where
   pub accepted : IsAccepted bits precision (map (λ r. r.weight) rows)

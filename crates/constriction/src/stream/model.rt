@@ -2,6 +2,7 @@
 
 mod categorical;
 mod cdf_probe;
+mod convert;
 mod encodes_over;
 mod error;
 mod probe;
@@ -15,8 +16,20 @@ pub use crate::stream::model::categorical::contiguous::{
     ContiguousCategoricalEntropyModel, DefaultContiguousCategoricalEntropyModel,
     SmallContiguousCategoricalEntropyModel,
 };
+pub use crate::stream::model::categorical::hashed::{
+    DefaultNonContiguousCategoricalEncoderModel, NonContiguousCategoricalEncoderModel,
+    SmallNonContiguousCategoricalEncoderModel,
+};
+pub use crate::stream::model::categorical::non_contiguous::{
+    DefaultNonContiguousCategoricalDecoderModel, NonContiguousCategoricalDecoderModel,
+    SmallNonContiguousCategoricalDecoderModel,
+};
+pub use crate::stream::model::categorical::non_contiguous_table::NonContiguousSymbolTable;
 pub use crate::stream::model::categorical::symbol_table::ContiguousSymbolTable;
 pub use crate::stream::model::cdf_probe::{Alone, CdfEntry, CdfProbe, WithSymbol};
+pub use crate::stream::model::convert::{
+    FromIterableEntropyModel, to_generic_decoder_model, to_generic_encoder_model,
+};
 pub use crate::stream::model::encodes_over::EncodesOver;
 pub use crate::stream::model::error::ModelError;
 pub use crate::stream::model::probe::Probe;

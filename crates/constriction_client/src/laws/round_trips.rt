@@ -1,7 +1,8 @@
 //! Items that are written and read back, by one model or by two.
 
 ghost use Rattle.std.specs.Prelude.{◌≡◌, ◌<◌, ◌≤◌, List, length, reverse, Err, IfOk, IfErr, OnOk, OnErr};
-ghost use Rattle.constriction.specs.Rows.{entry_of};
+ghost use Rattle.std.specs.List.{IsDistinct};
+ghost use Rattle.constriction.specs.Rows.{entry_of, symbols_of};
 ghost use Rattle.constriction_client.specs.Coming.{ComeNext, QuantilesCome, GoesBack};
 ghost use Rattle.constriction_client.specs.declared.quantiles.QuantileFault.{QuantileFault};
 ghost use Rattle.constriction_client.specs.Placing.{PlacesItems, EndsPlacing};
@@ -9,7 +10,11 @@ ghost use Rattle.constriction_client.specs.Quantiles.{ArePairs, Reads};
 ghost use Rattle.constriction_client.specs.ThereAndBack.{AreItems, HasFault};
 
 use crate::quantiles::{QuantileFault, ReadFault, read_symbols, write_quantiles};
-use constriction::stream::model::{DecoderModel, EncoderModel, EncodesOver};
+use constriction::stream::model::{
+    DecoderModel, EncoderModel, EncodesOver, EntropyModel, IterableEntropyModel, ModelError,
+    NonContiguousCategoricalDecoderModel, NonContiguousCategoricalEncoderModel,
+    to_generic_decoder_model, to_generic_encoder_model,
+};
 use constriction_backends::laws::extending_overwrites;
 use constriction_backends::{BoundedWriteError, Cursor, ReadWords, SafeBufMut};
 use constriction_words::{
@@ -17,10 +22,22 @@ use constriction_words::{
 };
 use std::alloc::{AllocError, Global};
 use std::convert::Infallible;
+use std::hash::Hash;
 
 /// Why items did not come back from a cursor: the fault of an item, memory that was refused when
 /// they were read, or a quantile that found no place.
 pub type CursorFault = CoderError<QuantileFault, ReadWriteError<AllocError, BoundedWriteError>>;
+
+/// A decoder model of some rows, and the encoder model of their entries.
+pub type DecoderAndEncoder<Symbol, Probability, const PRECISION: usize> = (
+    NonContiguousCategoricalDecoderModel<
+        Symbol,
+        Probability,
+        Vec<(Probability, Symbol)>,
+        PRECISION,
+    >,
+    NonContiguousCategoricalEncoderModel<Symbol, Probability, PRECISION>,
+);
 
 /// Reads so many words, which are quantiles, and answers their pairs.
 fn read_back<S: Semantics, D, R, const PRECISION: usize>(
@@ -103,6 +120,36 @@ where
         → HasFault (entry_of M.symbol_eq (M.rows model.now)) M.Probability.whole items.now fault }
 {
     there_and_back_of_two(alloc, model, model, items)
+}
+
+/// The decoder model of the rows of any model that can be walked through, and the hashed encoder model
+/// of its entries. They agree, so that what the one writes the other reads: they are the two models that
+/// [`there_and_back_of_two`] and [`there_and_back_in_a_cursor`] take.
+///
+/// `InvalidTable` comes exactly where two symbols of the rows are equal, `OutOfMemory` where memory is
+/// refused. The model is walked through twice.
+pub fn decoder_and_encoder<M, const PRECISION: usize>(
+    alloc: Global,
+    model: M,
+) -> Result<DecoderAndEncoder<M::Symbol, M::Probability, PRECISION>, ModelError>
+where
+    M: IterableEntropyModel<PRECISION> + Copy,
+    M::Symbol: Hash + Eq + Drop,
+    requires positive { 0 < PRECISION }
+    requires fits { PRECISION ≤ M.Probability.BITS }
+    requires clones { M.clones_are_same }
+    ensures rows { IfOk result (λ both.
+        ⟦<NonContiguousCategoricalDecoderModel<M::Symbol, M::Probability, Vec<(M::Probability, M::Symbol)>, PRECISION> as EntropyModel<PRECISION>>⟧.rows both.0
+        ≡ M.rows model) }
+    ensures alike { IfOk result (λ both. (s : M.Symbol) → entry_of M.Symbol.eq
+        (⟦<NonContiguousCategoricalEncoderModel<M::Symbol, M::Probability, PRECISION> as EntropyModel<PRECISION>>⟧.rows both.1) s
+        ≡ entry_of M.Symbol.eq
+        (⟦<NonContiguousCategoricalDecoderModel<M::Symbol, M::Probability, Vec<(M::Probability, M::Symbol)>, PRECISION> as EntropyModel<PRECISION>>⟧.rows both.0) s) }
+    ensures invalid { result ≡ Err ModelError.InvalidTable → ¬ (IsDistinct M.Symbol.eq (symbols_of (M.rows model))) }
+{
+    let decoder = to_generic_decoder_model::<M, PRECISION>(alloc, model)?;
+    let encoder = to_generic_encoder_model::<M, PRECISION>(alloc, model)?;
+    Ok((decoder, encoder))
 }
 
 /// Writes items to a cursor, and goes back to where it stood.

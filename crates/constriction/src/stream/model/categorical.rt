@@ -1,6 +1,10 @@
 //! Models that are given by a list of weights.
 
 pub mod contiguous;
-mod filling;
+pub(crate) mod filling;
+pub mod hashed;
+pub mod non_contiguous;
+pub mod non_contiguous_table;
+mod reading;
 mod stored;
 pub mod symbol_table;

@@ -38,7 +38,7 @@ fn and_word<P: WholeNumber>(mut table: Vec<P>, word: P) -> Result<Vec<P>, AllocE
 /// `2^BITS`, and `room` the number of quantiles after the first one of the row. Otherwise the row takes
 /// no quantile, or more than there are.
 #[inline]
-fn is_filled_by<P: WholeNumber>(weight: P, last: P, room: P) -> bool
+pub(crate) fn is_filled_by<P: WholeNumber>(weight: P, last: P, room: P) -> bool
     requires last { (P.whole last + 1) % 2 ^ P.BITS ≡ P.whole weight }
     requires range { P.whole last < 2 ^ P.BITS }
     requires too_much { P.whole room ≤ P.whole last }
@@ -48,9 +48,30 @@ fn is_filled_by<P: WholeNumber>(weight: P, last: P, room: P) -> bool
     !weight.is_least() && last.is_at_most(room)
 }
 
+/// How many rows to ask memory for at once, where so many are announced: no more than any list that is
+/// accepted has.
+#[inline]
+pub(crate) fn rows_announced<const PRECISION: usize>(announced: usize) -> usize {
+    if PRECISION < 63 && announced > 1usize << PRECISION {
+        return 1usize << PRECISION;
+    }
+    announced
+}
+
+/// An empty list with room for so many items, where memory for that is not refused: what refuses the
+/// items that come decides nothing yet.
+#[inline]
+pub(crate) fn room_for<T: Drop>(alloc: Global, announced: usize) -> Vec<T>
+    ensures { result.items ≡ [] }
+{
+    match Vec::with_capacity(alloc, announced) {
+        Ok(room) => room,
+        Err(_) => Vec::new(alloc),
+    }
+}
+
 /// How many words to ask memory for at once: one for each weight that is announced, one for the
-/// inferred one, and one for the total. A list that is announced to be longer than any that is
-/// accepted has no more than that one.
+/// inferred one, and one for the total.
 #[inline]
 fn words_needed<const PRECISION: usize>(announced: usize, infer_last: bool) -> usize {
     let rows = if infer_last {
@@ -58,10 +79,7 @@ fn words_needed<const PRECISION: usize>(announced: usize, infer_last: bool) -> u
     } else {
         announced
     };
-    if PRECISION < 63 && rows > 1usize << PRECISION {
-        return 1 + (1usize << PRECISION);
-    }
-    rows.saturating_add(1)
+    rows_announced::<PRECISION>(rows).saturating_add(1)
 }
 
 /// The table of these weights, the last of which may be inferred.

@@ -1,9 +1,9 @@
 //! The rows of a stored table.
 
 ghost use Rattle.std.specs.Prelude.{◌≡◌, ◌+◌, ◌<◌, ◌≤◌, length, map, slice_index};
-ghost use Rattle.constriction.specs.Stored.{IsTable, lefts_in, weights_of};
+ghost use Rattle.constriction.specs.Stored.{IsStored, IsTable, lefts_in, weights_of};
 
-use crate::stream::model::cdf_probe::{Alone, CdfEntry};
+use crate::stream::model::cdf_probe::{Alone, CdfEntry, WithSymbol};
 use constriction_words::{BitArray, WholeNumber};
 
 /// Where the row at `index` begins, and its weight: the difference to where the next one begins.
@@ -39,5 +39,49 @@ pub(crate) fn row_at<P: BitArray, const PRECISION: usize>(
         ≡ slice_index (weights_of PRECISION (lefts_in (map P.whole cdf.now))) index }
 {
     let (left, weight) = row_words_at::<P, Alone, PRECISION>(cdf, index);
+    (left, weight.into_nonzero_unchecked())
+}
+
+/// Where the row at `index` begins, and its weight, of entries after which no total stands: the last
+/// row ends at `2^PRECISION`, which wraps to 0 where that is no word.
+#[inline]
+fn row_words_among<Entry, Kind: CdfEntry<Entry>, const PRECISION: usize>(
+    entries: &[Entry],
+    index: usize,
+) -> (Kind::Word, Kind::Word)
+    requires some { 0 < PRECISION }
+    requires fits { PRECISION ≤ Kind.Word.BITS }
+    requires stored { IsStored Kind.Word.BITS PRECISION (map Kind.cumulative entries.now) }
+    requires in_bounds { index < length entries.now }
+    ensures left { Kind.Word.whole result.0 ≡ slice_index (map Kind.cumulative entries.now) index }
+    ensures weight { Kind.Word.whole result.1
+        ≡ slice_index (weights_of PRECISION (map Kind.cumulative entries.now)) index }
+    ensures positive { 0 < Kind.Word.whole result.1 }
+{
+    let left = Kind::cumulative_of(&entries[index]);
+    let end = if index + 1 < entries.len() {
+        Kind::cumulative_of(&entries[index + 1])
+    } else {
+        Kind::Word::wrapping_pow2(PRECISION)
+    };
+    (left, end.wrapping_minus(left))
+}
+
+/// Where the row at `index` begins, and its weight as a word that is not 0, of entries that have a
+/// left cumulative and a symbol each.
+#[inline]
+pub(crate) fn paired_row_at<P: BitArray, Symbol, const PRECISION: usize>(
+    entries: &[(P, Symbol)],
+    index: usize,
+) -> (P, P::NonZero)
+    requires some { 0 < PRECISION }
+    requires fits { PRECISION ≤ P.BITS }
+    requires stored { IsStored P.BITS PRECISION (map (λ x. P.whole x.0) entries.now) }
+    requires in_bounds { index < length entries.now }
+    ensures left { P.whole result.0 ≡ slice_index (map (λ x. P.whole x.0) entries.now) index }
+    ensures weight { P.whole (P.NonZero.base result.1)
+        ≡ slice_index (weights_of PRECISION (map (λ x. P.whole x.0) entries.now)) index }
+{
+    let (left, weight) = row_words_among::<(P, Symbol), WithSymbol, PRECISION>(entries, index);
     (left, weight.into_nonzero_unchecked())
 }

@@ -1,0 +1,156 @@
+-- Rows whose left cumulatives are stored beside their symbols, without a total after them.
+use Rattle.std.specs.Prelude.{⊤}
+use Rattle.std.specs.List.{IsDistinct}
+use Rattle.std.proofs.Common.{Bool, ◌≡◌, ℕ, ◌+◌, ◌-◌, ◌%◌, ◌^◌, ◌<◌, ◌≤◌, List, [], ◌∷◌, ◌++◌, length, get_or, map, refl, ap, sym, ◌∙◌, arith, inl, inr}
+use Rattle.std.proofs.Math.Nat.{mod-eq_of_lt, pow-le-pow_right}
+use Rattle.std.proofs.lemmas.Bool.{cases_lt}
+use Rattle.std.proofs.lemmas.List.{length-map, get_or-map, get_or_default}
+use Rattle.constriction.specs.Acceptance.{AreAccepted}
+use Rattle.constriction.specs.Filling.{HoldsRows}
+use Rattle.constriction.specs.RowLemmas.{weights-rows_from, symbols-rows_from}
+use Rattle.constriction.specs.Rows.{Row, rows_of, symbols_of, RowsTile, IsRowOf}
+use Rattle.constriction.specs.Stored.{IsStored, weights_of}
+use Rattle.constriction.specs.StoredLemmas.{IsRowAt, stored-row, stored-of_rows, lefts-rows_from, take-length}
+use Rattle.constriction.specs.SymbolRowLemmas.{symbols-many, symbol-rows_many, symbol-row_at, symbol-is_at, symbol-row_of, paired-long}
+use Rattle.constriction.specs.Probe.{TellsRows, IsRowIndexOf, IsSearchable, IsLastAtMost}
+use Rattle.constriction.specs.Tables.{rows_paired, rows_between}
+use Rattle.constriction.proofs.ProbeLemmas.{stored-searchable}
+use Rattle.constriction.proofs.StepLemmas.{all-between, length-between, first-between, last-between}
+use Rattle.constriction.proofs.TableLemmas.{difference-mod}
+
+-- the weight of a row is the difference of its two ends, modulo 2 ^ bits, where the last row ends at 2 ^ precision
+pub stored-weight : (bits precision : ℕ) (lefts : List ℕ) (i left end weight : ℕ) → IsStored bits precision lefts → precision ≤ bits
+    → i < length lefts → get_or lefts i 0 ≡ left → (i + 1 < length lefts → get_or lefts (i + 1) 0 ≡ end)
+    → (length lefts ≤ i + 1 → end ≡ 2 ^ precision % 2 ^ bits)
+    → weight < 2 ^ bits → (weight + left) % 2 ^ bits ≡ end → weight ≡ get_or (weights_of precision lefts) i 0
+stored-weight bits precision lefts i left end weight t narrow h l more last small e =
+    let w : ℕ = get_or (weights_of precision lefts) i 0 in
+    let row = stored-row bits precision lefts i t h in
+    let below : 2 ^ precision ≤ 2 ^ bits = pow-le-pow_right {n = 2} (omega arith) narrow in
+    let low : left < 2 ^ bits = omega (arith, l, row.within, row.positive) in
+    let there : end ≡ (w + left) % 2 ^ bits = elim (cases_lt (i + 1) (length lefts)) [
+      | inl within ↦
+          let later = stored-row bits precision lefts (i + 1) t within in
+          let next : get_or lefts (i + 1) 0 ≡ w + left = omega (arith, row.next within, l) in
+          let fits : w + left < 2 ^ bits = omega (arith, later.positive, later.within) in
+          sym (more within) ∙ next ∙ sym (mod-eq_of_lt fits)
+      | inr past ↦
+          let all : 2 ^ precision ≡ w + left = omega (arith, row.last (omega arith), l) in
+          last past ∙ ap (λ n. n % 2 ^ bits) all
+    ] in
+    difference-mod (2 ^ bits) weight w left small row.fits low (e ∙ there)
+
+module _ {Symbol Word : Type 0} (whole : Word → ℕ) (bits precision : ℕ) (entries : List (Word × Symbol))
+    (t : IsStored bits precision (map (λ x. whole x.0) entries)) where
+  -- as many rows as entries
+  pub paired-many : length (rows_paired whole precision entries) ≡ length entries
+  paired-many =
+      symbol-rows_many bits precision (map (λ x. x.1) entries) (map (λ x. whole x.0) entries) t (paired-long whole bits precision entries t)
+      ∙ length-map entries (λ x. whole x.0)
+
+  pub paired-lefts : map (λ r. r.left) (rows_paired whole precision entries) ≡ map (λ x. whole x.0) entries
+  paired-lefts =
+      lefts-rows_from 0 (map (λ x. x.1) entries) (weights_of precision (map (λ x. whole x.0) entries))
+      (symbols-many bits precision (map (λ x. x.1) entries) (map (λ x. whole x.0) entries) t (paired-long whole bits precision entries t))
+      ∙ sym t.in_order
+
+  -- a probe of all entries tells all rows
+  pub paired-tells : TellsRows (rows_paired whole precision entries) (λ _. ⊤) 0 (map (λ x. whole x.0) entries)
+  paired-tells =
+      let long : length (map (λ x. whole x.0) entries) ≡ length entries = length-map entries (λ x. whole x.0) in
+      record {
+        exactly = λ i r h. ((λ _. (omega arith, omega (arith, paired-many))), (λ _. tt));
+        within = omega (arith, paired-many);
+        in_order = sym (rw paired-lefts (take-length (map (λ x. whole x.0) entries)));
+      }
+
+  -- the row of an entry
+  pub paired-at : (i l w : ℕ) (s : Symbol) (x : Word × Symbol) → i < length entries → x ≡ get_or entries i x → s ≡ x.1
+      → l ≡ get_or (map (λ x. whole x.0) entries) i 0 → w ≡ get_or (weights_of precision (map (λ x. whole x.0) entries)) i 0
+      → get_or (rows_paired whole precision entries) i (record { symbol = s; left = l; weight = w })
+      ≡ record { symbol = s; left = l; weight = w }
+  paired-at i l w s x h is se le we =
+      let there : s ≡ get_or (map (λ y. y.1) entries) i s = se ∙ ap (λ y. y.1) is ∙ sym (get_or-map (λ y. y.1) entries i x s h) in
+      symbol-is_at bits precision (map (λ y. y.1) entries) (map (λ y. whole y.0) entries) t (paired-long whole bits precision entries t) i l w s
+      (omega (arith, length-map entries (λ y. whole y.0))) there le we
+
+  pub paired-found : (q i : ℕ) → q < 2 ^ precision → IsLastAtMost (map (λ x. whole x.0) entries) q i
+      → IsRowIndexOf (rows_paired whole precision entries) q i
+  paired-found q i below f =
+      let ss = map (λ x. x.1) entries in
+      let lefts : List ℕ = map (λ x. whole x.0) entries in
+      let many = paired-long whole bits precision entries t in
+      record {
+        in_bounds = omega (arith, f.in_bounds, paired-many, length-map entries (λ x. whole x.0));
+        row = λ r. rw (symbol-row_at bits precision ss lefts t many i r f.in_bounds)
+            (symbol-row_of bits precision ss lefts t many q i _ _ (get_or ss i r.symbol) f.in_bounds
+            (symbol-again i r.symbol f.in_bounds) refl refl f.at_most (λ h. f.last (i + 1) (omega arith) h) below);
+      }
+    where
+      symbol-again : (i : ℕ) (d : Symbol) → i < length (map (λ x. whole x.0) entries)
+          → get_or (map (λ x. x.1) entries) i d ≡ get_or (map (λ x. x.1) entries) i (get_or (map (λ x. x.1) entries) i d)
+      symbol-again i d h = get_or_default (map (λ x. x.1) entries) i d _ (omega (arith, h, paired-long whole bits precision entries t))
+
+  -- the index of a quantile's row is one of an entry
+  pub paired-index : (q i : ℕ) → IsRowIndexOf (rows_paired whole precision entries) q i → i < length entries
+  paired-index q i f = omega (arith, f.in_bounds, paired-many)
+
+  pub paired-answer : (q i l w : ℕ) (s : Symbol) (x : Word × Symbol) → IsRowIndexOf (rows_paired whole precision entries) q i
+      → x ≡ get_or entries i x → s ≡ x.1
+      → l ≡ get_or (map (λ x. whole x.0) entries) i 0 → w ≡ get_or (weights_of precision (map (λ x. whole x.0) entries)) i 0
+      → IsRowOf (rows_paired whole precision entries) q (record { symbol = s; left = l; weight = w })
+  paired-answer q i l w s x f is se le we =
+      rw (paired-at i l w s x (paired-index q i f) is se le we) at (f.row (record { symbol = s; left = l; weight = w }))
+
+  -- what is known of an entry's row
+  pub paired-row : (i : ℕ) → i < length entries
+      → IsRowAt bits precision (map (λ x. whole x.0) entries) i (get_or (weights_of precision (map (λ x. whole x.0) entries)) i 0)
+  paired-row i h = stored-row bits precision (map (λ x. whole x.0) entries) i t (omega (arith, h, length-map entries (λ x. whole x.0)))
+
+  -- walks through the rows
+  pub paired-all : rows_between 0 (length entries) (rows_paired whole precision entries) ≡ rows_paired whole precision entries
+  paired-all = all-between (rows_paired whole precision entries) (length entries) (sym paired-many)
+
+  pub paired-left : (i j : ℕ) → j ≤ length entries → length (rows_between i j (rows_paired whole precision entries)) ≡ j - i
+  paired-left i j h = length-between (rows_paired whole precision entries) i j (omega (arith, paired-many))
+
+  pub paired-first : (i j l w : ℕ) (x : Word × Symbol) → i < j → j ≤ length entries → x ≡ get_or entries i x
+      → l ≡ get_or (map (λ x. whole x.0) entries) i 0 → w ≡ get_or (weights_of precision (map (λ x. whole x.0) entries)) i 0
+      → rows_between i j (rows_paired whole precision entries)
+      ≡ record { symbol = x.1; left = l; weight = w } ∷ rows_between (i + 1) j (rows_paired whole precision entries)
+  paired-first i j l w x h k is le we =
+      first-between (rows_paired whole precision entries) i j _ h (omega (arith, paired-many))
+      (paired-at i l w x.1 x (omega arith) is refl le we)
+
+  pub paired-last : (i j l w : ℕ) (x : Word × Symbol) → i < j → j ≤ length entries → x ≡ get_or entries (j - 1) x
+      → l ≡ get_or (map (λ x. whole x.0) entries) (j - 1) 0
+      → w ≡ get_or (weights_of precision (map (λ x. whole x.0) entries)) (j - 1) 0
+      → rows_between i j (rows_paired whole precision entries)
+      ≡ rows_between i (j - 1) (rows_paired whole precision entries) ++ record { symbol = x.1; left = l; weight = w } ∷ []
+  paired-last i j l w x h k is le we =
+      last-between (rows_paired whole precision entries) i j _ h (omega (arith, paired-many))
+      (paired-at (j - 1) l w x.1 x (omega arith) is refl le we)
+
+-- entries that hold rows which tile
+pub paired-of_rows : {Symbol Word : Type 0} (whole : Word → ℕ) (bits precision : ℕ) (rows : List (Row Symbol))
+    (entries : List (Word × Symbol)) → RowsTile bits precision rows → HoldsRows whole entries rows
+    → IsStored bits precision (map (λ x. whole x.0) entries) × (rows_paired whole precision entries ≡ rows)
+paired-of_rows whole bits precision rows entries t h =
+    let table = stored-of_rows bits precision rows t in
+    (rw h.1 table.0, rw (h.0, h.1) table.1)
+
+-- the rows of accepted symbols and weights
+module _ {Symbol : Type 0} (eq : Symbol → Symbol → Bool) (bits precision : ℕ) (ss : List Symbol) (ws : List ℕ)
+    (a : AreAccepted eq bits precision ss ws) where
+  pub accepted-tile : RowsTile bits precision (rows_of ss ws)
+  accepted-tile =
+      let weights = weights-rows_from 0 ss ws a.as_many in
+      let symbols = symbols-rows_from 0 ss ws a.as_many in
+      record { accepted = rw weights a.tile; in_order = rw (weights, symbols) refl }
+
+  pub accepted-symbols : symbols_of (rows_of ss ws) ≡ ss
+  accepted-symbols = symbols-rows_from 0 ss ws a.as_many
+
+  pub paired-distinct : {Word : Type 0} (whole : Word → ℕ) (entries : List (Word × Symbol)) → HoldsRows whole entries (rows_of ss ws)
+      → IsDistinct eq (map (λ x. x.1) entries)
+  paired-distinct whole entries h = rw (h.0, accepted-symbols) a.distinct

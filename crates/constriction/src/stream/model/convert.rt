@@ -1,0 +1,163 @@
+//! Models that are made from any model that can be walked through.
+
+ghost use Rattle.std.specs.Prelude.{◌≡◌, ◌<◌, ◌≤◌, length, IfOk, IfErr};
+ghost use Rattle.std.specs.List.{IsDistinct};
+ghost use Rattle.std.specs.Set.{distinct_count};
+ghost use Rattle.constriction.specs.Hashed.{SameEntries};
+ghost use Rattle.constriction.specs.Rows.{symbols_of};
+
+use crate::stream::model::categorical::filling::{room_for, rows_announced};
+use crate::stream::model::categorical::hashed::{
+    Entry, NonContiguousCategoricalEncoderModel, table_for,
+};
+use crate::stream::model::categorical::non_contiguous::{
+    NonContiguousCategoricalDecoderModel, has_symbol,
+};
+use crate::stream::model::error::ModelError;
+use crate::stream::model::traits::{EntropyModel, IterableEntropyModel};
+use std::alloc::Global;
+use std::hash::Hash;
+use std::marker::PhantomData;
+
+/// A model that is made from any model that can be walked through.
+///
+/// The trait takes that model `M`, so that its words and symbols are those of the result. It has to be in
+/// scope where `from_iterable_entropy_model` is called.
+pub trait FromIterableEntropyModel<
+    M: IterableEntropyModel<PRECISION>,
+    const PRECISION: usize,
+>: Sized {
+    // What the result tells of the model that it is made from.
+    ghost tells: { M → Self → Type 0 };
+
+    // Where none is made of a model, want of memory aside. Of a type that refuses no model it is ⊥.
+    ghost refuses: { M → Type 0 };
+
+    /// The model of the same rows. `OutOfMemory` comes where memory for it, or for a clone of a symbol, is
+    /// refused, `InvalidTable` where the type says so.
+    fn from_iterable_entropy_model(alloc: Global, model: M) -> Result<Self, ModelError>
+        requires positive { 0 < PRECISION }
+        requires fits { PRECISION ≤ M.Probability.BITS }
+        requires clones { M.clones_are_same }
+        ensures ok { IfOk result (tells model) }
+        ensures invalid { result ≡ Err ModelError.InvalidTable → refuses model };
+}
+
+/// It tells the rows of its source, no two symbols of which are equal, and refuses a source that has two
+/// equal symbols.
+impl<M, const PRECISION: usize> FromIterableEntropyModel<M, PRECISION>
+    for NonContiguousCategoricalDecoderModel<
+        M::Symbol,
+        M::Probability,
+        Vec<(M::Probability, M::Symbol)>,
+        PRECISION,
+    >
+where
+    M: IterableEntropyModel<PRECISION>,
+    M::Symbol: Eq + Drop,
+{
+    ghost tells = { λ m d.
+        (⟦<NonContiguousCategoricalDecoderModel<M::Symbol, M::Probability, Vec<(M::Probability, M::Symbol)>, PRECISION> as EntropyModel<PRECISION>>⟧.rows d
+        ≡ M.rows m) × IsDistinct M.Symbol.eq (symbols_of (M.rows m)) };
+
+    ghost refuses = { λ m. ¬ (IsDistinct M.Symbol.eq (symbols_of (M.rows m))) };
+
+    fn from_iterable_entropy_model(alloc: Global, model: M) -> Result<Self, ModelError> {
+        to_generic_decoder_model::<M, PRECISION>(alloc, model)
+    }
+}
+
+/// It has the entries of its source, of each symbol that of the last row, and refuses no source.
+impl<M, const PRECISION: usize> FromIterableEntropyModel<M, PRECISION>
+    for NonContiguousCategoricalEncoderModel<M::Symbol, M::Probability, PRECISION>
+where
+    M: IterableEntropyModel<PRECISION>,
+    M::Symbol: Hash + Eq + Drop,
+{
+    ghost tells = { λ m e. SameEntries M.Symbol.eq
+        (⟦<NonContiguousCategoricalEncoderModel<M::Symbol, M::Probability, PRECISION> as EntropyModel<PRECISION>>⟧.rows e)
+        (M.rows m) × (length
+        (⟦<NonContiguousCategoricalEncoderModel<M::Symbol, M::Probability, PRECISION> as EntropyModel<PRECISION>>⟧.rows e)
+        ≡ distinct_count M.Symbol.eq (symbols_of (M.rows m))) };
+
+    ghost refuses = { λ _. ⊥ };
+
+    fn from_iterable_entropy_model(alloc: Global, model: M) -> Result<Self, ModelError> {
+        to_generic_encoder_model::<M, PRECISION>(alloc, model)
+    }
+}
+
+/// The decoder model of the same rows as any model that can be walked through.
+///
+/// `InvalidTable` comes exactly where two symbols of the rows are equal. `OutOfMemory` comes where memory
+/// for the entries, or for a clone of a symbol, is refused.
+///
+/// One walk, and each symbol is compared with those before it: `n * (n - 1) / 2` comparisons for `n` rows.
+pub fn to_generic_decoder_model<M, const PRECISION: usize>(
+    alloc: Global,
+    model: M,
+) -> Result<
+    NonContiguousCategoricalDecoderModel<
+        M::Symbol,
+        M::Probability,
+        Vec<(M::Probability, M::Symbol)>,
+        PRECISION,
+    >,
+    ModelError,
+>
+where
+    M: IterableEntropyModel<PRECISION>,
+    M::Symbol: Eq + Drop,
+    requires positive { 0 < PRECISION }
+    requires fits { PRECISION ≤ M.Probability.BITS }
+    requires clones { M.clones_are_same }
+    ensures ok { IfOk result (λ d.
+        (⟦<NonContiguousCategoricalDecoderModel<M::Symbol, M::Probability, Vec<(M::Probability, M::Symbol)>, PRECISION> as EntropyModel<PRECISION>>⟧.rows d
+        ≡ M.rows model) × IsDistinct M.Symbol.eq (symbols_of (M.rows model))) }
+    ensures invalid { result ≡ Err ModelError.InvalidTable → ¬ (IsDistinct M.Symbol.eq (symbols_of (M.rows model))) }
+{
+    let mut walk = model.symbol_table();
+    let mut cdf = room_for(alloc, rows_announced::<PRECISION>(walk.size_hint().0));
+    'rows: while let Some(row) = walk.next() {
+        let (symbol, left, _weight) = row?;
+        if has_symbol(&cdf, &symbol) {
+            return Err(ModelError::InvalidTable);
+        }
+        cdf.push((left, symbol))?;
+    }
+    Ok(NonContiguousCategoricalDecoderModel {
+        cdf,
+        entries: PhantomData,
+    })
+}
+
+/// The encoder model of the same entries as any model that can be walked through: of each symbol it has
+/// the last row.
+///
+/// The only refusal is `OutOfMemory`, where memory for the table, or for a clone of a symbol, is refused.
+///
+/// One walk, and one hash a row.
+pub fn to_generic_encoder_model<M, const PRECISION: usize>(
+    alloc: Global,
+    model: M,
+) -> Result<NonContiguousCategoricalEncoderModel<M::Symbol, M::Probability, PRECISION>, ModelError>
+where
+    M: IterableEntropyModel<PRECISION>,
+    M::Symbol: Hash + Eq + Drop,
+    requires clones { M.clones_are_same }
+    ensures entries { IfOk result (λ e. SameEntries M.Symbol.eq
+        (⟦<NonContiguousCategoricalEncoderModel<M::Symbol, M::Probability, PRECISION> as EntropyModel<PRECISION>>⟧.rows e)
+        (M.rows model)) }
+    ensures size { IfOk result (λ e. length
+        (⟦<NonContiguousCategoricalEncoderModel<M::Symbol, M::Probability, PRECISION> as EntropyModel<PRECISION>>⟧.rows e)
+        ≡ distinct_count M.Symbol.eq (symbols_of (M.rows model))) }
+    ensures refused { IfErr result (λ e. e ≡ ModelError.OutOfMemory) }
+{
+    let mut walk = model.symbol_table();
+    let mut table = table_for(alloc, rows_announced::<PRECISION>(walk.size_hint().0));
+    'rows: while let Some(row) = walk.next() {
+        let (symbol, left, weight) = row?;
+        table.insert(symbol, Entry { left, weight })?;
+    }
+    Ok(NonContiguousCategoricalEncoderModel { table })
+}
