@@ -154,3 +154,17 @@ module _ {Symbol : Type 0} (eq : Symbol → Symbol → Bool) (bits precision : �
   pub paired-distinct : {Word : Type 0} (whole : Word → ℕ) (entries : List (Word × Symbol)) → HoldsRows whole entries (rows_of ss ws)
       → IsDistinct eq (map (λ x. x.1) entries)
   paired-distinct whole entries h = rw (h.0, accepted-symbols) a.distinct
+
+-- the symbols and weights of rows that tile, no two symbols of which are equal
+pub tiling-rebuilds : {Symbol : Type 0} (eq : Symbol → Symbol → Bool) (bits precision : ℕ) (rows : List (Row Symbol))
+    → RowsTile bits precision rows → IsDistinct eq (symbols_of rows)
+    → AreAccepted eq bits precision (symbols_of rows) (map (λ r. r.weight) rows)
+    × (rows_of (symbols_of rows) (map (λ r. r.weight) rows) ≡ rows)
+tiling-rebuilds eq bits precision rows t distinct = (
+  record {
+    tile = t.accepted;
+    as_many = length-map rows (λ r. r.symbol) ∙ sym (length-map rows (λ r. r.weight));
+    distinct = distinct;
+  },
+  sym t.in_order,
+)

@@ -3,7 +3,8 @@ use Rattle.std.specs.Prelude.{◌≡◌, ◌↔◌, ℕ, ◌+◌, ◌-◌, ◌^�
 use Rattle.std.specs.Cmp.{IsPartialEquivalence}
 use Rattle.std.specs.Iterator.{Yields, Drains}
 use Rattle.std.specs.List.{AllZip, IsDistinct}
-use Rattle.constriction.specs.Rows.{Row, IsRowOf, contiguous_rows, entry_of, uniform_rows}
+use Rattle.constriction.specs.Acceptance.{AreAccepted}
+use Rattle.constriction.specs.Rows.{Row, IsRowOf, contiguous_rows, entry_of, rows_of, symbols_of, uniform_rows}
 use Rattle.constriction.specs.Model.{row_of}
 use Rattle.constriction.specs.Tables.{StandsFor}
 
@@ -54,10 +55,6 @@ abbrev pub UniformRowsAreAsMany : Type 0
 UniformRowsAreAsMany = (precision n : ℕ) → 0 < n → length (uniform_rows precision n) ≡ n
 
 -- ---- symbols with offsets, and quantiles
-
--- the symbols of rows, in order
-abbrev pub symbols_of : {Symbol : Type 0} → List (Row Symbol) → List Symbol
-symbols_of rows = map (λ r. r.symbol) rows
 
 -- no two symbols of a contiguous model are equal, and so of a uniform one
 abbrev pub ContiguousSymbolsDiffer : Type 0
@@ -111,3 +108,12 @@ AnswerAlike {Symbol} precision rows others =
 abbrev pub EqualAnswers : {Symbol M N : Type 0} → ℕ → (M → List (Row Symbol)) → (N → List (Row Symbol)) → Type 0
 EqualAnswers {M = M} {N = N} precision rows others =
     (m : M) (n : N) → AnswerAlike precision (rows m) (others n) ↔ (rows m ≡ others n)
+
+-- ---- a table given to a constructor
+
+-- Where no two symbols of a model's rows are equal, their symbols and weights are accepted, and the rows of these are the model's again.
+abbrev pub Rebuilds : {M Symbol : Type 0} → (Symbol → Symbol → Bool) → ℕ → ℕ → (M → List (Row Symbol)) → Type 0
+Rebuilds {M} eq bits precision rows =
+    (m : M) → IsDistinct eq (symbols_of (rows m))
+    → AreAccepted eq bits precision (symbols_of (rows m)) (map (λ r. r.weight) (rows m))
+    × (rows_of (symbols_of (rows m)) (map (λ r. r.weight) (rows m)) ≡ rows m)

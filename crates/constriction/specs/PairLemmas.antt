@@ -9,10 +9,10 @@ use Rattle.std.proofs.lemmas.List.{length-map}
 use Rattle.std.proofs.lemmas.List.FromFn.{length-range_with_len}
 use Rattle.std.proofs.lemmas.List.Sums.{sum_by-cons}
 use Rattle.std.proofs.lemmas.Map.Keys.{IsDistinct-head, IsDistinct-tail}
-use Rattle.constriction.specs.Rows.{Row, RowsTile, IsRowOf, rows_from, entry_of, indices, contiguous_rows}
+use Rattle.constriction.specs.Rows.{Row, RowsTile, IsRowOf, rows_from, entry_of, indices, contiguous_rows, symbols_of}
 use Rattle.constriction.specs.RowLemmas.{entry_of-cons, symbols-rows_from}
 use Rattle.constriction.specs.CodingLemmas.{entry-row, entry-below, one-row, rows-within}
-use Rattle.constriction.specs.Laws.{symbols_of, ContiguousSymbolsDiffer, IsQuantileAt, IsOneToOne, PairsAreQuantiles}
+use Rattle.constriction.specs.Laws.{ContiguousSymbolsDiffer, IsQuantileAt, IsOneToOne, PairsAreQuantiles}
 
 -- a row among others is one among more
 pub row-further : {Symbol : Type 0} (x : Row Symbol) (xs : List (Row Symbol)) (q : ℕ) (r : Row Symbol) → IsRowOf xs q r

@@ -2,7 +2,7 @@
 //! each model that meets the traits, those of the caller too.
 
 ghost use Rattle.constriction.specs.Laws.{WalksRows, GivesAllRows, GivesAsMany, AnswersAreInTable, UniformRowsAreAsMany};
-ghost use Rattle.constriction.specs.Laws.{PairsAreQuantiles, ContiguousSymbolsDiffer, EqualAnswers};
+ghost use Rattle.constriction.specs.Laws.{PairsAreQuantiles, ContiguousSymbolsDiffer, EqualAnswers, Rebuilds};
 
 use crate::stream::model::{DecoderModel, EncodesOver, EntropyModel, IterableEntropyModel};
 
@@ -75,4 +75,18 @@ where
     M: DecoderModel<PRECISION>,
     N: DecoderModel<PRECISION> + EntropyModel<PRECISION, Symbol = M::Symbol>,
     ensures { EqualAnswers PRECISION M.rows N.rows }
+{}
+
+/// Where no two symbols of a model are equal, the symbols and the weights of its table are accepted by the
+/// constructors from symbols and weights, without inference, and give its rows again. So a table that is
+/// stored as its symbols and weights is read back by
+/// [`NonContiguousCategoricalDecoderModel::from_symbols_and_nonzero_fixed_point_probabilities`], which then
+/// answers `OutOfMemory` or a model of the same rows.
+///
+/// [`NonContiguousCategoricalDecoderModel::from_symbols_and_nonzero_fixed_point_probabilities`]: crate::stream::model::NonContiguousCategoricalDecoderModel::from_symbols_and_nonzero_fixed_point_probabilities
+pub fn symbols_and_weights_rebuild<M, const PRECISION: usize>()
+where
+    M: IterableEntropyModel<PRECISION>,
+    M::Symbol: Eq,
+    ensures { Rebuilds M.Symbol.eq M.Probability.BITS PRECISION M.rows }
 {}

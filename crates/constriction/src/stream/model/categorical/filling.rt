@@ -107,13 +107,10 @@ pub(crate) fn table_of<P: WholeNumber, I: IntoIterator<Item = P>, const PRECISIO
     let total = P::wrapping_pow2(PRECISION);
     let one = P::greatest(1);
     let mut rest = weights.into_iter();
-    let mut table = match Vec::with_capacity(
+    let mut table = room_for(
         alloc,
         words_needed::<PRECISION>(rest.size_hint().0, infer_last),
-    ) {
-        Ok(table) => table,
-        Err(_) => Vec::new(alloc),
-    };
+    );
     let mut left = P::least();
     let mut room = greatest;
     'rows: while let Some(weight) = rest.next() {
