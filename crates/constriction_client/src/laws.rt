@@ -7,8 +7,8 @@ ghost use Rattle.constriction_client.specs.Text.{FindsARow, FindsTheRow, TestsAc
 mod round_trips;
 
 pub use self::round_trips::{
-    CursorFault, DecoderAndEncoder, decoder_and_encoder, there_and_back, there_and_back_in_a_cursor,
-    there_and_back_of_two,
+    CursorFault, DecoderAndEncoder, decoder_and_encoder, there_and_back,
+    there_and_back_in_a_cursor, there_and_back_of_two,
 };
 
 /// What was written for items is read back as these items, in the order of a queue.

@@ -87,7 +87,7 @@ impl<'m, Symbol: Clone, Probability: BitArray, const PRECISION: usize> DoubleEnd
         self.to = index;
         match self.cdf[index].1.clone() {
             Ok(symbol) => Some(Ok((symbol, left, weight))),
-            Err(refused) => Some(Err(refused)),
+            Err(failed) => Some(Err(failed)),
         }
     }
 }
