@@ -1,8 +1,8 @@
 -- Walking through rows, from either end.
 use Rattle.std.specs.Prelude.{take, drop}
-use Rattle.std.proofs.Common.{◌≡◌, ℕ, ◌+◌, ◌-◌, ◌<◌, ◌≤◌, List, [], ◌∷◌, ◌++◌, length, get_or, map, refl, ap, ◌∙◌, arith}
-use Rattle.std.proofs.lemmas.List.{length-drop, drop_more, length-take-le, take_all, get_or-take, take_more}
-use Rattle.std.proofs.lemmas.List.{drop-append-le, length-append, length-map}
+use Rattle.std.proofs.Common.{◌≡◌, ℕ, ◌+◌, ◌-◌, ◌<◌, ◌≤◌, List, [], ◌∷◌, ◌++◌, length, get_or, map, refl, ap, sym, ◌∙◌, arith}
+use Rattle.std.proofs.lemmas.List.{length-drop, drop_all, drop_more, length-take-le, take_all, get_or-take, take_more}
+use Rattle.std.proofs.lemmas.List.{drop-append-le, length-append, length-map, length-take}
 use Rattle.constriction.specs.Rows.{Row, contiguous_rows}
 use Rattle.constriction.specs.Stored.{IsTable, lefts_in, weights_of}
 use Rattle.constriction.specs.StoredRowLemmas.{stored-at}
@@ -83,3 +83,34 @@ all-stored whole bits precision words lent t e =
     let long : length words - 1 ≡ length (contiguous_rows (weights_of precision (lefts_in (map whole words)))) =
     omega (arith, table-rows bits precision (map whole words) t, length-map words whole) in
     rw e (all-between (contiguous_rows (weights_of precision (lefts_in (map whole words)))) (length words - 1) long)
+
+-- none is left where the ends meet
+pub none-between : {Symbol : Type 0} (rows : List (Row Symbol)) (i j : ℕ) → i ≡ j
+    → (rows_between i j rows ≡ []) × (rows_between i j rows ≡ [])
+none-between rows i j e =
+    let none : rows_between i j rows ≡ [] = drop_all i (take j rows) (omega (arith, length-take j rows)) in
+    (none, none)
+
+-- a step that gives the first row leaves fewer
+pub fewer-first : {A : Type 0} (before after : List A) (x : A) → before ≡ x ∷ after → length after < length before
+fewer-first before after x e = omega (arith, one-fewer before after x e)
+
+-- so does one that gives the last one
+pub fewer-last : {A : Type 0} (before after : List A) (x : A) → before ≡ after ++ x ∷ [] → length after < length before
+fewer-last before after x e = omega (arith, one-fewer-last before after x e)
+
+-- nor more of them
+pub same-most : {A : Type 0} (xs ys : List A) → xs ≡ ys → length xs ≤ length ys
+same-most xs ys e = omega (arith, same-length xs ys e)
+
+-- a table that was lent is a table, and not empty
+pub lent-table : {Word : Type 0} (whole : Word → ℕ) (bits precision : ℕ) (words lent : List Word)
+    → IsTable bits precision (map whole words) → lent ≡ words
+    → IsTable bits precision (map whole lent) × (0 ≤ length lent - 1) × (length lent - 1 < length lent) × (1 ≤ length lent)
+lent-table whole bits precision words lent t e =
+    let some : 1 ≤ length words = omega (arith, table-rows bits precision (map whole words) t, length-map words whole) in
+    rw e (t, omega arith, omega arith, some)
+
+-- all but the last of a list are one fewer
+pub length-front : {A : Type 0} (xs : List A) → length xs - 1 ≡ length (take (length xs - 1) xs)
+length-front xs = sym (length-take-le (length xs - 1) xs (omega arith))

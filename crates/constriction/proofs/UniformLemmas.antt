@@ -44,3 +44,10 @@ rest-wrapped bits precision last bin before total rest narrow some h b e t small
     omega (arith, bins-fit precision last h) in
     difference-mod (2 ^ bits) rest (rest_of precision last) (last * bin_of precision last) small fit.2 fit.1
     (ap (λ n. (rest + n) % 2 ^ bits) (sym taken) ∙ wrapped ∙ t ∙ ap (λ n. n % 2 ^ bits) (sym whole))
+
+-- what the last symbol is, of a range that each symbol has a quantile in
+pub last-fits : (bits precision range last : ℕ) → precision ≤ bits → 2 ≤ range → range ≤ 2 ^ precision → last ≡ range - 1
+    → (0 < last) × (last < 2 ^ precision) × (last < 2 ^ bits) × (last + 1 ≡ range)
+last-fits bits precision range last fits some within e =
+    let word : 2 ^ precision ≤ 2 ^ bits = pow-le-pow_right {n = 2} (omega arith) fits in
+    (omega arith, omega arith, omega arith, omega arith)

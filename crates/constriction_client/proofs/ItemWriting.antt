@@ -1,6 +1,6 @@
 -- How the words of items are written, turn by turn.
-use Rattle.std.proofs.Common.{◌≡◌, ℕ, ◌+◌, ◌<◌, List, [], ◌∷◌, ◌++◌, length, take, drop, get_or, Option, Result, Ok, Err, refl, ap, sym, ◌∙◌, subst, suc, append_assoc, append-nil, drop-cons, take-append-drop}
-use Rattle.std.proofs.lemmas.List.{take_more}
+use Rattle.std.proofs.Common.{◌≡◌, ℕ, ◌+◌, ◌<◌, ◌≤◌, List, [], ◌∷◌, ◌++◌, length, take, drop, get_or, Option, Result, Ok, Err, refl, ap, sym, ◌∙◌, subst, suc, append_assoc, append-nil, drop-cons, take-append-drop}
+use Rattle.std.proofs.lemmas.List.{take_more, take_all}
 use Rattle.std.proofs.lemmas.Slice.Zip.{all_zipped_more}
 use Rattle.constriction_words.specs.declared.coder_error.CoderError.TheVariants.{Frontend, Backend}
 use Rattle.constriction_backends.specs.Sink.{WritesTold}
@@ -74,3 +74,9 @@ module _ {Symbol Word Sink Error : Type 0} (entry : Symbol → Option (ℕ × �
     refused = (word, quantile, refused);
     told = λ old known. law j word (Err error) t refused (old ++ so_far.words) (so_far.told old known);
   }
+
+  -- all items
+  pub wrote-all : (items : List (Symbol × Word)) (n : ℕ) (s t : Sink) → length items ≤ n
+      → WritesItems entry whole gives tells (take n items) s t → WritesItems entry whole gives tells items s t
+  wrote-all items n s t h so_far =
+      subst (λ (xs : List (Symbol × Word)). WritesItems entry whole gives tells xs s t) (take_all n items h) so_far

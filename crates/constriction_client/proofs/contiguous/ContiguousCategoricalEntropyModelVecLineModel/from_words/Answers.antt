@@ -1,20 +1,11 @@
-use Rattle.std.proofs.Common.{rules}
+use Rattle.std.proofs.Common.{Err, ap}
 use Rattle.constriction_client.proofs.contiguous.ContiguousCategoricalEntropyModelVecLineModel.from_words.Goals as goal
 
-pub returns-in-Ok-clause-accepted : goal.returns-in-Ok-clause-accepted
-returns-in-Ok-clause-accepted g c = c.in-Ok.ensures.ok
+pub returns-in-Ok : goal.returns-in-Ok
+returns-in-Ok g c = record { accepted = c.in-Ok.ensures.ok; refused = tt }
 
-pub returns-in-Ok-clause-refused : goal.returns-in-Ok-clause-refused
-returns-in-Ok-clause-refused g c = tt
+pub returns-in-Err-InvalidTable : goal.returns-in-Err-InvalidTable
+returns-in-Err-InvalidTable g c = record { accepted = tt; refused = c.in-Err-InvalidTable.ensures.invalid (ap Err c.in-Err-InvalidTable.field-0-is) }
 
-pub returns-in-Err-InvalidTable-clause-accepted : goal.returns-in-Err-InvalidTable-clause-accepted
-returns-in-Err-InvalidTable-clause-accepted g c = tt
-
-pub returns-in-Err-InvalidTable-clause-refused : goal.returns-in-Err-InvalidTable-clause-refused
-returns-in-Err-InvalidTable-clause-refused g c = c.in-Err-InvalidTable.ensures.invalid (search rules)
-
-pub returns-in-Err-OutOfMemory-clause-accepted : goal.returns-in-Err-OutOfMemory-clause-accepted
-returns-in-Err-OutOfMemory-clause-accepted g c = tt
-
-pub returns-in-Err-OutOfMemory-clause-refused : goal.returns-in-Err-OutOfMemory-clause-refused
-returns-in-Err-OutOfMemory-clause-refused g c = tt
+pub returns-in-Err-OutOfMemory : goal.returns-in-Err-OutOfMemory
+returns-in-Err-OutOfMemory g c = record { accepted = tt; refused = tt }

@@ -12,17 +12,22 @@ unreachable-requires g c =
     (c.in-Err-Frontend-QuantileTooLarge.field-0-is ∙ ap Frontend c.in-Err-Frontend-QuantileTooLarge.field-0-0-is)
     c.requires.come
 
-pub returns-in-Ok-clause-ok : goal.returns-in-Ok-clause-ok
-returns-in-Ok-clause-ok g c =
-    all-read g.row.PRECISION (g.D.EntropyModel.rows c.args.decoder.now) g.D.Probability.BitArray.whole
-    g.R.ReadWords.read_gives g.R.ReadWords.tells_upcoming c.args.count c.args.source.now c.read_symbols.new.source
-    c.read_symbols.new.out.items c.in-Ok.field-0 (rw c.new-pairs.ensures.items at c.in-Ok.ensures.pairs)
+pub returns-in-Ok : goal.returns-in-Ok
+returns-in-Ok g c = record {
+  ok =
+      all-read g.row.PRECISION (g.D.EntropyModel.rows c.args.decoder.now) g.D.Probability.BitArray.whole
+      g.R.ReadWords.read_gives g.R.ReadWords.tells_upcoming c.args.count c.args.source.now c.read_symbols.new.source
+      c.read_symbols.new.out.items c.in-Ok.field-0 (rw c.new-pairs.ensures.items at c.in-Ok.ensures.pairs);
+  err = tt;
+}
 
-pub returns-in-Err-Frontend-OutOfMemory-clause-err :
-    goal.returns-in-Err-Frontend-OutOfMemory-clause-err
-returns-in-Err-Frontend-OutOfMemory-clause-err g c =
-    some-read g.row.PRECISION (g.D.EntropyModel.rows c.args.decoder.now) g.D.Probability.BitArray.whole
-    g.R.ReadWords.read_gives g.R.ReadWords.tells_upcoming c.args.count c.args.source.now c.read_symbols.new.source
-    c.read_symbols.new.out.items c.in-Err-Frontend-OutOfMemory.field-0
-    (rw c.new-pairs.ensures.items at c.in-Err-Frontend-OutOfMemory.ensures.pairs)
-    (c.in-Err-Frontend-OutOfMemory.field-0-is ∙ ap Frontend c.in-Err-Frontend-OutOfMemory.field-0-0-is)
+pub returns-in-Err-Frontend-OutOfMemory : goal.returns-in-Err-Frontend-OutOfMemory
+returns-in-Err-Frontend-OutOfMemory g c = record {
+  ok = tt;
+  err =
+      some-read g.row.PRECISION (g.D.EntropyModel.rows c.args.decoder.now) g.D.Probability.BitArray.whole
+      g.R.ReadWords.read_gives g.R.ReadWords.tells_upcoming c.args.count c.args.source.now c.read_symbols.new.source
+      c.read_symbols.new.out.items c.in-Err-Frontend-OutOfMemory.field-0
+      (rw c.new-pairs.ensures.items at c.in-Err-Frontend-OutOfMemory.ensures.pairs)
+      (c.in-Err-Frontend-OutOfMemory.field-0-is ∙ ap Frontend c.in-Err-Frontend-OutOfMemory.field-0-0-is);
+}

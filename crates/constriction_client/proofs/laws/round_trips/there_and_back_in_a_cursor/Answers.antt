@@ -21,21 +21,8 @@ read_back-requires-clause-come g c =
           (g.met.E.EncodesOver.within_law c.args.encoder.now) back.placed.quantiles;
     }
 
-pub returns-in-Ok-read_back-clause-ok : goal.returns-in-Ok-read_back-clause-ok
-returns-in-Ok-read_back-clause-ok g c =
-    let back = c.in-Ok.ensures.ok in
-    let entry = entry_of g.E.EncodesOver.symbol_eq (g.E.EncodesOver.rows c.args.encoder.now) in
-    let read = c.in-Ok-read_back.ensures.ok back.placed.words
-    (come-next entry g.D.Probability.BitArray.whole g.Buf.SafeBufMut.with_words c.args.cursor.now c.args.items.now
-    c.write_and_go_back.new.cursor back)
-    (as-many entry g.D.Probability.BitArray.whole c.args.items.now back.placed.words back.placed.quantiles) in
-    reads-back _ _ g.E.EncodesOver.symbol_eq entry g.D.Probability.BitArray.whole g.D.Probability.BitArray.BITS
-    g.row.PRECISION (g.D.EntropyModel.rows c.args.decoder.now) c.args.items.now c.in-Ok-read_back.pairs.items
-    back.placed.words (g.met.D.DecoderModel.tile_law c.args.decoder.now) g.met.D.Probability.BitArray.same_law
-    c.requires.alike back.placed.quantiles read.0
-
-pub returns-in-Ok-read_back-clause-placed : goal.returns-in-Ok-read_back-clause-placed
-returns-in-Ok-read_back-clause-placed g c =
+pub returns-in-Ok-read_back : goal.returns-in-Ok-read_back
+returns-in-Ok-read_back g c =
     let back = c.in-Ok.ensures.ok in
     let entry = entry_of g.E.EncodesOver.symbol_eq (g.E.EncodesOver.rows c.args.encoder.now) in
     let read = c.in-Ok-read_back.ensures.ok back.placed.words
@@ -43,16 +30,24 @@ returns-in-Ok-read_back-clause-placed g c =
     c.write_and_go_back.new.cursor back)
     (as-many entry g.D.Probability.BitArray.whole c.args.items.now back.placed.words back.placed.quantiles) in
     record {
-      words = back.placed.words;
-      quantiles = back.placed.quantiles;
-      placed =
-          placed-again g.Buf.SafeBufMut.with_words Infallible c.args.cursor.now back.reached c.write_and_go_back.new.cursor
-          back.placed.words c.read_back.new.source back.placed.placed back.buf back.pos read.1;
+      ok =
+          reads-back _ _ g.E.EncodesOver.symbol_eq entry g.D.Probability.BitArray.whole g.D.Probability.BitArray.BITS
+          g.row.PRECISION (g.D.EntropyModel.rows c.args.decoder.now) c.args.items.now c.in-Ok-read_back.pairs.items
+          back.placed.words (g.met.D.DecoderModel.tile_law c.args.decoder.now) g.met.D.Probability.BitArray.same_law
+          c.requires.alike back.placed.quantiles read.0;
+      placed = record {
+        words = back.placed.words;
+        quantiles = back.placed.quantiles;
+        placed =
+            placed-again g.Buf.SafeBufMut.with_words Infallible c.args.cursor.now back.reached c.write_and_go_back.new.cursor
+            back.placed.words c.read_back.new.source back.placed.placed back.buf back.pos read.1;
+      };
+      err = tt;
     }
 
-pub returns-in-Err-read_back-clause-err : goal.returns-in-Err-read_back-clause-err
-returns-in-Err-read_back-clause-err g c =
+pub returns-in-Err-read_back : goal.returns-in-Err-read_back
+returns-in-Err-read_back g c =
     let back = c.in-Ok.ensures.ok in
     let read = c.in-Err-read_back.ensures.err in
     let on = reads-on g.Buf.SafeBufMut.with_words Infallible c.write_and_go_back.new.cursor read.0 c.read_back.new.source read.1 in
-    (back.reached, back.placed, on.2 ∙ back.buf)
+    record { ok = tt; placed = tt; err = (back.reached, back.placed, on.2 ∙ back.buf) }

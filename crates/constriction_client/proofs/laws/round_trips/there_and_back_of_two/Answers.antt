@@ -5,9 +5,11 @@ use Rattle.constriction_client.specs.Quantiles.{IsQuantileOf}
 use Rattle.constriction_client.proofs.Returning.{AllZip-reverse, as-many, first-fault, quantiles-below, reads-back-reversed}
 use Rattle.constriction_client.proofs.laws.round_trips.there_and_back_of_two.Goals as goal
 
-pub returns-in-Err-clause-fault : goal.returns-in-Err-clause-fault
-returns-in-Err-clause-fault g c = λ fault e.
-    first-fault _ _ _ _ _ _ c.in-Err.fault _ fault c.in-Err.ensures.err (cc)
+pub returns-in-Err : goal.returns-in-Err
+returns-in-Err g c = record {
+  ok = tt;
+  fault = λ fault e. first-fault _ _ _ _ _ _ c.in-Err.fault _ fault c.in-Err.ensures.err (cc);
+}
 
 pub read_back-requires-clause-come : goal.read_back-requires-clause-come
 read_back-requires-clause-come g c =
@@ -28,15 +30,19 @@ read_back-requires-clause-come g c =
           c.args.items.now wrote.words wrote.quantiles);
     }
 
-pub returns-in-Ok-read_back-clause-ok : goal.returns-in-Ok-read_back-clause-ok
-returns-in-Ok-read_back-clause-ok g c =
+pub returns-in-Ok-read_back : goal.returns-in-Ok-read_back
+returns-in-Ok-read_back g c =
     let wrote = c.in-Ok.ensures.ok in
     let entry = entry_of g.E.EncodesOver.symbol_eq (g.E.EncodesOver.rows c.args.encoder.now) in
     let stored : wrote.words ≡ c.write_quantiles.new.sink.items = wrote.told [] (sym c.new-words.ensures.items) in
-    reads-back-reversed _ _ g.E.EncodesOver.symbol_eq entry g.D.Probability.BitArray.whole g.D.Probability.BitArray.BITS
-    g.row.PRECISION (g.D.EntropyModel.rows c.args.decoder.now) c.args.items.now c.in-Ok-read_back.pairs.items wrote.words
-    (g.met.D.DecoderModel.tile_law c.args.decoder.now) g.met.D.Probability.BitArray.same_law c.requires.alike wrote.quantiles
-    (c.in-Ok-read_back.ensures.ok (reverse wrote.words)
-    (record { rest = []; told = append-nil (reverse wrote.words) ∙ ap reverse stored })
-    (length-reverse wrote.words
-    ∙ as-many entry g.D.Probability.BitArray.whole c.args.items.now wrote.words wrote.quantiles)).0
+    record {
+      ok =
+          reads-back-reversed _ _ g.E.EncodesOver.symbol_eq entry g.D.Probability.BitArray.whole g.D.Probability.BitArray.BITS
+          g.row.PRECISION (g.D.EntropyModel.rows c.args.decoder.now) c.args.items.now c.in-Ok-read_back.pairs.items wrote.words
+          (g.met.D.DecoderModel.tile_law c.args.decoder.now) g.met.D.Probability.BitArray.same_law c.requires.alike wrote.quantiles
+          (c.in-Ok-read_back.ensures.ok (reverse wrote.words)
+          (record { rest = []; told = append-nil (reverse wrote.words) ∙ ap reverse stored })
+          (length-reverse wrote.words
+          ∙ as-many entry g.D.Probability.BitArray.whole c.args.items.now wrote.words wrote.quantiles)).0;
+      fault = λ fault e. absurd (cc);
+    }

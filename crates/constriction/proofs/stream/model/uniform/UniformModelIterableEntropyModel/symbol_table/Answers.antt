@@ -1,15 +1,17 @@
-use Rattle.std.proofs.Common.{◌+◌, sym}
+use Rattle.std.proofs.Common.{◌+◌, ◌≡◌, sym}
 use Rattle.constriction.specs.Rows.{uniform_rows}
+use Rattle.constriction.specs.Tables.{rows_between}
 use Rattle.constriction.specs.UniformRowLemmas.{length-uniform_rows}
-use Rattle.constriction.proofs.StepLemmas.{all-between, same-length}
+use Rattle.constriction.proofs.StepLemmas.{all-between, same-length, same-most}
 use Rattle.constriction.proofs.stream.model.uniform.UniformModelIterableEntropyModel.symbol_table.Goals as goal
 
-pub returns-clause-all : goal.returns-clause-all
-returns-clause-all g c =
-    let last = g.Probability.BitArray.whole c.args.self.last_symbol in
+pub returns : goal.returns
+returns g c =
+    let whole = g.Probability.BitArray.whole in
+    let last = whole c.args.self.last_symbol in
     let rows = uniform_rows g.row.PRECISION (last + 1) in
+    let t = c.new.result in
+    let all : rows_between t.from t.to (uniform_rows g.row.PRECISION (whole t.model.last_symbol + 1)) ≡ rows =
     rw (c.new.ensures.model, c.new.ensures.from, c.new.ensures.to)
-    (all-between rows (last + 1) (sym (length-uniform_rows g.row.PRECISION last)))
-
-pub returns-clause-counted : goal.returns-clause-counted
-returns-clause-counted g c = same-length _ _ (returns-clause-all g c)
+    (all-between rows (last + 1) (sym (length-uniform_rows g.row.PRECISION last))) in
+    record { all = all; callable = tt; ends = (tt, same-most _ _ all); counted = same-length _ _ all }

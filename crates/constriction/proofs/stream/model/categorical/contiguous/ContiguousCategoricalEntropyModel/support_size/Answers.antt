@@ -1,5 +1,6 @@
 use Rattle.std.proofs.Common.{◌≡◌, length, map, ap, arith}
 use Rattle.std.proofs.lemmas.List.{length-map}
+use Rattle.constriction.proofs.StepLemmas.{lent-table}
 use Rattle.constriction.proofs.TableLemmas.{table-rows}
 use Rattle.constriction.proofs.stream.model.categorical.contiguous.ContiguousCategoricalEntropyModel.support_size.Goals as goal
 
@@ -9,3 +10,6 @@ returns g c =
     let words = g.Cdf.SafeBuf.words_of c.args.self.now.cdf in
     let long : length c.words.result.now ≡ length words = ap length c.words.ensures in
     omega (arith, table-rows _ _ (map whole words) c.args.self.now.stored, length-map words whole)
+
+pub overflow_sub-result : goal.overflow_sub-result
+overflow_sub-result g c = (lent-table g.Probability.BitArray.whole _ g.row.PRECISION _ _ c.args.self.now.stored c.words.ensures).3

@@ -2,6 +2,7 @@ use Rattle.std.proofs.Common.{◌≡◌, length, map, refl, arith}
 use Rattle.std.proofs.lemmas.List.{length-map}
 use Rattle.constriction.specs.Stored.{lefts_in}
 use Rattle.constriction.specs.StoredRowLemmas.{stored-entry, stored-no_entry}
+use Rattle.constriction.proofs.StepLemmas.{lent-table}
 use Rattle.constriction.proofs.TableLemmas.{table-long}
 use Rattle.constriction.proofs.stream.model.categorical.contiguous.ContiguousCategoricalEntropyModelEncoderModel.left_cumulative_and_probability.Goals as goal
 
@@ -27,3 +28,6 @@ returns-else-symbol-cdf g c =
     let long : length table ≡ length words = rw (← same) (length-map words whole) in
     stored-no_entry g.Probability.BitArray.BITS g.row.PRECISION (lefts_in table) c.args.self.now.stored.stored c.args.symbol.now
     (omega (arith, c.if-symbol-cdf.false, table-long _ _ table c.args.self.now.stored))
+
+pub overflow_sub-cdf : goal.overflow_sub-cdf
+overflow_sub-cdf g c = (lent-table g.Probability.BitArray.whole _ g.row.PRECISION _ _ c.args.self.now.stored c.words-cdf.ensures).3

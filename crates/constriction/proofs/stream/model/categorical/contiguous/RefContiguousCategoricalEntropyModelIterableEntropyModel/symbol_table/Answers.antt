@@ -1,9 +1,15 @@
-use Rattle.constriction.proofs.StepLemmas.{all-stored, same-length}
+use Rattle.constriction.proofs.StepLemmas.{all-stored, lent-table, same-length, same-most}
 use Rattle.constriction.proofs.stream.model.categorical.contiguous.RefContiguousCategoricalEntropyModelIterableEntropyModel.symbol_table.Goals as goal
 
-pub returns-clause-all : goal.returns-clause-all
-returns-clause-all g c =
-    all-stored g.Probability.BitArray.whole _ g.row.PRECISION _ _ c.args.self.now.stored c.words-cdf.ensures
+pub returns : goal.returns
+returns g c =
+    let all = all-stored g.Probability.BitArray.whole _ g.row.PRECISION _ _ c.args.self.now.stored c.words-cdf.ensures in
+    record { all = all; callable = tt; ends = (tt, same-most _ _ all); counted = same-length _ _ all }
 
-pub returns-clause-counted : goal.returns-clause-counted
-returns-clause-counted g c = same-length _ _ (returns-clause-all g c)
+pub overflow_sub-result : goal.overflow_sub-result
+overflow_sub-result g c = (lent-table g.Probability.BitArray.whole _ g.row.PRECISION _ _ c.args.self.now.stored c.words-cdf.ensures).3
+
+pub invariant_of-result : goal.invariant_of-result
+invariant_of-result g c =
+    let table = lent-table g.Probability.BitArray.whole _ g.row.PRECISION _ _ c.args.self.now.stored c.words-cdf.ensures in
+    record { narrow = c.args.self.now.precise.1; stored = table.0; in_order = table.1; in_bounds = table.2 }

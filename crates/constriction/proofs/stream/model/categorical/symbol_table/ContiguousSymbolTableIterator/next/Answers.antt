@@ -1,25 +1,30 @@
-use Rattle.std.proofs.Common.{◌+◌, ◌<◌, length, map, refl, arith}
+use Rattle.std.proofs.Common.{◌<◌, length, map, refl, arith}
 use Rattle.std.proofs.lemmas.List.{length-map}
-use Rattle.constriction.specs.Tables.{rows_stored}
-use Rattle.constriction.proofs.StepLemmas.{first-stored, one-fewer}
+use Rattle.constriction.specs.Rows.{contiguous_rows}
+use Rattle.constriction.specs.Stored.{lefts_in, weights_of}
+use Rattle.constriction.proofs.StepLemmas.{first-stored, fewer-first, none-between}
 use Rattle.constriction.proofs.stream.model.categorical.symbol_table.ContiguousSymbolTableIterator.next.Goals as goal
 
-pub returns-clause-steps : goal.returns-clause-steps
-returns-clause-steps g c =
+pub returns-then-index-self : goal.returns-then-index-self
+returns-then-index-self g c =
+    let t = c.args.self.now in
+    let rows = contiguous_rows (weights_of g.row.PRECISION (lefts_in (map g.Probability.BitArray.whole t.cdf.now))) in
+    record { steps = none-between rows t.from t.to c.if-index-self.true; goes = record { on = λ _. tt; keeps = tt; rests = λ _. tt } }
+
+pub returns : goal.returns
+returns g c =
     let t = c.args.self.now in
     let table = map g.Probability.BitArray.whole t.cdf.now in
     let some : t.from < t.to = omega (arith, t.in_order, c.if-index-self.false) in
-    let within : t.to < length table = omega (arith, t.in_bounds, length-map t.cdf.now g.Probability.BitArray.whole) in (
-      _,
-      first-stored g.Probability.BitArray.BITS g.row.PRECISION table t.stored t.from t.to _ _ some within
-          c.row_at-left.ensures.left c.row_at-left.ensures.weight,
-      (refl, tt),
-    )
+    let within : t.to < length table = omega (arith, t.in_bounds, length-map t.cdf.now g.Probability.BitArray.whole) in
+    let step = first-stored g.Probability.BitArray.BITS g.row.PRECISION table t.stored t.from t.to _ _ some within
+    c.row_at-left.ensures.left c.row_at-left.ensures.weight in
+    record {
+      steps = (_, step, (refl, tt));
+      goes = record { on = λ _. (tt, tt, fewer-first _ _ _ step); keeps = tt; rests = λ _. tt };
+    }
 
-pub returns-clause-goes : goal.returns-clause-goes
-returns-clause-goes g c =
+pub invariant_of-self : goal.invariant_of-self
+invariant_of-self g c =
     let t = c.args.self.now in
-    let left = rows_stored g.row.PRECISION (map g.Probability.BitArray.whole t.cdf.now) in
-    let step = returns-clause-steps g c in
-    let fewer = one-fewer (left t.from t.to) (left (t.from + 1) t.to) step.0 step.1 in
-    record { on = λ _. (tt, tt, omega (arith, fewer)); keeps = tt; rests = λ _. tt }
+    record { narrow = t.narrow; stored = t.stored; in_order = omega (arith, t.in_order, c.if-index-self.false); in_bounds = t.in_bounds }

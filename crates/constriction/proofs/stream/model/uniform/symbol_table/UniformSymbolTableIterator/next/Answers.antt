@@ -1,12 +1,17 @@
 use Rattle.std.proofs.Common.{ℕ, ◌+◌, ◌<◌, ◌≤◌, refl, arith}
 use Rattle.constriction.specs.Rows.{uniform_rows}
-use Rattle.constriction.specs.Tables.{rows_between}
 use Rattle.constriction.specs.UniformRowLemmas.{uniform-at, length-uniform_rows}
-use Rattle.constriction.proofs.StepLemmas.{first-between, one-fewer}
+use Rattle.constriction.proofs.StepLemmas.{first-between, fewer-first, none-between}
 use Rattle.constriction.proofs.stream.model.uniform.symbol_table.UniformSymbolTableIterator.next.Goals as goal
 
-pub returns-clause-steps : goal.returns-clause-steps
-returns-clause-steps g c =
+pub returns-then-self : goal.returns-then-self
+returns-then-self g c =
+    let t = c.args.self.now in
+    let rows = uniform_rows g.row.PRECISION (g.Probability.BitArray.whole t.model.last_symbol + 1) in
+    record { steps = none-between rows t.from t.to c.if-self.true; goes = record { on = λ _. tt; keeps = tt; rests = λ _. tt } }
+
+pub returns : goal.returns
+returns g c =
     let t = c.args.self.now in
     let last : ℕ = g.Probability.BitArray.whole t.model.last_symbol in
     let rows = uniform_rows g.row.PRECISION (last + 1) in
@@ -15,12 +20,13 @@ returns-clause-steps g c =
     let below : t.from < t.to = omega (arith, t.in_order, c.if-self.false) in
     let within : t.to ≤ last + 1 = t.in_bounds in
     let here = uniform-at g.row.PRECISION last t.model.within t.from _ _ _ c.from_number.ensures row.left row.weight _ (omega arith) in
-    (_, first-between rows t.from t.to _ below (omega arith) here, (refl, tt))
+    let first = first-between rows t.from t.to _ below (omega arith) here in
+    record {
+      steps = (_, first, (refl, tt));
+      goes = record { on = λ _. (tt, tt, fewer-first _ _ _ first); keeps = tt; rests = λ _. tt };
+    }
 
-pub returns-clause-goes : goal.returns-clause-goes
-returns-clause-goes g c =
+pub invariant_of-self : goal.invariant_of-self
+invariant_of-self g c =
     let t = c.args.self.now in
-    let rows = uniform_rows g.row.PRECISION (g.Probability.BitArray.whole t.model.last_symbol + 1) in
-    let step = returns-clause-steps g c in
-    let fewer = one-fewer (rows_between t.from t.to rows) (rows_between (t.from + 1) t.to rows) step.0 step.1 in
-    record { on = λ _. (tt, tt, omega (arith, fewer)); keeps = tt; rests = λ _. tt }
+    record { in_order = omega (arith, t.in_order, c.if-self.false); in_bounds = t.in_bounds }

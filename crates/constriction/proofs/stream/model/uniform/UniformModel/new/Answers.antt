@@ -1,0 +1,24 @@
+use Rattle.std.proofs.Common.{ap, arith}
+use Rattle.constriction.specs.Rows.{uniform_rows}
+use Rattle.constriction.proofs.UniformLemmas.{last-fits}
+use Rattle.constriction.proofs.stream.model.uniform.UniformModel.new.Goals as goal
+
+pub invariant_of-result : goal.invariant_of-result
+invariant_of-result g c =
+    let last = last-fits g.Probability.BitArray.BITS g.row.PRECISION c.args.range _ c.requires.fits c.requires.some c.requires.within
+    c.from_number-last_symbol.ensures in
+    record {
+      fits = c.requires.fits;
+      some = last.0;
+      within = last.1;
+      index = omega (arith, last.3);
+      word = last.2;
+      bin = c.probability_per_bin-bin.ensures.value;
+      rest = c.last_probability-last.ensures.value;
+    }
+
+pub returns : goal.returns
+returns g c =
+    let last = last-fits g.Probability.BitArray.BITS g.row.PRECISION c.args.range _ c.requires.fits c.requires.some c.requires.within
+    c.from_number-last_symbol.ensures in
+    ap (uniform_rows g.row.PRECISION) last.3
