@@ -4,17 +4,17 @@ use Rattle.std.specs.List.{IsDistinct}
 use Rattle.std.proofs.Common.{Bool, ◌≡◌, ℕ, ◌+◌, ◌-◌, ◌%◌, ◌^◌, ◌<◌, ◌≤◌, List, [], ◌∷◌, ◌++◌, length, get_or, map, refl, ap, sym, ◌∙◌, arith, inl, inr}
 use Rattle.std.proofs.Math.Nat.{mod-eq_of_lt, pow-le-pow_right}
 use Rattle.std.proofs.lemmas.Bool.{cases_lt}
-use Rattle.std.proofs.lemmas.List.{length-map, get_or-map, get_or_default}
+use Rattle.std.proofs.lemmas.List.{length-map, get_or-map}
 use Rattle.constriction.specs.Acceptance.{AreAccepted}
 use Rattle.constriction.specs.Filling.{HoldsRows}
 use Rattle.constriction.specs.RowLemmas.{weights-rows_from, symbols-rows_from}
 use Rattle.constriction.specs.Rows.{Row, rows_of, symbols_of, RowsTile, IsRowOf}
 use Rattle.constriction.specs.Stored.{IsStored, weights_of}
-use Rattle.constriction.specs.StoredLemmas.{IsRowAt, stored-row, stored-of_rows, lefts-rows_from, take-length}
-use Rattle.constriction.specs.SymbolRowLemmas.{symbols-many, symbol-rows_many, symbol-row_at, symbol-is_at, symbol-row_of, paired-long}
-use Rattle.constriction.specs.Probe.{TellsRows, IsRowIndexOf, IsSearchable, IsLastAtMost}
+use Rattle.constriction.specs.StoredLemmas.{IsRowAt, stored-row, stored-of_rows}
+use Rattle.constriction.specs.SymbolRowLemmas.{symbol-rows_many, symbol-is_at, paired-long}
+use Rattle.constriction.specs.Probe.{TellsRows, IsRowIndexOf, IsLastAtMost}
 use Rattle.constriction.specs.Tables.{rows_paired, rows_between}
-use Rattle.constriction.proofs.ProbeLemmas.{stored-searchable}
+use Rattle.constriction.proofs.ProbeLemmas.{symbol-tells, symbol-found, symbol-answer}
 use Rattle.constriction.proofs.StepLemmas.{all-between, length-between, first-between, last-between}
 use Rattle.constriction.proofs.TableLemmas.{difference-mod}
 
@@ -48,21 +48,21 @@ module _ {Symbol Word : Type 0} (whole : Word → ℕ) (bits precision : ℕ) (e
       symbol-rows_many bits precision (map (λ x. x.1) entries) (map (λ x. whole x.0) entries) t (paired-long whole bits precision entries t)
       ∙ length-map entries (λ x. whole x.0)
 
-  pub paired-lefts : map (λ r. r.left) (rows_paired whole precision entries) ≡ map (λ x. whole x.0) entries
-  paired-lefts =
-      lefts-rows_from 0 (map (λ x. x.1) entries) (weights_of precision (map (λ x. whole x.0) entries))
-      (symbols-many bits precision (map (λ x. x.1) entries) (map (λ x. whole x.0) entries) t (paired-long whole bits precision entries t))
-      ∙ sym t.in_order
-
   -- a probe of all entries tells all rows
   pub paired-tells : TellsRows (rows_paired whole precision entries) (λ _. ⊤) 0 (map (λ x. whole x.0) entries)
-  paired-tells =
-      let long : length (map (λ x. whole x.0) entries) ≡ length entries = length-map entries (λ x. whole x.0) in
-      record {
-        exactly = λ i r h. ((λ _. (omega arith, omega (arith, paired-many))), (λ _. tt));
-        within = omega (arith, paired-many);
-        in_order = sym (rw paired-lefts (take-length (map (λ x. whole x.0) entries)));
-      }
+  paired-tells = symbol-tells bits precision (map (λ x. x.1) entries) (map (λ x. whole x.0) entries) t (paired-long whole bits precision entries t)
+
+  pub paired-found : (q i : ℕ) → q < 2 ^ precision → IsLastAtMost (map (λ x. whole x.0) entries) q i
+      → IsRowIndexOf (rows_paired whole precision entries) q i
+  paired-found = symbol-found bits precision (map (λ x. x.1) entries) (map (λ x. whole x.0) entries) t (paired-long whole bits precision entries t)
+
+  -- the index of a quantile's row is one of an entry
+  pub paired-index : (q i : ℕ) → IsRowIndexOf (rows_paired whole precision entries) q i → i < length entries
+  paired-index q i f = omega (arith, f.in_bounds, paired-many)
+
+  symbol-here : (i : ℕ) (s : Symbol) (x : Word × Symbol) → i < length entries → x ≡ get_or entries i x → s ≡ x.1
+      → s ≡ get_or (map (λ y. y.1) entries) i s
+  symbol-here i s x h is se = se ∙ ap (λ y. y.1) is ∙ sym (get_or-map (λ y. y.1) entries i x s h)
 
   -- the row of an entry
   pub paired-at : (i l w : ℕ) (s : Symbol) (x : Word × Symbol) → i < length entries → x ≡ get_or entries i x → s ≡ x.1
@@ -70,37 +70,16 @@ module _ {Symbol Word : Type 0} (whole : Word → ℕ) (bits precision : ℕ) (e
       → get_or (rows_paired whole precision entries) i (record { symbol = s; left = l; weight = w })
       ≡ record { symbol = s; left = l; weight = w }
   paired-at i l w s x h is se le we =
-      let there : s ≡ get_or (map (λ y. y.1) entries) i s = se ∙ ap (λ y. y.1) is ∙ sym (get_or-map (λ y. y.1) entries i x s h) in
-      symbol-is_at bits precision (map (λ y. y.1) entries) (map (λ y. whole y.0) entries) t (paired-long whole bits precision entries t) i l w s
-      (omega (arith, length-map entries (λ y. whole y.0))) there le we
-
-  pub paired-found : (q i : ℕ) → q < 2 ^ precision → IsLastAtMost (map (λ x. whole x.0) entries) q i
-      → IsRowIndexOf (rows_paired whole precision entries) q i
-  paired-found q i below f =
-      let ss = map (λ x. x.1) entries in
-      let lefts : List ℕ = map (λ x. whole x.0) entries in
-      let many = paired-long whole bits precision entries t in
-      record {
-        in_bounds = omega (arith, f.in_bounds, paired-many, length-map entries (λ x. whole x.0));
-        row = λ r. rw (symbol-row_at bits precision ss lefts t many i r f.in_bounds)
-            (symbol-row_of bits precision ss lefts t many q i _ _ (get_or ss i r.symbol) f.in_bounds
-            (symbol-again i r.symbol f.in_bounds) refl refl f.at_most (λ h. f.last (i + 1) (omega arith) h) below);
-      }
-    where
-      symbol-again : (i : ℕ) (d : Symbol) → i < length (map (λ x. whole x.0) entries)
-          → get_or (map (λ x. x.1) entries) i d ≡ get_or (map (λ x. x.1) entries) i (get_or (map (λ x. x.1) entries) i d)
-      symbol-again i d h = get_or_default (map (λ x. x.1) entries) i d _ (omega (arith, h, paired-long whole bits precision entries t))
-
-  -- the index of a quantile's row is one of an entry
-  pub paired-index : (q i : ℕ) → IsRowIndexOf (rows_paired whole precision entries) q i → i < length entries
-  paired-index q i f = omega (arith, f.in_bounds, paired-many)
+      symbol-is_at bits precision (map (λ x. x.1) entries) (map (λ x. whole x.0) entries) t (paired-long whole bits precision entries t)
+      i l w s (omega (arith, h, length-map entries (λ y. whole y.0))) (symbol-here i s x h is se) le we
 
   pub paired-answer : (q i l w : ℕ) (s : Symbol) (x : Word × Symbol) → IsRowIndexOf (rows_paired whole precision entries) q i
       → x ≡ get_or entries i x → s ≡ x.1
       → l ≡ get_or (map (λ x. whole x.0) entries) i 0 → w ≡ get_or (weights_of precision (map (λ x. whole x.0) entries)) i 0
       → IsRowOf (rows_paired whole precision entries) q (record { symbol = s; left = l; weight = w })
   paired-answer q i l w s x f is se le we =
-      rw (paired-at i l w s x (paired-index q i f) is se le we) at (f.row (record { symbol = s; left = l; weight = w }))
+      symbol-answer bits precision (map (λ x. x.1) entries) (map (λ x. whole x.0) entries) t (paired-long whole bits precision entries t)
+      q i l w s f (symbol-here i s x (paired-index q i f) is se) le we
 
   -- what is known of an entry's row
   pub paired-row : (i : ℕ) → i < length entries

@@ -1,12 +1,13 @@
 -- Searching a stored list.
 use Rattle.std.specs.Prelude.{⊤}
 use Rattle.std.proofs.Common.{◌≡◌, ℕ, ◌+◌, ◌^◌, ◌<◌, List, length, get_or, map, sym, refl, ◌∙◌, arith}
-use Rattle.std.proofs.lemmas.List.FromFn.{length-range_with_len}
+use Rattle.std.proofs.lemmas.List.{get_or_default}
 use Rattle.std.specs.List.Sorted.{IsStrictlyIncreasing}
-use Rattle.constriction.specs.Rows.{Row, contiguous_rows, indices, IsRowOf}
+use Rattle.constriction.specs.Rows.{Row, rows_of, contiguous_rows, IsRowOf}
 use Rattle.constriction.specs.Stored.{IsStored, weights_of}
-use Rattle.constriction.specs.StoredLemmas.{stored-row, stored-some, stored-first, length-gaps, lefts-rows_from, take-length}
-use Rattle.constriction.specs.StoredRowLemmas.{stored-at, stored-row_of, length-rows}
+use Rattle.constriction.specs.StoredLemmas.{stored-row, stored-some, stored-first, lefts-rows_from, take-length}
+use Rattle.constriction.specs.StoredRowLemmas.{symbols, symbols-long, symbol-at}
+use Rattle.constriction.specs.SymbolRowLemmas.{symbols-many, symbol-rows_many, symbol-row_at, symbol-is_at, symbol-row_of}
 use Rattle.constriction.specs.Probe.{TellsRows, IsRowIndexOf}
 use Rattle.constriction.specs.Probe.{IsSearchable, IsLastAtMost}
 
@@ -21,41 +22,60 @@ module _ (bits precision : ℕ) (lefts : List ℕ) (t : IsStored bits precision 
     begins = omega (arith, stored-first bits precision lefts t);
   }
 
-  pub stored-lefts : map (λ r. r.left) (contiguous_rows (weights_of precision lefts)) ≡ lefts
-  stored-lefts =
-      let ws : List ℕ = weights_of precision lefts in
-      lefts-rows_from 0 (indices (length ws)) ws (length-range_with_len 0 (length ws)) ∙ sym t.in_order
+-- a probe of all rows, whose symbols are any
+module _ {Symbol : Type 0} (bits precision : ℕ) (ss : List Symbol) (lefts : List ℕ) (t : IsStored bits precision lefts)
+    (long : length ss ≡ length lefts) where
+  pub symbol-lefts : map (λ r. r.left) (rows_of ss (weights_of precision lefts)) ≡ lefts
+  symbol-lefts =
+      lefts-rows_from 0 ss (weights_of precision lefts) (symbols-many bits precision ss lefts t long) ∙ sym t.in_order
 
-  -- a search of all rows has the greatest index
-  pub stored-tells : TellsRows (contiguous_rows (weights_of precision lefts)) (λ _. ⊤) 0 lefts
-  stored-tells =
-      let long : length (contiguous_rows (weights_of precision lefts)) ≡ length lefts =
-      length-rows (weights_of precision lefts) ∙ length-gaps (2 ^ precision) lefts in
+  -- it tells them
+  pub symbol-tells : TellsRows (rows_of ss (weights_of precision lefts)) (λ _. ⊤) 0 lefts
+  symbol-tells =
+      let many = symbol-rows_many bits precision ss lefts t long in
       record {
-        exactly = λ i r h. ((λ _. (omega arith, omega arith)), (λ _. tt));
-        within = omega arith;
-        in_order = sym (rw stored-lefts (take-length lefts));
+        exactly = λ i r h. ((λ _. (omega (arith, h, many), omega (arith, h, many))), (λ _. tt));
+        within = omega (arith, many);
+        in_order = sym (rw symbol-lefts (take-length lefts));
       }
+
+  -- the greatest index whose cumulative is at most a quantile is that of its row
+  pub symbol-found : (q i : ℕ) → q < 2 ^ precision → IsLastAtMost lefts q i → IsRowIndexOf (rows_of ss (weights_of precision lefts)) q i
+  symbol-found q i below f = record {
+    in_bounds = omega (arith, f.in_bounds, symbol-rows_many bits precision ss lefts t long);
+    row = λ r. rw (symbol-row_at bits precision ss lefts t long i r f.in_bounds)
+        (symbol-row_of bits precision ss lefts t long q i _ _ (get_or ss i r.symbol) f.in_bounds
+        (get_or_default ss i r.symbol (get_or ss i r.symbol) (omega (arith, f.in_bounds, long))) refl refl f.at_most
+        (λ h. f.last (i + 1) (omega arith) h) below);
+  }
+
+  -- it is one of a row
+  pub symbol-index : (q i : ℕ) → IsRowIndexOf (rows_of ss (weights_of precision lefts)) q i → i < length lefts
+  symbol-index q i f = omega (arith, f.in_bounds, symbol-rows_many bits precision ss lefts t long)
+
+  -- so the parts of that row are those of the quantile's row
+  pub symbol-answer : (q i l w : ℕ) (s : Symbol) → IsRowIndexOf (rows_of ss (weights_of precision lefts)) q i → s ≡ get_or ss i s
+      → l ≡ get_or lefts i 0 → w ≡ get_or (weights_of precision lefts) i 0
+      → IsRowOf (rows_of ss (weights_of precision lefts)) q (record { symbol = s; left = l; weight = w })
+  symbol-answer q i l w s f se le we =
+      rw (symbol-is_at bits precision ss lefts t long i l w s (symbol-index q i f) se le we) at
+      (f.row (record { symbol = s; left = l; weight = w }))
+
+-- the same of a contiguous model
+module _ (bits precision : ℕ) (lefts : List ℕ) (t : IsStored bits precision lefts) where
+  pub stored-tells : TellsRows (contiguous_rows (weights_of precision lefts)) (λ _. ⊤) 0 lefts
+  stored-tells = symbol-tells bits precision (symbols bits precision lefts t) lefts t (symbols-long bits precision lefts t)
 
   pub stored-found : (q i : ℕ) → q < 2 ^ precision → IsLastAtMost lefts q i
       → IsRowIndexOf (contiguous_rows (weights_of precision lefts)) q i
-  stored-found q i below f =
-      let long : length (contiguous_rows (weights_of precision lefts)) ≡ length lefts =
-      length-rows (weights_of precision lefts) ∙ length-gaps (2 ^ precision) lefts in
-      record {
-        in_bounds = omega (arith, f.in_bounds);
-        row = λ r. rw (stored-at bits precision lefts t i r f.in_bounds)
-            (stored-row_of bits precision lefts t q i _ _ f.in_bounds refl refl f.at_most (λ h. f.last (i + 1) (omega arith) h) below);
-      }
+  stored-found = symbol-found bits precision (symbols bits precision lefts t) lefts t (symbols-long bits precision lefts t)
 
   pub stored-index : (q i : ℕ) → IsRowIndexOf (contiguous_rows (weights_of precision lefts)) q i → i < length lefts
-  stored-index q i f = omega (arith, f.in_bounds, length-rows (weights_of precision lefts), length-gaps (2 ^ precision) lefts)
+  stored-index = symbol-index bits precision (symbols bits precision lefts t) lefts t (symbols-long bits precision lefts t)
 
   pub stored-answer : (q i l w : ℕ) → IsRowIndexOf (contiguous_rows (weights_of precision lefts)) q i
       → l ≡ get_or lefts i 0 → w ≡ get_or (weights_of precision lefts) i 0
       → IsRowOf (contiguous_rows (weights_of precision lefts)) q (record { symbol = i; left = l; weight = w })
   stored-answer q i l w f le we =
-      let d : Row ℕ = record { symbol = i; left = l; weight = w } in
-      let e : get_or (contiguous_rows (weights_of precision lefts)) i d ≡ d =
-      stored-at bits precision lefts t i d (stored-index q i f) ∙ rw (← le, ← we) refl in
-      rw e at (f.row d)
+      symbol-answer bits precision (symbols bits precision lefts t) lefts t (symbols-long bits precision lefts t) q i l w i f
+      (sym (symbol-at bits precision lefts t i i (stored-index q i f))) le we
