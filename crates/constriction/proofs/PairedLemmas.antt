@@ -11,7 +11,7 @@ use Rattle.constriction.specs.RowLemmas.{weights-rows_from, symbols-rows_from}
 use Rattle.constriction.specs.Rows.{Row, rows_of, symbols_of, RowsTile, IsRowOf}
 use Rattle.constriction.specs.Stored.{IsStored, weights_of}
 use Rattle.constriction.specs.StoredLemmas.{IsRowAt, stored-row, stored-of_rows}
-use Rattle.constriction.specs.SymbolRowLemmas.{symbol-rows_many, symbol-is_at, paired-long}
+use Rattle.constriction.specs.SymbolRowLemmas.{symbols-many, symbol-rows_many, symbol-is_at, paired-long}
 use Rattle.constriction.specs.Probe.{TellsRows, IsRowIndexOf, IsLastAtMost}
 use Rattle.constriction.specs.Tables.{rows_paired, rows_between}
 use Rattle.constriction.proofs.ProbeLemmas.{symbol-tells, symbol-found, symbol-answer}
@@ -80,6 +80,13 @@ module _ {Symbol Word : Type 0} (whole : Word → ℕ) (bits precision : ℕ) (e
   paired-answer q i l w s x f is se le we =
       symbol-answer bits precision (map (λ x. x.1) entries) (map (λ x. whole x.0) entries) t (paired-long whole bits precision entries t)
       q i l w s f (symbol-here i s x (paired-index q i f) is se) le we
+
+  -- no two symbols of the rows are equal where no two of the entries are
+  pub paired-symbols_differ : (eq : Symbol → Symbol → Bool) → IsDistinct eq (map (λ x. x.1) entries)
+      → IsDistinct eq (symbols_of (rows_paired whole precision entries))
+  paired-symbols_differ eq d =
+      let same = symbols-many bits precision (map (λ x. x.1) entries) (map (λ x. whole x.0) entries) t (paired-long whole bits precision entries t) in
+      rw (symbols-rows_from 0 (map (λ x. x.1) entries) (weights_of precision (map (λ x. whole x.0) entries)) same) d
 
   -- what is known of an entry's row
   pub paired-row : (i : ℕ) → i < length entries

@@ -97,6 +97,10 @@ PairsAreQuantiles {Symbol} {D} {E} eq precision rows encoder_rows =
     → ((s : Symbol) → entry_of eq (encoder_rows e) s ≡ entry_of eq (rows d) s)
     → IsOneToOne eq (entry_of eq (encoder_rows e)) precision (rows d)
 
+-- no two symbols of a model's rows are equal
+abbrev pub SymbolsDiffer : {M Symbol : Type 0} → (Symbol → Symbol → Bool) → (M → List (Row Symbol)) → Type 0
+SymbolsDiffer {M} eq rows = (m : M) → IsDistinct eq (symbols_of (rows m))
+
 -- ---- two models
 
 -- models of these rows answer alike on each quantile: it has the same row among both

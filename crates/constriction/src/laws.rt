@@ -2,9 +2,14 @@
 //! each model that meets the traits, those of the caller too.
 
 ghost use Rattle.constriction.specs.Laws.{WalksRows, GivesAllRows, GivesAsMany, AnswersAreInTable, UniformRowsAreAsMany};
-ghost use Rattle.constriction.specs.Laws.{PairsAreQuantiles, ContiguousSymbolsDiffer, EqualAnswers, Rebuilds};
+ghost use Rattle.constriction.specs.Laws.{PairsAreQuantiles, ContiguousSymbolsDiffer, EqualAnswers, Rebuilds, SymbolsDiffer};
 
-use crate::stream::model::{DecoderModel, EncodesOver, EntropyModel, IterableEntropyModel};
+use crate::stream::model::{
+    DecoderModel, EncodesOver, EntropyModel, IterableEntropyModel,
+    NonContiguousCategoricalDecoderModel,
+};
+use constriction_backends::SafeBuf;
+use constriction_words::BitArray;
 
 /// Steps of a symbol table give the first of the rows that it has yet to give, in order, and leave
 /// the others. Where memory for a clone of a symbol is refused, the refusal stands in the row's
@@ -64,6 +69,17 @@ where
 /// No two symbols of a contiguous model are equal, and so of a uniform one.
 pub fn contiguous_symbols_differ()
     ensures { ContiguousSymbolsDiffer }
+{}
+
+/// No two symbols of a decoder over any symbols are equal, however it was made. So a hashed encoder that
+/// is made from it has the entry of each of its rows, and [`pairs_are_quantiles`] speaks of both.
+pub fn non_contiguous_symbols_differ<Symbol, Probability, Cdf, const PRECISION: usize>()
+where
+    Symbol: Eq,
+    Probability: BitArray,
+    Cdf: SafeBuf<(Probability, Symbol)>,
+    ensures { SymbolsDiffer Symbol.eq
+        ⟦<NonContiguousCategoricalDecoderModel<Symbol, Probability, Cdf, PRECISION> as EntropyModel<PRECISION>>⟧.rows }
 {}
 
 /// Two decoder models of the same symbols and the same `PRECISION` have the same row for each
