@@ -52,10 +52,7 @@ pub(crate) fn is_filled_by<P: WholeNumber>(weight: P, last: P, room: P) -> bool
 /// accepted has.
 #[inline]
 pub(crate) fn rows_announced<const PRECISION: usize>(announced: usize) -> usize {
-    if PRECISION < 63 && announced > 1usize << PRECISION {
-        return 1usize << PRECISION;
-    }
-    announced
+    announced.min(1usize << PRECISION.min(62))
 }
 
 /// An empty list with room for so many items, where memory for that is not refused: what refuses the
