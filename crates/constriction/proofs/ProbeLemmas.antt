@@ -3,7 +3,7 @@ use Rattle.std.specs.Prelude.{⊤}
 use Rattle.std.proofs.Common.{◌≡◌, ℕ, ◌+◌, ◌^◌, ◌<◌, List, length, get_or, map, sym, refl, ◌∙◌, arith}
 use Rattle.std.proofs.lemmas.List.{get_or_default}
 use Rattle.std.specs.List.Sorted.{IsStrictlyIncreasing}
-use Rattle.constriction.specs.Rows.{Row, rows_of, contiguous_rows, IsRowOf}
+use Rattle.constriction.specs.Rows.{rows_of, contiguous_rows, IsRowOf}
 use Rattle.constriction.specs.Stored.{IsStored, weights_of}
 use Rattle.constriction.specs.StoredLemmas.{stored-row, stored-some, stored-first, lefts-rows_from, take-length}
 use Rattle.constriction.specs.StoredRowLemmas.{symbols, symbols-long, symbol-at}

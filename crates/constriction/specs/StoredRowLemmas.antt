@@ -1,6 +1,6 @@
 -- The rows of a stored list: what the models' laws cite. No public clause cites this module.
 use Rattle.std.specs.Prelude.{◌≡◌, ℕ, ◌+◌, ◌^◌, ◌<◌, ◌≤◌, List, length, All, sum, take, Some, None, nat_eq}
-use Rattle.std.proofs.Common.{get_or, refl, ap, sym, ◌∙◌, arith, subst, inl, inr}
+use Rattle.std.proofs.Common.{get_or, ap, sym, ◌∙◌, arith, subst, inr}
 use Rattle.std.proofs.lemmas.List.FromFn.{length-range_with_len, get_or-range_with_len}
 use Rattle.constriction.specs.Rows.{Row, contiguous_rows, indices, RowsTile, IsRowOf, entry_of}
 use Rattle.constriction.specs.Stored.{IsStored, weights_of}

@@ -1,10 +1,9 @@
 -- The rows of symbols and of a stored list: what the models' laws cite. No public clause cites this module.
-use Rattle.std.specs.Prelude.{◌≡◌, ℕ, ◌+◌, ◌^◌, ◌<◌, ◌≤◌, List, [], ◌∷◌, length, map, sum, take, Option, Some, None, Result, Ok, Err, IfOk, IfErr}
+use Rattle.std.specs.Prelude.{◌≡◌, ℕ, ◌+◌, ◌^◌, ◌<◌, ◌≤◌, List, length, map, sum, take, Option, Some, None, Result, Ok, Err}
 use Rattle.std.proofs.Common.{get_or, refl, ap, sym, ◌∙◌, arith, inl, inr}
 use Rattle.std.proofs.lemmas.Bool.{cases_lt}
 use Rattle.std.proofs.lemmas.List.{length-map}
 use Rattle.constriction.specs.Rows.{Row, rows_of, RowsTile, IsRowOf}
-use Rattle.constriction.specs.Model.{row_of}
 use Rattle.constriction.specs.Stored.{IsStored, weights_of}
 use Rattle.constriction.specs.RowLemmas.{length-rows_from, weights-rows_from, symbols-rows_from, rows_from-at}
 use Rattle.constriction.specs.StoredLemmas.{stored-row, length-gaps, lefts_from-at}

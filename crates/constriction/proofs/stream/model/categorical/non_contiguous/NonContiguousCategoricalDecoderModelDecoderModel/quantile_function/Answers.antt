@@ -1,4 +1,4 @@
-use Rattle.std.proofs.Common.{◌≡◌, ℕ, ◌+◌, ◌<◌, ◌≤◌, length, get_or, map, refl, sym, ap, arith, rules}
+use Rattle.std.proofs.Common.{◌≡◌, ℕ, ◌+◌, ◌<◌, length, get_or, map, ap, arith, rules}
 use Rattle.constriction.specs.Stored.{weights_of}
 use Rattle.constriction.proofs.PairedLemmas.{paired-index, paired-answer, paired-row}
 use Rattle.constriction.proofs.stream.model.categorical.non_contiguous.NonContiguousCategoricalDecoderModelDecoderModel.quantile_function.Goals as goal

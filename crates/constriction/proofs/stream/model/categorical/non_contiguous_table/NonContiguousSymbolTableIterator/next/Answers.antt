@@ -1,4 +1,4 @@
-use Rattle.std.proofs.Common.{◌≡◌, ◌+◌, ◌-◌, ◌<◌, ◌≤◌, ℕ, length, map, refl, sym, arith}
+use Rattle.std.proofs.Common.{◌+◌, ◌<◌, refl, arith}
 use Rattle.constriction.specs.Tables.{rows_paired, rows_between}
 use Rattle.constriction.proofs.StepLemmas.{one-fewer}
 use Rattle.constriction.proofs.PairedLemmas.{paired-first}
