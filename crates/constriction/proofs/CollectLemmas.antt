@@ -50,7 +50,8 @@ module _ {Symbol Word : Type 0} (eq : Symbol → Symbol → Bool) (laws : IsEqui
             map-append (λ y. whole y.0) entries ((x.1, x.0) ∷ []) ∙ ap (λ xs. xs ++ whole x.1 ∷ []) f.held.1
                 ∙ ap (λ s. map (λ y. y.left) f.taken ++ s ∷ []) at ∙ sym (map-append (λ y. y.left) f.taken (r ∷ [])),
           );
-          distinct = rw (map-append (λ y. y.1) entries ((x.1, x.0) ∷ [])) (IsDistinct-push laws (map (λ y. y.1) entries) x.0 f.distinct (answer false apart));
+          distinct = rw (map-append (λ y. y.1) entries ((x.1, x.0) ∷ []))
+              (IsDistinct-push laws (map (λ y. y.1) entries) x.0 f.distinct (answer false apart));
         })
 
     -- a symbol that is equal to one before it

@@ -57,13 +57,15 @@ rows-within precision l [] ws a h = All-nil (LiesWithin precision)
 rows-within precision l (s ∷ ss) [] a h = All-nil (LiesWithin precision)
 rows-within precision l (s ∷ ss) (w ∷ ws) a h =
     let more : sum (w ∷ ws) ≡ w + sum ws = sum_by-cons (λ x. x) w ws in
-    All-cons (LiesWithin precision) (record { symbol = s; left = l; weight = w }) (rows_from (l + w) ss ws) (a 0 w (omega arith), omega arith)
+    All-cons (LiesWithin precision) (record { symbol = s; left = l; weight = w }) (rows_from (l + w) ss ws)
+    (a 0 w (omega arith), omega arith)
     (rows-within precision (l + w) ss ws (All-tail (λ x. 0 < x) w ws a) (omega arith))
 
 pub tiling-within : {S : Type 0} (bits precision : ℕ) (rows : List (Row S)) → RowsTile bits precision rows → All (LiesWithin precision) rows
 tiling-within bits precision rows t =
     subst (λ rs. All (LiesWithin precision) rs) (sym t.in_order)
-    (rows-within precision 0 (map (λ r. r.symbol) rows) (map (λ r. r.weight) rows) t.accepted.tiles.positive (omega (arith, t.accepted.tiles.total)))
+    (rows-within precision 0 (map (λ r. r.symbol) rows) (map (λ r. r.weight) rows) t.accepted.tiles.positive
+    (omega (arith, t.accepted.tiles.total)))
 
 module _ {K : Type 0} (eq : K → K → Bool) (laws : IsEquivalence eq) where
   -- one more row at the end takes the place of its symbol's entry
@@ -122,7 +124,8 @@ module _ {K : Type 0} (eq : K → K → Bool) (laws : IsEquivalence eq) where
     table-same es rows d h = λ s. table-entry_of es s d ∙ h s
 
     tail-within : (precision : ℕ) (e : K × X) (es : List (K × X)) (s : K) → IsDistinct eq (keys_of (e ∷ es)) → (t : Bool) → eq s e.0 ≡ t
-        → IfSome (lookup (eq s) (e ∷ es)) (λ x. EntryWithin precision (numbers x)) → IfSome (lookup (eq s) es) (λ x. EntryWithin precision (numbers x))
+        → IfSome (lookup (eq s) (e ∷ es)) (λ x. EntryWithin precision (numbers x))
+        → IfSome (lookup (eq s) es) (λ x. EntryWithin precision (numbers x))
     tail-within precision e es s d true h p = rw (none-after {X = X} e.0 s es (IsDistinct-head eq e.0 (keys_of es) d) h) tt
     tail-within precision e es s d false h p = rw h at p
 
@@ -133,7 +136,8 @@ module _ {K : Type 0} (eq : K → K → Bool) (laws : IsEquivalence eq) where
     table-rows_within precision [] d h = All-nil (LiesWithin precision)
     table-rows_within precision (e ∷ es) d h =
         let here : EntryWithin precision (numbers e.1) = rw (laws.refl e.0) at (h e.0) in
-        All-cons (LiesWithin precision) (record { symbol = e.0; left = (numbers e.1).0; weight = (numbers e.1).1 }) (rows_of_table numbers es) here
+        All-cons (LiesWithin precision) (record { symbol = e.0; left = (numbers e.1).0; weight = (numbers e.1).1 })
+        (rows_of_table numbers es) here
         (table-rows_within precision es (IsDistinct-tail eq e.0 (keys_of es) d) (λ s. tail-within precision e es s d (eq s e.0) refl (h s)))
 
     -- a table of the entries of rows has as many as the rows have distinct symbols
@@ -152,7 +156,8 @@ module _ {K : Type 0} (eq : K → K → Bool) (laws : IsEquivalence eq) where
         some-back (f s)
         (subst (λ (o : Option (ℕ × ℕ)). IfSome o (EntryWithin precision)) (sym (h s)) (entry-within precision rows s a))
       where
-        some-back : (o : Option X) → IfSome (option_map numbers o) (EntryWithin precision) → IfSome o (λ x. EntryWithin precision (numbers x))
+        some-back : (o : Option X) → IfSome (option_map numbers o) (EntryWithin precision)
+            → IfSome o (λ x. EntryWithin precision (numbers x))
         some-back (Some x) p = p
         some-back None p = tt
 
@@ -192,13 +197,15 @@ module _ {K X Word Weight : Type 0} (eq : K → K → Bool) (laws : IsEquivalenc
   pub hashed-none : (left : List (Row K)) (f : K → Option X) → left ≡ rows → ((s : K) → f s ≡ None) → IsHashed eq numbers rows left f
   hashed-none left f e h = record { taken = []; split = sym e; entries = λ s. ap (option_map numbers) (h s) }
 
-  pub hashed-step : {Refusal : Type 0} (MayRefuse : Type 0) (before left : List (Row K)) (f g : K → Option X) (o : Result (K × Word × Weight) Refusal)
+  pub hashed-step : {Refusal : Type 0} (MayRefuse : Type 0) (before left : List (Row K)) (f g : K → Option X)
+      (o : Result (K × Word × Weight) Refusal)
       (y : K × Word × Weight) (x : X) → numbers x ≡ (whole y.1, whole (base y.2))
       → IsHashed eq numbers rows before f → YieldsRow whole base MayRefuse before (Some o) left → o ≡ Ok y
       → ((s : K) → g s ≡ cond (eq y.0 s) (Some x) (f s)) → IsHashed eq numbers rows left g
   hashed-step {Refusal} MayRefuse before left f g o y x n i step e update =
       let r = step.0 in
-      let is : row_of whole base y ≡ r = subst (λ (z : Result (K × Word × Weight) Refusal). IfOk z (λ z'. row_of whole base z' ≡ r)) e step.2.0 in
+      let is : row_of whole base y ≡ r = subst (λ (z : Result (K × Word × Weight) Refusal). IfOk z (λ z'. row_of whole base z' ≡ r)) e
+      step.2.0 in
       let row : record { symbol = y.0; left = (numbers x).0; weight = (numbers x).1 } ≡ r =
       ap (λ p. record { symbol = y.0; left = p.0; weight = p.1 }) n ∙ is in
       record {

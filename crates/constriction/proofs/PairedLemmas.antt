@@ -50,11 +50,13 @@ module _ {Symbol Word : Type 0} (whole : Word → ℕ) (bits precision : ℕ) (e
 
   -- a probe of all entries tells all rows
   pub paired-tells : TellsRows (rows_paired whole precision entries) (λ _. ⊤) 0 (map (λ x. whole x.0) entries)
-  paired-tells = symbol-tells bits precision (map (λ x. x.1) entries) (map (λ x. whole x.0) entries) t (paired-long whole bits precision entries t)
+  paired-tells = symbol-tells bits precision (map (λ x. x.1) entries) (map (λ x. whole x.0) entries) t
+      (paired-long whole bits precision entries t)
 
   pub paired-found : (q i : ℕ) → q < 2 ^ precision → IsLastAtMost (map (λ x. whole x.0) entries) q i
       → IsRowIndexOf (rows_paired whole precision entries) q i
-  paired-found = symbol-found bits precision (map (λ x. x.1) entries) (map (λ x. whole x.0) entries) t (paired-long whole bits precision entries t)
+  paired-found = symbol-found bits precision (map (λ x. x.1) entries) (map (λ x. whole x.0) entries) t
+      (paired-long whole bits precision entries t)
 
   -- the index of a quantile's row is one of an entry
   pub paired-index : (q i : ℕ) → IsRowIndexOf (rows_paired whole precision entries) q i → i < length entries
@@ -85,7 +87,8 @@ module _ {Symbol Word : Type 0} (whole : Word → ℕ) (bits precision : ℕ) (e
   pub paired-symbols_differ : (eq : Symbol → Symbol → Bool) → IsDistinct eq (map (λ x. x.1) entries)
       → IsDistinct eq (symbols_of (rows_paired whole precision entries))
   paired-symbols_differ eq d =
-      let same = symbols-many bits precision (map (λ x. x.1) entries) (map (λ x. whole x.0) entries) t (paired-long whole bits precision entries t) in
+      let same = symbols-many bits precision (map (λ x. x.1) entries) (map (λ x. whole x.0) entries) t
+      (paired-long whole bits precision entries t) in
       rw (symbols-rows_from 0 (map (λ x. x.1) entries) (weights_of precision (map (λ x. whole x.0) entries)) same) d
 
   -- what is known of an entry's row

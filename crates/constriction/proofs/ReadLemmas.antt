@@ -290,7 +290,8 @@ module _ {S T Symbol W Stored : Type 0} (steps : S → Option Symbol → S → T
           tile = (good-given whole bits precision (r.weights ++ w ∷ []) (r.table ++ left ∷ [])
               (filled-more whole bits precision r.weights r.table left w None r.filled end)).0;
           as_many =
-              length_push r.symbols s ∙ ap (λ n. n + 1) r.as_many ∙ sym (length_push r.weights w) ∙ sym (length-map (r.weights ++ w ∷ []) whole);
+              length_push r.symbols s ∙ ap (λ n. n + 1) r.as_many ∙ sym (length_push r.weights w) ∙ sym
+              (length-map (r.weights ++ w ∷ []) whole);
           distinct = IsDistinct-push laws r.symbols s r.distinct (apart-read s false apart);
         },
         subst (holds stored')

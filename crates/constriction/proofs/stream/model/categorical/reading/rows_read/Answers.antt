@@ -26,13 +26,15 @@ returns-then-not-is_filled_by-clause-invalid g c = λ _.
     let w = c.in-Some.weight in
     let one : whole c.greatest-one.result ≡ 1 = omega (arith, c.greatest-one.ensures.value) in
     let wrapped : (whole c.wrapping_minus-last.result + 1) % 2 ^ g.P.WholeNumber.BITS ≡ whole w =
-    subst (λ n. (whole c.wrapping_minus-last.result + n) % 2 ^ g.P.WholeNumber.BITS ≡ whole w) one c.wrapping_minus-last.ensures.difference in
+    subst (λ n. (whole c.wrapping_minus-last.result + n) % 2 ^ g.P.WholeNumber.BITS ≡ whole w) one
+    c.wrapping_minus-last.ensures.difference in
     let bad : (whole w ≡ 0) ⊎ (whole c.rows.room + 1 < whole w) = search rules in
     let why : (whole w ≡ 0) ⊎ (2 ^ g.row.PRECISION < sum (map whole read.weights) + whole w) =
     elim bad [ inl none ↦ inl none | inr much ↦ inr (omega (arith, much, read.rest, read.filled.is)) ] in
     bad-weight g.Symbols.Iterator.next_gives _ g.Weights.Iterator.next_gives _ g.Stored.TakesRows.symbol_eq
     g.met.Stored.TakesRows.equality_law g.Stored.TakesRows.holds g.P.WholeNumber.whole g.P.WholeNumber.BITS g.row.PRECISION
-    c.rows.stored c.rows.symbols c.rows.weights c.rows.left (g.P.WholeNumber.whole c.rows.room) c.rows.invariant.4 c.args.infer_last _ w c.in-Some.ensures.steps
+    c.rows.stored c.rows.symbols c.rows.weights c.rows.left (g.P.WholeNumber.whole c.rows.room) c.rows.invariant.4 c.args.infer_last _ w
+    c.in-Some.ensures.steps
     (λ more. bad-more whole g.P.WholeNumber.BITS g.row.PRECISION c.args.infer_last read.weights more w why)
 
 pub returns-then-infer_last-clause-invalid : goal.returns-then-infer_last-clause-invalid
@@ -42,7 +44,8 @@ returns-then-infer_last-clause-invalid g c = λ _.
     let w = c.in-Some.weight in
     let one : whole c.greatest-one.result ≡ 1 = omega (arith, c.greatest-one.ensures.value) in
     let wrapped : (whole c.wrapping_minus-last.result + 1) % 2 ^ g.P.WholeNumber.BITS ≡ whole w =
-    subst (λ n. (whole c.wrapping_minus-last.result + n) % 2 ^ g.P.WholeNumber.BITS ≡ whole w) one c.wrapping_minus-last.ensures.difference in
+    subst (λ n. (whole c.wrapping_minus-last.result + n) % 2 ^ g.P.WholeNumber.BITS ≡ whole w) one
+    c.wrapping_minus-last.ensures.difference in
     let takes : (0 < whole w) × (whole w ≡ whole c.rows.room + 1) = search rules in
     let end = row-last whole g.P.WholeNumber.BITS g.row.PRECISION c.rows.left w (whole c.rows.room) (whole c.wrapping_minus-last.result)
     read.rest wrapped (pow_pos g.P.WholeNumber.BITS) takes.0 takes.1 in
@@ -51,7 +54,8 @@ returns-then-infer_last-clause-invalid g c = λ _.
     let infer : c.args.infer_last ≡ true = search rules in
     bad-weight g.Symbols.Iterator.next_gives _ g.Weights.Iterator.next_gives _ g.Stored.TakesRows.symbol_eq
     g.met.Stored.TakesRows.equality_law g.Stored.TakesRows.holds g.P.WholeNumber.whole g.P.WholeNumber.BITS g.row.PRECISION
-    c.rows.stored c.rows.symbols c.rows.weights c.rows.left (g.P.WholeNumber.whole c.rows.room) c.rows.invariant.4 c.args.infer_last _ w c.in-Some.ensures.steps
+    c.rows.stored c.rows.symbols c.rows.weights c.rows.left (g.P.WholeNumber.whole c.rows.room) c.rows.invariant.4 c.args.infer_last _ w
+    c.in-Some.ensures.steps
     (λ more. rw infer (bad-full-more whole g.P.WholeNumber.BITS g.row.PRECISION (read.weights ++ w ∷ []) more much))
 
 pub next-requires-then-is_at_most : goal.next-requires-then-is_at_most
@@ -61,15 +65,18 @@ pub returns-in_default-next-clause-invalid : goal.returns-in_default-next-clause
 returns-in_default-next-clause-invalid g c = λ _.
     bad-few g.Symbols.Iterator.next_gives _ g.Weights.Iterator.next_gives _ g.Stored.TakesRows.symbol_eq
     g.met.Stored.TakesRows.equality_law g.Stored.TakesRows.holds g.P.WholeNumber.whole g.P.WholeNumber.BITS g.row.PRECISION
-    c.rows.stored c.rows.symbols c.rows.weights c.rows.left (g.P.WholeNumber.whole c.rows.room) c.rows.invariant.4 c.args.infer_last _ _ c.in-Some.weight c.in-Some.ensures.steps c.in_default-next.ensures.steps
+    c.rows.stored c.rows.symbols c.rows.weights c.rows.left (g.P.WholeNumber.whole c.rows.room) c.rows.invariant.4 c.args.infer_last _ _
+    c.in-Some.weight c.in-Some.ensures.steps c.in_default-next.ensures.steps
 
 pub returns-in_err-take_row-clause-invalid : goal.returns-in_err-take_row-clause-invalid
 returns-in_err-take_row-clause-invalid g c = λ h.
     let e : c.take_row.result ≡ Err InvalidTable = search rules in
     bad-repeat g.Symbols.Iterator.next_gives _ g.Weights.Iterator.next_gives _ g.Stored.TakesRows.symbol_eq
     g.met.Stored.TakesRows.equality_law g.Stored.TakesRows.holds g.P.WholeNumber.whole g.P.WholeNumber.BITS g.row.PRECISION
-    c.rows.stored c.rows.symbols c.rows.weights c.rows.left (g.P.WholeNumber.whole c.rows.room) c.rows.invariant.4 c.args.infer_last _ _ c.in-Some.weight c.in-Some-next.symbol
-    c.in-Some.ensures.steps c.in-Some-next.ensures.steps (c.take_row.ensures.repeated e (rows_of c.rows.invariant.4.symbols (map g.P.WholeNumber.whole c.rows.invariant.4.weights))
+    c.rows.stored c.rows.symbols c.rows.weights c.rows.left (g.P.WholeNumber.whole c.rows.room) c.rows.invariant.4 c.args.infer_last _ _
+    c.in-Some.weight c.in-Some-next.symbol
+    c.in-Some.ensures.steps c.in-Some-next.ensures.steps (c.take_row.ensures.repeated e
+    (rows_of c.rows.invariant.4.symbols (map g.P.WholeNumber.whole c.rows.invariant.4.weights))
     c.rows.invariant.4.held)
 
 pub returns-in-Some-next-2-clause-invalid : goal.returns-in-Some-next-2-clause-invalid
@@ -79,7 +86,8 @@ returns-in-Some-next-2-clause-invalid g c = λ _.
     let w = c.in-Some.weight in
     let one : whole c.greatest-one.result ≡ 1 = omega (arith, c.greatest-one.ensures.value) in
     let wrapped : (whole c.wrapping_minus-last.result + 1) % 2 ^ g.P.WholeNumber.BITS ≡ whole w =
-    subst (λ n. (whole c.wrapping_minus-last.result + n) % 2 ^ g.P.WholeNumber.BITS ≡ whole w) one c.wrapping_minus-last.ensures.difference in
+    subst (λ n. (whole c.wrapping_minus-last.result + n) % 2 ^ g.P.WholeNumber.BITS ≡ whole w) one
+    c.wrapping_minus-last.ensures.difference in
     let takes : (0 < whole w) × (whole w ≡ whole c.rows.room + 1) = search rules in
     let end = row-last whole g.P.WholeNumber.BITS g.row.PRECISION c.rows.left w (whole c.rows.room) (whole c.wrapping_minus-last.result)
     read.rest wrapped (pow_pos g.P.WholeNumber.BITS) takes.0 takes.1 in
@@ -87,14 +95,16 @@ returns-in-Some-next-2-clause-invalid g c = λ _.
     let much : 2 ^ g.row.PRECISION ≤ sum (map whole (read.weights ++ w ∷ [])) = omega (arith, full.is) in
     bad-weight_after g.Symbols.Iterator.next_gives _ g.Weights.Iterator.next_gives _ g.Stored.TakesRows.symbol_eq
     g.met.Stored.TakesRows.equality_law g.Stored.TakesRows.holds g.P.WholeNumber.whole g.P.WholeNumber.BITS g.row.PRECISION
-    c.rows.stored c.rows.symbols c.rows.weights c.rows.left (g.P.WholeNumber.whole c.rows.room) c.rows.invariant.4 c.args.infer_last _ _ w c.in-Some-next-2.field-0 c.in-Some.ensures.steps c.in-Some-next-2.ensures.steps much
+    c.rows.stored c.rows.symbols c.rows.weights c.rows.left (g.P.WholeNumber.whole c.rows.room) c.rows.invariant.4 c.args.infer_last _ _
+    w c.in-Some-next-2.field-0 c.in-Some.ensures.steps c.in-Some-next-2.ensures.steps much
 
 pub returns-in-Some-next-3-clause-invalid : goal.returns-in-Some-next-3-clause-invalid
 returns-in-Some-next-3-clause-invalid g c = λ _.
     let given : c.args.infer_last ≡ false = search rules in
     rw given (bad-many g.Symbols.Iterator.next_gives _ g.Weights.Iterator.next_gives _ g.Stored.TakesRows.symbol_eq
     g.met.Stored.TakesRows.equality_law g.Stored.TakesRows.holds g.P.WholeNumber.whole g.P.WholeNumber.BITS g.row.PRECISION
-    c.rows.stored c.rows.symbols c.rows.weights c.rows.left (g.P.WholeNumber.whole c.rows.room) c.rows.invariant.4 _ _ _ _ c.in-Some.weight c.in-Some-next.symbol c.in-Some-next-3.field-0
+    c.rows.stored c.rows.symbols c.rows.weights c.rows.left (g.P.WholeNumber.whole c.rows.room) c.rows.invariant.4 _ _ _ _
+    c.in-Some.weight c.in-Some-next.symbol c.in-Some-next-3.field-0
     c.in-Some.ensures.steps c.in_default-next-2.ensures.steps c.in-Some-next.ensures.steps c.in-Some-next-3.ensures.steps)
 
 pub returns-then-is_at_most-clause-ok : goal.returns-then-is_at_most-clause-ok
@@ -104,16 +114,19 @@ returns-then-is_at_most-clause-ok g c =
     let w = c.in-Some.weight in
     let one : whole c.greatest-one.result ≡ 1 = omega (arith, c.greatest-one.ensures.value) in
     let wrapped : (whole c.wrapping_minus-last.result + 1) % 2 ^ g.P.WholeNumber.BITS ≡ whole w =
-    subst (λ n. (whole c.wrapping_minus-last.result + n) % 2 ^ g.P.WholeNumber.BITS ≡ whole w) one c.wrapping_minus-last.ensures.difference in
+    subst (λ n. (whole c.wrapping_minus-last.result + n) % 2 ^ g.P.WholeNumber.BITS ≡ whole w) one
+    c.wrapping_minus-last.ensures.difference in
     let takes : (0 < whole w) × (whole w ≡ whole c.rows.room + 1) = search rules in
     let end = row-last whole g.P.WholeNumber.BITS g.row.PRECISION c.rows.left w (whole c.rows.room) (whole c.wrapping_minus-last.result)
     read.rest wrapped (pow_pos g.P.WholeNumber.BITS) takes.0 takes.1 in
     let given : c.args.infer_last ≡ false = search rules in
     rw given (good-last g.Symbols.Iterator.next_gives _ g.Weights.Iterator.next_gives _ g.Stored.TakesRows.symbol_eq
     g.met.Stored.TakesRows.equality_law g.Stored.TakesRows.holds g.P.WholeNumber.whole g.P.WholeNumber.BITS g.row.PRECISION
-    c.rows.stored c.rows.symbols c.rows.weights c.rows.left (g.P.WholeNumber.whole c.rows.room) c.rows.invariant.4 c.take_row.new.self _ _ _ _ c.in-Some-next.symbol w
+    c.rows.stored c.rows.symbols c.rows.weights c.rows.left (g.P.WholeNumber.whole c.rows.room) c.rows.invariant.4 c.take_row.new.self _
+    _ _ _ c.in-Some-next.symbol w
     c.in-Some.ensures.steps c.in_default-next-2.ensures.steps c.in-Some-next.ensures.steps c.in_default-next-3.ensures.steps
-    (c.in_ok-take_row.ensures.held (refl {a = true}) (rows_of read.symbols (map whole read.weights)) read.held) (c.in_ok-take_row.ensures.apart (refl {a = true}) (rows_of read.symbols (map whole read.weights)) read.held) end)
+    (c.in_ok-take_row.ensures.held (refl {a = true}) (rows_of read.symbols (map whole read.weights)) read.held)
+    (c.in_ok-take_row.ensures.apart (refl {a = true}) (rows_of read.symbols (map whole read.weights)) read.held) end)
 
 pub next-requires-in-Some : goal.next-requires-in-Some
 next-requires-in-Some g c = c.rows.invariant.2
@@ -122,7 +135,8 @@ pub returns-in_default-next-4-clause-invalid : goal.returns-in_default-next-4-cl
 returns-in_default-next-4-clause-invalid g c = λ _.
     bad-few g.Symbols.Iterator.next_gives _ g.Weights.Iterator.next_gives _ g.Stored.TakesRows.symbol_eq
     g.met.Stored.TakesRows.equality_law g.Stored.TakesRows.holds g.P.WholeNumber.whole g.P.WholeNumber.BITS g.row.PRECISION
-    c.rows.stored c.rows.symbols c.rows.weights c.rows.left (g.P.WholeNumber.whole c.rows.room) c.rows.invariant.4 c.args.infer_last _ _ c.in-Some.weight c.in-Some.ensures.steps c.in_default-next-4.ensures.steps
+    c.rows.stored c.rows.symbols c.rows.weights c.rows.left (g.P.WholeNumber.whole c.rows.room) c.rows.invariant.4 c.args.infer_last _ _
+    c.in-Some.weight c.in-Some.ensures.steps c.in_default-next-4.ensures.steps
 
 pub take_row-requires-in-Some : goal.take_row-requires-in-Some
 take_row-requires-in-Some g c =
@@ -131,7 +145,8 @@ take_row-requires-in-Some g c =
     let w = c.in-Some.weight in
     let one : whole c.greatest-one.result ≡ 1 = omega (arith, c.greatest-one.ensures.value) in
     let wrapped : (whole c.wrapping_minus-last.result + 1) % 2 ^ g.P.WholeNumber.BITS ≡ whole w =
-    subst (λ n. (whole c.wrapping_minus-last.result + n) % 2 ^ g.P.WholeNumber.BITS ≡ whole w) one c.wrapping_minus-last.ensures.difference in
+    subst (λ n. (whole c.wrapping_minus-last.result + n) % 2 ^ g.P.WholeNumber.BITS ≡ whole w) one
+    c.wrapping_minus-last.ensures.difference in
     let less : whole c.wrapping_minus-last.result < whole c.rows.room = search rules in
     record {
       positive = (row-fits g.P.WholeNumber.BITS g.row.PRECISION (whole c.rows.left) (whole w) (whole c.rows.room)
@@ -143,8 +158,10 @@ returns-in_err-take_row-2-clause-invalid g c = λ h.
     let e : c.take_row-in-Some.result ≡ Err InvalidTable = search rules in
     bad-repeat g.Symbols.Iterator.next_gives _ g.Weights.Iterator.next_gives _ g.Stored.TakesRows.symbol_eq
     g.met.Stored.TakesRows.equality_law g.Stored.TakesRows.holds g.P.WholeNumber.whole g.P.WholeNumber.BITS g.row.PRECISION
-    c.rows.stored c.rows.symbols c.rows.weights c.rows.left (g.P.WholeNumber.whole c.rows.room) c.rows.invariant.4 c.args.infer_last _ _ c.in-Some.weight c.in-Some-next-4.symbol
-    c.in-Some.ensures.steps c.in-Some-next-4.ensures.steps (c.take_row-in-Some.ensures.repeated e (rows_of c.rows.invariant.4.symbols (map g.P.WholeNumber.whole c.rows.invariant.4.weights))
+    c.rows.stored c.rows.symbols c.rows.weights c.rows.left (g.P.WholeNumber.whole c.rows.room) c.rows.invariant.4 c.args.infer_last _ _
+    c.in-Some.weight c.in-Some-next-4.symbol
+    c.in-Some.ensures.steps c.in-Some-next-4.ensures.steps (c.take_row-in-Some.ensures.repeated e
+    (rows_of c.rows.invariant.4.symbols (map g.P.WholeNumber.whole c.rows.invariant.4.weights))
     c.rows.invariant.4.held)
 
 pub plus-left-requires : goal.plus-left-requires
@@ -154,7 +171,8 @@ plus-left-requires g c =
     let w = c.in-Some.weight in
     let one : whole c.greatest-one.result ≡ 1 = omega (arith, c.greatest-one.ensures.value) in
     let wrapped : (whole c.wrapping_minus-last.result + 1) % 2 ^ g.P.WholeNumber.BITS ≡ whole w =
-    subst (λ n. (whole c.wrapping_minus-last.result + n) % 2 ^ g.P.WholeNumber.BITS ≡ whole w) one c.wrapping_minus-last.ensures.difference in
+    subst (λ n. (whole c.wrapping_minus-last.result + n) % 2 ^ g.P.WholeNumber.BITS ≡ whole w) one
+    c.wrapping_minus-last.ensures.difference in
     let less : whole c.wrapping_minus-last.result < whole c.rows.room = search rules in
     (row-fits g.P.WholeNumber.BITS g.row.PRECISION (whole c.rows.left) (whole w) (whole c.rows.room)
     (whole c.wrapping_minus-last.result) read.rest c.greatest-room.ensures.within wrapped less).1
@@ -166,7 +184,8 @@ rows-preserved g c =
     let w = c.in-Some.weight in
     let one : whole c.greatest-one.result ≡ 1 = omega (arith, c.greatest-one.ensures.value) in
     let wrapped : (whole c.wrapping_minus-last.result + 1) % 2 ^ g.P.WholeNumber.BITS ≡ whole w =
-    subst (λ n. (whole c.wrapping_minus-last.result + n) % 2 ^ g.P.WholeNumber.BITS ≡ whole w) one c.wrapping_minus-last.ensures.difference in
+    subst (λ n. (whole c.wrapping_minus-last.result + n) % 2 ^ g.P.WholeNumber.BITS ≡ whole w) one
+    c.wrapping_minus-last.ensures.difference in
     let less : whole c.wrapping_minus-last.result < whole c.rows.room = search rules in
     let end = row-within whole g.P.WholeNumber.BITS g.row.PRECISION c.rows.left w c.plus-left.result (whole c.rows.room)
     (whole c.wrapping_minus-last.result) read.rest c.greatest-room.ensures.within wrapped less c.plus-left.ensures in
@@ -179,9 +198,12 @@ rows-preserved g c =
       symbols.1,
       read-more g.Symbols.Iterator.next_gives _ g.Weights.Iterator.next_gives _ g.Stored.TakesRows.symbol_eq
           g.met.Stored.TakesRows.equality_law g.Stored.TakesRows.holds g.P.WholeNumber.whole g.P.WholeNumber.BITS g.row.PRECISION
-          c.rows.stored c.rows.symbols c.rows.weights c.rows.left (g.P.WholeNumber.whole c.rows.room) c.rows.invariant.4 c.take_row-in-Some.new.self c.next-in-Some.new.self c.next.new.self c.in-Some-next-4.symbol w c.plus-left.result (whole c.minus-room.result)
+          c.rows.stored c.rows.symbols c.rows.weights c.rows.left (g.P.WholeNumber.whole c.rows.room) c.rows.invariant.4
+          c.take_row-in-Some.new.self c.next-in-Some.new.self c.next.new.self c.in-Some-next-4.symbol w c.plus-left.result
+          (whole c.minus-room.result)
           c.in-Some.ensures.steps c.in-Some-next-4.ensures.steps
-          (c.in_ok-take_row-2.ensures.held (refl {a = true}) (rows_of read.symbols (map whole read.weights)) read.held) (c.in_ok-take_row-2.ensures.apart (refl {a = true}) (rows_of read.symbols (map whole read.weights)) read.held) end
+          (c.in_ok-take_row-2.ensures.held (refl {a = true}) (rows_of read.symbols (map whole read.weights)) read.held)
+          (c.in_ok-take_row-2.ensures.apart (refl {a = true}) (rows_of read.symbols (map whole read.weights)) read.held) end
           (omega (arith, read.rest, c.plus-left.ensures, c.minus-room.ensures, within)),
     )
 
@@ -190,7 +212,8 @@ returns-then-not-infer_last-clause-invalid g c = λ _.
     let given : c.args.infer_last ≡ false = search rules in
     rw given (bad-left_over g.Symbols.Iterator.next_gives _ g.Weights.Iterator.next_gives _ g.Stored.TakesRows.symbol_eq
     g.met.Stored.TakesRows.equality_law g.Stored.TakesRows.holds g.P.WholeNumber.whole g.P.WholeNumber.BITS g.row.PRECISION
-    c.rows.stored c.rows.symbols c.rows.weights c.rows.left (g.P.WholeNumber.whole c.rows.room) c.rows.invariant.4 _ c.in_default.ensures.steps)
+    c.rows.stored c.rows.symbols c.rows.weights c.rows.left (g.P.WholeNumber.whole c.rows.room) c.rows.invariant.4 _
+    c.in_default.ensures.steps)
 
 pub returns-then-is_greatest-clause-invalid : goal.returns-then-is_greatest-clause-invalid
 returns-then-is_greatest-clause-invalid g c = λ _.
@@ -198,7 +221,8 @@ returns-then-is_greatest-clause-invalid g c = λ _.
     let wide : g.P.WholeNumber.whole c.rows.room + 1 ≡ 2 ^ g.P.WholeNumber.BITS = search rules in
     rw infer (bad-wide_last g.Symbols.Iterator.next_gives _ g.Weights.Iterator.next_gives _ g.Stored.TakesRows.symbol_eq
     g.met.Stored.TakesRows.equality_law g.Stored.TakesRows.holds g.P.WholeNumber.whole g.P.WholeNumber.BITS g.row.PRECISION
-    c.rows.stored c.rows.symbols c.rows.weights c.rows.left (g.P.WholeNumber.whole c.rows.room) c.rows.invariant.4 _ c.in_default.ensures.steps wide)
+    c.rows.stored c.rows.symbols c.rows.weights c.rows.left (g.P.WholeNumber.whole c.rows.room) c.rows.invariant.4 _
+    c.in_default.ensures.steps wide)
 
 pub next-requires-2 : goal.next-requires-2
 next-requires-2 g c = c.rows.invariant.2
@@ -208,7 +232,8 @@ returns-in_default-next-5-clause-invalid g c = λ _.
     let infer : c.args.infer_last ≡ true = search rules in
     rw infer (bad-few_last g.Symbols.Iterator.next_gives _ g.Weights.Iterator.next_gives _ g.Stored.TakesRows.symbol_eq
     g.met.Stored.TakesRows.equality_law g.Stored.TakesRows.holds g.P.WholeNumber.whole g.P.WholeNumber.BITS g.row.PRECISION
-    c.rows.stored c.rows.symbols c.rows.weights c.rows.left (g.P.WholeNumber.whole c.rows.room) c.rows.invariant.4 _ _ c.in_default.ensures.steps c.in_default-next-5.ensures.steps)
+    c.rows.stored c.rows.symbols c.rows.weights c.rows.left (g.P.WholeNumber.whole c.rows.room) c.rows.invariant.4 _ _
+    c.in_default.ensures.steps c.in_default-next-5.ensures.steps)
 
 pub plus-requires : goal.plus-requires
 plus-requires g c =
@@ -227,8 +252,10 @@ returns-in_err-take_row-3-clause-invalid g c = λ h.
     let e : c.take_row-2.result ≡ Err InvalidTable = search rules in
     bad-repeat_last g.Symbols.Iterator.next_gives _ g.Weights.Iterator.next_gives _ g.Stored.TakesRows.symbol_eq
     g.met.Stored.TakesRows.equality_law g.Stored.TakesRows.holds g.P.WholeNumber.whole g.P.WholeNumber.BITS g.row.PRECISION
-    c.rows.stored c.rows.symbols c.rows.weights c.rows.left (g.P.WholeNumber.whole c.rows.room) c.rows.invariant.4 c.args.infer_last _ _ c.in-Some-next-5.symbol
-    c.in_default.ensures.steps c.in-Some-next-5.ensures.steps (c.take_row-2.ensures.repeated e (rows_of c.rows.invariant.4.symbols (map g.P.WholeNumber.whole c.rows.invariant.4.weights))
+    c.rows.stored c.rows.symbols c.rows.weights c.rows.left (g.P.WholeNumber.whole c.rows.room) c.rows.invariant.4 c.args.infer_last _ _
+    c.in-Some-next-5.symbol
+    c.in_default.ensures.steps c.in-Some-next-5.ensures.steps (c.take_row-2.ensures.repeated e
+    (rows_of c.rows.invariant.4.symbols (map g.P.WholeNumber.whole c.rows.invariant.4.weights))
     c.rows.invariant.4.held)
 
 pub returns-in-Some-next-6-clause-invalid : goal.returns-in-Some-next-6-clause-invalid
@@ -236,7 +263,8 @@ returns-in-Some-next-6-clause-invalid g c = λ _.
     let infer : c.args.infer_last ≡ true = search rules in
     rw infer (bad-many_last g.Symbols.Iterator.next_gives _ g.Weights.Iterator.next_gives _ g.Stored.TakesRows.symbol_eq
     g.met.Stored.TakesRows.equality_law g.Stored.TakesRows.holds g.P.WholeNumber.whole g.P.WholeNumber.BITS g.row.PRECISION
-    c.rows.stored c.rows.symbols c.rows.weights c.rows.left (g.P.WholeNumber.whole c.rows.room) c.rows.invariant.4 _ _ _ c.in-Some-next-5.symbol c.in-Some-next-6.field-0
+    c.rows.stored c.rows.symbols c.rows.weights c.rows.left (g.P.WholeNumber.whole c.rows.room) c.rows.invariant.4 _ _ _
+    c.in-Some-next-5.symbol c.in-Some-next-6.field-0
     c.in_default.ensures.steps c.in-Some-next-5.ensures.steps c.in-Some-next-6.ensures.steps)
 
 pub returns-clause-ok : goal.returns-clause-ok
@@ -255,6 +283,8 @@ returns-clause-ok g c =
     let last : whole c.plus.result ≡ whole c.rows.room + 1 = omega (arith, c.plus.ensures, one) in
     rw infer (good-inferred_last g.Symbols.Iterator.next_gives _ g.Weights.Iterator.next_gives _ g.Stored.TakesRows.symbol_eq
     g.met.Stored.TakesRows.equality_law g.Stored.TakesRows.holds g.P.WholeNumber.whole g.P.WholeNumber.BITS g.row.PRECISION
-    c.rows.stored c.rows.symbols c.rows.weights c.rows.left (g.P.WholeNumber.whole c.rows.room) c.rows.invariant.4 c.take_row-2.new.self _ _ _ c.in-Some-next-5.symbol c.plus.result
+    c.rows.stored c.rows.symbols c.rows.weights c.rows.left (g.P.WholeNumber.whole c.rows.room) c.rows.invariant.4 c.take_row-2.new.self
+    _ _ _ c.in-Some-next-5.symbol c.plus.result
     c.in_default.ensures.steps c.in-Some-next-5.ensures.steps c.in_default-next-6.ensures.steps
-    (c.in_ok-take_row-3.ensures.held (refl {a = true}) (rows_of read.symbols (map whole read.weights)) read.held) (c.in_ok-take_row-3.ensures.apart (refl {a = true}) (rows_of read.symbols (map whole read.weights)) read.held) last narrow)
+    (c.in_ok-take_row-3.ensures.held (refl {a = true}) (rows_of read.symbols (map whole read.weights)) read.held)
+    (c.in_ok-take_row-3.ensures.apart (refl {a = true}) (rows_of read.symbols (map whole read.weights)) read.held) last narrow)

@@ -16,13 +16,15 @@ returns-clause-weight g c =
       | then-index-entries w ↦
           let there = read-whole told entries (c.args.index + 1) w.index-entries-index-then-index-entries.result
           w.if-index-entries.true w.index-entries-index-then-index-entries.is in
-          stored-weight _ g.row.PRECISION (map told entries) c.args.index (whole c.cumulative_of-left.result) (whole c.if-index-entries.end) _
+          stored-weight _ g.row.PRECISION (map told entries) c.args.index (whole c.cumulative_of-left.result)
+          (whole c.if-index-entries.end) _
           c.requires.stored c.requires.fits (omega (arith, c.requires.in_bounds, long)) (here ∙ sym c.cumulative_of-left.ensures)
           (λ _. there ∙ sym w.cumulative_of-end.ensures ∙ sym (ap whole w.end-is))
           (λ h. absurd (omega (arith, h, w.if-index-entries.true, long)))
           c.wrapping_minus.ensures.range c.wrapping_minus.ensures.difference
       | else-index-entries w ↦
-          stored-weight _ g.row.PRECISION (map told entries) c.args.index (whole c.cumulative_of-left.result) (whole c.if-index-entries.end) _
+          stored-weight _ g.row.PRECISION (map told entries) c.args.index (whole c.cumulative_of-left.result)
+          (whole c.if-index-entries.end) _
           c.requires.stored c.requires.fits (omega (arith, c.requires.in_bounds, long)) (here ∙ sym c.cumulative_of-left.ensures)
           (λ h. absurd (omega (arith, h, w.if-index-entries.false, long)))
           (λ _. ap whole w.end-is ∙ w.wrapping_pow2-end.ensures)

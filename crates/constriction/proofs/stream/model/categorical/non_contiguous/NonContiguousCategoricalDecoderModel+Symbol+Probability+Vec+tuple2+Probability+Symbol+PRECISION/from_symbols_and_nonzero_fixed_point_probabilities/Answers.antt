@@ -14,7 +14,8 @@ invariant_of-result g c =
     let tile = accepted-tile eq g.Probability.BitArray.BITS g.row.PRECISION given.0 weights good.0 in
     record {
       precise = (c.requires.positive, c.requires.fits);
-      stored = (paired-of_rows whole g.Probability.BitArray.BITS g.row.PRECISION (rows_of given.0 weights) c.in_ok-cdf.cdf.items tile good.1).0;
+      stored = (paired-of_rows whole g.Probability.BitArray.BITS g.row.PRECISION (rows_of given.0 weights) c.in_ok-cdf.cdf.items tile
+          good.1).0;
       distinct = paired-distinct eq g.Probability.BitArray.BITS g.row.PRECISION given.0 weights good.0 whole c.in_ok-cdf.cdf.items good.1;
     }
 
@@ -26,7 +27,8 @@ returns-clause-ok g c =
     let weights = completed g.row.PRECISION c.args.infer_last_probability (map whole given.1) in
     let good = given.4 in
     let tile = accepted-tile eq g.Probability.BitArray.BITS g.row.PRECISION given.0 weights good.0 in
-    let rows = paired-of_rows whole g.Probability.BitArray.BITS g.row.PRECISION (rows_of given.0 weights) c.in_ok-cdf.cdf.items tile good.1 in (
+    let rows = paired-of_rows whole g.Probability.BitArray.BITS g.row.PRECISION (rows_of given.0 weights) c.in_ok-cdf.cdf.items tile
+    good.1 in (
       c.into_iter-symbols.result,
       c.into_iter-symbols.ensures.into_iter_gives,
       c.into_iter.result,

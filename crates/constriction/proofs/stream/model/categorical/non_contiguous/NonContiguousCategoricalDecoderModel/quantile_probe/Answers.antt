@@ -15,7 +15,8 @@ returns-clause-searchable g c =
     let whole = g.Probability.BitArray.whole in
     let entries = g.Cdf.SafeBuf.words_of c.args.self.now.cdf in
     rw (c.new.ensures.cumulatives, c.words.ensures)
-    (stored-searchable g.Probability.BitArray.BITS g.row.PRECISION (map (λ x. whole x.0) entries) c.args.self.now.stored (whole c.args.quantile))
+    (stored-searchable g.Probability.BitArray.BITS g.row.PRECISION (map (λ x. whole x.0) entries) c.args.self.now.stored
+    (whole c.args.quantile))
 
 pub returns-clause-found : goal.returns-clause-found
 returns-clause-found g c =

@@ -9,7 +9,8 @@ returns-in-Ok-clause-steps g c =
     let t = c.args.self.now in
     let some : t.from < t.to = omega (arith, t.in_order, c.if-self.false) in (
       _,
-      paired-last g.Probability.BitArray.whole _ g.row.PRECISION t.cdf.now t.stored t.from t.to _ _ c.index-self-index.result some t.in_bounds
+      paired-last g.Probability.BitArray.whole _ g.row.PRECISION t.cdf.now t.stored t.from t.to _ _ c.index-self-index.result some
+          t.in_bounds
           c.index-self-index.is c.paired_row_at-left.ensures.left c.paired_row_at-left.ensures.weight,
       ((rw (← c.index-self-index.is) at c.in-Ok.ensures.cases, refl, refl), tt),
     )
@@ -27,7 +28,8 @@ returns-in-Err-clause-steps g c =
     let t = c.args.self.now in
     let some : t.from < t.to = omega (arith, t.in_order, c.if-self.false) in (
       _,
-      paired-last g.Probability.BitArray.whole _ g.row.PRECISION t.cdf.now t.stored t.from t.to _ _ c.index-self-index.result some t.in_bounds
+      paired-last g.Probability.BitArray.whole _ g.row.PRECISION t.cdf.now t.stored t.from t.to _ _ c.index-self-index.result some
+          t.in_bounds
           c.index-self-index.is c.paired_row_at-left.ensures.left c.paired_row_at-left.ensures.weight,
       (tt, rw (← c.index-self-index.is) at c.in-Err.ensures.cases),
     )
