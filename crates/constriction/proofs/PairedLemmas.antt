@@ -157,3 +157,12 @@ tiling-rebuilds eq bits precision rows t distinct = (
   },
   sym t.in_order,
 )
+
+-- entries that were lent: their rows are stored, all of them are left at first, and there are so many
+pub paired-lent : {Symbol Word : Type 0} (whole : Word → ℕ) (bits precision : ℕ) (entries lent : List (Word × Symbol))
+    → IsStored bits precision (map (λ x. whole x.0) entries) → lent ≡ entries
+    → IsStored bits precision (map (λ x. whole x.0) lent)
+    × (rows_between 0 (length lent) (rows_paired whole precision lent) ≡ rows_paired whole precision entries)
+    × (0 ≤ length lent) × (length lent ≤ length lent)
+paired-lent whole bits precision entries lent t e =
+    rw e (t, paired-all whole bits precision entries t, omega arith, omega arith)

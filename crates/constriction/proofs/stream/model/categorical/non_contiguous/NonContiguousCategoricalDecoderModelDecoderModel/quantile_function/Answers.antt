@@ -43,31 +43,28 @@ bounds-cdf-index g c =
 pub offset_bounds-cdf-index : goal.offset_bounds-cdf-index
 offset_bounds-cdf-index g c = let within = bounds-cdf-index g c in omega (arith, within)
 
-pub returns-in-Ok-clause-row : goal.returns-in-Ok-clause-row
-returns-in-Ok-clause-row g c =
+pub returns-in-Ok : goal.returns-in-Ok
+returns-in-Ok g c =
     let whole = g.Probability.BitArray.whole in
+    let bits = g.Probability.BitArray.BITS in
     let entries = g.Cdf.SafeBuf.words_of c.args.self.now.cdf in
-    let same = c.words-cdf.ensures in
-    let clone = rw (← c.index-cdf-index.is) at c.in-Ok.ensures.cases in
-    paired-answer whole g.Probability.BitArray.BITS g.row.PRECISION entries c.args.self.now.stored (whole c.args.quantile)
-    (c.quantile_probe-first.result.0 + c.row_of_quantile.result) (whole c.paired_row_at-left.result.0)
-    (whole (g.Probability.NonZero.NonZeroBitArray.base c.paired_row_at-left.result.1)) c.in-Ok.symbol c.index-cdf-index.result
-    (c.quantile_probe-first.ensures.found c.row_of_quantile.result c.row_of_quantile.ensures.found)
-    (rw (← same) c.index-cdf-index.is) (c.requires.clones _ _ clone)
-    (rw (← same) c.paired_row_at-left.ensures.left) (rw (← same) c.paired_row_at-left.ensures.weight)
-
-pub returns-in-Ok-clause-within : goal.returns-in-Ok-clause-within
-returns-in-Ok-clause-within g c =
-    let whole = g.Probability.BitArray.whole in
-    let entries = g.Cdf.SafeBuf.words_of c.args.self.now.cdf in
+    let stored = c.args.self.now.stored in
     let same = c.words-cdf.ensures in
     let index : ℕ = c.quantile_probe-first.result.0 + c.row_of_quantile.result in
-    let row = paired-row whole g.Probability.BitArray.BITS g.row.PRECISION entries c.args.self.now.stored index
-    (paired-index whole g.Probability.BitArray.BITS g.row.PRECISION entries c.args.self.now.stored (whole c.args.quantile) index
-    (c.quantile_probe-first.ensures.found c.row_of_quantile.result c.row_of_quantile.ensures.found)) in
+    let found = c.quantile_probe-first.ensures.found c.row_of_quantile.result c.row_of_quantile.ensures.found in
+    let row = paired-row whole bits g.row.PRECISION entries stored index
+    (paired-index whole bits g.row.PRECISION entries stored (whole c.args.quantile) index found) in
     let left : whole c.paired_row_at-left.result.0 ≡ get_or (map (λ x. whole x.0) entries) index 0 =
     rw (← same) c.paired_row_at-left.ensures.left in
     let weight : whole (g.Probability.NonZero.NonZeroBitArray.base c.paired_row_at-left.result.1)
     ≡ get_or (weights_of g.row.PRECISION (map (λ x. whole x.0) entries)) index 0 =
     rw (← same) c.paired_row_at-left.ensures.weight in
-    rw (left, weight) (row.positive, row.within)
+    let clone = rw (← c.index-cdf-index.is) at c.in-Ok.ensures.cases in
+    record {
+      row =
+          paired-answer whole bits g.row.PRECISION entries stored (whole c.args.quantile) index (whole c.paired_row_at-left.result.0)
+          (whole (g.Probability.NonZero.NonZeroBitArray.base c.paired_row_at-left.result.1)) c.in-Ok.symbol c.index-cdf-index.result found
+          (rw (← same) c.index-cdf-index.is) (c.requires.clones _ _ clone) left weight;
+      within = rw (left, weight) (row.positive, row.within);
+      refused = tt;
+    }

@@ -1,11 +1,13 @@
-use Rattle.std.proofs.Common.{length, ap}
-use Rattle.constriction.proofs.PairedLemmas.{paired-all}
+use Rattle.constriction.proofs.PairedLemmas.{paired-lent}
+use Rattle.constriction.proofs.StepLemmas.{same-length, same-most}
 use Rattle.constriction.proofs.stream.model.categorical.non_contiguous.RefNonContiguousCategoricalDecoderModelIterableEntropyModel.symbol_table.Goals as goal
 
-pub returns-clause-all : goal.returns-clause-all
-returns-clause-all g c =
-    rw c.words-cdf.ensures
-    (paired-all g.Probability.BitArray.whole _ g.row.PRECISION (g.Cdf.SafeBuf.words_of c.args.self.now.cdf) c.args.self.now.stored)
+pub returns : goal.returns
+returns g c =
+    let all = (paired-lent g.Probability.BitArray.whole _ g.row.PRECISION _ _ c.args.self.now.stored c.words-cdf.ensures).1 in
+    record { all = all; callable = tt; ends = (tt, same-most _ _ all); counted = same-length _ _ all }
 
-pub returns-clause-counted : goal.returns-clause-counted
-returns-clause-counted g c = ap length (returns-clause-all g c)
+pub invariant_of-result : goal.invariant_of-result
+invariant_of-result g c =
+    let lent = paired-lent g.Probability.BitArray.whole _ g.row.PRECISION _ _ c.args.self.now.stored c.words-cdf.ensures in
+    record { precise = c.args.self.now.precise; stored = lent.0; in_order = lent.2; in_bounds = lent.3 }

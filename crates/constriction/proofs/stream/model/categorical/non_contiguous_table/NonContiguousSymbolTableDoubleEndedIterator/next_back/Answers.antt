@@ -1,43 +1,38 @@
-use Rattle.std.proofs.Common.{◌-◌, ◌<◌, refl, arith}
-use Rattle.constriction.specs.Tables.{rows_paired, rows_between}
-use Rattle.constriction.proofs.StepLemmas.{one-fewer-last}
+use Rattle.std.proofs.Common.{◌≡◌, ◌+◌, ◌-◌, ◌<◌, ◌≤◌, length, map, refl, arith}
+use Rattle.constriction.specs.Tables.{rows_paired}
+use Rattle.constriction.proofs.StepLemmas.{none-between, fewer-last}
 use Rattle.constriction.proofs.PairedLemmas.{paired-last}
 use Rattle.constriction.proofs.stream.model.categorical.non_contiguous_table.NonContiguousSymbolTableDoubleEndedIterator.next_back.Goals as goal
 
-pub returns-in-Ok-clause-steps : goal.returns-in-Ok-clause-steps
-returns-in-Ok-clause-steps g c =
-    let t = c.args.self.now in
-    let some : t.from < t.to = omega (arith, t.in_order, c.if-self.false) in (
-      _,
-      paired-last g.Probability.BitArray.whole _ g.row.PRECISION t.cdf.now t.stored t.from t.to _ _ c.index-self-index.result some
-          t.in_bounds
-          c.index-self-index.is c.paired_row_at-left.ensures.left c.paired_row_at-left.ensures.weight,
-      ((rw (← c.index-self-index.is) at c.in-Ok.ensures.cases, refl, refl), tt),
-    )
-
-pub returns-in-Ok-clause-goes : goal.returns-in-Ok-clause-goes
-returns-in-Ok-clause-goes g c =
+pub returns-then-self : goal.returns-then-self
+returns-then-self g c =
     let t = c.args.self.now in
     let rows = rows_paired g.Probability.BitArray.whole g.row.PRECISION t.cdf.now in
-    let step = returns-in-Ok-clause-steps g c in
-    let fewer = one-fewer-last (rows_between t.from t.to rows) (rows_between t.from (t.to - 1) rows) step.0 step.1 in
-    record { on = λ _. (tt, tt, omega (arith, fewer)); keeps = tt; rests = λ _. tt }
+    record { steps = none-between rows t.from t.to c.if-self.true; goes = record { on = λ _. tt; keeps = tt; rests = λ _. tt } }
 
-pub returns-in-Err-clause-steps : goal.returns-in-Err-clause-steps
-returns-in-Err-clause-steps g c =
+pub returns-in-Ok : goal.returns-in-Ok
+returns-in-Ok g c =
     let t = c.args.self.now in
-    let some : t.from < t.to = omega (arith, t.in_order, c.if-self.false) in (
-      _,
-      paired-last g.Probability.BitArray.whole _ g.row.PRECISION t.cdf.now t.stored t.from t.to _ _ c.index-self-index.result some
-          t.in_bounds
-          c.index-self-index.is c.paired_row_at-left.ensures.left c.paired_row_at-left.ensures.weight,
-      (tt, rw (← c.index-self-index.is) at c.in-Err.ensures.cases),
-    )
+    let some : t.from < t.to = omega (arith, t.in_order, c.if-self.false) in
+    let step = paired-last g.Probability.BitArray.whole _ g.row.PRECISION t.cdf.now t.stored t.from t.to _ _ c.index-self-index.result some
+    t.in_bounds c.index-self-index.is c.paired_row_at-left.ensures.left c.paired_row_at-left.ensures.weight in
+    record {
+      steps = (_, step, ((rw (← c.index-self-index.is) at c.in-Ok.ensures.cases, refl, refl), tt));
+      goes = record { on = λ _. (tt, tt, fewer-last _ _ _ step); keeps = tt; rests = λ _. tt };
+    }
 
-pub returns-in-Err-clause-goes : goal.returns-in-Err-clause-goes
-returns-in-Err-clause-goes g c =
+pub returns-in-Err : goal.returns-in-Err
+returns-in-Err g c =
     let t = c.args.self.now in
-    let rows = rows_paired g.Probability.BitArray.whole g.row.PRECISION t.cdf.now in
-    let step = returns-in-Err-clause-steps g c in
-    let fewer = one-fewer-last (rows_between t.from t.to rows) (rows_between t.from (t.to - 1) rows) step.0 step.1 in
-    record { on = λ _. (tt, tt, omega (arith, fewer)); keeps = tt; rests = λ _. tt }
+    let some : t.from < t.to = omega (arith, t.in_order, c.if-self.false) in
+    let step = paired-last g.Probability.BitArray.whole _ g.row.PRECISION t.cdf.now t.stored t.from t.to _ _ c.index-self-index.result some
+    t.in_bounds c.index-self-index.is c.paired_row_at-left.ensures.left c.paired_row_at-left.ensures.weight in
+    record {
+      steps = (_, step, (tt, rw (← c.index-self-index.is) at c.in-Err.ensures.cases));
+      goes = record { on = λ _. (tt, tt, fewer-last _ _ _ step); keeps = tt; rests = λ _. tt };
+    }
+
+pub invariant_of-self : goal.invariant_of-self
+invariant_of-self g c =
+    let t = c.args.self.now in
+    record { precise = t.precise; stored = t.stored; in_order = omega (arith, t.in_order, c.if-self.false); in_bounds = omega (arith, t.in_bounds) }
