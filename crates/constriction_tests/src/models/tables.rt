@@ -3,39 +3,20 @@
 ghost use Rattle.std.specs.Prelude.{◌≡◌, ◌^◌, ◌<◌, ◌≤◌, length};
 
 use crate::checks::{same, same_at};
+use crate::models::contiguous::{Table, WEIGHTS, made, small};
+use crate::models::widths::{Model, model_of};
 use constriction::stream::model::{
-    ContiguousCategoricalEntropyModel, ContiguousSymbolTable, DecoderModel, EncoderModel,
-    IterableEntropyModel, ModelError, UniformModel, Weight, is_quantile,
+    ContiguousSymbolTable, DecoderModel, EncoderModel, IterableEntropyModel, UniformModel, Weight,
+    is_quantile,
 };
 use constriction_words::{BitArray, NonZeroBitArray};
-use std::alloc::{AllocError, Global};
+use std::alloc::AllocError;
+use std::iter::Rev;
 use std::process::Abort;
 use std::test::Fail;
 
-type Model<Word, const PRECISION: usize> = ContiguousCategoricalEntropyModel<
-    Word,
-    Vec<Word>,
-    PRECISION,
->;
-
 /// What a step of a walk gives.
 type Step<Word> = Option<Result<(usize, Word, Weight<Word>), AllocError>>;
-
-/// The model of weights in a slice.
-fn model_of<Word: BitArray, const PRECISION: usize>(
-    alloc: Global,
-    weights: &[Word],
-    infer_last: bool,
-) -> Result<Model<Word, PRECISION>, ModelError>
-    requires positive { 0 < PRECISION }
-    requires fits { PRECISION ≤ Word.BITS }
-{
-    Model::<Word, PRECISION>::from_nonzero_fixed_point_probabilities(
-        alloc,
-        weights.iter().copied(),
-        infer_last,
-    )
-}
 
 /// The row of a step, with its weight as a plain word.
 fn row<Word: BitArray>(step: Step<Word>) -> Option<(usize, Word, Word)> {
@@ -127,8 +108,6 @@ where
     }
 }
 
-const WEIGHTS: [u8; 4] = [3, 18, 1, 42];
-
 /// Whether a step is from the back, how many rows are left before it, and the row that it gives.
 const STEPS: [(bool, usize, Option<(usize, u8, u8)>); 6] = [
     (false, 4, Some((0, 0, 3))),
@@ -139,24 +118,42 @@ const STEPS: [(bool, usize, Option<(usize, u8, u8)>); 6] = [
     (true, 0, None),
 ];
 
-#[test]
-fn both_ends_give_each_row_once(rt: HostRuntime) -> Result<(), Fail> {
-    let model = model_of::<u8, 6>(rt.alloc(), &WEIGHTS, false)?;
-    let mut table = model.symbol_table();
-    for (from_the_back, left, expected) in STEPS {
-        same(
-            &rt,
-            (rows_left(&table), table.size_hint()),
-            (left, (left, Some(left))),
-        );
-        let step = if from_the_back {
-            table.next_back()
-        } else {
-            table.next()
-        };
-        same_at(&rt, left, row(step), expected);
+type Walk<'m> = ContiguousSymbolTable<'m, u8, 6>;
+
+/// How many rows are left, as the table counts them and as its hint says.
+fn left(table: &Walk) -> (usize, (usize, Option<usize>)) {
+    (rows_left(table), table.size_hint())
+}
+
+/// The next row from an end.
+fn step(table: &mut Walk, from_the_back: bool) -> Option<(usize, u8, u8)> {
+    if from_the_back {
+        row(table.next_back())
+    } else {
+        row(table.next())
     }
-    Ok(())
+}
+
+#[test]
+fn both_ends_give_each_row_once(rt: HostRuntime) {
+    let model = small(&rt, rt.alloc());
+    let mut table = model.symbol_table();
+    for (from_the_back, rows, expected) in STEPS {
+        same(&rt, left(&table), (rows, (rows, Some(rows))));
+        same_at(&rt, rows, step(&mut table, from_the_back), expected);
+    }
+}
+
+type Backwards<'m> = Rev<ContiguousSymbolTable<'m, u64, 64>>;
+
+/// The rows from the last one to the first.
+fn backwards(model: &Model<u64, 64>) -> Backwards<'_> {
+    model.symbol_table().rev()
+}
+
+/// The next one of them.
+fn next_backwards(rows: &mut Backwards) -> Option<(usize, u64, u64)> {
+    row(rows.next())
 }
 
 #[test]
@@ -164,52 +161,87 @@ fn the_last_row_at_the_full_width_of_u64_is_given_from_the_back(
     rt: HostRuntime,
 ) -> Result<(), Fail> {
     let model = model_of::<u64, 64>(rt.alloc(), &[1 << 63, (1 << 63) - 1], true)?;
-    let mut backwards = model.symbol_table().rev();
+    let mut rows = backwards(&model);
     for expected in [
         Some((2, u64::MAX, 1)),
         Some((1, 1 << 63, (1 << 63) - 1)),
         Some((0, 0, 1 << 63)),
         None,
     ] {
-        same(&rt, row(backwards.next()), expected);
+        same(&rt, next_backwards(&mut rows), expected);
     }
     Ok(())
 }
 
+/// The rows of a reference tile, and there are so many.
+fn reference_tiles(rt: &impl Abort, model: &Table<6>, count: usize) {
+    tile::<_, 6>(rt, model);
+    same(rt, model.symbol_table().len(), count);
+}
+
+/// The same of a reference to the reference.
+fn reference_to_it_tiles(rt: &impl Abort, model: &Table<6>, count: usize) {
+    tile::<_, 6>(rt, &model);
+    same(rt, (&model).symbol_table().len(), count);
+}
+
+/// The same at the full width.
+fn full_reference_tiles(rt: &impl Abort, model: &Table<8>, count: usize) {
+    tile::<_, 8>(rt, model);
+    same(rt, counts(model), (count, count));
+}
+
 #[test]
-fn rows_of_a_reference_and_of_a_reference_to_it_tile(rt: HostRuntime) -> Result<(), Fail> {
+fn rows_of_a_reference_and_of_a_reference_to_it_tile(rt: HostRuntime) {
     for (weights, infer_last, count) in [
         (WEIGHTS.as_slice(), false, 4),
         (&[], true, 1),
         (&[63], true, 2),
     ] {
-        let model = model_of::<u8, 6>(rt.alloc(), weights, infer_last)?;
-        tile::<_, 6>(&rt, &model);
-        tile::<_, 6>(&rt, &&model);
-        same(&rt, model.symbol_table().len(), count);
-        same(&rt, (&&model).symbol_table().len(), count);
+        let model = made::<6>(&rt, rt.alloc(), weights, infer_last);
+        reference_tiles(&rt, &model, count);
+        reference_to_it_tiles(&rt, &model, count);
     }
-    let full = model_of::<u8, 8>(rt.alloc(), &[200], true)?;
-    tile::<_, 8>(&rt, &full);
-    same(&rt, counts(&full), (2, 2));
-    Ok(())
+    let full = made::<8>(&rt, rt.alloc(), &[200], true);
+    full_reference_tiles(&rt, &full, 2);
+}
+
+fn reference_answers(rt: &impl Abort, model: &Table<6>) {
+    answers::<_, 6>(rt, model);
+}
+
+fn full_reference_answers(rt: &impl Abort, model: &Table<8>) {
+    answers::<_, 8>(rt, model);
+}
+
+fn uniform_tiles(rt: &impl Abort, model: UniformModel<u8, 6>) {
+    tile::<_, 6>(rt, model);
+}
+
+fn uniform_answers(rt: &impl Abort, model: UniformModel<u8, 6>) {
+    answers::<_, 6>(rt, model);
+}
+
+fn full_uniform_tiles(rt: &impl Abort, model: &UniformModel<u8, 8>) {
+    tile::<_, 8>(rt, model);
+}
+
+fn full_uniform_answers(rt: &impl Abort, model: &UniformModel<u8, 8>) {
+    answers::<_, 8>(rt, model);
 }
 
 #[test]
-fn tables_are_what_their_models_answer(rt: HostRuntime) -> Result<(), Fail> {
-    let model = model_of::<u8, 6>(rt.alloc(), &WEIGHTS, false)?;
-    answers::<_, 6>(&rt, &model);
-    let full = model_of::<u8, 8>(rt.alloc(), &[200], true)?;
-    answers::<_, 8>(&rt, &full);
+fn tables_are_what_their_models_answer(rt: HostRuntime) {
+    reference_answers(&rt, &small(&rt, rt.alloc()));
+    full_reference_answers(&rt, &made::<8>(&rt, rt.alloc(), &[200], true));
     for range in [2, 3, 64] {
         let uniform = UniformModel::<u8, 6>::new(range);
-        tile::<_, 6>(&rt, uniform);
-        answers::<_, 6>(&rt, uniform);
+        uniform_tiles(&rt, uniform);
+        uniform_answers(&rt, uniform);
     }
     for range in [2, 3, 255, 256] {
         let uniform = UniformModel::<u8, 8>::new(range);
-        tile::<_, 8>(&rt, &uniform);
-        answers::<_, 8>(&rt, &uniform);
+        full_uniform_tiles(&rt, &uniform);
+        full_uniform_answers(&rt, &uniform);
     }
-    Ok(())
 }
