@@ -237,15 +237,22 @@ fn lends_and_copies<Buf: SafeBufMut<u8> + Drop>(rt: &impl Abort, alloc: Global, 
     is_lent(rt, &mut cursor);
 }
 
+/// A cursor over a buffer goes to its ends, counts and is filled.
+fn goes_and_is_filled<Buf: SafeBufMut<u8>>(rt: &impl Abort, buf: Buf) -> Buf {
+    is_filled(rt, counts(rt, goes_to_its_ends(rt, buf)))
+}
+
 fn does_all<Buf: SafeBufMut<u8> + Drop>(rt: &impl Abort, alloc: Global, buf: Buf) {
-    let Ok(buf) = begins(rt, begins_at_ends(rt, buf)) else {
-        panic!(rt; "a position up to the end is refused");
-    };
-    lends_and_copies(
-        rt,
-        alloc,
-        is_filled(rt, counts(rt, goes_to_its_ends(rt, buf))),
-    );
+    match begins(rt, begins_at_ends(rt, buf)) {
+        Ok(buf) => lends_and_copies(rt, alloc, goes_and_is_filled(rt, buf)),
+        Err(()) => panic!(rt; "a position up to the end is refused"),
+    }
+}
+
+/// A cursor over a `Vec`, and over a buffer of a caller's own.
+fn does_all_over_memory(rt: &impl Abort, alloc: Global, words: &[u8]) {
+    does_all(rt, alloc, vec_of(rt, alloc, words));
+    does_all(rt, alloc, Marked::new(vec_of(rt, alloc, words)));
 }
 
 #[test]
@@ -253,8 +260,7 @@ fn a_cursor_over_each_buffer(rt: HostRuntime) {
     let mut words = [10u8, 20, 30];
     let mut copy = words;
     let alloc = rt.alloc();
-    does_all(&rt, alloc, vec_of(&rt, alloc, &words));
-    does_all(&rt, alloc, Marked::new(vec_of(&rt, alloc, &words)));
+    does_all_over_memory(&rt, alloc, &words);
     let array: &mut [u8; 3] = &mut copy;
     does_all(&rt, alloc, array);
     let slice: &mut [u8] = &mut words;

@@ -71,7 +71,10 @@ fn plain(row: (usize, u8, Weight<u8>)) -> (usize, u8, u8) {
 }
 
 /// The row of a quantile.
-fn row_of<const PRECISION: usize>(model: &Table<PRECISION>, quantile: u8) -> Option<(usize, u8, u8)>
+pub fn row_of<const PRECISION: usize>(
+    model: &Table<PRECISION>,
+    quantile: u8,
+) -> Option<(usize, u8, u8)>
     requires { quantile < 2 ^ PRECISION }
 {
     Some(plain(model.quantile_function(quantile).ok()?))

@@ -58,6 +58,17 @@ fn counts<Word: BitArray, const PRECISION: usize>(
     (size, count_items::<_, PRECISION>(model))
 }
 
+/// Stops the test where a row is not the one of the next symbol, or does not begin where the one before
+/// it ends. It gives the next symbol and the end of the row.
+fn follows(
+    rt: &impl Abort,
+    (expected, end): (usize, u64),
+    (symbol, left, weight): (usize, u8, u8),
+) -> (usize, u64) {
+    same(rt, (symbol, left as u64), (expected, end));
+    (expected.wrapping_add(1), end.wrapping_add(weight as u64))
+}
+
 /// Stops the test where the rows are not those of the symbols 0, 1, .. in order, each of which begins
 /// where the one before it ends, the last at 2^PRECISION.
 fn tile<M, const PRECISION: usize>(rt: &impl Abort, model: M)
@@ -66,22 +77,61 @@ where
     requires clones { M.clones_are_same }
     requires fits { PRECISION ≤ 8 }
 {
-    let mut expected = 0usize;
-    let mut end = 0u64;
+    let mut next = (0usize, 0u64);
     'rows: for item in model.symbol_table() {
-        let Some((symbol, left, weight)) = row(Some(item)) else {
-            return same_at(rt, expected, "a row", "no row");
+        let Some(found) = row(Some(item)) else {
+            return same_at(rt, next.0, "a row", "no row");
         };
-        same(rt, (symbol, left as u64), (expected, end));
-        expected = expected.wrapping_add(1);
-        end = end.wrapping_add(weight as u64);
+        next = follows(rt, next, found);
     }
-    same(rt, end, 1u64 << PRECISION);
+    same(rt, next.1, 1u64 << PRECISION);
 }
 
-/// Stops the test where a row of the table is not what the model answers for the row's symbol, and for
-/// the first, the middle and the last quantile of it.
-fn answers<M, const PRECISION: usize>(rt: &impl Abort, model: M)
+/// What a model answers for a symbol, as a row.
+fn entry<M, const PRECISION: usize>(model: &M, symbol: usize) -> Option<(usize, u8, u8)>
+where
+    M: EncoderModel<PRECISION, Symbol = usize, Probability = u8>,
+{
+    let (left, weight) = model.left_cumulative_and_probability(&symbol)?;
+    Some((symbol, left, weight.get()))
+}
+
+/// What a model answers for a word, where it is a quantile.
+fn look_up<M, const PRECISION: usize>(model: &M, quantile: u8) -> Option<(usize, u8, u8)>
+where
+    M: DecoderModel<PRECISION, Symbol = usize, Probability = u8>,
+    requires clones { M.clones_are_same }
+    requires positive { 0 < PRECISION }
+    requires fits { PRECISION ≤ 8 }
+{
+    if is_quantile::<u8, PRECISION>(quantile) {
+        row(Some(model.quantile_function(quantile)))
+    } else {
+        None
+    }
+}
+
+/// Stops the test where a row is not what the model answers for its symbol, and for the first, the
+/// middle and the last quantile of it.
+fn is_answered<M, const PRECISION: usize>(rt: &impl Abort, model: &M, expected: (usize, u8, u8))
+where
+    M: EncoderModel<PRECISION, Symbol = usize, Probability = u8> + DecoderModel<PRECISION>,
+    requires clones { M.clones_are_same }
+    requires positive { 0 < PRECISION }
+    requires fits { PRECISION ≤ 8 }
+{
+    let (symbol, left, weight) = expected;
+    same(rt, entry::<M, PRECISION>(model, symbol), Some(expected));
+    for offset in [0, weight / 2, weight.wrapping_sub(1)] {
+        let quantile = left.wrapping_add(offset);
+        let found = look_up::<M, PRECISION>(model, quantile);
+        same_at(rt, quantile, found, Some(expected));
+    }
+}
+
+/// Stops the test where the rows do not tile, as above, or where a row of the table is not what the
+/// model answers.
+fn tile_and_are_answered<M, const PRECISION: usize>(rt: &impl Abort, model: M)
 where
     M: IterableEntropyModel<PRECISION, Symbol = usize, Probability = u8>
         + EncoderModel<PRECISION>
@@ -92,20 +142,15 @@ where
     requires positive { 0 < PRECISION }
     requires fits { PRECISION ≤ 8 }
 {
+    let mut next = (0usize, 0u64);
     'rows: for item in model.symbol_table() {
-        let Some((symbol, left, weight)) = row(Some(item)) else {
+        let Some(found) = row(Some(item)) else {
             return same(rt, "a row", "no row");
         };
-        let entry = model.left_cumulative_and_probability(&symbol);
-        let answered = entry.map(|(left, weight)| (symbol, left, weight.get()));
-        same(rt, answered, Some((symbol, left, weight)));
-        for offset in [0, weight / 2, weight.wrapping_sub(1)] {
-            let quantile = left.wrapping_add(offset);
-            assert!(rt; is_quantile::<u8, PRECISION>(quantile));
-            let found = row(Some(model.quantile_function(quantile)));
-            same_at(rt, quantile, found, Some((symbol, left, weight)));
-        }
+        next = follows(rt, next, found);
+        is_answered::<M, PRECISION>(rt, &model, found);
     }
+    same(rt, next.1, 1u64 << PRECISION);
 }
 
 /// Whether a step is from the back, how many rows are left before it, and the row that it gives.
@@ -173,21 +218,21 @@ fn the_last_row_at_the_full_width_of_u64_is_given_from_the_back(
     Ok(())
 }
 
-/// The rows of a reference tile, and there are so many.
+/// The rows of a reference tile and are what the model answers, and there are so many.
 fn reference_tiles(rt: &impl Abort, model: &Table<6>, count: usize) {
-    tile::<_, 6>(rt, model);
+    tile_and_are_answered::<_, 6>(rt, model);
     same(rt, model.symbol_table().len(), count);
 }
 
-/// The same of a reference to the reference.
+/// The rows of a reference to the reference tile, and there are so many.
 fn reference_to_it_tiles(rt: &impl Abort, model: &Table<6>, count: usize) {
     tile::<_, 6>(rt, &model);
     same(rt, (&model).symbol_table().len(), count);
 }
 
-/// The same at the full width.
+/// As the first one, at the full width.
 fn full_reference_tiles(rt: &impl Abort, model: &Table<8>, count: usize) {
-    tile::<_, 8>(rt, model);
+    tile_and_are_answered::<_, 8>(rt, model);
     same(rt, counts(model), (count, count));
 }
 
@@ -206,42 +251,24 @@ fn rows_of_a_reference_and_of_a_reference_to_it_tile(rt: HostRuntime) {
     full_reference_tiles(&rt, &full, 2);
 }
 
-fn reference_answers(rt: &impl Abort, model: &Table<6>) {
-    answers::<_, 6>(rt, model);
-}
-
-fn full_reference_answers(rt: &impl Abort, model: &Table<8>) {
-    answers::<_, 8>(rt, model);
-}
-
+/// The rows of a uniform model tile and are what it answers.
 fn uniform_tiles(rt: &impl Abort, model: UniformModel<u8, 6>) {
-    tile::<_, 6>(rt, model);
+    tile_and_are_answered::<_, 6>(rt, model);
 }
 
-fn uniform_answers(rt: &impl Abort, model: UniformModel<u8, 6>) {
-    answers::<_, 6>(rt, model);
-}
-
+/// The same at the full width, by a reference.
 fn full_uniform_tiles(rt: &impl Abort, model: &UniformModel<u8, 8>) {
-    tile::<_, 8>(rt, model);
-}
-
-fn full_uniform_answers(rt: &impl Abort, model: &UniformModel<u8, 8>) {
-    answers::<_, 8>(rt, model);
+    tile_and_are_answered::<_, 8>(rt, model);
 }
 
 #[test]
 fn tables_are_what_their_models_answer(rt: HostRuntime) {
-    reference_answers(&rt, &small(&rt, rt.alloc()));
-    full_reference_answers(&rt, &made::<8>(&rt, rt.alloc(), &[200], true));
+    reference_tiles(&rt, &small(&rt, rt.alloc()), 4);
+    full_reference_tiles(&rt, &made::<8>(&rt, rt.alloc(), &[200], true), 2);
     for range in [2, 3, 64] {
-        let uniform = UniformModel::<u8, 6>::new(range);
-        uniform_tiles(&rt, uniform);
-        uniform_answers(&rt, uniform);
+        uniform_tiles(&rt, UniformModel::<u8, 6>::new(range));
     }
     for range in [2, 3, 255, 256] {
-        let uniform = UniformModel::<u8, 8>::new(range);
-        full_uniform_tiles(&rt, &uniform);
-        full_uniform_answers(&rt, &uniform);
+        full_uniform_tiles(&rt, &UniformModel::<u8, 8>::new(range));
     }
 }

@@ -23,22 +23,9 @@ fn plain<Word: BitArray>(
     Some((symbol, left, weight.get()))
 }
 
-/// The row of a quantile.
-fn row<Word: BitArray, const PRECISION: usize>(
-    model: UniformModel<Word, PRECISION>,
-    quantile: Word,
-) -> Option<Row<Word>>
-    requires { Word.whole quantile < 2 ^ PRECISION }
-{
-    plain(model.quantile_function(quantile))
-}
-
-/// The left cumulative and the weight of a symbol.
-fn entry<Word: BitArray, const PRECISION: usize>(
-    model: UniformModel<Word, PRECISION>,
-    symbol: usize,
-) -> Option<(Word, Word)> {
-    let (left, weight) = model.left_cumulative_and_probability(&symbol)?;
+/// The entry of an answer, with its weight as a plain word.
+fn plain_entry<Word: BitArray>(answer: Option<(Word, Weight<Word>)>) -> Option<(Word, Word)> {
+    let (left, weight) = answer?;
     Some((left, weight.get()))
 }
 
@@ -46,12 +33,12 @@ fn entry<Word: BitArray, const PRECISION: usize>(
 fn small_row(model: SmallUniformModel, quantile: u16) -> Option<Row<u16>>
     requires { quantile < 2 ^ 12 }
 {
-    row(model, quantile)
+    plain(model.quantile_function(quantile))
 }
 
 /// The entry of a symbol of a small model.
 fn small_entry(model: SmallUniformModel, symbol: usize) -> Option<(u16, u16)> {
-    entry(model, symbol)
+    plain_entry(model.left_cumulative_and_probability(&symbol))
 }
 
 #[test]
@@ -78,17 +65,21 @@ fn five_symbols_over_12_bits(rt: HostRuntime) {
         same_at(&rt, symbol, small_entry(model, symbol), found);
     }
     let of_ten = DefaultUniformModel::new(10);
-    same(&rt, entry(of_ten, 9), Some((15099489, 1677727)));
+    same(
+        &rt,
+        plain_entry(of_ten.left_cumulative_and_probability(&9)),
+        Some((15099489, 1677727)),
+    );
 }
 
 /// The row of a byte.
 fn row_of_byte(model: UniformModel<u8, 8>, quantile: u8) -> Option<Row<u8>> {
-    row(model, quantile)
+    plain(model.quantile_function(quantile))
 }
 
 /// The entry of a symbol of bytes.
 fn entry_of_bytes(model: UniformModel<u8, 8>, symbol: usize) -> Option<(u8, u8)> {
-    entry(model, symbol)
+    plain_entry(model.left_cumulative_and_probability(&symbol))
 }
 
 #[test]
@@ -112,31 +103,70 @@ fn ranges_at_the_full_width_of_u8_and_at_one_bit(rt: HostRuntime) {
     }
     same(&rt, entry_of_bytes(all, 256), None);
     let halves = UniformModel::<u8, 1>::new(2);
-    same(&rt, row(halves, 0), Some((0, 0, 1)));
-    same(&rt, row(halves, 1), Some((1, 1, 1)));
+    same(
+        &rt,
+        [
+            plain(halves.quantile_function(0)),
+            plain(halves.quantile_function(1)),
+        ],
+        [Some((0, 0, 1)), Some((1, 1, 1))],
+    );
+}
+
+/// As many symbols as there are words.
+fn all_of_u16(rt: &impl Abort) {
+    let all = UniformModel::<u16, 16>::new(65536);
+    same(
+        rt,
+        plain(all.quantile_function(65535)),
+        Some((65535, 65535, 1)),
+    );
+    same(
+        rt,
+        [
+            plain_entry(all.left_cumulative_and_probability(&65536)),
+            plain_entry(all.left_cumulative_and_probability(&65537)),
+        ],
+        [None, None],
+    );
+}
+
+/// Three symbols over all words.
+fn three_of_u64(rt: &impl Abort) {
+    let three = UniformModel::<u64, 64>::new(3);
+    same(
+        rt,
+        [
+            plain_entry(three.left_cumulative_and_probability(&1)),
+            plain_entry(three.left_cumulative_and_probability(&2)),
+        ],
+        [
+            Some((6148914691236517205, 6148914691236517205)),
+            Some((12297829382473034410, 6148914691236517206)),
+        ],
+    );
+}
+
+/// As many symbols as a range may have.
+fn most_of_u128(rt: &impl Abort) {
+    let most = UniformModel::<u128, 64>::new(usize::MAX);
+    same(
+        rt,
+        plain(most.quantile_function(18446744073709551615)),
+        Some((18446744073709551614, 18446744073709551614, 2)),
+    );
+    same(
+        rt,
+        plain_entry(most.left_cumulative_and_probability(&usize::MAX)),
+        None,
+    );
 }
 
 #[test]
 fn ranges_of_wide_words(rt: HostRuntime) {
-    let all = UniformModel::<u16, 16>::new(65536);
-    same(&rt, row(all, 65535), Some((65535, 65535, 1)));
-    same(&rt, (entry(all, 65536), entry(all, 65537)), (None, None));
-    let three = UniformModel::<u64, 64>::new(3);
-    same(
-        &rt,
-        (entry(three, 1), entry(three, 2)),
-        (
-            Some((6148914691236517205, 6148914691236517205)),
-            Some((12297829382473034410, 6148914691236517206)),
-        ),
-    );
-    let most = UniformModel::<u128, 64>::new(usize::MAX);
-    same(
-        &rt,
-        row(most, 18446744073709551615),
-        Some((18446744073709551614, 18446744073709551614, 2)),
-    );
-    same(&rt, entry(most, usize::MAX), None);
+    all_of_u16(&rt);
+    three_of_u64(&rt);
+    most_of_u128(&rt);
 }
 
 type Walk = UniformSymbolTable<u16, 12>;
@@ -191,7 +221,7 @@ fn ends_of_most(rt: &impl Abort) {
 
 /// The last row of seven symbols.
 fn last_of_seven(model: UniformModel<u8, 6>) -> Option<Row<u8>> {
-    row(model, 63)
+    plain(model.quantile_function(63))
 }
 
 /// The rows of a reference.

@@ -3,12 +3,13 @@
 ghost use Rattle.std.specs.Prelude.{◌≡◌, ◌^◌, ◌<◌, ◌≤◌};
 
 use crate::checks::{same, same_at};
+use crate::models::contiguous::{row_of as row_of_table, table};
 use constriction::stream::model::{
     Alone, CdfEntry, ContiguousCategoricalEntropyModel, DecoderModel, EncoderModel, ModelError,
     Probe, SmallContiguousCategoricalEntropyModel, WithSymbol, is_quantile, row_of_quantile,
 };
 use constriction_words::{BitArray, NonZeroBitArray};
-use std::alloc::Global;
+use std::alloc::{AllocError, Global};
 use std::iter;
 use std::process::Abort;
 use std::test::Fail;
@@ -36,26 +37,6 @@ pub fn model_of<Word: BitArray, const PRECISION: usize>(
     )
 }
 
-/// The symbol, the left cumulative and the weight of a quantile, where it is one.
-fn row<Word: BitArray, const PRECISION: usize>(
-    model: &Model<Word, PRECISION>,
-    quantile: Word,
-) -> Option<(usize, Word, Word)>
-    requires { Word.whole quantile < 2 ^ PRECISION }
-{
-    let (symbol, left, weight) = model.quantile_function(quantile).ok()?;
-    Some((symbol, left, weight.get()))
-}
-
-/// The left cumulative and the weight of a symbol.
-fn entry<Word: BitArray, const PRECISION: usize>(
-    model: &Model<Word, PRECISION>,
-    symbol: usize,
-) -> Option<(Word, Word)> {
-    let (left, weight) = model.left_cumulative_and_probability(&symbol)?;
-    Some((left, weight.get()))
-}
-
 /// Counts of 37 symbols, whose sum is 2^32.
 const COUNTS: [u32; 37] = [
     56319, 134860032, 47755520, 60775168, 75699200, 92529920, 111023616, 130420736, 150257408,
@@ -71,27 +52,16 @@ fn row_of<Word: BitArray, const PRECISION: usize>(
     weights: &[Word],
     infer_last: bool,
     quantile: Word,
-) -> Result<Option<(usize, Word, Word)>, ModelError>
+) -> Result<(usize, Word, Word), ModelError>
     requires positive { 0 < PRECISION }
     requires fits { PRECISION ≤ Word.BITS }
     requires in_range { Word.whole quantile < 2 ^ PRECISION }
 {
     let model = model_of::<Word, PRECISION>(alloc, weights, infer_last)?;
-    Ok(row(&model, quantile))
-}
-
-/// The left cumulative and the weight of a symbol of the model of weights.
-fn entry_of<Word: BitArray, const PRECISION: usize>(
-    alloc: Global,
-    weights: &[Word],
-    infer_last: bool,
-    symbol: usize,
-) -> Result<Option<(Word, Word)>, ModelError>
-    requires positive { 0 < PRECISION }
-    requires fits { PRECISION ≤ Word.BITS }
-{
-    let model = model_of::<Word, PRECISION>(alloc, weights, infer_last)?;
-    Ok(entry(&model, symbol))
+    match model.quantile_function(quantile) {
+        Ok((symbol, left, weight)) => Ok((symbol, left, weight.get())),
+        Err(AllocError) => Err(ModelError::OutOfMemory),
+    }
 }
 
 /// The symbol that the counted search finds, and whether it asks at most six questions.
@@ -102,11 +72,13 @@ fn searched(model: &Model<u32, 32>, quantile: u32) -> (usize, bool) {
 }
 
 fn row_of_counts(model: &Model<u32, 32>, quantile: u32) -> Option<(usize, u32, u32)> {
-    row(model, quantile)
+    let (symbol, left, weight) = model.quantile_function(quantile).ok()?;
+    Some((symbol, left, weight.get()))
 }
 
 fn entry_of_counts(model: &Model<u32, 32>, symbol: usize) -> Option<(u32, u32)> {
-    entry(model, symbol)
+    let (left, weight) = model.left_cumulative_and_probability(&symbol)?;
+    Some((left, weight.get()))
 }
 
 #[test]
@@ -131,6 +103,15 @@ fn counts_of_37_symbols_at_the_full_width_of_u32(rt: HostRuntime) -> Result<(), 
     Ok(())
 }
 
+/// The entry of the second symbol, where the first one has all quantiles but one.
+fn last_entry_of_two(alloc: Global) -> Result<Option<(u128, u128)>, ModelError> {
+    let model = model_of::<u128, 128>(alloc, &[u128::MAX], true)?;
+    match model.left_cumulative_and_probability(&1) {
+        Some((left, weight)) => Ok(Some((left, weight.get()))),
+        None => Ok(None),
+    }
+}
+
 #[test]
 fn rows_at_the_full_width_of_u128(rt: HostRuntime) {
     let half = 1u128 << 127;
@@ -138,30 +119,23 @@ fn rows_at_the_full_width_of_u128(rt: HostRuntime) {
     same(
         &rt,
         row_of::<u128, 128>(alloc, &[half, half], false, u128::MAX),
-        Ok(Some((1, half, half))),
+        Ok((1, half, half)),
     );
     same(
         &rt,
         row_of::<u128, 128>(alloc, &[half; 4], false, u128::MAX),
         Err(ModelError::InvalidTable),
     );
-    same(
-        &rt,
-        entry_of::<u128, 128>(alloc, &[u128::MAX], true, 1),
-        Ok(Some((u128::MAX, 1))),
-    );
+    same(&rt, last_entry_of_two(alloc), Ok(Some((u128::MAX, 1))));
 }
 
 /// The row of the last quantile of 16 bits.
-fn last_of_u16(alloc: Global, weights: &[u16]) -> Result<Option<(usize, u16, u16)>, ModelError> {
+fn last_of_u16(alloc: Global, weights: &[u16]) -> Result<(usize, u16, u16), ModelError> {
     row_of::<u16, 16>(alloc, weights, false, 65535)
 }
 
 /// The row of a quantile of 40 bits, where two symbols have half of them each.
-fn half_of_usize(
-    alloc: Global,
-    quantile: usize,
-) -> Result<Option<(usize, usize, usize)>, ModelError>
+fn half_of_usize(alloc: Global, quantile: usize) -> Result<(usize, usize, usize), ModelError>
     requires { quantile < 2 ^ 40 }
 {
     row_of::<usize, 40>(alloc, &[1 << 39, 1 << 39], false, quantile)
@@ -170,11 +144,7 @@ fn half_of_usize(
 #[test]
 fn rows_at_both_ends_of_u16_u64_and_usize(rt: HostRuntime) {
     let alloc = rt.alloc();
-    same(
-        &rt,
-        last_of_u16(alloc, &[65535, 1]),
-        Ok(Some((1, 65535, 1))),
-    );
+    same(&rt, last_of_u16(alloc, &[65535, 1]), Ok((1, 65535, 1)));
     for weights in [[65535u16, 2].as_slice(), &[32768; 4]] {
         same(
             &rt,
@@ -185,53 +155,53 @@ fn rows_at_both_ends_of_u16_u64_and_usize(rt: HostRuntime) {
     same(
         &rt,
         row_of::<u64, 64>(alloc, &[1 << 63, (1 << 63) - 1], true, u64::MAX),
-        Ok(Some((2, u64::MAX, 1))),
+        Ok((2, u64::MAX, 1)),
     );
     same(
         &rt,
         half_of_usize(alloc, (1 << 39) - 1),
-        Ok(Some((0, 0, 1 << 39))),
+        Ok((0, 0, 1 << 39)),
     );
     same(
         &rt,
         half_of_usize(alloc, 1 << 39),
-        Ok(Some((1, 1 << 39, 1 << 39))),
+        Ok((1, 1 << 39, 1 << 39)),
     );
 }
 
-/// The row of a quantile of one bit.
-fn one_bit(
+/// The row of a byte of the model of weights.
+fn row_of_byte<const PRECISION: usize>(
     alloc: Global,
     weights: &[u8],
     infer_last: bool,
     quantile: u8,
 ) -> Result<Option<(usize, u8, u8)>, ModelError>
-    requires { quantile < 2 }
+    requires positive { 0 < PRECISION }
+    requires fits { PRECISION ≤ 8 }
+    requires in_range { quantile < 2 ^ PRECISION }
 {
-    row_of::<u8, 1>(alloc, weights, infer_last, quantile)
+    let model = table::<PRECISION>(alloc, weights, infer_last)?;
+    Ok(row_of_table(&model, quantile))
 }
 
 #[test]
 fn narrow_precisions(rt: HostRuntime) {
-    let alloc = rt.alloc();
-    same(
-        &rt,
-        row_of::<u8, 7>(alloc, &[128], false, 127),
-        Ok(Some((0, 0, 128))),
-    );
-    same(
-        &rt,
-        row_of::<u8, 7>(alloc, &[255, 129], false, 127),
-        Err(ModelError::InvalidTable),
-    );
-    same(&rt, one_bit(alloc, &[1, 1], false, 0), Ok(Some((0, 0, 1))));
-    same(&rt, one_bit(alloc, &[1, 1], false, 1), Ok(Some((1, 1, 1))));
-    same(&rt, one_bit(alloc, &[2], false, 1), Ok(Some((0, 0, 2))));
-    same(
-        &rt,
-        one_bit(alloc, &[2], true, 1),
-        Err(ModelError::InvalidTable),
-    );
+    for (weights, row) in [
+        ([128].as_slice(), Ok(Some((0, 0, 128)))),
+        (&[255, 129], Err(ModelError::InvalidTable)),
+    ] {
+        same(&rt, row_of_byte::<7>(rt.alloc(), weights, false, 127), row);
+    }
+    for (weights, infer_last, quantile, row) in [
+        ([1, 1].as_slice(), false, 0, Ok(Some((0, 0, 1)))),
+        (&[1, 1], false, 1, Ok(Some((1, 1, 1)))),
+        (&[2], false, 1, Ok(Some((0, 0, 2)))),
+        (&[2], true, 1, Err(ModelError::InvalidTable)),
+    ] {
+        assert!(rt; quantile < 2);
+        let found = row_of_byte::<1>(rt.alloc(), weights, infer_last, quantile);
+        same(&rt, found, row);
+    }
 }
 
 /// Why weights are refused that are more than there are quantiles.
@@ -305,15 +275,21 @@ fn three_symbols(alloc: Global) -> Result<Small, ModelError> {
     Small::from_nonzero_fixed_point_probabilities(alloc, weights.iter().copied(), false)
 }
 
+/// A view shows its table to a programmer.
+fn shows_its_table(rt: &impl Abort, alloc: Global, view: &View) {
+    let Ok(text) = format!(in alloc; "{view:?}") else {
+        panic!(rt; "memory was refused");
+    };
+    same(rt, text.contains("[0, 96, 1096, 4096]"), true);
+}
+
 #[test]
 fn the_views_and_clones_of_a_model_answer_as_it_does(rt: HostRuntime) -> Result<(), Fail> {
     let model = three_symbols(rt.alloc())?;
     let clone = model.clone()?;
     let view = model.as_view();
-    let again = view.as_view();
-    view_answers(&rt, &clone, &view, &again);
-    let text = format!(in rt.alloc(); "{view:?}")?;
-    same(&rt, text.contains("[0, 96, 1096, 4096]"), true);
+    view_answers(&rt, &clone, &view, &view.as_view());
+    shows_its_table(&rt, rt.alloc(), &view);
     Ok(())
 }
 
