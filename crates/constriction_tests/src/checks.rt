@@ -2,7 +2,8 @@
 //!
 //! A proof of `assert_eq!` costs much and a call of these costs nothing, so tests call these.
 
-use std::alloc::{AllocError, Global};
+use std::alloc::Global;
+use std::boxed::BoxedSlice;
 use std::fmt::{Debug, Display};
 use std::process::Abort;
 
@@ -20,26 +21,54 @@ where
     assert_eq!(rt; found, expected, "{name}");
 }
 
+/// Stops the test where a `Vec` does not hold these items.
+pub fn holds<T: PartialEq + Debug>(rt: &impl Abort, found: &Vec<T>, expected: &[T]) {
+    same(rt, found.as_slice(), expected);
+}
+
+/// The same of one case among several, whose name is shown too.
+pub fn holds_at<Name, T>(rt: &impl Abort, name: Name, found: &Vec<T>, expected: &[T])
+where
+    Name: Display + Drop,
+    T: PartialEq + Debug,
+{
+    same_at(rt, name, found.as_slice(), expected);
+}
+
+/// These words in memory of their own. It stops the test where memory is refused.
+pub fn vec_of(rt: &impl Abort, alloc: Global, words: &[u8]) -> Vec<u8> {
+    let Ok(words) = words.to_vec(alloc) else {
+        panic!(rt; "memory was refused");
+    };
+    words
+}
+
+/// The same as a boxed slice.
+pub fn boxed_of(rt: &impl Abort, alloc: Global, words: &[u8]) -> BoxedSlice<u8> {
+    vec_of(rt, alloc, words).into_boxed_slice()
+}
+
+/// A clone. It stops the test where memory is refused.
+pub fn clone_of<T: Clone>(rt: &impl Abort, value: &T) -> T {
+    let clone: Result<_, _> = value.clone();
+    let Ok(clone) = clone else {
+        panic!(rt; "memory was refused");
+    };
+    clone
+}
+
 /// Stops the test where the value is not printed as this text.
-pub fn prints<T: Display>(
-    rt: &impl Abort,
-    alloc: Global,
-    value: &T,
-    text: &str,
-) -> Result<(), AllocError> {
-    let printed = format!(in alloc; "{value}")?;
+pub fn prints<T: Display>(rt: &impl Abort, alloc: Global, value: &T, text: &str) {
+    let Ok(printed) = format!(in alloc; "{value}") else {
+        panic!(rt; "memory was refused");
+    };
     same(rt, printed.as_str(), text);
-    Ok(())
 }
 
 /// Stops the test where the value is not shown to a programmer as this text.
-pub fn shows<T: Debug>(
-    rt: &impl Abort,
-    alloc: Global,
-    value: &T,
-    text: &str,
-) -> Result<(), AllocError> {
-    let shown = format!(in alloc; "{value:?}")?;
+pub fn shows<T: Debug>(rt: &impl Abort, alloc: Global, value: &T, text: &str) {
+    let Ok(shown) = format!(in alloc; "{value:?}") else {
+        panic!(rt; "memory was refused");
+    };
     same(rt, shown.as_str(), text);
-    Ok(())
 }

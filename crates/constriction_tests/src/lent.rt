@@ -4,11 +4,10 @@
 ghost use Rattle.std.specs.Prelude.{◌≡◌, ◌<◌, length, slice_set};
 ghost use Rattle.constriction_backends.specs.Cursor.{buf_of, pos_of};
 
-use crate::checks::same;
+use crate::checks::{holds as vec_holds, same, vec_of};
 use constriction_backends::{Cursor, ReadWords, SafeBuf, SafeBufMut, WriteWords};
 use constriction_words::{Pos, Queue, Seek};
 use std::process::Abort;
-use std::test::Fail;
 
 /// Sets the first word through the loan of all words.
 fn set_first<Word: Copy, Buf: SafeBufMut<Word>>(cursor: &mut Cursor<Word, Buf>, word: Word)
@@ -132,13 +131,14 @@ where
 
 /// A cursor at 1 holds these words.
 fn holds(rt: &impl Abort, cursor: &Cursor<u8, Vec<u8>>, words: [u8; 3]) {
-    same(rt, cursor.buf().as_slice(), words.as_slice());
+    vec_holds(rt, cursor.buf(), words.as_slice());
     same(rt, cursor.pos(), 1);
 }
 
 #[test]
-fn what_is_written_through_a_loan_stands(rt: HostRuntime) -> Result<(), Fail> {
-    let words = [1u8, 2, 3].to_vec(rt.alloc())?;
+fn what_is_written_through_a_loan_stands(rt: HostRuntime) {
+    let words = vec_of(&rt, rt.alloc(), &[1, 2, 3]);
+    assert!(rt; words.len() == 3);
     let Ok(mut cursor) = Cursor::<u8, _>::new_at_pos_mut(words, 1) else {
         panic!(rt; "1 is past the end of three words");
     };
@@ -154,7 +154,6 @@ fn what_is_written_through_a_loan_stands(rt: HostRuntime) -> Result<(), Fail> {
     holds(&rt, &cursor, [11, 23, 3]);
     move_a_view(&mut cursor);
     holds(&rt, &cursor, [8, 23, 3]);
-    Ok(())
 }
 
 #[test]
@@ -165,14 +164,13 @@ fn a_slice_of_the_callers_own_is_written(rt: HostRuntime) {
 }
 
 #[test]
-fn a_coder_holds_a_cursor(rt: HostRuntime) -> Result<(), Fail> {
+fn a_coder_holds_a_cursor(rt: HostRuntime) {
     let words = [1u8, 2, 3];
     let coder = Coder {
         words: Cursor::new_at_write_end(words.as_slice()),
     };
     let vec_coder = VecCoder {
-        words: Cursor::new_at_write_end(words.to_vec(rt.alloc())?),
+        words: Cursor::new_at_write_end(vec_of(&rt, rt.alloc(), &words)),
     };
     same(&rt, (coder.words.pos(), vec_coder.words.pos()), (3, 3));
-    Ok(())
 }

@@ -1,10 +1,9 @@
 //! Each buffer lends its words.
 
 use crate::backends::marked::Marked;
-use crate::checks::same;
+use crate::checks::{boxed_of, same, vec_of};
 use constriction_backends::{SafeBuf, SafeBufMut};
 use std::process::Abort;
-use std::test::Fail;
 
 fn lends<Buf: SafeBuf<u8>>(rt: &impl Abort, buf: &Buf) {
     same(rt, buf.words(), [3, 18, 1, 42].as_slice());
@@ -21,23 +20,20 @@ fn is_written<Buf: SafeBufMut<u8>>(rt: &impl Abort, mut buf: Buf) -> Buf {
 }
 
 #[test]
-fn buffers_lend_their_words(rt: HostRuntime) -> Result<(), Fail> {
+fn buffers_lend_their_words(rt: HostRuntime) {
     let words = [3u8, 18, 1, 42];
     lends(&rt, &words.as_slice());
     lends(&rt, &&words);
-    let vec = words.to_vec(rt.alloc())?;
-    lends(&rt, &vec);
-    lends(&rt, &vec.into_boxed_slice());
-    Ok(())
+    lends(&rt, &vec_of(&rt, rt.alloc(), &words));
+    lends(&rt, &boxed_of(&rt, rt.alloc(), &words));
 }
 
 #[test]
-fn buffers_are_written(rt: HostRuntime) -> Result<(), Fail> {
+fn buffers_are_written(rt: HostRuntime) {
     let words = [3u8, 18, 1, 42];
-    is_written(&rt, words.to_vec(rt.alloc())?);
-    let marked = is_written(&rt, Marked::new(words.to_vec(rt.alloc())?));
+    is_written(&rt, vec_of(&rt, rt.alloc(), &words));
+    let marked = is_written(&rt, Marked::new(vec_of(&rt, rt.alloc(), &words)));
     same(&rt, (marked.first, marked.last), (7, 9));
-    Ok(())
 }
 
 #[test]

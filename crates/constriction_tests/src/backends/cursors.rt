@@ -1,7 +1,7 @@
 //! Each call of a cursor, over each kind of buffer.
 
 use crate::backends::marked::Marked;
-use crate::checks::{same, same_at};
+use crate::checks::{boxed_of, same, same_at, vec_of};
 use constriction_backends::{
     BoundedReadWords, BoundedWriteError, BoundedWriteWords, Cursor, ReadWords, SafeBuf, SafeBufMut,
     WriteWords,
@@ -10,7 +10,6 @@ use constriction_words::{Pos, Queue, Seek, Stack};
 use std::alloc::{AllocError, Global};
 use std::convert::Infallible;
 use std::process::Abort;
-use std::test::Fail;
 
 type Read = Result<Option<u8>, Infallible>;
 
@@ -164,6 +163,23 @@ fn counts<Buf: SafeBufMut<u8>>(rt: &impl Abort, buf: Buf) -> Buf {
     cursor.into_buf_and_pos().0
 }
 
+/// What a cursor answers to the words of an iterator.
+fn extended<Buf: SafeBufMut<u8>>(
+    cursor: &mut Cursor<u8, Buf>,
+    added: &[u8],
+) -> Result<(), BoundedWriteError> {
+    cursor.extend_from_iter(added.iter().copied())
+}
+
+/// What a cursor answers to a seek to 1, and to the words of an iterator from there on.
+fn filled<Buf: SafeBufMut<u8>>(
+    cursor: &mut Cursor<u8, Buf>,
+    added: &[u8],
+) -> (Result<(), ()>, Result<(), BoundedWriteError>) {
+    let sought = cursor.seek(1);
+    (sought, extended(cursor, added))
+}
+
 /// A cursor of 10, 99, 30 is filled from its second word on.
 fn is_filled<Buf: SafeBufMut<u8>>(rt: &impl Abort, buf: Buf) -> Buf {
     let mut cursor = Cursor::<u8, Buf>::new_at_write_beginning(buf);
@@ -176,12 +192,8 @@ fn is_filled<Buf: SafeBufMut<u8>>(rt: &impl Abort, buf: Buf) -> Buf {
         ([20, 30].as_slice(), Ok(()), [10, 20, 30]),
     ];
     for (added, answer, words) in fills {
-        let sought = cursor.seek(1);
-        let filled = cursor.extend_from_iter(added.iter().copied());
-        same(rt, sought, Ok(()));
-        same(rt, filled, answer);
-        same(rt, cursor.pos(), 3);
-        same(rt, cursor.buf().words(), words.as_slice());
+        same(rt, filled(&mut cursor, added), (Ok(()), answer));
+        holds(rt, &cursor, 3, words);
     }
     cursor.into_buf_and_pos().0
 }
@@ -195,15 +207,12 @@ fn is_viewed<Buf: SafeBuf<u8>>(rt: &impl Abort, cursor: &Cursor<u8, Buf>) {
 }
 
 /// So does a copy of it.
-fn is_copied<Buf: SafeBuf<u8>>(
-    rt: &impl Abort,
-    alloc: Global,
-    cursor: &Cursor<u8, Buf>,
-) -> Result<(), AllocError> {
-    let mut copy = cursor.cloned(alloc)?;
+fn is_copied<Buf: SafeBuf<u8>>(rt: &impl Abort, alloc: Global, cursor: &Cursor<u8, Buf>) {
+    let Ok(mut copy) = cursor.cloned(alloc) else {
+        panic!(rt; "memory was refused");
+    };
     same(rt, copy.write(21), Ok(()));
     same(rt, copy.buf().as_slice(), [10, 21, 30].as_slice());
-    Ok(())
 }
 
 /// What is written through a loan of a cursor of 10, 20, 30 at 1 stands in its buffer.
@@ -219,63 +228,59 @@ fn is_lent<Buf: SafeBufMut<u8>>(rt: &impl Abort, cursor: &mut Cursor<u8, Buf>) {
     holds(rt, cursor, 1, [5, 5, 5]);
 }
 
-fn lends_and_copies<Buf: SafeBufMut<u8> + Drop>(
-    rt: &impl Abort,
-    alloc: Global,
-    buf: Buf,
-) -> Result<(), AllocError> {
+fn lends_and_copies<Buf: SafeBufMut<u8> + Drop>(rt: &impl Abort, alloc: Global, buf: Buf) {
     let mut cursor = Cursor::<u8, Buf>::new_at_write_beginning(buf);
     same(rt, cursor.seek(1), Ok(()));
     is_viewed(rt, &cursor);
-    is_copied(rt, alloc, &cursor)?;
+    is_copied(rt, alloc, &cursor);
     holds(rt, &cursor, 1, [10, 20, 30]);
     is_lent(rt, &mut cursor);
-    Ok(())
 }
 
-fn does_all<Buf: SafeBufMut<u8> + Drop>(
-    rt: &impl Abort,
-    alloc: Global,
-    buf: Buf,
-) -> Result<(), AllocError> {
-    let Ok(buf) = begins(rt, begins_at_ends(rt, buf)) else {
-        panic!(rt; "a position up to the end is refused");
-    };
-    lends_and_copies(
-        rt,
-        alloc,
-        is_filled(rt, counts(rt, goes_to_its_ends(rt, buf))),
+/// A cursor over a buffer goes to its ends, counts and is filled.
+fn goes_and_is_filled<Buf: SafeBufMut<u8>>(rt: &impl Abort, buf: Buf) -> Buf {
+    is_filled(rt, counts(rt, goes_to_its_ends(rt, buf)))
+}
+
+fn does_all<Buf: SafeBufMut<u8> + Drop>(rt: &impl Abort, alloc: Global, buf: Buf) {
+    match begins(rt, begins_at_ends(rt, buf)) {
+        Ok(buf) => lends_and_copies(rt, alloc, goes_and_is_filled(rt, buf)),
+        Err(()) => panic!(rt; "a position up to the end is refused"),
+    }
+}
+
+/// A cursor over a `Vec`, and over a buffer of a caller's own.
+fn does_all_over_memory(rt: &impl Abort, alloc: Global, words: &[u8]) {
+    does_all(rt, alloc, vec_of(rt, alloc, words));
+    does_all(rt, alloc, Marked::new(vec_of(rt, alloc, words)));
+}
+
+#[test]
+fn a_cursor_over_each_buffer(rt: HostRuntime) {
+    let mut words = [10u8, 20, 30];
+    let mut copy = words;
+    let alloc = rt.alloc();
+    does_all_over_memory(&rt, alloc, &words);
+    let array: &mut [u8; 3] = &mut copy;
+    does_all(&rt, alloc, array);
+    let slice: &mut [u8] = &mut words;
+    does_all(&rt, alloc, slice);
+    same(&rt, (words, copy), ([5, 5, 5], [5, 5, 5]));
+}
+
+/// Whether a cursor over words, read or written, is refused at a position.
+fn is_refused_at(words: &[u8; 3], vec: Vec<u8>, pos: usize) -> (bool, bool) {
+    (
+        Cursor::<u8, _>::new_at_pos(words, pos).is_err(),
+        Cursor::<u8, _>::new_at_pos_mut(vec, pos).is_err(),
     )
 }
 
 #[test]
-fn a_cursor_over_each_buffer(rt: HostRuntime) -> Result<(), Fail> {
-    let mut words = [10u8, 20, 30];
-    let mut copy = words;
-    let alloc = rt.alloc();
-    does_all(&rt, alloc, words.to_vec(alloc)?)?;
-    does_all(&rt, alloc, Marked::new(words.to_vec(alloc)?))?;
-    let array: &mut [u8; 3] = &mut copy;
-    does_all(&rt, alloc, array)?;
-    let slice: &mut [u8] = &mut words;
-    does_all(&rt, alloc, slice)?;
-    same(&rt, (words, copy), ([5, 5, 5], [5, 5, 5]));
-    Ok(())
-}
-
-#[test]
-fn positions_past_the_end_are_refused(rt: HostRuntime) -> Result<(), Fail> {
+fn positions_past_the_end_are_refused(rt: HostRuntime) {
     let words = [1u8, 2, 3];
-    let vec = words.to_vec(rt.alloc())?;
-    same(
-        &rt,
-        (
-            Cursor::<u8, _>::new_at_pos(&words, 4).is_err(),
-            Cursor::<u8, _>::new_at_pos_mut(vec, 4).is_err(),
-        ),
-        (true, true),
-    );
-    Ok(())
+    let vec = vec_of(&rt, rt.alloc(), &words);
+    same(&rt, is_refused_at(&words, vec, 4), (true, true));
 }
 
 /// Buffers that are only read.
@@ -289,11 +294,10 @@ fn a_cursor_over_words_that_are_read(rt: HostRuntime) {
 }
 
 #[test]
-fn a_cursor_over_a_boxed_slice(rt: HostRuntime) -> Result<(), Fail> {
-    let words = [1u8, 2, 3].to_vec(rt.alloc())?.into_boxed_slice();
+fn a_cursor_over_a_boxed_slice(rt: HostRuntime) {
+    let words = boxed_of(&rt, rt.alloc(), &[1, 2, 3]);
     let mut cursor = Cursor::<u8, _>::new_at_write_end(words);
     same(&rt, pop(&mut cursor), Ok(Some(3)));
-    Ok(())
 }
 
 /// A copy asks for memory once. Where that is refused, the cursor is as it was.

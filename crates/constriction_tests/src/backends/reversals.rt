@@ -3,37 +3,55 @@
 ghost use Rattle.std.specs.Prelude.{◌≡◌};
 
 use crate::backends::marked::Marked;
-use crate::checks::same;
+use crate::checks::{holds, same, vec_of};
 use constriction_backends::{
     BoundedReadWords, BoundedWriteError, BoundedWriteWords, Cursor, ReadWords, Reverse, SafeBufMut,
     WriteWords, laws,
 };
 use constriction_words::{Pos, Queue, Seek, Stack};
+use std::convert::Infallible;
 use std::process::Abort;
-use std::test::Fail;
+
+type Turned<Buf> = Reverse<Cursor<u8, Buf>>;
+
+/// How many words a reversed cursor has left as a stack.
+fn words_to_pop<Buf: SafeBufMut<u8>>(turned: &Turned<Buf>) -> usize {
+    BoundedReadWords::<u8, Stack>::remaining(turned)
+}
+
+/// The same as a queue.
+fn words_to_take<Buf: SafeBufMut<u8>>(turned: &Turned<Buf>) -> usize {
+    BoundedReadWords::<u8, Queue>::remaining(turned)
+}
+
+/// Whether no word may be left to pop.
+fn may_be_at_the_beginning<Buf: SafeBufMut<u8>>(turned: &Turned<Buf>) -> bool {
+    ReadWords::<u8, Stack>::maybe_exhausted(turned)
+}
+
+/// Whether no word may be left to take.
+fn may_be_at_the_end<Buf: SafeBufMut<u8>>(turned: &Turned<Buf>) -> bool {
+    ReadWords::<u8, Queue>::maybe_exhausted(turned)
+}
+
+/// The next word of a reversed cursor, as a stack.
+fn popped<Buf: SafeBufMut<u8>>(turned: &mut Turned<Buf>) -> Result<Option<u8>, Infallible> {
+    ReadWords::<u8, Stack>::read(turned)
+}
 
 /// A reversed cursor of 1, 2, 3 at 2 is read to the beginning, as a stack.
-fn is_read_backwards<Buf: SafeBufMut<u8>>(rt: &impl Abort, turned: &mut Reverse<Cursor<u8, Buf>>) {
-    same(
-        rt,
-        (
-            BoundedReadWords::<u8, Stack>::remaining(turned),
-            BoundedReadWords::<u8, Queue>::remaining(turned),
-            ReadWords::<u8, Stack>::maybe_exhausted(turned),
-            ReadWords::<u8, Queue>::maybe_exhausted(turned),
-        ),
-        (2, 1, false, false),
-    );
+fn is_read_backwards<Buf: SafeBufMut<u8>>(rt: &impl Abort, turned: &mut Turned<Buf>) {
+    same(rt, [words_to_pop(turned), words_to_take(turned)], [2, 1]);
+    same(rt, may_be_at_the_beginning(turned), false);
+    same(rt, may_be_at_the_end(turned), false);
     for expected in [Some(2), Some(1), None] {
-        same(rt, ReadWords::<u8, Stack>::read(turned), Ok(expected));
+        same(rt, popped(turned), Ok(expected));
     }
+    same(rt, may_be_at_the_beginning(turned), true);
     same(
         rt,
-        (
-            ReadWords::<u8, Stack>::maybe_exhausted(turned),
-            BoundedReadWords::<u8, Stack>::is_exhausted(turned),
-        ),
-        (true, true),
+        BoundedReadWords::<u8, Stack>::is_exhausted(turned),
+        true,
     );
 }
 
@@ -107,44 +125,56 @@ fn is_reversed<Buf: SafeBufMut<u8> + Drop>(rt: &impl Abort, buf: Buf) {
 }
 
 #[test]
-fn a_cursor_over_each_buffer_is_reversed(rt: HostRuntime) -> Result<(), Fail> {
+fn a_cursor_over_each_buffer_is_reversed(rt: HostRuntime) {
     let mut words = [1u8, 2, 3];
     let mut copy = words;
-    is_reversed(&rt, words.to_vec(rt.alloc())?);
-    is_reversed(&rt, Marked::new(words.to_vec(rt.alloc())?));
+    is_reversed(&rt, vec_of(&rt, rt.alloc(), &words));
+    is_reversed(&rt, Marked::new(vec_of(&rt, rt.alloc(), &words)));
     let array: &mut [u8; 3] = &mut copy;
     is_reversed(&rt, array);
     let slice: &mut [u8] = &mut words;
     is_reversed(&rt, slice);
     same(&rt, words, [5, 4, 3]);
-    Ok(())
+}
+
+/// How many words a reversed stack has left.
+fn left(reversed: &Reverse<Vec<u8>>) -> usize {
+    BoundedReadWords::<u8, Queue>::remaining(reversed)
+}
+
+/// Whether it has none.
+fn is_exhausted(reversed: &Reverse<Vec<u8>>) -> bool {
+    BoundedReadWords::<u8, Queue>::is_exhausted(reversed)
+}
+
+/// Whether it may have none.
+fn may_be_exhausted(reversed: &Reverse<Vec<u8>>) -> bool {
+    ReadWords::<u8, Queue>::maybe_exhausted(reversed)
+}
+
+/// The next word of a reversed stack.
+fn taken(reversed: &mut Reverse<Vec<u8>>) -> Result<Option<u8>, Infallible> {
+    ReadWords::<u8, Queue>::read(reversed)
+}
+
+/// What a reversed stack answers to two seeks.
+fn sought(reversed: &mut Reverse<Vec<u8>>, first: usize, second: usize) -> [Result<(), ()>; 2] {
+    [reversed.seek(first), reversed.seek(second)]
 }
 
 #[test]
-fn a_reversed_stack_is_a_queue(rt: HostRuntime) -> Result<(), Fail> {
-    let mut reversed = Reverse([1u8, 2, 3].to_vec(rt.alloc())?);
+fn a_reversed_stack_is_a_queue(rt: HostRuntime) {
+    let mut reversed = Reverse(vec_of(&rt, rt.alloc(), &[1, 2, 3]));
     same(
         &rt,
-        (
-            BoundedReadWords::<u8, Queue>::remaining(&reversed),
-            ReadWords::<u8, Queue>::maybe_exhausted(&reversed),
-            ReadWords::<u8, Queue>::read(&mut reversed),
-            BoundedReadWords::<u8, Queue>::remaining(&reversed),
-            BoundedReadWords::<u8, Queue>::is_exhausted(&reversed),
-            reversed.pos(),
-        ),
-        (3, false, Ok(Some(3)), 2, false, 2),
+        (left(&reversed), may_be_exhausted(&reversed)),
+        (3, false),
     );
-    same(
-        &rt,
-        (
-            reversed.seek(0),
-            reversed.seek(1),
-            ReadWords::<u8, Queue>::read(&mut reversed),
-        ),
-        (Ok(()), Err(()), Ok(None)),
-    );
-    Ok(())
+    same(&rt, taken(&mut reversed), Ok(Some(3)));
+    same(&rt, (left(&reversed), is_exhausted(&reversed)), (2, false));
+    same(&rt, reversed.pos(), 2);
+    same(&rt, sought(&mut reversed, 0, 1), [Ok(()), Err(())]);
+    same(&rt, taken(&mut reversed), Ok(None));
 }
 
 #[test]
@@ -165,13 +195,18 @@ fn turned_and_back<Buf: SafeBufMut<u8>>(cursor: Cursor<u8, Buf>) -> Cursor<u8, B
     cursor.into_reversed().into_reversed()
 }
 
-#[test]
-fn a_cursor_turned_twice_stands_where_it_stood(rt: HostRuntime) -> Result<(), Fail> {
-    let mut cursor = Cursor::<u8, _>::new_at_write_end([1u8, 2, 3].to_vec(rt.alloc())?);
+/// A cursor at 1, and what the seek answered.
+fn at_1(words: Vec<u8>) -> (Cursor<u8, Vec<u8>>, Result<(), ()>) {
+    let mut cursor = Cursor::<u8, _>::new_at_write_end(words);
     let sought = cursor.seek(1);
+    (cursor, sought)
+}
+
+#[test]
+fn a_cursor_turned_twice_stands_where_it_stood(rt: HostRuntime) {
+    let (cursor, sought) = at_1(vec_of(&rt, rt.alloc(), &[1, 2, 3]));
     let cursor = turned_and_back(cursor);
     same(&rt, sought, Ok(()));
-    same(&rt, cursor.buf().as_slice(), [1, 2, 3].as_slice());
+    holds(&rt, cursor.buf(), &[1, 2, 3]);
     same(&rt, cursor.pos(), 1);
-    Ok(())
 }

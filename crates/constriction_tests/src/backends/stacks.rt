@@ -2,32 +2,30 @@
 
 ghost use Rattle.std.specs.Prelude.{◌<◌, IsOk, length};
 
-use crate::checks::{same, same_at};
+use crate::checks::{holds as vec_holds, same, same_at, vec_of};
 use constriction_backends::{
     BoundedReadWords, Cursor, ReadWords, Reverse, StackBackend, WriteWords, laws,
 };
 use constriction_words::{Pos, PosSeek, Queue, ReadWriteError, Seek, Stack};
 use smallvec::SmallVec;
-use std::alloc::AllocError;
+use std::alloc::{AllocError, Global};
 use std::convert::Infallible;
 use std::process::Abort;
-use std::test::Fail;
 
 /// A stack that is empty takes 1, 2 and 3. It is then not exhausted, and never full.
-fn is_filled<W>(rt: &impl Abort, words: &mut W) -> Result<(), AllocError>
+fn is_filled<W>(rt: &impl Abort, words: &mut W)
 where
     W: ReadWords<u8, Stack> + WriteWords<u8, WriteError = AllocError>,
     requires { W.can_write words.old }
 {
     let was_exhausted = words.maybe_exhausted();
-    words.write(1)?;
-    words.extend_from_iter([2u8, 3].iter().copied())?;
+    same(rt, words.write(1), Ok(()));
+    same(rt, words.extend_from_iter([2u8, 3].iter().copied()), Ok(()));
     same(
         rt,
         [was_exhausted, words.maybe_exhausted(), words.maybe_full()],
         [true, false, false],
     );
-    Ok(())
 }
 
 /// How many words remain, whether that is none, and the next one.
@@ -93,94 +91,131 @@ where
 }
 
 #[test]
-fn a_vec_is_a_stack(rt: HostRuntime) -> Result<(), Fail> {
+fn a_vec_is_a_stack(rt: HostRuntime) {
     let mut words = Vec::new(rt.alloc());
-    is_filled(&rt, &mut words)?;
-    same(&rt, words.as_slice(), [1, 2, 3].as_slice());
+    is_filled(&rt, &mut words);
+    vec_holds(&rt, &words, &[1, 2, 3]);
     is_emptied(&rt, &mut words);
-    Ok(())
 }
 
 #[test]
-fn a_vec_goes_back_for_good(rt: HostRuntime) -> Result<(), Fail> {
-    let mut words = [1u8, 2, 3].to_vec(rt.alloc())?;
+fn a_vec_goes_back_for_good(rt: HostRuntime) {
+    let mut words = vec_of(&rt, rt.alloc(), &[1, 2, 3]);
     goes_back(&rt, &mut words);
-    same(&rt, words.as_slice(), [1].as_slice());
-    Ok(())
+    vec_holds(&rt, &words, &[1]);
+}
+
+/// A stack whose first two words stand in the value itself.
+type Two = SmallVec<u8, 2>;
+
+/// What it answers to a word.
+fn pushed(words: &mut Two, word: u8) -> Result<(), AllocError> {
+    words.write(word)
+}
+
+/// What it answers to the words of an iterator.
+fn extended(words: &mut Two, more: &[u8]) -> Result<(), AllocError> {
+    words.extend_from_iter(more.iter().copied())
+}
+
+/// It holds these words.
+fn holds(rt: &impl Abort, words: &Two, expected: &[u8]) {
+    same(rt, words.as_slice(), expected);
 }
 
 #[test]
-fn a_small_vec_is_a_stack(rt: HostRuntime) -> Result<(), Fail> {
-    let mut words: SmallVec<u8, 2> = SmallVec::new(rt.alloc());
-    is_filled(&rt, &mut words)?;
-    same(&rt, words.as_slice(), [1, 2, 3].as_slice());
+fn a_small_vec_is_a_stack(rt: HostRuntime) {
+    let mut words: Two = SmallVec::new(rt.alloc());
+    is_filled(&rt, &mut words);
+    holds(&rt, &words, &[1, 2, 3]);
     is_emptied(&rt, &mut words);
-    Ok(())
 }
 
 #[test]
-fn a_small_vec_goes_back_for_good(rt: HostRuntime) -> Result<(), Fail> {
-    let mut words: SmallVec<u8, 2> = SmallVec::new(rt.alloc());
-    words.extend_from_iter([1u8, 2, 3].iter().copied())?;
+fn a_small_vec_goes_back_for_good(rt: HostRuntime) {
+    let mut words: Two = SmallVec::new(rt.alloc());
+    same(&rt, extended(&mut words, &[1, 2, 3]), Ok(()));
     goes_back(&rt, &mut words);
-    same(&rt, words.as_slice(), [1].as_slice());
-    Ok(())
+    holds(&rt, &words, &[1]);
+}
+
+/// It holds 1, 2, 3 and 4, or the first two where memory for the others was refused.
+fn holds_all_or_two(rt: &impl Abort, words: &Two, answer: Result<(), AllocError>) {
+    match answer {
+        Ok(()) => holds(rt, words, &[1, 2, 3, 4]),
+        Err(AllocError) => holds(rt, words, &[1, 2]),
+    }
 }
 
 /// It asks for memory once. `rt try --test --fail-alloc 1` refuses that: the first two words stay.
 #[test]
 fn words_within_the_value_need_no_memory(rt: HostRuntime) {
-    let mut words: SmallVec<u8, 2> = SmallVec::new(rt.alloc());
-    same(&rt, (words.write(1), words.write(2)), (Ok(()), Ok(())));
-    let extended = words.extend_from_iter([3u8, 4].iter().copied());
-    let held = match extended {
-        Ok(()) => [1u8, 2, 3, 4].as_slice(),
-        Err(AllocError) => [1, 2].as_slice(),
-    };
-    same(&rt, words.as_slice(), held);
+    let mut words: Two = SmallVec::new(rt.alloc());
+    same(&rt, pushed(&mut words, 1), Ok(()));
+    same(&rt, pushed(&mut words, 2), Ok(()));
+    let answer = extended(&mut words, &[3, 4]);
+    holds_all_or_two(&rt, &words, answer);
 }
 
 /// It asks for memory once, as above, within a call that has written two words by then.
 #[test]
 fn refused_memory_keeps_the_words_before(rt: HostRuntime) {
-    let mut words: SmallVec<u8, 2> = SmallVec::new(rt.alloc());
-    let held = match words.extend_from_iter([1u8, 2, 3, 4].iter().copied()) {
-        Ok(()) => [1u8, 2, 3, 4].as_slice(),
-        Err(AllocError) => [1, 2].as_slice(),
-    };
-    same(&rt, words.as_slice(), held);
+    let mut words: Two = SmallVec::new(rt.alloc());
+    let answer = extended(&mut words, &[1, 2, 3, 4]);
+    holds_all_or_two(&rt, &words, answer);
+}
+
+const NINE: [u8; 9] = [1, 2, 3, 4, 5, 6, 7, 8, 9];
+
+/// Nine words are held, or a beginning of them where memory was refused.
+fn holds_a_beginning(rt: &impl Abort, held: &[u8], answer: Result<(), AllocError>) {
+    same(rt, held.len() < NINE.len(), answer.is_err());
+    same(rt, NINE.starts_with(held), true);
+}
+
+/// What a `Vec` answers to the words of an iterator.
+fn vec_extended(words: &mut Vec<u8>, more: &[u8]) -> Result<(), AllocError> {
+    words.extend_from_iter(more.iter().copied())
 }
 
 /// Nine words make a `Vec` and a `SmallVec` grow more than once. Whichever growth is refused, the
 /// words before the refused one stand.
 #[test]
 fn each_refused_growth_keeps_the_words_before(rt: HostRuntime) {
-    let words = [1u8, 2, 3, 4, 5, 6, 7, 8, 9];
     let mut vec = Vec::new(rt.alloc());
-    let refused = vec.extend_from_iter(words.iter().copied()).is_err();
-    same(&rt, vec.len() < words.len(), refused);
-    same(&rt, words.starts_with(vec.as_slice()), true);
-    let mut small: SmallVec<u8, 2> = SmallVec::new(rt.alloc());
-    let refused = small.extend_from_iter(words.iter().copied()).is_err();
-    same(&rt, small.len() < words.len(), refused);
-    same(&rt, words.starts_with(small.as_slice()), true);
+    let answer = vec_extended(&mut vec, &NINE);
+    holds_a_beginning(&rt, vec.as_slice(), answer);
+    let mut small: Two = SmallVec::new(rt.alloc());
+    let answer = extended(&mut small, &NINE);
+    holds_a_beginning(&rt, small.as_slice(), answer);
 }
 
 fn tells_what_it_was_extended_by<Words: Iterator<Item = u8> + Drop>(_words: Words) {
     laws::extending_tells::<u8, Vec<u8>, Words>();
 }
 
-#[test]
-fn what_was_pushed_is_popped(rt: HostRuntime) {
+fn laws_of_stacks_may_be_called() {
     laws::pushed_is_popped::<u8, AllocError, Infallible>();
     laws::written_is_read::<u8, Vec<u8>>();
     laws::seek_back::<u8>();
+}
+
+/// The word that comes back from a `Vec`, or the refusal of memory.
+fn there_and_back_in_a_vec(words: &mut Vec<u8>, word: u8) -> Result<Option<u8>, AllocError> {
+    match laws::push_then_pop(words, word) {
+        Ok(word) => Ok(word),
+        Err(ReadWriteError::Write(refused)) => Err(refused),
+        Err(ReadWriteError::Read(never)) => match never {},
+    }
+}
+
+#[test]
+fn what_was_pushed_is_popped(rt: HostRuntime) {
+    laws_of_stacks_may_be_called();
     tells_what_it_was_extended_by([1u8, 2].iter().copied());
     let mut words = Vec::new(rt.alloc());
-    match laws::push_then_pop(&mut words, 7u8) {
-        Ok(word) => same(&rt, word, Some(7)),
-        Err(ReadWriteError::Write(AllocError)) => {}
-        Err(ReadWriteError::Read(never)) => match never {},
+    if let Ok(word) = there_and_back_in_a_vec(&mut words, 7) {
+        same(&rt, word, Some(7));
     }
     assert!(rt; words.is_empty());
 }
@@ -203,15 +238,26 @@ fn replace_first(words: &mut Reverse<Vec<u8>>, word: u8) -> Result<(), AllocErro
     words.0.write(word)
 }
 
+/// The last of three words is replaced.
+fn replaced_in_a_stack(rt: &impl Abort, alloc: Global) {
+    let mut words = vec_of(rt, alloc, &[1, 2, 3]);
+    assert!(rt; !words.is_empty());
+    same(rt, replace_last(&mut words, 4), Ok(()));
+    vec_holds(rt, &words, &[1, 2, 4]);
+}
+
+/// The first one that a queue gives is replaced.
+fn replaced_in_a_queue(rt: &impl Abort, alloc: Global) {
+    let mut reversed = Reverse(vec_of(rt, alloc, &[1, 2, 3]));
+    assert!(rt; !reversed.0.is_empty());
+    same(rt, replace_first(&mut reversed, 5), Ok(()));
+    vec_holds(rt, &reversed.0, &[1, 2, 5]);
+}
+
 #[test]
-fn a_popped_word_leaves_its_place(rt: HostRuntime) -> Result<(), Fail> {
-    let mut words = [1u8, 2, 3].to_vec(rt.alloc())?;
-    same(&rt, replace_last(&mut words, 4), Ok(()));
-    same(&rt, words.as_slice(), [1, 2, 4].as_slice());
-    let mut reversed = Reverse([1u8, 2, 3].to_vec(rt.alloc())?);
-    same(&rt, replace_first(&mut reversed, 5), Ok(()));
-    same(&rt, reversed.0.as_slice(), [1, 2, 5].as_slice());
-    Ok(())
+fn a_popped_word_leaves_its_place(rt: HostRuntime) {
+    replaced_in_a_stack(&rt, rt.alloc());
+    replaced_in_a_queue(&rt, rt.alloc());
 }
 
 /// Two words through any stack, as a stack coder writes and reads them.
@@ -240,15 +286,22 @@ where
     same(rt, there_and_back(backend, 1, 2), Some((Some(2), Some(1))));
 }
 
-#[test]
-fn any_stack_gives_back_what_was_written(rt: HostRuntime) -> Result<(), Fail> {
-    let mut words = [0u8; 3].to_vec(rt.alloc())?;
-    gives_back(&rt, &mut words);
-    let mut small: SmallVec<u8, 2> = SmallVec::new(rt.alloc());
-    gives_back(&rt, &mut small);
+fn cursor_gives_back(rt: &impl Abort, words: Vec<u8>) {
     let mut cursor = Cursor::<u8, _>::new_at_write_beginning(words);
-    gives_back(&rt, &mut cursor);
-    let mut reversed = Reverse(Cursor::<u8, _>::new_at_write_end([0u8; 3].to_vec(rt.alloc())?));
-    gives_back(&rt, &mut reversed);
-    Ok(())
+    gives_back(rt, &mut cursor);
+}
+
+fn reversed_cursor_gives_back(rt: &impl Abort, words: Vec<u8>) {
+    let mut reversed = Reverse(Cursor::<u8, _>::new_at_write_end(words));
+    gives_back(rt, &mut reversed);
+}
+
+#[test]
+fn any_stack_gives_back_what_was_written(rt: HostRuntime) {
+    let mut words = vec_of(&rt, rt.alloc(), &[0; 3]);
+    gives_back(&rt, &mut words);
+    let mut small: Two = SmallVec::new(rt.alloc());
+    gives_back(&rt, &mut small);
+    cursor_gives_back(&rt, words);
+    reversed_cursor_gives_back(&rt, vec_of(&rt, rt.alloc(), &[0; 3]));
 }

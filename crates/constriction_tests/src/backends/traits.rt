@@ -5,7 +5,7 @@ ghost use Rattle.constriction_backends.specs.Source.{CountsRead};
 ghost use Rattle.constriction_backends.specs.Sink.{CountsWrite};
 ghost use Rattle.constriction_backends.specs.SinkLaws.{free_is_taken};
 
-use crate::checks::same;
+use crate::checks::{holds, same};
 use constriction_backends::{
     BoundedReadWords, BoundedWriteError, BoundedWriteWords, ReadWords, WriteWords, laws,
 };
@@ -53,6 +53,11 @@ impl WriteWords<u8> for Small {
     ghost room_suffices = { λ s word r t h room. absurd room };
 }
 
+/// What such a sink answers to words.
+fn small_extended(sink: &mut Small, words: &[u8]) -> Result<(), u8> {
+    sink.extend_from_iter(words.iter().copied())
+}
+
 #[test]
 fn default_answers_say_nothing(rt: HostRuntime) {
     let mut source = Endless;
@@ -62,15 +67,9 @@ fn default_answers_say_nothing(rt: HostRuntime) {
         (true, Err(7)),
     );
     let mut sink = Small { last: 0 };
-    same(
-        &rt,
-        (
-            sink.maybe_full(),
-            sink.extend_from_iter([4u8, 5, 10, 6].iter().copied()),
-            sink.last,
-        ),
-        (true, Err(10), 5),
-    );
+    same(&rt, sink.maybe_full(), true);
+    same(&rt, small_extended(&mut sink, &[4, 5, 10, 6]), Err(10));
+    same(&rt, sink.last, 5);
 }
 
 /// Words that count down to 1, and tell how many are left.
@@ -164,7 +163,7 @@ fn write_where_there_is_room<Sink: WriteWords<u8>>(
 fn a_write_where_there_is_room_succeeds(rt: HostRuntime) {
     let mut words = Vec::new(rt.alloc());
     same(&rt, write_where_there_is_room(&mut words, 5), Ok(()));
-    same(&rt, words.as_slice(), [5].as_slice());
+    holds(&rt, &words, &[5]);
     let mut places = Places { free: 0 };
     same(&rt, write_where_there_is_room(&mut places, 5), Ok(()));
 }
@@ -208,6 +207,11 @@ fn a_sink_is_full_where_no_place_is_free(rt: HostRuntime) {
     }
 }
 
+/// What places answer to words.
+fn extended(sink: &mut Places, words: &[u8]) -> Result<(), BoundedWriteError> {
+    laws::extending_counts(sink, words.iter().copied())
+}
+
 #[test]
 fn more_words_than_places_are_refused(rt: HostRuntime) {
     let mut sink = Places { free: 4 };
@@ -215,7 +219,7 @@ fn more_words_than_places_are_refused(rt: HostRuntime) {
         ([1u8, 2, 3].as_slice(), Ok(()), 1),
         ([4, 5].as_slice(), Err(BoundedWriteError::OutOfSpace), 0),
     ] {
-        let extended = laws::extending_counts(&mut sink, words.iter().copied());
-        same(&rt, (extended, sink.space_left()), (answer, free));
+        same(&rt, extended(&mut sink, words), answer);
+        same(&rt, sink.space_left(), free);
     }
 }

@@ -6,9 +6,9 @@ ghost use Rattle.constriction.specs.Rows.{rows_of};
 ghost use Rattle.constriction_backends.specs.Stack.{Pushes};
 ghost use Rattle.constriction_backends.specs.StackLaws.{Pushes-told};
 
-use crate::checks::{same, same_at};
-use crate::models::contiguous::{Table, table};
-use constriction::stream::model::{DecoderModel, EncoderModel, EntropyModel, ModelError, Weight};
+use crate::checks::{holds, holds_at, same, same_at, vec_of};
+use crate::models::contiguous::{Table, WEIGHTS, made, small, table};
+use constriction::stream::model::{DecoderModel, EncoderModel, EntropyModel, Weight};
 use constriction_backends::{ReadWords, WriteWords};
 use constriction_client::laws::there_and_back;
 use constriction_client::{QuantileFault, ReadFault, read_symbols, write_quantiles};
@@ -17,11 +17,6 @@ use std::alloc::{AllocError, Global};
 use std::convert::Infallible;
 use std::process::Abort;
 use std::test::Fail;
-
-/// The model of the weights 3, 18, 1 and 42.
-fn small(alloc: Global) -> Result<Table<6>, ModelError> {
-    table(alloc, &[3, 18, 1, 42], false)
-}
 
 type Written = Result<(), CoderError<QuantileFault, AllocError>>;
 
@@ -51,74 +46,92 @@ fn back(alloc: Global, model: &Table<6>, items: &[(usize, u8)]) -> Back {
     there_and_back(alloc, model, items)
 }
 
-/// Items are written as these words, and these are read back as these pairs, the last one first.
-fn come_back<const PRECISION: usize>(
+/// Items are written as these words.
+fn are_written<const PRECISION: usize>(
     rt: &impl Abort,
-    alloc: Global,
     model: &Table<PRECISION>,
     items: &[(usize, u8)],
-    (quantiles, count, pairs): (&[u8], usize, &[(usize, u8)]),
+    words: &mut Vec<u8>,
+    quantiles: &[u8],
 ) {
-    let mut words = Vec::new(alloc);
-    same(rt, write(model, items, &mut words), Ok(()));
-    same(rt, words.as_slice(), quantiles);
-    let mut out = Vec::new(alloc);
-    same(
-        rt,
-        read(model, &mut words, count, &mut out),
-        Ok(pairs.len()),
-    );
-    same(rt, out.as_slice(), pairs);
+    same(rt, write(model, items, words), Ok(()));
+    holds(rt, words, quantiles);
+}
+
+/// These are read back as these pairs, the last one first, and none is left.
+fn are_read<const PRECISION: usize>(
+    rt: &impl Abort,
+    model: &Table<PRECISION>,
+    words: &mut Vec<u8>,
+    out: &mut Vec<(usize, u8)>,
+    (count, pairs): (usize, &[(usize, u8)]),
+) {
+    same(rt, read(model, words, count, out), Ok(pairs.len()));
+    holds(rt, out, pairs);
     same(rt, words.is_empty(), true);
 }
 
 #[test]
-fn three_items_come_back_from_a_stack_reversed(rt: HostRuntime) -> Result<(), Fail> {
-    let model = small(rt.alloc())?;
-    let items = [(0, 2), (3, 41), (1, 0)];
-    let read = (
-        [2u8, 63, 3].as_slice(),
-        3,
-        [(1usize, 0u8), (3, 41), (0, 2)].as_slice(),
+fn three_items_come_back_from_a_stack_reversed(rt: HostRuntime) {
+    let model = small(&rt, rt.alloc());
+    let mut words = Vec::new(rt.alloc());
+    are_written(
+        &rt,
+        &model,
+        &[(0, 2), (3, 41), (1, 0)],
+        &mut words,
+        &[2, 63, 3],
     );
-    come_back(&rt, rt.alloc(), &model, &items, read);
-    Ok(())
+    let mut out = Vec::new(rt.alloc());
+    are_read(
+        &rt,
+        &model,
+        &mut words,
+        &mut out,
+        (3, &[(1, 0), (3, 41), (0, 2)]),
+    );
+}
+
+/// The items come back as these pairs.
+fn come_back(rt: &impl Abort, made: Back, pairs: &[(usize, u8)]) {
+    match made {
+        Ok(back) => holds(rt, &back, pairs),
+        Err(fault) => same(rt, Err(fault), Ok(())),
+    }
 }
 
 #[test]
-fn three_items_go_there_and_back(rt: HostRuntime) -> Result<(), Fail> {
-    let model = small(rt.alloc())?;
-    let pairs = back(rt.alloc(), &model, &[(0, 2), (3, 41), (1, 0)])?;
-    same(&rt, pairs.as_slice(), [(1, 0), (3, 41), (0, 2)].as_slice());
-    Ok(())
+fn three_items_go_there_and_back(rt: HostRuntime) {
+    let model = small(&rt, rt.alloc());
+    let made = back(rt.alloc(), &model, &[(0, 2), (3, 41), (1, 0)]);
+    come_back(&rt, made, &[(1, 0), (3, 41), (0, 2)]);
 }
 
-/// The first of these items alone is written.
+/// The first of these items alone is written, after 7.
 fn stops_after_the_first(
     rt: &impl Abort,
     alloc: Global,
     model: &Table<6>,
     items: &[(usize, u8)],
     (name, fault): (&str, QuantileFault),
-) -> Result<(), AllocError> {
-    let mut words = [7u8].to_vec(alloc)?;
+) {
+    let mut words = vec_of(rt, alloc, &[7]);
     let written = write(model, items, &mut words);
     same_at(rt, name, written, Err(CoderError::Frontend(fault)));
-    same_at(rt, name, words.as_slice(), [7, 2].as_slice());
+    holds_at(rt, name, &words, &[7, 2]);
     same_at(rt, name, back(alloc, model, items).is_err(), true);
-    Ok(())
 }
 
 #[test]
-fn the_words_before_a_fault_stay_written(rt: HostRuntime) -> Result<(), Fail> {
-    let model = small(rt.alloc())?;
+fn the_words_before_a_fault_stay_written(rt: HostRuntime) {
+    let model = small(&rt, rt.alloc());
     stops_after_the_first(
         &rt,
         rt.alloc(),
         &model,
         &[(0, 2), (2, 1), (9, 0)],
         ("an offset of the weight", QuantileFault::OffsetTooLarge),
-    )?;
+    );
     stops_after_the_first(
         &rt,
         rt.alloc(),
@@ -128,64 +141,84 @@ fn the_words_before_a_fault_stay_written(rt: HostRuntime) -> Result<(), Fail> {
             "a symbol past the last one",
             QuantileFault::ImpossibleSymbol,
         ),
-    )?;
+    );
     stops_after_the_first(
         &rt,
         rt.alloc(),
         &model,
         &[(0, 2), (usize::MAX, 9), (2, 1)],
         ("a symbol that is no word", QuantileFault::ImpossibleSymbol),
-    )?;
-    Ok(())
+    );
+}
+
+/// One pair that was read before.
+fn one_pair(rt: &impl Abort, alloc: Global) -> Vec<(usize, u8)> {
+    let mut pairs = Vec::new(alloc);
+    let Ok(()) = pairs.push((2, 0)) else {
+        panic!(rt; "memory was refused");
+    };
+    pairs
 }
 
 #[test]
-fn a_word_that_is_no_quantile_is_gone(rt: HostRuntime) -> Result<(), Fail> {
-    let model = small(rt.alloc())?;
-    let mut words = [2u8, 64, 63].to_vec(rt.alloc())?;
-    let mut out = [(2usize, 0u8)].to_vec(rt.alloc())?;
-    let answer = read(&model, &mut words, 3, &mut out);
+fn a_word_that_is_no_quantile_is_gone(rt: HostRuntime) {
+    let model = small(&rt, rt.alloc());
+    let mut words = vec_of(&rt, rt.alloc(), &[2, 64, 63]);
+    let mut out = one_pair(&rt, rt.alloc());
     same(
         &rt,
-        answer,
+        read(&model, &mut words, 3, &mut out),
         Err(CoderError::Frontend(ReadFault::QuantileTooLarge)),
     );
-    same(&rt, words.as_slice(), [2].as_slice());
-    same(&rt, out.as_slice(), [(2, 0), (3, 41)].as_slice());
-    Ok(())
+    holds(&rt, &words, &[2]);
+    holds(&rt, &out, &[(2, 0), (3, 41)]);
+}
+
+/// So many reads of 2 and 63 give so many pairs, and leave these words.
+fn are_read_at_most(
+    rt: &impl Abort,
+    alloc: Global,
+    model: &Table<6>,
+    (count, pairs): (usize, &[(usize, u8)]),
+    left: &[u8],
+) {
+    let mut words = vec_of(rt, alloc, &[2, 63]);
+    let mut out = Vec::new(alloc);
+    let answer = read(model, &mut words, count, &mut out);
+    same_at(rt, count, answer, Ok(pairs.len()));
+    holds_at(rt, count, &words, left);
+    holds_at(rt, count, &out, pairs);
 }
 
 #[test]
-fn no_more_words_are_read_than_are_asked_for(rt: HostRuntime) -> Result<(), Fail> {
-    let model = small(rt.alloc())?;
-    let cases = [
-        (0usize, 0usize, [2u8, 63].as_slice(), [].as_slice()),
-        (1, 1, [2].as_slice(), [(3usize, 41u8)].as_slice()),
-        (2, 2, [].as_slice(), [(3, 41), (0, 2)].as_slice()),
-        (5, 2, [].as_slice(), [(3, 41), (0, 2)].as_slice()),
-    ];
-    for (count, pairs, left, expected) in cases {
-        let mut words = [2u8, 63].to_vec(rt.alloc())?;
-        let mut out = Vec::new(rt.alloc());
-        let answer = read(&model, &mut words, count, &mut out);
-        same_at(&rt, count, answer, Ok(pairs));
-        same_at(&rt, count, words.as_slice(), left);
-        same_at(&rt, count, out.as_slice(), expected);
-    }
-    Ok(())
+fn no_more_words_are_read_than_are_asked_for(rt: HostRuntime) {
+    let model = small(&rt, rt.alloc());
+    let alloc = rt.alloc();
+    are_read_at_most(&rt, alloc, &model, (0, &[]), &[2, 63]);
+    are_read_at_most(&rt, alloc, &model, (1, &[(3, 41)]), &[2]);
+    are_read_at_most(&rt, alloc, &model, (2, &[(3, 41), (0, 2)]), &[]);
+    are_read_at_most(&rt, alloc, &model, (5, &[(3, 41), (0, 2)]), &[]);
 }
 
 #[test]
-fn at_the_full_width_each_word_is_a_quantile(rt: HostRuntime) -> Result<(), Fail> {
-    let model: Table<8> = table(rt.alloc(), &[200], true)?;
-    let items = [(1, 55), (0, 199), (1, 0)];
-    let read = (
-        [255u8, 199, 200].as_slice(),
-        4,
-        [(1usize, 0u8), (0, 199), (1, 55)].as_slice(),
+fn at_the_full_width_each_word_is_a_quantile(rt: HostRuntime) {
+    let model = made::<8>(&rt, rt.alloc(), &[200], true);
+    let mut words = Vec::new(rt.alloc());
+    are_written(
+        &rt,
+        &model,
+        &[(1, 55), (0, 199), (1, 0)],
+        &mut words,
+        &[255, 199, 200],
     );
-    come_back(&rt, rt.alloc(), &model, &items, read);
-    Ok(())
+    let mut out = Vec::new(rt.alloc());
+    are_read(
+        &rt,
+        &model,
+        &mut words,
+        &mut out,
+        (4, &[(1, 0), (0, 199), (1, 55)]),
+    );
 }
 
 /// Six items, their quantiles, and the items from the last to the first.
@@ -195,27 +228,43 @@ const QUANTILES: [u8; 6] = [2, 63, 3, 21, 0, 22];
 
 const REVERSED: [(usize, u8); 6] = [(3, 0), (0, 0), (2, 0), (1, 0), (3, 41), (0, 2)];
 
-/// An answer, or the refusal of memory and what it leaves: `rt try --test --fail-alloc N` makes each
-/// growth fail in turn.
-#[test]
-fn a_refusal_of_memory_ends_what_is_written(rt: HostRuntime) {
-    let Ok(model) = small(rt.alloc()) else {
-        return;
-    };
-    let mut words = Vec::new(rt.alloc());
-    let written = write(&model, &ITEMS, &mut words);
+/// All six items are written, or memory was refused.
+fn wrote_all_or_was_refused(rt: &impl Abort, written: Written, words: &[u8]) {
     let expected = match words.len() {
         6 => Ok(()),
         _ => Err(CoderError::Backend(AllocError)),
     };
-    same(&rt, written, expected);
-    same(&rt, QUANTILES.starts_with(words.as_slice()), true);
+    same(rt, written, expected);
+    same(rt, QUANTILES.starts_with(words), true);
+}
+
+/// An answer, or the refusal of memory and what it leaves: `rt try --test --fail-alloc N` makes each
+/// growth fail in turn.
+#[test]
+fn a_refusal_of_memory_ends_what_is_written(rt: HostRuntime) {
+    let Ok(model) = table::<6>(rt.alloc(), &WEIGHTS, false) else {
+        return;
+    };
+    let mut words = Vec::new(rt.alloc());
+    let written = write(&model, &ITEMS, &mut words);
+    wrote_all_or_was_refused(&rt, written, words.as_slice());
+}
+
+/// All six pairs are read, or memory was refused and the word whose pair found no room is gone.
+fn read_all_or_was_refused(rt: &impl Abort, answer: Read, left: usize, out: &[(usize, u8)]) {
+    let (expected, in_all) = match out.len() {
+        6 => (Ok(6), 6),
+        _ => (Err(CoderError::Frontend(ReadFault::OutOfMemory)), 5),
+    };
+    same(rt, answer, expected);
+    same(rt, out.len().checked_add(left), Some(in_all));
+    same(rt, REVERSED.starts_with(out), true);
 }
 
 /// The same of reads: the word whose pair found no room has been read.
 #[test]
 fn a_refusal_of_memory_ends_what_is_read(rt: HostRuntime) {
-    let Ok(model) = small(rt.alloc()) else {
+    let Ok(model) = table::<6>(rt.alloc(), &WEIGHTS, false) else {
         return;
     };
     let Ok(mut words) = QUANTILES.to_vec(rt.alloc()) else {
@@ -223,23 +272,17 @@ fn a_refusal_of_memory_ends_what_is_read(rt: HostRuntime) {
     };
     let mut out = Vec::new(rt.alloc());
     let answer = read(&model, &mut words, 6, &mut out);
-    let (expected, in_all) = match out.len() {
-        6 => (Ok(6), 6),
-        _ => (Err(CoderError::Frontend(ReadFault::OutOfMemory)), 5),
-    };
-    same(&rt, answer, expected);
-    same(&rt, out.len().checked_add(words.len()), Some(in_all));
-    same(&rt, REVERSED.starts_with(out.as_slice()), true);
+    read_all_or_was_refused(&rt, answer, words.len(), out.as_slice());
 }
 
 /// And of the way there and back.
 #[test]
 fn a_refusal_of_memory_ends_the_way(rt: HostRuntime) {
-    let Ok(model) = small(rt.alloc()) else {
+    let Ok(model) = table::<6>(rt.alloc(), &WEIGHTS, false) else {
         return;
     };
     match back(rt.alloc(), &model, &ITEMS) {
-        Ok(pairs) => same(&rt, pairs.as_slice(), REVERSED.as_slice()),
+        Ok(pairs) => holds(&rt, &pairs, &REVERSED),
         Err(fault) => same(&rt, fault, CoderError::Backend(AllocError)),
     }
 }
@@ -279,16 +322,23 @@ impl WriteWords<u8> for TwoWords {
     ghost room_suffices = { λ s word r t h room. absurd room };
 }
 
+fn write_two(
+    model: &Table<6>,
+    items: &[(usize, u8)],
+    sink: &mut TwoWords,
+) -> Result<(), CoderError<QuantileFault, Refusal>> {
+    write_quantiles(model, items, sink)
+}
+
 #[test]
-fn a_refusal_of_the_sink_is_handed_on(rt: HostRuntime) -> Result<(), Fail> {
-    let model = small(rt.alloc())?;
+fn a_refusal_of_the_sink_is_handed_on(rt: HostRuntime) {
+    let model = small(&rt, rt.alloc());
     let mut sink = TwoWords {
         words: Vec::new(rt.alloc()),
     };
-    let written = write_quantiles(&model, &[(0, 2), (3, 41), (1, 0), (4, 0)], &mut sink);
+    let written = write_two(&model, &[(0, 2), (3, 41), (1, 0), (4, 0)], &mut sink);
     same(&rt, written, Err(CoderError::Backend(Refusal::Full(3))));
-    same(&rt, sink.words.as_slice(), [2, 63].as_slice());
-    Ok(())
+    holds(&rt, &sink.words, &[2, 63]);
 }
 
 /// A source that answers 63, an error, 2, and then that it ended.
@@ -316,20 +366,26 @@ impl ReadWords<u8, Queue> for Interrupted {
     ghost reads_told = { λ s r t gives words told. absurd told };
 }
 
+fn read_interrupted(
+    model: &Table<6>,
+    source: &mut Interrupted,
+    out: &mut Vec<(usize, u8)>,
+) -> Result<usize, CoderError<ReadFault, &'static str>> {
+    read_symbols::<Queue, _, _, 6>(model, source, 3, out)
+}
+
 #[test]
-fn an_error_of_the_source_is_handed_on(rt: HostRuntime) -> Result<(), Fail> {
-    let model = small(rt.alloc())?;
+fn an_error_of_the_source_is_handed_on(rt: HostRuntime) {
+    let model = small(&rt, rt.alloc());
     let mut source = Interrupted { reads: 0 };
     let mut out = Vec::new(rt.alloc());
-    let interrupted = read_symbols::<Queue, _, _, 6>(&model, &mut source, 3, &mut out);
+    let interrupted = read_interrupted(&model, &mut source, &mut out);
     same(&rt, interrupted, Err(CoderError::Backend("interrupted")));
     same(&rt, source.reads, 2);
-    same(&rt, out.as_slice(), [(3, 41)].as_slice());
-    let read = read_symbols::<Queue, _, _, 6>(&model, &mut source, 3, &mut out);
-    same(&rt, read, Ok(1));
+    holds(&rt, &out, &[(3, 41)]);
+    same(&rt, read_interrupted(&model, &mut source, &mut out), Ok(1));
     same(&rt, source.reads, 4);
-    same(&rt, out.as_slice(), [(3, 41), (0, 2)].as_slice());
-    Ok(())
+    holds(&rt, &out, &[(3, 41), (0, 2)]);
 }
 
 /// A model of the caller that names a letter twice: `a`, `b` and `a` again have the weights 1, 2
@@ -376,20 +432,29 @@ impl DecoderModel<2> for Letters {
     ghost tile_law = { λ _. Prim.search rules };
 }
 
+fn letters_back(
+    alloc: Global,
+    items: &[(u8, u8)],
+) -> Result<Vec<(u8, u8)>, CoderError<QuantileFault, AllocError>> {
+    there_and_back(alloc, &Letters, items)
+}
+
+fn write_letters(items: &[(u8, u8)], words: &mut Vec<u8>) -> Written {
+    write_quantiles(&Letters, items, words)
+}
+
 #[test]
 fn a_model_of_the_caller_may_name_a_symbol_twice(rt: HostRuntime) -> Result<(), Fail> {
     let items = [(b'a', 0u8), (b'b', 1)];
-    let pairs = there_and_back(rt.alloc(), &Letters, &items)?;
-    same(&rt, pairs.as_slice(), [(b'b', 1), (b'a', 0)].as_slice());
+    let pairs = letters_back(rt.alloc(), &items)?;
+    holds(&rt, &pairs, &[(b'b', 1), (b'a', 0)]);
     let mut words = Vec::new(rt.alloc());
-    let written = write_quantiles(&Letters, &items, &mut words);
-    let refused = write_quantiles(&Letters, &[(b'c', 0)], &mut words);
-    same(&rt, written, Ok(()));
+    same(&rt, write_letters(&items, &mut words), Ok(()));
     same(
         &rt,
-        refused,
+        write_letters(&[(b'c', 0)], &mut words),
         Err(CoderError::Frontend(QuantileFault::ImpossibleSymbol)),
     );
-    same(&rt, words.as_slice(), [3, 2].as_slice());
+    holds(&rt, &words, &[3, 2]);
     Ok(())
 }

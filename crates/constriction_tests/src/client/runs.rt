@@ -1,15 +1,14 @@
 //! Runs over whole inputs, and over readers and writers that give or take little, fail, or end.
 
-use crate::checks::{prints, same, same_at};
+use crate::checks::{holds, holds_at, prints, same, same_at};
 use constriction_client::laws::{
     each_quantile_in_range_has_a_row, reads_back, reads_back_reversed,
     the_row_found_is_the_row_of_the_quantile, weights_are_tested_as_models_accept_them,
 };
 use constriction_client::{QuantileFault, ReadFault, RunFault, answer, run};
-use std::alloc::{AllocError, Global};
+use std::alloc::Global;
 use std::io::{self, Read, Write};
 use std::process::Abort;
-use std::test::Fail;
 
 /// The most bytes of an input.
 const LIMIT: usize = 1_048_576;
@@ -154,13 +153,26 @@ const CASES: [(&str, &str); 62] = [
     ),
 ];
 
+/// What a run over an input answers, and writes to a `Vec`.
+fn run_at_once(alloc: Global, mut input: &[u8], written: &mut Vec<u8>) -> Result<(), RunFault> {
+    run(alloc, &mut input, written)
+}
+
+/// The same where the input is read byte by byte.
+fn run_slowly(
+    alloc: Global,
+    reader: &mut SlowReader,
+    written: &mut Vec<u8>,
+) -> Result<(), RunFault> {
+    run(alloc, reader, written)
+}
+
 /// An input is answered by this text, read at once, and read byte by byte.
 fn is_answered(rt: &impl Abort, alloc: Global, input: &str, text: &str) {
-    let mut reader = input.as_bytes();
     let mut written = Vec::new(alloc);
-    let result = run(alloc, &mut reader, &mut written);
+    let result = run_at_once(alloc, input.as_bytes(), &mut written);
     same_at(rt, input, result, Ok(()));
-    same_at(rt, input, written.as_slice(), text.as_bytes());
+    holds_at(rt, input, &written, text.as_bytes());
 }
 
 fn is_answered_slowly(rt: &impl Abort, alloc: Global, input: &str, text: &str) {
@@ -169,9 +181,9 @@ fn is_answered_slowly(rt: &impl Abort, alloc: Global, input: &str, text: &str) {
         turns: 1000,
     };
     let mut written = Vec::new(alloc);
-    let result = run(alloc, &mut reader, &mut written);
+    let result = run_slowly(alloc, &mut reader, &mut written);
     same_at(rt, input, result, Ok(()));
-    same_at(rt, input, written.as_slice(), text.as_bytes());
+    holds_at(rt, input, &written, text.as_bytes());
 }
 
 fn are_answered(rt: &impl Abort, alloc: Global, cases: &[(&str, &str)]) {
@@ -194,7 +206,7 @@ fn a_reader_that_fails_leaves_nothing_written(rt: HostRuntime) {
         turns: 2,
     };
     let mut written = Vec::new(rt.alloc());
-    let result = run(rt.alloc(), &mut reader, &mut written);
+    let result = run_slowly(rt.alloc(), &mut reader, &mut written);
     same(
         &rt,
         (result, written.is_empty()),
@@ -202,53 +214,74 @@ fn a_reader_that_fails_leaves_nothing_written(rt: HostRuntime) {
     );
 }
 
+/// What a run over two bad lines answers, and writes to a slow writer.
+fn run_to_slow(alloc: Global, writer: &mut SlowWriter) -> Result<(), RunFault> {
+    let mut reader = b"a\nb".as_slice();
+    run(alloc, &mut reader, writer)
+}
+
 #[test]
 fn a_writer_that_fails_has_a_beginning(rt: HostRuntime) {
-    let mut reader = b"a\nb".as_slice();
     let mut writer = SlowWriter {
         taken: Vec::new(rt.alloc()),
         turns: 12,
     };
-    let result = run(rt.alloc(), &mut reader, &mut writer);
-    same(&rt, result, Err(RunFault::Write));
-    same(&rt, writer.taken.as_slice(), b"bad line\nbad".as_slice());
+    same(
+        &rt,
+        run_to_slow(rt.alloc(), &mut writer),
+        Err(RunFault::Write),
+    );
+    holds(&rt, &writer.taken, b"bad line\nbad");
+}
+
+/// What a run over an input answers, and how much room it leaves.
+fn run_into(alloc: Global, mut input: &[u8], mut room: &mut [u8]) -> (Result<(), RunFault>, usize) {
+    let result = run(alloc, &mut input, &mut room);
+    (result, room.len())
 }
 
 #[test]
 fn a_writer_that_takes_no_byte_has_a_beginning(rt: HostRuntime) {
     let mut room = [0u8; 12];
-    let mut reader = b"a\nb".as_slice();
-    let mut writer = room.as_mut_slice();
-    let result = run(rt.alloc(), &mut reader, &mut writer);
-    same(&rt, result, Err(RunFault::Write));
+    let (result, places) = run_into(rt.alloc(), b"a\nb", &mut room);
+    same(&rt, (result, places), (Err(RunFault::Write), 0));
     same(&rt, room.as_slice(), b"bad line\nbad".as_slice());
 }
 
-#[test]
-fn an_input_of_the_limit_is_answered(rt: HostRuntime) -> Result<(), Fail> {
-    let input = vec![in rt.alloc(); b'\n'; LIMIT]?;
-    let mut reader = input.as_slice();
-    let mut written = Vec::new(rt.alloc());
-    let result = run(rt.alloc(), &mut reader, &mut written);
-    same(&rt, (result, written.len()), (Ok(()), LIMIT * 9));
-    for line in written.chunks(9) {
-        same(&rt, line, b"bad line\n".as_slice());
+/// So many empty lines.
+fn empty_lines(rt: &impl Abort, alloc: Global, count: usize) -> Vec<u8> {
+    let Ok(lines) = vec![in alloc; b'\n'; count] else {
+        panic!(rt; "memory was refused");
+    };
+    lines
+}
+
+/// Each line is this one.
+fn are_lines(rt: &impl Abort, text: &[u8], expected: &[u8; 9]) {
+    for line in text.chunks(9) {
+        same(rt, line, expected.as_slice());
     }
-    Ok(())
 }
 
 #[test]
-fn a_longer_input_is_not_answered(rt: HostRuntime) -> Result<(), Fail> {
-    let input = vec![in rt.alloc(); b'\n'; LIMIT + 1]?;
-    let mut reader = input.as_slice();
+fn an_input_of_the_limit_is_answered(rt: HostRuntime) {
+    let input = empty_lines(&rt, rt.alloc(), LIMIT);
     let mut written = Vec::new(rt.alloc());
-    let result = run(rt.alloc(), &mut reader, &mut written);
+    let result = run_at_once(rt.alloc(), &input, &mut written);
+    same(&rt, (result, written.len()), (Ok(()), LIMIT * 9));
+    are_lines(&rt, &written, b"bad line\n");
+}
+
+#[test]
+fn a_longer_input_is_not_answered(rt: HostRuntime) {
+    let input = empty_lines(&rt, rt.alloc(), LIMIT + 1);
+    let mut written = Vec::new(rt.alloc());
+    let result = run_at_once(rt.alloc(), &input, &mut written);
     same(
         &rt,
         (result, written.is_empty()),
         (Err(RunFault::TooLong), true),
     );
-    Ok(())
 }
 
 #[test]
@@ -265,28 +298,54 @@ fn faults_have_their_status(rt: HostRuntime) {
     );
 }
 
+/// The answer to a line.
+fn answered(rt: &impl Abort, alloc: Global, line: &[u8], text: &str) {
+    let Ok(found) = answer(alloc, line) else {
+        panic!(rt; "memory was refused");
+    };
+    same(rt, found.as_str(), text);
+}
+
 #[test]
-fn laws_and_answers_may_be_called(rt: HostRuntime) -> Result<(), Fail> {
+fn laws_and_answers_may_be_called(rt: HostRuntime) {
+    answered(&rt, rt.alloc(), b"table u8/6 1 63", "0 0 1\n1 1 63\n");
     weights_are_tested_as_models_accept_them();
     the_row_found_is_the_row_of_the_quantile();
     each_quantile_in_range_has_a_row();
     reads_back::<usize, u8>();
     reads_back_reversed::<usize, u8>();
-    let text = answer(rt.alloc(), b"table u8/6 1 63")?;
-    same(&rt, text.as_str(), "0 0 1\n1 1 63\n");
-    Ok(())
+}
+
+/// What a run over an input answers, and what it writes in which turns.
+fn run_counted(alloc: Global, mut input: &[u8]) -> (Result<(), RunFault>, usize, usize) {
+    let mut writer = CountingWriter { bytes: 0, turns: 0 };
+    let result = run(alloc, &mut input, &mut writer);
+    (result, writer.bytes, writer.turns)
 }
 
 /// The answers to 20,000 lines, 9 bytes each, are two pieces of 65,538 bytes and what is left.
 #[test]
-fn answers_are_written_in_large_pieces(rt: HostRuntime) -> Result<(), Fail> {
-    let input = vec![in rt.alloc(); b'\n'; 20_000]?;
-    let mut reader = input.as_slice();
-    let mut writer = CountingWriter { bytes: 0, turns: 0 };
-    let result = run(rt.alloc(), &mut reader, &mut writer);
-    same(&rt, result, Ok(()));
-    same(&rt, (writer.bytes, writer.turns), (180_000, 3));
-    Ok(())
+fn answers_are_written_in_large_pieces(rt: HostRuntime) {
+    let input = empty_lines(&rt, rt.alloc(), 20_000);
+    same(&rt, run_counted(rt.alloc(), &input), (Ok(()), 180_000, 3));
+}
+
+/// All is written, or the answers before a refusal of memory, each of them whole.
+fn is_whole_or_refused(rt: &impl Abort, answer: Result<(), RunFault>, places: usize) {
+    match answer {
+        Ok(()) => same(rt, places, 0),
+        Err(fault) => {
+            same(rt, fault, RunFault::OutOfMemory);
+            assert!(rt; matches!(places, 29 | 22 | 13));
+        }
+    }
+}
+
+/// The bytes that are written are those of the text, in their places.
+fn is_beginning(rt: &impl Abort, room: &[u8], text: &[u8]) {
+    for (byte, expected) in room.iter().zip(text) {
+        assert!(rt; *byte == *expected || *byte == 0);
+    }
 }
 
 /// The whole text, or the answers before a refusal of memory, each of them whole:
@@ -294,65 +353,53 @@ fn answers_are_written_in_large_pieces(rt: HostRuntime) -> Result<(), Fail> {
 #[test]
 fn answers_before_a_refusal_of_memory_are_written(rt: HostRuntime) {
     let mut room = [0u8; 29];
-    let mut reader = b"table u8/6 64\n\ntable u8/6 1 63\n".as_slice();
-    let mut writer = room.as_mut_slice();
-    let result = run(rt.alloc(), &mut reader, &mut writer);
-    let places = writer.len();
-    match result {
-        Ok(()) => same(&rt, places, 0),
-        Err(fault) => {
-            same(&rt, fault, RunFault::OutOfMemory);
-            assert!(rt; matches!(places, 29 | 22 | 13));
-        }
-    }
-    let text = b"0 0 64\nbad line\n0 0 1\n1 1 63\n".as_slice();
-    for (byte, expected) in room.iter().zip(text) {
-        assert!(rt; *byte == *expected || *byte == 0);
-    }
+    let input = b"table u8/6 64\n\ntable u8/6 1 63\n";
+    let (result, places) = run_into(rt.alloc(), input, &mut room);
+    is_whole_or_refused(&rt, result, places);
+    is_beginning(&rt, &room, b"0 0 64\nbad line\n0 0 1\n1 1 63\n");
 }
 
-fn run_faults_are_sentences(rt: &impl Abort, alloc: Global) -> Result<(), AllocError> {
-    prints(rt, alloc, &RunFault::Read, "The input could not be read.")?;
+fn run_faults_are_sentences(rt: &impl Abort, alloc: Global) {
+    prints(rt, alloc, &RunFault::Read, "The input could not be read.");
     prints(
         rt,
         alloc,
         &RunFault::Write,
         "The answers could not be written.",
-    )?;
-    prints(rt, alloc, &RunFault::TooLong, "The input is too long.")?;
-    prints(rt, alloc, &RunFault::OutOfMemory, "Memory was refused.")
+    );
+    prints(rt, alloc, &RunFault::TooLong, "The input is too long.");
+    prints(rt, alloc, &RunFault::OutOfMemory, "Memory was refused.");
 }
 
-fn item_faults_are_sentences(rt: &impl Abort, alloc: Global) -> Result<(), AllocError> {
+fn item_faults_are_sentences(rt: &impl Abort, alloc: Global) {
     prints(
         rt,
         alloc,
         &QuantileFault::ImpossibleSymbol,
         "The model has no entry of the symbol.",
-    )?;
+    );
     prints(
         rt,
         alloc,
         &QuantileFault::OffsetTooLarge,
         "The offset is not below the weight of the symbol.",
-    )?;
+    );
     prints(
         rt,
         alloc,
         &ReadFault::OutOfMemory,
         "Memory for a pair was refused.",
-    )?;
+    );
     prints(
         rt,
         alloc,
         &ReadFault::QuantileTooLarge,
         "The word is no quantile.",
-    )
+    );
 }
 
 #[test]
-fn faults_are_sentences(rt: HostRuntime) -> Result<(), Fail> {
-    run_faults_are_sentences(&rt, rt.alloc())?;
-    item_faults_are_sentences(&rt, rt.alloc())?;
-    Ok(())
+fn faults_are_sentences(rt: HostRuntime) {
+    run_faults_are_sentences(&rt, rt.alloc());
+    item_faults_are_sentences(&rt, rt.alloc());
 }

@@ -4,7 +4,7 @@ ghost use Rattle.std.specs.Prelude.{◌≡◌, ◌<◌, ◌≤◌, [], ◌∷◌
 ghost use Rattle.std.proofs.Common.{eq-eqb, refl, rules};
 ghost use Rattle.constriction.specs.Rows.{contiguous_rows, entry_of};
 
-use crate::checks::{same, same_at};
+use crate::checks::{holds, holds_at, same, same_at, vec_of};
 use crate::client::items::Letters;
 use constriction::stream::model::{
     ContiguousCategoricalEntropyModel, DecoderModel, EncoderModel, EncodesOver, EntropyModel,
@@ -15,6 +15,7 @@ use constriction_client::QuantileFault;
 use constriction_client::laws::{CursorFault, there_and_back_in_a_cursor, there_and_back_of_two};
 use constriction_words::{BitArray, CoderError, Pos, ReadWriteError, Seek};
 use std::alloc::{AllocError, Global};
+use std::process::Abort;
 use std::test::Fail;
 
 type Small = ContiguousCategoricalEntropyModel<u8, Vec<u8>, 6>;
@@ -103,18 +104,46 @@ const ITEMS: [(usize, u8); 3] = [(0, 2), (3, 41), (1, 0)];
 
 const REVERSED: [(usize, u8); 3] = [(1, 0), (3, 41), (0, 2)];
 
+/// The way through a stack, by two models of the same rows.
+fn through_a_stack(
+    alloc: Global,
+    decoder: &Small,
+    encoder: &Small,
+    items: &[(usize, u8)],
+) -> Result<Items, CoderError<QuantileFault, AllocError>>
+    requires { ⟦<Small as EntropyModel<6>>⟧.rows encoder.now ≡ ⟦<Small as EntropyModel<6>>⟧.rows decoder.now }
+{
+    there_and_back_of_two(alloc, decoder, encoder, items)
+}
+
+/// Whether items come back by two models of the same rows.
+fn come_back_of_two(alloc: Global, decoder: &Small, encoder: &Small, items: &[(usize, u8)]) -> bool
+    requires { ⟦<Small as EntropyModel<6>>⟧.rows encoder.now ≡ ⟦<Small as EntropyModel<6>>⟧.rows decoder.now }
+{
+    come_back(alloc, decoder, encoder, items)
+}
+
+/// The same where the words are bytes.
+fn come_back_of_two_as_bytes(
+    alloc: Global,
+    decoder: &Small,
+    encoder: &Small,
+    items: &[(usize, u8)],
+) -> bool
+    requires { ⟦<Small as EntropyModel<6>>⟧.rows encoder.now ≡ ⟦<Small as EntropyModel<6>>⟧.rows decoder.now }
+{
+    come_back_as_bytes(alloc, decoder, encoder, items)
+}
+
 #[test]
 fn two_models_of_one_table_give_items_back(rt: HostRuntime) -> Result<(), Fail> {
     let decoder = small(rt.alloc(), &WEIGHTS)?;
     let encoder = small(rt.alloc(), &WEIGHTS)?;
-    let back = there_and_back_of_two(rt.alloc(), &decoder, &encoder, &ITEMS)?;
-    same(&rt, back.as_slice(), REVERSED.as_slice());
-    same(&rt, come_back(rt.alloc(), &decoder, &encoder, &ITEMS), true);
-    same(
-        &rt,
-        come_back_as_bytes(rt.alloc(), &decoder, &encoder, &ITEMS),
-        true,
-    );
+    let back = through_a_stack(rt.alloc(), &decoder, &encoder, &ITEMS)?;
+    holds(&rt, &back, &REVERSED);
+    let same_back = come_back_of_two(rt.alloc(), &decoder, &encoder, &ITEMS);
+    let bytes_back = come_back_of_two_as_bytes(rt.alloc(), &decoder, &encoder, &ITEMS);
+    same(&rt, [same_back, bytes_back], [true, true]);
     Ok(())
 }
 
@@ -128,102 +157,128 @@ fn in_a_cursor(
     there_and_back_in_a_cursor(alloc, model, &model, items, cursor)
 }
 
+/// The model of the weights 3, 18, 1 and 42, of which nothing is to be learned.
+fn model(alloc: Global) -> Result<Small, ModelError> {
+    small(alloc, &WEIGHTS)
+}
+
 /// A cursor after the first of these words.
-fn at_1(alloc: Global, words: &[u8]) -> Result<Cursor<u8, Vec<u8>>, AllocError> {
-    let mut cursor = Cursor::new_at_write_end_mut(words.to_vec(alloc)?);
+fn at_1(words: Vec<u8>) -> Cursor<u8, Vec<u8>> {
+    let mut cursor = Cursor::new_at_write_end_mut(words);
     let _ = cursor.seek(1);
-    Ok(cursor)
+    cursor
 }
 
 #[test]
 fn items_come_back_in_their_order_from_a_cursor(rt: HostRuntime) -> Result<(), Fail> {
-    let model = small(rt.alloc(), &WEIGHTS)?;
-    let mut cursor = at_1(rt.alloc(), &[7, 8, 9, 10, 11, 12])?;
+    let model = model(rt.alloc())?;
+    let mut cursor = at_1(vec_of(&rt, rt.alloc(), &[7, 8, 9, 10, 11, 12]));
     let back = in_a_cursor(rt.alloc(), &model, &ITEMS, &mut cursor);
     let Ok(items) = back else {
         panic!(rt; "the items did not come back");
     };
-    same(&rt, items.as_slice(), ITEMS.as_slice());
-    same(
-        &rt,
-        cursor.buf().as_slice(),
-        [7, 2, 63, 3, 11, 12].as_slice(),
-    );
+    holds(&rt, &items, &ITEMS);
+    holds(&rt, cursor.buf(), &[7, 2, 63, 3, 11, 12]);
     same(&rt, cursor.pos(), 4);
     Ok(())
+}
+
+/// Items are refused in a cursor of three words, and these words and the position stay.
+fn keeps_the_words(
+    rt: &impl Abort,
+    alloc: Global,
+    model: &Small,
+    items: &[(usize, u8)],
+    (name, fault, words, pos): (&str, CursorFault, &[u8], usize),
+) {
+    let mut cursor = at_1(vec_of(rt, alloc, &[7, 8, 9]));
+    let back = in_a_cursor(alloc, model, items, &mut cursor);
+    same_at(rt, name, back.err(), Some(fault));
+    holds_at(rt, name, cursor.buf(), words);
+    same_at(rt, name, cursor.pos(), pos);
 }
 
 /// Items that are refused, why, and the words and the position that stay.
 #[test]
 fn a_cursor_keeps_the_words_before_a_refusal(rt: HostRuntime) -> Result<(), Fail> {
-    let model = small(rt.alloc(), &WEIGHTS)?;
+    let model = model(rt.alloc())?;
+    let impossible = CoderError::Frontend(QuantileFault::ImpossibleSymbol);
+    let too_large = CoderError::Frontend(QuantileFault::OffsetTooLarge);
     let full = CoderError::Backend(ReadWriteError::Write(BoundedWriteError::OutOfSpace));
-    let cases = [
-        (
-            "an impossible symbol",
-            [(0, 2), (4, 0), (1, 0)],
-            CoderError::Frontend(QuantileFault::ImpossibleSymbol),
-            ([7u8, 2, 9], 2usize),
-        ),
-        (
-            "an offset of the weight",
-            [(0, 2), (2, 1), (1, 0)],
-            CoderError::Frontend(QuantileFault::OffsetTooLarge),
-            ([7, 2, 9], 2),
-        ),
-        ("no place", ITEMS, full, ([7, 2, 63], 3)),
-    ];
-    for (name, items, fault, (words, pos)) in cases {
-        let mut cursor = at_1(rt.alloc(), &[7, 8, 9])?;
-        let back = in_a_cursor(rt.alloc(), &model, &items, &mut cursor);
-        same_at(&rt, name, back.err(), Some(fault));
-        same_at(&rt, name, cursor.buf().as_slice(), words.as_slice());
-        same_at(&rt, name, cursor.pos(), pos);
-    }
+    keeps_the_words(
+        &rt,
+        rt.alloc(),
+        &model,
+        &[(0, 2), (4, 0), (1, 0)],
+        ("an impossible symbol", impossible, &[7, 2, 9], 2),
+    );
+    keeps_the_words(
+        &rt,
+        rt.alloc(),
+        &model,
+        &[(0, 2), (2, 1), (1, 0)],
+        ("an offset of the weight", too_large, &[7, 2, 9], 2),
+    );
+    keeps_the_words(
+        &rt,
+        rt.alloc(),
+        &model,
+        &ITEMS,
+        ("no place", full, &[7, 2, 63], 3),
+    );
     Ok(())
 }
 
 /// `rt try --test --fail-alloc N` makes each growth fail in turn: the words of all items stand then.
 #[test]
 fn a_refusal_of_memory_leaves_the_words_in_a_cursor(rt: HostRuntime) {
-    let Ok(model) = small(rt.alloc(), &WEIGHTS) else {
+    let Ok(model) = model(rt.alloc()) else {
         return;
     };
-    let Ok(mut cursor) = at_1(rt.alloc(), &[7, 8, 9, 10]) else {
+    let Ok(words) = [7u8, 8, 9, 10].to_vec(rt.alloc()) else {
         return;
     };
+    let mut cursor = at_1(words);
     match in_a_cursor(rt.alloc(), &model, &ITEMS, &mut cursor) {
-        Ok(items) => same(&rt, items.as_slice(), ITEMS.as_slice()),
+        Ok(items) => holds(&rt, &items, &ITEMS),
         Err(fault) => same(
             &rt,
             fault,
             CoderError::Backend(ReadWriteError::Read(AllocError)),
         ),
     }
-    same(&rt, cursor.buf().as_slice(), [7, 2, 63, 3].as_slice());
+    holds(&rt, cursor.buf(), &[7, 2, 63, 3]);
+}
+
+type Letter = (u8, u8);
+
+/// The way through a stack, by a decoder and an encoder that is none.
+fn letters_through_a_stack(
+    alloc: Global,
+    items: &[Letter],
+) -> Result<Vec<Letter>, CoderError<QuantileFault, AllocError>> {
+    there_and_back_of_two(alloc, &Letters, &LetterEntries, items)
+}
+
+/// Whether they come back from a cursor over these words.
+fn letters_come_back(alloc: Global, items: &[Letter], words: &mut [u8]) -> bool {
+    let mut cursor = Cursor::<u8, &mut [u8]>::new_at_write_beginning(words);
+    there_and_back_in_a_cursor(alloc, &Letters, &LetterEntries, items, &mut cursor).is_ok()
 }
 
 #[test]
 fn an_encoder_that_is_no_decoder_writes_for_one(rt: HostRuntime) -> Result<(), Fail> {
     let items = [(b'a', 0u8), (b'b', 1)];
-    let back = there_and_back_of_two(rt.alloc(), &Letters, &LetterEntries, &items)?;
-    same(&rt, back.as_slice(), [(b'b', 1), (b'a', 0)].as_slice());
-    let refused = there_and_back_of_two(rt.alloc(), &Letters, &LetterEntries, &[(b'b', 2)]);
+    let back = letters_through_a_stack(rt.alloc(), &items)?;
+    holds(&rt, &back, &[(b'b', 1), (b'a', 0)]);
+    let refused = letters_through_a_stack(rt.alloc(), &[(b'b', 2)]);
     same(
         &rt,
         refused.err(),
         Some(CoderError::Frontend(QuantileFault::OffsetTooLarge)),
     );
     let mut words = [0u8, 0];
-    let mut cursor = Cursor::<u8, &mut [u8]>::new_at_write_beginning(words.as_mut_slice());
-    let again = there_and_back_in_a_cursor(
-        rt.alloc(),
-        &Letters,
-        &LetterEntries,
-        &items,
-        &mut cursor,
-    );
-    same(&rt, again.is_ok(), true);
+    same(&rt, letters_come_back(rt.alloc(), &items, &mut words), true);
     same(&rt, words, [3, 2]);
     Ok(())
 }

@@ -8,18 +8,16 @@ use constriction::stream::model::{
     row_of_quantile,
 };
 use constriction_words::NonZeroBitArray;
-use std::alloc::{AllocError, Global};
+use std::alloc::Global;
 use std::process::Abort;
-use std::test::Fail;
 
 /// A model whose words are `u8`.
 pub type Table<const PRECISION: usize> = ContiguousCategoricalEntropyModel<u8, Vec<u8>, PRECISION>;
 
 type Small = Table<6>;
 
-type Full = Table<8>;
-
-const WEIGHTS: [u8; 4] = [3, 18, 1, 42];
+/// The weights of a small model.
+pub const WEIGHTS: [u8; 4] = [3, 18, 1, 42];
 
 /// The model of these weights.
 pub fn table<const PRECISION: usize>(
@@ -33,12 +31,25 @@ pub fn table<const PRECISION: usize>(
     Table::from_nonzero_fixed_point_probabilities(alloc, weights.iter().copied(), infer)
 }
 
-fn small(alloc: Global, weights: &[u8], infer: bool) -> Result<Small, ModelError> {
-    table(alloc, weights, infer)
+/// The same where the weights are accepted. It stops the test where they are not.
+pub fn made<const PRECISION: usize>(
+    rt: &impl Abort,
+    alloc: Global,
+    weights: &[u8],
+    infer: bool,
+) -> Table<PRECISION>
+    requires positive { 0 < PRECISION }
+    requires fits { PRECISION ≤ 8 }
+{
+    let Ok(model) = table(alloc, weights, infer) else {
+        panic!(rt; "the weights are refused");
+    };
+    model
 }
 
-fn full(alloc: Global, weights: &[u8], infer: bool) -> Result<Full, ModelError> {
-    table(alloc, weights, infer)
+/// The model of the weights 3, 18, 1 and 42.
+pub fn small(rt: &impl Abort, alloc: Global) -> Small {
+    made(rt, alloc, &WEIGHTS, false)
 }
 
 /// The row of a quantile by a plain scan of the weights.
@@ -60,13 +71,13 @@ fn plain(row: (usize, u8, Weight<u8>)) -> (usize, u8, u8) {
 }
 
 /// The row of a quantile.
-fn row_of<const PRECISION: usize>(
+pub fn row_of<const PRECISION: usize>(
     model: &Table<PRECISION>,
     quantile: u8,
-) -> Result<(usize, u8, u8), AllocError>
+) -> Option<(usize, u8, u8)>
     requires { quantile < 2 ^ PRECISION }
 {
-    Ok(plain(model.quantile_function(quantile)?))
+    Some(plain(model.quantile_function(quantile).ok()?))
 }
 
 /// The entry of a symbol with its weight as a plain word.
@@ -75,18 +86,22 @@ fn entry_of(model: &Small, symbol: usize) -> Option<(u8, u8)> {
     Some((left, weight.get()))
 }
 
-#[test]
-fn each_quantile_has_the_row_that_a_scan_finds(rt: HostRuntime) -> Result<(), Fail> {
-    let model = small(rt.alloc(), &WEIGHTS, false)?;
-    for quantile in 0..64u8 {
-        let (symbol, left, weight) = row_of(&model, quantile)?;
-        same(
-            &rt,
-            (Some((symbol, left, weight)), entry_of(&model, symbol)),
-            (row_by_scan(&WEIGHTS, quantile), Some((left, weight))),
-        );
+/// Stops the test where the row is not the one that a scan finds, or where its symbol has another entry.
+fn is_found(rt: &impl Abort, model: &Small, quantile: u8, row: Option<(usize, u8, u8)>) {
+    same(rt, row, row_by_scan(&WEIGHTS, quantile));
+    if let Some((symbol, left, weight)) = row {
+        same(rt, entry_of(model, symbol), Some((left, weight)));
     }
-    Ok(())
+}
+
+#[test]
+fn each_quantile_has_the_row_that_a_scan_finds(rt: HostRuntime) {
+    let model = small(&rt, rt.alloc());
+    for quantile in 0..64u8 {
+        let row = row_of(&model, quantile);
+        same(&rt, row.is_some(), true);
+        is_found(&rt, &model, quantile, row);
+    }
 }
 
 /// Symbols of the model of four weights, and words that are none.
@@ -107,54 +122,50 @@ fn has_entries(rt: &impl Abort, model: &Small, entries: &[(usize, Option<(u8, u8
 }
 
 #[test]
-fn symbols_have_their_entries(rt: HostRuntime) -> Result<(), Fail> {
-    let model = small(rt.alloc(), &WEIGHTS, false)?;
+fn symbols_have_their_entries(rt: HostRuntime) {
+    let model = small(&rt, rt.alloc());
     same(&rt, model.support_size(), 4);
     has_entries(&rt, &model, &ENTRIES);
-    Ok(())
 }
 
-/// The row that the counted search finds, how many rows there are, and the questions before the
+/// The symbol that the counted search finds, how many rows there are, and the questions before the
 /// search and after it.
 fn searched<const PRECISION: usize>(
     model: &Table<PRECISION>,
     quantile: u8,
-) -> (Option<usize>, usize, usize, usize)
+) -> (Option<usize>, [usize; 3])
     requires { quantile < 2 ^ PRECISION }
 {
     let (first, mut rows) = model.quantile_probe(quantile);
     let before = rows.asked();
     let size = rows.len();
     let index = row_of_quantile(&mut rows, quantile);
-    (first.checked_add(index), size, before, rows.asked())
+    (first.checked_add(index), [size, before, rows.asked()])
+}
+
+fn symbol_in(row: Option<(usize, u8, u8)>) -> Option<usize> {
+    let (symbol, _, _) = row?;
+    Some(symbol)
 }
 
 #[test]
-fn the_search_asks_at_most_two_questions_of_four_rows(rt: HostRuntime) -> Result<(), Fail> {
-    let model = small(rt.alloc(), &WEIGHTS, false)?;
+fn the_search_asks_at_most_two_questions_of_four_rows(rt: HostRuntime) {
+    let model = small(&rt, rt.alloc());
     for (quantile, symbol) in [(2u8, 0usize), (3, 1), (20, 1), (21, 2), (22, 3), (63, 3)] {
         assert!(rt; quantile < 64);
-        let (answered, _, _) = row_of(&model, quantile)?;
-        let (found, size, before, asked) = searched(&model, quantile);
-        same_at(
-            &rt,
-            quantile,
-            (answered, found, size, before, asked <= 2),
-            (symbol, Some(symbol), 4, 0, true),
-        );
+        let row = row_of(&model, quantile);
+        same_at(&rt, quantile, symbol_in(row), Some(symbol));
+        let (found, [size, before, asked]) = searched(&model, quantile);
+        same_at(&rt, quantile, (found, size), (Some(symbol), 4));
+        same_at(&rt, quantile, (before, asked <= 2), (0, true));
     }
-    Ok(())
 }
 
 #[test]
-fn one_row_is_found_without_a_question(rt: HostRuntime) -> Result<(), Fail> {
-    let model = small(rt.alloc(), &[64], false)?;
-    same(
-        &rt,
-        (searched(&model, 63), row_of(&model, 63)?),
-        ((Some(0), 1, 0, 0), (0, 0, 64)),
-    );
-    Ok(())
+fn one_row_is_found_without_a_question(rt: HostRuntime) {
+    let model = made::<6>(&rt, rt.alloc(), &[64], false);
+    same(&rt, searched(&model, 63), (Some(0), [1, 0, 0]));
+    same(&rt, row_of(&model, 63), Some((0, 0, 64)));
 }
 
 /// Whether weights are accepted; they are not where they are an invalid table.
@@ -221,31 +232,25 @@ fn weights_are_accepted_at_the_full_width_exactly_where_they_tile(rt: HostRuntim
 }
 
 #[test]
-fn last_rows_at_the_full_width(rt: HostRuntime) -> Result<(), Fail> {
+fn last_rows_at_the_full_width(rt: HostRuntime) {
     let cases = [
         ([128u8, 128].as_slice(), false, (1usize, 128u8, 128u8)),
         ([200].as_slice(), true, (1, 200, 56)),
         ([255].as_slice(), true, (1, 255, 1)),
     ];
     for (weights, infer, row) in cases {
-        let model = full(rt.alloc(), weights, infer)?;
-        same(&rt, row_of(&model, 255)?, row);
+        let model = made::<8>(&rt, rt.alloc(), weights, infer);
+        same(&rt, row_of(&model, 255), Some(row));
     }
-    Ok(())
 }
 
 #[test]
-fn a_probe_of_256_rows_is_asked_at_most_8_questions(rt: HostRuntime) -> Result<(), Fail> {
-    let ones = vec![in rt.alloc(); 1u8; 256]?;
-    let model = full(rt.alloc(), &ones, false)?;
-    let (symbol, _, _) = row_of(&model, 200)?;
-    let (index, size, before, asked) = searched(&model, 200);
-    same(
-        &rt,
-        (symbol, index, size, before, asked >= 1, asked <= 8),
-        (200, Some(200), 256, 0, true, true),
-    );
-    Ok(())
+fn a_probe_of_256_rows_is_asked_at_most_8_questions(rt: HostRuntime) {
+    let model = made::<8>(&rt, rt.alloc(), &[1; 256], false);
+    same(&rt, row_of(&model, 200), Some((200, 200, 1)));
+    let (found, [size, before, asked]) = searched(&model, 200);
+    same(&rt, (found, size), (Some(200), 256));
+    same(&rt, (before, asked >= 1, asked <= 8), (0, true, true));
 }
 
 /// The symbol of a quantile and whether it has an entry, through the bounds alone.
@@ -280,36 +285,32 @@ where
 }
 
 #[test]
-fn a_model_is_used_through_bounds(rt: HostRuntime) -> Result<(), Fail> {
-    let model = small(rt.alloc(), &WEIGHTS, false)?;
+fn a_model_is_used_through_bounds(rt: HostRuntime) {
+    let model = small(&rt, rt.alloc());
     same(&rt, symbol_through_bounds(model, 3u8), Some(1));
-    Ok(())
 }
 
 #[test]
-fn a_reference_to_a_model_is_a_model(rt: HostRuntime) -> Result<(), Fail> {
-    let model = small(rt.alloc(), &WEIGHTS, false)?;
+fn a_reference_to_a_model_is_a_model(rt: HostRuntime) {
+    let model = small(&rt, rt.alloc());
     same(&rt, symbol_through_a_reference(&model, 21u8), Some(2));
-    Ok(())
 }
 
 #[test]
-fn a_reference_to_a_reference_is_a_model(rt: HostRuntime) -> Result<(), Fail> {
-    let model = small(rt.alloc(), &WEIGHTS, false)?;
+fn a_reference_to_a_reference_is_a_model(rt: HostRuntime) {
+    let model = small(&rt, rt.alloc());
     same(&rt, symbol_through_a_reference(&&model, 22u8), Some(3));
-    Ok(())
 }
 
 #[test]
-fn why_there_is_no_model_is_said_in_a_sentence(rt: HostRuntime) -> Result<(), Fail> {
+fn why_there_is_no_model_is_said_in_a_sentence(rt: HostRuntime) {
     let invalid = ModelError::InvalidTable;
     prints(
         &rt,
         rt.alloc(),
         &invalid,
         "The weights, or the symbols, are not accepted.",
-    )?;
+    );
     let refused = ModelError::OutOfMemory;
-    prints(&rt, rt.alloc(), &refused, "Memory was refused.")?;
-    Ok(())
+    prints(&rt, rt.alloc(), &refused, "Memory was refused.");
 }

@@ -9,8 +9,8 @@ ghost use Rattle.constriction.specs.Model.{row_of};
 ghost use Rattle.constriction.specs.Tables.{YieldsRow};
 ghost use Rattle.constriction.specs.Laws.{AnswerAlike};
 
-use crate::checks::same;
-use crate::models::contiguous::{Table, table};
+use crate::checks::{holds, same};
+use crate::models::contiguous::{Table, small};
 use constriction::laws::{
     contiguous_symbols_differ, equal_answers, pairs_are_quantiles, table_gives_all_rows,
     table_length,
@@ -188,23 +188,36 @@ fn count_letters() -> usize
 }
 
 #[test]
-fn quantiles_come_back_from_symbols_and_offsets(rt: HostRuntime) -> Result<(), Fail> {
-    let model = table::<6>(rt.alloc(), &[3, 18, 1, 42], false)?;
+fn quantiles_come_back_from_symbols_and_offsets(rt: HostRuntime) {
+    let model = small(&rt, rt.alloc());
     for quantile in 0..64u8 {
         same(&rt, back(&model, quantile), quantile);
     }
-    Ok(())
+}
+
+fn read_letters(alloc: Global) -> Result<Rows<ThreeLetters, 2>, AllocError> {
+    read_table(alloc, ThreeLetters)
+}
+
+/// By the model, and by a reference to it.
+fn read_letters_twice(
+    alloc: Global,
+) -> Result<(Rows<ThreeLetters, 2>, Rows<&'static ThreeLetters, 2>), AllocError> {
+    read_both(alloc, ThreeLetters, &ThreeLetters)
 }
 
 #[test]
 fn a_table_of_the_caller_is_read(rt: HostRuntime) -> Result<(), Fail> {
     same(&rt, count_letters(), 3);
-    let rows = read_table(rt.alloc(), ThreeLetters)?;
     let one = 1u8.into_nonzero_unchecked();
     let two = 2u8.into_nonzero_unchecked();
-    let expected = [(b'a', 0, one), (b'b', 1, two), (b'c', 3, one)];
-    same(&rt, rows.as_slice(), expected.as_slice());
-    let (rows, others) = read_both(rt.alloc(), ThreeLetters, &ThreeLetters)?;
-    same(&rt, rows.as_slice(), others.as_slice());
+    let rows = read_letters(rt.alloc())?;
+    holds(
+        &rt,
+        &rows,
+        &[(b'a', 0, one), (b'b', 1, two), (b'c', 3, one)],
+    );
+    let (rows, others) = read_letters_twice(rt.alloc())?;
+    holds(&rt, &rows, &others);
     Ok(())
 }

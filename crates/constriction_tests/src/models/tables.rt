@@ -3,39 +3,20 @@
 ghost use Rattle.std.specs.Prelude.{◌≡◌, ◌^◌, ◌<◌, ◌≤◌, length};
 
 use crate::checks::{same, same_at};
+use crate::models::contiguous::{Table, WEIGHTS, made, small};
+use crate::models::widths::{Model, model_of};
 use constriction::stream::model::{
-    ContiguousCategoricalEntropyModel, ContiguousSymbolTable, DecoderModel, EncoderModel,
-    IterableEntropyModel, ModelError, UniformModel, Weight, is_quantile,
+    ContiguousSymbolTable, DecoderModel, EncoderModel, IterableEntropyModel, UniformModel, Weight,
+    is_quantile,
 };
 use constriction_words::{BitArray, NonZeroBitArray};
-use std::alloc::{AllocError, Global};
+use std::alloc::AllocError;
+use std::iter::Rev;
 use std::process::Abort;
 use std::test::Fail;
 
-type Model<Word, const PRECISION: usize> = ContiguousCategoricalEntropyModel<
-    Word,
-    Vec<Word>,
-    PRECISION,
->;
-
 /// What a step of a walk gives.
 type Step<Word> = Option<Result<(usize, Word, Weight<Word>), AllocError>>;
-
-/// The model of weights in a slice.
-fn model_of<Word: BitArray, const PRECISION: usize>(
-    alloc: Global,
-    weights: &[Word],
-    infer_last: bool,
-) -> Result<Model<Word, PRECISION>, ModelError>
-    requires positive { 0 < PRECISION }
-    requires fits { PRECISION ≤ Word.BITS }
-{
-    Model::<Word, PRECISION>::from_nonzero_fixed_point_probabilities(
-        alloc,
-        weights.iter().copied(),
-        infer_last,
-    )
-}
 
 /// The row of a step, with its weight as a plain word.
 fn row<Word: BitArray>(step: Step<Word>) -> Option<(usize, Word, Word)> {
@@ -77,6 +58,17 @@ fn counts<Word: BitArray, const PRECISION: usize>(
     (size, count_items::<_, PRECISION>(model))
 }
 
+/// Stops the test where a row is not the one of the next symbol, or does not begin where the one before
+/// it ends. It gives the next symbol and the end of the row.
+fn follows(
+    rt: &impl Abort,
+    (expected, end): (usize, u64),
+    (symbol, left, weight): (usize, u8, u8),
+) -> (usize, u64) {
+    same(rt, (symbol, left as u64), (expected, end));
+    (expected.wrapping_add(1), end.wrapping_add(weight as u64))
+}
+
 /// Stops the test where the rows are not those of the symbols 0, 1, .. in order, each of which begins
 /// where the one before it ends, the last at 2^PRECISION.
 fn tile<M, const PRECISION: usize>(rt: &impl Abort, model: M)
@@ -85,22 +77,61 @@ where
     requires clones { M.clones_are_same }
     requires fits { PRECISION ≤ 8 }
 {
-    let mut expected = 0usize;
-    let mut end = 0u64;
+    let mut next = (0usize, 0u64);
     'rows: for item in model.symbol_table() {
-        let Some((symbol, left, weight)) = row(Some(item)) else {
-            return same_at(rt, expected, "a row", "no row");
+        let Some(found) = row(Some(item)) else {
+            return same_at(rt, next.0, "a row", "no row");
         };
-        same(rt, (symbol, left as u64), (expected, end));
-        expected = expected.wrapping_add(1);
-        end = end.wrapping_add(weight as u64);
+        next = follows(rt, next, found);
     }
-    same(rt, end, 1u64 << PRECISION);
+    same(rt, next.1, 1u64 << PRECISION);
 }
 
-/// Stops the test where a row of the table is not what the model answers for the row's symbol, and for
-/// the first, the middle and the last quantile of it.
-fn answers<M, const PRECISION: usize>(rt: &impl Abort, model: M)
+/// What a model answers for a symbol, as a row.
+fn entry<M, const PRECISION: usize>(model: &M, symbol: usize) -> Option<(usize, u8, u8)>
+where
+    M: EncoderModel<PRECISION, Symbol = usize, Probability = u8>,
+{
+    let (left, weight) = model.left_cumulative_and_probability(&symbol)?;
+    Some((symbol, left, weight.get()))
+}
+
+/// What a model answers for a word, where it is a quantile.
+fn look_up<M, const PRECISION: usize>(model: &M, quantile: u8) -> Option<(usize, u8, u8)>
+where
+    M: DecoderModel<PRECISION, Symbol = usize, Probability = u8>,
+    requires clones { M.clones_are_same }
+    requires positive { 0 < PRECISION }
+    requires fits { PRECISION ≤ 8 }
+{
+    if is_quantile::<u8, PRECISION>(quantile) {
+        row(Some(model.quantile_function(quantile)))
+    } else {
+        None
+    }
+}
+
+/// Stops the test where a row is not what the model answers for its symbol, and for the first, the
+/// middle and the last quantile of it.
+fn is_answered<M, const PRECISION: usize>(rt: &impl Abort, model: &M, expected: (usize, u8, u8))
+where
+    M: EncoderModel<PRECISION, Symbol = usize, Probability = u8> + DecoderModel<PRECISION>,
+    requires clones { M.clones_are_same }
+    requires positive { 0 < PRECISION }
+    requires fits { PRECISION ≤ 8 }
+{
+    let (symbol, left, weight) = expected;
+    same(rt, entry::<M, PRECISION>(model, symbol), Some(expected));
+    for offset in [0, weight / 2, weight.wrapping_sub(1)] {
+        let quantile = left.wrapping_add(offset);
+        let found = look_up::<M, PRECISION>(model, quantile);
+        same_at(rt, quantile, found, Some(expected));
+    }
+}
+
+/// Stops the test where the rows do not tile, as above, or where a row of the table is not what the
+/// model answers.
+fn tile_and_are_answered<M, const PRECISION: usize>(rt: &impl Abort, model: M)
 where
     M: IterableEntropyModel<PRECISION, Symbol = usize, Probability = u8>
         + EncoderModel<PRECISION>
@@ -111,23 +142,16 @@ where
     requires positive { 0 < PRECISION }
     requires fits { PRECISION ≤ 8 }
 {
+    let mut next = (0usize, 0u64);
     'rows: for item in model.symbol_table() {
-        let Some((symbol, left, weight)) = row(Some(item)) else {
+        let Some(found) = row(Some(item)) else {
             return same(rt, "a row", "no row");
         };
-        let entry = model.left_cumulative_and_probability(&symbol);
-        let answered = entry.map(|(left, weight)| (symbol, left, weight.get()));
-        same(rt, answered, Some((symbol, left, weight)));
-        for offset in [0, weight / 2, weight.wrapping_sub(1)] {
-            let quantile = left.wrapping_add(offset);
-            assert!(rt; is_quantile::<u8, PRECISION>(quantile));
-            let found = row(Some(model.quantile_function(quantile)));
-            same_at(rt, quantile, found, Some((symbol, left, weight)));
-        }
+        next = follows(rt, next, found);
+        is_answered::<M, PRECISION>(rt, &model, found);
     }
+    same(rt, next.1, 1u64 << PRECISION);
 }
-
-const WEIGHTS: [u8; 4] = [3, 18, 1, 42];
 
 /// Whether a step is from the back, how many rows are left before it, and the row that it gives.
 const STEPS: [(bool, usize, Option<(usize, u8, u8)>); 6] = [
@@ -139,24 +163,42 @@ const STEPS: [(bool, usize, Option<(usize, u8, u8)>); 6] = [
     (true, 0, None),
 ];
 
-#[test]
-fn both_ends_give_each_row_once(rt: HostRuntime) -> Result<(), Fail> {
-    let model = model_of::<u8, 6>(rt.alloc(), &WEIGHTS, false)?;
-    let mut table = model.symbol_table();
-    for (from_the_back, left, expected) in STEPS {
-        same(
-            &rt,
-            (rows_left(&table), table.size_hint()),
-            (left, (left, Some(left))),
-        );
-        let step = if from_the_back {
-            table.next_back()
-        } else {
-            table.next()
-        };
-        same_at(&rt, left, row(step), expected);
+type Walk<'m> = ContiguousSymbolTable<'m, u8, 6>;
+
+/// How many rows are left, as the table counts them and as its hint says.
+fn left(table: &Walk) -> (usize, (usize, Option<usize>)) {
+    (rows_left(table), table.size_hint())
+}
+
+/// The next row from an end.
+fn step(table: &mut Walk, from_the_back: bool) -> Option<(usize, u8, u8)> {
+    if from_the_back {
+        row(table.next_back())
+    } else {
+        row(table.next())
     }
-    Ok(())
+}
+
+#[test]
+fn both_ends_give_each_row_once(rt: HostRuntime) {
+    let model = small(&rt, rt.alloc());
+    let mut table = model.symbol_table();
+    for (from_the_back, rows, expected) in STEPS {
+        same(&rt, left(&table), (rows, (rows, Some(rows))));
+        same_at(&rt, rows, step(&mut table, from_the_back), expected);
+    }
+}
+
+type Backwards<'m> = Rev<ContiguousSymbolTable<'m, u64, 64>>;
+
+/// The rows from the last one to the first.
+fn backwards(model: &Model<u64, 64>) -> Backwards<'_> {
+    model.symbol_table().rev()
+}
+
+/// The next one of them.
+fn next_backwards(rows: &mut Backwards) -> Option<(usize, u64, u64)> {
+    row(rows.next())
 }
 
 #[test]
@@ -164,52 +206,69 @@ fn the_last_row_at_the_full_width_of_u64_is_given_from_the_back(
     rt: HostRuntime,
 ) -> Result<(), Fail> {
     let model = model_of::<u64, 64>(rt.alloc(), &[1 << 63, (1 << 63) - 1], true)?;
-    let mut backwards = model.symbol_table().rev();
+    let mut rows = backwards(&model);
     for expected in [
         Some((2, u64::MAX, 1)),
         Some((1, 1 << 63, (1 << 63) - 1)),
         Some((0, 0, 1 << 63)),
         None,
     ] {
-        same(&rt, row(backwards.next()), expected);
+        same(&rt, next_backwards(&mut rows), expected);
     }
     Ok(())
 }
 
+/// The rows of a reference tile and are what the model answers, and there are so many.
+fn reference_tiles(rt: &impl Abort, model: &Table<6>, count: usize) {
+    tile_and_are_answered::<_, 6>(rt, model);
+    same(rt, model.symbol_table().len(), count);
+}
+
+/// The rows of a reference to the reference tile, and there are so many.
+fn reference_to_it_tiles(rt: &impl Abort, model: &Table<6>, count: usize) {
+    tile::<_, 6>(rt, &model);
+    same(rt, (&model).symbol_table().len(), count);
+}
+
+/// As the first one, at the full width.
+fn full_reference_tiles(rt: &impl Abort, model: &Table<8>, count: usize) {
+    tile_and_are_answered::<_, 8>(rt, model);
+    same(rt, counts(model), (count, count));
+}
+
 #[test]
-fn rows_of_a_reference_and_of_a_reference_to_it_tile(rt: HostRuntime) -> Result<(), Fail> {
+fn rows_of_a_reference_and_of_a_reference_to_it_tile(rt: HostRuntime) {
     for (weights, infer_last, count) in [
         (WEIGHTS.as_slice(), false, 4),
         (&[], true, 1),
         (&[63], true, 2),
     ] {
-        let model = model_of::<u8, 6>(rt.alloc(), weights, infer_last)?;
-        tile::<_, 6>(&rt, &model);
-        tile::<_, 6>(&rt, &&model);
-        same(&rt, model.symbol_table().len(), count);
-        same(&rt, (&&model).symbol_table().len(), count);
+        let model = made::<6>(&rt, rt.alloc(), weights, infer_last);
+        reference_tiles(&rt, &model, count);
+        reference_to_it_tiles(&rt, &model, count);
     }
-    let full = model_of::<u8, 8>(rt.alloc(), &[200], true)?;
-    tile::<_, 8>(&rt, &full);
-    same(&rt, counts(&full), (2, 2));
-    Ok(())
+    let full = made::<8>(&rt, rt.alloc(), &[200], true);
+    full_reference_tiles(&rt, &full, 2);
+}
+
+/// The rows of a uniform model tile and are what it answers.
+fn uniform_tiles(rt: &impl Abort, model: UniformModel<u8, 6>) {
+    tile_and_are_answered::<_, 6>(rt, model);
+}
+
+/// The same at the full width, by a reference.
+fn full_uniform_tiles(rt: &impl Abort, model: &UniformModel<u8, 8>) {
+    tile_and_are_answered::<_, 8>(rt, model);
 }
 
 #[test]
-fn tables_are_what_their_models_answer(rt: HostRuntime) -> Result<(), Fail> {
-    let model = model_of::<u8, 6>(rt.alloc(), &WEIGHTS, false)?;
-    answers::<_, 6>(&rt, &model);
-    let full = model_of::<u8, 8>(rt.alloc(), &[200], true)?;
-    answers::<_, 8>(&rt, &full);
+fn tables_are_what_their_models_answer(rt: HostRuntime) {
+    reference_tiles(&rt, &small(&rt, rt.alloc()), 4);
+    full_reference_tiles(&rt, &made::<8>(&rt, rt.alloc(), &[200], true), 2);
     for range in [2, 3, 64] {
-        let uniform = UniformModel::<u8, 6>::new(range);
-        tile::<_, 6>(&rt, uniform);
-        answers::<_, 6>(&rt, uniform);
+        uniform_tiles(&rt, UniformModel::<u8, 6>::new(range));
     }
     for range in [2, 3, 255, 256] {
-        let uniform = UniformModel::<u8, 8>::new(range);
-        tile::<_, 8>(&rt, &uniform);
-        answers::<_, 8>(&rt, &uniform);
+        full_uniform_tiles(&rt, &UniformModel::<u8, 8>::new(range));
     }
-    Ok(())
 }

@@ -1,6 +1,6 @@
 //! Samples where only the bound of words is known, and as the probabilities of a model.
 
-ghost use Rattle.std.specs.Prelude.{◌≡◌, ◌/◌};
+ghost use Rattle.std.specs.Prelude.{◌≡◌, ◌/◌, ◌^◌, ◌<◌};
 
 use crate::checks::{prints, same, same_at, shows};
 use crate::own_word::Sample;
@@ -9,9 +9,12 @@ use crate::words::numbers::{
     half_way, held, lower, moved_up, remainder_of_product, wrapped, zero_is_refused,
 };
 use crate::words::weights::greatest_is_same_as;
-use constriction::stream::model::{ContiguousCategoricalEntropyModel, DecoderModel, EncoderModel};
+use constriction::stream::model::{
+    ContiguousCategoricalEntropyModel, DecoderModel, EncoderModel, ModelError,
+};
 use constriction_words::{BitArray, IndexWord, NonZeroBitArray};
 use num_traits::{PrimInt, cast};
+use std::alloc::Global;
 use std::process::Abort;
 use std::test::Fail;
 
@@ -213,19 +216,18 @@ fn checked<W: BitArray>(x: W) -> [Option<W>; 7] {
 }
 
 /// What stops at the greatest word and at the least, and the least word.
-fn saturated<W: BitArray>(x: W) -> (W, W, W) {
-    (
+fn saturated<W: BitArray>(x: W) -> [W; 3] {
+    [
         x.saturating_add(x),
         W::one().saturating_sub(x),
         W::min_value(),
-    )
+    ]
 }
 
-#[test]
-fn numbers_are_those_of_the_bits(rt: HostRuntime) {
+fn other_numbers(rt: &impl Abort) {
     for numbers in [as_numbers(Sample(0x8003)), as_numbers(0x8003u16)] {
         same(
-            &rt,
+            rt,
             numbers,
             (
                 false,
@@ -236,21 +238,18 @@ fn numbers_are_those_of_the_bits(rt: HostRuntime) {
             ),
         );
     }
+    same(rt, from_numbers(), (Some(0x8003u16), true, None));
+    same(rt, from_numbers(), (Some(Sample(0x8003)), true, None));
+}
+
+fn checked_numbers(rt: &impl Abort) {
     same(
-        &rt,
-        (from_numbers(), from_numbers()),
-        (
-            (Some(0x8003u16), true, None),
-            (Some(Sample(0x8003)), true, None),
-        ),
-    );
-    same(
-        &rt,
+        rt,
         checked(0x8003u16),
         [None, Some(0), None, Some(1), None, Some(0x8003), None],
     );
     same(
-        &rt,
+        rt,
         checked(Sample(0x8003)),
         [
             None,
@@ -262,51 +261,67 @@ fn numbers_are_those_of_the_bits(rt: HostRuntime) {
             None,
         ],
     );
+}
+
+fn saturated_numbers(rt: &impl Abort) {
+    same(rt, saturated(0x8003u16), [65535, 0, 0]);
     same(
-        &rt,
-        (saturated(0x8003u16), saturated(Sample(0x8003))),
-        ((65535, 0, 0), (Sample(65535), Sample(0), Sample(0))),
+        rt,
+        saturated(Sample(0x8003)),
+        [Sample(65535), Sample(0), Sample(0)],
     );
 }
 
 #[test]
-fn samples_are_shown_as_their_numbers(rt: HostRuntime) -> Result<(), Fail> {
+fn numbers_are_those_of_the_bits(rt: HostRuntime) {
+    other_numbers(&rt);
+    checked_numbers(&rt);
+    saturated_numbers(&rt);
+}
+
+#[test]
+fn samples_are_shown_as_their_numbers(rt: HostRuntime) {
     let sample = Sample(40);
     let held = NonZeroSample::new_unchecked(sample);
-    prints(&rt, rt.alloc(), &sample, "40")?;
-    shows(&rt, rt.alloc(), &sample, "Sample(40)")?;
+    prints(&rt, rt.alloc(), &sample, "40");
+    shows(&rt, rt.alloc(), &sample, "Sample(40)");
     shows(
         &rt,
         rt.alloc(),
         &held,
         "NonZeroSample { sample: Sample(40) }",
-    )?;
-    let wide = format!(in rt.alloc(); "{held:>4}")?;
+    );
+    let wide = format!(in rt.alloc(); "{held:>4}").expect(&rt, "memory was refused");
     same(&rt, wide.as_str(), "  40");
-    Ok(())
+}
+
+/// The symbol of a quantile.
+fn symbol_of(model: &Model, quantile: u16) -> Option<usize>
+    requires { quantile < 2 ^ 12 }
+{
+    let (symbol, _, _) = model.quantile_function(Sample(quantile)).ok()?;
+    Some(symbol)
+}
+
+/// The left cumulative and the weight of a symbol.
+fn entry_of(model: &Model, symbol: usize) -> Option<(Sample, Sample)> {
+    let (left, weight) = model.left_cumulative_and_probability(&symbol)?;
+    Some((left, weight.get()))
+}
+
+/// The model of these weights as samples.
+fn made(alloc: Global, weights: &[u16]) -> Result<Model, ModelError> {
+    Model::from_nonzero_fixed_point_probabilities(alloc, weights.iter().copied().map(Sample), false)
 }
 
 #[test]
 fn samples_are_the_probabilities_of_a_model(rt: HostRuntime) -> Result<(), Fail> {
-    let weights = [1u16, 1, 1, 1, 4092];
-    let model = Model::from_nonzero_fixed_point_probabilities(
-        rt.alloc(),
-        weights.into_iter().map(Sample),
-        false,
-    )?;
+    let model = made(rt.alloc(), &[1, 1, 1, 1, 4092])?;
     for (quantile, symbol) in [(3u16, 3usize), (4, 4), (4095, 4)] {
         assert!(rt; quantile < 4096);
-        let (found, _, _) = model.quantile_function(Sample(quantile))?;
-        same_at(&rt, quantile, found, symbol);
+        same_at(&rt, quantile, symbol_of(&model, quantile), Some(symbol));
     }
-    let entry = model.left_cumulative_and_probability(&4);
-    same(
-        &rt,
-        (
-            model.support_size(),
-            entry.map(|(left, weight)| (left, weight.get())),
-        ),
-        (5, Some((Sample(4), Sample(4092)))),
-    );
+    same(&rt, model.support_size(), 5);
+    same(&rt, entry_of(&model, 4), Some((Sample(4), Sample(4092))));
     Ok(())
 }

@@ -2,26 +2,24 @@
 
 ghost use Rattle.std.specs.Prelude.{◌≡◌, ◌+◌, ◌<◌};
 
-use crate::checks::{prints, same, shows};
+use crate::checks::{clone_of, prints, same, shows};
 use constriction_words::{
     CoderError, DefaultEncoderFrontendError, NanError, Queue, ReadWriteError, Semantics, Stack,
     UnwrapInfallible,
 };
 use std::convert::Infallible;
 use std::error::Error;
-use std::test::Fail;
 
 fn marker<S: Semantics>() -> S {
     S::default()
 }
 
 #[test]
-fn markers_have_a_default(rt: HostRuntime) -> Result<(), Fail> {
+fn markers_have_a_default(rt: HostRuntime) {
     let stack = marker::<Stack>();
     let queue = marker::<Queue>();
-    shows(&rt, rt.alloc(), &stack, "Stack")?;
-    shows(&rt, rt.alloc(), &queue, "Queue")?;
-    Ok(())
+    shows(&rt, rt.alloc(), &stack, "Stack");
+    shows(&rt, rt.alloc(), &queue, "Queue");
 }
 
 type Both = CoderError<DefaultEncoderFrontendError, NanError>;
@@ -30,7 +28,7 @@ fn is_an_error<E: Error>(_error: &E) {}
 
 /// What the text of an error is: of the front end, of the backend, and of one in the other.
 #[test]
-fn texts_say_which_side_failed(rt: HostRuntime) -> Result<(), Fail> {
+fn texts_say_which_side_failed(rt: HostRuntime) {
     let front: Both = CoderError::Frontend(DefaultEncoderFrontendError::ImpossibleSymbol);
     let back: Both = CoderError::from(NanError);
     is_an_error(&front);
@@ -40,21 +38,20 @@ fn texts_say_which_side_failed(rt: HostRuntime) -> Result<(), Fail> {
         &front,
         "Invalid compressed data: \
          Tried to encode symbol that has zero probability under the used entropy model.",
-    )?;
+    );
     prints(
         &rt,
         rt.alloc(),
         &back,
         "Error while reading compressed data: NaN encountered.",
-    )?;
+    );
     let nested: CoderError<u8, Both> = CoderError::Backend(back);
     prints(
         &rt,
         rt.alloc(),
         &nested,
         "Error while reading compressed data: Error while reading compressed data: NaN encountered.",
-    )?;
-    Ok(())
+    );
 }
 
 #[test]
@@ -90,11 +87,11 @@ fn fails(read_error: u8) -> Result<u8, CoderError<Infallible, u8>> {
 }
 
 #[test]
-fn errors_are_compared_and_cloned(rt: HostRuntime) -> Result<(), Fail> {
+fn errors_are_compared_and_cloned(rt: HostRuntime) {
     let back: CoderError<u8, u8> = CoderError::Backend(3);
     same(
         &rt,
-        (back.clone()?, fails(7), NanError.clone()?),
+        (clone_of(&rt, &back), fails(7), clone_of(&rt, &NanError)),
         (
             CoderError::Backend(3),
             Err(CoderError::Backend(7)),
@@ -112,11 +109,10 @@ fn errors_are_compared_and_cloned(rt: HostRuntime) -> Result<(), Fail> {
     let error = DefaultEncoderFrontendError::ImpossibleSymbol;
     same(
         &rt,
-        error.clone()?,
+        clone_of(&rt, &error),
         DefaultEncoderFrontendError::ImpossibleSymbol,
     );
-    shows(&rt, rt.alloc(), &error, "ImpossibleSymbol")?;
-    Ok(())
+    shows(&rt, rt.alloc(), &error, "ImpossibleSymbol");
 }
 
 #[test]
@@ -136,10 +132,10 @@ fn what_cannot_fail_is_unwrapped(rt: HostRuntime) {
 }
 
 #[test]
-fn a_failed_read_is_no_failed_write(rt: HostRuntime) -> Result<(), Fail> {
+fn a_failed_read_is_no_failed_write(rt: HostRuntime) {
     let read: ReadWriteError<u8, u8> = ReadWriteError::Read(3);
     let copied = read;
-    same(&rt, copied, read.clone()?);
+    same(&rt, copied, clone_of(&rt, &read));
     same(
         &rt,
         [
@@ -148,8 +144,7 @@ fn a_failed_read_is_no_failed_write(rt: HostRuntime) -> Result<(), Fail> {
         ],
         [true, true],
     );
-    shows(&rt, rt.alloc(), &read, "Read(3)")?;
+    shows(&rt, rt.alloc(), &read, "Read(3)");
     let write: ReadWriteError<u8, u8> = ReadWriteError::Write(4);
-    shows(&rt, rt.alloc(), &write, "Write(4)")?;
-    Ok(())
+    shows(&rt, rt.alloc(), &write, "Write(4)");
 }

@@ -4,7 +4,6 @@ ghost use Rattle.std.specs.Prelude.{◌≡◌, ◌+◌, ◌-◌, ◌*◌, ◌/�
 
 use crate::checks::same;
 use constriction_words::{BitArray, IndexWord, NonZeroBitArray};
-use std::process::Abort;
 
 /// The sum of two words.
 fn plus<P: BitArray>(a: P, b: P) -> P
@@ -117,18 +116,14 @@ pub fn zero_is_refused<P: BitArray>() -> (bool, bool, bool) {
     )
 }
 
-fn wraps<P: BitArray>(rt: &impl Abort, zero: P, one: P, greatest: P) {
-    same(rt, wrapped(), (zero, greatest, one));
-}
-
 #[test]
 fn wrapping_calls_are_modulo_the_width(rt: HostRuntime) {
-    wraps(&rt, 0, 1, u8::MAX);
-    wraps(&rt, 0, 1, u16::MAX);
-    wraps(&rt, 0, 1, u32::MAX);
-    wraps(&rt, 0, 1, u64::MAX);
-    wraps(&rt, 0, 1, usize::MAX);
-    wraps(&rt, 0, 1, u128::MAX);
+    same(&rt, wrapped(), (0, u8::MAX, 1));
+    same(&rt, wrapped(), (0, u16::MAX, 1));
+    same(&rt, wrapped(), (0, u32::MAX, 1));
+    same(&rt, wrapped(), (0, u64::MAX, 1));
+    same(&rt, wrapped(), (0, usize::MAX, 1));
+    same(&rt, wrapped(), (0, u128::MAX, 1));
     same(
         &rt,
         (
@@ -139,19 +134,24 @@ fn wrapping_calls_are_modulo_the_width(rt: HostRuntime) {
     );
 }
 
-fn is_nonzero_unless_0<P: BitArray>(rt: &impl Abort, one: P, greatest: P) {
-    same(rt, zero_is_refused::<P>(), (true, true, true));
-    same(rt, held(), Some((one, greatest, greatest, one, one)));
-}
-
 #[test]
 fn a_word_is_nonzero_unless_it_is_0(rt: HostRuntime) {
-    is_nonzero_unless_0(&rt, 1, u8::MAX);
-    is_nonzero_unless_0(&rt, 1, u16::MAX);
-    is_nonzero_unless_0(&rt, 1, u32::MAX);
-    is_nonzero_unless_0(&rt, 1, u64::MAX);
-    is_nonzero_unless_0(&rt, 1, usize::MAX);
-    is_nonzero_unless_0(&rt, 1, u128::MAX);
+    for refused in [
+        zero_is_refused::<u8>(),
+        zero_is_refused::<u16>(),
+        zero_is_refused::<u32>(),
+        zero_is_refused::<u64>(),
+        zero_is_refused::<usize>(),
+        zero_is_refused::<u128>(),
+    ] {
+        same(&rt, refused, (true, true, true));
+    }
+    same(&rt, held(), Some((1, u8::MAX, u8::MAX, 1, 1)));
+    same(&rt, held(), Some((1, u16::MAX, u16::MAX, 1, 1)));
+    same(&rt, held(), Some((1, u32::MAX, u32::MAX, 1, 1)));
+    same(&rt, held(), Some((1, u64::MAX, u64::MAX, 1, 1)));
+    same(&rt, held(), Some((1, usize::MAX, usize::MAX, 1, 1)));
+    same(&rt, held(), Some((1, u128::MAX, u128::MAX, 1, 1)));
 }
 
 #[test]

@@ -23,33 +23,59 @@ fn way_up<N: WholeNumber>(from: N, to: N) -> N
     to.wrapping_minus(from)
 }
 
+/// How far 3 and 250 are apart, and how far it is up from one to the other.
+fn ways() -> [u8; 4] {
+    [
+        distance(3, 250),
+        distance(250, 3),
+        way_up(3, 250),
+        way_up(250, 3),
+    ]
+}
+
+/// Powers of 2 and greatest numbers of a byte.
+fn powers() -> [u8; 4] {
+    [
+        u8::wrapping_pow2(7),
+        u8::wrapping_pow2(8),
+        u8::greatest(8),
+        u8::greatest(1),
+    ]
+}
+
+/// A sum, a difference, a product, a quotient and a number as a byte.
+fn results() -> [u8; 5] {
+    [
+        200u8.plus(55),
+        200u8.minus(55),
+        15u8.times(17),
+        255u8.divided_by(16),
+        u8::from_number(255),
+    ]
+}
+
+/// Which words are at an end, and how two are ordered.
+fn orders() -> [bool; 7] {
+    [
+        u128::least().is_least(),
+        1u128.is_least(),
+        255u8.is_greatest(),
+        254u8.is_greatest(),
+        3u64.is_at_most(3),
+        4u64.is_at_most(3),
+        3usize.is_below(3),
+    ]
+}
+
 #[test]
 fn words_are_whole_numbers(rt: HostRuntime) {
-    same(
-        &rt,
-        [
-            distance(3u8, 250),
-            distance(250, 3),
-            way_up(3, 250),
-            way_up(250, 3),
-            u8::wrapping_pow2(7),
-            u8::wrapping_pow2(8),
-            u8::greatest(8),
-            u8::greatest(1),
-            200u8.plus(55),
-            200u8.minus(55),
-        ],
-        [247, 247, 247, 9, 128, 0, 255, 1, 255, 145],
-    );
+    same(&rt, ways(), [247, 247, 247, 9]);
+    same(&rt, powers(), [128, 0, 255, 1]);
+    same(&rt, results(), [255, 145, 255, 15, 255]);
     same(
         &rt,
         (u16::greatest(12), u32::wrapping_pow2(24)),
         (4095, 16777216),
-    );
-    same(
-        &rt,
-        [15u8.times(17), 255u8.divided_by(16), u8::from_number(255)],
-        [255, 15, 255],
     );
     same(
         &rt,
@@ -58,15 +84,7 @@ fn words_are_whole_numbers(rt: HostRuntime) {
     );
     same(
         &rt,
-        [
-            u128::least().is_least(),
-            1u128.is_least(),
-            255u8.is_greatest(),
-            254u8.is_greatest(),
-            3u64.is_at_most(3),
-            4u64.is_at_most(3),
-            3usize.is_below(3),
-        ],
+        orders(),
         [true, false, true, false, true, false, false],
     );
 }

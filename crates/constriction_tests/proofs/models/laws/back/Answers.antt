@@ -1,41 +1,48 @@
-use Rattle.std.proofs.Common.{◌≡◌, ℕ, Option, Some, None, refl, ap, arith}
+use Rattle.std.proofs.Common.{◌≡◌, ℕ, List, Some, None, refl, ap, arith}
+use Rattle.std.specs.Prelude.{nat_eq}
 use Rattle.std.specs.Cmp.{nat_eq_equiv, partial_equiv_from_equiv}
+use Rattle.std.specs.List.{IsDistinct}
+use Rattle.constriction.specs.Rows.{Row, IsRowOf, entry_of}
+use Rattle.constriction.specs.Laws.{PairsAreQuantiles, symbols_of}
 use Rattle.constriction_tests.proofs.models.laws.back.Goals as goal
 
--- two entries that are one begin at one place
-same-left : (a b l w : ℕ) (o : Option (ℕ × ℕ)) → Some (a, b) ≡ o → o ≡ Some (l, w) → a ≡ l
-same-left a b l w o e f =
-    let pair : ◌≡◌ {A = ℕ × ℕ} (a, b) (l, w) = cc in
-    ap (λ (x : ℕ × ℕ). x.0) pair
+module _ {Model : Type 0} (precision : ℕ) (rows : Model → List (Row ℕ)) (m : Model) (q : ℕ) (r : Row ℕ)
+    (law : PairsAreQuantiles nat_eq precision rows rows) (differ : IsDistinct nat_eq (symbols_of (rows m)))
+    (found : IsRowOf (rows m) q r) where
+  -- the symbol of a quantile's row has the entry of the row
+  its-entry : entry_of nat_eq (rows m) r.symbol ≡ Some (r.left, r.weight)
+  its-entry = ((law (partial_equiv_from_equiv nat_eq_equiv) m m differ (λ s. refl)).there q r found).0
 
-no-entry : (l w : ℕ) (o : Option (ℕ × ℕ)) → None ≡ o → o ≡ Some (l, w) → ⊥
-no-entry l w o e f = cc
+  no-entry : None ≡ entry_of nat_eq (rows m) r.symbol → ⊥
+  no-entry e = let f = its-entry in cc
+
+  -- two entries that are one begin at one place
+  same-left : (a b : ℕ) → Some (a, b) ≡ entry_of nat_eq (rows m) r.symbol → a ≡ r.left
+  same-left a b e =
+      let f = its-entry in
+      let pair : ◌≡◌ {A = ℕ × ℕ} (a, b) (r.left, r.weight) = cc in
+      ap (λ (x : ℕ × ℕ). x.0) pair
 
 pub unreachable-requires-in-None : goal.unreachable-requires-in-None
 unreachable-requires-in-None c =
-    let law = c.pairs_are_quantiles.ensures (partial_equiv_from_equiv nat_eq_equiv) c.args.model.now c.args.model.now
-    (c.contiguous_symbols_differ.ensures _) (λ s. refl) in
-    no-entry _ _ _ c.in-None.ensures (law.there c.args.quantile _ c.in-Ok.ensures.row).0
+    no-entry 6 _ c.args.model.now c.args.quantile _ c.pairs_are_quantiles.ensures (c.contiguous_symbols_differ.ensures _)
+    c.in-Ok.ensures.row c.in-None.ensures
 
 pub returns : goal.returns
 returns c =
-    let law = c.pairs_are_quantiles.ensures (partial_equiv_from_equiv nat_eq_equiv) c.args.model.now c.args.model.now
-    (c.contiguous_symbols_differ.ensures _) (λ s. refl) in
     omega (
       arith,
       c.in-Ok.ensures.row.from,
-      same-left _ _ _ _ _ c.in-Some.ensures
-          (law.there c.args.quantile _ c.in-Ok.ensures.row).0,
+      same-left 6 _ c.args.model.now c.args.quantile _ c.pairs_are_quantiles.ensures (c.contiguous_symbols_differ.ensures _)
+          c.in-Ok.ensures.row _ _ c.in-Some.ensures,
     )
 
 pub overflow_add-result : goal.overflow_add-result
 overflow_add-result c =
-    let law = c.pairs_are_quantiles.ensures (partial_equiv_from_equiv nat_eq_equiv) c.args.model.now c.args.model.now
-    (c.contiguous_symbols_differ.ensures _) (λ s. refl) in
     omega (
       arith,
       c.ranges.quantile,
       c.in-Ok.ensures.row.from,
-      same-left _ _ _ _ _ c.in-Some.ensures
-          (law.there c.args.quantile _ c.in-Ok.ensures.row).0,
+      same-left 6 _ c.args.model.now c.args.quantile _ c.pairs_are_quantiles.ensures (c.contiguous_symbols_differ.ensures _)
+          c.in-Ok.ensures.row _ _ c.in-Some.ensures,
     )

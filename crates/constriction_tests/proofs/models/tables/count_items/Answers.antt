@@ -13,17 +13,24 @@ rows-init g c =
 
 pub overflow_add-count : goal.overflow_add-count
 overflow_add-count g c =
-    let step = g.met.M.IterableEntropyModel.steps_law c.requires.clones _ _ _ c.in-Some.ensures.steps in
-    let below : c.rows.count + 1 < 2 ^ 64 = omega (arith, one-fewer _ _ step.1, c.rows.invariant.2, c.requires.few) in
+    let step = g.met.M.IterableEntropyModel.steps_law c.requires.clones c.rows._row-iterator _ c.next.new.self
+    c.in-Some.ensures.steps in
+    let fewer = one-fewer (g.M.IterableEntropyModel.rows_left c.rows._row-iterator)
+    (g.M.IterableEntropyModel.rows_left c.next.new.self) step.1 in
+    let below : c.rows.count + 1 < 2 ^ 64 = omega (arith, fewer, c.rows.invariant.2, c.requires.few) in
     search rules
 
 pub rows-preserved : goal.rows-preserved
 rows-preserved g c =
-    let step = g.met.M.IterableEntropyModel.steps_law c.requires.clones _ _ _ c.in-Some.ensures.steps in
+    let step = g.met.M.IterableEntropyModel.steps_law c.requires.clones c.rows._row-iterator _ c.next.new.self
+    c.in-Some.ensures.steps in
+    let fewer = one-fewer (g.M.IterableEntropyModel.rows_left c.rows._row-iterator)
+    (g.M.IterableEntropyModel.rows_left c.next.new.self) step.1 in
     let next = c.in-Some.ensures.goes.on c.rows.invariant.1 in
-    (next.0, next.1, omega (arith, one-fewer _ _ step.1, c.rows.invariant.2))
+    (next.0, next.1, omega (arith, fewer, c.rows.invariant.2))
 
 pub returns : goal.returns
 returns g c =
-    let step = g.met.M.IterableEntropyModel.steps_law c.requires.clones _ _ _ c.in-None.ensures.steps in
+    let step = g.met.M.IterableEntropyModel.steps_law c.requires.clones c.rows._row-iterator _ c.next.new.self
+    c.in-None.ensures.steps in
     omega (arith, ap length step.0, c.rows.invariant.2)
