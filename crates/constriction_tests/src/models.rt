@@ -1,8 +1,13 @@
 //! Entropy models and the counted search, over worked tables and a caller's own.
 
+pub mod any_symbols;
 pub mod contiguous;
+pub mod conversions;
 mod laws;
+mod own_model;
+mod refused_memory;
 mod search;
-mod tables;
-mod uniform;
+mod symbol_types;
+pub mod tables;
+pub mod uniform;
 mod widths;

@@ -81,7 +81,7 @@ pub fn row_of<const PRECISION: usize>(
 }
 
 /// The entry of a symbol with its weight as a plain word.
-fn entry_of(model: &Small, symbol: usize) -> Option<(u8, u8)> {
+pub fn entry_of(model: &Table<6>, symbol: usize) -> Option<(u8, u8)> {
     let (left, weight) = model.left_cumulative_and_probability(&symbol)?;
     Some((left, weight.get()))
 }

@@ -71,7 +71,7 @@ fn follows(
 
 /// Stops the test where the rows are not those of the symbols 0, 1, .. in order, each of which begins
 /// where the one before it ends, the last at 2^PRECISION.
-fn tile<M, const PRECISION: usize>(rt: &impl Abort, model: M)
+pub fn tile<M, const PRECISION: usize>(rt: &impl Abort, model: M)
 where
     M: IterableEntropyModel<PRECISION, Symbol = usize, Probability = u8>,
     requires clones { M.clones_are_same }

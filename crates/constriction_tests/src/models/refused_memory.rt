@@ -1,0 +1,88 @@
+//! What the calls that make models of any symbols answer where memory is refused: a model, or
+//! `OutOfMemory`. `rt try --test --fail-alloc N` refuses the Nth request.
+
+use crate::checks::same;
+use crate::models::any_symbols::{
+    Decoder, Encoder, ROWS, SYMBOLS, WEIGHTS, decoder, decodes, encodes,
+};
+use crate::models::conversions::made;
+use constriction::stream::model::ModelError;
+use std::alloc::{AllocError, Global};
+use std::process::Abort;
+
+/// Stops the test where the answer is neither a model of the rows nor a refusal of memory.
+fn is_decoder(rt: &impl Abort, made: &Result<Decoder<6>, ModelError>) {
+    match made {
+        Ok(model) => decodes(rt, model, &ROWS),
+        Err(error) => same(rt, error, &ModelError::OutOfMemory),
+    }
+}
+
+/// The same of an encoder's model.
+fn is_encoder(rt: &impl Abort, made: &Result<Encoder<6>, ModelError>) {
+    match made {
+        Ok(model) => encodes(rt, model, &ROWS),
+        Err(error) => same(rt, error, &ModelError::OutOfMemory),
+    }
+}
+
+/// The decoder's model of letters that do not announce how many they are, so that its entries grow.
+fn grown_decoder(alloc: Global) -> Result<Decoder<6>, ModelError> {
+    Decoder::from_symbols_and_nonzero_fixed_point_probabilities(
+        alloc,
+        "axcy".chars(),
+        WEIGHTS,
+        false,
+    )
+}
+
+/// The same of an encoder's model.
+fn grown_encoder(alloc: Global) -> Result<Encoder<6>, ModelError> {
+    Encoder::from_symbols_and_nonzero_fixed_point_probabilities(
+        alloc,
+        "axcy".chars(),
+        WEIGHTS,
+        false,
+    )
+}
+
+#[test]
+fn a_refusal_of_memory_leaves_no_decoder(rt: HostRuntime) {
+    let made = grown_decoder(rt.alloc());
+    is_decoder(&rt, &made);
+    let Ok(model) = made else {
+        return;
+    };
+    match model.clone() {
+        Ok(clone) => decodes(&rt, &clone, &ROWS),
+        Err(error) => same(&rt, error, AllocError),
+    }
+    decodes(&rt, &model, &ROWS);
+}
+
+#[test]
+fn a_refusal_of_memory_leaves_no_encoder(rt: HostRuntime) {
+    let made = grown_encoder(rt.alloc());
+    is_encoder(&rt, &made);
+    let Ok(model) = made else {
+        return;
+    };
+    match model.clone() {
+        Ok(clone) => encodes(&rt, &clone, &ROWS),
+        Err(error) => same(&rt, error, AllocError),
+    }
+    encodes(&rt, &model, &ROWS);
+}
+
+#[test]
+fn a_refusal_of_memory_leaves_the_model_that_others_are_made_from(rt: HostRuntime) {
+    let Ok(model) = decoder::<6>(rt.alloc(), &SYMBOLS, &WEIGHTS, false) else {
+        return;
+    };
+    let (by_function, by_method) = made::<_, 6>(rt.alloc(), &model);
+    is_decoder(&rt, &by_function.0);
+    is_encoder(&rt, &by_function.1);
+    is_decoder(&rt, &by_method.0);
+    is_encoder(&rt, &by_method.1);
+    decodes(&rt, &model, &ROWS);
+}
