@@ -1,6 +1,6 @@
 //! Models of any symbols, over worked tables.
 
-ghost use Rattle.std.specs.Prelude.{◌^◌, ◌<◌, ◌≤◌};
+ghost use Rattle.std.specs.Prelude.{◌<◌, ◌≤◌};
 
 use crate::checks::{same, same_at};
 use constriction::stream::model::{

@@ -2,7 +2,7 @@
 
 ghost use Rattle.std.specs.Prelude.{◌^◌, ◌<◌, ◌≤◌};
 
-use crate::checks::{same, same_at};
+use crate::checks::same_at;
 use crate::models::any_symbols::{self, ROWS, SYMBOLS, WEIGHTS, decodes, encodes, plain_entry};
 use crate::models::contiguous::{Table, entry_of, row_of, table};
 use crate::models::tables::tile;

@@ -1,7 +1,7 @@
 //! A model of the caller: its rows, what it answers for a symbol, the walk through its rows, and what
 //! the caller knows of the models that are made from it.
 
-ghost use Rattle.std.specs.Prelude.{◌≡◌, ◌<◌, ◌≤◌, ◌-◌, ◌∷◌, [], nat_eq, drop, IfOk, IsErr, ⊤};
+ghost use Rattle.std.specs.Prelude.{◌≡◌, ◌<◌, ◌-◌, ◌∷◌, [], nat_eq, drop, IfOk, IsErr, ⊤};
 ghost use Rattle.std.specs.Iterator.{at_most};
 ghost use Rattle.std.proofs.Common.{eq-eqb, refl, rules};
 ghost use Rattle.std.proofs.lemmas.Grind.{common_steps};

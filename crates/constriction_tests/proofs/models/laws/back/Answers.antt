@@ -2,8 +2,8 @@ use Rattle.std.proofs.Common.{◌≡◌, ℕ, List, Some, None, refl, ap, arith}
 use Rattle.std.specs.Prelude.{nat_eq}
 use Rattle.std.specs.Cmp.{nat_eq_equiv, partial_equiv_from_equiv}
 use Rattle.std.specs.List.{IsDistinct}
-use Rattle.constriction.specs.Rows.{Row, IsRowOf, entry_of}
-use Rattle.constriction.specs.Laws.{PairsAreQuantiles, symbols_of}
+use Rattle.constriction.specs.Rows.{Row, IsRowOf, entry_of, symbols_of}
+use Rattle.constriction.specs.Laws.{PairsAreQuantiles}
 use Rattle.constriction_tests.proofs.models.laws.back.Goals as goal
 
 module _ {Model : Type 0} (precision : ℕ) (rows : Model → List (Row ℕ)) (m : Model) (q : ℕ) (r : Row ℕ)
