@@ -21,7 +21,7 @@ use std::process::Abort;
 /// A model of three letters, which may be the same: the first has the quantiles 0 and 1, the second 2 to
 /// 6, the third 7.
 #[derive(Drop)]
-struct Triple {
+pub struct Triple {
     first: char,
     second: char,
     third: char,
@@ -59,7 +59,7 @@ impl EncoderModel<3> for Triple {
 
 /// The walk through the rows of such a model, from the one at `next` on.
 #[derive(Drop)]
-struct TripleTable<'m> {
+pub struct TripleTable<'m> {
     model: &'m Triple,
     next: usize,
 }
@@ -123,7 +123,7 @@ fn decoder_of(alloc: Global, model: &Triple) -> Result<Decoder<char, 3>, ModelEr
 }
 
 /// The model of these letters.
-fn three(first: char, second: char, third: char) -> Triple {
+pub fn three(first: char, second: char, third: char) -> Triple {
     Triple {
         first,
         second,
@@ -162,7 +162,7 @@ fn two_rows_of_one_letter_make_an_encoder_and_no_decoder(rt: HostRuntime) {
 }
 
 /// Stops the test where the model has not these rows.
-fn has_rows(rt: &impl Abort, model: &Decoder<char, 3>, rows: [Row; 3]) {
+pub fn has_rows(rt: &impl Abort, model: &Decoder<char, 3>, rows: [Row; 3]) {
     let mut table = model.symbol_table();
     for row in rows {
         same(rt, table.next().map(plain), Some(Ok(row)));

@@ -6,6 +6,7 @@ use crate::models::any_symbols::{
     Decoder, Encoder, ROWS, SYMBOLS, WEIGHTS, decoder, decodes, encodes,
 };
 use crate::models::conversions::made;
+use crate::models::own_model::{has_rows, three};
 use constriction::stream::model::ModelError;
 use std::alloc::{AllocError, Global};
 use std::process::Abort;
@@ -85,4 +86,22 @@ fn a_refusal_of_memory_leaves_the_model_that_others_are_made_from(rt: HostRuntim
     is_decoder(&rt, &by_method.0);
     is_encoder(&rt, &by_method.1);
     decodes(&rt, &model, &ROWS);
+}
+
+/// The table of this model announces no row, so that what is made of it grows.
+#[test]
+fn a_refusal_of_memory_leaves_a_model_of_the_caller(rt: HostRuntime) {
+    let (by_function, by_method) = made::<_, 3>(rt.alloc(), &three('p', 'q', 'r'));
+    for made in [by_function.0, by_method.0] {
+        match made {
+            Ok(model) => has_rows(&rt, &model, [('p', 0, 2), ('q', 2, 5), ('r', 7, 1)]),
+            Err(error) => same(&rt, error, ModelError::OutOfMemory),
+        }
+    }
+    for made in [by_function.1, by_method.1] {
+        match made {
+            Ok(model) => same(&rt, model.support_size(), 3),
+            Err(error) => same(&rt, error, ModelError::OutOfMemory),
+        }
+    }
 }
