@@ -12,7 +12,9 @@ use constriction::stream::model::{
 };
 use constriction_backends::{BoundedWriteError, Cursor};
 use constriction_client::QuantileFault;
-use constriction_client::laws::{CursorFault, there_and_back_in_a_cursor, there_and_back_of_two};
+use constriction_client::laws::{
+    CursorFault, decoder_and_encoder, there_and_back_in_a_cursor, there_and_back_of_two,
+};
 use constriction_words::{BitArray, CoderError, Pos, ReadWriteError, Seek};
 use std::alloc::{AllocError, Global};
 use std::process::Abort;
@@ -281,4 +283,30 @@ fn an_encoder_that_is_no_decoder_writes_for_one(rt: HostRuntime) -> Result<(), F
     same(&rt, letters_come_back(rt.alloc(), &items, &mut words), true);
     same(&rt, words, [3, 2]);
     Ok(())
+}
+
+/// Items there and back through a stack, by the decoder and the encoder that are made of one model.
+fn by_models_made_of(
+    alloc: Global,
+    model: &Small,
+    items: &[(usize, u8)],
+) -> Result<Items, CoderError<QuantileFault, AllocError>> {
+    match decoder_and_encoder::<_, 6>(alloc, model) {
+        Ok((decoder, encoder)) => there_and_back_of_two(alloc, &decoder, &encoder, items),
+        Err(_) => Err(CoderError::Backend(AllocError)),
+    }
+}
+
+#[test]
+fn items_come_back_by_two_models_made_of_one(rt: HostRuntime) {
+    let model = small(rt.alloc(), &[3, 18, 1, 42]).expect(&rt, "accepted");
+    let items = [(0, 2), (3, 41), (1, 0)];
+    let back = by_models_made_of(rt.alloc(), &model, &items).expect(&rt, "items");
+    same(&rt, back.as_slice(), &[(1, 0), (3, 41), (0, 2)]);
+    let none = by_models_made_of(rt.alloc(), &model, &[(4, 0)]).err();
+    same(
+        &rt,
+        none,
+        Some(CoderError::Frontend(QuantileFault::ImpossibleSymbol)),
+    );
 }

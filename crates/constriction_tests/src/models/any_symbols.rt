@@ -3,11 +3,13 @@
 ghost use Rattle.std.specs.Prelude.{◌<◌, ◌≤◌};
 
 use crate::checks::{same, same_at};
+use constriction::laws::{non_contiguous_symbols_differ, symbols_and_weights_rebuild};
 use constriction::stream::model::{
     DecoderModel, DefaultNonContiguousCategoricalDecoderModel,
     DefaultNonContiguousCategoricalEncoderModel, EncoderModel, IterableEntropyModel, ModelError,
-    NonContiguousCategoricalDecoderModel, NonContiguousCategoricalEncoderModel,
+    NonContiguousCategoricalDecoderModel, NonContiguousCategoricalEncoderModel, Probe,
     SmallNonContiguousCategoricalDecoderModel, SmallNonContiguousCategoricalEncoderModel, Weight,
+    row_of_quantile,
 };
 use constriction_words::NonZeroBitArray;
 use std::alloc::{AllocError, Global};
@@ -335,4 +337,22 @@ fn small_models_of_letters(rt: HostRuntime) {
         .expect(&rt, "accepted")
         .left_cumulative_and_probability(&'x');
     same(&rt, entry, Some((left, weight)));
+}
+
+/// Where the search of a probe says that the row of a quantile is, and how often it asked.
+fn searched(model: &Decoder<6>, quantile: u8) -> (usize, usize, usize)
+    requires { quantile < 64 }
+{
+    let (first, mut rows) = model.quantile_probe(quantile);
+    let found = row_of_quantile(&mut rows, quantile);
+    (first, found, rows.asked())
+}
+
+#[test]
+fn a_search_among_letters_asks_two_questions(rt: HostRuntime) {
+    let model = decoder::<6>(rt.alloc(), &SYMBOLS, &WEIGHTS, false).expect(&rt, "accepted");
+    same(&rt, searched(&model, 21), (0, 2, 2));
+    same(&rt, searched(&model, 63), (0, 3, 2));
+    symbols_and_weights_rebuild::<&Decoder<6>, 6>();
+    non_contiguous_symbols_differ::<char, u8, Vec<(u8, char)>, 6>();
 }
