@@ -1,4 +1,4 @@
-use Rattle.std.proofs.Common.{◌≡◌, ◌+◌, ◌-◌, ◌<◌, ◌≤◌, length, map, refl, arith}
+use Rattle.std.proofs.Common.{◌<◌, refl, arith}
 use Rattle.constriction.specs.Tables.{rows_paired}
 use Rattle.constriction.proofs.StepLemmas.{none-between, fewer-first}
 use Rattle.constriction.proofs.PairedLemmas.{paired-first}
