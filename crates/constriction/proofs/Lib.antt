@@ -7,6 +7,9 @@ mod HashLemmas
 mod PairedLemmas
 mod ProbeLemmas
 mod ReadLemmas
+mod SlotFilling
+mod SlotLemmas
 mod StepLemmas
 mod TableLemmas
+mod TileLemmas
 mod UniformLemmas

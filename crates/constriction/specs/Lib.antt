@@ -9,6 +9,8 @@ pub mod Probe
 pub mod RowLemmas
 pub mod Rows
 pub mod Searching
+pub mod SlotTable
+pub mod Slots
 pub mod Stored
 pub mod StoredLemmas
 pub mod StoredRowLemmas

@@ -6,10 +6,10 @@ ghost use Rattle.constriction.specs.Laws.{PairsAreQuantiles, ContiguousSymbolsDi
 
 use crate::stream::model::{
     DecoderModel, EncodesOver, EntropyModel, IterableEntropyModel,
-    NonContiguousCategoricalDecoderModel,
+    NonContiguousCategoricalDecoderModel, NonContiguousLookupDecoderModel,
 };
 use constriction_backends::SafeBuf;
-use constriction_words::BitArray;
+use constriction_words::{BitArray, IndexWord};
 
 /// Steps of a symbol table give the first of the rows that it has yet to give, in order, and leave
 /// the others. Where memory for a clone of a symbol is refused, the refusal stands in the row's
@@ -66,7 +66,7 @@ where
     ensures { PairsAreQuantiles E.symbol_eq PRECISION D.rows E.rows }
 {}
 
-/// No two symbols of a contiguous model are equal, and so of a uniform one.
+/// No two symbols of a contiguous model are equal, whether it searches or looks up, and so of a uniform one.
 pub fn contiguous_symbols_differ()
     ensures { ContiguousSymbolsDiffer }
 {}
@@ -80,6 +80,23 @@ where
     Cdf: SafeBuf<(Probability, Symbol)>,
     ensures { SymbolsDiffer Symbol.eq
         ⟦<NonContiguousCategoricalDecoderModel<Symbol, Probability, Cdf, PRECISION> as EntropyModel<PRECISION>>⟧.rows }
+{}
+
+/// The same of a lookup model over any symbols.
+pub fn non_contiguous_lookup_symbols_differ<
+    Symbol,
+    Probability,
+    Cdf,
+    LookupTable,
+    const PRECISION: usize,
+>()
+where
+    Symbol: Eq,
+    Probability: IndexWord,
+    Cdf: SafeBuf<(Probability, Symbol)>,
+    LookupTable: SafeBuf<Probability>,
+    ensures { SymbolsDiffer Symbol.eq
+        ⟦<NonContiguousLookupDecoderModel<Symbol, Probability, Cdf, LookupTable, PRECISION> as EntropyModel<PRECISION>>⟧.rows }
 {}
 
 /// Two decoder models of the same symbols and the same `PRECISION` have the same row for each

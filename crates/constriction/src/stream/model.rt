@@ -20,6 +20,12 @@ pub use crate::stream::model::categorical::hashed::{
     DefaultNonContiguousCategoricalEncoderModel, NonContiguousCategoricalEncoderModel,
     SmallNonContiguousCategoricalEncoderModel,
 };
+pub use crate::stream::model::categorical::lookup_contiguous::{
+    ContiguousLookupDecoderModel, SmallContiguousLookupDecoderModel,
+};
+pub use crate::stream::model::categorical::lookup_non_contiguous::{
+    NonContiguousLookupDecoderModel, SmallNonContiguousLookupDecoderModel,
+};
 pub use crate::stream::model::categorical::non_contiguous::{
     DefaultNonContiguousCategoricalDecoderModel, NonContiguousCategoricalDecoderModel,
     SmallNonContiguousCategoricalDecoderModel,
@@ -29,6 +35,7 @@ pub use crate::stream::model::categorical::symbol_table::ContiguousSymbolTable;
 pub use crate::stream::model::cdf_probe::{Alone, CdfEntry, CdfProbe, WithSymbol};
 pub use crate::stream::model::convert::{
     FromIterableEntropyModel, to_generic_decoder_model, to_generic_encoder_model,
+    to_generic_lookup_decoder_model,
 };
 pub use crate::stream::model::encodes_over::EncodesOver;
 pub use crate::stream::model::error::ModelError;

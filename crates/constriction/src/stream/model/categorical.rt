@@ -3,8 +3,11 @@
 pub mod contiguous;
 pub(crate) mod filling;
 pub mod hashed;
+pub mod lookup_contiguous;
+pub mod lookup_non_contiguous;
 pub mod non_contiguous;
 pub mod non_contiguous_table;
 mod reading;
+pub(crate) mod slots;
 mod stored;
 pub mod symbol_table;

@@ -10,11 +10,13 @@ use crate::stream::model::categorical::filling::{room_for, rows_announced};
 use crate::stream::model::categorical::hashed::{
     Entry, NonContiguousCategoricalEncoderModel, table_for,
 };
+use crate::stream::model::categorical::lookup_non_contiguous::NonContiguousLookupDecoderModel;
 use crate::stream::model::categorical::non_contiguous::{
     NonContiguousCategoricalDecoderModel, has_symbol,
 };
 use crate::stream::model::error::ModelError;
 use crate::stream::model::traits::{EntropyModel, IterableEntropyModel};
+use constriction_words::{BitArray, IndexWord};
 use std::alloc::Global;
 use std::hash::Hash;
 use std::marker::PhantomData;
@@ -33,11 +35,15 @@ pub trait FromIterableEntropyModel<
     // Where none is made of a model, want of memory aside. Of a type that refuses no model it is ⊥.
     ghost refuses: { M → Type 0 };
 
+    // What the type asks of PRECISION beside that it is from 1 to the width of the words.
+    ghost precise: { Type 0 };
+
     /// The model of the same rows. `OutOfMemory` comes where memory for it, or for a clone of a symbol, is
     /// refused, `InvalidTable` where the type says so.
     fn from_iterable_entropy_model(alloc: Global, model: M) -> Result<Self, ModelError>
         requires positive { 0 < PRECISION }
         requires fits { PRECISION ≤ M.Probability.BITS }
+        requires precise { precise }
         requires clones { M.clones_are_same }
         ensures ok { IfOk result (tells model) }
         ensures invalid { result ≡ Err ModelError.InvalidTable → refuses model };
@@ -62,8 +68,38 @@ where
 
     ghost refuses = { λ m. ¬ (IsDistinct M.Symbol.eq (symbols_of (M.rows m))) };
 
+    ghost precise = { ⊤ };
+
     fn from_iterable_entropy_model(alloc: Global, model: M) -> Result<Self, ModelError> {
         to_generic_decoder_model::<M, PRECISION>(alloc, model)
+    }
+}
+
+/// It tells the rows of its source, no two symbols of which are equal, and refuses a source that has two
+/// equal symbols. `PRECISION` is at most 63.
+impl<M, const PRECISION: usize> FromIterableEntropyModel<M, PRECISION>
+    for NonContiguousLookupDecoderModel<
+        M::Symbol,
+        M::Probability,
+        Vec<(M::Probability, M::Symbol)>,
+        Vec<M::Probability>,
+        PRECISION,
+    >
+where
+    M: IterableEntropyModel<PRECISION>,
+    M::Symbol: Eq + Drop,
+    M::Probability: IndexWord,
+{
+    ghost tells = { λ m d.
+        (⟦<NonContiguousLookupDecoderModel<M::Symbol, M::Probability, Vec<(M::Probability, M::Symbol)>, Vec<M::Probability>, PRECISION> as EntropyModel<PRECISION>>⟧.rows d
+        ≡ M.rows m) × IsDistinct M.Symbol.eq (symbols_of (M.rows m)) };
+
+    ghost refuses = { λ m. ¬ (IsDistinct M.Symbol.eq (symbols_of (M.rows m))) };
+
+    ghost precise = { PRECISION ≤ 63 };
+
+    fn from_iterable_entropy_model(alloc: Global, model: M) -> Result<Self, ModelError> {
+        to_generic_lookup_decoder_model::<M, PRECISION>(alloc, model)
     }
 }
 
@@ -81,6 +117,8 @@ where
         ≡ distinct_count M.Symbol.eq (symbols_of (M.rows m))) };
 
     ghost refuses = { λ _. ⊥ };
+
+    ghost precise = { ⊤ };
 
     fn from_iterable_entropy_model(alloc: Global, model: M) -> Result<Self, ModelError> {
         to_generic_encoder_model::<M, PRECISION>(alloc, model)
@@ -129,6 +167,44 @@ where
         cdf,
         entries: PhantomData,
     })
+}
+
+/// The lookup model of the same rows as any model that can be walked through.
+///
+/// `InvalidTable` comes exactly where two symbols of the rows are equal. `OutOfMemory` comes where memory
+/// for the entries, for a clone of a symbol, or for the table is refused.
+///
+/// One walk, in which each symbol is compared with those before it, and one pass over the rows.
+pub fn to_generic_lookup_decoder_model<M, const PRECISION: usize>(
+    alloc: Global,
+    model: M,
+) -> Result<
+    NonContiguousLookupDecoderModel<
+        M::Symbol,
+        M::Probability,
+        Vec<(M::Probability, M::Symbol)>,
+        Vec<M::Probability>,
+        PRECISION,
+    >,
+    ModelError,
+>
+where
+    M: IterableEntropyModel<PRECISION>,
+    M::Symbol: Eq + Drop,
+    M::Probability: IndexWord,
+    requires positive { 0 < PRECISION }
+    requires narrow { PRECISION ≤ 63 }
+    requires fits { PRECISION ≤ M.Probability.BITS }
+    requires clones { M.clones_are_same }
+    ensures ok { IfOk result (λ d.
+        (⟦<NonContiguousLookupDecoderModel<M::Symbol, M::Probability, Vec<(M::Probability, M::Symbol)>, Vec<M::Probability>, PRECISION> as EntropyModel<PRECISION>>⟧.rows d
+        ≡ M.rows model) × IsDistinct M.Symbol.eq (symbols_of (M.rows model))) }
+    ensures invalid { result ≡ Err ModelError.InvalidTable → ¬ (IsDistinct M.Symbol.eq (symbols_of (M.rows model))) }
+{
+    let searching = to_generic_decoder_model::<M, PRECISION>(alloc, model)?;
+    Ok(NonContiguousLookupDecoderModel::with_table(
+        alloc, searching,
+    )?)
 }
 
 /// The encoder model of the same entries as any model that can be walked through: of each symbol it has

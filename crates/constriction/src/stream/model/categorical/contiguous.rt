@@ -1,6 +1,6 @@
 //! Models of the symbols 0, 1, .., which find the row of a quantile by a search.
 
-ghost use Rattle.std.specs.Prelude.{◌≡◌, ◌+◌, ◌^◌, ◌<◌, ◌≤◌, ℕ, length, map, nat_eq, IfOk, IfErr, IsOk, ⊤};
+ghost use Rattle.std.specs.Prelude.{◌≡◌, ◌+◌, ◌^◌, ◌<◌, ◌≤◌, ℕ, length, map, nat_eq, slice_index_or, IfOk, IfErr, IsOk, ⊤};
 ghost use Rattle.std.specs.Iterator.{IsFiniteIterable, UpTo, size};
 ghost use Rattle.constriction.specs.Acceptance.{completed, IsAccepted, GaveGood, GaveBad};
 ghost use Rattle.std.proofs.Common.{eq-eqb, refl};
@@ -109,12 +109,7 @@ impl<Probability: BitArray, const PRECISION: usize> ContiguousCategoricalEntropy
             ⟦<ContiguousCategoricalEntropyModel<Probability, Vec<Probability>, PRECISION> as EntropyModel<PRECISION>>⟧.rows m
             ≡ ⟦<ContiguousCategoricalEntropyModel<Probability, Vec<Probability>, PRECISION> as EntropyModel<PRECISION>>⟧.rows self.now) }
     {
-        let mut cdf = Vec::with_capacity(*self.cdf.allocator(), self.cdf.len())?;
-        cdf.extend_from_slice(&self.cdf)?;
-        Ok(Self {
-            cdf,
-            probability: PhantomData,
-        })
+        self.in_vec(*self.cdf.allocator())
     }
 }
 
@@ -130,6 +125,50 @@ impl<
             (⟦<ContiguousCategoricalEntropyModel<Probability, Cdf, PRECISION> as EntropyModel<PRECISION>>⟧.rows self.now) }
     {
         self.cdf.words().len() - 1
+    }
+
+    /// The left cumulatives, one word a row.
+    #[inline]
+    pub(crate) fn cdf_entries<'m>(&'m self) -> &'m [Probability]
+        ensures { map Probability.whole result.now ≡ map (λ r. r.left)
+            (⟦<ContiguousCategoricalEntropyModel<Probability, Cdf, PRECISION> as EntropyModel<PRECISION>>⟧.rows self.now) }
+    {
+        let cdf = self.cdf.words();
+        &cdf[..cdf.len() - 1]
+    }
+
+    /// The row that stands at an index.
+    #[inline]
+    pub(crate) fn row_numbered(&self, index: usize) -> (usize, Probability, Weight<Probability>)
+        requires { index < length
+            (⟦<ContiguousCategoricalEntropyModel<Probability, Cdf, PRECISION> as EntropyModel<PRECISION>>⟧.rows self.now) }
+        ensures row { slice_index_or
+            (⟦<ContiguousCategoricalEntropyModel<Probability, Cdf, PRECISION> as EntropyModel<PRECISION>>⟧.rows self.now) index
+            (row_of Probability.whole Probability.NonZero.base result)
+            ≡ row_of Probability.whole Probability.NonZero.base result }
+        ensures within { LiesWithin PRECISION (row_of Probability.whole Probability.NonZero.base result) }
+    {
+        let (left, weight) = row_at::<Probability, PRECISION>(self.cdf.words(), index);
+        (index, left, weight)
+    }
+
+    /// The same model over a copy of the table of this one.
+    pub(crate) fn in_vec(
+        &self,
+        alloc: Global,
+    ) -> Result<
+        ContiguousCategoricalEntropyModel<Probability, Vec<Probability>, PRECISION>,
+        AllocError,
+    >
+        ensures { IfOk result (λ m.
+            ⟦<ContiguousCategoricalEntropyModel<Probability, Vec<Probability>, PRECISION> as EntropyModel<PRECISION>>⟧.rows m
+            ≡ ⟦<ContiguousCategoricalEntropyModel<Probability, Cdf, PRECISION> as EntropyModel<PRECISION>>⟧.rows self.now) }
+    {
+        let cdf = self.cdf.words().to_vec(alloc)?;
+        Ok(ContiguousCategoricalEntropyModel {
+            cdf,
+            probability: PhantomData,
+        })
     }
 
     /// The same model over the table of this one.
@@ -168,8 +207,7 @@ impl<
             (⟦<ContiguousCategoricalEntropyModel<Probability, Cdf, PRECISION> as EntropyModel<PRECISION>>⟧.rows self.now)
             (Probability.whole quantile) (result.0 + i) }
     {
-        let cdf = self.cdf.words();
-        (0, CdfProbe::new(&cdf[..cdf.len() - 1]))
+        (0, CdfProbe::new(self.cdf_entries()))
     }
 }
 
@@ -229,11 +267,9 @@ impl<Probability: BitArray, Cdf: SafeBuf<Probability>, const PRECISION: usize> D
         ensures succeeds { IsOk result }
         ensures refused { IfErr result (λ _. ⊥) }
     {
-        let cdf = self.cdf.words();
-        let (first, mut rows) = self.quantile_probe(quantile);
-        let index = first + row_of_quantile(&mut rows, quantile);
-        let (left, weight) = row_at::<Probability, PRECISION>(cdf, index);
-        Ok((index, left, weight))
+        let mut rows = CdfProbe::<Probability, Alone>::new(self.cdf_entries());
+        let index = row_of_quantile(&mut rows, quantile);
+        Ok(self.row_numbered(index))
     }
 
     ghost tile_law = { λ m. stored-tiles _ _ _ m.stored.stored };

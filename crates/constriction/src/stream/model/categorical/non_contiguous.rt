@@ -1,11 +1,12 @@
 //! Models of any symbols, which find the row of a quantile by a search.
 
-ghost use Rattle.std.specs.Prelude.{◌≡◌, ◌+◌, ◌^◌, ◌<◌, ◌≤◌, ℕ, length, map, IfOk, ⊤};
+ghost use Rattle.std.specs.Prelude.{◌≡◌, ◌+◌, ◌^◌, ◌<◌, ◌≤◌, ℕ, length, map, slice_index_or, IfErr, IfOk, ⊤};
 ghost use Rattle.std.specs.Iterator.{IsFiniteIterable, UpTo, size};
 ghost use Rattle.std.specs.List.{list_any, IsDistinct};
 ghost use Rattle.std.proofs.Props.{props};
 ghost use Rattle.constriction.specs.Acceptance.{completed, AreAccepted, GaveBothGood, GaveBothBad};
 ghost use Rattle.constriction.specs.Filling.{HoldsRows};
+ghost use Rattle.constriction.specs.Model.{row_of, LiesWithin};
 ghost use Rattle.constriction.specs.Probe.{TellsRows, IsRowIndexOf, IsSearchable, IsLastAtMost};
 ghost use Rattle.constriction.specs.Rows.{rows_of};
 ghost use Rattle.constriction.specs.Stored.{IsStored};
@@ -188,11 +189,7 @@ impl<
             ⟦<NonContiguousCategoricalDecoderModel<Symbol, Probability, Vec<(Probability, Symbol)>, PRECISION> as EntropyModel<PRECISION>>⟧.rows m
             ≡ ⟦<NonContiguousCategoricalDecoderModel<Symbol, Probability, Vec<(Probability, Symbol)>, PRECISION> as EntropyModel<PRECISION>>⟧.rows self.now) }
     {
-        let cdf = entries_cloned(*self.cdf.allocator(), self.cdf.as_slice())?;
-        Ok(Self {
-            cdf,
-            entries: PhantomData,
-        })
+        self.in_vec(*self.cdf.allocator())
     }
 }
 
@@ -209,6 +206,15 @@ impl<
             (⟦<NonContiguousCategoricalDecoderModel<Symbol, Probability, Cdf, PRECISION> as EntropyModel<PRECISION>>⟧.rows self.now) }
     {
         self.cdf.words().len()
+    }
+
+    /// The entries: left cumulative and symbol of each row.
+    #[inline]
+    pub(crate) fn cdf_entries<'m>(&'m self) -> &'m [(Probability, Symbol)]
+        ensures { map (λ x. Probability.whole x.0) result.now ≡ map (λ r. r.left)
+            (⟦<NonContiguousCategoricalDecoderModel<Symbol, Probability, Cdf, PRECISION> as EntropyModel<PRECISION>>⟧.rows self.now) }
+    {
+        self.cdf.words()
     }
 
     /// The same model over the entries of this one.
@@ -252,7 +258,63 @@ impl<
             (⟦<NonContiguousCategoricalDecoderModel<Symbol, Probability, Cdf, PRECISION> as EntropyModel<PRECISION>>⟧.rows self.now)
             (Probability.whole quantile) (result.0 + i) }
     {
-        (0, CdfProbe::new(self.cdf.words()))
+        (0, CdfProbe::new(self.cdf_entries()))
+    }
+}
+
+impl<
+    Symbol: Eq + Clone,
+    Probability: BitArray,
+    Cdf: SafeBuf<(Probability, Symbol)>,
+    const PRECISION: usize,
+> NonContiguousCategoricalDecoderModel<Symbol, Probability, Cdf, PRECISION> {
+    /// The same model over clones of the entries of this one.
+    pub(crate) fn in_vec(
+        &self,
+        alloc: Global,
+    ) -> Result<
+        NonContiguousCategoricalDecoderModel<
+            Symbol,
+            Probability,
+            Vec<(Probability, Symbol)>,
+            PRECISION,
+        >,
+        AllocError,
+    >
+        requires { ClonesAreSame Symbol.is_clone }
+        ensures { IfOk result (λ m.
+            ⟦<NonContiguousCategoricalDecoderModel<Symbol, Probability, Vec<(Probability, Symbol)>, PRECISION> as EntropyModel<PRECISION>>⟧.rows m
+            ≡ ⟦<NonContiguousCategoricalDecoderModel<Symbol, Probability, Cdf, PRECISION> as EntropyModel<PRECISION>>⟧.rows self.now) }
+    {
+        let cdf = entries_cloned(alloc, self.cdf.words())?;
+        Ok(NonContiguousCategoricalDecoderModel {
+            cdf,
+            entries: PhantomData,
+        })
+    }
+
+    /// The row that stands at an index, with a clone of its symbol.
+    #[inline]
+    pub(crate) fn row_numbered(
+        &self,
+        index: usize,
+    ) -> Result<(Symbol, Probability, Weight<Probability>), AllocError>
+        requires clones { ClonesAreSame Symbol.is_clone }
+        requires in_bounds { index < length
+            (⟦<NonContiguousCategoricalDecoderModel<Symbol, Probability, Cdf, PRECISION> as EntropyModel<PRECISION>>⟧.rows self.now) }
+        ensures row { IfOk result (λ x. slice_index_or
+            (⟦<NonContiguousCategoricalDecoderModel<Symbol, Probability, Cdf, PRECISION> as EntropyModel<PRECISION>>⟧.rows self.now) index
+            (row_of Probability.whole Probability.NonZero.base x)
+            ≡ row_of Probability.whole Probability.NonZero.base x) }
+        ensures within { IfOk result (λ x. LiesWithin PRECISION (row_of Probability.whole Probability.NonZero.base x)) }
+        ensures refused { IfErr result (λ _. MayRefuse Symbol.is_infallible) }
+    {
+        let cdf = self.cdf.words();
+        let (left, weight) = paired_row_at::<Probability, Symbol, PRECISION>(cdf, index);
+        match cdf[index].1.clone() {
+            Ok(symbol) => Ok((symbol, left, weight)),
+            Err(refused) => Err(refused),
+        }
     }
 }
 
@@ -273,14 +335,8 @@ impl<
         &self,
         quantile: Probability,
     ) -> Result<(Symbol, Probability, Weight<Probability>), AllocError> {
-        let cdf = self.cdf.words();
-        let (first, mut rows) = self.quantile_probe(quantile);
-        let index = first + row_of_quantile(&mut rows, quantile);
-        let (left, weight) = paired_row_at::<Probability, Symbol, PRECISION>(cdf, index);
-        match cdf[index].1.clone() {
-            Ok(symbol) => Ok((symbol, left, weight)),
-            Err(refused) => Err(refused),
-        }
+        let mut rows = CdfProbe::<(Probability, Symbol), WithSymbol>::new(self.cdf_entries());
+        self.row_numbered(row_of_quantile(&mut rows, quantile))
     }
 
     ghost tile_law = { λ m. paired-tiles Probability.whole _ _ _ m.stored };

@@ -1,0 +1,235 @@
+-- Filling the table of slots.
+use Rattle.std.proofs.Common.{◌≡◌, ◌↔◌, ℕ, ◌+◌, ◌-◌, ◌*◌, ◌/◌, ◌^◌, ◌<◌, ◌≤◌, ◌⊎◌, suc, zero, min, List, [], ◌∷◌, ◌++◌, length, replicate, take, map, get_or, ap, sym, refl, ◌∙◌, arith, inl, inr, add-one}
+use Rattle.std.proofs.Math.Nat.{mul-le-mul_right, le-div_iff_mul-le}
+use Rattle.std.proofs.lemmas.Bool.{cases_lt}
+use Rattle.std.proofs.lemmas.Nat.{pow-add, pow_pos}
+use Rattle.std.proofs.lemmas.List.{length-map, length-append, length-replicate, map-append, get_or_append_left, get_or-append_right, get_or-replicate, take_all}
+use Rattle.std.specs.List.Sorted.{IsStrictlyIncreasing}
+use Rattle.constriction.specs.Probe.{IsLastAtMost}
+use Rattle.constriction.specs.Slots.{slot_width, slot_count}
+use Rattle.constriction.specs.SlotTable.{HasWords, HasSlots, IsFirstWord}
+use Rattle.constriction.proofs.Halving.{later}
+
+-- slots
+pub slot-more : (j w : ℕ) → (j + 1) * w ≡ j * w + w
+slot-more j w = rw add-one (omega arith)
+
+pub slot-end : (j n w : ℕ) → j < n → j * w + w ≤ n * w
+slot-end j n w h =
+    let more : suc j * w ≤ n * w = mul-le-mul_right w (let g : suc j ≤ n = omega arith in g) in
+    omega arith
+
+-- all slots together hold the quantiles below 2 ^ precision
+pub slots-all : (precision : ℕ) → slot_count precision * slot_width precision ≡ 2 ^ precision
+slots-all precision =
+    let e : min precision 8 + (precision - 8) ≡ precision = omega arith in
+    let split : 2 ^ (min precision 8 + (precision - 8)) ≡ 2 ^ min precision 8 * 2 ^ (precision - 8) = pow-add 2 (min precision 8) (precision - 8) in
+    rw (← split) (ap (λ n. 2 ^ n) e)
+
+pub slot-within : (precision j : ℕ) → j < slot_count precision → j * slot_width precision + slot_width precision ≤ 2 ^ precision
+slot-within precision j h = rw (← slots-all precision) (slot-end j (slot_count precision) (slot_width precision) h)
+
+-- a whole part, by its bounds
+pub whole-part : (w n j : ℕ) → 0 < w → (n / w ≤ j) ↔ (n < j * w + w)
+whole-part w n j some =
+    let more = slot-more j w in
+    let bound : (j + 1 ≤ n / w) ↔ ((j + 1) * w ≤ n) = le-div_iff_mul-le some in (
+      (λ h. elim (cases_lt n (j * w + w)) [
+        | inl less ↦ less
+        | inr not ↦ (let above : j + 1 ≤ n / w = bound.1 (omega (arith, more)) in absurd (omega arith))
+      ]),
+      (λ h. elim (cases_lt j (n / w)) [
+        | inl above ↦ (let most : (j + 1) * w ≤ n = bound.0 (omega arith) in absurd (omega (arith, more)))
+        | inr not ↦ not
+      ]),
+    )
+
+-- the first word for a left cumulative: the whole parts of two quotients by the width, one of them rounded up
+module _ (w left : ℕ) (some : 0 < w) where
+  up-least : left / w ≤ (left + (w - 1)) / w
+  up-least =
+      let up : left + (w - 1) < (left + (w - 1)) / w * w + w = (whole-part w (left + (w - 1)) ((left + (w - 1)) / w) some).0 (omega arith) in
+      (whole-part w left ((left + (w - 1)) / w) some).1 (omega arith)
+
+  pub up-most : (left + (w - 1)) / w ≤ left / w + 1
+  up-most =
+      let down : left < left / w * w + w = (whole-part w left (left / w) some).0 (omega arith) in
+      (whole-part w (left + (w - 1)) (left / w + 1) some).1 (omega (arith, slot-more (left / w) w))
+
+  pub first-word : IsFirstWord w left (left / w + (left + (w - 1)) / w)
+  first-word = record {
+    first = λ j.
+        let up = whole-part w (left + (w - 1)) j some in (
+          (λ h. let below = up.0 (omega (arith, up-most)) in omega arith),
+          (λ h. let below = up.1 (omega arith) in omega (arith, up-least)),
+        );
+    last = λ j.
+        let down = whole-part w left j some in (
+          (λ h. let below = down.0 (omega (arith, up-least)) in omega arith),
+          (λ h. let below = down.1 (omega arith) in omega (arith, up-most)),
+        );
+  }
+
+-- every number is even or odd
+parity : (n : ℕ) → ((j : ℕ) × (n ≡ 2 * j)) ⊎ ((j : ℕ) × (n ≡ 2 * j + 1))
+parity zero = inl (0, refl)
+parity (suc n) = elim (parity n) [
+  | inl even ↦ inr (even.0, omega (arith, even.1))
+  | inr odd ↦ inl (odd.0 + 1, omega (arith, odd.1))
+]
+
+-- a greater left cumulative has no earlier first word
+pub word-order : (w a b x y : ℕ) → IsFirstWord w a x → IsFirstWord w b y → a ≤ b → x ≤ y
+word-order w a b x y f g h = elim (parity y) [
+  | inl even ↦ (
+      let at : b ≤ even.0 * w = (g.first even.0).0 (omega (arith, even.1)) in
+      let from : x ≤ 2 * even.0 = (f.first even.0).1 (omega arith) in
+      omega (arith, even.1))
+  | inr odd ↦ (
+      let at : b ≤ odd.0 * w + (w - 1) = (g.last odd.0).0 (omega (arith, odd.1)) in
+      let from : x ≤ 2 * odd.0 + 1 = (f.last odd.0).1 (omega arith) in
+      omega (arith, odd.1))
+]
+
+-- a list that increases is nowhere below its indices
+pub index-most : (xs : List ℕ) (i : ℕ) → IsStrictlyIncreasing xs → i < length xs → i ≤ get_or xs i 0
+index-most xs zero up h = omega arith
+index-most xs (suc i) up h =
+    let e : suc i ≡ i + 1 = omega arith in
+    rw e (omega (arith, index-most xs i up (omega arith), up i (omega arith)))
+
+-- the row at i holds q: the next one begins above it, or there is none
+pub last-before : (xs : List ℕ) (q i : ℕ) → IsStrictlyIncreasing xs → i < length xs → get_or xs i 0 ≤ q
+    → (i + 1 < length xs → q < get_or xs (i + 1) 0) → IsLastAtMost xs q i
+last-before xs q i up h low above = record {
+  in_bounds = h;
+  at_most = low;
+  last = λ j a b. elim (cases_lt (i + 1) j) [
+    | inl more ↦ omega (arith, later xs (i + 1) j up more b, above (omega arith))
+    | inr no_more ↦ (let is : i + 1 ≡ j = omega arith in rw (← is) (above (omega arith)))
+  ];
+}
+
+pub words-none : (w : ℕ) (lefts : List ℕ) → HasWords w lefts []
+words-none w lefts = record { first = λ j b. absurd (omega arith); last = λ j b. absurd (omega arith) }
+
+pub first-none : (w : ℕ) → IsFirstWord w 0 0
+first-none w = record { first = λ j. ((λ h. omega arith), (λ h. omega arith)); last = λ j. ((λ h. omega arith), (λ h. omega arith)) }
+
+-- a row fills the words from its own first one to that of the next row
+module _ (w : ℕ) (lefts table : List ℕ) (row n : ℕ) (up : IsStrictlyIncreasing lefts) (in_bounds : row < length lefts) (t : HasWords w lefts table)
+    (from : IsFirstWord w (get_or lefts row 0) (length table))
+    (next : row + 1 < length lefts → (end : ℕ) × IsFirstWord w (get_or lefts (row + 1) 0) end × (length table + n ≤ end)) where
+  long : length (table ++ replicate n row) ≡ length table + n
+  long = length-append table (replicate n row) ∙ ap (λ k. length table + k) (length-replicate n row)
+
+  old-word : (i : ℕ) → i < length table → get_or (table ++ replicate n row) i 0 ≡ get_or table i 0
+  old-word i h = get_or_append_left table (replicate n row) 0 i h
+
+  new-word : (i : ℕ) → length table ≤ i → i < length (table ++ replicate n row) → get_or (table ++ replicate n row) i 0 ≡ row
+  new-word i h b =
+      get_or-append_right table (replicate n row) (length table) i 0 refl h ∙ get_or-replicate n (i - length table) row 0 (omega (arith, long))
+
+  pub words-more : HasWords w lefts (table ++ replicate n row)
+  words-more = record {
+    first = λ j b. elim (cases_lt (2 * j) (length table)) [
+      | inl old ↦ rw (old-word (2 * j) old) (t.first j old)
+      | inr new ↦ rw (new-word (2 * j) new b) (last-before lefts (j * w) row up in_bounds ((from.first j).0 new) (λ h.
+        let x = next h in
+        elim (cases_lt (j * w) (get_or lefts (row + 1) 0)) [
+          | inl above ↦ above
+          | inr not ↦ (let most : x.0 ≤ 2 * j = (x.1.first j).1 not in absurd (omega (arith, x.2, long, b)))
+        ]))
+    ];
+    last = λ j b. elim (cases_lt (2 * j + 1) (length table)) [
+      | inl old ↦ rw (old-word (2 * j + 1) old) (t.last j old)
+      | inr new ↦ rw (new-word (2 * j + 1) new b) (last-before lefts (j * w + (w - 1)) row up in_bounds ((from.last j).0 new) (λ h.
+        let x = next h in
+        elim (cases_lt (j * w + (w - 1)) (get_or lefts (row + 1) 0)) [
+          | inl above ↦ above
+          | inr not ↦ (let most : x.0 ≤ 2 * j + 1 = (x.1.last j).1 not in absurd (omega (arith, x.2, long, b)))
+        ]))
+    ];
+  }
+
+map-replicate : {A B : Type 0} (f : A → B) (n : ℕ) (x : A) → map f (replicate n x) ≡ replicate n (f x)
+map-replicate f zero x = refl
+map-replicate f (suc n) x = ap (λ xs. f x ∷ xs) (map-replicate f n x)
+
+-- what `resize` leaves, as numbers
+pub resized : {W : Type 0} (whole : W → ℕ) (items new : List W) (n : ℕ) (row : W) → length items ≤ n
+    → new ≡ take n items ++ replicate (n - length items) row → map whole new ≡ map whole items ++ replicate (n - length items) (whole row)
+resized whole items new n row h is =
+    ap (map whole) (is ∙ ap (λ xs. xs ++ replicate (n - length items) row) (take_all n items h)) ∙ map-append whole items (replicate (n - length items) row) ∙
+    ap (λ xs. map whole items ++ xs) (map-replicate whole (n - length items) row)
+
+module _ {W : Type 0} (whole : W → ℕ) (w : ℕ) (lefts : List ℕ) (items new : List W) (row : W) (n : ℕ) (up : IsStrictlyIncreasing lefts)
+    (t : HasWords w lefts (map whole items)) (from : IsFirstWord w (get_or lefts (whole row) 0) (length items)) (in_bounds : whole row < length lefts)
+    (count : ℕ) (counted : count ≡ length items) (new-is : new ≡ take n items ++ replicate (n - count) row) where
+  is : new ≡ take n items ++ replicate (n - length items) row
+  is = rw counted at new-is
+
+  same-long : length (map whole items) ≡ length items
+  same-long = length-map items whole
+
+  filled-long : length items ≤ n → length new ≡ n
+  filled-long order =
+      let long : length (map whole new) ≡ length (map whole items) + (n - length items) =
+      ap length (resized whole items new n row order is) ∙ length-append (map whole items) (replicate (n - length items) (whole row))
+      ∙ ap (λ k. length (map whole items) + k) (length-replicate (n - length items) (whole row)) in
+      omega (arith, long, same-long, length-map new whole)
+
+  filled-more : length items ≤ n
+      → (whole row + 1 < length lefts → (end : ℕ) × IsFirstWord w (get_or lefts (whole row + 1) 0) end × (length (map whole items) + (n - length items) ≤ end))
+      → HasWords w lefts (map whole new)
+  filled-more order next =
+      rw (resized whole items new n row order is)
+      (words-more w lefts (map whole items) (whole row) (n - length items) up in_bounds t (rw same-long from) next)
+
+  -- another row comes, whose first word is n
+  pub row-filled : (next : ℕ) → whole row + 1 ≡ next → next < length lefts → IsFirstWord w (get_or lefts next 0) n
+      → HasWords w lefts (map whole new) × (length new ≡ n)
+  row-filled next e b to =
+      let order : length items ≤ n =
+      word-order w (get_or lefts (whole row) 0) (get_or lefts next 0) (length items) n from to (omega (arith, later lefts (whole row) next up (omega arith) b)) in
+      (filled-more order (λ h. (n, rw e to, omega (arith, same-long))), filled-long order)
+
+  -- it was the last one, and all words are there
+  pub all-filled : (precision : ℕ) → w ≡ slot_width precision → n ≡ 2 * slot_count precision → whole row + 1 ≡ length lefts
+      → get_or lefts (whole row) 0 < 2 ^ precision → HasSlots w (slot_count precision) lefts (map whole new)
+  all-filled precision width count e below =
+      let some : 0 < slot_count precision = pow_pos (min precision 8) in
+      let wide : 0 < slot_width precision = pow_pos (precision - 8) in
+      let last : ℕ = slot_count precision - 1 in
+      let one : last + 1 ≡ slot_count precision = omega arith in
+      let total : last * w + w ≡ 2 ^ precision =
+      sym (slot-more last w) ∙ ap (λ k. k * w) one ∙ ap (λ k. slot_count precision * k) width ∙ slots-all precision in
+      let most : length items ≤ 2 * last + 1 = (from.last last).1 (omega (arith, total, below, width, wide)) in
+      let order : length items ≤ n = omega (arith, most, count, one) in
+      record {
+        long = length-map new whole ∙ filled-long order ∙ count;
+        words = filled-more order (λ h. absurd (omega arith));
+      }
+
+-- the slot of a quantile
+pub slot-below : (precision q : ℕ) → q < 2 ^ precision → q / slot_width precision < slot_count precision
+slot-below precision q h =
+    let some : 0 < slot_count precision = pow_pos (min precision 8) in
+    let last : ℕ = slot_count precision - 1 in
+    let one : last + 1 ≡ slot_count precision = omega arith in
+    let total : last * slot_width precision + slot_width precision ≡ 2 ^ precision =
+    sym (slot-more last (slot_width precision)) ∙ ap (λ k. k * slot_width precision) one ∙ slots-all precision in
+    let within : q / slot_width precision ≤ last = (whole-part (slot_width precision) q last (pow_pos (precision - 8))).1 (omega (arith, total)) in
+    omega (arith, one)
+
+-- the two words of the slot of a quantile, as they are read
+pub slot-words : (precision q x w : ℕ) (lefts table : List ℕ) → HasSlots (slot_width precision) (slot_count precision) lefts table
+    → q < 2 ^ precision → x ≡ q → w ≡ slot_width precision
+    → (2 * (x / w) + 1 < length table)
+    × IsLastAtMost lefts (q / slot_width precision * slot_width precision) (get_or table (2 * (x / w)) 0)
+    × IsLastAtMost lefts (q / slot_width precision * slot_width precision + (slot_width precision - 1)) (get_or table (2 * (x / w) + 1) 0)
+slot-words precision q x w lefts table t h e width =
+    let below = slot-below precision q h in
+    let is : x / w ≡ q / slot_width precision = rw (e, width) refl in
+    let within : 2 * (q / slot_width precision) + 1 < length table = omega (arith, t.long, below) in
+    rw is (within, t.words.first (q / slot_width precision) (omega arith), t.words.last (q / slot_width precision) within)

@@ -1,0 +1,22 @@
+use Rattle.std.proofs.Common.{◌≡◌, ℕ, ◌+◌, ◌-◌, ◌/◌, ◌^◌, ◌<◌, ◌≤◌, arith, rules}
+use Rattle.std.proofs.Math.Nat.{div-le_self}
+use Rattle.std.proofs.Math.Pow.{pow_mono}
+use Rattle.std.proofs.lemmas.Nat.{pow_pos}
+use Rattle.constriction.specs.Slots.{slot_width}
+use Rattle.constriction.proofs.SlotFilling.{first-word, up-most}
+use Rattle.constriction.proofs.stream.model.categorical.slots.first_word.Goals as goal
+
+pub overflow_add-result-2 : goal.overflow_add-result-2
+overflow_add-result-2 g c =
+    let w : ℕ = c.width_of_slots-width.result in
+    let left : ℕ = c.to_number-left.result in
+    let some : 0 < w = rw c.width_of_slots-width.ensures (pow_pos (g.row.PRECISION - 8)) in
+    let most : 2 ^ g.row.PRECISION ≤ 2 ^ 63 = pow_mono c.requires.narrow in
+    let below : left / w + (left + (w - 1)) / w < 2 ^ 64 =
+    omega (arith, up-most w left some, div-le_self left w, most, c.requires.below, c.to_number-left.ensures) in
+    search rules
+
+pub returns : goal.returns
+returns g c =
+    rw (c.width_of_slots-width.ensures, c.to_number-left.ensures)
+    (first-word (slot_width g.row.PRECISION) (g.W.WholeNumber.whole c.args.left) (pow_pos (g.row.PRECISION - 8)))
