@@ -1,5 +1,5 @@
 -- Rows whose left cumulatives are stored beside their symbols, without a total after them.
-use Rattle.std.specs.Prelude.{⊤}
+use Rattle.std.specs.Prelude.{⊤, Result, Ok, Err, IfOk}
 use Rattle.std.specs.List.{IsDistinct}
 use Rattle.std.proofs.Common.{Bool, ◌≡◌, ℕ, ◌+◌, ◌-◌, ◌%◌, ◌^◌, ◌<◌, ◌≤◌, List, [], ◌∷◌, ◌++◌, length, get_or, map, refl, ap, sym, ◌∙◌, arith, inl, inr}
 use Rattle.std.proofs.Math.Nat.{mod-eq_of_lt, pow-le-pow_right}
@@ -11,12 +11,13 @@ use Rattle.constriction.specs.RowLemmas.{weights-rows_from, symbols-rows_from}
 use Rattle.constriction.specs.Rows.{Row, rows_of, symbols_of, RowsTile, IsRowOf}
 use Rattle.constriction.specs.Stored.{IsStored, weights_of}
 use Rattle.constriction.specs.StoredLemmas.{IsRowAt, stored-row, stored-of_rows}
-use Rattle.constriction.specs.SymbolRowLemmas.{symbols-many, symbol-rows_many, symbol-is_at, paired-long}
-use Rattle.constriction.specs.Probe.{TellsRows, IsRowIndexOf, IsLastAtMost}
+use Rattle.constriction.specs.SymbolRowLemmas.{symbols-many, symbol-rows_many, symbol-is_at, paired-long, paired-tiles}
+use Rattle.constriction.specs.Probe.{TellsRows, IsRowIndexOf, IsLastAtMost, IsSearchable}
 use Rattle.constriction.specs.Tables.{rows_paired, rows_between}
-use Rattle.constriction.proofs.ProbeLemmas.{symbol-tells, symbol-found, symbol-answer}
+use Rattle.constriction.proofs.ProbeLemmas.{symbol-lefts}
 use Rattle.constriction.proofs.StepLemmas.{all-between, length-between, first-between, last-between}
 use Rattle.constriction.proofs.TableLemmas.{difference-mod}
+use Rattle.constriction.proofs.TileLemmas.{tiles-probed, tiles-lefts}
 
 -- the weight of a row is the difference of its two ends, modulo 2 ^ bits, where the last row ends at 2 ^ precision
 pub stored-weight : (bits precision : ℕ) (lefts : List ℕ) (i left end weight : ℕ) → IsStored bits precision lefts → precision ≤ bits
@@ -48,19 +49,36 @@ module _ {Symbol Word : Type 0} (whole : Word → ℕ) (bits precision : ℕ) (e
       symbol-rows_many bits precision (map (λ x. x.1) entries) (map (λ x. whole x.0) entries) t (paired-long whole bits precision entries t)
       ∙ length-map entries (λ x. whole x.0)
 
-  -- a probe of all entries tells all rows
-  pub paired-tells : TellsRows (rows_paired whole precision entries) (λ _. ⊤) 0 (map (λ x. whole x.0) entries)
-  paired-tells = symbol-tells bits precision (map (λ x. x.1) entries) (map (λ x. whole x.0) entries) t
-      (paired-long whole bits precision entries t)
+  -- what was lent are the entries
+  module _ (lent : List (Word × Symbol)) (e : lent ≡ entries) where
+    pub lent-lefts : map (λ x. whole x.0) lent ≡ map (λ r. r.left) (rows_paired whole precision entries)
+    lent-lefts =
+        ap (map (λ x. whole x.0)) e
+        ∙ sym (symbol-lefts bits precision (map (λ x. x.1) entries) (map (λ x. whole x.0) entries) t
+        (paired-long whole bits precision entries t))
 
-  pub paired-found : (q i : ℕ) → q < 2 ^ precision → IsLastAtMost (map (λ x. whole x.0) entries) q i
-      → IsRowIndexOf (rows_paired whole precision entries) q i
-  paired-found = symbol-found bits precision (map (λ x. x.1) entries) (map (λ x. whole x.0) entries) t
-      (paired-long whole bits precision entries t)
+    pub paired-probed : TellsRows (rows_paired whole precision entries) (λ _. ⊤) 0 (map (λ x. whole x.0) lent)
+        × ((q : ℕ) → IsSearchable (map (λ x. whole x.0) lent) q)
+        × ((q i : ℕ) → q < 2 ^ precision → IsLastAtMost (map (λ x. whole x.0) lent) q i
+        → IsRowIndexOf (rows_paired whole precision entries) q (0 + i))
+    paired-probed =
+        tiles-probed bits precision (rows_paired whole precision entries) (paired-tiles whole bits precision entries t)
+        (map (λ x. whole x.0) lent) lent-lefts
 
-  -- the index of a quantile's row is one of an entry
-  pub paired-index : (q i : ℕ) → IsRowIndexOf (rows_paired whole precision entries) q i → i < length entries
-  paired-index q i f = omega (arith, f.in_bounds, paired-many)
+    -- the row of a quantile is one of an entry
+    pub paired-index : (q i : ℕ) → q < 2 ^ precision → IsLastAtMost (map (λ x. whole x.0) lent) q i
+        → IsRowIndexOf (rows_paired whole precision entries) q i × (i < length entries)
+    paired-index q i below f =
+        let same : 0 + i ≡ i = omega arith in
+        let found : IsRowIndexOf (rows_paired whole precision entries) q i = rw same at (paired-probed.2 q i below f) in
+        (found, omega (arith, found.in_bounds, paired-many))
+
+    -- what a table of slots is made from
+    pub paired-search : IsSearchable (map (λ x. whole x.0) lent) 0
+        × ((i : ℕ) → i < length (map (λ x. whole x.0) lent) → get_or (map (λ x. whole x.0) lent) i 0 < 2 ^ precision)
+    paired-search =
+        tiles-lefts bits precision (rows_paired whole precision entries) (paired-tiles whole bits precision entries t)
+        (map (λ x. whole x.0) lent) lent-lefts
 
   symbol-here : (i : ℕ) (s : Symbol) (x : Word × Symbol) → i < length entries → x ≡ get_or entries i x → s ≡ x.1
       → s ≡ get_or (map (λ y. y.1) entries) i s
@@ -74,14 +92,6 @@ module _ {Symbol Word : Type 0} (whole : Word → ℕ) (bits precision : ℕ) (e
   paired-at i l w s x h is se le we =
       symbol-is_at bits precision (map (λ x. x.1) entries) (map (λ x. whole x.0) entries) t (paired-long whole bits precision entries t)
       i l w s (omega (arith, h, length-map entries (λ y. whole y.0))) (symbol-here i s x h is se) le we
-
-  pub paired-answer : (q i l w : ℕ) (s : Symbol) (x : Word × Symbol) → IsRowIndexOf (rows_paired whole precision entries) q i
-      → x ≡ get_or entries i x → s ≡ x.1
-      → l ≡ get_or (map (λ x. whole x.0) entries) i 0 → w ≡ get_or (weights_of precision (map (λ x. whole x.0) entries)) i 0
-      → IsRowOf (rows_paired whole precision entries) q (record { symbol = s; left = l; weight = w })
-  paired-answer q i l w s x f is se le we =
-      symbol-answer bits precision (map (λ x. x.1) entries) (map (λ x. whole x.0) entries) t (paired-long whole bits precision entries t)
-      q i l w s f (symbol-here i s x (paired-index q i f) is se) le we
 
   -- no two symbols of the rows are equal where no two of the entries are
   pub paired-symbols_differ : (eq : Symbol → Symbol → Bool) → IsDistinct eq (map (λ x. x.1) entries)
@@ -166,3 +176,10 @@ pub paired-lent : {Symbol Word : Type 0} (whole : Word → ℕ) (bits precision 
     × (0 ≤ length lent) × (length lent ≤ length lent)
 paired-lent whole bits precision entries lent t e =
     rw e (t, paired-all whole bits precision entries t, omega arith, omega arith)
+
+-- the row that was answered, where one was, is that of the quantile
+pub found-row : {Symbol A E : Type 0} {rows : List (Row Symbol)} {q i : ℕ} (r : Result A E) (row : A → Row Symbol) → IsRowIndexOf rows q i
+    → IfOk r (λ x. get_or rows i (row x) ≡ row x) → IfOk r (λ x. IsRowOf rows q (row x))
+found-row (Ok x) row found is = rw is at (found.row (row x))
+found-row (Err e) row found is = tt
+

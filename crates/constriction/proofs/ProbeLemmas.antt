@@ -3,11 +3,11 @@ use Rattle.std.specs.Prelude.{⊤}
 use Rattle.std.proofs.Common.{◌≡◌, ℕ, ◌+◌, ◌^◌, ◌<◌, List, length, get_or, map, sym, refl, ◌∙◌, arith}
 use Rattle.std.proofs.lemmas.List.{get_or_default}
 use Rattle.std.specs.List.Sorted.{IsStrictlyIncreasing}
-use Rattle.constriction.specs.Rows.{rows_of, contiguous_rows, IsRowOf}
+use Rattle.constriction.specs.Rows.{rows_of, contiguous_rows}
 use Rattle.constriction.specs.Stored.{IsStored, weights_of}
 use Rattle.constriction.specs.StoredLemmas.{stored-row, stored-some, stored-first, lefts-rows_from, take-length}
-use Rattle.constriction.specs.StoredRowLemmas.{symbols, symbols-long, symbol-at}
-use Rattle.constriction.specs.SymbolRowLemmas.{symbols-many, symbol-rows_many, symbol-row_at, symbol-is_at, symbol-row_of}
+use Rattle.constriction.specs.StoredRowLemmas.{symbols, symbols-long}
+use Rattle.constriction.specs.SymbolRowLemmas.{symbols-many, symbol-rows_many, symbol-row_at, symbol-row_of}
 use Rattle.constriction.specs.Probe.{TellsRows, IsRowIndexOf}
 use Rattle.constriction.specs.Probe.{IsSearchable, IsLastAtMost}
 
@@ -49,33 +49,8 @@ module _ {Symbol : Type 0} (bits precision : ℕ) (ss : List Symbol) (lefts : Li
         (λ h. f.last (i + 1) (omega arith) h) below);
   }
 
-  -- it is one of a row
-  pub symbol-index : (q i : ℕ) → IsRowIndexOf (rows_of ss (weights_of precision lefts)) q i → i < length lefts
-  symbol-index q i f = omega (arith, f.in_bounds, symbol-rows_many bits precision ss lefts t long)
-
-  -- so the parts of that row are those of the quantile's row
-  pub symbol-answer : (q i l w : ℕ) (s : Symbol) → IsRowIndexOf (rows_of ss (weights_of precision lefts)) q i → s ≡ get_or ss i s
-      → l ≡ get_or lefts i 0 → w ≡ get_or (weights_of precision lefts) i 0
-      → IsRowOf (rows_of ss (weights_of precision lefts)) q (record { symbol = s; left = l; weight = w })
-  symbol-answer q i l w s f se le we =
-      rw (symbol-is_at bits precision ss lefts t long i l w s (symbol-index q i f) se le we) at
-      (f.row (record { symbol = s; left = l; weight = w }))
-
 -- the same of a contiguous model
-module _ (bits precision : ℕ) (lefts : List ℕ) (t : IsStored bits precision lefts) where
-  pub stored-tells : TellsRows (contiguous_rows (weights_of precision lefts)) (λ _. ⊤) 0 lefts
-  stored-tells = symbol-tells bits precision (symbols bits precision lefts t) lefts t (symbols-long bits precision lefts t)
-
-  pub stored-found : (q i : ℕ) → q < 2 ^ precision → IsLastAtMost lefts q i
-      → IsRowIndexOf (contiguous_rows (weights_of precision lefts)) q i
-  stored-found = symbol-found bits precision (symbols bits precision lefts t) lefts t (symbols-long bits precision lefts t)
-
-  pub stored-index : (q i : ℕ) → IsRowIndexOf (contiguous_rows (weights_of precision lefts)) q i → i < length lefts
-  stored-index = symbol-index bits precision (symbols bits precision lefts t) lefts t (symbols-long bits precision lefts t)
-
-  pub stored-answer : (q i l w : ℕ) → IsRowIndexOf (contiguous_rows (weights_of precision lefts)) q i
-      → l ≡ get_or lefts i 0 → w ≡ get_or (weights_of precision lefts) i 0
-      → IsRowOf (contiguous_rows (weights_of precision lefts)) q (record { symbol = i; left = l; weight = w })
-  stored-answer q i l w f le we =
-      symbol-answer bits precision (symbols bits precision lefts t) lefts t (symbols-long bits precision lefts t) q i l w i f
-      (sym (symbol-at bits precision lefts t i i (stored-index q i f))) le we
+pub stored-lefts : (bits precision : ℕ) (lefts : List ℕ) → IsStored bits precision lefts
+    → map (λ r. r.left) (contiguous_rows (weights_of precision lefts)) ≡ lefts
+stored-lefts bits precision lefts t =
+    symbol-lefts bits precision (symbols bits precision lefts t) lefts t (symbols-long bits precision lefts t)

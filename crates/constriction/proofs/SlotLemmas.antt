@@ -94,7 +94,7 @@ module _ {S : Type 0} (bits precision : ℕ) (rows : List (Row S)) (t : RowsTile
   many = tiles-many bits precision rows t
 
   up : IsStrictlyIncreasing (map (λ r. r.left) rows)
-  up = up bits precision rows t
+  up = tiles-increase bits precision rows t
 
   module _ (j first : ℕ) (told : List ℕ) (p : IsSlotPart (map (λ r. r.left) rows) (slot_width precision) j first told) where
     meets-in : (i : ℕ) (r : Row S) → i < length rows → IsTile precision rows i r → MeetsSlot (slot_width precision) j r

@@ -53,11 +53,12 @@ module _ (bits precision : ℕ) (table : List ℕ) (t : IsTable bits precision t
   length-stored i j h =
       length-between (contiguous_rows (weights_of precision (lefts_in table))) i j (omega (arith, table-rows bits precision table t))
 
-  here : (i l w : ℕ) → i + 1 < length table
+  -- the row at an index
+  pub stored-here : (i l w : ℕ) → i + 1 < length table
       → l ≡ get_or (lefts_in table) i 0 → w ≡ get_or (weights_of precision (lefts_in table)) i 0
       → get_or (contiguous_rows (weights_of precision (lefts_in table))) i (record { symbol = i; left = l; weight = w })
       ≡ record { symbol = i; left = l; weight = w }
-  here i l w h le we =
+  stored-here i l w h le we =
       stored-at bits precision (lefts_in table) t.stored i _ (omega (arith, table-long bits precision table t)) ∙ rw (← le, ← we) refl
 
   pub first-stored : (i j l w : ℕ) → i < j → j < length table
@@ -65,7 +66,7 @@ module _ (bits precision : ℕ) (table : List ℕ) (t : IsTable bits precision t
       → rows_stored precision table i j ≡ record { symbol = i; left = l; weight = w } ∷ rows_stored precision table (i + 1) j
   first-stored i j l w h k le we =
       first-between (contiguous_rows (weights_of precision (lefts_in table))) i j _ h (omega (arith, table-rows bits precision table t))
-      (here i l w (omega arith) le we)
+      (stored-here i l w (omega arith) le we)
 
   pub last-stored : (i j l w : ℕ) → i < j → j < length table
       → l ≡ get_or (lefts_in table) (j - 1) 0 → w ≡ get_or (weights_of precision (lefts_in table)) (j - 1) 0
@@ -73,7 +74,7 @@ module _ (bits precision : ℕ) (table : List ℕ) (t : IsTable bits precision t
       ≡ rows_stored precision table i (j - 1) ++ record { symbol = j - 1; left = l; weight = w } ∷ []
   last-stored i j l w h k le we =
       last-between (contiguous_rows (weights_of precision (lefts_in table))) i j _ h (omega (arith, table-rows bits precision table t))
-      (here (j - 1) l w (omega arith) le we)
+      (stored-here (j - 1) l w (omega arith) le we)
 
 -- at first all rows of a stored table of words are left
 pub all-stored : {Word : Type 0} (whole : Word → ℕ) (bits precision : ℕ) (words lent : List Word)

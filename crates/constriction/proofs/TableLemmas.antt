@@ -112,8 +112,3 @@ pub lefts-words : {Word : Type 0} (whole : Word → ℕ) (words : List Word)
 lefts-words whole words =
     let long : length words - 1 ≡ length (map whole words) - 1 = omega (arith, length-map words whole) in
     sym (take-map whole (length words - 1) words) ∙ ap (λ n. take n (map whole words)) long
-
--- the index of a quantile's row is one of a row
-pub table-index : (bits precision : ℕ) (table : List ℕ) (q i : ℕ) → IsTable bits precision table
-    → IsRowIndexOf (contiguous_rows (weights_of precision (lefts_in table))) q i → i + 1 < length table
-table-index bits precision table q i t f = omega (arith, f.in_bounds, table-rows bits precision table t)

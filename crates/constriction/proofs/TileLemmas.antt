@@ -4,11 +4,13 @@ use Rattle.std.specs.List.Sorted.{IsStrictlyIncreasing}
 use Rattle.std.proofs.Common.{◌≡◌, ℕ, ◌+◌, ◌^◌, ◌<◌, List, length, get_or, map, sym, refl, ◌∙◌, arith}
 use Rattle.std.proofs.lemmas.List.{length-map}
 use Rattle.constriction.specs.Probe.{IsSearchable, IsLastAtMost, TellsRows, IsRowIndexOf}
-use Rattle.constriction.specs.Rows.{Row, RowsTile}
-use Rattle.constriction.specs.Stored.{IsStored}
+use Rattle.constriction.specs.Rows.{Row, RowsTile, contiguous_rows}
+use Rattle.constriction.specs.Stored.{IsStored, IsTable, lefts_in, weights_of}
 use Rattle.constriction.specs.StoredLemmas.{stored-row, stored-of_rows}
+use Rattle.constriction.specs.StoredRowLemmas.{stored-tiles}
 use Rattle.constriction.specs.SymbolRowLemmas.{symbol-row_at}
-use Rattle.constriction.proofs.ProbeLemmas.{stored-increases, stored-searchable, symbol-tells, symbol-found}
+use Rattle.constriction.proofs.ProbeLemmas.{stored-increases, stored-lefts, stored-searchable, symbol-tells, symbol-found}
+use Rattle.constriction.proofs.TableLemmas.{table-rows}
 
 -- rows that tile: the row at an index
 pub record IsTile {S : Type 0} (precision : ℕ) (rows : List (Row S)) (i : ℕ) (r : Row S) : Type 0 where
@@ -61,3 +63,38 @@ module _ {S : Type 0} (bits precision : ℕ) (rows : List (Row S)) (t : RowsTile
     stored-searchable bits precision (map (λ r. r.left) rows) tiles-stored,
     (λ q i below f. let same : 0 + i ≡ i = omega arith in rw same (tiles-found q i below f)),
   )
+
+  -- what a table of slots is made from
+  pub tiles-lefts : (lefts : List ℕ) → lefts ≡ map (λ r. r.left) rows
+      → IsSearchable lefts 0 × ((i : ℕ) → i < length lefts → get_or lefts i 0 < 2 ^ precision)
+  tiles-lefts lefts e = rw e (
+    stored-searchable bits precision (map (λ r. r.left) rows) tiles-stored 0,
+    (λ i h. let row = stored-row bits precision (map (λ r. r.left) rows) i tiles-stored h in omega (arith, row.positive, row.within)),
+  )
+
+-- the same of a stored table: what was lent of it are its left cumulatives
+module _ (bits precision : ℕ) (table lefts : List ℕ) (t : IsTable bits precision table) (e : lefts ≡ lefts_in table) where
+  pub table-lefts : lefts ≡ map (λ r. r.left) (contiguous_rows (weights_of precision (lefts_in table)))
+  table-lefts = e ∙ sym (stored-lefts bits precision (lefts_in table) t.stored)
+
+  pub table-probed : TellsRows (contiguous_rows (weights_of precision (lefts_in table))) (λ _. ⊤) 0 lefts
+      × ((q : ℕ) → IsSearchable lefts q)
+      × ((q i : ℕ) → q < 2 ^ precision → IsLastAtMost lefts q i
+      → IsRowIndexOf (contiguous_rows (weights_of precision (lefts_in table))) q (0 + i))
+  table-probed =
+      tiles-probed bits precision (contiguous_rows (weights_of precision (lefts_in table)))
+      (stored-tiles bits precision (lefts_in table) t.stored) lefts table-lefts
+
+  -- the row of a quantile is one of the table
+  pub table-index : (q i : ℕ) → q < 2 ^ precision → IsLastAtMost lefts q i
+      → IsRowIndexOf (contiguous_rows (weights_of precision (lefts_in table))) q i × (i + 1 < length table)
+  table-index q i below f =
+      let same : 0 + i ≡ i = omega arith in
+      let found : IsRowIndexOf (contiguous_rows (weights_of precision (lefts_in table))) q i = rw same at (table-probed.2 q i below f) in
+      (found, omega (arith, found.in_bounds, table-rows bits precision table t))
+
+  -- what a table of slots is made from
+  pub table-search : IsSearchable lefts 0 × ((i : ℕ) → i < length lefts → get_or lefts i 0 < 2 ^ precision)
+  table-search =
+      tiles-lefts bits precision (contiguous_rows (weights_of precision (lefts_in table)))
+      (stored-tiles bits precision (lefts_in table) t.stored) lefts table-lefts

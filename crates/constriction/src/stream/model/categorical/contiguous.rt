@@ -1,6 +1,6 @@
 //! Models of the symbols 0, 1, .., which find the row of a quantile by a search.
 
-ghost use Rattle.std.specs.Prelude.{◌≡◌, ◌+◌, ◌^◌, ◌<◌, ◌≤◌, ℕ, length, map, nat_eq, slice_index_or, IfOk, IfErr, IsOk, ⊤};
+ghost use Rattle.std.specs.Prelude.{◌≡◌, ◌+◌, ◌^◌, ◌<◌, ◌≤◌, ℕ, length, map, nat_eq, IfOk, IfErr, IsOk, ⊤};
 ghost use Rattle.std.specs.Iterator.{IsFiniteIterable, UpTo, size};
 ghost use Rattle.constriction.specs.Acceptance.{completed, IsAccepted, GaveGood, GaveBad};
 ghost use Rattle.std.proofs.Common.{eq-eqb, refl};
@@ -11,8 +11,8 @@ ghost use Rattle.constriction.specs.Stored.{IsTable, lefts_in, weights_of};
 ghost use Rattle.constriction.specs.StoredRowLemmas.{stored-within, stored-tiles};
 ghost use Rattle.constriction.specs.Tables.{rows_stored};
 
-use crate::stream::model::categorical::filling::table_of;
-use crate::stream::model::categorical::stored::row_at;
+use crate::stream::model::categorical::filling::{copied, table_of};
+use crate::stream::model::categorical::stored::{contiguous_row_at, row_at};
 use crate::stream::model::categorical::symbol_table::ContiguousSymbolTable;
 use crate::stream::model::cdf_probe::{Alone, CdfProbe};
 use crate::stream::model::error::ModelError;
@@ -36,7 +36,7 @@ pub struct ContiguousCategoricalEntropyModel<
     Cdf: SafeBuf<Probability>,
     const PRECISION: usize,
 > {
-    cdf: Cdf,
+    pub(crate) cdf: Cdf,
     probability: PhantomData<Probability>,
     ghost precise: { (0 < PRECISION) × (PRECISION ≤ Probability.BITS) },
     ghost stored: { IsTable Probability.BITS PRECISION (map Probability.whole (Cdf.words_of cdf)) },
@@ -130,26 +130,10 @@ impl<
     /// The left cumulatives, one word a row.
     #[inline]
     pub(crate) fn cdf_entries<'m>(&'m self) -> &'m [Probability]
-        ensures { map Probability.whole result.now ≡ map (λ r. r.left)
-            (⟦<ContiguousCategoricalEntropyModel<Probability, Cdf, PRECISION> as EntropyModel<PRECISION>>⟧.rows self.now) }
+        ensures { map Probability.whole result.now ≡ lefts_in (map Probability.whole (Cdf.words_of self.now.cdf)) }
     {
         let cdf = self.cdf.words();
         &cdf[..cdf.len() - 1]
-    }
-
-    /// The row that stands at an index.
-    #[inline]
-    pub(crate) fn row_numbered(&self, index: usize) -> (usize, Probability, Weight<Probability>)
-        requires { index < length
-            (⟦<ContiguousCategoricalEntropyModel<Probability, Cdf, PRECISION> as EntropyModel<PRECISION>>⟧.rows self.now) }
-        ensures row { slice_index_or
-            (⟦<ContiguousCategoricalEntropyModel<Probability, Cdf, PRECISION> as EntropyModel<PRECISION>>⟧.rows self.now) index
-            (row_of Probability.whole Probability.NonZero.base result)
-            ≡ row_of Probability.whole Probability.NonZero.base result }
-        ensures within { LiesWithin PRECISION (row_of Probability.whole Probability.NonZero.base result) }
-    {
-        let (left, weight) = row_at::<Probability, PRECISION>(self.cdf.words(), index);
-        (index, left, weight)
     }
 
     /// The same model over a copy of the table of this one.
@@ -164,7 +148,7 @@ impl<
             ⟦<ContiguousCategoricalEntropyModel<Probability, Vec<Probability>, PRECISION> as EntropyModel<PRECISION>>⟧.rows m
             ≡ ⟦<ContiguousCategoricalEntropyModel<Probability, Cdf, PRECISION> as EntropyModel<PRECISION>>⟧.rows self.now) }
     {
-        let cdf = self.cdf.words().to_vec(alloc)?;
+        let cdf = copied(alloc, self.cdf.words())?;
         Ok(ContiguousCategoricalEntropyModel {
             cdf,
             probability: PhantomData,
@@ -269,7 +253,7 @@ impl<Probability: BitArray, Cdf: SafeBuf<Probability>, const PRECISION: usize> D
     {
         let mut rows = CdfProbe::<Probability, Alone>::new(self.cdf_entries());
         let index = row_of_quantile(&mut rows, quantile);
-        Ok(self.row_numbered(index))
+        Ok(contiguous_row_at::<Probability, PRECISION>(self.cdf.words(), index))
     }
 
     ghost tile_law = { λ m. stored-tiles _ _ _ m.stored.stored };

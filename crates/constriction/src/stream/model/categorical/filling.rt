@@ -67,6 +67,16 @@ pub(crate) fn room_for<T: Drop>(alloc: Global, announced: usize) -> Vec<T>
     }
 }
 
+/// A copy of these words, in one allocation.
+#[inline]
+pub(crate) fn copied<W: Copy>(alloc: Global, words: &[W]) -> Result<Vec<W>, AllocError>
+    ensures { IfOk result (λ v. v.items ≡ words.now) }
+{
+    let mut copy = Vec::with_capacity(alloc, words.len())?;
+    copy.extend_from_slice(words)?;
+    Ok(copy)
+}
+
 /// How many words to ask memory for at once: one for each weight that is announced, one for the
 /// inferred one, and one for the total.
 #[inline]

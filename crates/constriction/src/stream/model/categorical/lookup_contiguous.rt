@@ -1,6 +1,6 @@
 //! Models of the symbols 0, 1, .., which look up where to search for the row of a quantile.
 
-ghost use Rattle.std.specs.Prelude.{◌≡◌, ◌+◌, ◌/◌, ◌^◌, ◌<◌, ◌≤◌, ℕ, length, map, IfOk, IfErr, IsOk};
+ghost use Rattle.std.specs.Prelude.{◌≡◌, ◌+◌, ◌/◌, ◌^◌, ◌<◌, ◌≤◌, ℕ, length, map, IfOk, IfErr, IsOk, ⊤};
 ghost use Rattle.std.specs.Iterator.{IsFiniteIterable, UpTo, size};
 ghost use Rattle.constriction.specs.Acceptance.{completed, IsAccepted, GaveGood, GaveBad};
 ghost use Rattle.constriction.specs.Model.{row_of, LiesWithin};
@@ -8,11 +8,14 @@ ghost use Rattle.constriction.specs.Probe.{TellsRows, IsRowIndexOf, IsSearchable
 ghost use Rattle.constriction.specs.Rows.{contiguous_rows, IsRowOf};
 ghost use Rattle.constriction.specs.Slots.{MeetsSlot, slot_count, slot_width};
 ghost use Rattle.constriction.specs.SlotTable.{HasSlots};
+ghost use Rattle.constriction.specs.Stored.{lefts_in, weights_of};
 ghost use Rattle.constriction.specs.StoredRowLemmas.{stored-tiles};
 ghost use Rattle.constriction.specs.Tables.{rows_stored};
 
 use crate::stream::model::categorical::contiguous::ContiguousCategoricalEntropyModel;
+use crate::stream::model::categorical::filling::copied;
 use crate::stream::model::categorical::slots::{row_in_slot, slot_probe, slots_of};
+use crate::stream::model::categorical::stored::contiguous_row_at;
 use crate::stream::model::categorical::symbol_table::ContiguousSymbolTable;
 use crate::stream::model::cdf_probe::{Alone, CdfProbe};
 use crate::stream::model::error::ModelError;
@@ -40,7 +43,7 @@ pub struct ContiguousLookupDecoderModel<
     lookup_table: LookupTable,
     ghost narrow: { PRECISION ≤ 63 },
     ghost slots: { HasSlots (slot_width PRECISION) (slot_count PRECISION)
-        (map (λ r. r.left) (⟦<ContiguousCategoricalEntropyModel<Probability, Cdf, PRECISION> as EntropyModel<PRECISION>>⟧.rows model))
+        (map (λ r. r.left) (contiguous_rows (weights_of PRECISION (lefts_in (map Probability.whole (Cdf.words_of model.cdf))))))
         (map Probability.whole (LookupTable.words_of lookup_table)) },
 }
 
@@ -60,32 +63,6 @@ impl<
     type Probability = Probability;
 
     ghost rows = { λ m. ⟦<ContiguousCategoricalEntropyModel<Probability, Cdf, PRECISION> as EntropyModel<PRECISION>>⟧.rows m.model };
-}
-
-impl<Probability: IndexWord, Cdf: SafeBuf<Probability>, const PRECISION: usize> ContiguousLookupDecoderModel<
-    Probability,
-    Cdf,
-    Vec<Probability>,
-    PRECISION,
-> {
-    /// The model of the same rows, with a table. Want of memory for the table is its only refusal.
-    fn with_table(
-        alloc: Global,
-        model: ContiguousCategoricalEntropyModel<Probability, Cdf, PRECISION>,
-    ) -> Result<Self, AllocError>
-    where
-        Cdf: Drop,
-        requires narrow { PRECISION ≤ 63 }
-        ensures { IfOk result (λ m.
-            ⟦<ContiguousLookupDecoderModel<Probability, Cdf, Vec<Probability>, PRECISION> as EntropyModel<PRECISION>>⟧.rows m
-            ≡ ⟦<ContiguousCategoricalEntropyModel<Probability, Cdf, PRECISION> as EntropyModel<PRECISION>>⟧.rows model) }
-    {
-        let lookup_table = slots_of::<Probability, Alone, PRECISION>(alloc, model.cdf_entries())?;
-        Ok(Self {
-            model,
-            lookup_table,
-        })
-    }
 }
 
 impl<Probability: IndexWord, const PRECISION: usize> ContiguousLookupDecoderModel<
@@ -131,6 +108,23 @@ impl<Probability: IndexWord, const PRECISION: usize> ContiguousLookupDecoderMode
         Ok(Self::with_table(alloc, model)?)
     }
 
+    /// The model of the same rows, with a table. Want of memory for the table is its only refusal.
+    fn with_table(
+        alloc: Global,
+        model: ContiguousCategoricalEntropyModel<Probability, Vec<Probability>, PRECISION>,
+    ) -> Result<Self, AllocError>
+        requires narrow { PRECISION ≤ 63 }
+        ensures { IfOk result (λ m.
+            ⟦<ContiguousLookupDecoderModel<Probability, Vec<Probability>, Vec<Probability>, PRECISION> as EntropyModel<PRECISION>>⟧.rows m
+            ≡ ⟦<ContiguousCategoricalEntropyModel<Probability, Vec<Probability>, PRECISION> as EntropyModel<PRECISION>>⟧.rows model) }
+    {
+        let lookup_table = slots_of::<Probability, Alone, PRECISION>(alloc, model.cdf_entries())?;
+        Ok(Self {
+            model,
+            lookup_table,
+        })
+    }
+
     /// A model of the same rows, with rows and a table of its own from the allocators of this one's.
     ///
     /// Two allocations, and one copy of each.
@@ -140,7 +134,7 @@ impl<Probability: IndexWord, const PRECISION: usize> ContiguousLookupDecoderMode
             ≡ ⟦<ContiguousLookupDecoderModel<Probability, Vec<Probability>, Vec<Probability>, PRECISION> as EntropyModel<PRECISION>>⟧.rows self.now) }
     {
         let model = self.model.clone()?;
-        let lookup_table = self.lookup_table.to_vec(*self.lookup_table.allocator())?;
+        let lookup_table = copied(*self.lookup_table.allocator(), self.lookup_table.as_slice())?;
         Ok(Self {
             model,
             lookup_table,
@@ -289,7 +283,7 @@ impl<
             self.lookup_table.words(),
             quantile,
         );
-        Ok(self.model.row_numbered(index))
+        Ok(contiguous_row_at::<Probability, PRECISION>(self.model.cdf.words(), index))
     }
 
     ghost tile_law = { λ m. stored-tiles _ _ _ m.model.stored.stored };

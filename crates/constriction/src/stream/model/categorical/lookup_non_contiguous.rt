@@ -1,6 +1,6 @@
 //! Models of any symbols, which look up where to search for the row of a quantile.
 
-ghost use Rattle.std.specs.Prelude.{◌≡◌, ◌+◌, ◌/◌, ◌^◌, ◌<◌, ◌≤◌, ℕ, length, map, IfOk, IfErr};
+ghost use Rattle.std.specs.Prelude.{◌≡◌, ◌+◌, ◌/◌, ◌^◌, ◌<◌, ◌≤◌, ℕ, length, map, IfOk, IfErr, ⊤};
 ghost use Rattle.std.specs.Iterator.{IsFiniteIterable, UpTo, size};
 ghost use Rattle.constriction.specs.Acceptance.{completed, AreAccepted, GaveBothGood, GaveBothBad};
 ghost use Rattle.constriction.specs.Probe.{TellsRows, IsRowIndexOf, IsSearchable, IsLastAtMost};
@@ -10,9 +10,11 @@ ghost use Rattle.constriction.specs.SlotTable.{HasSlots};
 ghost use Rattle.constriction.specs.SymbolRowLemmas.{paired-tiles, yields-row};
 ghost use Rattle.constriction.specs.Tables.{rows_paired, rows_between, ClonesAreSame, MayRefuse};
 
+use crate::stream::model::categorical::filling::copied;
 use crate::stream::model::categorical::non_contiguous::NonContiguousCategoricalDecoderModel;
 use crate::stream::model::categorical::non_contiguous_table::NonContiguousSymbolTable;
 use crate::stream::model::categorical::slots::{row_in_slot, slot_probe, slots_of};
+use crate::stream::model::categorical::stored::cloned_row_at;
 use crate::stream::model::cdf_probe::{CdfProbe, WithSymbol};
 use crate::stream::model::error::ModelError;
 use crate::stream::model::probe::Probe;
@@ -40,7 +42,7 @@ pub struct NonContiguousLookupDecoderModel<
     lookup_table: LookupTable,
     ghost narrow: { PRECISION ≤ 63 },
     ghost slots: { HasSlots (slot_width PRECISION) (slot_count PRECISION)
-        (map (λ r. r.left) (⟦<NonContiguousCategoricalDecoderModel<Symbol, Probability, Cdf, PRECISION> as EntropyModel<PRECISION>>⟧.rows model))
+        (map (λ r. r.left) (rows_paired Probability.whole PRECISION (Cdf.words_of model.cdf)))
         (map Probability.whole (LookupTable.words_of lookup_table)) },
 }
 
@@ -64,35 +66,6 @@ impl<
     type Probability = Probability;
 
     ghost rows = { λ m. ⟦<NonContiguousCategoricalDecoderModel<Symbol, Probability, Cdf, PRECISION> as EntropyModel<PRECISION>>⟧.rows m.model };
-}
-
-impl<
-    Symbol: Eq,
-    Probability: IndexWord,
-    Cdf: SafeBuf<(Probability, Symbol)>,
-    const PRECISION: usize,
-> NonContiguousLookupDecoderModel<Symbol, Probability, Cdf, Vec<Probability>, PRECISION> {
-    /// The model of the same rows, with a table. Want of memory for the table is its only refusal.
-    pub(crate) fn with_table(
-        alloc: Global,
-        model: NonContiguousCategoricalDecoderModel<Symbol, Probability, Cdf, PRECISION>,
-    ) -> Result<Self, AllocError>
-    where
-        Cdf: Drop,
-        requires narrow { PRECISION ≤ 63 }
-        ensures { IfOk result (λ m.
-            ⟦<NonContiguousLookupDecoderModel<Symbol, Probability, Cdf, Vec<Probability>, PRECISION> as EntropyModel<PRECISION>>⟧.rows m
-            ≡ ⟦<NonContiguousCategoricalDecoderModel<Symbol, Probability, Cdf, PRECISION> as EntropyModel<PRECISION>>⟧.rows model) }
-    {
-        let lookup_table = slots_of::<(Probability, Symbol), WithSymbol, PRECISION>(
-            alloc,
-            model.cdf_entries(),
-        )?;
-        Ok(Self {
-            model,
-            lookup_table,
-        })
-    }
 }
 
 impl<
@@ -155,6 +128,26 @@ impl<
         )?;
         Ok(Self::with_table(alloc, model)?)
     }
+
+    /// The model of the same rows, with a table. Want of memory for the table is its only refusal.
+    pub(crate) fn with_table(
+        alloc: Global,
+        model: NonContiguousCategoricalDecoderModel<Symbol, Probability, Vec<(Probability, Symbol)>, PRECISION>,
+    ) -> Result<Self, AllocError>
+        requires narrow { PRECISION ≤ 63 }
+        ensures { IfOk result (λ m.
+            ⟦<NonContiguousLookupDecoderModel<Symbol, Probability, Vec<(Probability, Symbol)>, Vec<Probability>, PRECISION> as EntropyModel<PRECISION>>⟧.rows m
+            ≡ ⟦<NonContiguousCategoricalDecoderModel<Symbol, Probability, Vec<(Probability, Symbol)>, PRECISION> as EntropyModel<PRECISION>>⟧.rows model) }
+    {
+        let lookup_table = slots_of::<(Probability, Symbol), WithSymbol, PRECISION>(
+            alloc,
+            model.cdf_entries(),
+        )?;
+        Ok(Self {
+            model,
+            lookup_table,
+        })
+    }
 }
 
 impl<
@@ -178,7 +171,7 @@ impl<
             ≡ ⟦<NonContiguousLookupDecoderModel<Symbol, Probability, Vec<(Probability, Symbol)>, Vec<Probability>, PRECISION> as EntropyModel<PRECISION>>⟧.rows self.now) }
     {
         let model = self.model.clone()?;
-        let lookup_table = self.lookup_table.to_vec(*self.lookup_table.allocator())?;
+        let lookup_table = copied(*self.lookup_table.allocator(), self.lookup_table.as_slice())?;
         Ok(Self {
             model,
             lookup_table,
@@ -337,7 +330,7 @@ impl<
             self.lookup_table.words(),
             quantile,
         );
-        self.model.row_numbered(index)
+        cloned_row_at::<Probability, Symbol, PRECISION>(self.model.cdf.words(), index)
     }
 
     ghost tile_law = { λ m. paired-tiles Probability.whole _ _ _ m.model.stored };

@@ -1,12 +1,11 @@
 //! Models of any symbols, which find the row of a quantile by a search.
 
-ghost use Rattle.std.specs.Prelude.{◌≡◌, ◌+◌, ◌^◌, ◌<◌, ◌≤◌, ℕ, length, map, slice_index_or, IfErr, IfOk, ⊤};
+ghost use Rattle.std.specs.Prelude.{◌≡◌, ◌+◌, ◌^◌, ◌<◌, ◌≤◌, ℕ, length, map, IfOk, ⊤};
 ghost use Rattle.std.specs.Iterator.{IsFiniteIterable, UpTo, size};
 ghost use Rattle.std.specs.List.{list_any, IsDistinct};
 ghost use Rattle.std.proofs.Props.{props};
 ghost use Rattle.constriction.specs.Acceptance.{completed, AreAccepted, GaveBothGood, GaveBothBad};
 ghost use Rattle.constriction.specs.Filling.{HoldsRows};
-ghost use Rattle.constriction.specs.Model.{row_of, LiesWithin};
 ghost use Rattle.constriction.specs.Probe.{TellsRows, IsRowIndexOf, IsSearchable, IsLastAtMost};
 ghost use Rattle.constriction.specs.Rows.{rows_of};
 ghost use Rattle.constriction.specs.Stored.{IsStored};
@@ -16,7 +15,7 @@ ghost use Rattle.constriction.specs.Tables.{rows_paired, rows_between, ClonesAre
 use crate::stream::model::categorical::filling::{room_for, rows_announced};
 use crate::stream::model::categorical::non_contiguous_table::NonContiguousSymbolTable;
 use crate::stream::model::categorical::reading::{TakesRows, rows_read};
-use crate::stream::model::categorical::stored::paired_row_at;
+use crate::stream::model::categorical::stored::cloned_row_at;
 use crate::stream::model::cdf_probe::{CdfProbe, WithSymbol};
 use crate::stream::model::error::ModelError;
 use crate::stream::model::probe::Probe;
@@ -211,8 +210,7 @@ impl<
     /// The entries: left cumulative and symbol of each row.
     #[inline]
     pub(crate) fn cdf_entries<'m>(&'m self) -> &'m [(Probability, Symbol)]
-        ensures { map (λ x. Probability.whole x.0) result.now ≡ map (λ r. r.left)
-            (⟦<NonContiguousCategoricalDecoderModel<Symbol, Probability, Cdf, PRECISION> as EntropyModel<PRECISION>>⟧.rows self.now) }
+        ensures { result.now ≡ Cdf.words_of self.now.cdf }
     {
         self.cdf.words()
     }
@@ -292,30 +290,6 @@ impl<
             entries: PhantomData,
         })
     }
-
-    /// The row that stands at an index, with a clone of its symbol.
-    #[inline]
-    pub(crate) fn row_numbered(
-        &self,
-        index: usize,
-    ) -> Result<(Symbol, Probability, Weight<Probability>), AllocError>
-        requires clones { ClonesAreSame Symbol.is_clone }
-        requires in_bounds { index < length
-            (⟦<NonContiguousCategoricalDecoderModel<Symbol, Probability, Cdf, PRECISION> as EntropyModel<PRECISION>>⟧.rows self.now) }
-        ensures row { IfOk result (λ x. slice_index_or
-            (⟦<NonContiguousCategoricalDecoderModel<Symbol, Probability, Cdf, PRECISION> as EntropyModel<PRECISION>>⟧.rows self.now) index
-            (row_of Probability.whole Probability.NonZero.base x)
-            ≡ row_of Probability.whole Probability.NonZero.base x) }
-        ensures within { IfOk result (λ x. LiesWithin PRECISION (row_of Probability.whole Probability.NonZero.base x)) }
-        ensures refused { IfErr result (λ _. MayRefuse Symbol.is_infallible) }
-    {
-        let cdf = self.cdf.words();
-        let (left, weight) = paired_row_at::<Probability, Symbol, PRECISION>(cdf, index);
-        match cdf[index].1.clone() {
-            Ok(symbol) => Ok((symbol, left, weight)),
-            Err(refused) => Err(refused),
-        }
-    }
 }
 
 impl<
@@ -336,7 +310,8 @@ impl<
         quantile: Probability,
     ) -> Result<(Symbol, Probability, Weight<Probability>), AllocError> {
         let mut rows = CdfProbe::<(Probability, Symbol), WithSymbol>::new(self.cdf_entries());
-        self.row_numbered(row_of_quantile(&mut rows, quantile))
+        let index = row_of_quantile(&mut rows, quantile);
+        cloned_row_at::<Probability, Symbol, PRECISION>(self.cdf.words(), index)
     }
 
     ghost tile_law = { λ m. paired-tiles Probability.whole _ _ _ m.stored };

@@ -1,10 +1,14 @@
 //! The rows of a stored table.
 
-ghost use Rattle.std.specs.Prelude.{◌≡◌, ◌+◌, ◌<◌, ◌≤◌, length, map, slice_index};
+ghost use Rattle.std.specs.Prelude.{◌≡◌, ◌+◌, ◌<◌, ◌≤◌, length, map, slice_index, slice_index_or, IfOk, IfErr};
+ghost use Rattle.constriction.specs.Model.{row_of, LiesWithin};
+ghost use Rattle.constriction.specs.Rows.{contiguous_rows};
 ghost use Rattle.constriction.specs.Stored.{IsStored, IsTable, lefts_in, weights_of};
+ghost use Rattle.constriction.specs.Tables.{rows_paired, ClonesAreSame, MayRefuse};
 
 use crate::stream::model::cdf_probe::{Alone, CdfEntry, WithSymbol};
 use constriction_words::{BitArray, WholeNumber};
+use std::alloc::AllocError;
 
 /// Where the row at `index` begins, and its weight: the difference to where the next one begins.
 #[inline]
@@ -84,4 +88,45 @@ pub(crate) fn paired_row_at<P: BitArray, Symbol, const PRECISION: usize>(
 {
     let (left, weight) = row_words_among::<(P, Symbol), WithSymbol, PRECISION>(entries, index);
     (left, weight.into_nonzero_unchecked())
+}
+
+/// The row at `index` of a contiguous model: its symbol is the index.
+#[inline]
+pub(crate) fn contiguous_row_at<P: BitArray, const PRECISION: usize>(
+    cdf: &[P],
+    index: usize,
+) -> (usize, P, P::NonZero)
+    requires fits { PRECISION ≤ P.BITS }
+    requires table { IsTable P.BITS PRECISION (map P.whole cdf.now) }
+    requires in_bounds { index + 1 < length cdf.now }
+    ensures row { slice_index_or (contiguous_rows (weights_of PRECISION (lefts_in (map P.whole cdf.now)))) index
+        (row_of P.whole P.NonZero.base result) ≡ row_of P.whole P.NonZero.base result }
+    ensures within { LiesWithin PRECISION (row_of P.whole P.NonZero.base result) }
+{
+    let (left, weight) = row_at::<P, PRECISION>(cdf, index);
+    (index, left, weight)
+}
+
+/// The row at `index` of entries that have a left cumulative and a symbol each, with a clone of the
+/// symbol.
+#[inline]
+pub(crate) fn cloned_row_at<P: BitArray, Symbol: Clone, const PRECISION: usize>(
+    cdf: &[(P, Symbol)],
+    index: usize,
+) -> Result<(Symbol, P, P::NonZero), AllocError>
+    requires clones { ClonesAreSame Symbol.is_clone }
+    requires some { 0 < PRECISION }
+    requires fits { PRECISION ≤ P.BITS }
+    requires stored { IsStored P.BITS PRECISION (map (λ x. P.whole x.0) cdf.now) }
+    requires in_bounds { index < length cdf.now }
+    ensures row { IfOk result (λ x. slice_index_or (rows_paired P.whole PRECISION cdf.now) index
+        (row_of P.whole P.NonZero.base x) ≡ row_of P.whole P.NonZero.base x) }
+    ensures within { IfOk result (λ x. LiesWithin PRECISION (row_of P.whole P.NonZero.base x)) }
+    ensures refused { IfErr result (λ _. MayRefuse Symbol.is_infallible) }
+{
+    let (left, weight) = paired_row_at::<P, Symbol, PRECISION>(cdf, index);
+    match cdf[index].1.clone() {
+        Ok(symbol) => Ok((symbol, left, weight)),
+        Err(refused) => Err(refused),
+    }
 }

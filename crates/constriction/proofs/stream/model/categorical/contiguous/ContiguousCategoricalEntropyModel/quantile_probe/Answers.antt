@@ -1,17 +1,16 @@
-use Rattle.std.proofs.Common.{◌+◌, ◌∙◌}
-use Rattle.constriction.specs.StoredRowLemmas.{stored-tiles}
-use Rattle.constriction.proofs.TileLemmas.{tiles-probed}
+use Rattle.std.proofs.Common.{◌+◌, ◌∙◌, map}
+use Rattle.constriction.proofs.TileLemmas.{table-probed}
 use Rattle.constriction.proofs.stream.model.categorical.contiguous.ContiguousCategoricalEntropyModel.quantile_probe.Goals as goal
 
 pub returns : goal.returns
 returns g c =
-    let bits = g.Probability.BitArray.BITS in
-    let q = g.Probability.BitArray.whole c.args.quantile in
-    let probed = tiles-probed bits g.row.PRECISION _ (stored-tiles bits g.row.PRECISION _ c.args.self.now.stored.stored) _
+    let whole = g.Probability.BitArray.whole in
+    let table = map whole (g.Cdf.SafeBuf.words_of c.args.self.now.cdf) in
+    let probed = table-probed g.Probability.BitArray.BITS g.row.PRECISION table _ c.args.self.now.stored
     (c.new.ensures.cumulatives ∙ c.cdf_entries.ensures) in
     record {
       rows = probed.0;
-      searchable = probed.1 q;
+      searchable = probed.1 (whole c.args.quantile);
       fresh = c.new.ensures.fresh;
-      found = λ i f. probed.2 q i c.requires f;
+      found = λ i f. probed.2 (whole c.args.quantile) i c.requires f;
     }
