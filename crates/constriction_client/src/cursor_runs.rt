@@ -56,8 +56,28 @@ fn step<Word: Copy + Drop, Buf: SafeBufMut<Word>>(
     }
 }
 
-/// Makes a call of a cursor that was turned round, with positions as of the unreversed side.
+/// Seeks a position of the unreversed side in a cursor that was turned round.
 #[tactic(auto, using(crate::proofs::Stepping::seek_back))]
+fn seek_reversed<Word, Buf: SafeBufMut<Word>>(
+    reversed: &mut Reverse<Cursor<Word, Buf>>,
+    position: usize,
+) -> CursorReply<Word>
+    ensures reply { result ≡ reply_of (CursorCall.Seek position) (reversal (state_of reversed.old.0)) }
+    ensures moved { reversal (state_of reversed.new.0)
+        ≡ moved_by (CursorCall.Seek position) (reversal (state_of reversed.old.0)) }
+    ensures kept { buf_of reversed.new.0 ≡ Buf.with_words (buf_of reversed.old.0) (Buf.words_of (buf_of reversed.new.0)) }
+{
+    let len = reversed.0.buf().words().len();
+    if position > len {
+        return CursorReply::NotMoved;
+    }
+    match reversed.seek(len - position) {
+        Ok(()) => CursorReply::Moved,
+        Err(()) => unreachable!(),
+    }
+}
+
+/// Makes a call of a cursor that was turned round, with positions as of the unreversed side.
 fn step_reversed<Word: Copy + Drop, Buf: SafeBufMut<Word>>(
     reversed: &mut Reverse<Cursor<Word, Buf>>,
     call: &CursorCall<Word>,
@@ -91,16 +111,7 @@ fn step_reversed<Word: Copy + Drop, Buf: SafeBufMut<Word>>(
             CursorReply::Flag(BoundedReadWords::<Word, Queue>::is_exhausted(reversed))
         }
         CursorCall::Full => CursorReply::Flag(reversed.is_full()),
-        CursorCall::Seek(position) => {
-            let len = reversed.0.buf().words().len();
-            if *position > len {
-                return CursorReply::NotMoved;
-            }
-            match reversed.seek(len - *position) {
-                Ok(()) => CursorReply::Moved,
-                Err(()) => unreachable!(),
-            }
-        }
+        CursorCall::Seek(position) => seek_reversed(reversed, *position),
     }
 }
 
@@ -170,11 +181,12 @@ pub fn run_cursor<Word: Copy + Drop, Buf: SafeBufMut<Word>>(
     Ok(run_reserved(cursor, calls, replies))
 }
 
-/// As [`run_cursor`], on a cursor that was turned round: it answers as the cursor did that was turned
-/// round, and overwrites the same words.
+/// As [`run_cursor`], on a cursor that was turned round, as by `into_reversed`: it replies as the
+/// cursor would that was turned round, and is left as the reversal of what would be left of that.
 ///
-/// Positions are given and taken as of that cursor: `Position` is the number of words less the inner
-/// position, and `Seek(position)` moves to the number of words less `position`.
+/// Positions are given and taken as of the unreversed side. The reply to `Position` is the number of
+/// words less the inner position, and `Seek(position)` moves to the number of words less `position`,
+/// or replies `NotMoved` where there are fewer words than `position`.
 pub fn run_reversed<Word: Copy + Drop, Buf: SafeBufMut<Word>>(
     alloc: Global,
     reversed: &mut Reverse<Cursor<Word, Buf>>,
