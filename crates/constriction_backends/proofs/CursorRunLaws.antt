@@ -60,7 +60,7 @@ module _ {W B : Type 0} {g : Ghosts B W} where
       (again : (b : B) (ws vs : List W) → length vs ≡ length (g.words_of b)
       → with_words (with_words b ws) vs ≡ with_words b vs) where
     -- a buffer that has other words twice has the last ones
-    twice : (b j d : B) (ws : List W) → j ≡ with_words b ws → d ≡ with_words j (g.words_of d) → d ≡ with_words b (g.words_of d)
+    pub twice : (b j d : B) (ws : List W) → j ≡ with_words b ws → d ≡ with_words j (g.words_of d) → d ≡ with_words b (g.words_of d)
     twice b j d ws e k =
         let one : length (g.words_of j) ≡ length (g.words_of b) = ap (λ x. length (g.words_of x)) e ∙ keeps_length b ws in
         let two : length (g.words_of d) ≡ length (g.words_of j) = ap (λ x. length (g.words_of x)) k ∙ keeps_length j (g.words_of d) in

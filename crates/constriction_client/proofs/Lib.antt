@@ -7,6 +7,7 @@ mod Numbers
 mod Places
 mod Returning
 mod RowTexts
+mod Stepping
 mod WordNumbers
 mod WordReading
 mod Writing

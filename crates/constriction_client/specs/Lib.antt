@@ -1,5 +1,6 @@
 pub mod Collecting
 pub mod Coming
+pub mod CursorCalls
 pub mod Grammar
 pub mod NumberWords
 pub mod Parts

@@ -1,11 +1,14 @@
 //! What follows from the definitions that the contracts cite, each law the contract of a function.
 
+ghost use Rattle.constriction_client.specs.CursorCalls.{RunsAlike};
 ghost use Rattle.constriction_client.specs.ThereAndBack.{ReadsBack, ReadsBackReversed};
 ghost use Rattle.constriction_client.specs.Reading.{ReadsExactly};
 ghost use Rattle.constriction_client.specs.Text.{FindsARow, FindsTheRow, TestsAcceptance};
 
+mod cursor_runs;
 mod round_trips;
 
+pub use self::cursor_runs::run_cursor_and_reversal;
 pub use self::round_trips::{
     CursorFault, DecoderAndEncoder, decoder_and_encoder, there_and_back,
     there_and_back_in_a_cursor, there_and_back_of_two,
@@ -40,4 +43,11 @@ pub fn the_row_found_is_the_row_of_the_quantile()
 /// There is one for each quantile in range.
 pub fn each_quantile_in_range_has_a_row()
     ensures { FindsARow }
+{}
+
+/// A run of calls in a state and a run of the same calls in its reversal have the same replies, and
+/// leave a state and its reversal. So it is of what [`run_cursor`](crate::run_cursor) and
+/// [`run_reversed`](crate::run_reversed) say of each other.
+pub fn runs_are_alike<Word>()
+    ensures { RunsAlike Word }
 {}

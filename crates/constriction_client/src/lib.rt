@@ -1,12 +1,15 @@
 //! What stands on the models: symbols as words and back, and whole texts that ask for rows.
 //!
 //! [`write_quantiles`] and [`read_symbols`] turn symbols into words and words into symbols, over
-//! any model and any sink or source. [`run`] reads an input to its end and writes the answer to
+//! any model and any sink or source. [`run_cursor`] and [`run_reversed`] run calls on a cursor and on
+//! its reversal, which answer alike. [`run`] reads an input to its end and writes the answer to
 //! each of its lines; [`parse`] is the grammar of a line, [`answer`] the answer to one.
 #![tactic(auto)]
 
 mod answers;
 mod contiguous;
+mod cursor_calls;
+mod cursor_runs;
 mod cut;
 mod fault;
 mod form_word;
@@ -19,6 +22,8 @@ mod rows;
 mod uniform;
 
 pub use crate::answers::answer;
+pub use crate::cursor_calls::{CursorCall, CursorReply};
+pub use crate::cursor_runs::{run_cursor, run_reversed};
 pub use crate::fault::RunFault;
 pub use crate::line::{Command, Form, parse};
 pub use crate::program::run;

@@ -4,7 +4,7 @@ mod adapters;
 mod buffers;
 mod cursors;
 mod errors;
-mod marked;
+pub mod marked;
 mod reversals;
 mod stacks;
 mod traits;
