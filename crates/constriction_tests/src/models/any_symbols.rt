@@ -7,9 +7,9 @@ use constriction::laws::{non_contiguous_symbols_differ, symbols_and_weights_rebu
 use constriction::stream::model::{
     DecoderModel, DefaultNonContiguousCategoricalDecoderModel,
     DefaultNonContiguousCategoricalEncoderModel, EncoderModel, IterableEntropyModel, ModelError,
-    NonContiguousCategoricalDecoderModel, NonContiguousCategoricalEncoderModel, Probe,
-    SmallNonContiguousCategoricalDecoderModel, SmallNonContiguousCategoricalEncoderModel, Weight,
-    row_of_quantile,
+    NonContiguousCategoricalDecoderModel, NonContiguousCategoricalEncoderModel,
+    NonContiguousSymbolTable, Probe, SmallNonContiguousCategoricalDecoderModel,
+    SmallNonContiguousCategoricalEncoderModel, Weight, row_of_quantile,
 };
 use constriction_words::NonZeroBitArray;
 use std::alloc::{AllocError, Global};
@@ -149,7 +149,7 @@ fn the_views_and_clones_of_letters_answer_alike(rt: HostRuntime) {
 }
 
 /// Letters and weights that are not accepted, and whether the last weight is inferred.
-const REFUSED: [(&str, &[char], &[u8], bool); 15] = [
+pub const REFUSED: [(&str, &[char], &[u8], bool); 15] = [
     ("one symbol too few", &['a', 'x', 'c'], &WEIGHTS, false),
     (
         "one symbol too many",
@@ -198,7 +198,7 @@ const REFUSED: [(&str, &[char], &[u8], bool); 15] = [
 ];
 
 /// The same at the full width.
-const FULL_REFUSED: [(&str, &[char], &[u8], bool); 4] = [
+pub const FULL_REFUSED: [(&str, &[char], &[u8], bool); 4] = [
     (
         "the wrapped sum is 0",
         &SYMBOLS,
@@ -240,10 +240,10 @@ fn letters_that_are_not_accepted(rt: HostRuntime) {
 }
 
 /// Whether a step is from the back, how many rows are left before it, and the row that it gives.
-type Step = (bool, usize, Option<Result<Row, AllocError>>);
+pub type Step = (bool, usize, Option<Result<Row, AllocError>>);
 
 /// From the back alone, and from both ends.
-const STEPS: [[Step; 6]; 2] = [
+pub const STEPS: [[Step; 6]; 2] = [
     [
         (true, 4, Some(Ok(('y', 22, 42)))),
         (true, 3, Some(Ok(('c', 21, 1)))),
@@ -263,8 +263,8 @@ const STEPS: [[Step; 6]; 2] = [
 ];
 
 /// Stops the test where the walk does not go in these steps.
-fn walks(rt: &impl Abort, model: &Decoder<6>, steps: &[Step]) {
-    let mut table = model.symbol_table();
+pub fn walks(rt: &impl Abort, table: NonContiguousSymbolTable<'_, char, u8, 6>, steps: &[Step]) {
+    let mut table = table;
     for each in steps {
         let (from_the_back, left, expected) = *each;
         let sizes = (table.len(), table.size_hint());
@@ -282,7 +282,7 @@ fn walks(rt: &impl Abort, model: &Decoder<6>, steps: &[Step]) {
 fn both_ends_give_each_letter_once(rt: HostRuntime) {
     let model = decoder::<6>(rt.alloc(), &SYMBOLS, &WEIGHTS, false).expect(&rt, "accepted");
     for steps in STEPS {
-        walks(&rt, &model, &steps);
+        walks(&rt, model.symbol_table(), &steps);
     }
 }
 

@@ -53,7 +53,7 @@ pub fn small(rt: &impl Abort, alloc: Global) -> Small {
 }
 
 /// The row of a quantile by a plain scan of the weights.
-fn row_by_scan(weights: &[u8], quantile: u8) -> Option<(usize, u8, u8)> {
+pub fn row_by_scan(weights: &[u8], quantile: u8) -> Option<(usize, u8, u8)> {
     let mut left = 0u8;
     for (symbol, weight) in weights.iter().enumerate() {
         if quantile >= left && quantile - left < *weight {
@@ -169,7 +169,11 @@ fn one_row_is_found_without_a_question(rt: HostRuntime) {
 }
 
 /// Whether weights are accepted; they are not where they are an invalid table.
-fn is_accepted<Model: Drop>(rt: &impl Abort, name: &str, made: Result<Model, ModelError>) -> bool {
+pub fn is_accepted<Model: Drop>(
+    rt: &impl Abort,
+    name: &str,
+    made: Result<Model, ModelError>,
+) -> bool {
     match made {
         Ok(_) => true,
         Err(error) => {
@@ -180,7 +184,7 @@ fn is_accepted<Model: Drop>(rt: &impl Abort, name: &str, made: Result<Model, Mod
 }
 
 /// Weights, whether the last one is inferred, and whether they are accepted.
-const TABLES: [(&str, &[u8], bool, bool); 12] = [
+pub const TABLES: [(&str, &[u8], bool, bool); 12] = [
     ("the sum is one too many", &[3, 18, 1, 43], false, false),
     ("a weight of 0", &[3, 0, 61], false, false),
     ("no weight", &[], false, false),
@@ -216,7 +220,7 @@ fn weights_are_accepted_exactly_where_they_tile(rt: HostRuntime) {
 }
 
 /// The same at the full width.
-const FULL_TABLES: [(&str, &[u8], bool, bool); 7] = [
+pub const FULL_TABLES: [(&str, &[u8], bool, bool); 7] = [
     ("the wrapped sum is 0", &[128, 128, 128, 128], false, false),
     ("a weight of 0 for all", &[0], false, false),
     ("two halves", &[128, 128], false, true),

@@ -8,8 +8,9 @@ ghost use Rattle.std.proofs.Common.{rules};
 use crate::checks::{same, same_at};
 use crate::models::any_symbols::{Row, plain, plain_entry};
 use crate::models::conversions::{Decoder, Encoder, Made, made};
+use crate::models::lookup_any_symbols::{Lookup, looked_up};
 use constriction::stream::model::{
-    DecoderModel, EncoderModel, IterableEntropyModel, ModelError, Weight,
+    DecoderModel, EncoderModel, IterableEntropyModel, ModelError, NonContiguousSymbolTable, Weight,
 };
 use std::alloc::{AllocError, Global};
 use std::hash::{Hash, Hasher};
@@ -71,9 +72,24 @@ fn tagged(
     (decoder, encoder)
 }
 
+/// The lookup model of these tags.
+fn tagged_lookup(alloc: Global, tags: [u32; 2]) -> Result<Lookup<Tag, 6>, ModelError> {
+    let [first, second] = tags;
+    Lookup::from_symbols_and_nonzero_fixed_point_probabilities(
+        alloc,
+        [Tag(first), Tag(second)],
+        [32, 32],
+        false,
+    )
+}
+
 /// The tag, the left cumulative and the weight of a quantile.
-fn row(model: &TagDecoder, quantile: u8) -> Result<(u32, u8, u8), AllocError>
-    requires { quantile < 64 }
+fn row<M: DecoderModel<6, Symbol = Tag, Probability = u8>>(
+    model: &M,
+    quantile: u8,
+) -> Result<(u32, u8, u8), AllocError>
+    requires clones { M.clones_are_same }
+    requires in_range { quantile < 64 }
 {
     let (tag, left, weight) = plain(model.quantile_function(quantile))?;
     Ok((tag.0, left, weight))
@@ -102,6 +118,18 @@ fn tags_are_told_by_their_own_equality(rt: HostRuntime) {
     same(&rt, encoder.err(), Some(ModelError::InvalidTable));
 }
 
+#[test]
+fn a_lookup_model_tells_tags_by_their_own_equality(rt: HostRuntime) {
+    let model = tagged_lookup(rt.alloc(), [12, 3]).expect(&rt, "accepted");
+    same(
+        &rt,
+        (row(&model, 31), row(&model, 32)),
+        (Ok((12, 0, 32)), Ok((3, 32, 32))),
+    );
+    let refused = tagged_lookup(rt.alloc(), [12, 2]).err();
+    same(&rt, refused, Some(ModelError::InvalidTable));
+}
+
 /// A letter, of which memory for a clone is refused where it is `r`.
 #[derive(Debug, PartialEq, Eq, Hash, Drop)]
 struct Letter(char);
@@ -122,6 +150,16 @@ type LetterDecoder = Decoder<Letter, 6>;
 /// The model of `a`, `r` and `c`.
 fn letters(alloc: Global) -> Result<LetterDecoder, ModelError> {
     LetterDecoder::from_symbols_and_nonzero_fixed_point_probabilities(
+        alloc,
+        [Letter('a'), Letter('r'), Letter('c')],
+        [16, 32, 16],
+        false,
+    )
+}
+
+/// The lookup model of the same.
+fn lookup_of_letters(alloc: Global) -> Result<Lookup<Letter, 6>, ModelError> {
+    Lookup::from_symbols_and_nonzero_fixed_point_probabilities(
         alloc,
         [Letter('a'), Letter('r'), Letter('c')],
         [16, 32, 16],
@@ -156,8 +194,8 @@ const STEPS: [[Step; 5]; 2] = [
 ];
 
 /// Stops the test where the walk does not go in these steps.
-fn walks(rt: &impl Abort, model: &LetterDecoder, steps: [Step; 5]) {
-    let mut table = model.symbol_table();
+fn walks(rt: &impl Abort, table: NonContiguousSymbolTable<'_, Letter, u8, 6>, steps: [Step; 5]) {
+    let mut table = table;
     for (from_the_back, expected) in steps {
         let step = if from_the_back {
             table.next_back()
@@ -172,7 +210,25 @@ fn walks(rt: &impl Abort, model: &LetterDecoder, steps: [Step; 5]) {
 fn a_refused_clone_stands_in_the_place_of_its_row(rt: HostRuntime) {
     let model = letters(rt.alloc()).expect(&rt, "accepted");
     for steps in STEPS {
-        walks(&rt, &model, steps);
+        walks(&rt, model.symbol_table(), steps);
+    }
+    same(
+        &rt,
+        letter_row(model.quantile_function(15)),
+        Ok(('a', 0, 16)),
+    );
+    same(
+        &rt,
+        letter_row(model.quantile_function(16)),
+        Err(AllocError),
+    );
+}
+
+#[test]
+fn a_lookup_model_answers_a_refused_clone(rt: HostRuntime) {
+    let model = lookup_of_letters(rt.alloc()).expect(&rt, "accepted");
+    for steps in STEPS {
+        walks(&rt, model.symbol_table(), steps);
     }
     same(
         &rt,
@@ -199,4 +255,16 @@ fn a_refused_clone_is_want_of_memory(rt: HostRuntime) {
     let (by_function, by_method) = made::<_, 6>(rt.alloc(), &model);
     are_refused(&rt, by_function);
     are_refused(&rt, by_method);
+}
+
+#[test]
+fn a_refused_clone_is_want_of_memory_for_a_lookup_model(rt: HostRuntime) {
+    let searching = letters(rt.alloc()).expect(&rt, "accepted");
+    let refused = searching.to_lookup_decoder_model(rt.alloc()).err();
+    same(&rt, refused, Some(ModelError::OutOfMemory));
+    let model = lookup_of_letters(rt.alloc()).expect(&rt, "accepted");
+    same(&rt, model.clone().err(), Some(AllocError));
+    let (by_function, by_method) = looked_up::<_, 6>(rt.alloc(), &model);
+    same(&rt, by_function.err(), Some(ModelError::OutOfMemory));
+    same(&rt, by_method.err(), Some(ModelError::OutOfMemory));
 }

@@ -97,7 +97,7 @@ where
 }
 
 /// What a model answers for a word, where it is a quantile.
-fn look_up<M, const PRECISION: usize>(model: &M, quantile: u8) -> Option<(usize, u8, u8)>
+pub fn look_up<M, const PRECISION: usize>(model: &M, quantile: u8) -> Option<(usize, u8, u8)>
 where
     M: DecoderModel<PRECISION, Symbol = usize, Probability = u8>,
     requires clones { M.clones_are_same }
@@ -131,7 +131,7 @@ where
 
 /// Stops the test where the rows do not tile, as above, or where a row of the table is not what the
 /// model answers.
-fn tile_and_are_answered<M, const PRECISION: usize>(rt: &impl Abort, model: M)
+pub fn tile_and_are_answered<M, const PRECISION: usize>(rt: &impl Abort, model: M)
 where
     M: IterableEntropyModel<PRECISION, Symbol = usize, Probability = u8>
         + EncoderModel<PRECISION>
@@ -154,7 +154,7 @@ where
 }
 
 /// Whether a step is from the back, how many rows are left before it, and the row that it gives.
-const STEPS: [(bool, usize, Option<(usize, u8, u8)>); 6] = [
+pub const STEPS: [(bool, usize, Option<(usize, u8, u8)>); 6] = [
     (false, 4, Some((0, 0, 3))),
     (true, 3, Some((3, 22, 42))),
     (true, 2, Some((2, 21, 1))),
@@ -163,15 +163,15 @@ const STEPS: [(bool, usize, Option<(usize, u8, u8)>); 6] = [
     (true, 0, None),
 ];
 
-type Walk<'m> = ContiguousSymbolTable<'m, u8, 6>;
+pub type Walk<'m> = ContiguousSymbolTable<'m, u8, 6>;
 
 /// How many rows are left, as the table counts them and as its hint says.
-fn left(table: &Walk) -> (usize, (usize, Option<usize>)) {
+pub fn left(table: &Walk) -> (usize, (usize, Option<usize>)) {
     (rows_left(table), table.size_hint())
 }
 
 /// The next row from an end.
-fn step(table: &mut Walk, from_the_back: bool) -> Option<(usize, u8, u8)> {
+pub fn step(table: &mut Walk, from_the_back: bool) -> Option<(usize, u8, u8)> {
     if from_the_back {
         row(table.next_back())
     } else {
