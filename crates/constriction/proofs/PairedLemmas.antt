@@ -182,4 +182,3 @@ pub found-row : {Symbol A E : Type 0} {rows : List (Row Symbol)} {q i : ℕ} (r 
     → IfOk r (λ x. get_or rows i (row x) ≡ row x) → IfOk r (λ x. IsRowOf rows q (row x))
 found-row (Ok x) row found is = rw is at (found.row (row x))
 found-row (Err e) row found is = tt
-

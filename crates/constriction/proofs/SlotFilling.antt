@@ -135,20 +135,20 @@ module _ (w : ℕ) (lefts table : List ℕ) (row n : ℕ) (up : IsStrictlyIncrea
     first = λ j b. elim (cases_lt (2 * j) (length table)) [
       | inl old ↦ rw (old-word (2 * j) old) (t.first j old)
       | inr new ↦ rw (new-word (2 * j) new b) (last-before lefts (j * w) row up in_bounds ((from.first j).0 new) (λ h.
-        let x = next h in
-        elim (cases_lt (j * w) (get_or lefts (row + 1) 0)) [
-          | inl above ↦ above
-          | inr not ↦ (let most : x.0 ≤ 2 * j = (x.1.first j).1 not in absurd (omega (arith, x.2, long, b)))
-        ]))
+          let x = next h in
+          elim (cases_lt (j * w) (get_or lefts (row + 1) 0)) [
+            | inl above ↦ above
+            | inr not ↦ (let most : x.0 ≤ 2 * j = (x.1.first j).1 not in absurd (omega (arith, x.2, long, b)))
+          ]))
     ];
     last = λ j b. elim (cases_lt (2 * j + 1) (length table)) [
       | inl old ↦ rw (old-word (2 * j + 1) old) (t.last j old)
       | inr new ↦ rw (new-word (2 * j + 1) new b) (last-before lefts (j * w + (w - 1)) row up in_bounds ((from.last j).0 new) (λ h.
-        let x = next h in
-        elim (cases_lt (j * w + (w - 1)) (get_or lefts (row + 1) 0)) [
-          | inl above ↦ above
-          | inr not ↦ (let most : x.0 ≤ 2 * j + 1 = (x.1.last j).1 not in absurd (omega (arith, x.2, long, b)))
-        ]))
+          let x = next h in
+          elim (cases_lt (j * w + (w - 1)) (get_or lefts (row + 1) 0)) [
+            | inl above ↦ above
+            | inr not ↦ (let most : x.0 ≤ 2 * j + 1 = (x.1.last j).1 not in absurd (omega (arith, x.2, long, b)))
+          ]))
     ];
   }
 

@@ -1,6 +1,6 @@
 //! Models that are made from any model that can be walked through.
 
-ghost use Rattle.std.specs.Prelude.{◌≡◌, ◌<◌, ◌≤◌, length, IfOk, IfErr};
+ghost use Rattle.std.specs.Prelude.{◌≡◌, ◌<◌, ◌≤◌, length, IfOk, IfErr, ⊤};
 ghost use Rattle.std.specs.List.{IsDistinct};
 ghost use Rattle.std.specs.Set.{distinct_count};
 ghost use Rattle.constriction.specs.Hashed.{SameEntries};
@@ -202,9 +202,7 @@ where
     ensures invalid { result ≡ Err ModelError.InvalidTable → ¬ (IsDistinct M.Symbol.eq (symbols_of (M.rows model))) }
 {
     let searching = to_generic_decoder_model::<M, PRECISION>(alloc, model)?;
-    Ok(NonContiguousLookupDecoderModel::with_table(
-        alloc, searching,
-    )?)
+    Ok(NonContiguousLookupDecoderModel::with_table(alloc, searching)?)
 }
 
 /// The encoder model of the same entries as any model that can be walked through: of each symbol it has

@@ -99,12 +99,11 @@ impl<Probability: IndexWord, const PRECISION: usize> ContiguousLookupDecoderMode
             × GaveBad I.IntoIter.next_gives it (λ ws. IsAccepted Probability.BITS PRECISION
             (completed PRECISION infer_last_probability (map Probability.whole ws))) }
     {
-        let model =
-            ContiguousCategoricalEntropyModel::<Probability, Vec<Probability>, PRECISION>::from_nonzero_fixed_point_probabilities(
-                alloc,
-                probabilities,
-                infer_last_probability,
-            )?;
+        let model = ContiguousCategoricalEntropyModel::<
+            Probability,
+            Vec<Probability>,
+            PRECISION,
+        >::from_nonzero_fixed_point_probabilities(alloc, probabilities, infer_last_probability)?;
         Ok(Self::with_table(alloc, model)?)
     }
 
@@ -142,11 +141,11 @@ impl<Probability: IndexWord, const PRECISION: usize> ContiguousLookupDecoderMode
     }
 }
 
-impl<Probability: IndexWord, Cdf: SafeBuf<Probability>, const PRECISION: usize> ContiguousCategoricalEntropyModel<
-    Probability,
-    Cdf,
-    PRECISION,
-> {
+impl<
+    Probability: IndexWord,
+    Cdf: SafeBuf<Probability>,
+    const PRECISION: usize,
+> ContiguousCategoricalEntropyModel<Probability, Cdf, PRECISION> {
     /// The model of the same rows that looks up where to search. Its only refusal is `OutOfMemory`,
     /// where memory for a copy of the rows, or for the table, is refused.
     ///
@@ -212,7 +211,10 @@ impl<
         ensures { ⟦<ContiguousCategoricalEntropyModel<Probability, Cdf, PRECISION> as EntropyModel<PRECISION>>⟧.rows result
             ≡ ⟦<ContiguousLookupDecoderModel<Probability, Cdf, LookupTable, PRECISION> as EntropyModel<PRECISION>>⟧.rows self }
     {
-        let Self { model, lookup_table: _ } = self;
+        let Self {
+            model,
+            lookup_table: _,
+        } = self;
         model
     }
 

@@ -132,7 +132,12 @@ impl<
     /// The model of the same rows, with a table. Want of memory for the table is its only refusal.
     pub(crate) fn with_table(
         alloc: Global,
-        model: NonContiguousCategoricalDecoderModel<Symbol, Probability, Vec<(Probability, Symbol)>, PRECISION>,
+        model: NonContiguousCategoricalDecoderModel<
+            Symbol,
+            Probability,
+            Vec<(Probability, Symbol)>,
+            PRECISION,
+        >,
     ) -> Result<Self, AllocError>
         requires narrow { PRECISION ≤ 63 }
         ensures { IfOk result (λ m.
@@ -268,7 +273,10 @@ impl<
         ensures { ⟦<NonContiguousCategoricalDecoderModel<Symbol, Probability, Cdf, PRECISION> as EntropyModel<PRECISION>>⟧.rows result
             ≡ ⟦<NonContiguousLookupDecoderModel<Symbol, Probability, Cdf, LookupTable, PRECISION> as EntropyModel<PRECISION>>⟧.rows self }
     {
-        let Self { model, lookup_table: _ } = self;
+        let Self {
+            model,
+            lookup_table: _,
+        } = self;
         model
     }
 

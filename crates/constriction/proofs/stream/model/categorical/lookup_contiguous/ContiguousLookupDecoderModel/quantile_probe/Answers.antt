@@ -12,8 +12,11 @@ pub slot_probe-requires-clause-slots : goal.slot_probe-requires-clause-slots
 slot_probe-requires-clause-slots g c =
     let whole = g.Probability.BitArray.whole in
     let table = map whole (g.Cdf.SafeBuf.words_of c.args.self.now.model.cdf) in
-    rw (table-lefts g.Probability.BitArray.BITS g.row.PRECISION table (map whole c.cdf_entries.result.now) c.args.self.now.model.stored
-    c.cdf_entries.ensures, c.words.ensures) c.args.self.now.slots
+    rw (
+      table-lefts g.Probability.BitArray.BITS g.row.PRECISION table (map whole c.cdf_entries.result.now) c.args.self.now.model.stored
+          c.cdf_entries.ensures,
+      c.words.ensures,
+    ) c.args.self.now.slots
 
 pub returns : goal.returns
 returns g c =

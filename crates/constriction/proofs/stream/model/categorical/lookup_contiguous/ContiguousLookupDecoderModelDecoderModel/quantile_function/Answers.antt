@@ -15,8 +15,11 @@ pub row_in_slot-index-requires-clause-slots : goal.row_in_slot-index-requires-cl
 row_in_slot-index-requires-clause-slots g c =
     let whole = g.Probability.BitArray.whole in
     let table = map whole (g.Cdf.SafeBuf.words_of c.args.self.now.model.cdf) in
-    rw (table-lefts g.Probability.BitArray.BITS g.row.PRECISION table (map whole c.cdf_entries.result.now) c.args.self.now.model.stored
-    c.cdf_entries.ensures, c.words.ensures) c.args.self.now.slots
+    rw (
+      table-lefts g.Probability.BitArray.BITS g.row.PRECISION table (map whole c.cdf_entries.result.now) c.args.self.now.model.stored
+          c.cdf_entries.ensures,
+      c.words.ensures,
+    ) c.args.self.now.slots
 
 pub contiguous_row_at-requires-clause-in_bounds : goal.contiguous_row_at-requires-clause-in_bounds
 contiguous_row_at-requires-clause-in_bounds g c =

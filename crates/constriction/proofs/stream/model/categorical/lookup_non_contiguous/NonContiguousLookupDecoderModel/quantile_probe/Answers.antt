@@ -7,9 +7,11 @@ use Rattle.constriction.proofs.stream.model.categorical.lookup_non_contiguous.No
 
 pub slot_probe-requires-clause-slots : goal.slot_probe-requires-clause-slots
 slot_probe-requires-clause-slots g c =
-    rw (lent-lefts g.Probability.BitArray.whole g.Probability.BitArray.BITS g.row.PRECISION
-    (g.Cdf.SafeBuf.words_of c.args.self.now.model.cdf) c.args.self.now.model.stored c.cdf_entries.result.now c.cdf_entries.ensures,
-    c.words.ensures) c.args.self.now.slots
+    rw (
+      lent-lefts g.Probability.BitArray.whole g.Probability.BitArray.BITS g.row.PRECISION
+          (g.Cdf.SafeBuf.words_of c.args.self.now.model.cdf) c.args.self.now.model.stored c.cdf_entries.result.now c.cdf_entries.ensures,
+      c.words.ensures,
+    ) c.args.self.now.slots
 
 pub returns : goal.returns
 returns g c =

@@ -11,9 +11,11 @@ row_in_slot-index-requires-clause-increases g c =
 
 pub row_in_slot-index-requires-clause-slots : goal.row_in_slot-index-requires-clause-slots
 row_in_slot-index-requires-clause-slots g c =
-    rw (lent-lefts g.Probability.BitArray.whole g.Probability.BitArray.BITS g.row.PRECISION
-    (g.Cdf.SafeBuf.words_of c.args.self.now.model.cdf) c.args.self.now.model.stored c.cdf_entries.result.now c.cdf_entries.ensures,
-    c.words.ensures) c.args.self.now.slots
+    rw (
+      lent-lefts g.Probability.BitArray.whole g.Probability.BitArray.BITS g.row.PRECISION
+          (g.Cdf.SafeBuf.words_of c.args.self.now.model.cdf) c.args.self.now.model.stored c.cdf_entries.result.now c.cdf_entries.ensures,
+      c.words.ensures,
+    ) c.args.self.now.slots
 
 pub cloned_row_at-requires-clause-stored : goal.cloned_row_at-requires-clause-stored
 cloned_row_at-requires-clause-stored g c = rw c.words-2.ensures c.args.self.now.model.stored
