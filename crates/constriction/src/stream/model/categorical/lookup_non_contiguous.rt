@@ -2,16 +2,21 @@
 
 ghost use Rattle.std.specs.Prelude.{◌≡◌, ◌+◌, ◌/◌, ◌^◌, ◌<◌, ◌≤◌, ℕ, length, map, IfOk, IfErr, ⊤};
 ghost use Rattle.std.specs.Iterator.{IsFiniteIterable, UpTo, size};
+ghost use Rattle.std.specs.List.{IsDistinct};
+ghost use Rattle.std.proofs.Props.{props};
 ghost use Rattle.constriction.specs.Acceptance.{completed, AreAccepted, GaveBothGood, GaveBothBad};
 ghost use Rattle.constriction.specs.Probe.{TellsRows, IsRowIndexOf, IsSearchable, IsLastAtMost};
 ghost use Rattle.constriction.specs.Rows.{rows_of};
 ghost use Rattle.constriction.specs.Slots.{MeetsSlot, slot_count, slot_width};
 ghost use Rattle.constriction.specs.SlotTable.{HasSlots};
+ghost use Rattle.constriction.specs.Stored.{IsStored};
 ghost use Rattle.constriction.specs.SymbolRowLemmas.{paired-tiles, yields-row};
 ghost use Rattle.constriction.specs.Tables.{rows_paired, rows_between, ClonesAreSame, MayRefuse};
 
 use crate::stream::model::categorical::filling::copied;
-use crate::stream::model::categorical::non_contiguous::NonContiguousCategoricalDecoderModel;
+use crate::stream::model::categorical::non_contiguous::{
+    NonContiguousCategoricalDecoderModel, entries_cloned,
+};
 use crate::stream::model::categorical::non_contiguous_table::NonContiguousSymbolTable;
 use crate::stream::model::categorical::slots::{row_in_slot, slot_probe, slots_of};
 use crate::stream::model::categorical::stored::cloned_row_at;
@@ -22,6 +27,7 @@ use crate::stream::model::traits::{DecoderModel, EntropyModel, IterableEntropyMo
 use constriction_backends::SafeBuf;
 use constriction_words::{BitArray, IndexWord};
 use std::alloc::{AllocError, Global};
+use std::marker::PhantomData;
 
 /// A model of any symbols, no two of which are equal, for decoders: a table tells where to search for the
 /// row of a quantile.
@@ -38,11 +44,15 @@ pub struct NonContiguousLookupDecoderModel<
     LookupTable: SafeBuf<Probability>,
     const PRECISION: usize,
 > {
-    model: NonContiguousCategoricalDecoderModel<Symbol, Probability, Cdf, PRECISION>,
+    cdf: Cdf,
+    entries: PhantomData<(Probability, Symbol)>,
     lookup_table: LookupTable,
+    ghost precise: { (0 < PRECISION) × (PRECISION ≤ Probability.BITS) },
     ghost narrow: { PRECISION ≤ 63 },
+    ghost stored: { IsStored Probability.BITS PRECISION (map (λ x. Probability.whole x.0) (Cdf.words_of cdf)) },
+    ghost distinct: { IsDistinct Symbol.eq (map (λ x. x.1) (Cdf.words_of cdf)) } by { Prim.hlevel props },
     ghost slots: { HasSlots (slot_width PRECISION) (slot_count PRECISION)
-        (map (λ r. r.left) (rows_paired Probability.whole PRECISION (Cdf.words_of model.cdf)))
+        (map (λ r. r.left) (rows_paired Probability.whole PRECISION (Cdf.words_of cdf)))
         (map Probability.whole (LookupTable.words_of lookup_table)) },
 }
 
@@ -65,7 +75,7 @@ impl<
 
     type Probability = Probability;
 
-    ghost rows = { λ m. ⟦<NonContiguousCategoricalDecoderModel<Symbol, Probability, Cdf, PRECISION> as EntropyModel<PRECISION>>⟧.rows m.model };
+    ghost rows = { λ m. rows_paired Probability.whole PRECISION (Cdf.words_of m.cdf) };
 }
 
 impl<
@@ -146,10 +156,12 @@ impl<
     {
         let lookup_table = slots_of::<(Probability, Symbol), WithSymbol, PRECISION>(
             alloc,
-            model.cdf_entries(),
+            model.cdf.as_slice(),
         )?;
+        let NonContiguousCategoricalDecoderModel { cdf, entries } = model;
         Ok(Self {
-            model,
+            cdf,
+            entries,
             lookup_table,
         })
     }
@@ -175,10 +187,11 @@ impl<
             ⟦<NonContiguousLookupDecoderModel<Symbol, Probability, Vec<(Probability, Symbol)>, Vec<Probability>, PRECISION> as EntropyModel<PRECISION>>⟧.rows m
             ≡ ⟦<NonContiguousLookupDecoderModel<Symbol, Probability, Vec<(Probability, Symbol)>, Vec<Probability>, PRECISION> as EntropyModel<PRECISION>>⟧.rows self.now) }
     {
-        let model = self.model.clone()?;
+        let cdf = entries_cloned(*self.cdf.allocator(), self.cdf.as_slice())?;
         let lookup_table = copied(*self.lookup_table.allocator(), self.lookup_table.as_slice())?;
         Ok(Self {
-            model,
+            cdf,
+            entries: PhantomData,
             lookup_table,
         })
     }
@@ -241,7 +254,8 @@ impl<
             ≡ ⟦<NonContiguousLookupDecoderModel<Symbol, Probability, Cdf, LookupTable, PRECISION> as EntropyModel<PRECISION>>⟧.rows self.now }
     {
         NonContiguousLookupDecoderModel {
-            model: self.model.as_view(),
+            cdf: self.cdf.words(),
+            entries: PhantomData,
             lookup_table: self.lookup_table.words(),
         }
     }
@@ -259,25 +273,10 @@ impl<
         ensures { ⟦<NonContiguousCategoricalDecoderModel<Symbol, Probability, &'m [(Probability, Symbol)], PRECISION> as EntropyModel<PRECISION>>⟧.rows result
             ≡ ⟦<NonContiguousLookupDecoderModel<Symbol, Probability, Cdf, LookupTable, PRECISION> as EntropyModel<PRECISION>>⟧.rows self.now }
     {
-        self.model.as_view()
-    }
-
-    /// The model of the same rows that searches all of them, with the entries of this one. The table is
-    /// let go.
-    #[inline]
-    pub fn into_non_contiguous_categorical(
-        self,
-    ) -> NonContiguousCategoricalDecoderModel<Symbol, Probability, Cdf, PRECISION>
-    where
-        LookupTable: Drop,
-        ensures { ⟦<NonContiguousCategoricalDecoderModel<Symbol, Probability, Cdf, PRECISION> as EntropyModel<PRECISION>>⟧.rows result
-            ≡ ⟦<NonContiguousLookupDecoderModel<Symbol, Probability, Cdf, LookupTable, PRECISION> as EntropyModel<PRECISION>>⟧.rows self }
-    {
-        let Self {
-            model,
-            lookup_table: _,
-        } = self;
-        model
+        NonContiguousCategoricalDecoderModel {
+            cdf: self.cdf.words(),
+            entries: PhantomData,
+        }
     }
 
     /// A probe of the rows in question for a quantile, which are those that meet its slot, and the index
@@ -307,10 +306,47 @@ impl<
             (Probability.whole quantile) (result.0 + i) }
     {
         slot_probe::<(Probability, Symbol), WithSymbol, PRECISION>(
-            self.model.cdf_entries(),
+            self.cdf.words(),
             self.lookup_table.words(),
             quantile,
         )
+    }
+}
+
+impl<
+    Symbol: Eq,
+    Probability: IndexWord,
+    LookupTable: SafeBuf<Probability>,
+    const PRECISION: usize,
+> NonContiguousLookupDecoderModel<
+    Symbol,
+    Probability,
+    Vec<(Probability, Symbol)>,
+    LookupTable,
+    PRECISION,
+> {
+    /// The model of the same rows that searches all of them, with the entries of this one. The table is
+    /// let go.
+    #[inline]
+    pub fn into_non_contiguous_categorical(
+        self,
+    ) -> NonContiguousCategoricalDecoderModel<
+        Symbol,
+        Probability,
+        Vec<(Probability, Symbol)>,
+        PRECISION,
+    >
+    where
+        LookupTable: Drop,
+        ensures { ⟦<NonContiguousCategoricalDecoderModel<Symbol, Probability, Vec<(Probability, Symbol)>, PRECISION> as EntropyModel<PRECISION>>⟧.rows result
+            ≡ ⟦<NonContiguousLookupDecoderModel<Symbol, Probability, Vec<(Probability, Symbol)>, LookupTable, PRECISION> as EntropyModel<PRECISION>>⟧.rows self }
+    {
+        let Self {
+            cdf,
+            entries,
+            lookup_table: _,
+        } = self;
+        NonContiguousCategoricalDecoderModel { cdf, entries }
     }
 }
 
@@ -334,14 +370,14 @@ impl<
         quantile: Probability,
     ) -> Result<(Symbol, Probability, Weight<Probability>), AllocError> {
         let index = row_in_slot::<(Probability, Symbol), WithSymbol, PRECISION>(
-            self.model.cdf_entries(),
+            self.cdf.words(),
             self.lookup_table.words(),
             quantile,
         );
-        cloned_row_at::<Probability, Symbol, PRECISION>(self.model.cdf.words(), index)
+        cloned_row_at::<Probability, Symbol, PRECISION>(self.cdf.words(), index)
     }
 
-    ghost tile_law = { λ m. paired-tiles Probability.whole _ _ _ m.model.stored };
+    ghost tile_law = { λ m. paired-tiles Probability.whole _ _ _ m.stored };
 }
 
 impl<
@@ -376,11 +412,16 @@ impl<
             ≡ length
             (⟦<NonContiguousLookupDecoderModel<Symbol, Probability, Cdf, LookupTable, PRECISION> as EntropyModel<PRECISION>>⟧.rows self.now) }
     {
-        (&self.model).symbol_table()
+        let cdf = self.cdf.words();
+        NonContiguousSymbolTable {
+            cdf,
+            from: 0,
+            to: cdf.len(),
+        }
     }
 
     ghost steps_law = { λ same t r u step. yields-row Symbol.is_clone Symbol.is_infallible Probability.whole Probability.NonZero.base
         same _ r _ step };
 
-    ghost tile_law = { λ m. paired-tiles Probability.whole _ _ _ m.now.model.stored };
+    ghost tile_law = { λ m. paired-tiles Probability.whole _ _ _ m.now.stored };
 }

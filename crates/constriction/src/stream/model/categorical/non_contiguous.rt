@@ -80,7 +80,7 @@ pub(crate) fn has_symbol<Word, Symbol: Eq>(entries: &[(Word, Symbol)], symbol: &
 }
 
 /// These entries, each with a clone of its symbol.
-fn entries_cloned<Word: Copy, Symbol: Clone>(
+pub(crate) fn entries_cloned<Word: Copy, Symbol: Clone>(
     alloc: Global,
     entries: &[(Word, Symbol)],
 ) -> Result<Vec<(Word, Symbol)>, AllocError>

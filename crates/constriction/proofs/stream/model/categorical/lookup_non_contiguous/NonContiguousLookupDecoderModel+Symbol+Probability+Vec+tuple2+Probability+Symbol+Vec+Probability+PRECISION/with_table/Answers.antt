@@ -5,17 +5,20 @@ use Rattle.constriction.proofs.stream.model.categorical.lookup_non_contiguous.No
 pub slots_of-requires-clause-searchable : goal.slots_of-requires-clause-searchable
 slots_of-requires-clause-searchable g c =
     (paired-search g.Probability.BitArray.whole g.Probability.BitArray.BITS g.row.PRECISION c.args.model.cdf.items c.args.model.stored
-    c.cdf_entries.result.now c.cdf_entries.ensures).0
+    c.as_slice.result.now c.as_slice.ensures.value).0
 
 pub slots_of-requires-clause-below : goal.slots_of-requires-clause-below
 slots_of-requires-clause-below g c =
     (paired-search g.Probability.BitArray.whole g.Probability.BitArray.BITS g.row.PRECISION c.args.model.cdf.items c.args.model.stored
-    c.cdf_entries.result.now c.cdf_entries.ensures).1
+    c.as_slice.result.now c.as_slice.ensures.value).1
 
 pub invariant_of-result : goal.invariant_of-result
 invariant_of-result g c = record {
+  precise = c.args.model.precise;
   narrow = c.requires.narrow;
+  stored = c.args.model.stored;
+  distinct = c.args.model.distinct;
   slots =
       rw (lent-lefts g.Probability.BitArray.whole g.Probability.BitArray.BITS g.row.PRECISION c.args.model.cdf.items c.args.model.stored
-      c.cdf_entries.result.now c.cdf_entries.ensures) at c.in_ok-lookup_table.ensures;
+      c.as_slice.result.now c.as_slice.ensures.value) at c.in_ok-lookup_table.ensures;
 }

@@ -9,19 +9,19 @@ pub slot_probe-requires-clause-slots : goal.slot_probe-requires-clause-slots
 slot_probe-requires-clause-slots g c =
     rw (
       lent-lefts g.Probability.BitArray.whole g.Probability.BitArray.BITS g.row.PRECISION
-          (g.Cdf.SafeBuf.words_of c.args.self.now.model.cdf) c.args.self.now.model.stored c.cdf_entries.result.now c.cdf_entries.ensures,
-      c.words.ensures,
+          (g.Cdf.SafeBuf.words_of c.args.self.now.cdf) c.args.self.now.stored c.words.result.now c.words.ensures,
+      c.words-2.ensures,
     ) c.args.self.now.slots
 
 pub returns : goal.returns
 returns g c =
     let whole = g.Probability.BitArray.whole in
     let bits = g.Probability.BitArray.BITS in
-    let entries = g.Cdf.SafeBuf.words_of c.args.self.now.model.cdf in
-    let stored = c.args.self.now.model.stored in
+    let entries = g.Cdf.SafeBuf.words_of c.args.self.now.cdf in
+    let stored = c.args.self.now.stored in
     let probed = slot-probed bits g.row.PRECISION (rows_paired whole g.row.PRECISION entries)
     (paired-tiles whole bits g.row.PRECISION entries stored) (whole c.args.quantile) c.slot_probe.result.0
-    (map (λ x. whole x.0) c.cdf_entries.result.now) _
-    (lent-lefts whole bits g.row.PRECISION entries stored c.cdf_entries.result.now c.cdf_entries.ensures)
+    (map (λ x. whole x.0) c.words.result.now) _
+    (lent-lefts whole bits g.row.PRECISION entries stored c.words.result.now c.words.ensures)
     c.requires c.slot_probe.ensures.part in
     record { rows = probed.0; searchable = probed.1; fresh = c.slot_probe.ensures.fresh; found = probed.2 }
