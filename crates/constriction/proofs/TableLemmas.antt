@@ -7,7 +7,6 @@ use Rattle.std.proofs.lemmas.Bool.{cases_lt}
 use Rattle.std.proofs.lemmas.List.{length-append, length-map, get_or_append_left, get_or-append_right, take-map}
 use Rattle.constriction.specs.Acceptance.{IsAccepted}
 use Rattle.constriction.specs.Stored.{IsTable, lefts_in, lefts_from, weights_of}
-use Rattle.constriction.specs.Probe.{IsRowIndexOf}
 use Rattle.constriction.specs.Rows.{contiguous_rows}
 use Rattle.constriction.specs.StoredRowLemmas.{rows-many}
 use Rattle.constriction.specs.StoredLemmas.{IsRowAt, stored-row, stored-of}

@@ -1,4 +1,4 @@
-use Rattle.std.proofs.Common.{ℕ, ◌+◌, ◌-◌, ◌/◌, map}
+use Rattle.std.proofs.Common.{ℕ, ◌/◌, map}
 use Rattle.constriction.specs.Slots.{slot_width}
 use Rattle.constriction.proofs.SlotLemmas.{slot-to, slot-part, part-found}
 use Rattle.constriction.proofs.stream.model.categorical.slots.row_in_slot.Goals as goal

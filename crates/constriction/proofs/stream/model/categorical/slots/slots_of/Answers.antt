@@ -1,7 +1,7 @@
-use Rattle.std.proofs.Common.{◌≡◌, ℕ, ◌+◌, ◌-◌, ◌*◌, ◌^◌, ◌<◌, ◌≤◌, ◌++◌, length, map, get_or, take, replicate, ap, sym, refl, ◌∙◌, arith, rules}
+use Rattle.std.proofs.Common.{◌≡◌, ℕ, ◌+◌, ◌*◌, ◌^◌, ◌<◌, ◌≤◌, length, map, get_or, ap, sym, refl, ◌∙◌, arith}
 use Rattle.std.proofs.Math.Pow.{pow_mono}
 use Rattle.std.proofs.lemmas.List.{length-map}
-use Rattle.constriction.specs.Slots.{slot_width, slot_count}
+use Rattle.constriction.specs.Slots.{slot_width}
 use Rattle.constriction.specs.StoredLemmas.{read-whole}
 use Rattle.constriction.specs.SlotTable.{IsFirstWord}
 use Rattle.constriction.proofs.SlotFilling.{index-most, row-filled, all-filled}

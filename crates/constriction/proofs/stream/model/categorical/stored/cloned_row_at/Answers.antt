@@ -1,4 +1,3 @@
-use Rattle.std.proofs.Common.{map}
 use Rattle.constriction.proofs.PairedLemmas.{paired-at, paired-row}
 use Rattle.constriction.proofs.stream.model.categorical.stored.cloned_row_at.Goals as goal
 

@@ -1,4 +1,4 @@
-use Rattle.std.proofs.Common.{◌≡◌, ◌+◌, ◌<◌, length, map, arith}
+use Rattle.std.proofs.Common.{◌+◌, ◌<◌, length, map, arith}
 use Rattle.std.proofs.lemmas.List.{length-map}
 use Rattle.constriction.proofs.StepLemmas.{stored-here}
 use Rattle.constriction.proofs.TableLemmas.{table-row}

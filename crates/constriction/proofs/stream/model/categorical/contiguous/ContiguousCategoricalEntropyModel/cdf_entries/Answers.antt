@@ -1,4 +1,3 @@
-use Rattle.std.proofs.Common.{map}
 use Rattle.constriction.proofs.TableLemmas.{lefts-words}
 use Rattle.constriction.proofs.stream.model.categorical.contiguous.ContiguousCategoricalEntropyModel.cdf_entries.Goals as goal
 

@@ -1,4 +1,4 @@
-use Rattle.std.proofs.Common.{◌+◌, ◌∙◌, map}
+use Rattle.std.proofs.Common.{◌∙◌, map}
 use Rattle.constriction.proofs.TileLemmas.{table-probed}
 use Rattle.constriction.proofs.stream.model.categorical.contiguous.ContiguousCategoricalEntropyModel.quantile_probe.Goals as goal
 

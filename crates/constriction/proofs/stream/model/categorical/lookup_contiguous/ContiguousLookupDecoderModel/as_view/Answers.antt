@@ -1,4 +1,3 @@
-use Rattle.std.proofs.Common.{map}
 use Rattle.constriction.proofs.stream.model.categorical.lookup_contiguous.ContiguousLookupDecoderModel.as_view.Goals as goal
 
 pub invariant_of-result : goal.invariant_of-result

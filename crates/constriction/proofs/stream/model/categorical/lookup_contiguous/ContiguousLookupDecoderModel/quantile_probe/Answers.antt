@@ -1,7 +1,5 @@
-use Rattle.std.proofs.Common.{◌≡◌, ◌+◌, map}
+use Rattle.std.proofs.Common.{map}
 use Rattle.constriction.specs.Rows.{contiguous_rows}
-use Rattle.constriction.specs.Slots.{slot_count, slot_width}
-use Rattle.constriction.specs.SlotTable.{HasSlots}
 use Rattle.constriction.specs.Stored.{lefts_in, weights_of}
 use Rattle.constriction.specs.StoredRowLemmas.{stored-tiles}
 use Rattle.constriction.proofs.SlotLemmas.{slot-probed}

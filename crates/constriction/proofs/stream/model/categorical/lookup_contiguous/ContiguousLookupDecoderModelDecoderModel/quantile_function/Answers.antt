@@ -1,4 +1,4 @@
-use Rattle.std.proofs.Common.{true, ◌≡◌, ◌+◌, ◌<◌, length, map, refl, arith}
+use Rattle.std.proofs.Common.{true, ◌+◌, ◌<◌, length, map, refl, arith}
 use Rattle.std.proofs.lemmas.List.{length-map}
 use Rattle.constriction.specs.Model.{row_of}
 use Rattle.constriction.proofs.TileLemmas.{table-lefts, table-search, table-index}

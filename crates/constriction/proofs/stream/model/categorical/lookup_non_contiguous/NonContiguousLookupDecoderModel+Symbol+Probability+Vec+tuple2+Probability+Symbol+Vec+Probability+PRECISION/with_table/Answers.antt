@@ -1,4 +1,3 @@
-use Rattle.std.proofs.Common.{map}
 use Rattle.constriction.proofs.PairedLemmas.{lent-lefts, paired-search}
 use Rattle.constriction.proofs.stream.model.categorical.lookup_non_contiguous.NonContiguousLookupDecoderModel+Symbol+Probability+Vec+tuple2+Probability+Symbol+Vec+Probability+PRECISION.with_table.Goals as goal
 

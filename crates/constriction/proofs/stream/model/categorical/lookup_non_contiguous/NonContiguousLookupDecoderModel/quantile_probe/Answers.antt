@@ -1,4 +1,4 @@
-use Rattle.std.proofs.Common.{◌≡◌, ◌+◌, map}
+use Rattle.std.proofs.Common.{map}
 use Rattle.constriction.specs.SymbolRowLemmas.{paired-tiles}
 use Rattle.constriction.specs.Tables.{rows_paired}
 use Rattle.constriction.proofs.PairedLemmas.{lent-lefts}

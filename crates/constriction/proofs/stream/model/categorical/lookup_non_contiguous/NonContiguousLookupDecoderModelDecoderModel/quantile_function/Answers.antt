@@ -1,4 +1,3 @@
-use Rattle.std.proofs.Common.{◌≡◌, map}
 use Rattle.constriction.specs.Model.{row_of}
 use Rattle.constriction.proofs.PairedLemmas.{lent-lefts, paired-search, paired-index, found-row}
 use Rattle.constriction.proofs.stream.model.categorical.lookup_non_contiguous.NonContiguousLookupDecoderModelDecoderModel.quantile_function.Goals as goal

@@ -1,4 +1,3 @@
-use Rattle.std.proofs.Common.{◌+◌, ◌∙◌, map}
 use Rattle.constriction.proofs.PairedLemmas.{paired-probed}
 use Rattle.constriction.proofs.stream.model.categorical.non_contiguous.NonContiguousCategoricalDecoderModel.quantile_probe.Goals as goal
 

@@ -1,4 +1,3 @@
-use Rattle.std.proofs.Common.{◌≡◌, map}
 use Rattle.constriction.specs.Model.{row_of}
 use Rattle.constriction.proofs.PairedLemmas.{paired-probed, paired-index, found-row}
 use Rattle.constriction.proofs.stream.model.categorical.non_contiguous.NonContiguousCategoricalDecoderModelDecoderModel.quantile_function.Goals as goal
