@@ -1,5 +1,5 @@
 -- Hash tables of entries.
-use Rattle.std.specs.Prelude.{◌≡◌, ℕ, ◌+◌, ◌^◌, ◌<◌, ◌≤◌, ◌||◌, Bool, true, false, cond, List, [], ◌∷◌, ◌++◌, length, map, sum, reverse, All, find, Option, Some, None, IfSome, is_some, Result, Ok, IfOk}
+use Rattle.std.specs.Prelude.{◌≡◌, ℕ, ◌+◌, ◌^◌, ◌<◌, ◌≤◌, ◌||◌, Bool, true, false, cond, List, [], ◌∷◌, ◌++◌, length, reverse, All, find, Option, Some, None, IfSome, is_some, Result, Ok, IfOk}
 use Rattle.std.specs.Option.{option_map, option_or}
 use Rattle.std.specs.Cmp.{IsEquivalence}
 use Rattle.std.specs.List.{AllZip, IsDistinct, AllByRecursion}
@@ -8,13 +8,12 @@ use Rattle.std.specs.Set.{is_member, distinct_count}
 use Rattle.std.proofs.Common.{refl, ap, sym, ◌∙◌, subst, arith}
 use Rattle.std.proofs.lemmas.List.{reverse-append, length-map, append-nil, append_assoc}
 use Rattle.std.proofs.lemmas.List.Elements.{All-cons, All-nil, All-tail, same_from_all_zip}
-use Rattle.std.proofs.lemmas.List.Sums.{sum_by-cons}
 use Rattle.std.proofs.lemmas.Map.Keys.{IsDistinct-head, IsDistinct-tail}
 use Rattle.std.proofs.lemmas.Map.Made.{length-from_keys, is_some-lookup}
 use Rattle.constriction.specs.Hashed.{rows_of_table, SameEntries}
 use Rattle.constriction.specs.Model.{row_of, LiesWithin}
 use Rattle.constriction.specs.RowLemmas.{entry_of-cons}
-use Rattle.constriction.specs.Rows.{Row, entry_of, symbols_of, rows_from, RowsTile}
+use Rattle.constriction.specs.Rows.{Row, entry_of, symbols_of}
 use Rattle.constriction.specs.Tables.{YieldsRow, ClonesAreSame}
 
 -- an entry with quantiles, all of which lie below 2 ^ precision
@@ -48,24 +47,6 @@ if-or : {A : Type 0} (P : A → Type 0) (o : Option A) (t : Bool) (x : A) → If
 if-or P (Some y) t x h p = h
 if-or P None true x h p = p
 if-or P None false x h p = h
-
--- ---- rows that tile lie below 2 ^ precision
-
-rows-within : {S : Type 0} (precision l : ℕ) (ss : List S) (ws : List ℕ) → All (λ w. 0 < w) ws → l + sum ws ≤ 2 ^ precision
-    → All (LiesWithin precision) (rows_from l ss ws)
-rows-within precision l [] ws a h = All-nil (LiesWithin precision)
-rows-within precision l (s ∷ ss) [] a h = All-nil (LiesWithin precision)
-rows-within precision l (s ∷ ss) (w ∷ ws) a h =
-    let more : sum (w ∷ ws) ≡ w + sum ws = sum_by-cons (λ x. x) w ws in
-    All-cons (LiesWithin precision) (record { symbol = s; left = l; weight = w }) (rows_from (l + w) ss ws)
-    (a 0 w (omega arith), omega arith)
-    (rows-within precision (l + w) ss ws (All-tail (λ x. 0 < x) w ws a) (omega arith))
-
-pub tiling-within : {S : Type 0} (bits precision : ℕ) (rows : List (Row S)) → RowsTile bits precision rows → All (LiesWithin precision) rows
-tiling-within bits precision rows t =
-    subst (λ rs. All (LiesWithin precision) rs) (sym t.in_order)
-    (rows-within precision 0 (map (λ r. r.symbol) rows) (map (λ r. r.weight) rows) t.accepted.tiles.positive
-    (omega (arith, t.accepted.tiles.total)))
 
 module _ {K : Type 0} (eq : K → K → Bool) (laws : IsEquivalence eq) where
   -- one more row at the end takes the place of its symbol's entry

@@ -1,7 +1,8 @@
 use Rattle.std.proofs.Common.{Some, None, ap, refl}
 use Rattle.std.specs.HashMap.{get}
 use Rattle.std.specs.Map.{lookup}
-use Rattle.constriction.proofs.HashLemmas.{hashed-none, hashed-step, hashed-all, table-rows_within, found-within, tiling-within, table-count, table-same}
+use Rattle.constriction.specs.CodingLemmas.{rows-within}
+use Rattle.constriction.proofs.HashLemmas.{hashed-none, hashed-step, hashed-all, table-rows_within, found-within, table-count, table-same}
 use Rattle.constriction.proofs.stream.model.convert.to_generic_encoder_model.Goals as goal
 
 pub rows-init : goal.rows-init
@@ -57,7 +58,7 @@ invariant_of-result g c =
       within = table-rows_within eq laws (λ e. (whole e.left, whole (base e.weight))) g.row.PRECISION c.rows.table.entries
           c.rows.invariant.2
           (found-within eq laws (λ e. (whole e.left, whole (base e.weight))) g.row.PRECISION rows (get eq c.rows.table)
-          (tiling-within g.M.Probability.BitArray.BITS g.row.PRECISION rows (g.met.M.IterableEntropyModel.tile_law c.args.model)) all);
+          (rows-within g.M.Probability.BitArray.BITS g.row.PRECISION rows (g.met.M.IterableEntropyModel.tile_law c.args.model)) all);
     }
 
 pub returns-clause-entries : goal.returns-clause-entries

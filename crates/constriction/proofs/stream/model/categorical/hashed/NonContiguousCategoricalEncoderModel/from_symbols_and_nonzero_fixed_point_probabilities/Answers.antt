@@ -4,7 +4,8 @@ use Rattle.std.specs.Set.{distinct_count}
 use Rattle.std.proofs.lemmas.Map.Made.{distinct_count-from_IsDistinct}
 use Rattle.constriction.specs.Acceptance.{completed}
 use Rattle.constriction.specs.Rows.{rows_of}
-use Rattle.constriction.proofs.HashLemmas.{table-rows_within, found-within, tiling-within, table-entry_of, table-count}
+use Rattle.constriction.specs.CodingLemmas.{rows-within}
+use Rattle.constriction.proofs.HashLemmas.{table-rows_within, found-within, table-entry_of, table-count}
 use Rattle.constriction.proofs.PairedLemmas.{accepted-tile, accepted-symbols}
 use Rattle.constriction.proofs.stream.model.categorical.hashed.NonContiguousCategoricalEncoderModel.from_symbols_and_nonzero_fixed_point_probabilities.Goals as goal
 
@@ -23,7 +24,7 @@ invariant_of-result g c =
       distinct = good.1.0;
       within = table-rows_within eq laws (λ e. (whole e.left, whole (base e.weight))) g.row.PRECISION c.in_ok-table.table.entries good.1.0
           (found-within eq laws (λ e. (whole e.left, whole (base e.weight))) g.row.PRECISION rows (get eq c.in_ok-table.table)
-          (tiling-within g.Probability.BitArray.BITS g.row.PRECISION rows tile) good.1.1);
+          (rows-within g.Probability.BitArray.BITS g.row.PRECISION rows tile) good.1.1);
     }
 
 pub returns-clause-ok : goal.returns-clause-ok
