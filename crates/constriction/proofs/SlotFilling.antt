@@ -11,16 +11,16 @@ use Rattle.constriction.specs.SlotTable.{HasWords, HasSlots, IsFirstWord}
 use Rattle.constriction.proofs.Halving.{later}
 
 -- slots
-pub slot-more : (j w : ℕ) → (j + 1) * w ≡ j * w + w
+slot-more : (j w : ℕ) → (j + 1) * w ≡ j * w + w
 slot-more j w = rw add-one (omega arith)
 
-pub slot-end : (j n w : ℕ) → j < n → j * w + w ≤ n * w
+slot-end : (j n w : ℕ) → j < n → j * w + w ≤ n * w
 slot-end j n w h =
     let more : suc j * w ≤ n * w = mul-le-mul_right w (let g : suc j ≤ n = omega arith in g) in
     omega arith
 
 -- all slots together hold the quantiles below 2 ^ precision
-pub slots-all : (precision : ℕ) → slot_count precision * slot_width precision ≡ 2 ^ precision
+slots-all : (precision : ℕ) → slot_count precision * slot_width precision ≡ 2 ^ precision
 slots-all precision =
     let e : min precision 8 + (precision - 8) ≡ precision = omega arith in
     let split : 2 ^ (min precision 8 + (precision - 8)) ≡ 2 ^ min precision 8 * 2 ^ (precision - 8) = pow-add 2 (min precision 8) (precision - 8) in
@@ -28,6 +28,15 @@ slots-all precision =
 
 pub slot-within : (precision j : ℕ) → j < slot_count precision → j * slot_width precision + slot_width precision ≤ 2 ^ precision
 slot-within precision j h = rw (← slots-all precision) (slot-end j (slot_count precision) (slot_width precision) h)
+
+-- the last slot ends there
+last-slot : (precision : ℕ)
+    → (slot_count precision - 1 + 1 ≡ slot_count precision)
+    × ((slot_count precision - 1) * slot_width precision + slot_width precision ≡ 2 ^ precision)
+last-slot precision =
+    let some : 0 < slot_count precision = pow_pos (min precision 8) in
+    let one : slot_count precision - 1 + 1 ≡ slot_count precision = omega arith in
+    (one, sym (slot-more (slot_count precision - 1) (slot_width precision)) ∙ ap (λ k. k * slot_width precision) one ∙ slots-all precision)
 
 -- a whole part, by its bounds
 pub whole-part : (w n j : ℕ) → 0 < w → (n / w ≤ j) ↔ (n < j * w + w)
@@ -79,7 +88,7 @@ parity (suc n) = elim (parity n) [
 ]
 
 -- a greater left cumulative has no earlier first word
-pub word-order : (w a b x y : ℕ) → IsFirstWord w a x → IsFirstWord w b y → a ≤ b → x ≤ y
+word-order : (w a b x y : ℕ) → IsFirstWord w a x → IsFirstWord w b y → a ≤ b → x ≤ y
 word-order w a b x y f g h = elim (parity y) [
   | inl even ↦ (
       let at : b ≤ even.0 * w = (g.first even.0).0 (omega (arith, even.1)) in
@@ -99,7 +108,7 @@ index-most xs (suc i) up h =
     rw e (omega (arith, index-most xs i up (omega arith), up i (omega arith)))
 
 -- the row at i holds q: the next one begins above it, or there is none
-pub last-before : (xs : List ℕ) (q i : ℕ) → IsStrictlyIncreasing xs → i < length xs → get_or xs i 0 ≤ q
+last-before : (xs : List ℕ) (q i : ℕ) → IsStrictlyIncreasing xs → i < length xs → get_or xs i 0 ≤ q
     → (i + 1 < length xs → q < get_or xs (i + 1) 0) → IsLastAtMost xs q i
 last-before xs q i up h low above = record {
   in_bounds = h;
@@ -109,12 +118,6 @@ last-before xs q i up h low above = record {
     | inr no_more ↦ (let is : i + 1 ≡ j = omega arith in rw (← is) (above (omega arith)))
   ];
 }
-
-pub words-none : (w : ℕ) (lefts : List ℕ) → HasWords w lefts []
-words-none w lefts = record { first = λ j b. absurd (omega arith); last = λ j b. absurd (omega arith) }
-
-pub first-none : (w : ℕ) → IsFirstWord w 0 0
-first-none w = record { first = λ j. ((λ h. omega arith), (λ h. omega arith)); last = λ j. ((λ h. omega arith), (λ h. omega arith)) }
 
 -- a row fills the words from its own first one to that of the next row
 module _ (w : ℕ) (lefts table : List ℕ) (row n : ℕ) (up : IsStrictlyIncreasing lefts) (in_bounds : row < length lefts) (t : HasWords w lefts table)
@@ -130,7 +133,7 @@ module _ (w : ℕ) (lefts table : List ℕ) (row n : ℕ) (up : IsStrictlyIncrea
   new-word i h b =
       get_or-append_right table (replicate n row) (length table) i 0 refl h ∙ get_or-replicate n (i - length table) row 0 (omega (arith, long))
 
-  pub words-more : HasWords w lefts (table ++ replicate n row)
+  words-more : HasWords w lefts (table ++ replicate n row)
   words-more = record {
     first = λ j b. elim (cases_lt (2 * j) (length table)) [
       | inl old ↦ rw (old-word (2 * j) old) (t.first j old)
@@ -157,7 +160,7 @@ map-replicate f zero x = refl
 map-replicate f (suc n) x = ap (λ xs. f x ∷ xs) (map-replicate f n x)
 
 -- what `resize` leaves, as numbers
-pub resized : {W : Type 0} (whole : W → ℕ) (items new : List W) (n : ℕ) (row : W) → length items ≤ n
+resized : {W : Type 0} (whole : W → ℕ) (items new : List W) (n : ℕ) (row : W) → length items ≤ n
     → new ≡ take n items ++ replicate (n - length items) row → map whole new ≡ map whole items ++ replicate (n - length items) (whole row)
 resized whole items new n row h is =
     ap (map whole) (is ∙ ap (λ xs. xs ++ replicate (n - length items) row) (take_all n items h)) ∙ map-append whole items (replicate (n - length items) row) ∙
@@ -198,14 +201,12 @@ module _ {W : Type 0} (whole : W → ℕ) (w : ℕ) (lefts : List ℕ) (items ne
   pub all-filled : (precision : ℕ) → w ≡ slot_width precision → n ≡ 2 * slot_count precision → whole row + 1 ≡ length lefts
       → get_or lefts (whole row) 0 < 2 ^ precision → HasSlots w (slot_count precision) lefts (map whole new)
   all-filled precision width count e below =
-      let some : 0 < slot_count precision = pow_pos (min precision 8) in
       let wide : 0 < slot_width precision = pow_pos (precision - 8) in
+      let slot = last-slot precision in
       let last : ℕ = slot_count precision - 1 in
-      let one : last + 1 ≡ slot_count precision = omega arith in
-      let total : last * w + w ≡ 2 ^ precision =
-      sym (slot-more last w) ∙ ap (λ k. k * w) one ∙ ap (λ k. slot_count precision * k) width ∙ slots-all precision in
+      let total : last * w + w ≡ 2 ^ precision = rw width slot.1 in
       let most : length items ≤ 2 * last + 1 = (from.last last).1 (omega (arith, total, below, width, wide)) in
-      let order : length items ≤ n = omega (arith, most, count, one) in
+      let order : length items ≤ n = omega (arith, most, count, slot.0) in
       record {
         long = length-map new whole ∙ filled-long order ∙ count;
         words = filled-more order (λ h. absurd (omega arith));
@@ -214,13 +215,10 @@ module _ {W : Type 0} (whole : W → ℕ) (w : ℕ) (lefts : List ℕ) (items ne
 -- the slot of a quantile
 pub slot-below : (precision q : ℕ) → q < 2 ^ precision → q / slot_width precision < slot_count precision
 slot-below precision q h =
-    let some : 0 < slot_count precision = pow_pos (min precision 8) in
-    let last : ℕ = slot_count precision - 1 in
-    let one : last + 1 ≡ slot_count precision = omega arith in
-    let total : last * slot_width precision + slot_width precision ≡ 2 ^ precision =
-    sym (slot-more last (slot_width precision)) ∙ ap (λ k. k * slot_width precision) one ∙ slots-all precision in
-    let within : q / slot_width precision ≤ last = (whole-part (slot_width precision) q last (pow_pos (precision - 8))).1 (omega (arith, total)) in
-    omega (arith, one)
+    let slot = last-slot precision in
+    let within : q / slot_width precision ≤ slot_count precision - 1 =
+    (whole-part (slot_width precision) q (slot_count precision - 1) (pow_pos (precision - 8))).1 (omega (arith, slot.1)) in
+    omega (arith, slot.0)
 
 -- the two words of the slot of a quantile, as they are read
 pub slot-words : (precision q x w : ℕ) (lefts table : List ℕ) → HasSlots (slot_width precision) (slot_count precision) lefts table

@@ -1,37 +1,36 @@
 -- The rows that meet a slot.
-use Rattle.std.proofs.Common.{◌≡◌, ℕ, ◌+◌, ◌-◌, ◌*◌, ◌/◌, ◌%◌, ◌^◌, ◌<◌, ◌≤◌, List, length, get_or, map, take, drop, ap, sym, ◌∙◌, arith, inl, inr}
+use Rattle.std.proofs.Common.{◌≡◌, ℕ, ◌+◌, ◌-◌, ◌*◌, ◌/◌, ◌^◌, ◌<◌, ◌≤◌, List, length, get_or, map, take, drop, ap, sym, ◌∙◌, arith, inl, inr}
 use Rattle.std.proofs.lemmas.Bool.{cases_lt}
 use Rattle.std.proofs.lemmas.List.{take-map, drop-map, get_or-take, get_or-drop, length-take-le, length-drop}
-use Rattle.std.proofs.lemmas.Nat.{pow_pos, shr_split, mod_below}
+use Rattle.std.proofs.Math.Nat.{div-mul-le_self}
+use Rattle.std.proofs.lemmas.Nat.{pow_pos}
 use Rattle.std.specs.List.Sorted.{IsStrictlyIncreasing}
 use Rattle.constriction.specs.Rows.{Row, RowsTile}
 use Rattle.constriction.specs.Probe.{IsSearchable, IsLastAtMost, TellsRows, IsRowIndexOf}
 use Rattle.constriction.specs.Slots.{MeetsSlot, slot_width, slot_count}
 use Rattle.constriction.specs.SlotTable.{IsSlot, IsSlotPart}
 use Rattle.constriction.proofs.Halving.{later}
-use Rattle.constriction.proofs.SlotFilling.{slot-within, slot-below}
+use Rattle.constriction.proofs.SlotFilling.{slot-within, slot-below, whole-part}
 use Rattle.constriction.proofs.TileLemmas.{IsTile, tile-at, tiles-many, tiles-increase, tiles-found}
 
 -- the slot of a quantile holds it
-pub slot-from : (precision q : ℕ) → q / slot_width precision * slot_width precision ≤ q
-slot-from precision q =
-    let split : q / 2 ^ (precision - 8) * 2 ^ (precision - 8) + q % 2 ^ (precision - 8) ≡ q = shr_split q (precision - 8) in
-    omega arith
+slot-from : (precision q : ℕ) → q / slot_width precision * slot_width precision ≤ q
+slot-from precision q = div-mul-le_self q (slot_width precision)
 
 pub slot-to : (precision q : ℕ) → q ≤ q / slot_width precision * slot_width precision + (slot_width precision - 1)
 slot-to precision q =
-    let split : q / 2 ^ (precision - 8) * 2 ^ (precision - 8) + q % 2 ^ (precision - 8) ≡ q = shr_split q (precision - 8) in
-    let low : q % 2 ^ (precision - 8) < 2 ^ (precision - 8) = mod_below q (2 ^ (precision - 8)) (pow_pos (precision - 8)) in
+    let wide : 0 < slot_width precision = pow_pos (precision - 8) in
+    let below = (whole-part (slot_width precision) q (q / slot_width precision) wide).0 (omega arith) in
     omega arith
 
 -- a greater quantile has no earlier row
-pub last-order : (lefts : List ℕ) (x y i k : ℕ) → IsLastAtMost lefts x i → IsLastAtMost lefts y k → x ≤ y → i ≤ k
+last-order : (lefts : List ℕ) (x y i k : ℕ) → IsLastAtMost lefts x i → IsLastAtMost lefts y k → x ≤ y → i ≤ k
 last-order lefts x y i k a b h = elim (cases_lt k i) [
   | inl before ↦ absurd (omega (arith, b.last i before a.in_bounds, a.at_most))
   | inr not ↦ not
 ]
 
-pub slot-order : (lefts : List ℕ) (width slot first last : ℕ) → IsSlot lefts width slot first last → first ≤ last
+slot-order : (lefts : List ℕ) (width slot first last : ℕ) → IsSlot lefts width slot first last → first ≤ last
 slot-order lefts width slot first last s =
     last-order lefts (slot * width) (slot * width + (width - 1)) first last s.from s.to (omega arith)
 
