@@ -1,5 +1,5 @@
 -- Filling the table of slots.
-use Rattle.std.proofs.Common.{◌≡◌, ◌↔◌, ℕ, ◌+◌, ◌-◌, ◌*◌, ◌/◌, ◌^◌, ◌<◌, ◌≤◌, ◌⊎◌, suc, zero, min, List, [], ◌∷◌, ◌++◌, length, replicate, take, map, get_or, ap, sym, refl, ◌∙◌, arith, inl, inr, add-one}
+use Rattle.std.proofs.Common.{◌≡◌, ◌↔◌, ℕ, ◌+◌, ◌-◌, ◌*◌, ◌/◌, ◌^◌, ◌<◌, ◌≤◌, ◌⊎◌, suc, zero, min, List, ◌∷◌, ◌++◌, length, replicate, take, map, get_or, ap, sym, refl, ◌∙◌, arith, inl, inr, add-one}
 use Rattle.std.proofs.Math.Nat.{mul-le-mul_right, le-div_iff_mul-le}
 use Rattle.std.proofs.lemmas.Bool.{cases_lt}
 use Rattle.std.proofs.lemmas.Nat.{pow-add, pow_pos}
@@ -219,15 +219,3 @@ slot-below precision q h =
     let within : q / slot_width precision ≤ slot_count precision - 1 =
     (whole-part (slot_width precision) q (slot_count precision - 1) (pow_pos (precision - 8))).1 (omega (arith, slot.1)) in
     omega (arith, slot.0)
-
--- the two words of the slot of a quantile, as they are read
-pub slot-words : (precision q x w : ℕ) (lefts table : List ℕ) → HasSlots (slot_width precision) (slot_count precision) lefts table
-    → q < 2 ^ precision → x ≡ q → w ≡ slot_width precision
-    → (2 * (x / w) + 1 < length table)
-    × IsLastAtMost lefts (q / slot_width precision * slot_width precision) (get_or table (2 * (x / w)) 0)
-    × IsLastAtMost lefts (q / slot_width precision * slot_width precision + (slot_width precision - 1)) (get_or table (2 * (x / w) + 1) 0)
-slot-words precision q x w lefts table t h e width =
-    let below = slot-below precision q h in
-    let is : x / w ≡ q / slot_width precision = rw (e, width) refl in
-    let within : 2 * (q / slot_width precision) + 1 < length table = omega (arith, t.long, below) in
-    rw is (within, t.words.first (q / slot_width precision) (omega arith), t.words.last (q / slot_width precision) within)

@@ -70,6 +70,17 @@ pub(crate) fn slots_of<Entry, Kind: CdfEntry<Entry>, const PRECISION: usize>(
     Ok(table)
 }
 
+/// The slot of a quantile.
+#[inline]
+fn slot_of<W: WholeNumber, const PRECISION: usize>(quantile: W) -> usize
+    requires narrow { PRECISION ≤ 63 }
+    requires below { W.whole quantile < 2 ^ PRECISION }
+    ensures is { result ≡ W.whole quantile / slot_width PRECISION }
+    ensures below { result < slot_count PRECISION }
+{
+    quantile.to_number() / width_of_slots::<PRECISION>()
+}
+
 /// The first and the last row that meet a quantile's slot.
 #[inline]
 fn rows_of_slot<Entry, Kind: CdfEntry<Entry>, const PRECISION: usize>(
@@ -84,7 +95,7 @@ fn rows_of_slot<Entry, Kind: CdfEntry<Entry>, const PRECISION: usize>(
     ensures { IsSlot (map Kind.cumulative entries.now) (slot_width PRECISION)
         (Kind.Word.whole quantile / slot_width PRECISION) result.0 result.1 }
 {
-    let at = 2 * (quantile.to_number() / width_of_slots::<PRECISION>());
+    let at = 2 * slot_of::<Kind::Word, PRECISION>(quantile);
     (table[at].to_number(), table[at + 1].to_number())
 }
 
