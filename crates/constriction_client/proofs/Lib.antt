@@ -2,6 +2,7 @@ mod Accepting
 mod ComingBack
 mod Cutting
 mod Exactly
+mod Finding
 mod ItemWriting
 mod Numbers
 mod Places

@@ -7,6 +7,8 @@ pub mod Parts
 pub mod Placing
 pub mod Quantiles
 pub mod Reading
+pub mod Replies
 pub mod Runs
+pub mod Scanning
 pub mod Text
 pub mod ThereAndBack

@@ -1,9 +1,10 @@
 //! What stands on the models: symbols as words and back, and whole texts that ask for rows.
 //!
 //! [`write_quantiles`] and [`read_symbols`] turn symbols into words and words into symbols, over
-//! any model and any sink or source. [`run_cursor`] and [`run_reversed`] run calls on a cursor and on
-//! its reversal, which answer alike. [`run`] reads an input to its end and writes the answer to
-//! each of its lines; [`parse`] is the grammar of a line, [`answer`] the answer to one.
+//! any model and any sink or source. [`answer_queries`] asks a decoder and an encoder, which reply as
+//! a scan of their rows does. [`run_cursor`] and [`run_reversed`] run calls on a cursor and on its
+//! reversal, which answer alike. [`run`] reads an input to its end and writes the answer to each of
+//! its lines; [`parse`] is the grammar of a line, [`answer`] the answer to one.
 #![tactic(auto)]
 
 mod answers;
@@ -18,6 +19,7 @@ mod line;
 mod line_model;
 mod program;
 mod quantiles;
+mod queries;
 mod rows;
 mod uniform;
 
@@ -28,3 +30,4 @@ pub use crate::fault::RunFault;
 pub use crate::line::{Command, Form, parse};
 pub use crate::program::run;
 pub use crate::quantiles::{QuantileFault, ReadFault, read_symbols, write_quantiles};
+pub use crate::queries::{Query, Reply, answer_queries};
