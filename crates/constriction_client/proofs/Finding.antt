@@ -1,11 +1,12 @@
 -- The row of a quantile is the first one that holds it.
-use Rattle.std.proofs.Common.{suc, zero, refl, subst, ◌≡◌, ℕ, ◌+◌, ◌^◌, ◌<◌, ◌≤◌, Bool, true, false, ◌&&◌, cond, List, [], ◌∷◌, Option, Some, None, ap, sym, ◌∙◌, length, get_or, sum, arith, nat_le, nat_lt, find, map, IsSome, inl, inr, ◌↔◌}
+use Rattle.std.proofs.Common.{suc, zero, refl, subst, ◌≡◌, ℕ, ◌+◌, ◌^◌, ◌<◌, ◌≤◌, Bool, true, false, ◌&&◌, cond, List, [], ◌∷◌, Option, Some, None, ap, sym, ◌∙◌, length, get_or, sum, take, arith, nat_le, nat_lt, find, map, IsSome, inl, inr, ◌↔◌}
 use Rattle.std.proofs.lemmas.Bool.{ltb-true, leb-true, lt-ltb, le-leb, cases_lt}
-use Rattle.std.proofs.lemmas.List.{length-map}
+use Rattle.std.proofs.lemmas.List.{length-map, take_all}
 use Rattle.std.proofs.lemmas.List.Sums.{sum_by-cons}
-use Rattle.constriction.specs.Rows.{Row, RowsTile, IsRowOf, rows_from}
+use Rattle.constriction.specs.Rows.{Row, RowsTile, IsRowOf, rows_from, entry_of}
 use Rattle.constriction_client.specs.declared.queries.Query.{Query}
-use Rattle.constriction_client.specs.Replies.{row_reply, reply_to_quantile, replies_of_two}
+use Rattle.constriction_client.specs.declared.queries.Reply.{Reply}
+use Rattle.constriction_client.specs.Replies.{row_reply, reply_to_quantile, replies_of_two, replies_by_scan}
 use Rattle.constriction_client.specs.Scanning.{holds}
 
 none_is_some : {A : Type 0} (x : A) → None ≡ Some x → ⊥
@@ -15,7 +16,8 @@ some_inj : {A : Type 0} (x y : A) → Some x ≡ Some y → x ≡ y
 some_inj x y e = cc
 
 -- no row begins before the first
-begins_after : {S : Type 0} (left : ℕ) (symbols : List S) (weights : List ℕ) (r : Row S) (k : ℕ) → k < length (rows_from left symbols weights)
+begins_after : {S : Type 0} (left : ℕ) (symbols : List S) (weights : List ℕ) (r : Row S) (k : ℕ)
+    → k < length (rows_from left symbols weights)
     → get_or (rows_from left symbols weights) k r ≡ r → left ≤ r.left
 begins_after {S = S} left [] weights r k h e = absurd (omega arith)
 begins_after {S = S} left (s ∷ ss) [] r k h e = absurd (omega arith)
@@ -32,7 +34,8 @@ holds_below q r true false e f t = absurd (cc)
 holds_below q r false b e f t = absurd (cc)
 
 -- the first row that holds a quantile, where a row of the list holds it
-find_at : {S : Type 0} (left : ℕ) (symbols : List S) (weights : List ℕ) (q : ℕ) (r : Row S) (k : ℕ) → k < length (rows_from left symbols weights)
+find_at : {S : Type 0} (left : ℕ) (symbols : List S) (weights : List ℕ) (q : ℕ) (r : Row S) (k : ℕ)
+    → k < length (rows_from left symbols weights)
     → get_or (rows_from left symbols weights) k r ≡ r → r.left ≤ q → q < r.left + r.weight
     → find (holds q) (rows_from left symbols weights) ≡ Some r
 find_at {S = S} left [] weights q r k h e from to = absurd (omega arith)
@@ -136,8 +139,18 @@ pub replied : {S Other : Type 0} (bits precision : ℕ) (rows : List (Row S)) (q
 replied bits precision rows q r below tile is =
     rw (lt-ltb q (2 ^ precision) below, find_row bits precision rows q r tile is) refl
 
--- where two models tell the same entries, replies are the same
-pub same-replies : {S Word Other : Type 0} (precision : ℕ) (whole : Word → ℕ) (rows : List (Row S)) (entry other : S → Option (ℕ × ℕ))
-    (queries : List (Query S Word)) → ((s : S) → entry s ≡ other s)
-    → replies_of_two {Other = Other} precision whole rows entry queries ≡ replies_of_two precision whole rows other queries
-same-replies precision whole rows entry other queries alike = λ i. replies_of_two precision whole rows (λ s. alike s i) queries
+-- replies by rows that are those of before, and by entries that are these rows', are a scan's of the rows of before
+pub scan-of-rows : {S Word Other : Type 0} (precision : ℕ) (whole : Word → ℕ) (eq : S → S → Bool) (entry : S → Option (ℕ × ℕ))
+    (rows before : List (Row S)) (queries : List (Query S Word)) (found : List (Reply S ℕ ℕ Other))
+    → rows ≡ before → ((s : S) → entry s ≡ entry_of eq before s)
+    → found ≡ replies_of_two precision whole rows entry queries → found ≡ replies_by_scan precision whole eq before queries
+scan-of-rows {S = S} precision whole eq entry rows before queries found same alike is =
+    let by_entries : replies_of_two precision whole before entry queries ≡ replies_by_scan precision whole eq before queries =
+    λ i. replies_of_two precision whole before (λ (s : S). alike s i) queries in
+    is ∙ ap (λ (rs : List (Row S)). replies_of_two precision whole rs entry queries) same ∙ by_entries
+
+-- replies to so many queries that there are no more are the replies to all
+pub all-answered : {S Word Other : Type 0} (precision : ℕ) (whole : Word → ℕ) (rows : List (Row S)) (entry : S → Option (ℕ × ℕ))
+    (queries : List (Query S Word)) (n : ℕ) (found : List (Reply S ℕ ℕ Other)) → length queries ≤ n
+    → found ≡ replies_of_two precision whole rows entry (take n queries) → found ≡ replies_of_two precision whole rows entry queries
+all-answered precision whole rows entry queries n found h is = is ∙ ap (replies_of_two precision whole rows entry) (take_all n queries h)
