@@ -6,6 +6,7 @@ mod Finding
 mod ItemWriting
 mod Numbers
 mod Places
+mod Rebuilding
 mod Returning
 mod RowTexts
 mod Stepping

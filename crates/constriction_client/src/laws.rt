@@ -6,9 +6,11 @@ ghost use Rattle.constriction_client.specs.Reading.{ReadsExactly};
 ghost use Rattle.constriction_client.specs.Scanning.{FindsARow, FindsTheRow};
 ghost use Rattle.constriction_client.specs.Text.{TestsAcceptance};
 
+mod chains;
 mod cursor_runs;
 mod round_trips;
 
+pub use self::chains::{answer_after_chain, form_symbols_differ};
 pub use self::cursor_runs::run_cursor_and_reversal;
 pub use self::round_trips::{
     CursorFault, DecoderAndEncoder, decoder_and_encoder, there_and_back,
