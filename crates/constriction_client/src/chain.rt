@@ -6,7 +6,7 @@ ghost use Rattle.constriction.specs.Acceptance.{AreAccepted};
 ghost use Rattle.constriction.specs.Rows.{rows_of, symbols_of};
 ghost use Rattle.constriction.specs.Tables.{ClonesAreSame};
 ghost use Rattle.constriction_client.specs.Chains.{is_lookup_after};
-ghost use Rattle.constriction_client.specs.declared.decoder_form.DecoderForm.TheVariants as kind;
+ghost use Rattle.constriction_client.specs.declared.decoder_form.SearchOrLookup.TheVariants as kind;
 
 use crate::decoder_form::{DecoderForm, Searching, Tabled};
 use crate::laws::form_symbols_differ;

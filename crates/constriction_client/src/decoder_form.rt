@@ -4,7 +4,6 @@ use constriction::stream::model::{
     DecoderModel, EntropyModel, IterableEntropyModel, NonContiguousCategoricalDecoderModel,
     NonContiguousLookupDecoderModel, NonContiguousSymbolTable, Weight,
 };
-use constriction_backends::SafeBuf;
 use constriction_words::{BitArray, IndexWord};
 use std::alloc::AllocError;
 
@@ -27,23 +26,24 @@ pub(crate) type Tabled<Symbol, Probability, const PRECISION: usize> =
         PRECISION,
     >;
 
-/// A decoder's model over any symbols, no two of which are equal, in one of two forms. It has the rows of
-/// the model in it, and answers as that does.
+/// A model in one of two forms. It has the rows of the model in it, and answers as that does.
 #[derive(Debug, Drop)]
-pub enum DecoderForm<Symbol: Eq, Probability: IndexWord, const PRECISION: usize>
-where
-    Vec<(Probability, Symbol)>: SafeBuf<(Probability, Symbol)>,
-    Vec<Probability>: SafeBuf<Probability>,
-{
+pub enum SearchOrLookup<Searching, Tabled> {
     /// It searches all rows.
-    Search(Searching<Symbol, Probability, PRECISION>),
+    Search(Searching),
     /// It searches the rows of one slot.
-    Lookup(Tabled<Symbol, Probability, PRECISION>),
+    Lookup(Tabled),
 }
+
+/// A decoder's model over any symbols, no two of which are equal, in one of two forms.
+pub type DecoderForm<Symbol, Probability, const PRECISION: usize> = SearchOrLookup<
+    Searching<Symbol, Probability, PRECISION>,
+    Tabled<Symbol, Probability, PRECISION>,
+>;
 
 impl<Symbol: Eq, Probability: IndexWord, const PRECISION: usize> EntropyModel<PRECISION>
     for DecoderForm<Symbol, Probability, PRECISION> {
-    ghost use Rattle.constriction_client.specs.declared.decoder_form.DecoderForm.TheVariants as form;
+    ghost use Rattle.constriction_client.specs.declared.decoder_form.SearchOrLookup.TheVariants as form;
 
     type Symbol = Symbol;
 
@@ -60,7 +60,7 @@ impl<Symbol: Eq + Clone, Probability: IndexWord, const PRECISION: usize> Decoder
     ghost use Rattle.constriction.specs.Rows.{RowsTile};
     ghost use Rattle.constriction.specs.SymbolRowLemmas.{paired-tiles};
     ghost use Rattle.constriction.specs.Tables.{ClonesAreSame, MayRefuse};
-    ghost use Rattle.constriction_client.specs.declared.decoder_form.DecoderForm.TheVariants as form;
+    ghost use Rattle.constriction_client.specs.declared.decoder_form.SearchOrLookup.TheVariants as form;
 
     ghost clones_are_same = { ClonesAreSame Symbol.is_clone };
 
@@ -92,7 +92,7 @@ impl<
     ghost use Rattle.constriction.specs.Rows.{RowsTile};
     ghost use Rattle.constriction.specs.SymbolRowLemmas.{paired-tiles, yields-row};
     ghost use Rattle.constriction.specs.Tables.{rows_paired, rows_between, ClonesAreSame, MayRefuse};
-    ghost use Rattle.constriction_client.specs.declared.decoder_form.DecoderForm.TheVariants as form;
+    ghost use Rattle.constriction_client.specs.declared.decoder_form.SearchOrLookup.TheVariants as form;
 
     type SymbolTable = NonContiguousSymbolTable<'m, Symbol, Probability, PRECISION>;
 

@@ -30,7 +30,7 @@ pub use crate::answers::answer;
 pub use crate::chain::{ChainStep, convert_chain};
 pub use crate::cursor_calls::{CursorCall, CursorReply};
 pub use crate::cursor_runs::{run_cursor, run_reversed};
-pub use crate::decoder_form::DecoderForm;
+pub use crate::decoder_form::{DecoderForm, SearchOrLookup};
 pub use crate::fault::RunFault;
 pub use crate::line::{Command, Form, parse};
 pub use crate::program::run;

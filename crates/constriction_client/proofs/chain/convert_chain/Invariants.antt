@@ -1,7 +1,7 @@
 use Rattle.std.proofs.Common.{◌≡◌, take, true, false}
 use Rattle.constriction.specs.Tables.{rows_paired}
 use Rattle.constriction_client.specs.Chains.{is_lookup_after}
-use Rattle.constriction_client.specs.declared.decoder_form.DecoderForm.TheVariants as kind
+use Rattle.constriction_client.specs.declared.decoder_form.SearchOrLookup.TheVariants as kind
 use Rattle.constriction_client.proofs.chain.convert_chain.Given as goal
 
 -- the rows are those of the first form, and the kind is that which the steps so far say
