@@ -2,9 +2,11 @@ mod Accepting
 mod ComingBack
 mod Cutting
 mod Exactly
+mod Finding
 mod ItemWriting
 mod Numbers
 mod Places
+mod Rebuilding
 mod Returning
 mod RowTexts
 mod Stepping

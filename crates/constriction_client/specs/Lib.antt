@@ -1,3 +1,4 @@
+pub mod Chains
 pub mod Collecting
 pub mod Coming
 pub mod CursorCalls
@@ -7,6 +8,8 @@ pub mod Parts
 pub mod Placing
 pub mod Quantiles
 pub mod Reading
+pub mod Replies
 pub mod Runs
+pub mod Scanning
 pub mod Text
 pub mod ThereAndBack

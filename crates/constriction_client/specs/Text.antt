@@ -1,13 +1,14 @@
 -- The text that answers an input.
-use Rattle.std.specs.Prelude.{◌≡◌, ℕ, ◌+◌, ◌^◌, ◌<◌, ◌↔◌, Bool, true, IsSome, ◌&&◌, ◌==◌, nat_eq, nat_le, nat_lt}
+use Rattle.std.specs.Prelude.{◌≡◌, ℕ, ◌^◌, ◌↔◌, Bool, true, ◌&&◌, ◌==◌, nat_eq, nat_le, nat_lt}
 use Rattle.std.specs.Prelude.{List, [], ◌∷◌, ◌++◌, codes, decimal, find, sum}
 use Rattle.std.specs.Prelude.{Option, Some, None, if◌then◌else◌}
 use Rattle.std.specs.List.{flat_map, list_all, slice_split}
 use Rattle.std.specs.Option.{option_map_or}
 use Rattle.constriction.specs.Acceptance.{IsAccepted, completed}
-use Rattle.constriction.specs.Rows.{Row, RowsTile, IsRowOf, contiguous_rows, uniform_rows, entry_of}
+use Rattle.constriction.specs.Rows.{Row, contiguous_rows, uniform_rows, entry_of}
 use Rattle.constriction_client.specs.Grammar.{Request, table, infer, quantile, symbol, uniform, bits_of, precision_of}
 use Rattle.constriction_client.specs.Reading.{read_line}
+use Rattle.constriction_client.specs.Scanning.{holds}
 
 -- parts, of which a last empty one is dropped
 abbrev pub without_last_empty : List (List ℕ) → List (List ℕ)
@@ -25,27 +26,11 @@ abbrev pub are_accepted : ℕ → ℕ → List ℕ → Bool
 are_accepted bits precision weights =
     list_all (λ weight. nat_lt 0 weight && nat_lt weight (2 ^ bits)) weights && sum weights == 2 ^ precision
 
--- whether a row holds a quantile
-abbrev pub holds : ℕ → Row ℕ → Bool
-holds q row = nat_le row.left q && nat_lt q (row.left + row.weight)
-
 -- the test of weights holds exactly where a model accepts them
 abbrev pub TestsAcceptance : Type 0
 TestsAcceptance =
     (bits precision : ℕ) (weights : List ℕ)
     → (are_accepted bits precision weights ≡ true) ↔ IsAccepted bits precision weights
-
--- among rows that tile, the row that is found is the row of the quantile
-abbrev pub FindsTheRow : Type 0
-FindsTheRow =
-    (bits precision : ℕ) (rows : List (Row ℕ)) (q : ℕ) (row : Row ℕ)
-    → RowsTile bits precision rows → (find (holds q) rows ≡ Some row) ↔ IsRowOf rows q row
-
--- among rows that tile, one is found for each quantile below 2 ^ precision
-abbrev pub FindsARow : Type 0
-FindsARow =
-    (bits precision : ℕ) (rows : List (Row ℕ)) (q : ℕ)
-    → RowsTile bits precision rows → q < 2 ^ precision → IsSome (find (holds q) rows)
 
 -- the line of a row: its symbol, its left cumulative and its weight
 abbrev pub row_text : Row ℕ → List ℕ

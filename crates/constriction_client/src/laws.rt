@@ -3,11 +3,14 @@
 ghost use Rattle.constriction_client.specs.CursorCalls.{RunsAlike};
 ghost use Rattle.constriction_client.specs.ThereAndBack.{ReadsBack, ReadsBackReversed};
 ghost use Rattle.constriction_client.specs.Reading.{ReadsExactly};
-ghost use Rattle.constriction_client.specs.Text.{FindsARow, FindsTheRow, TestsAcceptance};
+ghost use Rattle.constriction_client.specs.Scanning.{FindsARow, FindsTheRow};
+ghost use Rattle.constriction_client.specs.Text.{TestsAcceptance};
 
+mod chains;
 mod cursor_runs;
 mod round_trips;
 
+pub use self::chains::{answer_after_chain, form_symbols_differ};
 pub use self::cursor_runs::run_cursor_and_reversal;
 pub use self::round_trips::{
     CursorFault, DecoderAndEncoder, decoder_and_encoder, there_and_back,
@@ -35,14 +38,15 @@ pub fn weights_are_tested_as_models_accept_them()
     ensures { TestsAcceptance }
 {}
 
-/// The row that the text of an input has for a quantile is the one that models answer.
-pub fn the_row_found_is_the_row_of_the_quantile()
-    ensures { FindsTheRow }
+/// The row that a scan finds for a quantile, as in replies and in the text of an input, is the one that
+/// models answer.
+pub fn the_row_found_is_the_row_of_the_quantile<Symbol>()
+    ensures { FindsTheRow Symbol }
 {}
 
 /// There is one for each quantile in range.
-pub fn each_quantile_in_range_has_a_row()
-    ensures { FindsARow }
+pub fn each_quantile_in_range_has_a_row<Symbol>()
+    ensures { FindsARow Symbol }
 {}
 
 /// A run of calls in a state and a run of the same calls in its reversal have the same replies, and

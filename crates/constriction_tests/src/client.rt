@@ -1,9 +1,11 @@
-//! Items to words and back, and lines and whole inputs.
+//! Items to words and back, chains of conversions and queries, and lines and whole inputs.
 
 mod adapters;
+mod chains;
 mod cursor_runs;
 mod items;
 mod lines;
+mod queries;
 mod runs;
 mod tables;
 mod two_models;

@@ -10,7 +10,7 @@ mod own_model;
 mod refused_lookup_memory;
 mod refused_memory;
 mod search;
-mod symbol_types;
+pub mod symbol_types;
 pub mod tables;
 pub mod uniform;
 mod wide_slots;

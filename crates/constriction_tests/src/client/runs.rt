@@ -310,8 +310,8 @@ fn answered(rt: &impl Abort, alloc: Global, line: &[u8], text: &str) {
 fn laws_and_answers_may_be_called(rt: HostRuntime) {
     answered(&rt, rt.alloc(), b"table u8/6 1 63", "0 0 1\n1 1 63\n");
     weights_are_tested_as_models_accept_them();
-    the_row_found_is_the_row_of_the_quantile();
-    each_quantile_in_range_has_a_row();
+    the_row_found_is_the_row_of_the_quantile::<usize>();
+    each_quantile_in_range_has_a_row::<usize>();
     reads_back::<usize, u8>();
     reads_back_reversed::<usize, u8>();
 }

@@ -132,7 +132,7 @@ fn a_lookup_model_tells_tags_by_their_own_equality(rt: HostRuntime) {
 
 /// A letter, of which memory for a clone is refused where it is `r`.
 #[derive(Debug, PartialEq, Eq, Hash, Drop)]
-struct Letter(char);
+pub struct Letter(pub char);
 
 impl Clone for Letter {
     ghost is_clone = { λ x y. y ≡ x };
@@ -145,10 +145,10 @@ impl Clone for Letter {
     }
 }
 
-type LetterDecoder = Decoder<Letter, 6>;
+pub type LetterDecoder = Decoder<Letter, 6>;
 
 /// The model of `a`, `r` and `c`.
-fn letters(alloc: Global) -> Result<LetterDecoder, ModelError> {
+pub fn letters(alloc: Global) -> Result<LetterDecoder, ModelError> {
     LetterDecoder::from_symbols_and_nonzero_fixed_point_probabilities(
         alloc,
         [Letter('a'), Letter('r'), Letter('c')],

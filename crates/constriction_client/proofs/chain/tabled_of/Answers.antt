@@ -1,0 +1,19 @@
+use Rattle.std.proofs.Common.{◌∙◌}
+use Rattle.std.proofs.lemmas.Iterator.Adapters.{YieldsList-from_vec}
+use Rattle.constriction_client.proofs.Rebuilding.{made-of-them, not-refused}
+use Rattle.constriction_client.proofs.chain.tabled_of.Goals as goal
+
+pub returns-clause-rows : goal.returns-clause-rows
+returns-clause-rows g c =
+    made-of-them _ _ g.Symbol.PartialEq.eq g.Probability.BitArray.whole g.Probability.BitArray.BITS g.row.PRECISION
+    c.args.symbols.items c.args.weights.items _ (λ it came. YieldsList-from_vec _ came.0 (came.1 ∙ c.args.symbols.ok.0))
+    _ (λ jt came. YieldsList-from_vec _ came.0 (came.1 ∙ c.args.weights.ok.0)) _
+    c.from_symbols_and_nonzero_fixed_point_probabilities.result c.from_symbols_and_nonzero_fixed_point_probabilities.ensures.ok
+
+pub returns-clause-refused : goal.returns-clause-refused
+returns-clause-refused g c =
+    not-refused _ _ g.Symbol.PartialEq.eq g.Probability.BitArray.whole g.Probability.BitArray.BITS g.row.PRECISION
+    c.args.symbols.items c.args.weights.items _ (λ it came. YieldsList-from_vec _ came.0 (came.1 ∙ c.args.symbols.ok.0))
+    _ (λ jt came. YieldsList-from_vec _ came.0 (came.1 ∙ c.args.weights.ok.0))
+    c.from_symbols_and_nonzero_fixed_point_probabilities.result c.requires.accepted
+    c.from_symbols_and_nonzero_fixed_point_probabilities.ensures.invalid

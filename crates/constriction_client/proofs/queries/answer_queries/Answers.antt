@@ -1,0 +1,15 @@
+use Rattle.std.proofs.Common.{map, refl}
+use Rattle.constriction.specs.Rows.{entry_of}
+use Rattle.constriction_client.specs.Replies.{in_numbers}
+use Rattle.constriction_client.proofs.Finding.{all-answered, scan-of-rows}
+use Rattle.constriction_client.proofs.queries.answer_queries.Goals as goal
+
+pub returns-clause-of_one : goal.returns-clause-of_one
+returns-clause-of_one g c = λ alike.
+    let whole = g.D.Probability.BitArray.whole in
+    let rows = g.D.EntropyModel.rows c.args.form.now in
+    let entry = entry_of g.E.EncodesOver.symbol_eq (g.E.EncodesOver.rows c.args.encoder.now) in
+    let found = map (in_numbers whole g.D.Probability.NonZero.NonZeroBitArray.base) c.loop-query.replies.items in
+    scan-of-rows g.row.PRECISION whole g.E.EncodesOver.symbol_eq entry rows rows c.args.queries.now found refl alike
+    (all-answered g.row.PRECISION whole rows entry c.args.queries.now c.loop-query.query-index found c.loop-query-test.false
+    c.loop-query.invariant)

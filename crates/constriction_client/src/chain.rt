@@ -1,0 +1,218 @@
+//! Chains of conversions between the forms of a decoder.
+
+ghost use Rattle.std.specs.Prelude.{◌≡◌, ◌<◌, ◌≤◌, [], ◌∷◌, map, true, false, IfOk, IfErr};
+ghost use Rattle.std.specs.List.{IsDistinct};
+ghost use Rattle.constriction.specs.Acceptance.{AreAccepted};
+ghost use Rattle.constriction.specs.Rows.{rows_of, symbols_of};
+ghost use Rattle.constriction.specs.Tables.{ClonesAreSame};
+ghost use Rattle.constriction_client.specs.Chains.{is_lookup_after};
+ghost use Rattle.constriction_client.specs.declared.decoder_form.SearchOrLookup.TheVariants as kind;
+
+use crate::decoder_form::{DecoderForm, Searching, Tabled};
+use crate::laws::form_symbols_differ;
+use constriction::laws::{symbols_and_weights_rebuild, table_gives_all_rows};
+use constriction::stream::model::{
+    EntropyModel, FromIterableEntropyModel, IterableEntropyModel, ModelError,
+};
+use constriction_words::{BitArray, IndexWord, NonZeroBitArray};
+use std::alloc::{AllocError, Global};
+
+/// A conversion of a [`DecoderForm`].
+#[derive(Debug, PartialEq, Eq, Drop)]
+pub enum ChainStep {
+    /// To the form that searches all rows, by `from_iterable_entropy_model`.
+    ToSearch,
+    /// To the form with a table, by `from_iterable_entropy_model`.
+    ToLookup,
+    /// To the form that searches all rows, by `into_non_contiguous_categorical`, which takes no memory. A
+    /// form that searches stays.
+    IntoSearch,
+    /// To a form of the same kind, by its constructor from the symbols and the weights of the rows.
+    Rebuild,
+}
+
+/// The symbols and the weights of a model's rows, in order. They are accepted by the constructors from symbols
+/// and weights, and give the model's rows again.
+fn symbols_and_weights<M, const PRECISION: usize>(
+    alloc: Global,
+    model: M,
+) -> Result<(Vec<M::Symbol>, Vec<M::Probability>), AllocError>
+where
+    M: IterableEntropyModel<PRECISION>,
+    M::Symbol: Eq + Drop,
+    requires clones { M.clones_are_same }
+    requires distinct { IsDistinct M.Symbol.eq (symbols_of (M.rows model)) }
+    ensures accepted { IfOk result (λ lists. AreAccepted M.Symbol.eq M.Probability.BITS PRECISION lists.0.items
+        (map M.Probability.whole lists.1.items)) }
+    ensures rows { IfOk result (λ lists. rows_of lists.0.items (map M.Probability.whole lists.1.items) ≡ M.rows model) }
+{
+    table_gives_all_rows::<M, PRECISION>();
+    symbols_and_weights_rebuild::<M, PRECISION>();
+    let walk = model.symbol_table();
+    let announced = walk.size_hint().0;
+    let mut symbols = Vec::with_capacity(alloc, announced)?;
+    let mut weights = Vec::with_capacity(alloc, announced)?;
+    for row in walk {
+        let (symbol, _left, weight) = row?;
+        symbols.push(symbol)?;
+        weights.push(weight.get())?;
+    }
+    Ok((symbols, weights))
+}
+
+/// The searching form of symbols and weights that are accepted.
+fn searching_of<Symbol: Eq + Drop, Probability: IndexWord, const PRECISION: usize>(
+    alloc: Global,
+    symbols: Vec<Symbol>,
+    weights: Vec<Probability>,
+) -> Result<Searching<Symbol, Probability, PRECISION>, ModelError>
+    requires positive { 0 < PRECISION }
+    requires fits { PRECISION ≤ Probability.BITS }
+    requires accepted { AreAccepted Symbol.eq Probability.BITS PRECISION symbols.items (map Probability.whole weights.items) }
+    ensures rows { IfOk result (λ m. ⟦<Searching<Symbol, Probability, PRECISION> as EntropyModel<PRECISION>>⟧.rows m
+        ≡ rows_of symbols.items (map Probability.whole weights.items)) }
+    ensures refused { IfErr result (λ e. e ≡ ModelError.OutOfMemory) }
+{
+    Searching::from_symbols_and_nonzero_fixed_point_probabilities(alloc, symbols, weights, false)
+}
+
+/// The same with a table.
+fn tabled_of<Symbol: Eq + Drop, Probability: IndexWord, const PRECISION: usize>(
+    alloc: Global,
+    symbols: Vec<Symbol>,
+    weights: Vec<Probability>,
+) -> Result<Tabled<Symbol, Probability, PRECISION>, ModelError>
+    requires positive { 0 < PRECISION }
+    requires fits { PRECISION ≤ Probability.BITS }
+    requires narrow { PRECISION ≤ 63 }
+    requires accepted { AreAccepted Symbol.eq Probability.BITS PRECISION symbols.items (map Probability.whole weights.items) }
+    ensures rows { IfOk result (λ m. ⟦<Tabled<Symbol, Probability, PRECISION> as EntropyModel<PRECISION>>⟧.rows m
+        ≡ rows_of symbols.items (map Probability.whole weights.items)) }
+    ensures refused { IfErr result (λ e. e ≡ ModelError.OutOfMemory) }
+{
+    Tabled::from_symbols_and_nonzero_fixed_point_probabilities(alloc, symbols, weights, false)
+}
+
+/// The searching form of the same rows.
+fn to_search<Symbol: Eq + Clone + Drop, Probability: IndexWord, const PRECISION: usize>(
+    alloc: Global,
+    form: &DecoderForm<Symbol, Probability, PRECISION>,
+) -> Result<Searching<Symbol, Probability, PRECISION>, ModelError>
+    requires positive { 0 < PRECISION }
+    requires fits { PRECISION ≤ Probability.BITS }
+    requires clones { ClonesAreSame Symbol.is_clone }
+    ensures rows { IfOk result (λ m. ⟦<Searching<Symbol, Probability, PRECISION> as EntropyModel<PRECISION>>⟧.rows m
+        ≡ ⟦<DecoderForm<Symbol, Probability, PRECISION> as EntropyModel<PRECISION>>⟧.rows form.now) }
+    ensures refused { IfErr result (λ e. e ≡ ModelError.OutOfMemory) }
+{
+    form_symbols_differ::<Symbol, Probability, PRECISION>();
+    Searching::from_iterable_entropy_model(alloc, form)
+}
+
+/// The form with a table, of the same rows.
+fn to_lookup<Symbol: Eq + Clone + Drop, Probability: IndexWord, const PRECISION: usize>(
+    alloc: Global,
+    form: &DecoderForm<Symbol, Probability, PRECISION>,
+) -> Result<Tabled<Symbol, Probability, PRECISION>, ModelError>
+    requires positive { 0 < PRECISION }
+    requires fits { PRECISION ≤ Probability.BITS }
+    requires narrow { PRECISION ≤ 63 }
+    requires clones { ClonesAreSame Symbol.is_clone }
+    ensures rows { IfOk result (λ m. ⟦<Tabled<Symbol, Probability, PRECISION> as EntropyModel<PRECISION>>⟧.rows m
+        ≡ ⟦<DecoderForm<Symbol, Probability, PRECISION> as EntropyModel<PRECISION>>⟧.rows form.now) }
+    ensures refused { IfErr result (λ e. e ≡ ModelError.OutOfMemory) }
+{
+    form_symbols_differ::<Symbol, Probability, PRECISION>();
+    Tabled::from_iterable_entropy_model(alloc, form)
+}
+
+/// The searching form of the same rows, with the entries of this one.
+fn into_search<Symbol: Eq + Drop, Probability: IndexWord, const PRECISION: usize>(
+    form: DecoderForm<Symbol, Probability, PRECISION>,
+) -> Searching<Symbol, Probability, PRECISION>
+    ensures { ⟦<Searching<Symbol, Probability, PRECISION> as EntropyModel<PRECISION>>⟧.rows result
+        ≡ ⟦<DecoderForm<Symbol, Probability, PRECISION> as EntropyModel<PRECISION>>⟧.rows form }
+{
+    match form {
+        DecoderForm::Search(model) => model,
+        DecoderForm::Lookup(model) => model.into_non_contiguous_categorical(),
+    }
+}
+
+/// A form of the same kind, made anew of the symbols and the weights of the rows.
+fn rebuild<Symbol: Eq + Clone + Drop, Probability: IndexWord, const PRECISION: usize>(
+    alloc: Global,
+    form: &DecoderForm<Symbol, Probability, PRECISION>,
+) -> Result<DecoderForm<Symbol, Probability, PRECISION>, ModelError>
+    requires positive { 0 < PRECISION }
+    requires fits { PRECISION ≤ Probability.BITS }
+    requires narrow { PRECISION ≤ 63 }
+    requires clones { ClonesAreSame Symbol.is_clone }
+    ensures rows { IfOk result (λ made. ⟦<DecoderForm<Symbol, Probability, PRECISION> as EntropyModel<PRECISION>>⟧.rows made
+        ≡ ⟦<DecoderForm<Symbol, Probability, PRECISION> as EntropyModel<PRECISION>>⟧.rows form.now) }
+    ensures kind { IfOk result (λ made. elim made [ kind.Search _ ↦ false | kind.Lookup _ ↦ true ]
+        ≡ elim form.now [ kind.Search _ ↦ false | kind.Lookup _ ↦ true ]) }
+    ensures refused { IfErr result (λ e. e ≡ ModelError.OutOfMemory) }
+{
+    form_symbols_differ::<Symbol, Probability, PRECISION>();
+    let (symbols, weights) = symbols_and_weights::<_, PRECISION>(alloc, form)?;
+    match form {
+        DecoderForm::Search(_) => Ok(DecoderForm::Search(searching_of(alloc, symbols, weights)?)),
+        DecoderForm::Lookup(_) => Ok(DecoderForm::Lookup(tabled_of(alloc, symbols, weights)?)),
+    }
+}
+
+/// One conversion.
+fn convert<Symbol: Eq + Clone + Drop, Probability: IndexWord, const PRECISION: usize>(
+    alloc: Global,
+    form: DecoderForm<Symbol, Probability, PRECISION>,
+    step: &ChainStep,
+) -> Result<DecoderForm<Symbol, Probability, PRECISION>, ModelError>
+    requires positive { 0 < PRECISION }
+    requires fits { PRECISION ≤ Probability.BITS }
+    requires narrow { PRECISION ≤ 63 }
+    requires clones { ClonesAreSame Symbol.is_clone }
+    ensures rows { IfOk result (λ made. ⟦<DecoderForm<Symbol, Probability, PRECISION> as EntropyModel<PRECISION>>⟧.rows made
+        ≡ ⟦<DecoderForm<Symbol, Probability, PRECISION> as EntropyModel<PRECISION>>⟧.rows form) }
+    ensures kind { IfOk result (λ made. elim made [ kind.Search _ ↦ false | kind.Lookup _ ↦ true ]
+        ≡ is_lookup_after (step.now ∷ []) (elim form [ kind.Search _ ↦ false | kind.Lookup _ ↦ true ])) }
+    ensures refused { IfErr result (λ e. e ≡ ModelError.OutOfMemory) }
+{
+    match step {
+        ChainStep::ToSearch => Ok(DecoderForm::Search(to_search(alloc, &form)?)),
+        ChainStep::ToLookup => Ok(DecoderForm::Lookup(to_lookup(alloc, &form)?)),
+        ChainStep::IntoSearch => Ok(DecoderForm::Search(into_search(form))),
+        ChainStep::Rebuild => rebuild(alloc, &form),
+    }
+}
+
+/// Conversions of a decoder's model, one after another. Whatever they are, the model tells the same rows
+/// after them, and so answers alike. The last step that is not [`ChainStep::Rebuild`] says which form it
+/// has; where there is none, it has the form that it had.
+///
+/// The only refusal is `OutOfMemory`, where memory for a model, for the lists of a rebuilding or for a clone
+/// of a symbol is refused. The form is then given up.
+///
+/// Beside the form one more is in memory at a time; a rebuilding has a list of symbols and one of weights
+/// too. `PRECISION` is at most 63.
+pub fn convert_chain<Symbol: Eq + Clone + Drop, Probability: IndexWord, const PRECISION: usize>(
+    alloc: Global,
+    form: DecoderForm<Symbol, Probability, PRECISION>,
+    steps: &[ChainStep],
+) -> Result<DecoderForm<Symbol, Probability, PRECISION>, ModelError>
+    requires positive { 0 < PRECISION }
+    requires fits { PRECISION ≤ Probability.BITS }
+    requires narrow { PRECISION ≤ 63 }
+    requires clones { ClonesAreSame Symbol.is_clone }
+    ensures rows { IfOk result (λ made. ⟦<DecoderForm<Symbol, Probability, PRECISION> as EntropyModel<PRECISION>>⟧.rows made
+        ≡ ⟦<DecoderForm<Symbol, Probability, PRECISION> as EntropyModel<PRECISION>>⟧.rows form) }
+    ensures kind { IfOk result (λ made. elim made [ kind.Search _ ↦ false | kind.Lookup _ ↦ true ]
+        ≡ is_lookup_after steps.now (elim form [ kind.Search _ ↦ false | kind.Lookup _ ↦ true ])) }
+    ensures refused { IfErr result (λ e. e ≡ ModelError.OutOfMemory) }
+{
+    let mut form = form;
+    for step in steps {
+        form = convert(alloc, form, step)?;
+    }
+    Ok(form)
+}

@@ -1,0 +1,120 @@
+//! A decoder over any symbols in one of two forms.
+
+use constriction::stream::model::{
+    DecoderModel, EntropyModel, IterableEntropyModel, NonContiguousCategoricalDecoderModel,
+    NonContiguousLookupDecoderModel, NonContiguousSymbolTable, Weight,
+};
+use constriction_words::{BitArray, IndexWord};
+use std::alloc::AllocError;
+
+/// The form that searches all rows.
+pub(crate) type Searching<Symbol, Probability, const PRECISION: usize> =
+    NonContiguousCategoricalDecoderModel<
+        Symbol,
+        Probability,
+        Vec<(Probability, Symbol)>,
+        PRECISION,
+    >;
+
+/// The form that looks up which rows to search.
+pub(crate) type Tabled<Symbol, Probability, const PRECISION: usize> =
+    NonContiguousLookupDecoderModel<
+        Symbol,
+        Probability,
+        Vec<(Probability, Symbol)>,
+        Vec<Probability>,
+        PRECISION,
+    >;
+
+/// A model in one of two forms. It has the rows of the model in it, and answers as that does.
+#[derive(Debug, Drop)]
+pub enum SearchOrLookup<Searching, Tabled> {
+    /// It searches all rows.
+    Search(Searching),
+    /// It searches the rows of one slot.
+    Lookup(Tabled),
+}
+
+/// A decoder's model over any symbols, no two of which are equal, in one of two forms.
+pub type DecoderForm<Symbol, Probability, const PRECISION: usize> = SearchOrLookup<
+    Searching<Symbol, Probability, PRECISION>,
+    Tabled<Symbol, Probability, PRECISION>,
+>;
+
+impl<Symbol: Eq, Probability: IndexWord, const PRECISION: usize> EntropyModel<PRECISION>
+    for DecoderForm<Symbol, Probability, PRECISION> {
+    ghost use Rattle.constriction_client.specs.declared.decoder_form.SearchOrLookup.TheVariants as form;
+
+    type Symbol = Symbol;
+
+    type Probability = Probability;
+
+    ghost rows = { λ f. elim f [
+      | form.Search m ↦ ⟦<Searching<Symbol, Probability, PRECISION> as EntropyModel<PRECISION>>⟧.rows m
+      | form.Lookup m ↦ ⟦<Tabled<Symbol, Probability, PRECISION> as EntropyModel<PRECISION>>⟧.rows m
+    ] };
+}
+
+impl<Symbol: Eq + Clone, Probability: IndexWord, const PRECISION: usize> DecoderModel<PRECISION>
+    for DecoderForm<Symbol, Probability, PRECISION> {
+    ghost use Rattle.constriction.specs.Rows.{RowsTile};
+    ghost use Rattle.constriction.specs.SymbolRowLemmas.{paired-tiles};
+    ghost use Rattle.constriction.specs.Tables.{ClonesAreSame, MayRefuse};
+    ghost use Rattle.constriction_client.specs.declared.decoder_form.SearchOrLookup.TheVariants as form;
+
+    ghost clones_are_same = { ClonesAreSame Symbol.is_clone };
+
+    ghost may_refuse = { MayRefuse Symbol.is_infallible };
+
+    fn quantile_function(
+        &self,
+        quantile: Probability,
+    ) -> Result<(Symbol, Probability, Weight<Probability>), AllocError> {
+        match self {
+            DecoderForm::Search(model) => model.quantile_function(quantile),
+            DecoderForm::Lookup(model) => model.quantile_function(quantile),
+        }
+    }
+
+    ghost tile_law = { λ m. elim m as (λ f. RowsTile Probability.BITS PRECISION
+        (⟦<DecoderForm<Symbol, Probability, PRECISION> as EntropyModel<PRECISION>>⟧.rows f)) [
+          | form.Search s ↦ paired-tiles Probability.whole _ _ _ s.stored
+          | form.Lookup s ↦ paired-tiles Probability.whole _ _ _ s.stored
+        ] };
+}
+
+impl<
+    'm,
+    Symbol: Eq + Clone + 'm,
+    Probability: IndexWord + 'm,
+    const PRECISION: usize,
+> IterableEntropyModel<PRECISION> for &'m DecoderForm<Symbol, Probability, PRECISION> {
+    ghost use Rattle.constriction.specs.Rows.{RowsTile};
+    ghost use Rattle.constriction.specs.SymbolRowLemmas.{paired-tiles, yields-row};
+    ghost use Rattle.constriction.specs.Tables.{rows_paired, rows_between, ClonesAreSame, MayRefuse};
+    ghost use Rattle.constriction_client.specs.declared.decoder_form.SearchOrLookup.TheVariants as form;
+
+    type SymbolTable = NonContiguousSymbolTable<'m, Symbol, Probability, PRECISION>;
+
+    ghost clones_are_same = { ClonesAreSame Symbol.is_clone };
+
+    ghost may_refuse = { MayRefuse Symbol.is_infallible };
+
+    ghost rows_left = { λ t. rows_between t.from t.to (rows_paired Probability.whole PRECISION t.cdf.now) };
+
+    fn symbol_table(self) -> NonContiguousSymbolTable<'m, Symbol, Probability, PRECISION> {
+        match self {
+            DecoderForm::Search(model) => model.symbol_table(),
+            DecoderForm::Lookup(model) => model.symbol_table(),
+        }
+    }
+
+    ghost steps_law = { λ same t r u step. yields-row Symbol.is_clone Symbol.is_infallible Probability.whole Probability.NonZero.base
+        same _ r _ step };
+
+    ghost tile_law = { λ m. elim m.now as (λ f. RowsTile Probability.BITS PRECISION
+        (⟦<DecoderForm<Symbol, Probability, PRECISION> as EntropyModel<PRECISION>>⟧.rows f)) [
+          | form.Search s ↦ paired-tiles Probability.whole _ _ _ s.stored
+          | form.Lookup s ↦ paired-tiles Probability.whole _ _ _ s.stored
+        ] };
+}

@@ -1,0 +1,62 @@
+//! Forms of a decoder, and what they answer after any conversions.
+
+ghost use Rattle.std.specs.Prelude.{◌≡◌, ◌<◌, ◌≤◌, map, IfOk, IfErr};
+ghost use Rattle.constriction.specs.Laws.{SymbolsDiffer};
+ghost use Rattle.constriction.specs.Rows.{entry_of};
+ghost use Rattle.constriction.specs.Tables.{ClonesAreSame};
+ghost use Rattle.constriction_client.specs.Replies.{in_numbers, replies_by_scan};
+
+use crate::chain::{ChainStep, convert_chain};
+use crate::decoder_form::DecoderForm;
+use crate::queries::{Query, Reply, answer_queries};
+use constriction::laws::{non_contiguous_lookup_symbols_differ, non_contiguous_symbols_differ};
+use constriction::stream::model::{EncodesOver, EntropyModel, ModelError};
+use constriction_words::{BitArray, IndexWord, NonZeroBitArray};
+use std::alloc::Global;
+
+/// No two symbols of a [`DecoderForm`] are equal, however it was made.
+pub fn form_symbols_differ<Symbol: Eq, Probability: IndexWord, const PRECISION: usize>()
+    ensures { SymbolsDiffer Symbol.eq ⟦<DecoderForm<Symbol, Probability, PRECISION> as EntropyModel<PRECISION>>⟧.rows }
+{
+    non_contiguous_symbols_differ::<Symbol, Probability, Vec<(Probability, Symbol)>, PRECISION>();
+    non_contiguous_lookup_symbols_differ::<
+        Symbol,
+        Probability,
+        Vec<(Probability, Symbol)>,
+        Vec<Probability>,
+        PRECISION,
+    >();
+}
+
+/// Converts a decoder's model by any steps, and answers queries by what they leave and by an encoder of the
+/// same rows: the replies are those that a scan of the rows before the conversions gives.
+///
+/// The only refusal is `OutOfMemory`. The form is given up.
+pub fn answer_after_chain<
+    Symbol: Eq + Clone + Drop,
+    Probability: IndexWord,
+    E,
+    const PRECISION: usize,
+>(
+    alloc: Global,
+    form: DecoderForm<Symbol, Probability, PRECISION>,
+    steps: &[ChainStep],
+    encoder: &E,
+    queries: &[Query<Symbol, Probability>],
+) -> Result<Vec<Reply<Symbol, Probability>>, ModelError>
+where
+    E: EncodesOver<Symbol, Probability, PRECISION>,
+    requires positive { 0 < PRECISION }
+    requires fits { PRECISION ≤ Probability.BITS }
+    requires narrow { PRECISION ≤ 63 }
+    requires clones { ClonesAreSame Symbol.is_clone }
+    requires alike { (s : Symbol) → entry_of E.symbol_eq (E.rows encoder.now) s ≡ entry_of E.symbol_eq
+        (⟦<DecoderForm<Symbol, Probability, PRECISION> as EntropyModel<PRECISION>>⟧.rows form) s }
+    ensures ok { IfOk result (λ replies. map (in_numbers Probability.whole Probability.NonZero.base) replies.items
+        ≡ replies_by_scan PRECISION Probability.whole E.symbol_eq
+        (⟦<DecoderForm<Symbol, Probability, PRECISION> as EntropyModel<PRECISION>>⟧.rows form) queries.now) }
+    ensures refused { IfErr result (λ e. e ≡ ModelError.OutOfMemory) }
+{
+    let converted = convert_chain(alloc, form, steps)?;
+    Ok(answer_queries::<_, _, PRECISION>(alloc, &converted, encoder, queries)?)
+}

@@ -1,0 +1,93 @@
+//! Questions to two models, and the replies to them.
+
+ghost use Rattle.std.specs.Prelude.{◌≡◌, ◌<◌, ◌≤◌, IfOk, map};
+ghost use Rattle.constriction.specs.Rows.{entry_of};
+ghost use Rattle.constriction_client.specs.Replies.{in_numbers, reply_to_query, replies_of_two, replies_by_scan};
+
+use constriction::stream::model::{DecoderModel, EncodesOver, Weight, is_quantile};
+use constriction_words::BitArray;
+use std::alloc::{AllocError, Global};
+
+/// A question to a decoder or to an encoder.
+#[derive(Debug, PartialEq, Eq, Drop)]
+pub enum Query<Symbol, Word> {
+    /// Which row holds this quantile?
+    OfQuantile(Word),
+    /// Which entry has this symbol?
+    OfSymbol(Symbol),
+}
+
+/// The reply to a [`Query`].
+#[derive(Debug, PartialEq, Eq, Drop)]
+pub enum Reply<Symbol, Word: BitArray> {
+    /// The row: its symbol, its left cumulative and its weight.
+    Row(Symbol, Word, Weight<Word>),
+    /// The word is no quantile: it is not below `2^PRECISION`.
+    OutOfRange,
+    /// The entry, left cumulative and weight, or `None` where the symbol has none.
+    Entry(Option<(Word, Weight<Word>)>),
+}
+
+/// The reply to one query.
+fn answer_query<D, E, const PRECISION: usize>(
+    form: &D,
+    encoder: &E,
+    query: &Query<D::Symbol, D::Probability>,
+) -> Result<Reply<D::Symbol, D::Probability>, AllocError>
+where
+    D: DecoderModel<PRECISION>,
+    E: EncodesOver<D::Symbol, D::Probability, PRECISION>,
+    requires positive { 0 < PRECISION }
+    requires fits { PRECISION ≤ D.Probability.BITS }
+    requires clones { D.clones_are_same }
+    ensures { IfOk result (λ reply. in_numbers D.Probability.whole D.Probability.NonZero.base reply
+        ≡ reply_to_query PRECISION D.Probability.whole (D.rows form.now)
+        (entry_of E.symbol_eq (E.rows encoder.now)) query.now) }
+{
+    match query {
+        Query::OfQuantile(word) => {
+            if !is_quantile::<D::Probability, PRECISION>(*word) {
+                return Ok(Reply::OutOfRange);
+            }
+            let (symbol, left, weight) = form.quantile_function(*word)?;
+            Ok(Reply::Row(symbol, left, weight))
+        }
+        Query::OfSymbol(symbol) => Ok(Reply::Entry(encoder.entry(symbol))),
+    }
+}
+
+/// The replies to queries, in order: to a quantile by the decoder `form`, to a symbol by the encoder, which
+/// is over the same symbols and words.
+///
+/// Where both are of one list of rows, and so after any conversions, the replies are those that a scan of
+/// these rows gives. A word that is no quantile is not asked of the decoder.
+///
+/// Memory for the replies is asked for once, before the first query. It fails where that is refused, or
+/// memory for a clone of a symbol.
+pub fn answer_queries<D, E, const PRECISION: usize>(
+    alloc: Global,
+    form: &D,
+    encoder: &E,
+    queries: &[Query<D::Symbol, D::Probability>],
+) -> Result<Vec<Reply<D::Symbol, D::Probability>>, AllocError>
+where
+    D: DecoderModel<PRECISION>,
+    D::Symbol: Drop,
+    E: EncodesOver<D::Symbol, D::Probability, PRECISION>,
+    requires positive { 0 < PRECISION }
+    requires fits { PRECISION ≤ D.Probability.BITS }
+    requires clones { D.clones_are_same }
+    ensures ok { IfOk result (λ replies. map (in_numbers D.Probability.whole D.Probability.NonZero.base) replies.items
+        ≡ replies_of_two PRECISION D.Probability.whole (D.rows form.now)
+        (entry_of E.symbol_eq (E.rows encoder.now)) queries.now) }
+    ensures of_one { IfOk result (λ replies.
+        ((s : D.Symbol) → entry_of E.symbol_eq (E.rows encoder.now) s ≡ entry_of E.symbol_eq (D.rows form.now) s)
+        → map (in_numbers D.Probability.whole D.Probability.NonZero.base) replies.items
+        ≡ replies_by_scan PRECISION D.Probability.whole E.symbol_eq (D.rows form.now) queries.now) }
+{
+    let mut replies = Vec::with_capacity(alloc, queries.len())?;
+    for query in queries {
+        replies.push(answer_query(form, encoder, query)?)?;
+    }
+    Ok(replies)
+}
