@@ -14,7 +14,7 @@ use Rattle.constriction.proofs.SlotFilling.{slot-within, slot-below, whole-part}
 use Rattle.constriction.proofs.TileLemmas.{IsTile, tile-at, tiles-many, tiles-increase, tiles-found}
 
 -- the slot of a quantile holds it
-slot-from : (precision q : ℕ) → q / slot_width precision * slot_width precision ≤ q
+pub slot-from : (precision q : ℕ) → q / slot_width precision * slot_width precision ≤ q
 slot-from precision q = div-mul-le_self q (slot_width precision)
 
 pub slot-to : (precision q : ℕ) → q ≤ q / slot_width precision * slot_width precision + (slot_width precision - 1)
