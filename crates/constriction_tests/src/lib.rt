@@ -10,7 +10,6 @@ mod backends;
 mod checks;
 #[cfg(test)]
 mod client;
-#[cfg(test)]
 mod lent;
 #[cfg(test)]
 mod message;
