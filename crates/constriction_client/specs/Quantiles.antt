@@ -5,6 +5,7 @@ use Rattle.std.specs.List.{AllZip}
 use Rattle.constriction_words.specs.declared.coder_error.CoderError.{CoderError}
 use Rattle.constriction_words.specs.declared.coder_error.CoderError.TheVariants.{Frontend, Backend}
 use Rattle.constriction_backends.specs.Sink.{Writes}
+use Rattle.constriction.specs.Laws.{IsQuantileAt}
 use Rattle.constriction.specs.Rows.{Row, IsRowOf}
 use Rattle.constriction_client.specs.declared.quantiles.QuantileFault.{QuantileFault}
 use Rattle.constriction_client.specs.declared.quantiles.QuantileFault.TheVariants.{ImpossibleSymbol, OffsetTooLarge}
@@ -13,15 +14,9 @@ use Rattle.constriction_client.specs.declared.quantiles.ReadFault.TheVariants.{O
 
 -- Below, `entry` tells the entry of each symbol, and `whole` the number of each word.
 
--- q is the quantile of the item: its symbol has an entry, its offset is below the weight, and q is the left cumulative
--- plus the offset
-pub record IsQuantileOf {Symbol Word : Type 0} (entry : Symbol → Option (ℕ × ℕ)) (whole : Word → ℕ)
-    (item : Symbol × Word) (q : ℕ) : Type 0 where
-  pub left : ℕ
-  pub weight : ℕ
-  pub known : entry item.0 ≡ Some (left, weight)
-  pub below : whole item.1 < weight
-  pub sum : q ≡ left + whole item.1
+-- q is the quantile of the item: that of its symbol and its offset
+abbrev pub IsQuantileOf : {Symbol Word : Type 0} → (Symbol → Option (ℕ × ℕ)) → (Word → ℕ) → Symbol × Word → ℕ → Type 0
+IsQuantileOf entry whole item q = IsQuantileAt entry item.0 (whole item.1) q
 
 -- why an item has no quantile: its symbol has no entry, or it has one and the offset isn't below the weight
 abbrev pub IsFaultOf : {Symbol Word : Type 0} → (Symbol → Option (ℕ × ℕ)) → (Word → ℕ) → Symbol × Word
