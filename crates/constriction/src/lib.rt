@@ -14,5 +14,5 @@ pub mod stream;
 
 pub use constriction_words::{
     BitArray, CoderError, DefaultEncoderFrontendError, IndexWord, NanError, NonZeroBitArray, Pos,
-    PosSeek, Queue, Seek, Semantics, Stack, UnwrapInfallible,
+    PosSeek, Queue, Seek, Semantics, Stack, UnwrapInfallible, WholeNumber,
 };

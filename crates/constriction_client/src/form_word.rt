@@ -7,7 +7,7 @@ ghost use Rattle.constriction_client.specs.NumberWords.{narrowed_to};
 use constriction_words::BitArray;
 
 /// A word that the probabilities of a form are: numbers become words, and words numbers.
-pub trait FormWord: BitArray {
+pub(crate) trait FormWord: BitArray {
     // The word of a number.
     ghost word_of: { ℕ → Self };
 
@@ -24,7 +24,7 @@ pub trait FormWord: BitArray {
 }
 
 /// A word as narrowing alone sees it. Each [`FormWord`] is one: a proof over it carries no other laws.
-pub trait NumberWord: Copy {
+pub(crate) trait NumberWord: Copy {
     // The number of a word.
     ghost whole: { Self → ℕ };
 

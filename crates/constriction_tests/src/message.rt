@@ -1,10 +1,9 @@
 //! A message there and back, where each fault is handed on.
 
 use crate::checks::same;
-use constriction::Stack;
+use constriction::{CoderError, Stack};
 use constriction::stream::model::{ContiguousCategoricalEntropyModel, ModelError};
 use constriction_client::{QuantileFault, ReadFault, read_symbols, write_quantiles};
-use constriction_words::CoderError;
 use std::alloc::{AllocError, Global};
 use std::convert::Infallible;
 use std::test::Fail;

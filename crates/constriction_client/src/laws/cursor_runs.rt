@@ -25,7 +25,6 @@ pub fn run_cursor_and_reversal<Word: Copy + Drop, Buf: SafeBufMut<Word>, Turned:
     ensures alike { IfOk result (λ both. state_of reversed.old.0 ≡ reversal (state_of cursor.old)
         → (both.1.items ≡ both.0.items) × (state_of reversed.new.0 ≡ reversal (state_of cursor.new))
         × (state_of cursor.new ≡ reversal (state_of reversed.new.0))) }
-
     ensures runs { IfOk result (λ both. RunsTo calls.now (state_of cursor.old) both.0.items (state_of cursor.new)) }
     ensures runs_back { IfOk result (λ both.
         RunsBackTo calls.now (state_of reversed.old.0) both.1.items (state_of reversed.new.0)) }

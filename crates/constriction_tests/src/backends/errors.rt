@@ -1,7 +1,7 @@
 //! What errors print, and how they compare.
 
 use crate::checks::{clone_of, prints, same, shows};
-use constriction_backends::BoundedWriteError;
+use constriction::backends::BoundedWriteError;
 use constriction_words::CoderError;
 use std::error::Error;
 
