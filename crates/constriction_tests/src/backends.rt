@@ -2,6 +2,7 @@
 
 mod adapters;
 mod buffers;
+mod conversions;
 mod cursors;
 mod errors;
 pub mod marked;

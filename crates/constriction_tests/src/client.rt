@@ -3,6 +3,8 @@
 mod adapters;
 mod chains;
 mod cursor_runs;
+mod failing_sinks;
+mod failing_sources;
 mod items;
 mod lines;
 mod queries;

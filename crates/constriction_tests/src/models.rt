@@ -6,7 +6,7 @@ pub mod conversions;
 mod laws;
 pub mod lookup_any_symbols;
 pub mod lookup_contiguous;
-mod own_model;
+pub mod own_model;
 mod refused_lookup_memory;
 mod refused_memory;
 mod search;

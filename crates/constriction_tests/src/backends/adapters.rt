@@ -1,18 +1,15 @@
-//! Sources over iterators, sinks over callbacks, and buffers that turn into sources or lend them.
+//! Sources over iterators and sinks over callbacks.
 
 ghost use Rattle.std.specs.Prelude.{◌≡◌, ◌+◌, ◌/◌, slice_get, Err};
 ghost use Rattle.std.specs.Option.{option_map};
 
-use crate::backends::marked::Marked;
-use crate::checks::{boxed_of, holds, same, vec_of};
+use crate::checks::{same, vec_of};
 use constriction_backends::{
-    AsReadWords, AsSeekReadWords, BoundedReadWords, FallibleCallbackWriteWords,
-    FallibleIteratorReadWords, InfallibleCallbackWriteWords, InfallibleIteratorReadWords,
-    IntoReadWords, IntoSeekReadWords, ReadWords, Reverse, SafeBuf, WriteWords,
+    AsSeekReadWords, BoundedReadWords, FallibleCallbackWriteWords, FallibleIteratorReadWords,
+    InfallibleCallbackWriteWords, InfallibleIteratorReadWords, IntoReadWords, ReadWords, Reverse,
+    WriteWords,
 };
-use constriction_words::{Queue, Seek, Stack, UnwrapInfallible};
-use std::alloc::Global;
-use std::boxed::BoxedSlice;
+use constriction_words::{Queue, Stack, UnwrapInfallible};
 use std::convert::Infallible;
 use std::iter::Copied;
 use std::process::Abort;
@@ -158,13 +155,19 @@ fn may_be_exhausted(source: &Words) -> bool {
 fn an_iterator_of_words_is_read_in_its_order(rt: HostRuntime) {
     let mut source = words_in(&[5, 6]);
     same(&rt, words_to_pop(&source), 2);
+    same(&rt, may_be_exhausted(&source), true);
     same(&rt, popped(&mut source), Ok(Some(5)));
     same(&rt, words_to_take(&source), 1);
+    same(&rt, may_be_exhausted(&source), true);
     same(&rt, taken(&mut source), Ok(Some(6)));
-    same(&rt, is_exhausted(&source), true);
+    same(
+        &rt,
+        (words_to_pop(&source), is_exhausted(&source)),
+        (0, true),
+    );
     for _ in 0..2u8 {
-        same(&rt, taken(&mut source), Ok(None));
         same(&rt, may_be_exhausted(&source), true);
+        same(&rt, taken(&mut source), Ok(None));
     }
 }
 
@@ -211,6 +214,12 @@ fn no_item_is_left(source: &Items) -> bool {
     BoundedReadWords::<u8, Queue>::is_exhausted(source)
 }
 
+/// Stops the test where a source has not so many items left, or says that one is left for certain.
+fn has_items_left(rt: &impl Abort, source: &Items, count: usize) {
+    let may_be_exhausted = ReadWords::<u8, Queue>::maybe_exhausted(source);
+    same(rt, (items_left(source), may_be_exhausted), (count, true));
+}
+
 fn taken_item(source: &mut Items) -> ReadItem {
     ReadWords::<u8, Queue>::read(source)
 }
@@ -236,15 +245,17 @@ fn first_item(source: Items) -> (Option<Result<u8, char>>, usize) {
 #[test]
 fn an_error_stands_in_the_place_of_a_word(rt: HostRuntime) {
     let mut source = all_items();
-    same(&rt, items_left(&source), 3);
+    has_items_left(&rt, &source, 3);
     same(&rt, taken_item(&mut source), Ok(Some(1)));
+    has_items_left(&rt, &source, 2);
     same(&rt, popped_item(&mut source), Err('x'));
-    same(&rt, items_left(&source), 1);
+    has_items_left(&rt, &source, 1);
     let mut turned = Reverse(source);
     same(&rt, taken_when_turned(&mut turned), Ok(Some(2)));
     same(&rt, popped_when_turned(&mut turned), Ok(None));
     let mut source = turned.0;
     same(&rt, taken_item(&mut source), Ok(None));
+    has_items_left(&rt, &source, 0);
     same(&rt, no_item_is_left(&source), true);
     same(&rt, first_item(all_items()), (Some(Ok(1)), 2));
 }
@@ -318,118 +329,4 @@ fn sum_of(words: &[u32], last: u32) -> ([Result<(), Infallible>; 2], bool, u32) 
 #[test]
 fn a_callback_adds_what_it_is_given(rt: HostRuntime) {
     same(&rt, sum_of(&[1, 2, 3], 4), ([Ok(()), Ok(())], true, 10));
-}
-
-/// The first two words of a buffer that turns into a stack, and of another one as a queue.
-fn two_of_each<Buf: SafeBuf<u8> + Drop>(stack: Buf, queue: Buf) -> [Option<u8>; 4] {
-    let mut stack = IntoReadWords::<u8, Stack>::into_read_words(stack);
-    let mut queue = IntoReadWords::<u8, Queue>::into_read_words(queue);
-    [
-        ReadWords::<u8, Stack>::read(&mut stack).unwrap_infallible(),
-        ReadWords::<u8, Stack>::read(&mut stack).unwrap_infallible(),
-        ReadWords::<u8, Queue>::read(&mut queue).unwrap_infallible(),
-        ReadWords::<u8, Queue>::read(&mut queue).unwrap_infallible(),
-    ]
-}
-
-fn vec(rt: &impl Abort, alloc: Global) -> Vec<u8> {
-    vec_of(rt, alloc, &[1, 2, 3])
-}
-
-fn boxed(rt: &impl Abort, alloc: Global) -> BoxedSlice<u8> {
-    boxed_of(rt, alloc, &[1, 2, 3])
-}
-
-fn marked(rt: &impl Abort, alloc: Global) -> Marked {
-    Marked::new(vec(rt, alloc))
-}
-
-#[test]
-fn buffers_turn_into_sources(rt: HostRuntime) {
-    let words = [1u8, 2, 3];
-    let expected = [Some(3), Some(2), Some(1), Some(2)];
-    same(
-        &rt,
-        two_of_each(words.as_slice(), words.as_slice()),
-        expected,
-    );
-    same(&rt, two_of_each(&words, &words), expected);
-    let alloc = rt.alloc();
-    same(&rt, two_of_each(vec(&rt, alloc), vec(&rt, alloc)), expected);
-    same(
-        &rt,
-        two_of_each(boxed(&rt, alloc), boxed(&rt, alloc)),
-        expected,
-    );
-    same(
-        &rt,
-        two_of_each(marked(&rt, alloc), marked(&rt, alloc)),
-        expected,
-    );
-}
-
-/// A stack that seeks to 1, and the word that it reads there.
-fn sought_in_a_stack(words: &[u8]) -> (Result<(), ()>, Option<u8>) {
-    let mut stack = IntoSeekReadWords::<u8, Stack>::into_seek_read_words(words);
-    let sought = stack.seek(1);
-    (
-        sought,
-        ReadWords::<u8, Stack>::read(&mut stack).unwrap_infallible(),
-    )
-}
-
-/// A queue that seeks to 4 and to 2, and the word that it reads there.
-fn sought_in_a_queue(words: Vec<u8>) -> ([Result<(), ()>; 2], Option<u8>) {
-    let mut queue = IntoSeekReadWords::<u8, Queue>::into_seek_read_words(words);
-    let sought = [queue.seek(4), queue.seek(2)];
-    (
-        sought,
-        ReadWords::<u8, Queue>::read(&mut queue).unwrap_infallible(),
-    )
-}
-
-#[test]
-fn buffers_turn_into_sources_that_seek(rt: HostRuntime) {
-    let words = [1u8, 2, 3];
-    same(&rt, sought_in_a_stack(&words), (Ok(()), Some(1)));
-    let vec = vec_of(&rt, rt.alloc(), &words);
-    same(&rt, sought_in_a_queue(vec), ([Err(()), Ok(())], Some(3)));
-}
-
-/// The next word of a stack and of a queue that a buffer lends.
-fn lent(words: &Vec<u8>) -> [Option<u8>; 2] {
-    let mut stack = AsReadWords::<u8, Stack>::as_read_words(words);
-    let mut queue = AsReadWords::<u8, Queue>::as_read_words(words);
-    [
-        ReadWords::<u8, Stack>::read(&mut stack).unwrap_infallible(),
-        ReadWords::<u8, Queue>::read(&mut queue).unwrap_infallible(),
-    ]
-}
-
-/// What a lent queue and a lent stack answer to a seek, and their next words.
-fn lent_and_sought(
-    words: &Vec<u8>,
-    in_queue: usize,
-    in_stack: usize,
-) -> ([Result<(), ()>; 2], [Option<u8>; 2]) {
-    let mut queue = AsSeekReadWords::<u8, Queue>::as_seek_read_words(words);
-    let mut stack = AsSeekReadWords::<u8, Stack>::as_seek_read_words(words);
-    let sought = [queue.seek(in_queue), stack.seek(in_stack)];
-    let read = [
-        ReadWords::<u8, Queue>::read(&mut queue).unwrap_infallible(),
-        ReadWords::<u8, Stack>::read(&mut stack).unwrap_infallible(),
-    ];
-    (sought, read)
-}
-
-#[test]
-fn buffers_lend_sources_and_stay_as_they_are(rt: HostRuntime) {
-    let words = vec_of(&rt, rt.alloc(), &[1, 2, 3]);
-    same(&rt, lent(&words), [Some(3), Some(1)]);
-    same(
-        &rt,
-        lent_and_sought(&words, 1, 4),
-        ([Ok(()), Err(())], [Some(2), Some(3)]),
-    );
-    holds(&rt, &words, &[1, 2, 3]);
 }

@@ -198,6 +198,17 @@ fn is_filled<Buf: SafeBufMut<u8>>(rt: &impl Abort, buf: Buf) -> Buf {
     cursor.into_buf_and_pos().0
 }
 
+/// The words before the first that finds no place stay written.
+#[test]
+fn a_cursor_of_two_words_takes_two_of_three(rt: HostRuntime) {
+    let words = vec_of(&rt, rt.alloc(), &[0, 0]);
+    let mut cursor = Cursor::<u8, _>::new_at_write_beginning(words);
+    let answer = extended(&mut cursor, &[1, 2, 3]);
+    same(&rt, answer, Err(BoundedWriteError::OutOfSpace));
+    same(&rt, cursor.buf().as_slice(), [1, 2].as_slice());
+    same(&rt, cursor.pos(), 2);
+}
+
 /// A view of a cursor of 10, 20, 30 at 1 moves by itself.
 fn is_viewed<Buf: SafeBuf<u8>>(rt: &impl Abort, cursor: &Cursor<u8, Buf>) {
     same(rt, cursor.written(), [10].as_slice());

@@ -96,6 +96,11 @@ fn is_written_downwards<Buf: SafeBufMut<u8>>(rt: &impl Abort, buf: Buf) -> Buf {
     let mut reversed = Reverse(Cursor::<u8, Buf>::new_at_write_beginning(buf));
     is_full(rt, &mut reversed);
     same(rt, (reversed.seek(2), reversed.space_left()), (Ok(()), 2));
+    same(
+        rt,
+        (reversed.is_full(), reversed.maybe_full()),
+        (false, true),
+    );
     same(rt, (reversed.write(8), reversed.write(9)), (Ok(()), Ok(())));
     same(rt, reversed.0.buf().words(), [9, 8, 3].as_slice());
     same(rt, reversed.pos(), 0);
@@ -135,6 +140,34 @@ fn a_cursor_over_each_buffer_is_reversed(rt: HostRuntime) {
     let slice: &mut [u8] = &mut words;
     is_reversed(&rt, slice);
     same(&rt, words, [5, 4, 3]);
+}
+
+/// A cursor of four words at 0 is written, turned round, written once more and turned back.
+fn is_written_from_both_ends<Buf: SafeBufMut<u8> + Drop>(rt: &impl Abort, buf: Buf) {
+    let mut cursor = Cursor::<u8, Buf>::new_at_write_beginning(buf);
+    same(rt, (cursor.write(1), cursor.write(2)), (Ok(()), Ok(())));
+    let mut turned = cursor.into_reversed();
+    is_at(rt, &turned.0, 2, [0, 0, 2, 1]);
+    same(rt, turned.write(9), Ok(()));
+    is_at(rt, &turned.0, 1, [0, 9, 2, 1]);
+    is_at(rt, &turned.into_reversed(), 3, [1, 2, 9, 0]);
+}
+
+/// Stops the test where a cursor does not stand at this position, or does not hold these words.
+fn is_at<Buf: SafeBufMut<u8>>(
+    rt: &impl Abort,
+    cursor: &Cursor<u8, Buf>,
+    pos: usize,
+    words: [u8; 4],
+) {
+    same(rt, cursor.buf().words(), words.as_slice());
+    same(rt, cursor.pos(), pos);
+}
+
+#[test]
+fn a_buffer_of_the_caller_is_written_from_both_ends(rt: HostRuntime) {
+    let words = vec_of(&rt, rt.alloc(), &[0, 0, 0, 0]);
+    is_written_from_both_ends(&rt, Marked::new(words));
 }
 
 /// How many words a reversed stack has left.

@@ -10,11 +10,13 @@ use crate::client::queries::{
 use crate::models::any_symbols::{
     Decoder, Encoder, ROWS, Row, STEPS, SYMBOLS, WEIGHTS, decoder, decodes, walks,
 };
-use crate::models::lookup_any_symbols::lookup;
+use crate::models::lookup_any_symbols::{looked_up, lookup};
+use crate::models::lookup_contiguous::answers_as_a_scan;
 use crate::models::symbol_types::{Letter, letters};
+use crate::models::tables::tile;
 use constriction::stream::model::{
     DecoderModel, EntropyModel, IterableEntropyModel, ModelError,
-    SmallNonContiguousCategoricalDecoderModel, to_generic_encoder_model,
+    SmallNonContiguousCategoricalDecoderModel, UniformModel, to_generic_encoder_model,
 };
 use constriction_client::laws::{answer_after_chain, form_symbols_differ};
 use constriction_client::{ChainStep, DecoderForm, Query, Reply, answer_queries, convert_chain};
@@ -162,15 +164,38 @@ fn a_form_of_words_of_16_bits_is_searched_again(rt: HostRuntime) {
     same(&rt, (symbol, left, weight.get()), (30, 1, 4094));
 }
 
+/// Stops the test where a walk through a form from either end or both does not give each letter once.
+fn is_walked_from_both_ends(rt: &impl Abort, form: &Form) {
+    for steps in STEPS {
+        walks(rt, form.symbol_table(), &steps);
+    }
+}
+
 #[test]
 fn both_ends_of_a_form_give_each_letter_once(rt: HostRuntime) {
-    for table in [false, true] {
-        let made = form(&rt, rt.alloc(), table);
-        for steps in STEPS {
-            walks(&rt, made.symbol_table(), &steps);
-        }
-    }
+    let searching = form(&rt, rt.alloc(), false);
+    is_walked_from_both_ends(&rt, &searching);
+    let made = converted(rt.alloc(), searching, &[ChainStep::ToLookup]);
+    let made = made.expect(&rt, "a form");
+    same(&rt, has_table(&made), true);
+    is_walked_from_both_ends(&rt, &made);
     form_symbols_differ::<char, u8, 6>();
+}
+
+/// Stops the test where the rows of a form of three numbers do not tile, or are not what it answers.
+fn tiles(rt: &impl Abort, form: DecoderForm<usize, u8, 6>) {
+    tile::<_, 6>(rt, &form);
+    answers_as_a_scan::<_, 6>(rt, &form, &[21, 21, 22]);
+}
+
+#[test]
+fn the_rows_of_both_forms_tile(rt: HostRuntime) {
+    let (first, second) = looked_up::<_, 6>(rt.alloc(), UniformModel::<u8, 6>::new(3));
+    tiles(&rt, DecoderForm::Lookup(first.expect(&rt, "a model")));
+    let searching = second
+        .expect(&rt, "a model")
+        .into_non_contiguous_categorical();
+    tiles(&rt, DecoderForm::Search(searching));
 }
 
 /// The replies of a row to its quantiles and to its letter.

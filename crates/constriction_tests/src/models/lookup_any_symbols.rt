@@ -9,6 +9,7 @@ use crate::models::any_symbols::{
 use crate::models::contiguous::small;
 use crate::models::lookup_contiguous::{self, answers_as_a_scan};
 use crate::models::own_model::three;
+use crate::models::tables::tile;
 use constriction::laws::{non_contiguous_lookup_symbols_differ, symbols_and_weights_rebuild};
 use constriction::stream::model::{
     DecoderModel, FromIterableEntropyModel, IterableEntropyModel, ModelError,
@@ -205,10 +206,14 @@ where
     )
 }
 
-/// Stops the test where what was made answers otherwise than by the rows of these weights.
+/// Stops the test where what was made answers otherwise than by the rows of these weights, or its rows do
+/// not tile.
 fn answer_as_a_scan(rt: &impl Abort, made: Made<usize, 6>, weights: &[u8]) {
-    answers_as_a_scan::<_, 6>(rt, &made.0.expect(rt, "a model"), weights);
-    answers_as_a_scan::<_, 6>(rt, &made.1.expect(rt, "a model"), weights);
+    for model in [made.0, made.1] {
+        let model = model.expect(rt, "a model");
+        answers_as_a_scan::<_, 6>(rt, &model, weights);
+        tile::<_, 6>(rt, &model);
+    }
 }
 
 #[test]

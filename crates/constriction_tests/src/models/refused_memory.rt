@@ -1,15 +1,45 @@
-//! What the calls that make models of any symbols answer where memory is refused: a model, or
+//! What the calls that make searching models answer where memory is refused: a model, or
 //! `OutOfMemory`. `rt try --test --fail-alloc N` refuses the Nth request.
 
 use crate::checks::same;
 use crate::models::any_symbols::{
     Decoder, Encoder, ROWS, SYMBOLS, WEIGHTS, decoder, decodes, encodes,
 };
+use crate::models::contiguous::Table;
 use crate::models::conversions::made;
+use crate::models::lookup_contiguous::answers_as_a_scan;
 use crate::models::own_model::{has_rows, three};
 use constriction::stream::model::ModelError;
 use std::alloc::{AllocError, Global};
 use std::process::Abort;
+
+/// Stops the test where the answer is neither a model of the rows nor a refusal of memory.
+fn is_contiguous(rt: &impl Abort, made: &Result<Table<6>, ModelError>) {
+    match made {
+        Ok(model) => answers_as_a_scan::<_, 6>(rt, model, &WEIGHTS),
+        Err(error) => same(rt, error, &ModelError::OutOfMemory),
+    }
+}
+
+/// The contiguous model of weights that do not announce how many they are, so that its rows grow.
+fn grown_contiguous(alloc: Global) -> Result<Table<6>, ModelError> {
+    let weights = WEIGHTS.iter().copied().filter(|weight| *weight > 0);
+    Table::from_nonzero_fixed_point_probabilities(alloc, weights, false)
+}
+
+#[test]
+fn a_refusal_of_memory_leaves_no_contiguous_model(rt: HostRuntime) {
+    let made = grown_contiguous(rt.alloc());
+    is_contiguous(&rt, &made);
+    let Ok(model) = made else {
+        return;
+    };
+    match model.clone() {
+        Ok(clone) => answers_as_a_scan::<_, 6>(&rt, &clone, &WEIGHTS),
+        Err(error) => same(&rt, error, AllocError),
+    }
+    answers_as_a_scan::<_, 6>(&rt, &model, &WEIGHTS);
+}
 
 /// Stops the test where the answer is neither a model of the rows nor a refusal of memory.
 fn is_decoder(rt: &impl Abort, made: &Result<Decoder<6>, ModelError>) {

@@ -1,14 +1,15 @@
 //! The counted search over a table of the caller, and over as many rows as need one.
 
-ghost use Rattle.std.specs.Prelude.{◌≤◌, ◌<◌, ◌^◌};
+ghost use Rattle.std.specs.Prelude.{◌≤◌, ◌<◌, ◌^◌, ◌+◌};
 ghost use Rattle.constriction_tests.specs.Evens.{evens};
 
-use crate::checks::same;
+use crate::checks::{same, same_at};
 use constriction::stream::model::{
     ContiguousCategoricalEntropyModel, DecoderModel, ModelError, Probe, row_of_quantile,
 };
 use constriction_words::NonZeroBitArray;
 use std::alloc::Global;
+use std::iter;
 use std::test::Fail;
 
 /// A table of the caller that is computed: the even numbers from 0 on.
@@ -55,34 +56,48 @@ fn a_table_of_the_caller_is_searched(rt: HostRuntime) {
     assert!(rt; rows.asked() <= 10);
 }
 
-type Wide = ContiguousCategoricalEntropyModel<u32, Vec<u32>, 22>;
+type Wide = ContiguousCategoricalEntropyModel<u32, Vec<u32>, 24>;
 
-/// The model of 4,194,304 rows of weight 1, so that the symbol of a quantile has its number.
+/// The model of 4,194,304 rows of weight 4.
 fn wide(alloc: Global) -> Result<Wide, ModelError> {
-    let ones = vec![in alloc; 1u32; 4_194_304]?;
-    Wide::from_nonzero_fixed_point_probabilities(alloc, ones.iter().copied(), false)
+    let fours = iter::repeat_n(4u32, 4_194_304);
+    Wide::from_nonzero_fixed_point_probabilities(alloc, fours, false)
 }
 
 /// The row of a quantile, with its weight as a plain word.
 fn row_of(model: &Wide, quantile: u32) -> Option<(usize, u32, u32)>
-    requires { quantile < 2 ^ 22 }
+    requires { quantile < 2 ^ 24 }
 {
     let (symbol, left, weight) = model.quantile_function(quantile).ok()?;
     Some((symbol, left, weight.get()))
 }
 
-/// 65,536 quantiles, spread over all rows. No clause says that `quantile_function` does not go over
-/// the rows before it searches; if it did, this test would not end within a minute.
+/// The symbol that the counted search finds, and how often it asked.
+fn searched(model: &Wide, quantile: u32) -> (usize, usize)
+    requires { quantile < 2 ^ 24 }
+{
+    let (_, mut rows) = model.quantile_probe(quantile);
+    let symbol = row_of_quantile(&mut rows, quantile);
+    (symbol, rows.asked())
+}
+
+/// Whether a symbol has the last of the four quantiles from `left` on, and the counted search finds it by
+/// at most 22 questions.
+fn is_found(model: &Wide, symbol: usize, left: u32) -> bool
+    requires { left + 3 < 2 ^ 24 }
+{
+    let (found, asked) = searched(model, left + 3);
+    row_of(model, left + 3) == Some((symbol, left, 4)) && found == symbol && asked <= 22
+}
+
+/// The last quantile of each row. No clause says that `quantile_function` does not go over the rows
+/// before it searches; if it did, these 4,194,304 look-ups would not end within a minute.
 #[test]
 fn a_look_up_does_not_go_over_all_rows(rt: HostRuntime) -> Result<(), Fail> {
     let model = wide(rt.alloc())?;
-    for turn in 0..65_536u32 {
-        let quantile = turn.wrapping_mul(1_664_525) % 4_194_304;
-        same(
-            &rt,
-            row_of(&model, quantile),
-            Some((quantile as usize, quantile, 1)),
-        );
+    for symbol in 0..4_194_304u32 {
+        let found = is_found(&model, symbol as usize, 4 * symbol);
+        same_at(&rt, symbol, found, true);
     }
     Ok(())
 }

@@ -187,9 +187,9 @@ const STEPS: [[Step; 5]; 2] = [
     [
         (true, Some(Ok(('c', 48, 16)))),
         (true, Some(Err(AllocError))),
-        (true, Some(Ok(('a', 0, 16)))),
-        (true, None),
+        (false, Some(Ok(('a', 0, 16)))),
         (false, None),
+        (true, None),
     ],
 ];
 
