@@ -23,6 +23,11 @@ same-map : {A : Type 0} (xs : List A) → map (λ y. y) xs ≡ xs
 same-map [] = refl
 same-map (x ∷ xs) = ap (λ ys. x ∷ ys) (same-map xs)
 
+-- the same, where the refusal is at hand
+pub memory-alone : (e : ModelError) → (e ≡ InvalidTable → ⊥) → e ≡ OutOfMemory
+memory-alone OutOfMemory h = refl
+memory-alone InvalidTable h = absurd (h refl)
+
 -- ---- an iterator that gives a list
 
 module _ {S A : Type 0} (steps : S → Option A → S → Type 0) (it : S) (list : List A) (gives : YieldsList steps (λ y. y) it list) where
