@@ -1,6 +1,7 @@
 //! Chains of conversions between the forms of a decoder.
 
 ghost use Rattle.std.specs.Prelude.{◌≡◌, ◌<◌, ◌≤◌, Bool, List, [], ◌∷◌, map, true, false, IfOk, IfErr};
+ghost use Rattle.std.specs.Iterator.{Drains, IsFinite};
 ghost use Rattle.std.specs.List.{IsDistinct};
 ghost use Rattle.constriction.specs.Acceptance.{AreAccepted};
 ghost use Rattle.constriction.specs.Laws.{SymbolsDiffer};
@@ -32,6 +33,31 @@ pub enum ChainStep {
     Rebuild,
 }
 
+/// The symbols and the words of the weights of rows that are walked through, in order. It ends at the first
+/// refusal.
+fn symbols_and_words<Symbol: Drop, Word: Copy, Weight, Walk>(
+    alloc: Global,
+    walk: Walk,
+) -> Result<(Vec<Symbol>, Vec<Word>), AllocError>
+where
+    Weight: NonZeroBitArray<Base = Word>,
+    Walk: Iterator<Item = Result<(Symbol, Word, Weight), AllocError>>,
+    requires callable { Walk.can_next walk }
+    requires ends { IsFinite (Walk.remaining walk) }
+    ensures { IfOk result (λ lists. (rows : List (Symbol × Word × Weight)) × Drains Walk.next_gives walk (map Ok rows)
+        × (lists.0.items ≡ map (λ x. x.0) rows) × (lists.1.items ≡ map (λ x. Weight.base x.2) rows)) }
+{
+    let announced = walk.size_hint().0;
+    let mut symbols = Vec::with_capacity(alloc, announced)?;
+    let mut words = Vec::with_capacity(alloc, announced)?;
+    for row in walk {
+        let (symbol, _left, weight) = row?;
+        symbols.push(symbol)?;
+        words.push(weight.get())?;
+    }
+    Ok((symbols, words))
+}
+
 /// The symbols and the weights of a model's rows, in order. They are accepted by the constructors from symbols
 /// and weights, and give the model's rows again.
 fn symbols_and_weights<M, const PRECISION: usize>(
@@ -49,15 +75,7 @@ where
 {
     table_gives_all_rows::<M, PRECISION>();
     symbols_and_weights_rebuild::<M, PRECISION>();
-    let walk = model.symbol_table();
-    let announced = walk.size_hint().0;
-    let mut symbols = Vec::with_capacity(alloc, announced)?;
-    let mut weights = Vec::with_capacity(alloc, announced)?;
-    for row in walk {
-        let (symbol, _left, weight) = row?;
-        symbols.push(symbol)?;
-        weights.push(weight.get())?;
-    }
+    let (symbols, weights) = symbols_and_words(alloc, model.symbol_table())?;
     Ok((symbols, weights))
 }
 
