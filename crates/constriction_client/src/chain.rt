@@ -84,15 +84,21 @@ fn searching_of<Symbol: Eq + Drop, Probability: IndexWord, const PRECISION: usiz
     alloc: Global,
     symbols: Vec<Symbol>,
     weights: Vec<Probability>,
-) -> Result<Searching<Symbol, Probability, PRECISION>, ModelError>
+) -> Result<DecoderForm<Symbol, Probability, PRECISION>, ModelError>
     requires positive { 0 < PRECISION }
     requires fits { PRECISION ≤ Probability.BITS }
     requires accepted { AreAccepted Symbol.eq Probability.BITS PRECISION symbols.items (map Probability.whole weights.items) }
-    ensures rows { IfOk result (λ m. ⟦<Searching<Symbol, Probability, PRECISION> as EntropyModel<PRECISION>>⟧.rows m
+    ensures rows { IfOk result (λ m. ⟦<DecoderForm<Symbol, Probability, PRECISION> as EntropyModel<PRECISION>>⟧.rows m
         ≡ rows_of symbols.items (map Probability.whole weights.items)) }
+    ensures kind { IfOk result (λ m. elim m [ kind.Search _ ↦ false | kind.Lookup _ ↦ true ] ≡ false) }
     ensures refused { IfErr result (λ e. e ≡ ModelError.OutOfMemory) }
 {
-    Searching::from_symbols_and_nonzero_fixed_point_probabilities(alloc, symbols, weights, false)
+    match Searching::from_symbols_and_nonzero_fixed_point_probabilities(
+        alloc, symbols, weights, false,
+    ) {
+        Ok(model) => Ok(DecoderForm::Search(model)),
+        Err(refusal) => Err(refusal),
+    }
 }
 
 /// The same with a table.
@@ -100,16 +106,22 @@ fn tabled_of<Symbol: Eq + Drop, Probability: IndexWord, const PRECISION: usize>(
     alloc: Global,
     symbols: Vec<Symbol>,
     weights: Vec<Probability>,
-) -> Result<Tabled<Symbol, Probability, PRECISION>, ModelError>
+) -> Result<DecoderForm<Symbol, Probability, PRECISION>, ModelError>
     requires positive { 0 < PRECISION }
     requires fits { PRECISION ≤ Probability.BITS }
     requires narrow { PRECISION ≤ 63 }
     requires accepted { AreAccepted Symbol.eq Probability.BITS PRECISION symbols.items (map Probability.whole weights.items) }
-    ensures rows { IfOk result (λ m. ⟦<Tabled<Symbol, Probability, PRECISION> as EntropyModel<PRECISION>>⟧.rows m
+    ensures rows { IfOk result (λ m. ⟦<DecoderForm<Symbol, Probability, PRECISION> as EntropyModel<PRECISION>>⟧.rows m
         ≡ rows_of symbols.items (map Probability.whole weights.items)) }
+    ensures kind { IfOk result (λ m. elim m [ kind.Search _ ↦ false | kind.Lookup _ ↦ true ] ≡ true) }
     ensures refused { IfErr result (λ e. e ≡ ModelError.OutOfMemory) }
 {
-    Tabled::from_symbols_and_nonzero_fixed_point_probabilities(alloc, symbols, weights, false)
+    match Tabled::from_symbols_and_nonzero_fixed_point_probabilities(
+        alloc, symbols, weights, false,
+    ) {
+        Ok(model) => Ok(DecoderForm::Lookup(model)),
+        Err(refusal) => Err(refusal),
+    }
 }
 
 /// What a chain takes its form through. No conversion changes the rows, and the only refusal is
@@ -187,10 +199,8 @@ impl<Symbol: Eq + Clone + Drop, Probability: IndexWord, const PRECISION: usize> 
     fn rebuild(&self, alloc: Global) -> Result<Self, ModelError> {
         let (symbols, weights) = symbols_and_weights::<_, PRECISION>(alloc, self)?;
         match self {
-            DecoderForm::Search(_) => Ok(DecoderForm::Search(searching_of(
-                alloc, symbols, weights,
-            )?)),
-            DecoderForm::Lookup(_) => Ok(DecoderForm::Lookup(tabled_of(alloc, symbols, weights)?)),
+            DecoderForm::Search(_) => searching_of(alloc, symbols, weights),
+            DecoderForm::Lookup(_) => tabled_of(alloc, symbols, weights),
         }
     }
 }
