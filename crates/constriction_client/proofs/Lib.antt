@@ -1,5 +1,4 @@
 mod Accepting
-mod Chaining
 mod ComingBack
 mod Cutting
 mod Exactly
