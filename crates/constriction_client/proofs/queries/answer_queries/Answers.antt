@@ -11,8 +11,8 @@ loop-query-preserved g c =
     (reply_to_query g.row.PRECISION whole (g.D.EntropyModel.rows c.args.form.now)
     (entry_of g.E.EncodesOver.symbol_eq (g.E.EncodesOver.rows c.args.encoder.now)))
     (in_numbers whole g.D.Probability.NonZero.NonZeroBitArray.base) c.args.queries.now c.loop-query.query-index c.query-item.result
-    c.loop-query.replies.items _ _ c.loop-query-test.true c.query-item.is c.in_ok-push.ensures.items c.in_ok-answer_query.ensures
-    c.loop-query.invariant
+    c.loop-query.replies.items c.push.new.self.items c.in_ok-answer_query.field-0 c.loop-query-test.true c.query-item.is
+    c.in_ok-push.ensures.items c.in_ok-answer_query.ensures c.loop-query.invariant
 
 pub returns-clause-ok : goal.returns-clause-ok
 returns-clause-ok g c =
