@@ -1,7 +1,7 @@
 -- The row of a quantile is the first one that holds it.
-use Rattle.std.proofs.Common.{suc, zero, refl, subst, ◌≡◌, ℕ, ◌+◌, ◌^◌, ◌<◌, ◌≤◌, Bool, true, false, ◌&&◌, cond, List, [], ◌∷◌, Option, Some, None, ap, sym, ◌∙◌, length, get_or, sum, take, arith, nat_le, nat_lt, find, map, IsSome, inl, inr, ◌↔◌}
+use Rattle.std.proofs.Common.{suc, zero, refl, subst, ◌≡◌, ℕ, ◌+◌, ◌^◌, ◌<◌, ◌≤◌, Bool, true, false, ◌&&◌, cond, List, [], ◌∷◌, ◌++◌, Option, Some, None, ap, sym, ◌∙◌, length, get_or, sum, take, arith, nat_le, nat_lt, find, map, IsSome, inl, inr, ◌↔◌}
 use Rattle.std.proofs.lemmas.Bool.{ltb-true, leb-true, lt-ltb, le-leb, cases_lt}
-use Rattle.std.proofs.lemmas.List.{length-map, take_all}
+use Rattle.std.proofs.lemmas.List.{length-map, map-append, take_all, take_more}
 use Rattle.std.proofs.lemmas.List.Sums.{sum_by-cons}
 use Rattle.constriction.specs.Rows.{Row, RowsTile, IsRowOf, rows_from, entry_of}
 use Rattle.constriction_client.specs.declared.queries.Query.{Query}
@@ -148,6 +148,15 @@ scan-of-rows {S = S} precision whole eq entry rows before queries found same ali
     let by_entries : replies_of_two precision whole before entry queries ≡ replies_by_scan precision whole eq before queries =
     λ i. replies_of_two precision whole before (λ (s : S). alike s i) queries in
     is ∙ ap (λ (rs : List (Row S)). replies_of_two precision whole rs entry queries) same ∙ by_entries
+
+-- one answer more, to the next question
+pub one-more-answered : {A B C : Type 0} (asked : A → C) (told : B → C) (items : List A) (i : ℕ) (item : A) (answers more : List B)
+    (answer : B) → i < length items → item ≡ get_or items i item → more ≡ answers ++ answer ∷ [] → told answer ≡ asked item
+    → map told answers ≡ map asked (take i items) → map told more ≡ map asked (take (i + 1) items)
+one-more-answered asked told items i item answers more answer within is grown answered so_far =
+    ap (map told) grown ∙ map-append told answers (answer ∷ []) ∙ ap (λ cs. cs ++ told answer ∷ []) so_far
+    ∙ ap (λ c. map asked (take i items) ++ c ∷ []) (answered ∙ ap asked is)
+    ∙ sym (ap (map asked) (take_more items i item within) ∙ map-append asked (take i items) (get_or items i item ∷ []))
 
 -- replies to so many queries that there are no more are the replies to all
 pub all-answered : {S Word Other : Type 0} (precision : ℕ) (whole : Word → ℕ) (rows : List (Row S)) (entry : S → Option (ℕ × ℕ))

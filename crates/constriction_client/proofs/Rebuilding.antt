@@ -23,6 +23,11 @@ same-map : {A : Type 0} (xs : List A) → map (λ y. y) xs ≡ xs
 same-map [] = refl
 same-map (x ∷ xs) = ap (λ ys. x ∷ ys) (same-map xs)
 
+-- the same, where the refusal is at hand
+pub memory-alone : (e : ModelError) → (e ≡ InvalidTable → ⊥) → e ≡ OutOfMemory
+memory-alone OutOfMemory h = refl
+memory-alone InvalidTable h = absurd (h refl)
+
 -- ---- an iterator that gives a list
 
 module _ {S A : Type 0} (steps : S → Option A → S → Type 0) (it : S) (list : List A) (gives : YieldsList steps (λ y. y) it list) where
@@ -80,20 +85,20 @@ module _ {S T Symbol Word : Type 0} (steps : S → Option Symbol → S → Type 
 -- ---- the symbols and the weights of a table
 
 -- items none of which is a refusal, and the symbols and weights of their rows
-pub record Parted {Symbol Word Weight Refusal : Type 0} (whole : Word → ℕ) (base : Weight → Word)
+pub record Parted {Symbol Word Weight Refusal : Type 0} (base : Weight → Word)
     (items : List (Result (Symbol × Word × Weight) Refusal)) (symbols : List Symbol) (weights : List Word) : Type 0 where
   pub rows : List (Symbol × Word × Weight)
   pub came : items ≡ map Ok rows
   pub symbols_are : symbols ≡ map (λ x. x.0) rows
-  pub weights_are : map whole weights ≡ map (λ x. whole (base x.2)) rows
+  pub weights_are : weights ≡ map (λ x. base x.2) rows
 
-module _ {Symbol Word Weight Refusal : Type 0} (whole : Word → ℕ) (base : Weight → Word) where
-  pub parted-none : Parted {Symbol = Symbol} {Word = Word} {Weight = Weight} {Refusal = Refusal} whole base [] [] []
+module _ {Symbol Word Weight Refusal : Type 0} (base : Weight → Word) where
+  pub parted-none : Parted {Symbol = Symbol} {Word = Word} {Weight = Weight} {Refusal = Refusal} base [] [] []
   parted-none = record { rows = []; came = refl; symbols_are = refl; weights_are = refl }
 
   pub parted-more : (items : List (Result (Symbol × Word × Weight) Refusal)) (symbols : List Symbol) (weights : List Word)
-      (symbol : Symbol) (left word : Word) (weight : Weight) → word ≡ base weight → Parted whole base items symbols weights
-      → Parted whole base (items ++ Ok (symbol, left, weight) ∷ []) (symbols ++ symbol ∷ []) (weights ++ word ∷ [])
+      (symbol : Symbol) (left word : Word) (weight : Weight) → word ≡ base weight → Parted base items symbols weights
+      → Parted base (items ++ Ok (symbol, left, weight) ∷ []) (symbols ++ symbol ∷ []) (weights ++ word ∷ [])
   parted-more items symbols weights symbol left word weight is p =
       let row : Symbol × Word × Weight = (symbol, left, weight) in
       record {
@@ -101,19 +106,31 @@ module _ {Symbol Word Weight Refusal : Type 0} (whole : Word → ℕ) (base : We
         came = ap (λ xs. xs ++ Ok row ∷ []) p.came ∙ sym (map-append Ok p.rows (row ∷ []));
         symbols_are = ap (λ xs. xs ++ symbol ∷ []) p.symbols_are ∙ sym (map-append (λ (x : Symbol × Word × Weight). x.0) p.rows (row ∷ []));
         weights_are =
-            map-append whole weights (word ∷ []) ∙ ap (λ xs. xs ++ whole word ∷ []) p.weights_are
-            ∙ ap (λ w. map (λ (x : Symbol × Word × Weight). whole (base x.2)) p.rows ++ whole w ∷ []) is
-            ∙ sym (map-append (λ (x : Symbol × Word × Weight). whole (base x.2)) p.rows (row ∷ []));
+            ap (λ xs. xs ++ word ∷ []) p.weights_are
+            ∙ ap (λ w. map (λ (x : Symbol × Word × Weight). base x.2) p.rows ++ w ∷ []) is
+            ∙ sym (map-append (λ (x : Symbol × Word × Weight). base x.2) p.rows (row ∷ []));
       }
 
+  -- what a walk to its end gave
+  pub parted-all : {Walk : Type 0} (steps : Walk → Option (Result (Symbol × Word × Weight) Refusal) → Walk → Type 0) (started walk : Walk)
+      (items : List (Result (Symbol × Word × Weight) Refusal)) (symbols : List Symbol) (weights : List Word)
+      → started ≡ walk → Drains steps started items → Parted base items symbols weights
+      → (rows : List (Symbol × Word × Weight)) × Drains steps walk (map Ok rows)
+      × (symbols ≡ map (λ x. x.0) rows) × (weights ≡ map (λ x. base x.2) rows)
+  parted-all steps started walk items symbols weights e drained p =
+      (p.rows, subst (λ s. Drains steps s (map Ok p.rows)) e (subst (λ xs. Drains steps started xs) p.came drained), p.symbols_are, p.weights_are)
+
   -- where the items are rows, in order, these are the rows' own
-  pub parted-rows : (MayRefuse : Type 0) (items : List (Result (Symbol × Word × Weight) Refusal)) (symbols : List Symbol)
-      (weights : List Word) (rows : List (Row Symbol)) → AreRows whole base MayRefuse items rows → Parted whole base items symbols weights
+  pub parted-rows : (whole : Word → ℕ) (MayRefuse : Type 0) (read : List (Symbol × Word × Weight)) (symbols : List Symbol)
+      (weights : List Word) (rows : List (Row Symbol))
+      → AreRows whole base MayRefuse (let items : List (Result (Symbol × Word × Weight) Refusal) = map Ok read in items) rows
+      → symbols ≡ map (λ x. x.0) read → weights ≡ map (λ x. base x.2) read
       → (symbols ≡ symbols_of rows) × (map whole weights ≡ map (λ r. r.weight) rows)
-  parted-rows MayRefuse items symbols weights rows are p =
-      let same : map (row_of whole base) p.rows ≡ rows = are.unrefused p.rows p.came in (
-        p.symbols_are ∙ sym (map-map (λ (r : Row Symbol). r.symbol) (row_of whole base) p.rows) ∙ ap symbols_of same,
-        p.weights_are ∙ sym (map-map (λ (r : Row Symbol). r.weight) (row_of whole base) p.rows)
+  parted-rows whole MayRefuse read symbols weights rows are symbols_are weights_are =
+      let same : map (row_of whole base) read ≡ rows = are.unrefused read refl in (
+        symbols_are ∙ sym (map-map (λ (r : Row Symbol). r.symbol) (row_of whole base) read) ∙ ap symbols_of same,
+        ap (map whole) weights_are ∙ map-map whole (λ (x : Symbol × Word × Weight). base x.2) read
+            ∙ sym (map-map (λ (r : Row Symbol). r.weight) (row_of whole base) read)
             ∙ ap (map (λ (r : Row Symbol). r.weight)) same,
       )
 
@@ -127,13 +144,19 @@ their-lists : {Symbol : Type 0} (eq : Symbol → Symbol → Bool) (bits precisio
 their-lists eq bits precision rows symbols numbers same h = rw (same.0, same.1) h
 
 -- of the lists that were read of a table
-pub lists-of-table : {Symbol Word Weight Refusal : Type 0} (eq : Symbol → Symbol → Bool) (bits precision : ℕ)
-    (whole : Word → ℕ) (base : Weight → Word) (MayRefuse : Type 0) (items : List (Result (Symbol × Word × Weight) Refusal))
-    (left rows : List (Row Symbol)) (symbols : List Symbol) (weights : List Word)
-    → left ≡ rows → AreRows whole base MayRefuse items left → Parted whole base items symbols weights
+pub lists-of-table : {Symbol Word Weight Refusal Walk : Type 0} (eq : Symbol → Symbol → Bool) (bits precision : ℕ)
+    (whole : Word → ℕ) (base : Weight → Word) (MayRefuse : Type 0)
+    (steps : Walk → Option (Result (Symbol × Word × Weight) Refusal) → Walk → Type 0) (walk : Walk) (left rows : List (Row Symbol))
+    (symbols : List Symbol) (weights : List Word) → left ≡ rows
+    → ((items : List (Result (Symbol × Word × Weight) Refusal)) → Drains steps walk items → AreRows whole base MayRefuse items left)
+    → (read : List (Symbol × Word × Weight)) × Drains steps walk (map Ok read)
+    × (symbols ≡ map (λ x. x.0) read) × (weights ≡ map (λ x. base x.2) read)
     → AreAccepted eq bits precision (symbols_of rows) (map (λ r. r.weight) rows)
     × (rows_of (symbols_of rows) (map (λ r. r.weight) rows) ≡ rows)
     → AreAccepted eq bits precision symbols (map whole weights) × (rows_of symbols (map whole weights) ≡ rows)
-lists-of-table eq bits precision whole base MayRefuse items left rows symbols weights e are p h =
+lists-of-table {Symbol} {Word} {Weight} {Refusal} eq bits precision whole base MayRefuse steps walk left rows symbols weights e gives
+    (read, drained, ss, ws) h =
+    let items : List (Result (Symbol × Word × Weight) Refusal) = map Ok read in
     their-lists eq bits precision rows symbols (map whole weights)
-    (parted-rows whole base MayRefuse items symbols weights rows (subst (λ rs. AreRows whole base MayRefuse items rs) e are) p) h
+    (parted-rows base whole MayRefuse read symbols weights rows
+    (subst (λ rs. AreRows whole base MayRefuse items rs) e (gives items drained)) ss ws) h

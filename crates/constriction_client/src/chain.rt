@@ -1,9 +1,11 @@
 //! Chains of conversions between the forms of a decoder.
 
-ghost use Rattle.std.specs.Prelude.{◌≡◌, ◌<◌, ◌≤◌, [], ◌∷◌, map, true, false, IfOk, IfErr};
+ghost use Rattle.std.specs.Prelude.{◌≡◌, ◌<◌, ◌≤◌, Bool, List, [], ◌∷◌, map, true, false, IfOk, IfErr};
+ghost use Rattle.std.specs.Iterator.{Drains, IsFinite};
 ghost use Rattle.std.specs.List.{IsDistinct};
 ghost use Rattle.constriction.specs.Acceptance.{AreAccepted};
-ghost use Rattle.constriction.specs.Rows.{rows_of, symbols_of};
+ghost use Rattle.constriction.specs.Laws.{SymbolsDiffer};
+ghost use Rattle.constriction.specs.Rows.{Row, rows_of, symbols_of};
 ghost use Rattle.constriction.specs.Tables.{ClonesAreSame};
 ghost use Rattle.constriction_client.specs.Chains.{is_lookup_after};
 ghost use Rattle.constriction_client.specs.declared.decoder_form.SearchOrLookup.TheVariants as kind;
@@ -31,6 +33,31 @@ pub enum ChainStep {
     Rebuild,
 }
 
+/// The symbols and the words of the weights of rows that are walked through, in order. It ends at the first
+/// refusal.
+fn symbols_and_words<Symbol: Drop, Word: Copy, Weight, Walk>(
+    alloc: Global,
+    walk: Walk,
+) -> Result<(Vec<Symbol>, Vec<Word>), AllocError>
+where
+    Weight: NonZeroBitArray<Base = Word>,
+    Walk: Iterator<Item = Result<(Symbol, Word, Weight), AllocError>>,
+    requires callable { Walk.can_next walk }
+    requires ends { IsFinite (Walk.remaining walk) }
+    ensures { IfOk result (λ lists. (rows : List (Symbol × Word × Weight)) × Drains Walk.next_gives walk (map Ok rows)
+        × (lists.0.items ≡ map (λ x. x.0) rows) × (lists.1.items ≡ map (λ x. Weight.base x.2) rows)) }
+{
+    let announced = walk.size_hint().0;
+    let mut symbols = Vec::with_capacity(alloc, announced)?;
+    let mut words = Vec::with_capacity(alloc, announced)?;
+    for row in walk {
+        let (symbol, _left, weight) = row?;
+        symbols.push(symbol)?;
+        words.push(weight.get())?;
+    }
+    Ok((symbols, words))
+}
+
 /// The symbols and the weights of a model's rows, in order. They are accepted by the constructors from symbols
 /// and weights, and give the model's rows again.
 fn symbols_and_weights<M, const PRECISION: usize>(
@@ -48,15 +75,7 @@ where
 {
     table_gives_all_rows::<M, PRECISION>();
     symbols_and_weights_rebuild::<M, PRECISION>();
-    let walk = model.symbol_table();
-    let announced = walk.size_hint().0;
-    let mut symbols = Vec::with_capacity(alloc, announced)?;
-    let mut weights = Vec::with_capacity(alloc, announced)?;
-    for row in walk {
-        let (symbol, _left, weight) = row?;
-        symbols.push(symbol)?;
-        weights.push(weight.get())?;
-    }
+    let (symbols, weights) = symbols_and_words(alloc, model.symbol_table())?;
     Ok((symbols, weights))
 }
 
@@ -65,15 +84,21 @@ fn searching_of<Symbol: Eq + Drop, Probability: IndexWord, const PRECISION: usiz
     alloc: Global,
     symbols: Vec<Symbol>,
     weights: Vec<Probability>,
-) -> Result<Searching<Symbol, Probability, PRECISION>, ModelError>
+) -> Result<DecoderForm<Symbol, Probability, PRECISION>, ModelError>
     requires positive { 0 < PRECISION }
     requires fits { PRECISION ≤ Probability.BITS }
     requires accepted { AreAccepted Symbol.eq Probability.BITS PRECISION symbols.items (map Probability.whole weights.items) }
-    ensures rows { IfOk result (λ m. ⟦<Searching<Symbol, Probability, PRECISION> as EntropyModel<PRECISION>>⟧.rows m
+    ensures rows { IfOk result (λ m. ⟦<DecoderForm<Symbol, Probability, PRECISION> as EntropyModel<PRECISION>>⟧.rows m
         ≡ rows_of symbols.items (map Probability.whole weights.items)) }
+    ensures kind { IfOk result (λ m. elim m [ kind.Search _ ↦ false | kind.Lookup _ ↦ true ] ≡ false) }
     ensures refused { IfErr result (λ e. e ≡ ModelError.OutOfMemory) }
 {
-    Searching::from_symbols_and_nonzero_fixed_point_probabilities(alloc, symbols, weights, false)
+    match Searching::from_symbols_and_nonzero_fixed_point_probabilities(
+        alloc, symbols, weights, false,
+    ) {
+        Ok(model) => Ok(DecoderForm::Search(model)),
+        Err(refusal) => Err(refusal),
+    }
 }
 
 /// The same with a table.
@@ -81,109 +106,142 @@ fn tabled_of<Symbol: Eq + Drop, Probability: IndexWord, const PRECISION: usize>(
     alloc: Global,
     symbols: Vec<Symbol>,
     weights: Vec<Probability>,
-) -> Result<Tabled<Symbol, Probability, PRECISION>, ModelError>
+) -> Result<DecoderForm<Symbol, Probability, PRECISION>, ModelError>
     requires positive { 0 < PRECISION }
     requires fits { PRECISION ≤ Probability.BITS }
     requires narrow { PRECISION ≤ 63 }
     requires accepted { AreAccepted Symbol.eq Probability.BITS PRECISION symbols.items (map Probability.whole weights.items) }
-    ensures rows { IfOk result (λ m. ⟦<Tabled<Symbol, Probability, PRECISION> as EntropyModel<PRECISION>>⟧.rows m
+    ensures rows { IfOk result (λ m. ⟦<DecoderForm<Symbol, Probability, PRECISION> as EntropyModel<PRECISION>>⟧.rows m
         ≡ rows_of symbols.items (map Probability.whole weights.items)) }
+    ensures kind { IfOk result (λ m. elim m [ kind.Search _ ↦ false | kind.Lookup _ ↦ true ] ≡ true) }
     ensures refused { IfErr result (λ e. e ≡ ModelError.OutOfMemory) }
 {
-    Tabled::from_symbols_and_nonzero_fixed_point_probabilities(alloc, symbols, weights, false)
-}
-
-/// The searching form of the same rows.
-fn to_search<Symbol: Eq + Clone + Drop, Probability: IndexWord, const PRECISION: usize>(
-    alloc: Global,
-    form: &DecoderForm<Symbol, Probability, PRECISION>,
-) -> Result<Searching<Symbol, Probability, PRECISION>, ModelError>
-    requires positive { 0 < PRECISION }
-    requires fits { PRECISION ≤ Probability.BITS }
-    requires clones { ClonesAreSame Symbol.is_clone }
-    ensures rows { IfOk result (λ m. ⟦<Searching<Symbol, Probability, PRECISION> as EntropyModel<PRECISION>>⟧.rows m
-        ≡ ⟦<DecoderForm<Symbol, Probability, PRECISION> as EntropyModel<PRECISION>>⟧.rows form.now) }
-    ensures refused { IfErr result (λ e. e ≡ ModelError.OutOfMemory) }
-{
-    form_symbols_differ::<Symbol, Probability, PRECISION>();
-    Searching::from_iterable_entropy_model(alloc, form)
-}
-
-/// The form with a table, of the same rows.
-fn to_lookup<Symbol: Eq + Clone + Drop, Probability: IndexWord, const PRECISION: usize>(
-    alloc: Global,
-    form: &DecoderForm<Symbol, Probability, PRECISION>,
-) -> Result<Tabled<Symbol, Probability, PRECISION>, ModelError>
-    requires positive { 0 < PRECISION }
-    requires fits { PRECISION ≤ Probability.BITS }
-    requires narrow { PRECISION ≤ 63 }
-    requires clones { ClonesAreSame Symbol.is_clone }
-    ensures rows { IfOk result (λ m. ⟦<Tabled<Symbol, Probability, PRECISION> as EntropyModel<PRECISION>>⟧.rows m
-        ≡ ⟦<DecoderForm<Symbol, Probability, PRECISION> as EntropyModel<PRECISION>>⟧.rows form.now) }
-    ensures refused { IfErr result (λ e. e ≡ ModelError.OutOfMemory) }
-{
-    form_symbols_differ::<Symbol, Probability, PRECISION>();
-    Tabled::from_iterable_entropy_model(alloc, form)
-}
-
-/// The searching form of the same rows, with the entries of this one.
-fn into_search<Symbol: Eq + Drop, Probability: IndexWord, const PRECISION: usize>(
-    form: DecoderForm<Symbol, Probability, PRECISION>,
-) -> Searching<Symbol, Probability, PRECISION>
-    ensures { ⟦<Searching<Symbol, Probability, PRECISION> as EntropyModel<PRECISION>>⟧.rows result
-        ≡ ⟦<DecoderForm<Symbol, Probability, PRECISION> as EntropyModel<PRECISION>>⟧.rows form }
-{
-    match form {
-        DecoderForm::Search(model) => model,
-        DecoderForm::Lookup(model) => model.into_non_contiguous_categorical(),
+    match Tabled::from_symbols_and_nonzero_fixed_point_probabilities(
+        alloc, symbols, weights, false,
+    ) {
+        Ok(model) => Ok(DecoderForm::Lookup(model)),
+        Err(refusal) => Err(refusal),
     }
 }
 
-/// A form of the same kind, made anew of the symbols and the weights of the rows.
-fn rebuild<Symbol: Eq + Clone + Drop, Probability: IndexWord, const PRECISION: usize>(
-    alloc: Global,
-    form: &DecoderForm<Symbol, Probability, PRECISION>,
-) -> Result<DecoderForm<Symbol, Probability, PRECISION>, ModelError>
-    requires positive { 0 < PRECISION }
-    requires fits { PRECISION ≤ Probability.BITS }
-    requires narrow { PRECISION ≤ 63 }
-    requires clones { ClonesAreSame Symbol.is_clone }
-    ensures rows { IfOk result (λ made. ⟦<DecoderForm<Symbol, Probability, PRECISION> as EntropyModel<PRECISION>>⟧.rows made
-        ≡ ⟦<DecoderForm<Symbol, Probability, PRECISION> as EntropyModel<PRECISION>>⟧.rows form.now) }
-    ensures kind { IfOk result (λ made. elim made [ kind.Search _ ↦ false | kind.Lookup _ ↦ true ]
-        ≡ elim form.now [ kind.Search _ ↦ false | kind.Lookup _ ↦ true ]) }
-    ensures refused { IfErr result (λ e. e ≡ ModelError.OutOfMemory) }
-{
-    form_symbols_differ::<Symbol, Probability, PRECISION>();
-    let (symbols, weights) = symbols_and_weights::<_, PRECISION>(alloc, form)?;
-    match form {
-        DecoderForm::Search(_) => Ok(DecoderForm::Search(searching_of(alloc, symbols, weights)?)),
-        DecoderForm::Lookup(_) => Ok(DecoderForm::Lookup(tabled_of(alloc, symbols, weights)?)),
+/// What a chain takes its form through. No conversion changes the rows, and the only refusal is
+/// `OutOfMemory`.
+trait Converts<Symbol>: Sized {
+    // The rows of a form.
+    ghost told: { Self → List (Row Symbol) };
+
+    // Whether a form looks up which rows to search.
+    ghost looks_up: { Self → Bool };
+
+    // What a conversion asks of symbols, words and their precision.
+    ghost may_convert: { Type 0 };
+
+    /// The searching form of the same rows.
+    fn to_search(&self, alloc: Global) -> Result<Self, ModelError>
+        requires { may_convert }
+        ensures rows { IfOk result (λ made. told made ≡ told self.now) }
+        ensures kind { IfOk result (λ made. looks_up made ≡ false) }
+        ensures refused { IfErr result (λ e. e ≡ ModelError.OutOfMemory) };
+
+    /// The form with a table, of the same rows.
+    fn to_lookup(&self, alloc: Global) -> Result<Self, ModelError>
+        requires { may_convert }
+        ensures rows { IfOk result (λ made. told made ≡ told self.now) }
+        ensures kind { IfOk result (λ made. looks_up made ≡ true) }
+        ensures refused { IfErr result (λ e. e ≡ ModelError.OutOfMemory) };
+
+    /// The searching form of the same rows, with the entries of this one.
+    fn into_search(self) -> Self
+        ensures rows { told result ≡ told self }
+        ensures kind { looks_up result ≡ false };
+
+    /// A form of the same kind, made anew of the symbols and the weights of the rows.
+    fn rebuild(&self, alloc: Global) -> Result<Self, ModelError>
+        requires { may_convert }
+        ensures rows { IfOk result (λ made. told made ≡ told self.now) }
+        ensures kind { IfOk result (λ made. looks_up made ≡ looks_up self.now) }
+        ensures refused { IfErr result (λ e. e ≡ ModelError.OutOfMemory) };
+}
+
+impl<Symbol: Eq + Clone + Drop, Probability: IndexWord, const PRECISION: usize> Converts<Symbol>
+    for DecoderForm<Symbol, Probability, PRECISION> {
+    ghost told = { ⟦<DecoderForm<Symbol, Probability, PRECISION> as EntropyModel<PRECISION>>⟧.rows };
+
+    ghost looks_up = { λ f. elim f [ kind.Search _ ↦ false | kind.Lookup _ ↦ true ] };
+
+    ghost may_convert = { (0 < PRECISION) × (PRECISION ≤ Probability.BITS) × (PRECISION ≤ 63)
+        × ClonesAreSame Symbol.is_clone
+        × SymbolsDiffer Symbol.eq ⟦<DecoderForm<Symbol, Probability, PRECISION> as EntropyModel<PRECISION>>⟧.rows };
+
+    fn to_search(&self, alloc: Global) -> Result<Self, ModelError> {
+        match Searching::from_iterable_entropy_model(alloc, self) {
+            Ok(model) => Ok(DecoderForm::Search(model)),
+            Err(refusal) => Err(refusal),
+        }
+    }
+
+    fn to_lookup(&self, alloc: Global) -> Result<Self, ModelError> {
+        match Tabled::from_iterable_entropy_model(alloc, self) {
+            Ok(model) => Ok(DecoderForm::Lookup(model)),
+            Err(refusal) => Err(refusal),
+        }
+    }
+
+    fn into_search(self) -> Self {
+        match self {
+            DecoderForm::Search(model) => DecoderForm::Search(model),
+            DecoderForm::Lookup(model) => {
+                DecoderForm::Search(model.into_non_contiguous_categorical())
+            }
+        }
+    }
+
+    fn rebuild(&self, alloc: Global) -> Result<Self, ModelError> {
+        let (symbols, weights) = symbols_and_weights::<_, PRECISION>(alloc, self)?;
+        match self {
+            DecoderForm::Search(_) => searching_of(alloc, symbols, weights),
+            DecoderForm::Lookup(_) => tabled_of(alloc, symbols, weights),
+        }
     }
 }
 
 /// One conversion.
-fn convert<Symbol: Eq + Clone + Drop, Probability: IndexWord, const PRECISION: usize>(
+fn convert<Symbol, Form: Converts<Symbol> + Drop>(
     alloc: Global,
-    form: DecoderForm<Symbol, Probability, PRECISION>,
+    form: Form,
     step: &ChainStep,
-) -> Result<DecoderForm<Symbol, Probability, PRECISION>, ModelError>
-    requires positive { 0 < PRECISION }
-    requires fits { PRECISION ≤ Probability.BITS }
-    requires narrow { PRECISION ≤ 63 }
-    requires clones { ClonesAreSame Symbol.is_clone }
-    ensures rows { IfOk result (λ made. ⟦<DecoderForm<Symbol, Probability, PRECISION> as EntropyModel<PRECISION>>⟧.rows made
-        ≡ ⟦<DecoderForm<Symbol, Probability, PRECISION> as EntropyModel<PRECISION>>⟧.rows form) }
-    ensures kind { IfOk result (λ made. elim made [ kind.Search _ ↦ false | kind.Lookup _ ↦ true ]
-        ≡ is_lookup_after (step.now ∷ []) (elim form [ kind.Search _ ↦ false | kind.Lookup _ ↦ true ])) }
+) -> Result<Form, ModelError>
+    requires { Form.may_convert }
+    ensures rows { IfOk result (λ made. Form.told made ≡ Form.told form) }
+    ensures kind { IfOk result (λ made. Form.looks_up made
+        ≡ is_lookup_after (step.now ∷ []) (Form.looks_up form)) }
     ensures refused { IfErr result (λ e. e ≡ ModelError.OutOfMemory) }
 {
     match step {
-        ChainStep::ToSearch => Ok(DecoderForm::Search(to_search(alloc, &form)?)),
-        ChainStep::ToLookup => Ok(DecoderForm::Lookup(to_lookup(alloc, &form)?)),
-        ChainStep::IntoSearch => Ok(DecoderForm::Search(into_search(form))),
-        ChainStep::Rebuild => rebuild(alloc, &form),
+        ChainStep::ToSearch => form.to_search(alloc),
+        ChainStep::ToLookup => form.to_lookup(alloc),
+        ChainStep::IntoSearch => Ok(form.into_search()),
+        ChainStep::Rebuild => form.rebuild(alloc),
     }
+}
+
+/// Conversions, one after another.
+fn convert_by<Symbol, Form: Converts<Symbol> + Drop>(
+    alloc: Global,
+    form: Form,
+    steps: &[ChainStep],
+) -> Result<Form, ModelError>
+    requires { Form.may_convert }
+    ensures rows { IfOk result (λ made. Form.told made ≡ Form.told form) }
+    ensures kind { IfOk result (λ made. Form.looks_up made
+        ≡ is_lookup_after steps.now (Form.looks_up form)) }
+    ensures refused { IfErr result (λ e. e ≡ ModelError.OutOfMemory) }
+{
+    let mut form = form;
+    for step in steps {
+        form = convert(alloc, form, step)?;
+    }
+    Ok(form)
 }
 
 /// Conversions of a decoder's model, one after another. Whatever they are, the model tells the same rows
@@ -210,9 +268,6 @@ pub fn convert_chain<Symbol: Eq + Clone + Drop, Probability: IndexWord, const PR
         ≡ is_lookup_after steps.now (elim form [ kind.Search _ ↦ false | kind.Lookup _ ↦ true ])) }
     ensures refused { IfErr result (λ e. e ≡ ModelError.OutOfMemory) }
 {
-    let mut form = form;
-    for step in steps {
-        form = convert(alloc, form, step)?;
-    }
-    Ok(form)
+    form_symbols_differ::<Symbol, Probability, PRECISION>();
+    convert_by::<Symbol, _>(alloc, form, steps)
 }
