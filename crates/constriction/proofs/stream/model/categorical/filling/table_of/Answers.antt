@@ -1,11 +1,54 @@
 use Rattle.std.specs.Prelude.{◌≡◌, ◌+◌, ◌%◌, ◌^◌, ◌<◌, ◌≤◌, ◌⊎◌, map, sum, [], ◌∷◌, ◌++◌, true, false, Some, None}
-use Rattle.std.proofs.Common.{subst, arith, inl, inr, rules, tests}
+use Rattle.std.proofs.Common.{refl, subst, arith, inl, inr, rules, tests}
 use Rattle.std.proofs.lemmas.Bool.{cases_lt}
 use Rattle.std.proofs.lemmas.Nat.{pow_pos}
 use Rattle.constriction.specs.Acceptance.{completed}
 use Rattle.constriction.specs.Stored.{lefts_from}
-use Rattle.constriction.proofs.FillLemmas.{filled-more, row-within, row-last, bad-more, bad-full-more, bad-after, bad-wide, good-given, good-inferred, ended, yields-more}
+use Rattle.constriction.proofs.FillLemmas.{filled-none, filled-more, row-within, row-last, bad-more, bad-full-more, bad-after, bad-wide, good-given, good-inferred, ended, yields-more}
+use Rattle.constriction.proofs.ReadLemmas.{row-fits}
 use Rattle.constriction.proofs.stream.model.categorical.filling.table_of.Goals as goal
+
+pub rows-init : goal.rows-init
+rows-init g c =
+    let whole = g.P.WholeNumber.whole in
+    let goes = c.requires.ends c.into_iter-rest.result c.into_iter-rest.ensures.into_iter_gives in (
+      goes.0,
+      goes.1,
+      (
+        [],
+        refl,
+        rw c.room_for-table.ensures
+            (filled-none whole g.P.WholeNumber.BITS g.row.PRECISION c.least-left.result c.least-left.ensures (pow_pos g.row.PRECISION)),
+      ),
+      omega (arith, c.least-left.ensures, c.greatest-greatest.ensures.value),
+    )
+
+pub next-requires : goal.next-requires
+next-requires g c = c.rows.invariant.0
+
+pub is_filled_by-requires-clause-last : goal.is_filled_by-requires-clause-last
+is_filled_by-requires-clause-last g c =
+    let whole = g.P.WholeNumber.whole in
+    let one : whole c.greatest-one.result ≡ 1 = omega (arith, c.greatest-one.ensures.value) in
+    subst (λ n. (whole c.wrapping_minus-last.result + n) % 2 ^ g.P.WholeNumber.BITS ≡ whole c.in-Some.weight) one
+    c.wrapping_minus-last.ensures.difference
+
+pub is_filled_by-requires-clause-range : goal.is_filled_by-requires-clause-range
+is_filled_by-requires-clause-range g c = c.wrapping_minus-last.ensures.range
+
+pub next-requires-then-is_at_most : goal.next-requires-then-is_at_most
+next-requires-then-is_at_most g c = (c.in-Some.ensures.goes.on c.rows.invariant.1).0
+
+pub plus-left-requires : goal.plus-left-requires
+plus-left-requires g c =
+    let whole = g.P.WholeNumber.whole in
+    let w = c.in-Some.weight in
+    let one : whole c.greatest-one.result ≡ 1 = omega (arith, c.greatest-one.ensures.value) in
+    let wrapped : (whole c.wrapping_minus-last.result + 1) % 2 ^ g.P.WholeNumber.BITS ≡ whole w =
+    subst (λ n. (whole c.wrapping_minus-last.result + n) % 2 ^ g.P.WholeNumber.BITS ≡ whole w) one c.wrapping_minus-last.ensures.difference in
+    let less : whole c.wrapping_minus-last.result < whole c.rows.room = search rules in
+    (row-fits g.P.WholeNumber.BITS g.row.PRECISION (whole c.rows.left) (whole w) (whole c.rows.room)
+    (whole c.wrapping_minus-last.result) c.rows.invariant.3 c.greatest-greatest.ensures.within wrapped less).1
 
 pub rows-preserved : goal.rows-preserved
 rows-preserved g c =
