@@ -1,20 +1,24 @@
 -- Hash tables of entries.
-use Rattle.std.specs.Prelude.{◌≡◌, ℕ, ◌+◌, ◌^◌, ◌<◌, ◌≤◌, ◌||◌, Bool, true, false, cond, List, [], ◌∷◌, ◌++◌, length, reverse, All, find, Option, Some, None, IfSome, is_some, Result, Ok, IfOk}
+use Rattle.std.specs.Prelude.{◌≡◌, ℕ, ◌+◌, ◌^◌, ◌<◌, ◌≤◌, ◌||◌, Bool, true, false, cond, List, [], ◌∷◌, ◌++◌, length, map, reverse, All, find, Option, Some, None, IfSome, is_some, Result, Ok}
 use Rattle.std.specs.Option.{option_map, option_or}
 use Rattle.std.specs.Cmp.{IsEquivalence}
+use Rattle.std.specs.Iterator.{Yields}
 use Rattle.std.specs.List.{AllZip, IsDistinct, AllByRecursion}
 use Rattle.std.specs.Map.{lookup, keys_of}
 use Rattle.std.specs.Set.{is_member, distinct_count}
 use Rattle.std.proofs.Common.{refl, ap, sym, ◌∙◌, subst, arith}
-use Rattle.std.proofs.lemmas.List.{reverse-append, length-map, append-nil, append_assoc}
+use Rattle.std.proofs.lemmas.List.{reverse-append, length-map, map-append}
 use Rattle.std.proofs.lemmas.List.Elements.{All-cons, All-nil, All-tail, same_from_all_zip}
 use Rattle.std.proofs.lemmas.Map.Keys.{IsDistinct-head, IsDistinct-tail}
 use Rattle.std.proofs.lemmas.Map.Made.{length-from_keys, is_some-lookup}
+use Rattle.constriction.specs.Filling.{HoldsEntries}
 use Rattle.constriction.specs.Hashed.{rows_of_table, SameEntries}
 use Rattle.constriction.specs.Model.{row_of, LiesWithin}
 use Rattle.constriction.specs.RowLemmas.{entry_of-cons}
 use Rattle.constriction.specs.Rows.{Row, entry_of, symbols_of}
-use Rattle.constriction.specs.Tables.{YieldsRow, ClonesAreSame}
+use Rattle.constriction.specs.Tables.{ClonesAreSame}
+use Rattle.constriction.specs.Walked.{WalkedGood}
+use Rattle.constriction.proofs.CollectLemmas.{walked-more}
 
 -- an entry with quantiles, all of which lie below 2 ^ precision
 abbrev pub EntryWithin : ℕ → ℕ × ℕ → Type 0
@@ -165,38 +169,34 @@ entries-cloned IsClone same es fs h =
     same_from_all_zip (λ p q. IsClone p.0 q.0 × (q.1 ≡ p.1)) es fs h
     (λ p q r. ap (λ k. (k, q.1)) (same p.0 q.0 r.0) ∙ ap (λ e. (p.0, e)) r.1)
 
--- ---- the entries of a symbol table
+-- ---- the entries of the rows that a walk gives
 
--- the function has the entries of the rows that are no longer left
-pub record IsHashed {K X : Type 0} (eq : K → K → Bool) (numbers : X → ℕ × ℕ) (rows left : List (Row K)) (f : K → Option X) : Type 0 where
-  pub taken : List (Row K)
-  pub split : rows ≡ taken ++ left
-  pub entries : (s : K) → option_map numbers (f s) ≡ entry_of eq taken s
+module _ {K X Word Weight Refusal T : Type 0} (steps : T → Option (Result (K × Word × Weight) Refusal) → T → Type 0) (it : T)
+    (eq : K → K → Bool) (numbers : (Word → ℕ) → (Weight → Word) → X → ℕ × ℕ) where
+  -- the function has the entries of the rows that the walk gave so far
+  pub record IsHashed (u : T) (f : K → Option X) : Type 0 where
+    pub taken : List (K × Word × Weight)
+    pub walked : Yields steps it (map Ok taken) u
+    pub entries : (whole : Word → ℕ) (base : Weight → Word) → HoldsEntries eq (numbers whole base) f (map (row_of whole base) taken)
 
-module _ {K X Word Weight : Type 0} (eq : K → K → Bool) (laws : IsEquivalence eq) (numbers : X → ℕ × ℕ) (whole : Word → ℕ)
-    (base : Weight → Word) (rows : List (Row K)) where
-  pub hashed-none : (left : List (Row K)) (f : K → Option X) → left ≡ rows → ((s : K) → f s ≡ None) → IsHashed eq numbers rows left f
-  hashed-none left f e h = record { taken = []; split = sym e; entries = λ s. ap (option_map numbers) (h s) }
+  pub hashed-none : (f : K → Option X) → ((s : K) → f s ≡ None) → IsHashed it f
+  hashed-none f h = record { taken = []; walked = refl; entries = λ whole base s. ap (option_map (numbers whole base)) (h s) }
 
-  pub hashed-step : {Refusal : Type 0} (MayRefuse : Type 0) (before left : List (Row K)) (f g : K → Option X)
-      (o : Result (K × Word × Weight) Refusal)
-      (y : K × Word × Weight) (x : X) → numbers x ≡ (whole y.1, whole (base y.2))
-      → IsHashed eq numbers rows before f → YieldsRow whole base MayRefuse before (Some o) left → o ≡ Ok y
-      → ((s : K) → g s ≡ cond (eq y.0 s) (Some x) (f s)) → IsHashed eq numbers rows left g
-  hashed-step {Refusal} MayRefuse before left f g o y x n i step e update =
-      let r = step.0 in
-      let is : row_of whole base y ≡ r = subst (λ (z : Result (K × Word × Weight) Refusal). IfOk z (λ z'. row_of whole base z' ≡ r)) e
-      step.2.0 in
-      let row : record { symbol = y.0; left = (numbers x).0; weight = (numbers x).1 } ≡ r =
-      ap (λ p. record { symbol = y.0; left = p.0; weight = p.1 }) n ∙ is in
-      record {
-        taken = i.taken ++ r ∷ [];
-        split = i.split ∙ ap (λ xs. i.taken ++ xs) step.1 ∙ sym (append_assoc i.taken (r ∷ []) left);
-        entries = λ s. hashed-push eq laws numbers i.taken f g y.0 x i.entries update s ∙ ap (λ z. entry_of eq (i.taken ++ z ∷ []) s) row;
-      }
+  pub hashed-step : IsEquivalence eq → (u v : T) (f g : K → Option X) (o : Result (K × Word × Weight) Refusal)
+      (y : K × Word × Weight) (x : X)
+      → ((whole : Word → ℕ) (base : Weight → Word) → numbers whole base x ≡ (whole y.1, whole (base y.2)))
+      → IsHashed u f → steps u (Some o) v → o ≡ Ok y → ((s : K) → g s ≡ cond (eq y.0 s) (Some x) (f s)) → IsHashed v g
+  hashed-step laws u v f g o y x n i step e update = record {
+    taken = i.taken ++ y ∷ [];
+    walked = walked-more steps it i.taken u v o y i.walked step e;
+    entries = λ whole base s.
+        let rows = map (row_of whole base) i.taken in
+        hashed-push eq laws (numbers whole base) rows f g y.0 x (i.entries whole base) update s
+        ∙ ap (λ (p : ℕ × ℕ). entry_of eq (rows ++ record { symbol = y.0; left = p.0; weight = p.1 } ∷ []) s) (n whole base)
+        ∙ ap (λ (rs : List (Row K)). entry_of eq rs s) (sym (map-append (row_of whole base) i.taken (y ∷ [])));
+  }
 
-  pub hashed-all : (left : List (Row K)) (f : K → Option X) → IsHashed eq numbers rows left f → left ≡ [] → (s : K)
-      → option_map numbers (f s) ≡ entry_of eq rows s
-  hashed-all left f i e s =
-      let all : rows ≡ i.taken = i.split ∙ ap (λ xs. i.taken ++ xs) e ∙ append-nil i.taken in
-      i.entries s ∙ ap (λ xs. entry_of eq xs s) (sym all)
+  pub hashed-end : (u v : T) (f : K → Option X) → IsHashed u f → steps u None v
+      → WalkedGood steps it
+      (λ xs. (whole : Word → ℕ) (base : Weight → Word) → HoldsEntries eq (numbers whole base) f (map (row_of whole base) xs))
+  hashed-end u v f i end = (i.taken, (v, (u, i.walked, end)), i.entries)

@@ -30,7 +30,7 @@ last-order lefts x y i k a b h = elim (cases_lt k i) [
   | inr not ↦ not
 ]
 
-slot-order : (lefts : List ℕ) (width slot first last : ℕ) → IsSlot lefts width slot first last → first ≤ last
+pub slot-order : (lefts : List ℕ) (width slot first last : ℕ) → IsSlot lefts width slot first last → first ≤ last
 slot-order lefts width slot first last s =
     last-order lefts (slot * width) (slot * width + (width - 1)) first last s.from s.to (omega arith)
 

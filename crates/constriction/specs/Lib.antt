@@ -18,3 +18,4 @@ pub mod SymbolRowLemmas
 pub mod Tables
 pub mod UniformRowLemmas
 pub mod WalkLemmas
+pub mod Walked

@@ -11,3 +11,4 @@ mod reading;
 pub(crate) mod slots;
 mod stored;
 pub mod symbol_table;
+pub(crate) mod walking;

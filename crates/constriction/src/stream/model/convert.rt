@@ -6,16 +6,12 @@ ghost use Rattle.std.specs.Set.{distinct_count};
 ghost use Rattle.constriction.specs.Hashed.{SameEntries};
 ghost use Rattle.constriction.specs.Rows.{symbols_of};
 
-use crate::stream::model::categorical::filling::{room_for, rows_announced};
-use crate::stream::model::categorical::hashed::{
-    Entry, NonContiguousCategoricalEncoderModel, table_for,
-};
+use crate::stream::model::categorical::hashed::NonContiguousCategoricalEncoderModel;
 use crate::stream::model::categorical::lookup_non_contiguous::NonContiguousLookupDecoderModel;
-use crate::stream::model::categorical::non_contiguous::{
-    NonContiguousCategoricalDecoderModel, has_symbol,
-};
+use crate::stream::model::categorical::non_contiguous::NonContiguousCategoricalDecoderModel;
+use crate::stream::model::categorical::walking::{entries_walked, table_walked};
 use crate::stream::model::error::ModelError;
-use crate::stream::model::traits::{EntropyModel, IterableEntropyModel};
+use crate::stream::model::traits::{EntropyModel, IterableEntropyModel, Weight};
 use constriction_words::{BitArray, IndexWord};
 use std::alloc::Global;
 use std::hash::Hash;
@@ -154,15 +150,13 @@ where
         ≡ M.rows model) × IsDistinct M.Symbol.eq (symbols_of (M.rows model))) }
     ensures invalid { result ≡ Err ModelError.InvalidTable → ¬ (IsDistinct M.Symbol.eq (symbols_of (M.rows model))) }
 {
-    let mut walk = model.symbol_table();
-    let mut cdf = room_for(alloc, rows_announced::<PRECISION>(walk.size_hint().0));
-    'rows: while let Some(row) = walk.next() {
-        let (symbol, left, _weight) = row?;
-        if has_symbol(&cdf, &symbol) {
-            return Err(ModelError::InvalidTable);
-        }
-        cdf.push((left, symbol))?;
-    }
+    let cdf = entries_walked::<
+        M::Symbol,
+        M::Probability,
+        Weight<M::Probability>,
+        M::SymbolTable,
+        PRECISION,
+    >(alloc, model.symbol_table())?;
     Ok(NonContiguousCategoricalDecoderModel {
         cdf,
         entries: PhantomData,
@@ -227,11 +221,12 @@ where
         ≡ distinct_count M.Symbol.eq (symbols_of (M.rows model))) }
     ensures refused { IfErr result (λ e. e ≡ ModelError.OutOfMemory) }
 {
-    let mut walk = model.symbol_table();
-    let mut table = table_for(alloc, rows_announced::<PRECISION>(walk.size_hint().0));
-    'rows: while let Some(row) = walk.next() {
-        let (symbol, left, weight) = row?;
-        table.insert(symbol, Entry { left, weight })?;
-    }
+    let table = table_walked::<
+        M::Symbol,
+        M::Probability,
+        Weight<M::Probability>,
+        M::SymbolTable,
+        PRECISION,
+    >(alloc, model.symbol_table())?;
     Ok(NonContiguousCategoricalEncoderModel { table })
 }

@@ -1,62 +1,46 @@
-use Rattle.std.proofs.Common.{Some, None}
-use Rattle.constriction.proofs.CollectLemmas.{collected-none, collected-step, collected-repeat, collected-all, collected-distinct}
+use Rattle.std.proofs.Common.{◌≡◌, Err, rules}
+use Rattle.constriction.specs.declared.stream.model.error.ModelError.TheVariants.{InvalidTable}
+use Rattle.constriction.proofs.CollectLemmas.{walked-stored, walked-distinct, walked-repeat}
 use Rattle.constriction.proofs.stream.model.convert.to_generic_decoder_model.Goals as goal
-
-pub rows-init : goal.rows-init
-rows-init g c =
-    let table = c.symbol_table-walk.ensures in (
-      table.callable,
-      table.ends.0,
-      collected-none g.M.Symbol.PartialEq.eq g.met.M.Symbol.Eq.laws g.M.Probability.BitArray.whole (g.M.EntropyModel.rows c.args.model)
-          (g.M.IterableEntropyModel.rows_left c.symbol_table-walk.result) c.room_for-cdf.result.items table.all c.room_for-cdf.ensures,
-    )
-
-pub rows-preserved : goal.rows-preserved
-rows-preserved g c =
-    let step = g.met.M.IterableEntropyModel.steps_law c.requires.clones c.rows.walk (Some c.in-Some.row) c.next.new.self
-    c.in-Some.ensures.steps in
-    let next = c.in-Some.ensures.goes.on c.rows.invariant.1 in (
-      next.0,
-      next.1,
-      collected-step g.M.Symbol.PartialEq.eq g.met.M.Symbol.Eq.laws g.M.Probability.BitArray.whole (g.M.EntropyModel.rows c.args.model)
-          g.M.Probability.NonZero.NonZeroBitArray.base g.M.IterableEntropyModel.may_refuse (g.M.IterableEntropyModel.rows_left c.rows.walk)
-          (g.M.IterableEntropyModel.rows_left c.next.new.self) c.rows.cdf.items c.in-Some.row
-          (c.in_ok-symbol.symbol, c.in_ok-symbol.left, c.in_ok-symbol._weight) c.rows.invariant.2 step
-          c.in_ok-symbol.was c.deref.result.now c.has_symbol.result c.has_symbol.ensures c.deref.ensures.value
-          c.push.new.self.items c.in_ok-push.ensures.items c.if-has_symbol.false,
-    )
 
 pub invariant_of-result : goal.invariant_of-result
 invariant_of-result g c =
     let M = g.met.M.IterableEntropyModel in
-    let step = M.steps_law c.requires.clones c.rows.walk None c.next.new.self c.in_default.ensures.steps in
-    let all = collected-all g.M.Symbol.PartialEq.eq g.met.M.Symbol.Eq.laws g.M.Probability.BitArray.whole
-    (g.M.EntropyModel.rows c.args.model)
-    g.M.Probability.BitArray.BITS g.row.PRECISION (g.M.IterableEntropyModel.rows_left c.rows.walk) c.rows.cdf.items c.rows.invariant.2
-    step.0
-    (M.tile_law c.args.model) in
-    record { precise = (c.requires.positive, c.requires.fits); stored = all.0; distinct = c.rows.invariant.2.distinct }
+    let eq = g.M.Symbol.PartialEq.eq in
+    let entries = c.in_ok-cdf.cdf.items in
+    record {
+      precise = (c.requires.positive, c.requires.fits);
+      stored =
+          (walked-stored g.M.Probability.BitArray.whole g.M.Probability.NonZero.NonZeroBitArray.base g.M.IterableEntropyModel.may_refuse
+          g.M.SymbolTable.Iterator.next_gives g.M.IterableEntropyModel.rows_left (M.steps_law c.requires.clones)
+          (g.M.EntropyModel.rows c.args.model) c.symbol_table.result c.symbol_table.ensures.all eq g.M.Probability.BitArray.BITS
+          g.row.PRECISION (M.tile_law c.args.model) entries c.in_ok-cdf.ensures.ok).0;
+      distinct =
+          (walked-distinct g.M.Probability.BitArray.whole g.M.Probability.NonZero.NonZeroBitArray.base
+          g.M.IterableEntropyModel.may_refuse g.M.SymbolTable.Iterator.next_gives g.M.IterableEntropyModel.rows_left
+          (M.steps_law c.requires.clones) (g.M.EntropyModel.rows c.args.model) c.symbol_table.result c.symbol_table.ensures.all eq
+          entries c.in_ok-cdf.ensures.ok).0;
+    }
 
 pub returns-clause-ok : goal.returns-clause-ok
 returns-clause-ok g c =
     let M = g.met.M.IterableEntropyModel in
-    let step = M.steps_law c.requires.clones c.rows.walk None c.next.new.self c.in_default.ensures.steps in
-    let all = collected-all g.M.Symbol.PartialEq.eq g.met.M.Symbol.Eq.laws g.M.Probability.BitArray.whole
-    (g.M.EntropyModel.rows c.args.model)
-    g.M.Probability.BitArray.BITS g.row.PRECISION (g.M.IterableEntropyModel.rows_left c.rows.walk) c.rows.cdf.items c.rows.invariant.2
-    step.0
-    (M.tile_law c.args.model) in
-    let distinct = collected-distinct g.M.Symbol.PartialEq.eq g.met.M.Symbol.Eq.laws g.M.Probability.BitArray.whole
-    (g.M.EntropyModel.rows c.args.model) g.M.Probability.BitArray.BITS g.row.PRECISION (g.M.IterableEntropyModel.rows_left c.rows.walk)
-    c.rows.cdf.items c.rows.invariant.2 step.0 (M.tile_law c.args.model) in
-    (all.1, distinct)
+    let eq = g.M.Symbol.PartialEq.eq in
+    let entries = c.in_ok-cdf.cdf.items in (
+      (walked-stored g.M.Probability.BitArray.whole g.M.Probability.NonZero.NonZeroBitArray.base g.M.IterableEntropyModel.may_refuse
+          g.M.SymbolTable.Iterator.next_gives g.M.IterableEntropyModel.rows_left (M.steps_law c.requires.clones)
+          (g.M.EntropyModel.rows c.args.model) c.symbol_table.result c.symbol_table.ensures.all eq g.M.Probability.BitArray.BITS
+          g.row.PRECISION (M.tile_law c.args.model) entries c.in_ok-cdf.ensures.ok).1,
+      (walked-distinct g.M.Probability.BitArray.whole g.M.Probability.NonZero.NonZeroBitArray.base
+          g.M.IterableEntropyModel.may_refuse g.M.SymbolTable.Iterator.next_gives g.M.IterableEntropyModel.rows_left
+          (M.steps_law c.requires.clones) (g.M.EntropyModel.rows c.args.model) c.symbol_table.result c.symbol_table.ensures.all eq
+          entries c.in_ok-cdf.ensures.ok).1,
+    )
 
-pub returns-then-has_symbol-clause-invalid : goal.returns-then-has_symbol-clause-invalid
-returns-then-has_symbol-clause-invalid g c = λ _.
-    let step = g.met.M.IterableEntropyModel.steps_law c.requires.clones c.rows.walk (Some c.in-Some.row) c.next.new.self
-    c.in-Some.ensures.steps in
-    collected-repeat g.M.Symbol.PartialEq.eq g.met.M.Symbol.Eq.laws g.M.Probability.BitArray.whole (g.M.EntropyModel.rows c.args.model)
-    g.M.Probability.NonZero.NonZeroBitArray.base g.M.IterableEntropyModel.may_refuse (g.M.IterableEntropyModel.rows_left c.rows.walk)
-    (g.M.IterableEntropyModel.rows_left c.next.new.self) c.rows.cdf.items c.in-Some.row
-    (c.in_ok-symbol.symbol, c.in_ok-symbol.left, c.in_ok-symbol._weight) c.rows.invariant.2 step
-    c.in_ok-symbol.was c.deref.result.now c.has_symbol.result c.has_symbol.ensures c.deref.ensures.value c.if-has_symbol.true
+pub returns-in_err-cdf-clause-invalid : goal.returns-in_err-cdf-clause-invalid
+returns-in_err-cdf-clause-invalid g c = λ h.
+    let e : c.entries_walked.result ≡ Err InvalidTable = search rules in
+    walked-repeat g.M.Probability.BitArray.whole g.M.Probability.NonZero.NonZeroBitArray.base g.M.IterableEntropyModel.may_refuse
+    g.M.SymbolTable.Iterator.next_gives g.M.IterableEntropyModel.rows_left
+    (g.met.M.IterableEntropyModel.steps_law c.requires.clones) (g.M.EntropyModel.rows c.args.model) c.symbol_table.result
+    c.symbol_table.ensures.all g.M.Symbol.PartialEq.eq (c.entries_walked.ensures.invalid e)

@@ -19,6 +19,16 @@ rows-init g c = (
       c.greatest-room.ensures.value,
 )
 
+pub is_filled_by-requires-clause-last : goal.is_filled_by-requires-clause-last
+is_filled_by-requires-clause-last g c =
+    let whole = g.P.WholeNumber.whole in
+    let one : whole c.greatest-one.result ≡ 1 = omega (arith, c.greatest-one.ensures.value) in
+    subst (λ n. (whole c.wrapping_minus-last.result + n) % 2 ^ g.P.WholeNumber.BITS ≡ whole c.in-Some.weight) one
+    c.wrapping_minus-last.ensures.difference
+
+pub is_filled_by-requires-clause-range : goal.is_filled_by-requires-clause-range
+is_filled_by-requires-clause-range g c = c.wrapping_minus-last.ensures.range
+
 pub returns-then-not-is_filled_by-clause-invalid : goal.returns-then-not-is_filled_by-clause-invalid
 returns-then-not-is_filled_by-clause-invalid g c = λ _.
     let whole = g.P.WholeNumber.whole in
@@ -28,7 +38,7 @@ returns-then-not-is_filled_by-clause-invalid g c = λ _.
     let wrapped : (whole c.wrapping_minus-last.result + 1) % 2 ^ g.P.WholeNumber.BITS ≡ whole w =
     subst (λ n. (whole c.wrapping_minus-last.result + n) % 2 ^ g.P.WholeNumber.BITS ≡ whole w) one
     c.wrapping_minus-last.ensures.difference in
-    let bad : (whole w ≡ 0) ⊎ (whole c.rows.room + 1 < whole w) = search rules in
+    let bad : (whole w ≡ 0) ⊎ (whole c.rows.room + 1 < whole w) = c.if-not-is_filled_by.ensures.bad (refl {a = false}) in
     let why : (whole w ≡ 0) ⊎ (2 ^ g.row.PRECISION < sum (map whole read.weights) + whole w) =
     elim bad [ inl none ↦ inl none | inr much ↦ inr (omega (arith, much, read.rest, read.filled.is)) ] in
     bad-weight g.Symbols.Iterator.next_gives _ g.Weights.Iterator.next_gives _ g.Stored.TakesRows.symbol_eq
@@ -46,12 +56,12 @@ returns-then-infer_last-clause-invalid g c = λ _.
     let wrapped : (whole c.wrapping_minus-last.result + 1) % 2 ^ g.P.WholeNumber.BITS ≡ whole w =
     subst (λ n. (whole c.wrapping_minus-last.result + n) % 2 ^ g.P.WholeNumber.BITS ≡ whole w) one
     c.wrapping_minus-last.ensures.difference in
-    let takes : (0 < whole w) × (whole w ≡ whole c.rows.room + 1) = search rules in
+    let takes : (0 < whole w) × (whole w ≡ whole c.rows.room + 1) = c.if-not-is_filled_by.ensures.filled (refl {a = true}) in
     let end = row-last whole g.P.WholeNumber.BITS g.row.PRECISION c.rows.left w (whole c.rows.room) (whole c.wrapping_minus-last.result)
     read.rest wrapped (pow_pos g.P.WholeNumber.BITS) takes.0 takes.1 in
     let full = filled-more whole g.P.WholeNumber.BITS g.row.PRECISION read.weights read.table c.rows.left w None read.filled end in
     let much : 2 ^ g.row.PRECISION ≤ sum (map whole (read.weights ++ w ∷ [])) = omega (arith, full.is) in
-    let infer : c.args.infer_last ≡ true = search rules in
+    let infer : c.args.infer_last ≡ true = c.if-infer_last.true in
     bad-weight g.Symbols.Iterator.next_gives _ g.Weights.Iterator.next_gives _ g.Stored.TakesRows.symbol_eq
     g.met.Stored.TakesRows.equality_law g.Stored.TakesRows.holds g.P.WholeNumber.whole g.P.WholeNumber.BITS g.row.PRECISION
     c.rows.stored c.rows.symbols c.rows.weights c.rows.left (g.P.WholeNumber.whole c.rows.room) c.rows.invariant.4 c.args.infer_last _ w
@@ -88,7 +98,7 @@ returns-in-Some-next-2-clause-invalid g c = λ _.
     let wrapped : (whole c.wrapping_minus-last.result + 1) % 2 ^ g.P.WholeNumber.BITS ≡ whole w =
     subst (λ n. (whole c.wrapping_minus-last.result + n) % 2 ^ g.P.WholeNumber.BITS ≡ whole w) one
     c.wrapping_minus-last.ensures.difference in
-    let takes : (0 < whole w) × (whole w ≡ whole c.rows.room + 1) = search rules in
+    let takes : (0 < whole w) × (whole w ≡ whole c.rows.room + 1) = c.if-not-is_filled_by.ensures.filled (refl {a = true}) in
     let end = row-last whole g.P.WholeNumber.BITS g.row.PRECISION c.rows.left w (whole c.rows.room) (whole c.wrapping_minus-last.result)
     read.rest wrapped (pow_pos g.P.WholeNumber.BITS) takes.0 takes.1 in
     let full = filled-more whole g.P.WholeNumber.BITS g.row.PRECISION read.weights read.table c.rows.left w None read.filled end in
@@ -100,7 +110,7 @@ returns-in-Some-next-2-clause-invalid g c = λ _.
 
 pub returns-in-Some-next-3-clause-invalid : goal.returns-in-Some-next-3-clause-invalid
 returns-in-Some-next-3-clause-invalid g c = λ _.
-    let given : c.args.infer_last ≡ false = search rules in
+    let given : c.args.infer_last ≡ false = c.if-infer_last.false in
     rw given (bad-many g.Symbols.Iterator.next_gives _ g.Weights.Iterator.next_gives _ g.Stored.TakesRows.symbol_eq
     g.met.Stored.TakesRows.equality_law g.Stored.TakesRows.holds g.P.WholeNumber.whole g.P.WholeNumber.BITS g.row.PRECISION
     c.rows.stored c.rows.symbols c.rows.weights c.rows.left (g.P.WholeNumber.whole c.rows.room) c.rows.invariant.4 _ _ _ _
@@ -116,10 +126,10 @@ returns-then-is_at_most-clause-ok g c =
     let wrapped : (whole c.wrapping_minus-last.result + 1) % 2 ^ g.P.WholeNumber.BITS ≡ whole w =
     subst (λ n. (whole c.wrapping_minus-last.result + n) % 2 ^ g.P.WholeNumber.BITS ≡ whole w) one
     c.wrapping_minus-last.ensures.difference in
-    let takes : (0 < whole w) × (whole w ≡ whole c.rows.room + 1) = search rules in
+    let takes : (0 < whole w) × (whole w ≡ whole c.rows.room + 1) = c.if-not-is_filled_by.ensures.filled (refl {a = true}) in
     let end = row-last whole g.P.WholeNumber.BITS g.row.PRECISION c.rows.left w (whole c.rows.room) (whole c.wrapping_minus-last.result)
     read.rest wrapped (pow_pos g.P.WholeNumber.BITS) takes.0 takes.1 in
-    let given : c.args.infer_last ≡ false = search rules in
+    let given : c.args.infer_last ≡ false = c.if-infer_last.false in
     rw given (good-last g.Symbols.Iterator.next_gives _ g.Weights.Iterator.next_gives _ g.Stored.TakesRows.symbol_eq
     g.met.Stored.TakesRows.equality_law g.Stored.TakesRows.holds g.P.WholeNumber.whole g.P.WholeNumber.BITS g.row.PRECISION
     c.rows.stored c.rows.symbols c.rows.weights c.rows.left (g.P.WholeNumber.whole c.rows.room) c.rows.invariant.4 c.take_row.new.self _
@@ -209,7 +219,7 @@ rows-preserved g c =
 
 pub returns-then-not-infer_last-clause-invalid : goal.returns-then-not-infer_last-clause-invalid
 returns-then-not-infer_last-clause-invalid g c = λ _.
-    let given : c.args.infer_last ≡ false = search rules in
+    let given : c.args.infer_last ≡ false = c.if-not-infer_last.true in
     rw given (bad-left_over g.Symbols.Iterator.next_gives _ g.Weights.Iterator.next_gives _ g.Stored.TakesRows.symbol_eq
     g.met.Stored.TakesRows.equality_law g.Stored.TakesRows.holds g.P.WholeNumber.whole g.P.WholeNumber.BITS g.row.PRECISION
     c.rows.stored c.rows.symbols c.rows.weights c.rows.left (g.P.WholeNumber.whole c.rows.room) c.rows.invariant.4 _
@@ -217,7 +227,7 @@ returns-then-not-infer_last-clause-invalid g c = λ _.
 
 pub returns-then-is_greatest-clause-invalid : goal.returns-then-is_greatest-clause-invalid
 returns-then-is_greatest-clause-invalid g c = λ _.
-    let infer : c.args.infer_last ≡ true = search rules in
+    let infer : c.args.infer_last ≡ true = c.if-not-infer_last.false in
     let wide : g.P.WholeNumber.whole c.rows.room + 1 ≡ 2 ^ g.P.WholeNumber.BITS = search rules in
     rw infer (bad-wide_last g.Symbols.Iterator.next_gives _ g.Weights.Iterator.next_gives _ g.Stored.TakesRows.symbol_eq
     g.met.Stored.TakesRows.equality_law g.Stored.TakesRows.holds g.P.WholeNumber.whole g.P.WholeNumber.BITS g.row.PRECISION
@@ -229,7 +239,7 @@ next-requires-2 g c = c.rows.invariant.2
 
 pub returns-in_default-next-5-clause-invalid : goal.returns-in_default-next-5-clause-invalid
 returns-in_default-next-5-clause-invalid g c = λ _.
-    let infer : c.args.infer_last ≡ true = search rules in
+    let infer : c.args.infer_last ≡ true = c.if-not-infer_last.false in
     rw infer (bad-few_last g.Symbols.Iterator.next_gives _ g.Weights.Iterator.next_gives _ g.Stored.TakesRows.symbol_eq
     g.met.Stored.TakesRows.equality_law g.Stored.TakesRows.holds g.P.WholeNumber.whole g.P.WholeNumber.BITS g.row.PRECISION
     c.rows.stored c.rows.symbols c.rows.weights c.rows.left (g.P.WholeNumber.whole c.rows.room) c.rows.invariant.4 _ _
@@ -260,7 +270,7 @@ returns-in_err-take_row-3-clause-invalid g c = λ h.
 
 pub returns-in-Some-next-6-clause-invalid : goal.returns-in-Some-next-6-clause-invalid
 returns-in-Some-next-6-clause-invalid g c = λ _.
-    let infer : c.args.infer_last ≡ true = search rules in
+    let infer : c.args.infer_last ≡ true = c.if-not-infer_last.false in
     rw infer (bad-many_last g.Symbols.Iterator.next_gives _ g.Weights.Iterator.next_gives _ g.Stored.TakesRows.symbol_eq
     g.met.Stored.TakesRows.equality_law g.Stored.TakesRows.holds g.P.WholeNumber.whole g.P.WholeNumber.BITS g.row.PRECISION
     c.rows.stored c.rows.symbols c.rows.weights c.rows.left (g.P.WholeNumber.whole c.rows.room) c.rows.invariant.4 _ _ _
@@ -271,7 +281,7 @@ pub returns-clause-ok : goal.returns-clause-ok
 returns-clause-ok g c =
     let whole = g.P.WholeNumber.whole in
     let read = c.rows.invariant.4 in
-    let infer : c.args.infer_last ≡ true = search rules in
+    let infer : c.args.infer_last ≡ true = c.if-not-infer_last.false in
     let one : whole c.greatest-one.result ≡ 1 = omega (arith, c.greatest-one.ensures.value) in
     let narrow : 2 ^ g.row.PRECISION < 2 ^ g.P.WholeNumber.BITS + whole c.rows.left =
     elim (cases_lt (2 ^ g.row.PRECISION) (2 ^ g.P.WholeNumber.BITS + whole c.rows.left)) [

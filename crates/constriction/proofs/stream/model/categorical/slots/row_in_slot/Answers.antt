@@ -1,7 +1,18 @@
 use Rattle.std.proofs.Common.{ℕ, ◌/◌, map, arith}
+use Rattle.std.proofs.lemmas.List.{length-map}
 use Rattle.constriction.specs.Slots.{slot_width}
-use Rattle.constriction.proofs.SlotLemmas.{slot-from, slot-to, slot-part, part-found, part-searchable}
+use Rattle.constriction.proofs.SlotLemmas.{slot-from, slot-to, slot-order, slot-part, part-found, part-searchable}
 use Rattle.constriction.proofs.stream.model.categorical.slots.row_in_slot.Goals as goal
+
+pub probe_of-rows-requires-clause-order : goal.probe_of-rows-requires-clause-order
+probe_of-rows-requires-clause-order g c =
+    let lefts = map g.Kind.CdfEntry.cumulative c.args.entries.now in
+    let width : ℕ = slot_width g.row.PRECISION in
+    slot-order lefts width (g.Kind.Word.WholeNumber.whole c.args.quantile / width) _ _ c.rows_of_slot-first.ensures
+
+pub probe_of-rows-requires-clause-within : goal.probe_of-rows-requires-clause-within
+probe_of-rows-requires-clause-within g c =
+    omega (arith, c.rows_of_slot-first.ensures.to.in_bounds, length-map c.args.entries.now g.Kind.CdfEntry.cumulative)
 
 pub row_of_quantile-requires : goal.row_of_quantile-requires
 row_of_quantile-requires g c =

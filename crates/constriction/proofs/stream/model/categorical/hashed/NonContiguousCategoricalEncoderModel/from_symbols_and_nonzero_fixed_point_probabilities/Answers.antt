@@ -1,4 +1,7 @@
-use Rattle.std.proofs.Common.{map, ap, ◌∙◌}
+use Rattle.std.proofs.Common.{◌≡◌, map, ap, Err, rules, ◌∙◌}
+use Rattle.constriction.specs.declared.stream.model.error.ModelError.TheVariants.{InvalidTable}
+use Rattle.std.specs.Option.{option_map}
+use Rattle.std.specs.Map.{lookup}
 use Rattle.std.specs.HashMap.{get}
 use Rattle.std.specs.Set.{distinct_count}
 use Rattle.std.proofs.lemmas.Map.Made.{distinct_count-from_IsDistinct}
@@ -54,4 +57,35 @@ returns-clause-ok g c =
               ∙ distinct_count-from_IsDistinct laws given.0 good.0.distinct,
         ),
       ),
+    )
+
+pub rows_read-requires-clause-none : goal.rows_read-requires-clause-none
+rows_read-requires-clause-none g c = (
+  c.table_for-room.ensures.unique,
+  λ s. ap (option_map (λ e. (g.Probability.BitArray.whole e.left, g.Probability.BitArray.whole (g.Probability.NonZero.NonZeroBitArray.base e.weight))))
+      (ap (lookup (g.Symbol.PartialEq.eq s)) c.table_for-room.ensures.empty),
+)
+
+pub rows_read-requires-clause-symbols_go : goal.rows_read-requires-clause-symbols_go
+rows_read-requires-clause-symbols_go g c =
+    (c.requires.symbols_end c.into_iter-symbols.result c.into_iter-symbols.ensures.into_iter_gives).0
+
+pub rows_read-requires-clause-symbols_end : goal.rows_read-requires-clause-symbols_end
+rows_read-requires-clause-symbols_end g c =
+    (c.requires.symbols_end c.into_iter-symbols.result c.into_iter-symbols.ensures.into_iter_gives).1
+
+pub rows_read-requires-clause-weights_go : goal.rows_read-requires-clause-weights_go
+rows_read-requires-clause-weights_go g c = (c.requires.probabilities_end c.into_iter.result c.into_iter.ensures.into_iter_gives).0
+
+pub rows_read-requires-clause-weights_end : goal.rows_read-requires-clause-weights_end
+rows_read-requires-clause-weights_end g c = (c.requires.probabilities_end c.into_iter.result c.into_iter.ensures.into_iter_gives).1
+
+pub returns-in_err-table-clause-invalid : goal.returns-in_err-table-clause-invalid
+returns-in_err-table-clause-invalid g c = λ h.
+    let e : c.rows_read.result ≡ Err InvalidTable = search rules in (
+      c.into_iter-symbols.result,
+      c.into_iter-symbols.ensures.into_iter_gives,
+      c.into_iter.result,
+      c.into_iter.ensures.into_iter_gives,
+      c.rows_read.ensures.invalid e,
     )

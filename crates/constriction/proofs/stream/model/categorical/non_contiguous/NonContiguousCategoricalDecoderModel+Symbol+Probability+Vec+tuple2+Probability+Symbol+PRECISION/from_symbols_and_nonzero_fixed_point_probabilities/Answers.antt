@@ -1,4 +1,5 @@
-use Rattle.std.proofs.Common.{map}
+use Rattle.std.proofs.Common.{◌≡◌, map, Err, refl, rules}
+use Rattle.constriction.specs.declared.stream.model.error.ModelError.TheVariants.{InvalidTable}
 use Rattle.constriction.specs.Acceptance.{completed}
 use Rattle.constriction.specs.Rows.{rows_of}
 use Rattle.constriction.proofs.PairedLemmas.{paired-of_rows, accepted-tile, paired-distinct}
@@ -34,4 +35,31 @@ returns-clause-ok g c =
       c.into_iter.result,
       c.into_iter.ensures.into_iter_gives,
       (given.0, given.1, given.2, given.3, (good.0, rows.1)),
+    )
+
+pub rows_read-requires-clause-none : goal.rows_read-requires-clause-none
+rows_read-requires-clause-none g c = rw c.room_for-room.ensures (refl, refl)
+
+pub rows_read-requires-clause-symbols_go : goal.rows_read-requires-clause-symbols_go
+rows_read-requires-clause-symbols_go g c =
+    (c.requires.symbols_end c.into_iter-symbols.result c.into_iter-symbols.ensures.into_iter_gives).0
+
+pub rows_read-requires-clause-symbols_end : goal.rows_read-requires-clause-symbols_end
+rows_read-requires-clause-symbols_end g c =
+    (c.requires.symbols_end c.into_iter-symbols.result c.into_iter-symbols.ensures.into_iter_gives).1
+
+pub rows_read-requires-clause-weights_go : goal.rows_read-requires-clause-weights_go
+rows_read-requires-clause-weights_go g c = (c.requires.probabilities_end c.into_iter.result c.into_iter.ensures.into_iter_gives).0
+
+pub rows_read-requires-clause-weights_end : goal.rows_read-requires-clause-weights_end
+rows_read-requires-clause-weights_end g c = (c.requires.probabilities_end c.into_iter.result c.into_iter.ensures.into_iter_gives).1
+
+pub returns-in_err-cdf-clause-invalid : goal.returns-in_err-cdf-clause-invalid
+returns-in_err-cdf-clause-invalid g c = λ h.
+    let e : c.rows_read.result ≡ Err InvalidTable = search rules in (
+      c.into_iter-symbols.result,
+      c.into_iter-symbols.ensures.into_iter_gives,
+      c.into_iter.result,
+      c.into_iter.ensures.into_iter_gives,
+      c.rows_read.ensures.invalid e,
     )
