@@ -313,7 +313,7 @@ fn a_cursor_over_a_boxed_slice(rt: HostRuntime) {
 
 /// A copy asks for memory once. Where that is refused, the cursor is as it was.
 #[test]
-fn a_refused_copy_leaves_the_cursor(rt: HostRuntime) {
+fn a_refusal_of_memory_leaves_the_cursor_that_is_copied(rt: HostRuntime) {
     let words = [10u8, 20, 30];
     let cursor = Cursor::<u8, _>::new_at_write_end(words.as_slice());
     match cursor.cloned(rt.alloc()) {

@@ -147,9 +147,9 @@ fn holds_all_or_two(rt: &impl Abort, words: &Two, answer: Result<(), AllocError>
     }
 }
 
-/// It asks for memory once. `rt try --test --fail-alloc 1` refuses that: the first two words stay.
+/// It asks for memory once. Where that is refused, the first two words stay.
 #[test]
-fn words_within_the_value_need_no_memory(rt: HostRuntime) {
+fn a_refusal_of_memory_leaves_words_within_the_value(rt: HostRuntime) {
     let mut words: Two = SmallVec::new(rt.alloc());
     same(&rt, pushed(&mut words, 1), Ok(()));
     same(&rt, pushed(&mut words, 2), Ok(()));
@@ -159,7 +159,7 @@ fn words_within_the_value_need_no_memory(rt: HostRuntime) {
 
 /// It asks for memory once, as above, within a call that has written two words by then.
 #[test]
-fn refused_memory_keeps_the_words_before(rt: HostRuntime) {
+fn a_refusal_of_memory_keeps_the_words_before(rt: HostRuntime) {
     let mut words: Two = SmallVec::new(rt.alloc());
     let answer = extended(&mut words, &[1, 2, 3, 4]);
     holds_all_or_two(&rt, &words, answer);
@@ -181,7 +181,7 @@ fn vec_extended(words: &mut Vec<u8>, more: &[u8]) -> Result<(), AllocError> {
 /// Nine words make a `Vec` and a `SmallVec` grow more than once. Whichever growth is refused, the
 /// words before the refused one stand.
 #[test]
-fn each_refused_growth_keeps_the_words_before(rt: HostRuntime) {
+fn each_refusal_of_memory_keeps_the_words_before(rt: HostRuntime) {
     let mut vec = Vec::new(rt.alloc());
     let answer = vec_extended(&mut vec, &NINE);
     holds_a_beginning(&rt, vec.as_slice(), answer);

@@ -290,7 +290,7 @@ fn a_refused_clone_refuses_a_chain(rt: HostRuntime) {
     }
 }
 
-/// `rt try --test --fail-alloc N` refuses the Nth request for memory: the form is then given up.
+/// Whichever request for memory is refused, the form is then given up.
 #[test]
 fn a_refusal_of_memory_gives_up_the_form(rt: HostRuntime) {
     for (name, steps, tables) in CHAINS {

@@ -315,7 +315,7 @@ fn a_cursor_and_its_reversal_are_run_one_after_the_other(rt: HostRuntime) {
 /// Calls that move a cursor over 10, 20, 30 to 1 and overwrite a word, if memory is there.
 const CHANGES: [CursorCall<u8>; 2] = [CursorCall::Seek(0), CursorCall::Write(7)];
 
-/// `rt try --test --fail-alloc 1` refuses the replies: nothing was run.
+/// Where the replies are refused, nothing was run.
 #[test]
 fn a_refusal_of_memory_leaves_a_cursor(rt: HostRuntime) {
     let mut words = [10u8, 20, 30];

@@ -175,7 +175,7 @@ fn a_refused_clone_refuses_the_replies(rt: HostRuntime) {
     same(&rt, refused, Some(AllocError));
 }
 
-/// `rt try --test --fail-alloc N` refuses the Nth request for memory: both models are as before.
+/// Whichever request for memory is refused, both models are as before.
 #[test]
 fn a_refusal_of_memory_leaves_both_models(rt: HostRuntime) {
     let Ok(form) = decoder::<6>(rt.alloc(), &SYMBOLS, &WEIGHTS, false) else {

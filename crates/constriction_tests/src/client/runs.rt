@@ -349,7 +349,7 @@ fn is_beginning(rt: &impl Abort, room: &[u8], text: &[u8]) {
 }
 
 /// The whole text, or the answers before a refusal of memory, each of them whole:
-/// `rt try --test --fail-alloc N` refuses each request in turn.
+/// Whichever request is refused, the answers before it are written.
 #[test]
 fn answers_before_a_refusal_of_memory_are_written(rt: HostRuntime) {
     let mut room = [0u8; 29];

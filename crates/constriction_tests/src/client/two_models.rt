@@ -231,7 +231,7 @@ fn a_cursor_keeps_the_words_before_a_refusal(rt: HostRuntime) -> Result<(), Fail
     Ok(())
 }
 
-/// `rt try --test --fail-alloc N` makes each growth fail in turn: the words of all items stand then.
+/// Whichever request is refused, the words of all items stand then.
 #[test]
 fn a_refusal_of_memory_leaves_the_words_in_a_cursor(rt: HostRuntime) {
     let Ok(model) = model(rt.alloc()) else {

@@ -1,5 +1,5 @@
 //! What the calls that make lookup models answer where memory is refused: a model, or `OutOfMemory`.
-//! `rt try --test --fail-alloc N` refuses the Nth request.
+//! `tools/refused-memory` refuses each request in turn.
 
 use crate::checks::same;
 use crate::models::any_symbols::{ROWS, SYMBOLS, WEIGHTS, decoder, decodes};

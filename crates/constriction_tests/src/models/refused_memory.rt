@@ -1,5 +1,5 @@
 //! What the calls that make searching models answer where memory is refused: a model, or
-//! `OutOfMemory`. `rt try --test --fail-alloc N` refuses the Nth request.
+//! `OutOfMemory`. `tools/refused-memory` refuses each request in turn.
 
 use crate::checks::same;
 use crate::models::any_symbols::{
