@@ -1,8 +1,8 @@
 //! A message there and back, where each fault is handed on.
 
 use crate::checks::same;
-use constriction::{CoderError, Stack};
 use constriction::stream::model::{ContiguousCategoricalEntropyModel, ModelError};
+use constriction::{CoderError, Stack};
 use constriction_client::{QuantileFault, ReadFault, read_symbols, write_quantiles};
 use std::alloc::{AllocError, Global};
 use std::convert::Infallible;

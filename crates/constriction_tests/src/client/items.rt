@@ -238,8 +238,7 @@ fn wrote_all_or_was_refused(rt: &impl Abort, written: Written, words: &[u8]) {
     same(rt, QUANTILES.starts_with(words), true);
 }
 
-/// An answer, or the refusal of memory and what it leaves: `rt try --test --fail-alloc N` makes each
-/// growth fail in turn.
+/// An answer, or the refusal of memory and what it leaves, whichever growth is refused.
 #[test]
 fn a_refusal_of_memory_ends_what_is_written(rt: HostRuntime) {
     let Ok(model) = table::<6>(rt.alloc(), &WEIGHTS, false) else {
