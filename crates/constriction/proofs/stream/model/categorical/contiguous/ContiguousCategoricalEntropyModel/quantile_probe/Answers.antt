@@ -1,4 +1,4 @@
-use Rattle.std.proofs.Common.{◌∙◌, map}
+use Rattle.std.proofs.Common.{map}
 use Rattle.constriction.proofs.TileLemmas.{table-probed}
 use Rattle.constriction.proofs.stream.model.categorical.contiguous.ContiguousCategoricalEntropyModel.quantile_probe.Goals as goal
 
@@ -6,11 +6,11 @@ pub returns : goal.returns
 returns g c =
     let whole = g.Probability.BitArray.whole in
     let table = map whole (g.Cdf.SafeBuf.words_of c.args.self.now.cdf) in
-    let probed = table-probed g.Probability.BitArray.BITS g.row.PRECISION table _ c.args.self.now.stored
-    (c.new.ensures.cumulatives ∙ c.cdf_entries.ensures) in
+    let probed = table-probed g.Probability.BitArray.BITS g.row.PRECISION table (map whole c.cdf_entries.result.now)
+    c.args.self.now.stored c.cdf_entries.ensures in
     record {
-      rows = probed.0;
-      searchable = probed.1 (whole c.args.quantile);
+      rows = rw c.new.ensures.cumulatives probed.0;
+      searchable = rw c.new.ensures.cumulatives (probed.1 (whole c.args.quantile));
       fresh = c.new.ensures.fresh;
-      found = λ i f. probed.2 (whole c.args.quantile) i c.requires f;
+      found = rw c.new.ensures.cumulatives (λ i f. probed.2 (whole c.args.quantile) i c.requires f);
     }

@@ -1,4 +1,4 @@
-use Rattle.std.proofs.Common.{true, ◌+◌, ◌<◌, length, map, refl, ◌∙◌, arith}
+use Rattle.std.proofs.Common.{true, ◌+◌, ◌<◌, length, map, refl, arith}
 use Rattle.std.proofs.lemmas.List.{length-map}
 use Rattle.constriction.specs.Model.{row_of}
 use Rattle.constriction.proofs.TileLemmas.{table-index, table-probed}
@@ -8,16 +8,17 @@ pub row_of_quantile-index-requires-clause-searchable : goal.row_of_quantile-inde
 row_of_quantile-index-requires-clause-searchable g c =
     let whole = g.Probability.BitArray.whole in
     let table = map whole (g.Cdf.SafeBuf.words_of c.args.self.now.cdf) in
-    (table-probed g.Probability.BitArray.BITS g.row.PRECISION table _ c.args.self.now.stored
-    (c.new-rows.ensures.cumulatives ∙ c.cdf_entries.ensures)).1 (whole c.args.quantile)
+    rw c.new-rows.ensures.cumulatives
+    ((table-probed g.Probability.BitArray.BITS g.row.PRECISION table (map whole c.cdf_entries.result.now) c.args.self.now.stored
+    c.cdf_entries.ensures).1 (whole c.args.quantile))
 
 pub contiguous_row_at-requires-clause-in_bounds : goal.contiguous_row_at-requires-clause-in_bounds
 contiguous_row_at-requires-clause-in_bounds g c =
     let whole = g.Probability.BitArray.whole in
     let words = g.Cdf.SafeBuf.words_of c.args.self.now.cdf in
-    let found = table-index g.Probability.BitArray.BITS g.row.PRECISION (map whole words) _ c.args.self.now.stored
-    (c.new-rows.ensures.cumulatives ∙ c.cdf_entries.ensures) (whole c.args.quantile) c.row_of_quantile-index.result c.requires.in_range
-    c.row_of_quantile-index.ensures.found in
+    let found = table-index g.Probability.BitArray.BITS g.row.PRECISION (map whole words) (map whole c.cdf_entries.result.now)
+    c.args.self.now.stored c.cdf_entries.ensures (whole c.args.quantile) c.row_of_quantile-index.result c.requires.in_range
+    (rw c.new-rows.ensures.cumulatives at c.row_of_quantile-index.ensures.found) in
     let within : c.row_of_quantile-index.result + 1 < length words = omega (arith, found.1, length-map words whole) in
     rw c.words.ensures within
 
@@ -25,9 +26,9 @@ pub returns : goal.returns
 returns g c =
     let whole = g.Probability.BitArray.whole in
     let words = g.Cdf.SafeBuf.words_of c.args.self.now.cdf in
-    let found = table-index g.Probability.BitArray.BITS g.row.PRECISION (map whole words) _ c.args.self.now.stored
-    (c.new-rows.ensures.cumulatives ∙ c.cdf_entries.ensures) (whole c.args.quantile) c.row_of_quantile-index.result c.requires.in_range
-    c.row_of_quantile-index.ensures.found in
+    let found = table-index g.Probability.BitArray.BITS g.row.PRECISION (map whole words) (map whole c.cdf_entries.result.now)
+    c.args.self.now.stored c.cdf_entries.ensures (whole c.args.quantile) c.row_of_quantile-index.result c.requires.in_range
+    (rw c.new-rows.ensures.cumulatives at c.row_of_quantile-index.ensures.found) in
     record {
       row =
           rw (rw c.words.ensures at c.contiguous_row_at.ensures.row) at

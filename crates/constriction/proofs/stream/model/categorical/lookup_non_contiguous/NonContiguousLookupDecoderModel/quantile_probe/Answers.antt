@@ -21,7 +21,7 @@ returns g c =
     let stored = c.args.self.now.stored in
     let probed = slot-probed bits g.row.PRECISION (rows_paired whole g.row.PRECISION entries)
     (paired-tiles whole bits g.row.PRECISION entries stored) (whole c.args.quantile) c.slot_probe.result.0
-    (map (λ x. whole x.0) c.words.result.now) _
+    (map (λ x. whole x.0) c.words.result.now) (map (λ x. whole x.0) c.slot_probe.result.1.entries.now)
     (lent-lefts whole bits g.row.PRECISION entries stored c.words.result.now c.words.ensures)
     c.requires c.slot_probe.ensures.part in
     record { rows = probed.0; searchable = probed.1; fresh = c.slot_probe.ensures.fresh; found = probed.2 }
