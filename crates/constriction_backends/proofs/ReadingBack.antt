@@ -1,5 +1,5 @@
 -- What is read from a stack after a word was written to it.
-use Rattle.std.proofs.Common.{◌≡◌, List, [], ◌∷◌, ◌++◌, Option, Some, Result, Ok, Err, reverse}
+use Rattle.std.proofs.Common.{List, [], ◌∷◌, ◌++◌, Option, Result, Ok, Err, reverse}
 use Rattle.constriction_backends.specs.Sink.{WritesTold}
 use Rattle.constriction_backends.specs.Source.{ReadsTold}
 use Rattle.constriction_backends.specs.Stack.{ReadsWhatWasWritten}
