@@ -14,19 +14,17 @@ use Rattle.constriction.specs.declared.stream.model.error.ModelError.{ModelError
 use Rattle.constriction.specs.declared.stream.model.error.ModelError.TheVariants.{InvalidTable, OutOfMemory}
 
 -- where a table is not invalid, memory alone is wanting
-pub only-memory : {A : Type 0} (r : Result A ModelError) → (r ≡ Err InvalidTable → ⊥) → IfErr r (λ e. e ≡ OutOfMemory)
+pub memory-alone : (e : ModelError) → (e ≡ InvalidTable → ⊥) → e ≡ OutOfMemory
+memory-alone OutOfMemory h = refl
+memory-alone InvalidTable h = absurd (h refl)
+
+only-memory : {A : Type 0} (r : Result A ModelError) → (r ≡ Err InvalidTable → ⊥) → IfErr r (λ e. e ≡ OutOfMemory)
 only-memory (Ok x) h = tt
-only-memory (Err OutOfMemory) h = refl
-only-memory (Err InvalidTable) h = absurd (h refl)
+only-memory (Err e) h = memory-alone e (λ is. h (ap Err is))
 
 same-map : {A : Type 0} (xs : List A) → map (λ y. y) xs ≡ xs
 same-map [] = refl
 same-map (x ∷ xs) = ap (λ ys. x ∷ ys) (same-map xs)
-
--- the same, where the refusal is at hand
-pub memory-alone : (e : ModelError) → (e ≡ InvalidTable → ⊥) → e ≡ OutOfMemory
-memory-alone OutOfMemory h = refl
-memory-alone InvalidTable h = absurd (h refl)
 
 -- ---- an iterator that gives a list
 
