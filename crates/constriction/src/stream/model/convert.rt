@@ -11,7 +11,7 @@ use crate::stream::model::categorical::lookup_non_contiguous::NonContiguousLooku
 use crate::stream::model::categorical::non_contiguous::NonContiguousCategoricalDecoderModel;
 use crate::stream::model::categorical::walking::{entries_walked, table_walked};
 use crate::stream::model::error::ModelError;
-use crate::stream::model::traits::{EntropyModel, IterableEntropyModel, Weight};
+use crate::stream::model::traits::{EntropyModel, IterableEntropyModel};
 use constriction_words::{BitArray, IndexWord};
 use std::alloc::Global;
 use std::hash::Hash;
@@ -150,13 +150,7 @@ where
         ≡ M.rows model) × IsDistinct M.Symbol.eq (symbols_of (M.rows model))) }
     ensures invalid { result ≡ Err ModelError.InvalidTable → ¬ (IsDistinct M.Symbol.eq (symbols_of (M.rows model))) }
 {
-    let cdf = entries_walked::<
-        M::Symbol,
-        M::Probability,
-        Weight<M::Probability>,
-        M::SymbolTable,
-        PRECISION,
-    >(alloc, model.symbol_table())?;
+    let cdf = entries_walked::<_, _, _, _, PRECISION>(alloc, model.symbol_table())?;
     Ok(NonContiguousCategoricalDecoderModel {
         cdf,
         entries: PhantomData,
@@ -221,12 +215,6 @@ where
         ≡ distinct_count M.Symbol.eq (symbols_of (M.rows model))) }
     ensures refused { IfErr result (λ e. e ≡ ModelError.OutOfMemory) }
 {
-    let table = table_walked::<
-        M::Symbol,
-        M::Probability,
-        Weight<M::Probability>,
-        M::SymbolTable,
-        PRECISION,
-    >(alloc, model.symbol_table())?;
+    let table = table_walked::<_, _, _, _, PRECISION>(alloc, model.symbol_table())?;
     Ok(NonContiguousCategoricalEncoderModel { table })
 }
