@@ -5,6 +5,7 @@ ghost use Rattle.std.specs.Int.{FitsUnsignedBits};
 ghost use Rattle.num_traits.specs.Laws.{bit_len};
 ghost use Rattle.std.specs.Ordering.{partial_lt, partial_le};
 
+use crate::whole_number::WholeNumber;
 use num_traits::{FixedWidth, PrimInt};
 use std::default::Default;
 use std::fmt::{Debug, Display};
@@ -51,98 +52,94 @@ pub trait NonZeroBitArray: Copy + Display + Debug + Eq + Hash {
 ///
 /// It is implemented for `u8`, `u16`, `u32`, `u64`, `usize` (64 bits) and `u128`. A type of the
 /// caller's own may implement it too.
-pub trait BitArray: PrimInt + Default + Copy + Display + Debug + Eq + Hash {
-    /// How many bits a word has.
-    const BITS: usize;
-
-    ghost BITS: { ℕ };
-
-    /// The words that are not 0.
-    type NonZero: NonZeroBitArray<Base = Self>;
-
-    // The whole number that a word stands for.
-    ghost whole: { Self → ℕ };
-
+pub trait BitArray: WholeNumber<NonZero: NonZeroBitArray<Base = Self>>
+    + PrimInt
+    + Default
+    + Copy
+    + Display
+    + Debug
+    + Eq
+    + Hash {
     /// The word where it is not 0.
     fn into_nonzero(self) -> Option<Self::NonZero>
-        ensures none { IsNone result ↔ (whole self ≡ 0) }
+        ensures none { IsNone result ↔ (Self.whole self ≡ 0) }
         ensures some { IfSome result (λ x. Self.NonZero.base x ≡ self) }
-        ensures range { whole self < 2 ^ BITS };
+        ensures range { Self.whole self < 2 ^ Self.BITS };
 
     /// The word, of which the caller knows that it is not 0.
     fn into_nonzero_unchecked(self) -> Self::NonZero
-        requires { whole self ≢ 0 }
+        requires { Self.whole self ≢ 0 }
         ensures { Self.NonZero.base result ≡ self };
 
     /// The sum, modulo `2^BITS`.
     fn wrapping_add(&self, v: &Self) -> Self
-        ensures { whole result ≡ (whole self.now + whole v.now) % 2 ^ BITS };
+        ensures { Self.whole result ≡ (Self.whole self.now + Self.whole v.now) % 2 ^ Self.BITS };
 
     /// The difference, modulo `2^BITS`.
     fn wrapping_sub(&self, v: &Self) -> Self
-        ensures range { whole result < 2 ^ BITS }
-        ensures difference { (whole result + whole v.now) % 2 ^ BITS ≡ whole self.now };
+        ensures range { Self.whole result < 2 ^ Self.BITS }
+        ensures difference { (Self.whole result + Self.whole v.now) % 2 ^ Self.BITS ≡ Self.whole self.now };
 
     /// The product, modulo `2^BITS`.
     fn wrapping_mul(&self, v: &Self) -> Self
-        ensures { whole result ≡ (whole self.now * whole v.now) % 2 ^ BITS };
+        ensures { Self.whole result ≡ (Self.whole self.now * Self.whole v.now) % 2 ^ Self.BITS };
 
     // The number of a word is its value.
-    ghost value_law: { (x : Self) → Self.value x ≡ pos (whole x) };
+    ghost value_law: { (x : Self) → Self.value x ≡ pos (Self.whole x) };
 
     // Words have the whole numbers below `2^BITS`, and no other number.
-    ghost fits_law: { (z : ℤ) → Self.fits z ↔ FitsUnsignedBits BITS z };
+    ghost fits_law: { (z : ℤ) → Self.fits z ↔ FitsUnsignedBits Self.BITS z };
 
-    ghost width_law: { (BITS ≡ bit_len Self.width) × (BITS ≤ 128) };
+    ghost width_law: { (Self.BITS ≡ bit_len Self.width) × (Self.BITS ≤ 128) };
 
-    // Two words of one number are one word.
-    ghost same_law: { (a b : Self) → whole a ≡ whole b → a ≡ b };
+    // What a word that is not 0 holds is the word that it is as a weight.
+    ghost base_law: { (x : Self.NonZero) → Self.NonZero.base x ≡ Self.base x };
 
     // Comparisons are those of the numbers.
-    ghost eq_law: { (a b : Self) → IsTrue (Self.eq a b) ↔ (whole a ≡ whole b) };
+    ghost eq_law: { (a b : Self) → IsTrue (Self.eq a b) ↔ (Self.whole a ≡ Self.whole b) };
 
-    ghost lt_law: { (a b : Self) → IsTrue (partial_lt Self.partial_cmp a b) ↔ (whole a < whole b) };
+    ghost lt_law: { (a b : Self) → IsTrue (partial_lt Self.partial_cmp a b) ↔ (Self.whole a < Self.whole b) };
 
-    ghost le_law: { (a b : Self) → IsTrue (partial_le Self.partial_cmp a b) ↔ (whole a ≤ whole b) };
+    ghost le_law: { (a b : Self) → IsTrue (partial_le Self.partial_cmp a b) ↔ (Self.whole a ≤ Self.whole b) };
 
     // The words 0, 1 and the greatest one, and the default word.
-    ghost zero_law: { whole Self.zero ≡ 0 };
+    ghost zero_law: { Self.whole Self.zero ≡ 0 };
 
-    ghost one_law: { whole Self.one ≡ 1 };
+    ghost one_law: { Self.whole Self.one ≡ 1 };
 
-    ghost highest_law: { whole Self.highest ≡ 2 ^ BITS - 1 };
+    ghost highest_law: { Self.whole Self.highest ≡ 2 ^ Self.BITS - 1 };
 
-    ghost default_law: { (x : Self) → Self.is_default x → whole x ≡ 0 };
+    ghost default_law: { (x : Self) → Self.is_default x → Self.whole x ≡ 0 };
 
     // Each operation may be used where the exact number fits, and gives that number. Two laws each, since a proof search takes a law
     // for what it concludes.
-    ghost can_add_law: { (a b : Self) → whole a + whole b < 2 ^ BITS → Self.can_add a b };
+    ghost can_add_law: { (a b : Self) → Self.whole a + Self.whole b < 2 ^ Self.BITS → Self.can_add a b };
 
-    ghost add_law: { (a b r : Self) → Self.add_gives a b r → whole r ≡ whole a + whole b };
+    ghost add_law: { (a b r : Self) → Self.add_gives a b r → Self.whole r ≡ Self.whole a + Self.whole b };
 
-    ghost can_sub_law: { (a b : Self) → whole b ≤ whole a → Self.can_sub a b };
+    ghost can_sub_law: { (a b : Self) → Self.whole b ≤ Self.whole a → Self.can_sub a b };
 
-    ghost sub_law: { (a b r : Self) → Self.sub_gives a b r → whole r ≡ whole a - whole b };
+    ghost sub_law: { (a b r : Self) → Self.sub_gives a b r → Self.whole r ≡ Self.whole a - Self.whole b };
 
-    ghost can_mul_law: { (a b : Self) → whole a * whole b < 2 ^ BITS → Self.can_mul a b };
+    ghost can_mul_law: { (a b : Self) → Self.whole a * Self.whole b < 2 ^ Self.BITS → Self.can_mul a b };
 
-    ghost mul_law: { (a b r : Self) → Self.mul_gives a b r → whole r ≡ whole a * whole b };
+    ghost mul_law: { (a b r : Self) → Self.mul_gives a b r → Self.whole r ≡ Self.whole a * Self.whole b };
 
-    ghost can_div_law: { (a b : Self) → 0 < whole b → Self.can_div a b };
+    ghost can_div_law: { (a b : Self) → 0 < Self.whole b → Self.can_div a b };
 
-    ghost div_law: { (a b r : Self) → Self.div_gives a b r → whole r ≡ whole a / whole b };
+    ghost div_law: { (a b r : Self) → Self.div_gives a b r → Self.whole r ≡ Self.whole a / Self.whole b };
 
-    ghost can_rem_law: { (a b : Self) → 0 < whole b → Self.can_rem a b };
+    ghost can_rem_law: { (a b : Self) → 0 < Self.whole b → Self.can_rem a b };
 
-    ghost rem_law: { (a b r : Self) → Self.rem_gives a b r → whole r ≡ whole a % whole b };
+    ghost rem_law: { (a b r : Self) → Self.rem_gives a b r → Self.whole r ≡ Self.whole a % Self.whole b };
 
-    ghost can_shl_law: { (a : Self) (n : ℕ) → n < BITS → Self.can_shl a n };
+    ghost can_shl_law: { (a : Self) (n : ℕ) → n < Self.BITS → Self.can_shl a n };
 
     ghost shl_law: { (a : Self) (n : ℕ) (r : Self) → Self.shl_gives a n r
-        → whole r ≡ (whole a * 2 ^ n) % 2 ^ BITS };
+        → Self.whole r ≡ (Self.whole a * 2 ^ n) % 2 ^ Self.BITS };
 
-    ghost can_shr_law: { (a : Self) (n : ℕ) → n < BITS → Self.can_shr a n };
+    ghost can_shr_law: { (a : Self) (n : ℕ) → n < Self.BITS → Self.can_shr a n };
 
     ghost shr_law: { (a : Self) (n : ℕ) (r : Self) → Self.shr_gives a n r
-        → whole r ≡ whole a / 2 ^ n };
+        → Self.whole r ≡ Self.whole a / 2 ^ n };
 }

@@ -2,12 +2,12 @@
 
 ghost use Rattle.std.specs.Prelude.{◌≡◌, ◌<◌, ◌^◌};
 
-use crate::bit_array::BitArray;
+use crate::whole_number::WholeNumber;
 
-/// A word whose numbers are indices: each of them is a `usize`.
+/// A word whose numbers are indices: each of them is a `usize`. Lookup models are over these.
 ///
 /// Tables of row indices, which hold words to be small, are read and written by it.
-pub trait IndexWord: BitArray {
+pub trait IndexWord: WholeNumber {
     /// The number of the word, as an index.
     fn to_index(self) -> usize
         ensures { result ≡ Self.whole self };
