@@ -9,14 +9,14 @@ use crate::stream::model::{
     NonContiguousCategoricalDecoderModel, NonContiguousLookupDecoderModel,
 };
 use constriction_backends::SafeBuf;
-use constriction_words::{BitArray, IndexWord};
+use constriction_words::{IndexWord, WholeNumber};
 
 /// Steps of a symbol table give the first of the rows that it has yet to give, in order, and leave
 /// the others. Where memory for a clone of a symbol is refused, the refusal stands in the row's
 /// place.
 pub fn table_walks_rows<M: IterableEntropyModel<PRECISION>, const PRECISION: usize>()
     requires clones { M.clones_are_same }
-    ensures { WalksRows M.Probability.whole M.Probability.NonZero.base M.may_refuse
+    ensures { WalksRows M.Probability.whole M.Probability.base M.may_refuse
         M.SymbolTable.next_gives M.rows_left }
 {}
 
@@ -25,7 +25,7 @@ pub fn table_walks_rows<M: IterableEntropyModel<PRECISION>, const PRECISION: usi
 /// where no item is a refusal nothing else.
 pub fn table_gives_all_rows<M: IterableEntropyModel<PRECISION>, const PRECISION: usize>()
     requires clones { M.clones_are_same }
-    ensures { GivesAllRows M.Probability.whole M.Probability.NonZero.base M.may_refuse
+    ensures { GivesAllRows M.Probability.whole M.Probability.base M.may_refuse
         M.SymbolTable.next_gives M.rows_left }
 {}
 
@@ -49,7 +49,7 @@ pub fn answers_are_in_table<M, const PRECISION: usize>()
 where
     M: DecoderModel<PRECISION> + IterableEntropyModel<PRECISION>,
     requires clones { M.IterableEntropyModel.clones_are_same }
-    ensures { AnswersAreInTable M.Probability.whole M.Probability.NonZero.base M.IterableEntropyModel.may_refuse
+    ensures { AnswersAreInTable M.Probability.whole M.Probability.base M.IterableEntropyModel.may_refuse
         M.SymbolTable.next_gives M.rows_left M.rows }
 {}
 
@@ -76,7 +76,7 @@ pub fn contiguous_symbols_differ()
 pub fn non_contiguous_symbols_differ<Symbol, Probability, Cdf, const PRECISION: usize>()
 where
     Symbol: Eq,
-    Probability: BitArray,
+    Probability: WholeNumber,
     Cdf: SafeBuf<(Probability, Symbol)>,
     ensures { SymbolsDiffer Symbol.eq
         ⟦<NonContiguousCategoricalDecoderModel<Symbol, Probability, Cdf, PRECISION> as EntropyModel<PRECISION>>⟧.rows }

@@ -3,6 +3,7 @@
 mod categorical;
 mod cdf_probe;
 mod convert;
+mod decodes_over;
 mod encodes_over;
 mod error;
 mod probe;
@@ -37,6 +38,7 @@ pub use crate::stream::model::convert::{
     FromIterableEntropyModel, to_generic_decoder_model, to_generic_encoder_model,
     to_generic_lookup_decoder_model,
 };
+pub use crate::stream::model::decodes_over::DecodesOver;
 pub use crate::stream::model::encodes_over::EncodesOver;
 pub use crate::stream::model::error::ModelError;
 pub use crate::stream::model::probe::Probe;

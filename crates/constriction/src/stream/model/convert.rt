@@ -12,7 +12,7 @@ use crate::stream::model::categorical::non_contiguous::NonContiguousCategoricalD
 use crate::stream::model::categorical::walking::{entries_walked, table_walked};
 use crate::stream::model::error::ModelError;
 use crate::stream::model::traits::{EntropyModel, IterableEntropyModel};
-use constriction_words::{BitArray, IndexWord};
+use constriction_words::IndexWord;
 use std::alloc::Global;
 use std::hash::Hash;
 use std::marker::PhantomData;

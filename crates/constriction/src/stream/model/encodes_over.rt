@@ -6,13 +6,15 @@ ghost use Rattle.constriction.specs.Model.{entry_in, LiesWithin};
 ghost use Rattle.constriction.specs.Rows.{Row, entry_of};
 
 use crate::stream::model::traits::{EncoderModel, Weight};
-use constriction_words::BitArray;
+use constriction_words::WholeNumber;
 
 /// An encoder over these symbols and words. Each [`EncoderModel`] is one over its own.
 ///
 /// Where a function takes a decoder `D` and an encoder of the same symbols and words, its bound is
-/// `E: EncodesOver<D::Symbol, D::Probability, PRECISION>`.
-pub trait EncodesOver<Symbol, Word: BitArray, const PRECISION: usize> {
+/// `E: EncodesOver<D::Symbol, D::Probability, PRECISION>`; where it takes both over words of its own, it is
+/// `E: EncodesOver<Symbol, Word, PRECISION>` beside a
+/// [`DecodesOver`](crate::stream::model::decodes_over::DecodesOver).
+pub trait EncodesOver<Symbol, Word: WholeNumber, const PRECISION: usize> {
     // Whether two symbols are equal, by their type's own equality.
     ghost symbol_eq: { Symbol → Symbol → Bool };
 
@@ -21,7 +23,7 @@ pub trait EncodesOver<Symbol, Word: BitArray, const PRECISION: usize> {
 
     /// The entry of a symbol, as [`EncoderModel::left_cumulative_and_probability`] answers it.
     fn entry(&self, symbol: &Symbol) -> Option<(Word, Weight<Word>)>
-        ensures { option_map (entry_in Word.whole Word.NonZero.base) result
+        ensures { option_map (entry_in Word.whole Word.base) result
             ≡ entry_of symbol_eq (rows self.now) symbol.now };
 
     // Each symbol is equal to itself.

@@ -7,22 +7,23 @@ ghost use Rattle.constriction.specs.Rows.{Row, RowsTile, IsRowOf, entry_of};
 ghost use Rattle.constriction.specs.Model.{row_of, entry_in, LiesWithin};
 ghost use Rattle.constriction.specs.Tables.{YieldsRow};
 
-use constriction_words::BitArray;
+use constriction_words::WholeNumber;
 use std::alloc::AllocError;
 
 /// What weights are in the answers of a model over the words `P`: words that are not 0.
-pub type Weight<P> = <P as BitArray>::NonZero;
+pub type Weight<P> = <P as WholeNumber>::NonZero;
 
 /// An entropy model in fixed-point arithmetic: a list of rows, each of which gives a symbol an
 /// interval of the quantiles `0..2^PRECISION`.
 ///
-/// `PRECISION` is at least 1 and at most [`BitArray::BITS`] of the words that quantiles are.
+/// `PRECISION` is at least 1 and at most the width of the words that quantiles are.
 pub trait EntropyModel<const PRECISION: usize> {
     /// What is coded.
     type Symbol;
 
-    /// The words that quantiles, left cumulatives and weights are.
-    type Probability: BitArray;
+    /// The words that quantiles, left cumulatives and weights are. Every
+    /// [`BitArray`](constriction_words::BitArray) will do.
+    type Probability: WholeNumber;
 
     // The rows of a model. Where several of the traits below hold of a type, all of them answer from these.
     ghost rows: { Self → List (Row Self.Symbol) };
@@ -39,7 +40,7 @@ pub trait EncoderModel<const PRECISION: usize>: EntropyModel<PRECISION> {
         &self,
         symbol: &Self::Symbol,
     ) -> Option<(Self::Probability, Weight<Self::Probability>)>
-        ensures { option_map (entry_in Self.Probability.whole Self.Probability.NonZero.base) result
+        ensures { option_map (entry_in Self.Probability.whole Self.Probability.base) result
             ≡ entry_of symbol_eq (Self.rows self.now) symbol.now };
 
     // Each symbol is equal to itself.
@@ -70,9 +71,9 @@ pub trait DecoderModel<const PRECISION: usize>: EntropyModel<PRECISION> {
         requires clones { clones_are_same }
         requires in_range { Self.Probability.whole quantile < 2 ^ PRECISION }
         ensures row { IfOk result (λ x. IsRowOf (Self.rows self.now) (Self.Probability.whole quantile)
-            (row_of Self.Probability.whole Self.Probability.NonZero.base x)) }
+            (row_of Self.Probability.whole Self.Probability.base x)) }
         ensures within { IfOk result (λ x. LiesWithin PRECISION
-            (row_of Self.Probability.whole Self.Probability.NonZero.base x)) }
+            (row_of Self.Probability.whole Self.Probability.base x)) }
         ensures refused { IfErr result (λ _. may_refuse) };
 
     // The rows tile the quantiles, so that each quantile has exactly one row.
@@ -109,7 +110,7 @@ pub trait IterableEntropyModel<const PRECISION: usize>: EntropyModel<PRECISION> 
     // Each step gives the first of the rows that are left, and nothing exactly where none is left.
     ghost steps_law: { clones_are_same → (t : Self.SymbolTable) (r : _) (u : Self.SymbolTable)
         → Self.SymbolTable.next_gives t r u
-        → YieldsRow Self.Probability.whole Self.Probability.NonZero.base may_refuse
+        → YieldsRow Self.Probability.whole Self.Probability.base may_refuse
         (rows_left t) r (rows_left u) };
 
     // The rows tile the quantiles, so that each quantile has exactly one row.

@@ -13,7 +13,7 @@ use crate::stream::model::traits::{
 };
 use crate::stream::model::uniform::symbol_table::UniformSymbolTable;
 use crate::stream::model::uniform::weights::{last_probability, probability_per_bin, symbol_of};
-use constriction_words::{BitArray, WholeNumber};
+use constriction_words::WholeNumber;
 use std::alloc::AllocError;
 
 pub mod symbol_table;
@@ -24,7 +24,7 @@ mod weights;
 ///
 /// It holds three words and finds a row by one division.
 #[derive(Debug, Drop)]
-pub struct UniformModel<Probability: BitArray, const PRECISION: usize> {
+pub struct UniformModel<Probability: WholeNumber, const PRECISION: usize> {
     last_symbol: Probability,
     probability_per_bin: Probability,
     last_probability: Probability,
@@ -43,9 +43,11 @@ pub type DefaultUniformModel = UniformModel<u32, 24>;
 /// The model over 12 bits of `u16`, for use beside small tables of symbols.
 pub type SmallUniformModel = UniformModel<u16, 12>;
 
-impl<Probability: BitArray, const PRECISION: usize> Copy for UniformModel<Probability, PRECISION> {}
+impl<Probability: WholeNumber, const PRECISION: usize> Copy
+    for UniformModel<Probability, PRECISION> {}
 
-impl<Probability: BitArray, const PRECISION: usize> Clone for UniformModel<Probability, PRECISION> {
+impl<Probability: WholeNumber, const PRECISION: usize> Clone
+    for UniformModel<Probability, PRECISION> {
     ghost is_clone = { λ x y. ⟦<UniformModel<Probability, PRECISION> as EntropyModel<PRECISION>>⟧.rows y
         ≡ ⟦<UniformModel<Probability, PRECISION> as EntropyModel<PRECISION>>⟧.rows x };
 
@@ -61,11 +63,11 @@ impl<Probability: BitArray, const PRECISION: usize> Clone for UniformModel<Proba
     }
 }
 
-impl<Probability: BitArray, const PRECISION: usize> UniformModel<Probability, PRECISION> {
+impl<Probability: WholeNumber, const PRECISION: usize> UniformModel<Probability, PRECISION> {
     /// The model of the symbols `0..range`. It takes no memory and always succeeds.
     ///
     /// `range` is at least 2, and at most `2^PRECISION` so that each symbol has a quantile. `PRECISION`
-    /// is at most 64 here, beside [`BitArray::BITS`]. One division.
+    /// is at most 64 here, beside the width of the word. One division.
     #[inline]
     pub fn new(range: usize) -> Self
         requires positive { 0 < PRECISION }
@@ -93,7 +95,7 @@ impl<Probability: BitArray, const PRECISION: usize> UniformModel<Probability, PR
         ensures left { Probability.whole result.0
             ≡ Probability.whole symbol * bin_of PRECISION (Probability.whole self.now.last_symbol) }
         ensures weight { IsWeight PRECISION (Probability.whole self.now.last_symbol)
-            (Probability.whole symbol) (Probability.whole (Probability.NonZero.base result.1)) }
+            (Probability.whole symbol) (Probability.whole (Probability.base result.1)) }
     {
         let left = symbol.times(self.probability_per_bin);
         let weight = if symbol.is_below(self.last_symbol) {
@@ -101,11 +103,11 @@ impl<Probability: BitArray, const PRECISION: usize> UniformModel<Probability, PR
         } else {
             self.last_probability
         };
-        (left, weight.into_nonzero_unchecked())
+        (left, weight.to_weight())
     }
 }
 
-impl<Probability: BitArray, const PRECISION: usize> EntropyModel<PRECISION>
+impl<Probability: WholeNumber, const PRECISION: usize> EntropyModel<PRECISION>
     for UniformModel<Probability, PRECISION> {
     type Symbol = usize;
 
@@ -114,7 +116,7 @@ impl<Probability: BitArray, const PRECISION: usize> EntropyModel<PRECISION>
     ghost rows = { λ m. uniform_rows PRECISION (Probability.whole m.last_symbol + 1) };
 }
 
-impl<Probability: BitArray, const PRECISION: usize> EncoderModel<PRECISION>
+impl<Probability: WholeNumber, const PRECISION: usize> EncoderModel<PRECISION>
     for UniformModel<Probability, PRECISION> {
     ghost symbol_eq = { nat_eq };
 
@@ -137,7 +139,7 @@ impl<Probability: BitArray, const PRECISION: usize> EncoderModel<PRECISION>
     ghost within_law = { λ m. uniform-within PRECISION _ m.within _ m.fits m.some };
 }
 
-impl<Probability: BitArray, const PRECISION: usize> DecoderModel<PRECISION>
+impl<Probability: WholeNumber, const PRECISION: usize> DecoderModel<PRECISION>
     for UniformModel<Probability, PRECISION> {
     ghost clones_are_same = { ⊤ };
 
@@ -153,9 +155,9 @@ impl<Probability: BitArray, const PRECISION: usize> DecoderModel<PRECISION>
         requires in_range { Probability.whole quantile < 2 ^ PRECISION }
         ensures row { IfOk result (λ x. IsRowOf
             (⟦<UniformModel<Probability, PRECISION> as EntropyModel<PRECISION>>⟧.rows self.now)
-            (Probability.whole quantile) (row_of Probability.whole Probability.NonZero.base x)) }
+            (Probability.whole quantile) (row_of Probability.whole Probability.base x)) }
         ensures within { IfOk result (λ x. LiesWithin PRECISION
-            (row_of Probability.whole Probability.NonZero.base x)) }
+            (row_of Probability.whole Probability.base x)) }
         ensures succeeds { IsOk result }
         ensures refused { IfErr result (λ _. ⊥) }
     {
@@ -167,7 +169,7 @@ impl<Probability: BitArray, const PRECISION: usize> DecoderModel<PRECISION>
     ghost tile_law = { λ m. uniform-tiles PRECISION _ m.within _ m.fits m.some };
 }
 
-impl<Probability: BitArray, const PRECISION: usize> IterableEntropyModel<PRECISION>
+impl<Probability: WholeNumber, const PRECISION: usize> IterableEntropyModel<PRECISION>
     for UniformModel<Probability, PRECISION> {
     type SymbolTable = UniformSymbolTable<Probability, PRECISION>;
 

@@ -22,7 +22,7 @@ use crate::stream::model::traits::{
     DecoderModel, EncoderModel, EntropyModel, IterableEntropyModel, Weight,
 };
 use constriction_backends::SafeBuf;
-use constriction_words::BitArray;
+use constriction_words::WholeNumber;
 use std::alloc::{AllocError, Global};
 use std::marker::PhantomData;
 
@@ -32,7 +32,7 @@ use std::marker::PhantomData;
 /// the caller's choice.
 #[derive(Debug, Drop)]
 pub struct ContiguousCategoricalEntropyModel<
-    Probability: BitArray,
+    Probability: WholeNumber,
     Cdf: SafeBuf<Probability>,
     const PRECISION: usize,
 > {
@@ -53,7 +53,7 @@ pub type SmallContiguousCategoricalEntropyModel<Cdf = Vec<u16>> = ContiguousCate
     12,
 >;
 
-impl<Probability: BitArray, const PRECISION: usize> ContiguousCategoricalEntropyModel<
+impl<Probability: WholeNumber, const PRECISION: usize> ContiguousCategoricalEntropyModel<
     Probability,
     Vec<Probability>,
     PRECISION,
@@ -114,7 +114,7 @@ impl<Probability: BitArray, const PRECISION: usize> ContiguousCategoricalEntropy
 }
 
 impl<
-    Probability: BitArray,
+    Probability: WholeNumber,
     Cdf: SafeBuf<Probability>,
     const PRECISION: usize,
 > ContiguousCategoricalEntropyModel<Probability, Cdf, PRECISION> {
@@ -195,7 +195,7 @@ impl<
     }
 }
 
-impl<Probability: BitArray, Cdf: SafeBuf<Probability>, const PRECISION: usize> EntropyModel<
+impl<Probability: WholeNumber, Cdf: SafeBuf<Probability>, const PRECISION: usize> EntropyModel<
     PRECISION,
 > for ContiguousCategoricalEntropyModel<Probability, Cdf, PRECISION> {
     type Symbol = usize;
@@ -205,7 +205,7 @@ impl<Probability: BitArray, Cdf: SafeBuf<Probability>, const PRECISION: usize> E
     ghost rows = { λ m. contiguous_rows (weights_of PRECISION (lefts_in (map Probability.whole (Cdf.words_of m.cdf)))) };
 }
 
-impl<Probability: BitArray, Cdf: SafeBuf<Probability>, const PRECISION: usize> EncoderModel<
+impl<Probability: WholeNumber, Cdf: SafeBuf<Probability>, const PRECISION: usize> EncoderModel<
     PRECISION,
 > for ContiguousCategoricalEntropyModel<Probability, Cdf, PRECISION> {
     ghost symbol_eq = { nat_eq };
@@ -228,7 +228,7 @@ impl<Probability: BitArray, Cdf: SafeBuf<Probability>, const PRECISION: usize> E
     ghost within_law = { λ m. stored-within _ _ _ m.stored.stored };
 }
 
-impl<Probability: BitArray, Cdf: SafeBuf<Probability>, const PRECISION: usize> DecoderModel<
+impl<Probability: WholeNumber, Cdf: SafeBuf<Probability>, const PRECISION: usize> DecoderModel<
     PRECISION,
 > for ContiguousCategoricalEntropyModel<Probability, Cdf, PRECISION> {
     ghost clones_are_same = { ⊤ };
@@ -245,9 +245,9 @@ impl<Probability: BitArray, Cdf: SafeBuf<Probability>, const PRECISION: usize> D
         requires in_range { Probability.whole quantile < 2 ^ PRECISION }
         ensures row { IfOk result (λ x. IsRowOf
             (⟦<ContiguousCategoricalEntropyModel<Probability, Cdf, PRECISION> as EntropyModel<PRECISION>>⟧.rows self.now)
-            (Probability.whole quantile) (row_of Probability.whole Probability.NonZero.base x)) }
+            (Probability.whole quantile) (row_of Probability.whole Probability.base x)) }
         ensures within { IfOk result (λ x. LiesWithin PRECISION
-            (row_of Probability.whole Probability.NonZero.base x)) }
+            (row_of Probability.whole Probability.base x)) }
         ensures succeeds { IsOk result }
         ensures refused { IfErr result (λ _. ⊥) }
     {
@@ -261,7 +261,7 @@ impl<Probability: BitArray, Cdf: SafeBuf<Probability>, const PRECISION: usize> D
 
 impl<
     'm,
-    Probability: BitArray + 'm,
+    Probability: WholeNumber + 'm,
     Cdf: SafeBuf<Probability> + 'm,
     const PRECISION: usize,
 > IterableEntropyModel<PRECISION>

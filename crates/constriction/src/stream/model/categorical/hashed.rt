@@ -17,9 +17,10 @@ use crate::stream::model::categorical::filling::rows_announced;
 use crate::stream::model::categorical::reading::{TakesRows, rows_read};
 use crate::stream::model::error::ModelError;
 use crate::stream::model::traits::{EncoderModel, EntropyModel, Weight};
-use constriction_words::BitArray;
+use constriction_words::WholeNumber;
 use std::alloc::{AllocError, Global};
 use std::collections::HashMap;
+use std::fmt::Debug;
 use std::hash::Hash;
 
 /// What a table has for a symbol: where its row begins, and its weight.
@@ -45,16 +46,17 @@ impl<Word: Copy, Positive: Copy> Copy for Entry<Word, Positive> {}
 ///
 /// It stores the entry of each symbol in a hash table. Its rows are these entries, in no order that
 /// means anything.
-#[derive(Debug, Drop)]
+#[derive(Drop)]
+#[derive_where(Debug; Symbol: Debug, Probability: Debug, Weight<Probability>: Debug)]
 pub struct NonContiguousCategoricalEncoderModel<
     Symbol: Hash + Eq,
-    Probability: BitArray,
+    Probability: WholeNumber,
     const PRECISION: usize,
 > {
     pub(crate) table: HashMap<Symbol, Entry<Probability, Weight<Probability>>>,
     ghost distinct: { IsDistinct Symbol.eq (keys_of table.entries) } by { Prim.hlevel props },
     ghost within: { All (LiesWithin PRECISION) (rows_of_table
-        (λ e. (Probability.whole e.left, Probability.whole (Probability.NonZero.base e.weight))) table.entries) },
+        (λ e. (Probability.whole e.left, Probability.whole (Probability.base e.weight))) table.entries) },
 }
 
 /// The model over 24 bits of `u32`, which suits most uses.
@@ -71,17 +73,17 @@ pub type SmallNonContiguousCategoricalEncoderModel<Symbol> = NonContiguousCatego
     12,
 >;
 
-impl<Symbol: Hash + Eq, Probability: BitArray, const PRECISION: usize> EntropyModel<PRECISION>
+impl<Symbol: Hash + Eq, Probability: WholeNumber, const PRECISION: usize> EntropyModel<PRECISION>
     for NonContiguousCategoricalEncoderModel<Symbol, Probability, PRECISION> {
     type Symbol = Symbol;
 
     type Probability = Probability;
 
     ghost rows = { λ m. rows_of_table
-        (λ e. (Probability.whole e.left, Probability.whole (Probability.NonZero.base e.weight))) m.table.entries };
+        (λ e. (Probability.whole e.left, Probability.whole (Probability.base e.weight))) m.table.entries };
 }
 
-impl<Symbol: Hash + Eq, Probability: BitArray, const PRECISION: usize> EncoderModel<PRECISION>
+impl<Symbol: Hash + Eq, Probability: WholeNumber, const PRECISION: usize> EncoderModel<PRECISION>
     for NonContiguousCategoricalEncoderModel<Symbol, Probability, PRECISION> {
     ghost symbol_eq = { Symbol.eq };
 
@@ -138,12 +140,12 @@ fn insert_apart<Symbol: Hash + Eq + Drop, Value: Drop>(
     Ok(())
 }
 
-impl<Symbol: Hash + Eq + Drop, Probability: BitArray> TakesRows<Symbol, Probability>
+impl<Symbol: Hash + Eq + Drop, Probability: WholeNumber> TakesRows<Symbol, Probability>
     for HashMap<Symbol, Entry<Probability, Weight<Probability>>> {
     ghost symbol_eq = { Symbol.eq };
 
     ghost holds = { λ t rows. IsUnique Symbol.eq t × HoldsEntries Symbol.eq
-        (λ e. (Probability.whole e.left, Probability.whole (Probability.NonZero.base e.weight)))
+        (λ e. (Probability.whole e.left, Probability.whole (Probability.base e.weight)))
         (get Symbol.eq t) rows };
 
     #[inline]
@@ -153,7 +155,7 @@ impl<Symbol: Hash + Eq + Drop, Probability: BitArray> TakesRows<Symbol, Probabil
         left: Probability,
         weight: Probability,
     ) -> Result<(), ModelError> {
-        let weight = weight.into_nonzero_unchecked();
+        let weight = weight.to_weight();
         insert_apart(self, symbol, Entry { left, weight })
     }
 
@@ -162,7 +164,7 @@ impl<Symbol: Hash + Eq + Drop, Probability: BitArray> TakesRows<Symbol, Probabil
 
 impl<
     Symbol: Hash + Eq,
-    Probability: BitArray,
+    Probability: WholeNumber,
     const PRECISION: usize,
 > NonContiguousCategoricalEncoderModel<Symbol, Probability, PRECISION> {
     /// How many symbols have an entry.
@@ -177,7 +179,7 @@ impl<
 
 impl<
     Symbol: Hash + Eq + Drop,
-    Probability: BitArray,
+    Probability: WholeNumber,
     const PRECISION: usize,
 > NonContiguousCategoricalEncoderModel<Symbol, Probability, PRECISION> {
     /// The model of these symbols and weights, one weight a symbol. Where the last weight is inferred,
@@ -239,7 +241,7 @@ impl<
 
 impl<
     Symbol: Hash + Eq + Clone,
-    Probability: BitArray,
+    Probability: WholeNumber,
     const PRECISION: usize,
 > NonContiguousCategoricalEncoderModel<Symbol, Probability, PRECISION> {
     /// A model of the same entries, with a table of its own from the allocator of this one's.

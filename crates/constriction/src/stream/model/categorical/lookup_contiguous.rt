@@ -22,7 +22,7 @@ use crate::stream::model::error::ModelError;
 use crate::stream::model::probe::Probe;
 use crate::stream::model::traits::{DecoderModel, EntropyModel, IterableEntropyModel, Weight};
 use constriction_backends::SafeBuf;
-use constriction_words::{BitArray, IndexWord};
+use constriction_words::IndexWord;
 use std::alloc::{AllocError, Global};
 
 /// A model of the symbols 0, 1, .., given by their weights, for decoders: a table tells where to search
@@ -274,9 +274,9 @@ impl<
         requires in_range { Probability.whole quantile < 2 ^ PRECISION }
         ensures row { IfOk result (λ x. IsRowOf
             (⟦<ContiguousLookupDecoderModel<Probability, Cdf, LookupTable, PRECISION> as EntropyModel<PRECISION>>⟧.rows self.now)
-            (Probability.whole quantile) (row_of Probability.whole Probability.NonZero.base x)) }
+            (Probability.whole quantile) (row_of Probability.whole Probability.base x)) }
         ensures within { IfOk result (λ x. LiesWithin PRECISION
-            (row_of Probability.whole Probability.NonZero.base x)) }
+            (row_of Probability.whole Probability.base x)) }
         ensures succeeds { IsOk result }
         ensures refused { IfErr result (λ _. ⊥) }
     {

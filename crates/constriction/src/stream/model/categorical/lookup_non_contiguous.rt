@@ -25,7 +25,7 @@ use crate::stream::model::error::ModelError;
 use crate::stream::model::probe::Probe;
 use crate::stream::model::traits::{DecoderModel, EntropyModel, IterableEntropyModel, Weight};
 use constriction_backends::SafeBuf;
-use constriction_words::{BitArray, IndexWord};
+use constriction_words::IndexWord;
 use std::alloc::{AllocError, Global};
 use std::marker::PhantomData;
 
@@ -420,7 +420,7 @@ impl<
         }
     }
 
-    ghost steps_law = { λ same t r u step. yields-row Symbol.is_clone Symbol.is_infallible Probability.whole Probability.NonZero.base
+    ghost steps_law = { λ same t r u step. yields-row Symbol.is_clone Symbol.is_infallible Probability.whole Probability.base
         same _ r _ step };
 
     ghost tile_law = { λ m. paired-tiles Probability.whole _ _ _ m.now.stored };

@@ -22,7 +22,7 @@ use crate::stream::model::probe::Probe;
 use crate::stream::model::search::row_of_quantile;
 use crate::stream::model::traits::{DecoderModel, EntropyModel, IterableEntropyModel, Weight};
 use constriction_backends::SafeBuf;
-use constriction_words::{BitArray, WholeNumber};
+use constriction_words::WholeNumber;
 use std::alloc::{AllocError, Global};
 use std::marker::PhantomData;
 
@@ -33,7 +33,7 @@ use std::marker::PhantomData;
 #[derive(Debug, Drop)]
 pub struct NonContiguousCategoricalDecoderModel<
     Symbol: Eq,
-    Probability: BitArray,
+    Probability: WholeNumber,
     Cdf: SafeBuf<(Probability, Symbol)>,
     const PRECISION: usize,
 > {
@@ -54,7 +54,7 @@ pub type SmallNonContiguousCategoricalDecoderModel<Symbol, Cdf = Vec<(u16, Symbo
 
 impl<
     Symbol: Eq,
-    Probability: BitArray,
+    Probability: WholeNumber,
     Cdf: SafeBuf<(Probability, Symbol)>,
     const PRECISION: usize,
 > EntropyModel<PRECISION>
@@ -113,7 +113,7 @@ impl<Word: WholeNumber, Symbol: Eq + Drop> TakesRows<Symbol, Word> for Vec<(Word
 
 impl<
     Symbol: Eq + Drop,
-    Probability: BitArray,
+    Probability: WholeNumber,
     const PRECISION: usize,
 > NonContiguousCategoricalDecoderModel<Symbol, Probability, Vec<(Probability, Symbol)>, PRECISION> {
     /// The model of these symbols and weights, one weight a symbol. Where the last weight is inferred,
@@ -176,7 +176,7 @@ impl<
 
 impl<
     Symbol: Eq + Clone,
-    Probability: BitArray,
+    Probability: WholeNumber,
     const PRECISION: usize,
 > NonContiguousCategoricalDecoderModel<Symbol, Probability, Vec<(Probability, Symbol)>, PRECISION> {
     /// A model of the same rows, with entries of its own from the allocator of this one's.
@@ -194,7 +194,7 @@ impl<
 
 impl<
     Symbol: Eq,
-    Probability: BitArray,
+    Probability: WholeNumber,
     Cdf: SafeBuf<(Probability, Symbol)>,
     const PRECISION: usize,
 > NonContiguousCategoricalDecoderModel<Symbol, Probability, Cdf, PRECISION> {
@@ -262,7 +262,7 @@ impl<
 
 impl<
     Symbol: Eq + Clone,
-    Probability: BitArray,
+    Probability: WholeNumber,
     Cdf: SafeBuf<(Probability, Symbol)>,
     const PRECISION: usize,
 > NonContiguousCategoricalDecoderModel<Symbol, Probability, Cdf, PRECISION> {
@@ -294,7 +294,7 @@ impl<
 
 impl<
     Symbol: Eq + Clone,
-    Probability: BitArray,
+    Probability: WholeNumber,
     Cdf: SafeBuf<(Probability, Symbol)>,
     const PRECISION: usize,
 > DecoderModel<PRECISION>
@@ -320,7 +320,7 @@ impl<
 impl<
     'm,
     Symbol: Eq + Clone + 'm,
-    Probability: BitArray + 'm,
+    Probability: WholeNumber + 'm,
     Cdf: SafeBuf<(Probability, Symbol)> + 'm,
     const PRECISION: usize,
 > IterableEntropyModel<PRECISION>
@@ -356,7 +356,7 @@ impl<
         }
     }
 
-    ghost steps_law = { λ same t r u step. yields-row Symbol.is_clone Symbol.is_infallible Probability.whole Probability.NonZero.base
+    ghost steps_law = { λ same t r u step. yields-row Symbol.is_clone Symbol.is_infallible Probability.whole Probability.base
         same _ r _ step };
 
     ghost tile_law = { λ m. paired-tiles Probability.whole _ _ _ m.now.stored };

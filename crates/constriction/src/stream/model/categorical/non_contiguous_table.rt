@@ -8,7 +8,7 @@ ghost use Rattle.constriction.specs.Tables.{YieldsClone, YieldsLastClone, rows_p
 
 use crate::stream::model::categorical::stored::paired_row_at;
 use crate::stream::model::traits::Weight;
-use constriction_words::BitArray;
+use constriction_words::WholeNumber;
 use std::alloc::AllocError;
 
 /// The rows of a [`NonContiguousCategoricalDecoderModel`] that are left, walked through from either
@@ -20,7 +20,7 @@ use std::alloc::AllocError;
 ///
 /// [`NonContiguousCategoricalDecoderModel`]: crate::stream::model::NonContiguousCategoricalDecoderModel
 #[derive(Debug, Drop)]
-pub struct NonContiguousSymbolTable<'m, Symbol, Probability: BitArray, const PRECISION: usize> {
+pub struct NonContiguousSymbolTable<'m, Symbol, Probability: WholeNumber, const PRECISION: usize> {
     pub(crate) cdf: &'m [(Probability, Symbol)],
     pub(crate) from: usize,
     pub(crate) to: usize,
@@ -30,11 +30,11 @@ pub struct NonContiguousSymbolTable<'m, Symbol, Probability: BitArray, const PRE
     ghost in_bounds: { to ≤ length cdf.now },
 }
 
-impl<'m, Symbol: Clone, Probability: BitArray, const PRECISION: usize> Iterator
+impl<'m, Symbol: Clone, Probability: WholeNumber, const PRECISION: usize> Iterator
     for NonContiguousSymbolTable<'m, Symbol, Probability, PRECISION> {
     type Item = Result<(Symbol, Probability, Weight<Probability>), AllocError>;
 
-    ghost next_gives = { λ t r u. YieldsClone Symbol.is_clone Symbol.is_infallible Probability.whole Probability.NonZero.base
+    ghost next_gives = { λ t r u. YieldsClone Symbol.is_clone Symbol.is_infallible Probability.whole Probability.base
         (rows_between t.from t.to (rows_paired Probability.whole PRECISION t.cdf.now)) r
         (rows_between u.from u.to (rows_paired Probability.whole PRECISION u.cdf.now)) };
 
@@ -69,9 +69,9 @@ impl<'m, Symbol: Clone, Probability: BitArray, const PRECISION: usize> Iterator
     }
 }
 
-impl<'m, Symbol: Clone, Probability: BitArray, const PRECISION: usize> DoubleEndedIterator
+impl<'m, Symbol: Clone, Probability: WholeNumber, const PRECISION: usize> DoubleEndedIterator
     for NonContiguousSymbolTable<'m, Symbol, Probability, PRECISION> {
-    ghost next_back_gives = { λ t r u. YieldsLastClone Symbol.is_clone Symbol.is_infallible Probability.whole Probability.NonZero.base
+    ghost next_back_gives = { λ t r u. YieldsLastClone Symbol.is_clone Symbol.is_infallible Probability.whole Probability.base
         (rows_between t.from t.to (rows_paired Probability.whole PRECISION t.cdf.now)) r
         (rows_between u.from u.to (rows_paired Probability.whole PRECISION u.cdf.now)) };
 
@@ -92,7 +92,7 @@ impl<'m, Symbol: Clone, Probability: BitArray, const PRECISION: usize> DoubleEnd
     }
 }
 
-impl<'m, Symbol: Clone, Probability: BitArray, const PRECISION: usize> ExactSizeIterator
+impl<'m, Symbol: Clone, Probability: WholeNumber, const PRECISION: usize> ExactSizeIterator
     for NonContiguousSymbolTable<'m, Symbol, Probability, PRECISION> {
     /// How many rows are left.
     #[inline]

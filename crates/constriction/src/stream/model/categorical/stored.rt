@@ -7,7 +7,8 @@ ghost use Rattle.constriction.specs.Stored.{IsStored, IsTable, lefts_in, weights
 ghost use Rattle.constriction.specs.Tables.{rows_paired, ClonesAreSame, MayRefuse};
 
 use crate::stream::model::cdf_probe::{Alone, CdfEntry, WithSymbol};
-use constriction_words::{BitArray, WholeNumber};
+use crate::stream::model::traits::Weight;
+use constriction_words::WholeNumber;
 use std::alloc::AllocError;
 
 /// Where the row at `index` begins, and its weight: the difference to where the next one begins.
@@ -31,19 +32,19 @@ fn row_words_at<Entry, Kind: CdfEntry<Entry>, const PRECISION: usize>(
 
 /// Where the row at `index` begins, and its weight as a word that is not 0.
 #[inline]
-pub(crate) fn row_at<P: BitArray, const PRECISION: usize>(
+pub(crate) fn row_at<P: WholeNumber, const PRECISION: usize>(
     cdf: &[P],
     index: usize,
-) -> (P, P::NonZero)
+) -> (P, Weight<P>)
     requires fits { PRECISION ≤ P.BITS }
     requires table { IsTable P.BITS PRECISION (map P.whole cdf.now) }
     requires in_bounds { index + 1 < length cdf.now }
     ensures left { P.whole result.0 ≡ slice_index (lefts_in (map P.whole cdf.now)) index }
-    ensures weight { P.whole (P.NonZero.base result.1)
+    ensures weight { P.whole (P.base result.1)
         ≡ slice_index (weights_of PRECISION (lefts_in (map P.whole cdf.now))) index }
 {
     let (left, weight) = row_words_at::<P, Alone, PRECISION>(cdf, index);
-    (left, weight.into_nonzero_unchecked())
+    (left, weight.to_weight())
 }
 
 /// Where the row at `index` begins, and its weight, of entries after which no total stands: the last
@@ -74,34 +75,34 @@ fn row_words_among<Entry, Kind: CdfEntry<Entry>, const PRECISION: usize>(
 /// Where the row at `index` begins, and its weight as a word that is not 0, of entries that have a
 /// left cumulative and a symbol each.
 #[inline]
-pub(crate) fn paired_row_at<P: BitArray, Symbol, const PRECISION: usize>(
+pub(crate) fn paired_row_at<P: WholeNumber, Symbol, const PRECISION: usize>(
     entries: &[(P, Symbol)],
     index: usize,
-) -> (P, P::NonZero)
+) -> (P, Weight<P>)
     requires some { 0 < PRECISION }
     requires fits { PRECISION ≤ P.BITS }
     requires stored { IsStored P.BITS PRECISION (map (λ x. P.whole x.0) entries.now) }
     requires in_bounds { index < length entries.now }
     ensures left { P.whole result.0 ≡ slice_index (map (λ x. P.whole x.0) entries.now) index }
-    ensures weight { P.whole (P.NonZero.base result.1)
+    ensures weight { P.whole (P.base result.1)
         ≡ slice_index (weights_of PRECISION (map (λ x. P.whole x.0) entries.now)) index }
 {
     let (left, weight) = row_words_among::<(P, Symbol), WithSymbol, PRECISION>(entries, index);
-    (left, weight.into_nonzero_unchecked())
+    (left, weight.to_weight())
 }
 
 /// The row at `index` of a contiguous model: its symbol is the index.
 #[inline]
-pub(crate) fn contiguous_row_at<P: BitArray, const PRECISION: usize>(
+pub(crate) fn contiguous_row_at<P: WholeNumber, const PRECISION: usize>(
     cdf: &[P],
     index: usize,
-) -> (usize, P, P::NonZero)
+) -> (usize, P, Weight<P>)
     requires fits { PRECISION ≤ P.BITS }
     requires table { IsTable P.BITS PRECISION (map P.whole cdf.now) }
     requires in_bounds { index + 1 < length cdf.now }
     ensures row { slice_index_or (contiguous_rows (weights_of PRECISION (lefts_in (map P.whole cdf.now)))) index
-        (row_of P.whole P.NonZero.base result) ≡ row_of P.whole P.NonZero.base result }
-    ensures within { LiesWithin PRECISION (row_of P.whole P.NonZero.base result) }
+        (row_of P.whole P.base result) ≡ row_of P.whole P.base result }
+    ensures within { LiesWithin PRECISION (row_of P.whole P.base result) }
 {
     let (left, weight) = row_at::<P, PRECISION>(cdf, index);
     (index, left, weight)
@@ -110,18 +111,18 @@ pub(crate) fn contiguous_row_at<P: BitArray, const PRECISION: usize>(
 /// The row at `index` of entries that have a left cumulative and a symbol each, with a clone of the
 /// symbol.
 #[inline]
-pub(crate) fn cloned_row_at<P: BitArray, Symbol: Clone, const PRECISION: usize>(
+pub(crate) fn cloned_row_at<P: WholeNumber, Symbol: Clone, const PRECISION: usize>(
     cdf: &[(P, Symbol)],
     index: usize,
-) -> Result<(Symbol, P, P::NonZero), AllocError>
+) -> Result<(Symbol, P, Weight<P>), AllocError>
     requires clones { ClonesAreSame Symbol.is_clone }
     requires some { 0 < PRECISION }
     requires fits { PRECISION ≤ P.BITS }
     requires stored { IsStored P.BITS PRECISION (map (λ x. P.whole x.0) cdf.now) }
     requires in_bounds { index < length cdf.now }
     ensures row { IfOk result (λ x. slice_index_or (rows_paired P.whole PRECISION cdf.now) index
-        (row_of P.whole P.NonZero.base x) ≡ row_of P.whole P.NonZero.base x) }
-    ensures within { IfOk result (λ x. LiesWithin PRECISION (row_of P.whole P.NonZero.base x)) }
+        (row_of P.whole P.base x) ≡ row_of P.whole P.base x) }
+    ensures within { IfOk result (λ x. LiesWithin PRECISION (row_of P.whole P.base x)) }
     ensures refused { IfErr result (λ _. MayRefuse Symbol.is_infallible) }
 {
     let (left, weight) = paired_row_at::<P, Symbol, PRECISION>(cdf, index);

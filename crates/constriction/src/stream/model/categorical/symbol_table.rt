@@ -8,7 +8,7 @@ ghost use Rattle.constriction.specs.Tables.{YieldsRow, YieldsLastRow, rows_store
 
 use crate::stream::model::categorical::stored::row_at;
 use crate::stream::model::traits::Weight;
-use constriction_words::BitArray;
+use constriction_words::WholeNumber;
 use std::alloc::AllocError;
 
 /// The rows of a [`ContiguousCategoricalEntropyModel`] that are left, walked through from either end.
@@ -19,7 +19,7 @@ use std::alloc::AllocError;
 ///
 /// [`ContiguousCategoricalEntropyModel`]: crate::stream::model::ContiguousCategoricalEntropyModel
 #[derive(Debug, Drop)]
-pub struct ContiguousSymbolTable<'m, Probability: BitArray, const PRECISION: usize> {
+pub struct ContiguousSymbolTable<'m, Probability: WholeNumber, const PRECISION: usize> {
     pub(crate) cdf: &'m [Probability],
     pub(crate) from: usize,
     pub(crate) to: usize,
@@ -29,11 +29,11 @@ pub struct ContiguousSymbolTable<'m, Probability: BitArray, const PRECISION: usi
     ghost in_bounds: { to < length cdf.now },
 }
 
-impl<'m, Probability: BitArray, const PRECISION: usize> Iterator
+impl<'m, Probability: WholeNumber, const PRECISION: usize> Iterator
     for ContiguousSymbolTable<'m, Probability, PRECISION> {
     type Item = Result<(usize, Probability, Weight<Probability>), AllocError>;
 
-    ghost next_gives = { λ t r u. YieldsRow Probability.whole Probability.NonZero.base ⊥
+    ghost next_gives = { λ t r u. YieldsRow Probability.whole Probability.base ⊥
         (rows_stored PRECISION (map Probability.whole t.cdf.now) t.from t.to) r
         (rows_stored PRECISION (map Probability.whole u.cdf.now) u.from u.to) };
 
@@ -65,9 +65,9 @@ impl<'m, Probability: BitArray, const PRECISION: usize> Iterator
     }
 }
 
-impl<'m, Probability: BitArray, const PRECISION: usize> DoubleEndedIterator
+impl<'m, Probability: WholeNumber, const PRECISION: usize> DoubleEndedIterator
     for ContiguousSymbolTable<'m, Probability, PRECISION> {
-    ghost next_back_gives = { λ t r u. YieldsLastRow Probability.whole Probability.NonZero.base ⊥
+    ghost next_back_gives = { λ t r u. YieldsLastRow Probability.whole Probability.base ⊥
         (rows_stored PRECISION (map Probability.whole t.cdf.now) t.from t.to) r
         (rows_stored PRECISION (map Probability.whole u.cdf.now) u.from u.to) };
 
@@ -85,7 +85,7 @@ impl<'m, Probability: BitArray, const PRECISION: usize> DoubleEndedIterator
     }
 }
 
-impl<'m, Probability: BitArray, const PRECISION: usize> ExactSizeIterator
+impl<'m, Probability: WholeNumber, const PRECISION: usize> ExactSizeIterator
     for ContiguousSymbolTable<'m, Probability, PRECISION> {
     /// How many rows are left.
     #[inline]

@@ -8,7 +8,7 @@ ghost use Rattle.constriction.specs.Tables.{YieldsRow, YieldsLastRow, rows_betwe
 
 use crate::stream::model::traits::Weight;
 use crate::stream::model::uniform::UniformModel;
-use constriction_words::{BitArray, WholeNumber};
+use constriction_words::WholeNumber;
 use std::alloc::AllocError;
 
 /// The rows of a [`UniformModel`] that are left, walked through from either end.
@@ -16,7 +16,7 @@ use std::alloc::AllocError;
 /// Each row is given once, whichever end it is taken from, and either end answers `None` exactly
 /// where none is left. Every item is `Ok`: the walk takes no memory. A step costs a product.
 #[derive(Debug, Drop)]
-pub struct UniformSymbolTable<Probability: BitArray, const PRECISION: usize> {
+pub struct UniformSymbolTable<Probability: WholeNumber, const PRECISION: usize> {
     model: UniformModel<Probability, PRECISION>,
     from: usize,
     to: usize,
@@ -24,7 +24,7 @@ pub struct UniformSymbolTable<Probability: BitArray, const PRECISION: usize> {
     ghost in_bounds: { to ≤ Probability.whole model.last_symbol + 1 },
 }
 
-impl<Probability: BitArray, const PRECISION: usize> UniformSymbolTable<Probability, PRECISION> {
+impl<Probability: WholeNumber, const PRECISION: usize> UniformSymbolTable<Probability, PRECISION> {
     /// All rows of the model.
     #[inline]
     pub(crate) fn new(model: UniformModel<Probability, PRECISION>) -> Self
@@ -37,11 +37,11 @@ impl<Probability: BitArray, const PRECISION: usize> UniformSymbolTable<Probabili
     }
 }
 
-impl<Probability: BitArray, const PRECISION: usize> Iterator
+impl<Probability: WholeNumber, const PRECISION: usize> Iterator
     for UniformSymbolTable<Probability, PRECISION> {
     type Item = Result<(usize, Probability, Weight<Probability>), AllocError>;
 
-    ghost next_gives = { λ t r u. YieldsRow Probability.whole Probability.NonZero.base ⊥
+    ghost next_gives = { λ t r u. YieldsRow Probability.whole Probability.base ⊥
         (rows_between t.from t.to (uniform_rows PRECISION (Probability.whole t.model.last_symbol + 1))) r
         (rows_between u.from u.to (uniform_rows PRECISION (Probability.whole u.model.last_symbol + 1))) };
 
@@ -73,9 +73,9 @@ impl<Probability: BitArray, const PRECISION: usize> Iterator
     }
 }
 
-impl<Probability: BitArray, const PRECISION: usize> DoubleEndedIterator
+impl<Probability: WholeNumber, const PRECISION: usize> DoubleEndedIterator
     for UniformSymbolTable<Probability, PRECISION> {
-    ghost next_back_gives = { λ t r u. YieldsLastRow Probability.whole Probability.NonZero.base ⊥
+    ghost next_back_gives = { λ t r u. YieldsLastRow Probability.whole Probability.base ⊥
         (rows_between t.from t.to (uniform_rows PRECISION (Probability.whole t.model.last_symbol + 1))) r
         (rows_between u.from u.to (uniform_rows PRECISION (Probability.whole u.model.last_symbol + 1))) };
 
@@ -93,7 +93,7 @@ impl<Probability: BitArray, const PRECISION: usize> DoubleEndedIterator
     }
 }
 
-impl<Probability: BitArray, const PRECISION: usize> ExactSizeIterator
+impl<Probability: WholeNumber, const PRECISION: usize> ExactSizeIterator
     for UniformSymbolTable<Probability, PRECISION> {
     /// How many rows are left.
     #[inline]

@@ -11,12 +11,12 @@ invariant_of-result g c =
     record {
       precise = (c.requires.positive, c.requires.fits);
       stored =
-          (walked-stored g.M.Probability.BitArray.whole g.M.Probability.NonZero.NonZeroBitArray.base g.M.IterableEntropyModel.may_refuse
+          (walked-stored g.M.Probability.WholeNumber.whole g.M.Probability.WholeNumber.base g.M.IterableEntropyModel.may_refuse
           g.M.SymbolTable.Iterator.next_gives g.M.IterableEntropyModel.rows_left (M.steps_law c.requires.clones)
-          (g.M.EntropyModel.rows c.args.model) c.symbol_table.result c.symbol_table.ensures.all eq g.M.Probability.BitArray.BITS
+          (g.M.EntropyModel.rows c.args.model) c.symbol_table.result c.symbol_table.ensures.all eq g.M.Probability.WholeNumber.BITS
           g.row.PRECISION (M.tile_law c.args.model) entries c.in_ok-cdf.ensures.ok).0;
       distinct =
-          (walked-distinct g.M.Probability.BitArray.whole g.M.Probability.NonZero.NonZeroBitArray.base
+          (walked-distinct g.M.Probability.WholeNumber.whole g.M.Probability.WholeNumber.base
           g.M.IterableEntropyModel.may_refuse g.M.SymbolTable.Iterator.next_gives g.M.IterableEntropyModel.rows_left
           (M.steps_law c.requires.clones) (g.M.EntropyModel.rows c.args.model) c.symbol_table.result c.symbol_table.ensures.all eq
           entries c.in_ok-cdf.ensures.ok).0;
@@ -27,11 +27,11 @@ returns-clause-ok g c =
     let M = g.met.M.IterableEntropyModel in
     let eq = g.M.Symbol.PartialEq.eq in
     let entries = c.in_ok-cdf.cdf.items in (
-      (walked-stored g.M.Probability.BitArray.whole g.M.Probability.NonZero.NonZeroBitArray.base g.M.IterableEntropyModel.may_refuse
+      (walked-stored g.M.Probability.WholeNumber.whole g.M.Probability.WholeNumber.base g.M.IterableEntropyModel.may_refuse
           g.M.SymbolTable.Iterator.next_gives g.M.IterableEntropyModel.rows_left (M.steps_law c.requires.clones)
-          (g.M.EntropyModel.rows c.args.model) c.symbol_table.result c.symbol_table.ensures.all eq g.M.Probability.BitArray.BITS
+          (g.M.EntropyModel.rows c.args.model) c.symbol_table.result c.symbol_table.ensures.all eq g.M.Probability.WholeNumber.BITS
           g.row.PRECISION (M.tile_law c.args.model) entries c.in_ok-cdf.ensures.ok).1,
-      (walked-distinct g.M.Probability.BitArray.whole g.M.Probability.NonZero.NonZeroBitArray.base
+      (walked-distinct g.M.Probability.WholeNumber.whole g.M.Probability.WholeNumber.base
           g.M.IterableEntropyModel.may_refuse g.M.SymbolTable.Iterator.next_gives g.M.IterableEntropyModel.rows_left
           (M.steps_law c.requires.clones) (g.M.EntropyModel.rows c.args.model) c.symbol_table.result c.symbol_table.ensures.all eq
           entries c.in_ok-cdf.ensures.ok).1,
@@ -40,7 +40,7 @@ returns-clause-ok g c =
 pub returns-in_err-cdf-clause-invalid : goal.returns-in_err-cdf-clause-invalid
 returns-in_err-cdf-clause-invalid g c = λ h.
     let e : c.entries_walked.result ≡ Err InvalidTable = search rules in
-    walked-repeat g.M.Probability.BitArray.whole g.M.Probability.NonZero.NonZeroBitArray.base g.M.IterableEntropyModel.may_refuse
+    walked-repeat g.M.Probability.WholeNumber.whole g.M.Probability.WholeNumber.base g.M.IterableEntropyModel.may_refuse
     g.M.SymbolTable.Iterator.next_gives g.M.IterableEntropyModel.rows_left
     (g.met.M.IterableEntropyModel.steps_law c.requires.clones) (g.M.EntropyModel.rows c.args.model) c.symbol_table.result
     c.symbol_table.ensures.all g.M.Symbol.PartialEq.eq (c.entries_walked.ensures.invalid e)

@@ -6,8 +6,8 @@ use Rattle.constriction.proofs.stream.model.convert.to_generic_encoder_model.Goa
 
 pub invariant_of-result : goal.invariant_of-result
 invariant_of-result g c =
-    let whole = g.M.Probability.BitArray.whole in
-    let base = g.M.Probability.NonZero.NonZeroBitArray.base in
+    let whole = g.M.Probability.WholeNumber.whole in
+    let base = g.M.Probability.WholeNumber.base in
     let eq = g.M.Symbol.PartialEq.eq in
     let laws = g.met.M.Symbol.Eq.laws in
     let rows = g.M.EntropyModel.rows c.args.model in
@@ -21,14 +21,14 @@ invariant_of-result g c =
       within = table-rows_within eq laws (λ e. (whole e.left, whole (base e.weight))) g.row.PRECISION c.in_ok-table.table.entries
           c.in_ok-table.ensures.unique
           (found-within eq laws (λ e. (whole e.left, whole (base e.weight))) g.row.PRECISION rows (get eq c.in_ok-table.table)
-          (rows-within g.M.Probability.BitArray.BITS g.row.PRECISION rows (M.tile_law c.args.model))
+          (rows-within g.M.Probability.WholeNumber.BITS g.row.PRECISION rows (M.tile_law c.args.model))
           (rw is at (found.2 whole base)));
     }
 
 pub returns-clause-entries : goal.returns-clause-entries
 returns-clause-entries g c =
-    let whole = g.M.Probability.BitArray.whole in
-    let base = g.M.Probability.NonZero.NonZeroBitArray.base in
+    let whole = g.M.Probability.WholeNumber.whole in
+    let base = g.M.Probability.WholeNumber.base in
     let eq = g.M.Symbol.PartialEq.eq in
     let laws = g.met.M.Symbol.Eq.laws in
     let rows = g.M.EntropyModel.rows c.args.model in
@@ -41,8 +41,8 @@ returns-clause-entries g c =
 
 pub returns-clause-size : goal.returns-clause-size
 returns-clause-size g c =
-    let whole = g.M.Probability.BitArray.whole in
-    let base = g.M.Probability.NonZero.NonZeroBitArray.base in
+    let whole = g.M.Probability.WholeNumber.whole in
+    let base = g.M.Probability.WholeNumber.base in
     let eq = g.M.Symbol.PartialEq.eq in
     let laws = g.met.M.Symbol.Eq.laws in
     let rows = g.M.EntropyModel.rows c.args.model in

@@ -3,15 +3,15 @@ use Rattle.constriction.proofs.stream.model.categorical.stored.cloned_row_at.Goa
 
 pub returns-in-Ok : goal.returns-in-Ok
 returns-in-Ok g c =
-    let whole = g.P.BitArray.whole in
-    let bits = g.P.BitArray.BITS in
+    let whole = g.P.WholeNumber.whole in
+    let bits = g.P.WholeNumber.BITS in
     let entries = c.args.cdf.now in
     let row = paired-row whole bits g.row.PRECISION entries c.requires.stored c.args.index c.requires.in_bounds in
     let clone = rw (← c.index-cdf-index.is) at c.in-Ok.ensures.cases in
     record {
       row =
           paired-at whole bits g.row.PRECISION entries c.requires.stored c.args.index (whole c.paired_row_at-left.result.0)
-          (whole (g.P.NonZero.NonZeroBitArray.base c.paired_row_at-left.result.1)) c.in-Ok.symbol c.index-cdf-index.result c.requires.in_bounds
+          (whole (g.P.WholeNumber.base c.paired_row_at-left.result.1)) c.in-Ok.symbol c.index-cdf-index.result c.requires.in_bounds
           c.index-cdf-index.is (c.requires.clones _ _ clone) c.paired_row_at-left.ensures.left c.paired_row_at-left.ensures.weight;
       within = rw (c.paired_row_at-left.ensures.left, c.paired_row_at-left.ensures.weight) (row.positive, row.within);
       refused = tt;

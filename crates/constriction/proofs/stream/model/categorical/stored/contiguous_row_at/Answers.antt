@@ -6,14 +6,14 @@ use Rattle.constriction.proofs.stream.model.categorical.stored.contiguous_row_at
 
 pub returns : goal.returns
 returns g c =
-    let whole = g.P.BitArray.whole in
-    let bits = g.P.BitArray.BITS in
+    let whole = g.P.WholeNumber.whole in
+    let bits = g.P.WholeNumber.BITS in
     let table = map whole c.args.cdf.now in
     let within : c.args.index + 1 < length table = omega (arith, c.requires.in_bounds, length-map c.args.cdf.now whole) in
     let row = table-row bits g.row.PRECISION table c.requires.table c.args.index within in
     record {
       row =
           stored-here bits g.row.PRECISION table c.requires.table c.args.index (whole c.row_at-left.result.0)
-          (whole (g.P.NonZero.NonZeroBitArray.base c.row_at-left.result.1)) within c.row_at-left.ensures.left c.row_at-left.ensures.weight;
+          (whole (g.P.WholeNumber.base c.row_at-left.result.1)) within c.row_at-left.ensures.left c.row_at-left.ensures.weight;
       within = rw (c.row_at-left.ensures.left, c.row_at-left.ensures.weight) (row.positive, row.within);
     }

@@ -9,8 +9,8 @@ returns g c =
     let m = c.args.self.now in
     let found = c.symbol_of-symbol.ensures in
     let row = c.row_words_of-left.ensures in
-    let whole = g.Probability.BitArray.whole in
-    let base = g.Probability.NonZero.NonZeroBitArray.base in
+    let whole = g.Probability.WholeNumber.whole in
+    let base = g.Probability.WholeNumber.base in
     let answered = c.row_words_of-left.result in
     let held = uniform-found g.row.PRECISION (whole m.last_symbol) m.within c.to_number.result (whole c.symbol_of-symbol.result)
     (whole answered.0) (whole (base answered.1)) c.to_number.ensures row.left row.weight
@@ -18,7 +18,7 @@ returns g c =
     record {
       row = held;
       within =
-          row-within g.Probability.BitArray.BITS g.row.PRECISION _ _
+          row-within g.Probability.WholeNumber.BITS g.row.PRECISION _ _
           (row_of whole base (c.to_number.result, answered.0, answered.1))
           (uniform-tiles g.row.PRECISION _ m.within _ m.fits m.some) held;
       succeeds = refl {a = true};

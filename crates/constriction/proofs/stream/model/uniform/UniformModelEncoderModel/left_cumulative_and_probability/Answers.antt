@@ -5,10 +5,10 @@ use Rattle.constriction.proofs.stream.model.uniform.UniformModelEncoderModel.lef
 pub returns-then-symbol-to_number : goal.returns-then-symbol-to_number
 returns-then-symbol-to_number g c =
     let row = c.row_words_of.ensures in
-    let whole = g.Probability.BitArray.whole in
+    let whole = g.Probability.WholeNumber.whole in
     let answered = c.row_words_of.result in
     uniform-entry g.row.PRECISION (whole c.args.self.now.last_symbol) c.args.self.now.within c.args.symbol.now
-    (whole c.from_number.result) (whole answered.0) (whole (g.Probability.NonZero.NonZeroBitArray.base answered.1))
+    (whole c.from_number.result) (whole answered.0) (whole (g.Probability.WholeNumber.base answered.1))
     c.from_number.ensures row.left row.weight
     (omega (arith, c.if-symbol-to_number.true, c.to_number.ensures))
 

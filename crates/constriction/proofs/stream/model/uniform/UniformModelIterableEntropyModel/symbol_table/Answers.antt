@@ -7,7 +7,7 @@ use Rattle.constriction.proofs.stream.model.uniform.UniformModelIterableEntropyM
 
 pub returns : goal.returns
 returns g c =
-    let whole = g.Probability.BitArray.whole in
+    let whole = g.Probability.WholeNumber.whole in
     let last = whole c.args.self.last_symbol in
     let rows = uniform_rows g.row.PRECISION (last + 1) in
     let t = c.new.result in

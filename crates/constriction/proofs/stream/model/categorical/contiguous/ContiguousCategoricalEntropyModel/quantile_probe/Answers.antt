@@ -4,9 +4,9 @@ use Rattle.constriction.proofs.stream.model.categorical.contiguous.ContiguousCat
 
 pub returns : goal.returns
 returns g c =
-    let whole = g.Probability.BitArray.whole in
+    let whole = g.Probability.WholeNumber.whole in
     let table = map whole (g.Cdf.SafeBuf.words_of c.args.self.now.cdf) in
-    let probed = table-probed g.Probability.BitArray.BITS g.row.PRECISION table (map whole c.cdf_entries.result.now)
+    let probed = table-probed g.Probability.WholeNumber.BITS g.row.PRECISION table (map whole c.cdf_entries.result.now)
     c.args.self.now.stored c.cdf_entries.ensures in
     record {
       rows = rw c.new.ensures.cumulatives probed.0;

@@ -5,16 +5,16 @@ use Rattle.constriction.proofs.stream.model.categorical.hashed.HashMapEntryWeigh
 
 pub returns-clause-apart : goal.returns-clause-apart
 returns-clause-apart g c = λ ok rows h.
-    let whole = g.Probability.BitArray.whole in
-    let base = g.Probability.NonZero.NonZeroBitArray.base in
+    let whole = g.Probability.WholeNumber.whole in
+    let base = g.Probability.WholeNumber.base in
     let eq = g.Symbol.PartialEq.eq in
     hashed-member eq g.met.Symbol.Eq.laws (λ e. (whole e.left, whole (base e.weight))) rows (get eq c.args.self.now) c.args.symbol false h.1
     (c.insert_apart.ensures.apart ok)
 
 pub returns-clause-repeated : goal.returns-clause-repeated
 returns-clause-repeated g c = λ bad rows h.
-    let whole = g.Probability.BitArray.whole in
-    let base = g.Probability.NonZero.NonZeroBitArray.base in
+    let whole = g.Probability.WholeNumber.whole in
+    let base = g.Probability.WholeNumber.base in
     let eq = g.Symbol.PartialEq.eq in
     hashed-member eq g.met.Symbol.Eq.laws (λ e. (whole e.left, whole (base e.weight))) rows (get eq c.args.self.now) c.args.symbol true h.1
     (c.insert_apart.ensures.repeated bad)

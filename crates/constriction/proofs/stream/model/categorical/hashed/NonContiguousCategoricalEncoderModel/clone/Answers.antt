@@ -11,8 +11,8 @@ invariant_of-result g c =
 
 pub returns : goal.returns
 returns g c =
-    let whole = g.Probability.BitArray.whole in
-    let base = g.Probability.NonZero.NonZeroBitArray.base in
+    let whole = g.Probability.WholeNumber.whole in
+    let base = g.Probability.WholeNumber.base in
     let m = c.args.self.now in
     ap (rows_of_table (λ e. (whole e.left, whole (base e.weight))))
     (entries-cloned g.Symbol.Clone.is_clone c.requires m.table.entries c.in_ok-table.table.entries c.in_ok-table.ensures.cases)

@@ -14,26 +14,26 @@ use Rattle.constriction.proofs.stream.model.categorical.hashed.NonContiguousCate
 
 pub invariant_of-result : goal.invariant_of-result
 invariant_of-result g c =
-    let whole = g.Probability.BitArray.whole in
-    let base = g.Probability.NonZero.NonZeroBitArray.base in
+    let whole = g.Probability.WholeNumber.whole in
+    let base = g.Probability.WholeNumber.base in
     let eq = g.Symbol.PartialEq.eq in
     let laws = g.met.Symbol.Eq.laws in
     let given = c.in_ok-table.ensures.ok in
     let weights = completed g.row.PRECISION c.args.infer_last_probability (map whole given.1) in
     let good = given.4 in
     let rows = rows_of given.0 weights in
-    let tile = accepted-tile eq g.Probability.BitArray.BITS g.row.PRECISION given.0 weights good.0 in
+    let tile = accepted-tile eq g.Probability.WholeNumber.BITS g.row.PRECISION given.0 weights good.0 in
     record {
       distinct = good.1.0;
       within = table-rows_within eq laws (λ e. (whole e.left, whole (base e.weight))) g.row.PRECISION c.in_ok-table.table.entries good.1.0
           (found-within eq laws (λ e. (whole e.left, whole (base e.weight))) g.row.PRECISION rows (get eq c.in_ok-table.table)
-          (rows-within g.Probability.BitArray.BITS g.row.PRECISION rows tile) good.1.1);
+          (rows-within g.Probability.WholeNumber.BITS g.row.PRECISION rows tile) good.1.1);
     }
 
 pub returns-clause-ok : goal.returns-clause-ok
 returns-clause-ok g c =
-    let whole = g.Probability.BitArray.whole in
-    let base = g.Probability.NonZero.NonZeroBitArray.base in
+    let whole = g.Probability.WholeNumber.whole in
+    let base = g.Probability.WholeNumber.base in
     let eq = g.Symbol.PartialEq.eq in
     let laws = g.met.Symbol.Eq.laws in
     let given = c.in_ok-table.ensures.ok in
@@ -53,7 +53,7 @@ returns-clause-ok g c =
           good.0,
           (λ s. table-entry_of eq laws (λ e. (whole e.left, whole (base e.weight))) c.in_ok-table.table.entries s good.1.0 ∙ good.1.1 s),
           table-count eq laws (λ e. (whole e.left, whole (base e.weight))) c.in_ok-table.table.entries rows good.1.0 good.1.1
-              ∙ ap (distinct_count eq) (accepted-symbols eq g.Probability.BitArray.BITS g.row.PRECISION given.0 weights good.0)
+              ∙ ap (distinct_count eq) (accepted-symbols eq g.Probability.WholeNumber.BITS g.row.PRECISION given.0 weights good.0)
               ∙ distinct_count-from_IsDistinct laws given.0 good.0.distinct,
         ),
       ),
@@ -62,7 +62,7 @@ returns-clause-ok g c =
 pub rows_read-requires-clause-none : goal.rows_read-requires-clause-none
 rows_read-requires-clause-none g c = (
   c.table_for-room.ensures.unique,
-  λ s. ap (option_map (λ e. (g.Probability.BitArray.whole e.left, g.Probability.BitArray.whole (g.Probability.NonZero.NonZeroBitArray.base e.weight))))
+  λ s. ap (option_map (λ e. (g.Probability.WholeNumber.whole e.left, g.Probability.WholeNumber.whole (g.Probability.WholeNumber.base e.weight))))
       (ap (lookup (g.Symbol.PartialEq.eq s)) c.table_for-room.ensures.empty),
 )
 

@@ -4,16 +4,16 @@ use Rattle.constriction.proofs.stream.model.categorical.hashed.NonContiguousCate
 
 pub returns-in-Some : goal.returns-in-Some
 returns-in-Some g c =
-    let whole = g.Probability.BitArray.whole in
-    let base = g.Probability.NonZero.NonZeroBitArray.base in
+    let whole = g.Probability.WholeNumber.whole in
+    let base = g.Probability.WholeNumber.base in
     let m = c.args.self.now in
     table-answer g.Symbol.PartialEq.eq g.met.Symbol.Eq.laws (λ e. (whole e.left, whole (base e.weight))) m.table.entries c.args.symbol.now
     m.distinct (Some c.in-Some.entry.now) c.in-Some.ensures.value
 
 pub returns-in-None : goal.returns-in-None
 returns-in-None g c =
-    let whole = g.Probability.BitArray.whole in
-    let base = g.Probability.NonZero.NonZeroBitArray.base in
+    let whole = g.Probability.WholeNumber.whole in
+    let base = g.Probability.WholeNumber.base in
     let m = c.args.self.now in
     table-answer g.Symbol.PartialEq.eq g.met.Symbol.Eq.laws (λ e. (whole e.left, whole (base e.weight))) m.table.entries c.args.symbol.now
     m.distinct None c.in-None.ensures.value

@@ -4,22 +4,22 @@ use Rattle.constriction.proofs.stream.model.categorical.lookup_contiguous.Contig
 
 pub slots_of-requires-clause-searchable : goal.slots_of-requires-clause-searchable
 slots_of-requires-clause-searchable g c =
-    let whole = g.Probability.BitArray.whole in
-    (table-search g.Probability.BitArray.BITS g.row.PRECISION (map whole c.args.model.cdf.items) (map whole c.cdf_entries.result.now)
+    let whole = g.Probability.WholeNumber.whole in
+    (table-search g.Probability.WholeNumber.BITS g.row.PRECISION (map whole c.args.model.cdf.items) (map whole c.cdf_entries.result.now)
     c.args.model.stored c.cdf_entries.ensures).0
 
 pub slots_of-requires-clause-below : goal.slots_of-requires-clause-below
 slots_of-requires-clause-below g c =
-    let whole = g.Probability.BitArray.whole in
-    (table-search g.Probability.BitArray.BITS g.row.PRECISION (map whole c.args.model.cdf.items) (map whole c.cdf_entries.result.now)
+    let whole = g.Probability.WholeNumber.whole in
+    (table-search g.Probability.WholeNumber.BITS g.row.PRECISION (map whole c.args.model.cdf.items) (map whole c.cdf_entries.result.now)
     c.args.model.stored c.cdf_entries.ensures).1
 
 pub invariant_of-result : goal.invariant_of-result
 invariant_of-result g c =
-    let whole = g.Probability.BitArray.whole in
+    let whole = g.Probability.WholeNumber.whole in
     record {
       narrow = c.requires.narrow;
       slots =
-          rw (table-lefts g.Probability.BitArray.BITS g.row.PRECISION (map whole c.args.model.cdf.items) (map whole c.cdf_entries.result.now)
+          rw (table-lefts g.Probability.WholeNumber.BITS g.row.PRECISION (map whole c.args.model.cdf.items) (map whole c.cdf_entries.result.now)
           c.args.model.stored c.cdf_entries.ensures) at c.in_ok-lookup_table.ensures;
     }

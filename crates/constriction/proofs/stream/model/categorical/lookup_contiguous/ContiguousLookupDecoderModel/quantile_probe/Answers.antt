@@ -8,18 +8,18 @@ use Rattle.constriction.proofs.stream.model.categorical.lookup_contiguous.Contig
 
 pub slot_probe-requires-clause-slots : goal.slot_probe-requires-clause-slots
 slot_probe-requires-clause-slots g c =
-    let whole = g.Probability.BitArray.whole in
+    let whole = g.Probability.WholeNumber.whole in
     let table = map whole (g.Cdf.SafeBuf.words_of c.args.self.now.model.cdf) in
     rw (
-      table-lefts g.Probability.BitArray.BITS g.row.PRECISION table (map whole c.cdf_entries.result.now) c.args.self.now.model.stored
+      table-lefts g.Probability.WholeNumber.BITS g.row.PRECISION table (map whole c.cdf_entries.result.now) c.args.self.now.model.stored
           c.cdf_entries.ensures,
       c.words.ensures,
     ) c.args.self.now.slots
 
 pub returns : goal.returns
 returns g c =
-    let whole = g.Probability.BitArray.whole in
-    let bits = g.Probability.BitArray.BITS in
+    let whole = g.Probability.WholeNumber.whole in
+    let bits = g.Probability.WholeNumber.BITS in
     let table = map whole (g.Cdf.SafeBuf.words_of c.args.self.now.model.cdf) in
     let stored = c.args.self.now.model.stored in
     let probed = slot-probed bits g.row.PRECISION (contiguous_rows (weights_of g.row.PRECISION (lefts_in table)))

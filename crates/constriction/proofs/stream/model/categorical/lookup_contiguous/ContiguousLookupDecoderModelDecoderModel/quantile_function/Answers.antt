@@ -6,26 +6,26 @@ use Rattle.constriction.proofs.stream.model.categorical.lookup_contiguous.Contig
 
 pub row_in_slot-index-requires-clause-increases : goal.row_in_slot-index-requires-clause-increases
 row_in_slot-index-requires-clause-increases g c =
-    let whole = g.Probability.BitArray.whole in
+    let whole = g.Probability.WholeNumber.whole in
     let table = map whole (g.Cdf.SafeBuf.words_of c.args.self.now.model.cdf) in
-    (table-search g.Probability.BitArray.BITS g.row.PRECISION table (map whole c.cdf_entries.result.now) c.args.self.now.model.stored
+    (table-search g.Probability.WholeNumber.BITS g.row.PRECISION table (map whole c.cdf_entries.result.now) c.args.self.now.model.stored
     c.cdf_entries.ensures).0.increases
 
 pub row_in_slot-index-requires-clause-slots : goal.row_in_slot-index-requires-clause-slots
 row_in_slot-index-requires-clause-slots g c =
-    let whole = g.Probability.BitArray.whole in
+    let whole = g.Probability.WholeNumber.whole in
     let table = map whole (g.Cdf.SafeBuf.words_of c.args.self.now.model.cdf) in
     rw (
-      table-lefts g.Probability.BitArray.BITS g.row.PRECISION table (map whole c.cdf_entries.result.now) c.args.self.now.model.stored
+      table-lefts g.Probability.WholeNumber.BITS g.row.PRECISION table (map whole c.cdf_entries.result.now) c.args.self.now.model.stored
           c.cdf_entries.ensures,
       c.words.ensures,
     ) c.args.self.now.slots
 
 pub contiguous_row_at-requires-clause-in_bounds : goal.contiguous_row_at-requires-clause-in_bounds
 contiguous_row_at-requires-clause-in_bounds g c =
-    let whole = g.Probability.BitArray.whole in
+    let whole = g.Probability.WholeNumber.whole in
     let words = g.Cdf.SafeBuf.words_of c.args.self.now.model.cdf in
-    let found = table-index g.Probability.BitArray.BITS g.row.PRECISION (map whole words) (map whole c.cdf_entries.result.now)
+    let found = table-index g.Probability.WholeNumber.BITS g.row.PRECISION (map whole words) (map whole c.cdf_entries.result.now)
     c.args.self.now.model.stored c.cdf_entries.ensures (whole c.args.quantile) c.row_in_slot-index.result c.requires.in_range
     c.row_in_slot-index.ensures in
     let within : c.row_in_slot-index.result + 1 < length words = omega (arith, found.1, length-map words whole) in
@@ -33,15 +33,15 @@ contiguous_row_at-requires-clause-in_bounds g c =
 
 pub returns : goal.returns
 returns g c =
-    let whole = g.Probability.BitArray.whole in
+    let whole = g.Probability.WholeNumber.whole in
     let words = g.Cdf.SafeBuf.words_of c.args.self.now.model.cdf in
-    let found = table-index g.Probability.BitArray.BITS g.row.PRECISION (map whole words) (map whole c.cdf_entries.result.now)
+    let found = table-index g.Probability.WholeNumber.BITS g.row.PRECISION (map whole words) (map whole c.cdf_entries.result.now)
     c.args.self.now.model.stored c.cdf_entries.ensures (whole c.args.quantile) c.row_in_slot-index.result c.requires.in_range
     c.row_in_slot-index.ensures in
     record {
       row =
           rw (rw c.words-2.ensures at c.contiguous_row_at.ensures.row) at
-          (found.0.row (row_of whole g.Probability.NonZero.NonZeroBitArray.base c.contiguous_row_at.result));
+          (found.0.row (row_of whole g.Probability.WholeNumber.base c.contiguous_row_at.result));
       within = c.contiguous_row_at.ensures.within;
       succeeds = refl {a = true};
       refused = tt;

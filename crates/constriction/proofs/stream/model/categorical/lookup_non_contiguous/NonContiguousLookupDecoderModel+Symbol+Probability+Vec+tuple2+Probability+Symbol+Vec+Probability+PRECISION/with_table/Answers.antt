@@ -3,12 +3,12 @@ use Rattle.constriction.proofs.stream.model.categorical.lookup_non_contiguous.No
 
 pub slots_of-requires-clause-searchable : goal.slots_of-requires-clause-searchable
 slots_of-requires-clause-searchable g c =
-    (paired-search g.Probability.BitArray.whole g.Probability.BitArray.BITS g.row.PRECISION c.args.model.cdf.items c.args.model.stored
+    (paired-search g.Probability.WholeNumber.whole g.Probability.WholeNumber.BITS g.row.PRECISION c.args.model.cdf.items c.args.model.stored
     c.as_slice.result.now c.as_slice.ensures.value).0
 
 pub slots_of-requires-clause-below : goal.slots_of-requires-clause-below
 slots_of-requires-clause-below g c =
-    (paired-search g.Probability.BitArray.whole g.Probability.BitArray.BITS g.row.PRECISION c.args.model.cdf.items c.args.model.stored
+    (paired-search g.Probability.WholeNumber.whole g.Probability.WholeNumber.BITS g.row.PRECISION c.args.model.cdf.items c.args.model.stored
     c.as_slice.result.now c.as_slice.ensures.value).1
 
 pub invariant_of-result : goal.invariant_of-result
@@ -18,6 +18,6 @@ invariant_of-result g c = record {
   stored = c.args.model.stored;
   distinct = c.args.model.distinct;
   slots =
-      rw (lent-lefts g.Probability.BitArray.whole g.Probability.BitArray.BITS g.row.PRECISION c.args.model.cdf.items c.args.model.stored
+      rw (lent-lefts g.Probability.WholeNumber.whole g.Probability.WholeNumber.BITS g.row.PRECISION c.args.model.cdf.items c.args.model.stored
       c.as_slice.result.now c.as_slice.ensures.value) at c.in_ok-lookup_table.ensures;
 }

@@ -8,15 +8,15 @@ use Rattle.constriction.proofs.stream.model.categorical.lookup_non_contiguous.No
 pub slot_probe-requires-clause-slots : goal.slot_probe-requires-clause-slots
 slot_probe-requires-clause-slots g c =
     rw (
-      lent-lefts g.Probability.BitArray.whole g.Probability.BitArray.BITS g.row.PRECISION
+      lent-lefts g.Probability.WholeNumber.whole g.Probability.WholeNumber.BITS g.row.PRECISION
           (g.Cdf.SafeBuf.words_of c.args.self.now.cdf) c.args.self.now.stored c.words.result.now c.words.ensures,
       c.words-2.ensures,
     ) c.args.self.now.slots
 
 pub returns : goal.returns
 returns g c =
-    let whole = g.Probability.BitArray.whole in
-    let bits = g.Probability.BitArray.BITS in
+    let whole = g.Probability.WholeNumber.whole in
+    let bits = g.Probability.WholeNumber.BITS in
     let entries = g.Cdf.SafeBuf.words_of c.args.self.now.cdf in
     let stored = c.args.self.now.stored in
     let probed = slot-probed bits g.row.PRECISION (rows_paired whole g.row.PRECISION entries)

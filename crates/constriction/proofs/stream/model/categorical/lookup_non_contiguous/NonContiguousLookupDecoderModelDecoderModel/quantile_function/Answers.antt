@@ -4,14 +4,14 @@ use Rattle.constriction.proofs.stream.model.categorical.lookup_non_contiguous.No
 
 pub row_in_slot-index-requires-clause-increases : goal.row_in_slot-index-requires-clause-increases
 row_in_slot-index-requires-clause-increases g c =
-    (paired-search g.Probability.BitArray.whole g.Probability.BitArray.BITS g.row.PRECISION
+    (paired-search g.Probability.WholeNumber.whole g.Probability.WholeNumber.BITS g.row.PRECISION
     (g.Cdf.SafeBuf.words_of c.args.self.now.cdf) c.args.self.now.stored c.words.result.now
     c.words.ensures).0.increases
 
 pub row_in_slot-index-requires-clause-slots : goal.row_in_slot-index-requires-clause-slots
 row_in_slot-index-requires-clause-slots g c =
     rw (
-      lent-lefts g.Probability.BitArray.whole g.Probability.BitArray.BITS g.row.PRECISION
+      lent-lefts g.Probability.WholeNumber.whole g.Probability.WholeNumber.BITS g.row.PRECISION
           (g.Cdf.SafeBuf.words_of c.args.self.now.cdf) c.args.self.now.stored c.words.result.now c.words.ensures,
       c.words-2.ensures,
     ) c.args.self.now.slots
@@ -21,18 +21,18 @@ cloned_row_at-requires-clause-stored g c = rw c.words-3.ensures c.args.self.now.
 
 pub cloned_row_at-requires-clause-in_bounds : goal.cloned_row_at-requires-clause-in_bounds
 cloned_row_at-requires-clause-in_bounds g c =
-    let whole = g.Probability.BitArray.whole in
+    let whole = g.Probability.WholeNumber.whole in
     let entries = g.Cdf.SafeBuf.words_of c.args.self.now.cdf in
-    let found = paired-index whole g.Probability.BitArray.BITS g.row.PRECISION entries c.args.self.now.stored
+    let found = paired-index whole g.Probability.WholeNumber.BITS g.row.PRECISION entries c.args.self.now.stored
     c.words.result.now c.words.ensures (whole c.args.quantile) c.row_in_slot-index.result c.requires.in_range
     c.row_in_slot-index.ensures in
     rw c.words-3.ensures found.1
 
 pub returns-clause-row : goal.returns-clause-row
 returns-clause-row g c =
-    let whole = g.Probability.BitArray.whole in
+    let whole = g.Probability.WholeNumber.whole in
     let entries = g.Cdf.SafeBuf.words_of c.args.self.now.cdf in
-    let found = paired-index whole g.Probability.BitArray.BITS g.row.PRECISION entries c.args.self.now.stored
+    let found = paired-index whole g.Probability.WholeNumber.BITS g.row.PRECISION entries c.args.self.now.stored
     c.words.result.now c.words.ensures (whole c.args.quantile) c.row_in_slot-index.result c.requires.in_range
     c.row_in_slot-index.ensures in
-    found-row c.cloned_row_at.result (row_of whole g.Probability.NonZero.NonZeroBitArray.base) found.0 (rw c.words-3.ensures at c.cloned_row_at.ensures.row)
+    found-row c.cloned_row_at.result (row_of whole g.Probability.WholeNumber.base) found.0 (rw c.words-3.ensures at c.cloned_row_at.ensures.row)

@@ -4,10 +4,10 @@ use Rattle.constriction.proofs.stream.model.categorical.lookup_non_contiguous.Re
 
 pub returns : goal.returns
 returns g c =
-    let all = (paired-lent g.Probability.BitArray.whole _ g.row.PRECISION _ _ c.args.self.now.stored c.words-cdf.ensures).1 in
+    let all = (paired-lent g.Probability.WholeNumber.whole _ g.row.PRECISION _ _ c.args.self.now.stored c.words-cdf.ensures).1 in
     record { all = all; callable = tt; ends = (tt, same-most _ _ all); counted = same-length _ _ all }
 
 pub invariant_of-result : goal.invariant_of-result
 invariant_of-result g c =
-    let lent = paired-lent g.Probability.BitArray.whole _ g.row.PRECISION _ _ c.args.self.now.stored c.words-cdf.ensures in
+    let lent = paired-lent g.Probability.WholeNumber.whole _ g.row.PRECISION _ _ c.args.self.now.stored c.words-cdf.ensures in
     record { precise = c.args.self.now.precise; stored = lent.0; in_order = lent.2; in_bounds = lent.3 }

@@ -3,8 +3,8 @@ use Rattle.constriction.proofs.stream.model.categorical.non_contiguous.NonContig
 
 pub returns : goal.returns
 returns g c =
-    let whole = g.Probability.BitArray.whole in
-    let probed = paired-probed whole g.Probability.BitArray.BITS g.row.PRECISION (g.Cdf.SafeBuf.words_of c.args.self.now.cdf)
+    let whole = g.Probability.WholeNumber.whole in
+    let probed = paired-probed whole g.Probability.WholeNumber.BITS g.row.PRECISION (g.Cdf.SafeBuf.words_of c.args.self.now.cdf)
     c.args.self.now.stored c.cdf_entries.result.now c.cdf_entries.ensures in
     record {
       rows = rw c.new.ensures.cumulatives probed.0;

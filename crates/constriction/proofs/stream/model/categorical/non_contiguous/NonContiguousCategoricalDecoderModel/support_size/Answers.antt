@@ -5,4 +5,4 @@ use Rattle.constriction.proofs.stream.model.categorical.non_contiguous.NonContig
 pub returns : goal.returns
 returns g c =
     ap length c.words.ensures
-    ∙ sym (paired-many g.Probability.BitArray.whole _ g.row.PRECISION (g.Cdf.SafeBuf.words_of c.args.self.now.cdf) c.args.self.now.stored)
+    ∙ sym (paired-many g.Probability.WholeNumber.whole _ g.row.PRECISION (g.Cdf.SafeBuf.words_of c.args.self.now.cdf) c.args.self.now.stored)

@@ -4,9 +4,9 @@ use Rattle.constriction.proofs.stream.model.categorical.non_contiguous.NonContig
 
 pub row_of_quantile-index-requires-clause-searchable : goal.row_of_quantile-index-requires-clause-searchable
 row_of_quantile-index-requires-clause-searchable g c =
-    let whole = g.Probability.BitArray.whole in
+    let whole = g.Probability.WholeNumber.whole in
     rw c.new-rows.ensures.cumulatives
-    ((paired-probed whole g.Probability.BitArray.BITS g.row.PRECISION (g.Cdf.SafeBuf.words_of c.args.self.now.cdf)
+    ((paired-probed whole g.Probability.WholeNumber.BITS g.row.PRECISION (g.Cdf.SafeBuf.words_of c.args.self.now.cdf)
     c.args.self.now.stored c.cdf_entries.result.now c.cdf_entries.ensures).1 (whole c.args.quantile))
 
 pub cloned_row_at-requires-clause-stored : goal.cloned_row_at-requires-clause-stored
@@ -14,18 +14,18 @@ cloned_row_at-requires-clause-stored g c = rw c.words.ensures c.args.self.now.st
 
 pub cloned_row_at-requires-clause-in_bounds : goal.cloned_row_at-requires-clause-in_bounds
 cloned_row_at-requires-clause-in_bounds g c =
-    let whole = g.Probability.BitArray.whole in
+    let whole = g.Probability.WholeNumber.whole in
     let entries = g.Cdf.SafeBuf.words_of c.args.self.now.cdf in
-    let found = paired-index whole g.Probability.BitArray.BITS g.row.PRECISION entries c.args.self.now.stored c.cdf_entries.result.now
+    let found = paired-index whole g.Probability.WholeNumber.BITS g.row.PRECISION entries c.args.self.now.stored c.cdf_entries.result.now
     c.cdf_entries.ensures (whole c.args.quantile) c.row_of_quantile-index.result c.requires.in_range
     (rw c.new-rows.ensures.cumulatives at c.row_of_quantile-index.ensures.found) in
     rw c.words.ensures found.1
 
 pub returns-clause-row : goal.returns-clause-row
 returns-clause-row g c =
-    let whole = g.Probability.BitArray.whole in
+    let whole = g.Probability.WholeNumber.whole in
     let entries = g.Cdf.SafeBuf.words_of c.args.self.now.cdf in
-    let found = paired-index whole g.Probability.BitArray.BITS g.row.PRECISION entries c.args.self.now.stored c.cdf_entries.result.now
+    let found = paired-index whole g.Probability.WholeNumber.BITS g.row.PRECISION entries c.args.self.now.stored c.cdf_entries.result.now
     c.cdf_entries.ensures (whole c.args.quantile) c.row_of_quantile-index.result c.requires.in_range
     (rw c.new-rows.ensures.cumulatives at c.row_of_quantile-index.ensures.found) in
-    found-row c.cloned_row_at.result (row_of whole g.Probability.NonZero.NonZeroBitArray.base) found.0 (rw c.words.ensures at c.cloned_row_at.ensures.row)
+    found-row c.cloned_row_at.result (row_of whole g.Probability.WholeNumber.base) found.0 (rw c.words.ensures at c.cloned_row_at.ensures.row)

@@ -7,14 +7,14 @@ use Rattle.constriction.proofs.stream.model.categorical.non_contiguous_table.Non
 pub returns-then-self : goal.returns-then-self
 returns-then-self g c =
     let t = c.args.self.now in
-    let rows = rows_paired g.Probability.BitArray.whole g.row.PRECISION t.cdf.now in
+    let rows = rows_paired g.Probability.WholeNumber.whole g.row.PRECISION t.cdf.now in
     record { steps = none-between rows t.from t.to c.if-self.true; goes = record { on = λ _. tt; keeps = tt; rests = λ _. tt } }
 
 pub returns-in-Ok : goal.returns-in-Ok
 returns-in-Ok g c =
     let t = c.args.self.now in
     let some : t.from < t.to = omega (arith, t.in_order, c.if-self.false) in
-    let step = paired-last g.Probability.BitArray.whole _ g.row.PRECISION t.cdf.now t.stored t.from t.to _ _ c.index-self-index.result some
+    let step = paired-last g.Probability.WholeNumber.whole _ g.row.PRECISION t.cdf.now t.stored t.from t.to _ _ c.index-self-index.result some
     t.in_bounds c.index-self-index.is c.paired_row_at-left.ensures.left c.paired_row_at-left.ensures.weight in
     record {
       steps = (_, step, ((rw (← c.index-self-index.is) at c.in-Ok.ensures.cases, refl, refl), tt));
@@ -25,7 +25,7 @@ pub returns-in-Err : goal.returns-in-Err
 returns-in-Err g c =
     let t = c.args.self.now in
     let some : t.from < t.to = omega (arith, t.in_order, c.if-self.false) in
-    let step = paired-last g.Probability.BitArray.whole _ g.row.PRECISION t.cdf.now t.stored t.from t.to _ _ c.index-self-index.result some
+    let step = paired-last g.Probability.WholeNumber.whole _ g.row.PRECISION t.cdf.now t.stored t.from t.to _ _ c.index-self-index.result some
     t.in_bounds c.index-self-index.is c.paired_row_at-left.ensures.left c.paired_row_at-left.ensures.weight in
     record {
       steps = (_, step, (tt, rw (← c.index-self-index.is) at c.in-Err.ensures.cases));

@@ -5,4 +5,4 @@ use Rattle.constriction.proofs.stream.model.categorical.non_contiguous_table.Non
 pub returns-clause-value : goal.returns-clause-value
 returns-clause-value g c =
     let t = c.args.self.now in
-    sym (paired-left g.Probability.BitArray.whole _ g.row.PRECISION t.cdf.now t.stored t.from t.to t.in_bounds)
+    sym (paired-left g.Probability.WholeNumber.whole _ g.row.PRECISION t.cdf.now t.stored t.from t.to t.in_bounds)

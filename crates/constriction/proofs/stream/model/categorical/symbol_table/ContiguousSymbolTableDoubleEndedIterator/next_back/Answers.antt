@@ -8,16 +8,16 @@ use Rattle.constriction.proofs.stream.model.categorical.symbol_table.ContiguousS
 pub returns-then-self : goal.returns-then-self
 returns-then-self g c =
     let t = c.args.self.now in
-    let rows = contiguous_rows (weights_of g.row.PRECISION (lefts_in (map g.Probability.BitArray.whole t.cdf.now))) in
+    let rows = contiguous_rows (weights_of g.row.PRECISION (lefts_in (map g.Probability.WholeNumber.whole t.cdf.now))) in
     record { steps = none-between rows t.from t.to c.if-self.true; goes = record { on = λ _. tt; keeps = tt; rests = λ _. tt } }
 
 pub returns : goal.returns
 returns g c =
     let t = c.args.self.now in
-    let table = map g.Probability.BitArray.whole t.cdf.now in
+    let table = map g.Probability.WholeNumber.whole t.cdf.now in
     let some : t.from < t.to = omega (arith, t.in_order, c.if-self.false) in
-    let within : t.to < length table = omega (arith, t.in_bounds, length-map t.cdf.now g.Probability.BitArray.whole) in
-    let step = last-stored g.Probability.BitArray.BITS g.row.PRECISION table t.stored t.from t.to _ _ some within
+    let within : t.to < length table = omega (arith, t.in_bounds, length-map t.cdf.now g.Probability.WholeNumber.whole) in
+    let step = last-stored g.Probability.WholeNumber.BITS g.row.PRECISION table t.stored t.from t.to _ _ some within
     c.row_at-left.ensures.left c.row_at-left.ensures.weight in
     record {
       steps = (_, step, (refl, tt));

@@ -6,6 +6,6 @@ use Rattle.constriction.proofs.stream.model.categorical.symbol_table.ContiguousS
 pub returns-clause-value : goal.returns-clause-value
 returns-clause-value g c =
     let t = c.args.self.now in
-    let table = map g.Probability.BitArray.whole t.cdf.now in
-    let within : t.to < length table = omega (arith, t.in_bounds, length-map t.cdf.now g.Probability.BitArray.whole) in
-    sym (length-stored g.Probability.BitArray.BITS g.row.PRECISION table t.stored t.from t.to within)
+    let table = map g.Probability.WholeNumber.whole t.cdf.now in
+    let within : t.to < length table = omega (arith, t.in_bounds, length-map t.cdf.now g.Probability.WholeNumber.whole) in
+    sym (length-stored g.Probability.WholeNumber.BITS g.row.PRECISION table t.stored t.from t.to within)

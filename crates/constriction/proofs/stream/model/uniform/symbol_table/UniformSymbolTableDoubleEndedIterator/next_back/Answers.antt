@@ -7,13 +7,13 @@ use Rattle.constriction.proofs.stream.model.uniform.symbol_table.UniformSymbolTa
 pub returns-then-self : goal.returns-then-self
 returns-then-self g c =
     let t = c.args.self.now in
-    let rows = uniform_rows g.row.PRECISION (g.Probability.BitArray.whole t.model.last_symbol + 1) in
+    let rows = uniform_rows g.row.PRECISION (g.Probability.WholeNumber.whole t.model.last_symbol + 1) in
     record { steps = none-between rows t.from t.to c.if-self.true; goes = record { on = λ _. tt; keeps = tt; rests = λ _. tt } }
 
 pub returns : goal.returns
 returns g c =
     let t = c.args.self.now in
-    let last : ℕ = g.Probability.BitArray.whole t.model.last_symbol in
+    let last : ℕ = g.Probability.WholeNumber.whole t.model.last_symbol in
     let rows = uniform_rows g.row.PRECISION (last + 1) in
     let row = c.row_words_of-left.ensures in
     let many = length-uniform_rows g.row.PRECISION last in

@@ -7,6 +7,6 @@ use Rattle.constriction.proofs.stream.model.uniform.symbol_table.UniformSymbolTa
 pub returns-clause-value : goal.returns-clause-value
 returns-clause-value g c =
     let t = c.args.self.now in
-    let last = g.Probability.BitArray.whole t.model.last_symbol in
+    let last = g.Probability.WholeNumber.whole t.model.last_symbol in
     let many = length-uniform_rows g.row.PRECISION last in
     sym (length-between (uniform_rows g.row.PRECISION (last + 1)) t.from t.to (omega (arith, t.in_bounds)))
