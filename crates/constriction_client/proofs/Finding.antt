@@ -134,14 +134,14 @@ find_each {S = S} bits precision rows q tile below =
     subst P (sym tile.in_order) (find_some 0 symbols weights q lengths (omega arith) (omega (arith, tile.accepted.tiles.total)))
 
 -- it is the reply to the quantile
-pub replied : {S Other : Type 0} (bits precision : ℕ) (rows : List (Row S)) (q : ℕ) (r : Row S) → q < 2 ^ precision
-    → RowsTile bits precision rows → IsRowOf rows q r → row_reply {Other = Other} r ≡ reply_to_quantile precision rows q
+pub replied : {S : Type 0} (bits precision : ℕ) (rows : List (Row S)) (q : ℕ) (r : Row S) → q < 2 ^ precision
+    → RowsTile bits precision rows → IsRowOf rows q r → row_reply r ≡ reply_to_quantile precision rows q
 replied bits precision rows q r below tile is =
     rw (lt-ltb q (2 ^ precision) below, find_row bits precision rows q r tile is) refl
 
 -- replies by rows that are those of before, and by entries that are these rows', are a scan's of the rows of before
-pub scan-of-rows : {S Word Other : Type 0} (precision : ℕ) (whole : Word → ℕ) (eq : S → S → Bool) (entry : S → Option (ℕ × ℕ))
-    (rows before : List (Row S)) (queries : List (Query S Word)) (found : List (Reply S ℕ ℕ Other))
+pub scan-of-rows : {S Word : Type 0} (precision : ℕ) (whole : Word → ℕ) (eq : S → S → Bool) (entry : S → Option (ℕ × ℕ))
+    (rows before : List (Row S)) (queries : List (Query S Word)) (found : List (Reply S ℕ ℕ))
     → rows ≡ before → ((s : S) → entry s ≡ entry_of eq before s)
     → found ≡ replies_of_two precision whole rows entry queries → found ≡ replies_by_scan precision whole eq before queries
 scan-of-rows {S = S} precision whole eq entry rows before queries found same alike is =
@@ -159,7 +159,7 @@ one-more-answered asked told items i item answers more answer within is grown an
     ∙ sym (ap (map asked) (take_more items i item within) ∙ map-append asked (take i items) (get_or items i item ∷ []))
 
 -- replies to so many queries that there are no more are the replies to all
-pub all-answered : {S Word Other : Type 0} (precision : ℕ) (whole : Word → ℕ) (rows : List (Row S)) (entry : S → Option (ℕ × ℕ))
-    (queries : List (Query S Word)) (n : ℕ) (found : List (Reply S ℕ ℕ Other)) → length queries ≤ n
+pub all-answered : {S Word : Type 0} (precision : ℕ) (whole : Word → ℕ) (rows : List (Row S)) (entry : S → Option (ℕ × ℕ))
+    (queries : List (Query S Word)) (n : ℕ) (found : List (Reply S ℕ ℕ)) → length queries ≤ n
     → found ≡ replies_of_two precision whole rows entry (take n queries) → found ≡ replies_of_two precision whole rows entry queries
 all-answered precision whole rows entry queries n found h is = is ∙ ap (replies_of_two precision whole rows entry) (take_all n queries h)

@@ -9,37 +9,35 @@ use Rattle.constriction_client.specs.declared.queries.Reply.{Reply}
 use Rattle.constriction_client.specs.declared.queries.Reply.TheVariants as reply
 use Rattle.constriction_client.specs.Scanning.{holds}
 
--- Below, the last type of a reply is one that no part of a reply is of.
-
 -- a reply with the numbers of its words in their place
-abbrev pub in_numbers : {Symbol Word Weight Other : Type 0} → (Word → ℕ) → (Weight → Word) → Reply Symbol Word Weight Other
-    → Reply Symbol ℕ ℕ Other
+abbrev pub in_numbers : {Symbol Word Weight : Type 0} → (Word → ℕ) → (Weight → Word) → Reply Symbol Word Weight
+    → Reply Symbol ℕ ℕ
 in_numbers whole base (reply.Row symbol left weight) = reply.Row symbol (whole left) (whole (base weight))
 in_numbers whole base reply.OutOfRange = reply.OutOfRange
 in_numbers whole base (reply.Entry entry) = reply.Entry (option_map (entry_in whole base) entry)
 
 -- the reply that a row is
-abbrev pub row_reply : {Symbol Other : Type 0} → Row Symbol → Reply Symbol ℕ ℕ Other
+abbrev pub row_reply : {Symbol : Type 0} → Row Symbol → Reply Symbol ℕ ℕ
 row_reply row = reply.Row row.symbol row.left row.weight
 
 -- The reply to a quantile: the first row that holds it, or that it is not below 2 ^ precision. Of rows that tile, one holds each
 -- quantile below it (`FindsARow`).
-abbrev pub reply_to_quantile : {Symbol Other : Type 0} → ℕ → List (Row Symbol) → ℕ → Reply Symbol ℕ ℕ Other
+abbrev pub reply_to_quantile : {Symbol : Type 0} → ℕ → List (Row Symbol) → ℕ → Reply Symbol ℕ ℕ
 reply_to_quantile precision rows q =
     if nat_lt q (2 ^ precision) then option_map_or row_reply (find (holds q) rows) reply.OutOfRange else reply.OutOfRange
 
 -- the reply to a query: a quantile's by a scan of the rows, a symbol's by its entry
-abbrev pub reply_to_query : {Symbol Word Other : Type 0} → ℕ → (Word → ℕ) → List (Row Symbol) → (Symbol → Option (ℕ × ℕ))
-    → Query Symbol Word → Reply Symbol ℕ ℕ Other
+abbrev pub reply_to_query : {Symbol Word : Type 0} → ℕ → (Word → ℕ) → List (Row Symbol) → (Symbol → Option (ℕ × ℕ))
+    → Query Symbol Word → Reply Symbol ℕ ℕ
 reply_to_query precision whole rows entry (OfQuantile word) = reply_to_quantile precision rows (whole word)
 reply_to_query precision whole rows entry (OfSymbol symbol) = reply.Entry (entry symbol)
 
 -- the replies to queries, one by one, where the rows and the entries are those of two models
-abbrev pub replies_of_two : {Symbol Word Other : Type 0} → ℕ → (Word → ℕ) → List (Row Symbol) → (Symbol → Option (ℕ × ℕ))
-    → List (Query Symbol Word) → List (Reply Symbol ℕ ℕ Other)
+abbrev pub replies_of_two : {Symbol Word : Type 0} → ℕ → (Word → ℕ) → List (Row Symbol) → (Symbol → Option (ℕ × ℕ))
+    → List (Query Symbol Word) → List (Reply Symbol ℕ ℕ)
 replies_of_two precision whole rows entry queries = map (reply_to_query precision whole rows entry) queries
 
 -- the replies of one row list to queries, by a scan: the entries are those of its rows
-abbrev pub replies_by_scan : {Symbol Word Other : Type 0} → ℕ → (Word → ℕ) → (Symbol → Symbol → Bool) → List (Row Symbol)
-    → List (Query Symbol Word) → List (Reply Symbol ℕ ℕ Other)
+abbrev pub replies_by_scan : {Symbol Word : Type 0} → ℕ → (Word → ℕ) → (Symbol → Symbol → Bool) → List (Row Symbol)
+    → List (Query Symbol Word) → List (Reply Symbol ℕ ℕ)
 replies_by_scan precision whole eq rows queries = replies_of_two precision whole rows (entry_of eq rows) queries

@@ -14,9 +14,9 @@ use crate::decoder_form::{DecoderForm, Searching, Tabled};
 use crate::laws::form_symbols_differ;
 use constriction::laws::{symbols_and_weights_rebuild, table_gives_all_rows};
 use constriction::stream::model::{
-    EntropyModel, FromIterableEntropyModel, IterableEntropyModel, ModelError,
+    EntropyModel, FromIterableEntropyModel, IterableEntropyModel, ModelError, Weight,
 };
-use constriction_words::{BitArray, IndexWord, NonZeroBitArray};
+use constriction_words::{IndexWord, WholeNumber};
 use std::alloc::{AllocError, Global};
 
 /// A conversion of a [`DecoderForm`].
@@ -35,17 +35,16 @@ pub enum ChainStep {
 
 /// The symbols and the words of the weights of rows that are walked through, in order. It ends at the first
 /// refusal.
-fn symbols_and_words<Symbol: Drop, Word: Copy, Weight, Walk>(
+fn symbols_and_words<Symbol: Drop, Word: WholeNumber, Walk>(
     alloc: Global,
     walk: Walk,
 ) -> Result<(Vec<Symbol>, Vec<Word>), AllocError>
 where
-    Weight: NonZeroBitArray<Base = Word>,
-    Walk: Iterator<Item = Result<(Symbol, Word, Weight), AllocError>>,
+    Walk: Iterator<Item = Result<(Symbol, Word, Weight<Word>), AllocError>>,
     requires callable { Walk.can_next walk }
     requires ends { IsFinite (Walk.remaining walk) }
-    ensures { IfOk result (λ lists. (rows : List (Symbol × Word × Weight)) × Drains Walk.next_gives walk (map Ok rows)
-        × (lists.0.items ≡ map (λ x. x.0) rows) × (lists.1.items ≡ map (λ x. Weight.base x.2) rows)) }
+    ensures { IfOk result (λ lists. (rows : List (Symbol × Word × Word.NonZero)) × Drains Walk.next_gives walk (map Ok rows)
+        × (lists.0.items ≡ map (λ x. x.0) rows) × (lists.1.items ≡ map (λ x. Word.base x.2) rows)) }
 {
     let announced = walk.size_hint().0;
     let mut symbols = Vec::with_capacity(alloc, announced)?;
@@ -53,7 +52,7 @@ where
     for row in walk {
         let (symbol, _left, weight) = row?;
         symbols.push(symbol)?;
-        words.push(weight.get())?;
+        words.push(Word::from_weight(weight))?;
     }
     Ok((symbols, words))
 }

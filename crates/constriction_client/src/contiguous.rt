@@ -8,7 +8,7 @@ use crate::rows::push_rows;
 use constriction::stream::model::{
     ContiguousCategoricalEntropyModel, DecoderModel, EncoderModel, EntropyModel, ModelError,
 };
-use constriction_words::NonZeroBitArray;
+use constriction_words::WholeNumber;
 use std::alloc::{AllocError, Global};
 
 impl<Word: FormWord, const PRECISION: usize> LineModel<PRECISION>
@@ -35,14 +35,14 @@ impl<Word: FormWord, const PRECISION: usize> LineModel<PRECISION>
 
     fn entry(&self, symbol: usize) -> Option<(u64, u64)> {
         match self.left_cumulative_and_probability(&symbol) {
-            Some((left, weight)) => Some((left.number(), weight.get().number())),
+            Some((left, weight)) => Some((left.number(), Word::from_weight(weight).number())),
             None => None,
         }
     }
 
     fn row(&self, quantile: u64) -> Result<(usize, u64, u64), AllocError> {
         let (symbol, left, weight) = self.quantile_function(Word::narrowed(quantile))?;
-        Ok((symbol, left.number(), weight.get().number()))
+        Ok((symbol, left.number(), Word::from_weight(weight).number()))
     }
 
     ghost tile_law = { λ m. stored-tiles _ _ _ m.stored.stored };

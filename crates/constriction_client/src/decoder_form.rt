@@ -4,7 +4,7 @@ use constriction::stream::model::{
     DecoderModel, EntropyModel, IterableEntropyModel, NonContiguousCategoricalDecoderModel,
     NonContiguousLookupDecoderModel, NonContiguousSymbolTable, Weight,
 };
-use constriction_words::{BitArray, IndexWord};
+use constriction_words::IndexWord;
 use std::alloc::AllocError;
 
 /// The form that searches all rows.
@@ -109,7 +109,7 @@ impl<
         }
     }
 
-    ghost steps_law = { λ same t r u step. yields-row Symbol.is_clone Symbol.is_infallible Probability.whole Probability.NonZero.base
+    ghost steps_law = { λ same t r u step. yields-row Symbol.is_clone Symbol.is_infallible Probability.whole Probability.base
         same _ r _ step };
 
     ghost tile_law = { λ m. elim m.now as (λ f. RowsTile Probability.BITS PRECISION

@@ -4,10 +4,10 @@ ghost use Rattle.std.specs.Prelude.{◌≡◌, ◌^◌, ◌<◌, ℕ};
 ghost use Rattle.std.proofs.Common.{refl};
 ghost use Rattle.constriction_client.specs.NumberWords.{narrowed_to};
 
-use constriction_words::BitArray;
+use constriction_words::WholeNumber;
 
 /// A word that the probabilities of a form are: numbers become words, and words numbers.
-pub(crate) trait FormWord: BitArray {
+pub(crate) trait FormWord: WholeNumber {
     // The word of a number.
     ghost word_of: { ℕ → Self };
 

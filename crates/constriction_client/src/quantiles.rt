@@ -6,9 +6,9 @@ ghost use Rattle.constriction.specs.Rows.{entry_of};
 ghost use Rattle.constriction_client.specs.Quantiles.{IsQuantileOf, IsFaultOf, WritesItems, StopsAtItem};
 ghost use Rattle.constriction_client.specs.Quantiles.{IsPairOf, IsReadFaultOf, ReadsPairs};
 
-use constriction::stream::model::{DecoderModel, EncodesOver, is_quantile};
+use constriction::stream::model::{DecodesOver, EncodesOver, is_quantile};
 use constriction_backends::{ReadWords, WriteWords};
-use constriction_words::{BitArray, CoderError, NonZeroBitArray, Semantics, WholeNumber};
+use constriction_words::{CoderError, Semantics, WholeNumber};
 use thiserror::Error;
 
 /// Why an item has no quantile.
@@ -62,7 +62,7 @@ fn quantile_of<Symbol, Word, E, const PRECISION: usize>(
     item: &(Symbol, Word),
 ) -> Result<Word, QuantileFault>
 where
-    Word: BitArray,
+    Word: WholeNumber,
     E: EncodesOver<Symbol, Word, PRECISION>,
     requires { PRECISION ≤ Word.BITS }
     ensures ok { IfOk result (λ word. IsQuantileOf (entry_of E.symbol_eq (E.rows encoder.now)) Word.whole
@@ -70,29 +70,32 @@ where
     ensures err { IfErr result (IsFaultOf (entry_of E.symbol_eq (E.rows encoder.now)) Word.whole item.now) }
 {
     match encoder.entry(&item.0) {
-        Some((left, weight)) => quantile_within(item, left, weight.get()),
+        Some((left, weight)) => quantile_within(item, left, Word::from_weight(weight)),
         None => Err(QuantileFault::ImpossibleSymbol),
     }
 }
 
 /// The pair of a word, where it is a quantile.
 #[inline]
-fn pair_of<M: DecoderModel<PRECISION>, const PRECISION: usize>(
+fn pair_of<Symbol, Word, M, const PRECISION: usize>(
     model: &M,
-    word: M::Probability,
-) -> Result<(M::Symbol, M::Probability), ReadFault>
+    word: Word,
+) -> Result<(Symbol, Word), ReadFault>
+where
+    Word: WholeNumber,
+    M: DecodesOver<Symbol, Word, PRECISION>,
     requires positive { 0 < PRECISION }
-    requires fits { PRECISION ≤ M.Probability.BITS }
+    requires fits { PRECISION ≤ Word.BITS }
     requires clones { M.clones_are_same }
-    ensures ok { IfOk result (IsPairOf (M.rows model.now) M.Probability.whole word) }
-    ensures in_range { OnOk result (M.Probability.whole word < 2 ^ PRECISION) }
-    ensures err { IfErr result (IsReadFaultOf PRECISION (M.Probability.whole word)) }
+    ensures ok { IfOk result (IsPairOf (M.rows model.now) Word.whole word) }
+    ensures in_range { OnOk result (Word.whole word < 2 ^ PRECISION) }
+    ensures err { IfErr result (IsReadFaultOf PRECISION (Word.whole word)) }
 {
-    if !is_quantile::<M::Probability, PRECISION>(word) {
+    if !is_quantile::<Word, PRECISION>(word) {
         return Err(ReadFault::QuantileTooLarge);
     }
-    match model.quantile_function(word) {
-        Ok((symbol, left, _)) => Ok((symbol, WholeNumber::minus(word, left))),
+    match model.row(word) {
+        Ok((symbol, left, _)) => Ok((symbol, word.minus(left))),
         Err(_) => Err(ReadFault::OutOfMemory),
     }
 }
@@ -109,7 +112,7 @@ pub fn write_quantiles<Symbol, Word, E, W, const PRECISION: usize>(
     sink: &mut W,
 ) -> Result<(), CoderError<QuantileFault, W::WriteError>>
 where
-    Word: BitArray,
+    Word: WholeNumber,
     E: EncodesOver<Symbol, Word, PRECISION>,
     W: WriteWords<Word>,
     requires fits { PRECISION ≤ Word.BITS }
@@ -141,21 +144,21 @@ where
 /// for a pair is refused: that word has been read. `Backend` is answered where a read fails. In
 /// each case `out` keeps its pairs and those of the words before, and reading may go on after the
 /// fault. One look-up for each word; memory for the symbols and for `out` alone.
-pub fn read_symbols<S: Semantics, M, R, const PRECISION: usize>(
+pub fn read_symbols<S: Semantics, Symbol: Drop, Word, M, R, const PRECISION: usize>(
     model: &M,
     source: &mut R,
     count: usize,
-    out: &mut Vec<(M::Symbol, M::Probability)>,
+    out: &mut Vec<(Symbol, Word)>,
 ) -> Result<usize, CoderError<ReadFault, R::ReadError>>
 where
-    M: DecoderModel<PRECISION>,
-    M::Symbol: Drop,
-    R: ReadWords<M::Probability, S>,
+    Word: WholeNumber,
+    M: DecodesOver<Symbol, Word, PRECISION>,
+    R: ReadWords<Word, S>,
     requires positive { 0 < PRECISION }
-    requires fits { PRECISION ≤ M.Probability.BITS }
+    requires fits { PRECISION ≤ Word.BITS }
     requires clones { M.clones_are_same }
     requires can_read { R.can_read source.old }
-    ensures pairs { ReadsPairs PRECISION (M.rows model.now) M.Probability.whole R.read_gives R.tells_upcoming
+    ensures pairs { ReadsPairs PRECISION (M.rows model.now) Word.whole R.read_gives R.tells_upcoming
         count source.old out.old.items result source.new out.new.items }
     ensures counted { IfOk result (λ n. length out.new.items ≡ length out.old.items + n) }
     ensures at_most { IfOk result (λ n. n ≤ count) }

@@ -4,9 +4,10 @@ ghost use Rattle.std.specs.Prelude.{◌≡◌, ◌<◌, ◌≤◌, IfOk, map};
 ghost use Rattle.constriction.specs.Rows.{entry_of};
 ghost use Rattle.constriction_client.specs.Replies.{in_numbers, reply_to_query, replies_of_two, replies_by_scan};
 
-use constriction::stream::model::{DecoderModel, EncodesOver, Weight, is_quantile};
-use constriction_words::BitArray;
+use constriction::stream::model::{DecodesOver, EncodesOver, Weight, is_quantile};
+use constriction_words::WholeNumber;
 use std::alloc::{AllocError, Global};
+use std::fmt::Debug;
 
 /// A question to a decoder or to an encoder.
 #[derive(Debug, PartialEq, Eq, Drop)]
@@ -18,8 +19,11 @@ pub enum Query<Symbol, Word> {
 }
 
 /// The reply to a [`Query`].
-#[derive(Debug, PartialEq, Eq, Drop)]
-pub enum Reply<Symbol, Word: BitArray> {
+#[derive(Drop)]
+#[derive_where(Debug; Symbol: Debug, Word: Debug, Weight<Word>: Debug)]
+#[derive_where(PartialEq; Symbol: PartialEq, Word: PartialEq, Weight<Word>: PartialEq)]
+#[derive_where(Eq; Symbol: Eq, Word: Eq, Weight<Word>: Eq)]
+pub enum Reply<Symbol, Word: WholeNumber> {
     /// The row: its symbol, its left cumulative and its weight.
     Row(Symbol, Word, Weight<Word>),
     /// The word is no quantile: it is not below `2^PRECISION`.
@@ -29,27 +33,28 @@ pub enum Reply<Symbol, Word: BitArray> {
 }
 
 /// The reply to one query.
-fn answer_query<D, E, const PRECISION: usize>(
+fn answer_query<Symbol, Word, D, E, const PRECISION: usize>(
     form: &D,
     encoder: &E,
-    query: &Query<D::Symbol, D::Probability>,
-) -> Result<Reply<D::Symbol, D::Probability>, AllocError>
+    query: &Query<Symbol, Word>,
+) -> Result<Reply<Symbol, Word>, AllocError>
 where
-    D: DecoderModel<PRECISION>,
-    E: EncodesOver<D::Symbol, D::Probability, PRECISION>,
+    Word: WholeNumber,
+    D: DecodesOver<Symbol, Word, PRECISION>,
+    E: EncodesOver<Symbol, Word, PRECISION>,
     requires positive { 0 < PRECISION }
-    requires fits { PRECISION ≤ D.Probability.BITS }
+    requires fits { PRECISION ≤ Word.BITS }
     requires clones { D.clones_are_same }
-    ensures { IfOk result (λ reply. in_numbers D.Probability.whole D.Probability.NonZero.base reply
-        ≡ reply_to_query PRECISION D.Probability.whole (D.rows form.now)
+    ensures { IfOk result (λ reply. in_numbers Word.whole Word.base reply
+        ≡ reply_to_query PRECISION Word.whole (D.rows form.now)
         (entry_of E.symbol_eq (E.rows encoder.now)) query.now) }
 {
     match query {
         Query::OfQuantile(word) => {
-            if !is_quantile::<D::Probability, PRECISION>(*word) {
+            if !is_quantile::<Word, PRECISION>(*word) {
                 return Ok(Reply::OutOfRange);
             }
-            let (symbol, left, weight) = form.quantile_function(*word)?;
+            let (symbol, left, weight) = form.row(*word)?;
             Ok(Reply::Row(symbol, left, weight))
         }
         Query::OfSymbol(symbol) => Ok(Reply::Entry(encoder.entry(symbol))),
@@ -64,26 +69,26 @@ where
 ///
 /// Memory for the replies is asked for once, before the first query. It fails where that is refused, or
 /// memory for a clone of a symbol.
-pub fn answer_queries<D, E, const PRECISION: usize>(
+pub fn answer_queries<Symbol: Drop, Word, D, E, const PRECISION: usize>(
     alloc: Global,
     form: &D,
     encoder: &E,
-    queries: &[Query<D::Symbol, D::Probability>],
-) -> Result<Vec<Reply<D::Symbol, D::Probability>>, AllocError>
+    queries: &[Query<Symbol, Word>],
+) -> Result<Vec<Reply<Symbol, Word>>, AllocError>
 where
-    D: DecoderModel<PRECISION>,
-    D::Symbol: Drop,
-    E: EncodesOver<D::Symbol, D::Probability, PRECISION>,
+    Word: WholeNumber,
+    D: DecodesOver<Symbol, Word, PRECISION>,
+    E: EncodesOver<Symbol, Word, PRECISION>,
     requires positive { 0 < PRECISION }
-    requires fits { PRECISION ≤ D.Probability.BITS }
+    requires fits { PRECISION ≤ Word.BITS }
     requires clones { D.clones_are_same }
-    ensures ok { IfOk result (λ replies. map (in_numbers D.Probability.whole D.Probability.NonZero.base) replies.items
-        ≡ replies_of_two PRECISION D.Probability.whole (D.rows form.now)
+    ensures ok { IfOk result (λ replies. map (in_numbers Word.whole Word.base) replies.items
+        ≡ replies_of_two PRECISION Word.whole (D.rows form.now)
         (entry_of E.symbol_eq (E.rows encoder.now)) queries.now) }
     ensures of_one { IfOk result (λ replies.
-        ((s : D.Symbol) → entry_of E.symbol_eq (E.rows encoder.now) s ≡ entry_of E.symbol_eq (D.rows form.now) s)
-        → map (in_numbers D.Probability.whole D.Probability.NonZero.base) replies.items
-        ≡ replies_by_scan PRECISION D.Probability.whole E.symbol_eq (D.rows form.now) queries.now) }
+        ((s : Symbol) → entry_of E.symbol_eq (E.rows encoder.now) s ≡ entry_of E.symbol_eq (D.rows form.now) s)
+        → map (in_numbers Word.whole Word.base) replies.items
+        ≡ replies_by_scan PRECISION Word.whole E.symbol_eq (D.rows form.now) queries.now) }
 {
     let mut replies = Vec::with_capacity(alloc, queries.len())?;
     for query in queries {

@@ -6,7 +6,7 @@ ghost use Rattle.constriction_client.specs.Text.{row_text, rows_text};
 
 use crate::form_word::FormWord;
 use constriction::stream::model::IterableEntropyModel;
-use constriction_words::NonZeroBitArray;
+use constriction_words::WholeNumber;
 use std::alloc::AllocError;
 use std::fmt::Write;
 
@@ -67,7 +67,11 @@ where
         match table.next() {
             Some(row) => {
                 let (symbol, left, weight) = row?;
-                Ok(Some((symbol, left.number(), weight.get().number())))
+                Ok(Some((
+                    symbol,
+                    left.number(),
+                    M::Probability::from_weight(weight).number(),
+                )))
             }
             None => Ok(None),
         }

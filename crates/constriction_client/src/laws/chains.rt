@@ -11,7 +11,7 @@ use crate::decoder_form::DecoderForm;
 use crate::queries::{Query, Reply, answer_queries};
 use constriction::laws::{non_contiguous_lookup_symbols_differ, non_contiguous_symbols_differ};
 use constriction::stream::model::{EncodesOver, EntropyModel, ModelError};
-use constriction_words::{BitArray, IndexWord, NonZeroBitArray};
+use constriction_words::IndexWord;
 use std::alloc::Global;
 
 /// No two symbols of a [`DecoderForm`] are equal, however it was made.
@@ -52,11 +52,11 @@ where
     requires clones { ClonesAreSame Symbol.is_clone }
     requires alike { (s : Symbol) → entry_of E.symbol_eq (E.rows encoder.now) s ≡ entry_of E.symbol_eq
         (⟦<DecoderForm<Symbol, Probability, PRECISION> as EntropyModel<PRECISION>>⟧.rows form) s }
-    ensures ok { IfOk result (λ replies. map (in_numbers Probability.whole Probability.NonZero.base) replies.items
+    ensures ok { IfOk result (λ replies. map (in_numbers Probability.whole Probability.base) replies.items
         ≡ replies_by_scan PRECISION Probability.whole E.symbol_eq
         (⟦<DecoderForm<Symbol, Probability, PRECISION> as EntropyModel<PRECISION>>⟧.rows form) queries.now) }
     ensures refused { IfErr result (λ e. e ≡ ModelError.OutOfMemory) }
 {
     let converted = convert_chain(alloc, form, steps)?;
-    Ok(answer_queries::<_, _, PRECISION>(alloc, &converted, encoder, queries)?)
+    Ok(answer_queries::<_, _, _, _, PRECISION>(alloc, &converted, encoder, queries)?)
 }

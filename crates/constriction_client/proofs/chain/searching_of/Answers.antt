@@ -6,7 +6,7 @@ use Rattle.constriction_client.proofs.chain.searching_of.Goals as goal
 pub returns-in-Ok : goal.returns-in-Ok
 returns-in-Ok g c = record {
   rows =
-      rw c.in-Ok.is at (made-of-them _ _ g.Symbol.PartialEq.eq g.Probability.BitArray.whole g.Probability.BitArray.BITS g.row.PRECISION
+      rw c.in-Ok.is at (made-of-them _ _ g.Symbol.PartialEq.eq g.Probability.WholeNumber.whole g.Probability.WholeNumber.BITS g.row.PRECISION
       c.args.symbols.items c.args.weights.items _ (λ it came. YieldsList-from_vec _ came.0 (came.1 ∙ c.args.symbols.ok.0))
       _ (λ jt came. YieldsList-from_vec _ came.0 (came.1 ∙ c.args.weights.ok.0)) _
       c.from_symbols_and_nonzero_fixed_point_probabilities.result c.from_symbols_and_nonzero_fixed_point_probabilities.ensures.ok);
@@ -19,7 +19,7 @@ returns-in-Err g c = record {
   rows = tt;
   kind = tt;
   refused =
-      rw c.in-Err.is at (not-refused _ _ g.Symbol.PartialEq.eq g.Probability.BitArray.whole g.Probability.BitArray.BITS g.row.PRECISION
+      rw c.in-Err.is at (not-refused _ _ g.Symbol.PartialEq.eq g.Probability.WholeNumber.whole g.Probability.WholeNumber.BITS g.row.PRECISION
       c.args.symbols.items c.args.weights.items _ (λ it came. YieldsList-from_vec _ came.0 (came.1 ∙ c.args.symbols.ok.0))
       _ (λ jt came. YieldsList-from_vec _ came.0 (came.1 ∙ c.args.weights.ok.0))
       c.from_symbols_and_nonzero_fixed_point_probabilities.result c.requires.accepted

@@ -7,4 +7,4 @@ pub quantile_within-requires : goal.quantile_within-requires
 quantile_within-requires g c =
     let below = entry-within g.row.PRECISION g.E.EncodesOver.symbol_eq (g.E.EncodesOver.rows c.args.encoder.now) c.args.item.now.0
     _ c.in-Some.ensures (g.met.E.EncodesOver.within_law c.args.encoder.now) in
-    rw c.get.ensures.value (omega (arith, below, pow_mono c.requires))
+    rw c.from_weight.ensures (omega (arith, below, pow_mono c.requires))

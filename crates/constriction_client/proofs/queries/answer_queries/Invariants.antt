@@ -6,7 +6,7 @@ use Rattle.constriction_client.proofs.queries.answer_queries.Given as goal
 -- the replies so far
 abbrev pub invariant-loop-query : goal.invariant-loop-query
 invariant-loop-query g l =
-    let whole = g.D.Probability.BitArray.whole in
-    map (in_numbers whole g.D.Probability.NonZero.NonZeroBitArray.base) l.replies.items
-    ≡ replies_of_two g.row.PRECISION whole (g.D.EntropyModel.rows l.form)
+    let whole = g.Word.WholeNumber.whole in
+    map (in_numbers whole g.Word.WholeNumber.base) l.replies.items
+    ≡ replies_of_two g.row.PRECISION whole (g.D.DecodesOver.rows l.form)
     (entry_of g.E.EncodesOver.symbol_eq (g.E.EncodesOver.rows l.encoder)) (take l.query-index l.queries)

@@ -6,10 +6,10 @@ use Rattle.constriction_client.proofs.queries.answer_query.Goals as goal
 
 pub returns-in_ok-symbol-in-OfQuantile : goal.returns-in_ok-symbol-in-OfQuantile
 returns-in_ok-symbol-in-OfQuantile g c =
-    let whole = g.D.Probability.BitArray.whole in
-    let rows = g.D.EntropyModel.rows c.args.form.now in
-    replied g.D.Probability.BitArray.BITS g.row.PRECISION rows (whole c.in-OfQuantile.word) _
-    (c.is_quantile.ensures.0 c.if-not-is_quantile.false) (g.met.D.DecoderModel.tile_law c.args.form.now)
+    let whole = g.Word.WholeNumber.whole in
+    let rows = g.D.DecodesOver.rows c.args.form.now in
+    replied g.Word.WholeNumber.BITS g.row.PRECISION rows (whole c.in-OfQuantile.word) _
+    (c.is_quantile.ensures.0 c.if-not-is_quantile.false) (g.met.D.DecodesOver.tile_law c.args.form.now)
     c.in_ok-symbol-in-OfQuantile.ensures.row
     ∙ ap (reply_to_query g.row.PRECISION whole rows (entry_of g.E.EncodesOver.symbol_eq (g.E.EncodesOver.rows c.args.encoder.now)))
     (sym c.in-OfQuantile.is)

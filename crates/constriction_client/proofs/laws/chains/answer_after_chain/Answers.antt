@@ -3,5 +3,5 @@ use Rattle.constriction_client.proofs.laws.chains.answer_after_chain.Goals as go
 
 pub returns-clause-ok : goal.returns-clause-ok
 returns-clause-ok g c =
-    scan-of-rows g.row.PRECISION g.Probability.BitArray.whole g.E.EncodesOver.symbol_eq _ _ _ c.args.queries.now _
+    scan-of-rows g.row.PRECISION g.Probability.WholeNumber.whole g.E.EncodesOver.symbol_eq _ _ _ c.args.queries.now _
     c.in_ok-converted.ensures.rows c.requires.alike c.in_ok-answer_queries.ensures.ok

@@ -12,11 +12,11 @@ read_back-requires-clause-come g c =
     record {
       words = back.placed.words;
       next =
-          come-next entry g.D.Probability.BitArray.whole g.Buf.SafeBufMut.with_words c.args.cursor.now c.args.items.now
+          come-next entry g.Word.WholeNumber.whole g.Buf.SafeBufMut.with_words c.args.cursor.now c.args.items.now
           c.write_and_go_back.new.cursor back;
-      many = as-many entry g.D.Probability.BitArray.whole c.args.items.now back.placed.words back.placed.quantiles;
+      many = as-many entry g.Word.WholeNumber.whole c.args.items.now back.placed.words back.placed.quantiles;
       in_range =
-          quantiles-below g.E.EncodesOver.symbol_eq g.D.Probability.BitArray.whole g.row.PRECISION
+          quantiles-below g.E.EncodesOver.symbol_eq g.Word.WholeNumber.whole g.row.PRECISION
           (g.E.EncodesOver.rows c.args.encoder.now) c.args.items.now back.placed.words
           (g.met.E.EncodesOver.within_law c.args.encoder.now) back.placed.quantiles;
     }
@@ -26,14 +26,14 @@ returns-in-Ok-read_back g c =
     let back = c.in-Ok.ensures.ok in
     let entry = entry_of g.E.EncodesOver.symbol_eq (g.E.EncodesOver.rows c.args.encoder.now) in
     let read = c.in-Ok-read_back.ensures.ok back.placed.words
-    (come-next entry g.D.Probability.BitArray.whole g.Buf.SafeBufMut.with_words c.args.cursor.now c.args.items.now
+    (come-next entry g.Word.WholeNumber.whole g.Buf.SafeBufMut.with_words c.args.cursor.now c.args.items.now
     c.write_and_go_back.new.cursor back)
-    (as-many entry g.D.Probability.BitArray.whole c.args.items.now back.placed.words back.placed.quantiles) in
+    (as-many entry g.Word.WholeNumber.whole c.args.items.now back.placed.words back.placed.quantiles) in
     record {
       ok =
-          reads-back _ _ g.E.EncodesOver.symbol_eq entry g.D.Probability.BitArray.whole g.D.Probability.BitArray.BITS
-          g.row.PRECISION (g.D.EntropyModel.rows c.args.decoder.now) c.args.items.now c.in-Ok-read_back.pairs.items
-          back.placed.words (g.met.D.DecoderModel.tile_law c.args.decoder.now) g.met.D.Probability.BitArray.same_law
+          reads-back _ _ g.E.EncodesOver.symbol_eq entry g.Word.WholeNumber.whole g.Word.WholeNumber.BITS
+          g.row.PRECISION (g.D.DecodesOver.rows c.args.decoder.now) c.args.items.now c.in-Ok-read_back.pairs.items
+          back.placed.words (g.met.D.DecodesOver.tile_law c.args.decoder.now) g.met.Word.WholeNumber.same_law
           c.requires.alike back.placed.quantiles read.0;
       placed = record {
         words = back.placed.words;

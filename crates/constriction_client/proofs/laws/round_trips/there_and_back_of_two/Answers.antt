@@ -21,12 +21,12 @@ read_back-requires-clause-come g c =
       next = record { rest = []; told = append-nil (reverse wrote.words) ∙ ap reverse stored };
       many =
           length-reverse wrote.words
-          ∙ as-many entry g.D.Probability.BitArray.whole c.args.items.now wrote.words wrote.quantiles;
+          ∙ as-many entry g.Word.WholeNumber.whole c.args.items.now wrote.words wrote.quantiles;
       in_range =
-          quantiles-below g.E.EncodesOver.symbol_eq g.D.Probability.BitArray.whole g.row.PRECISION
+          quantiles-below g.E.EncodesOver.symbol_eq g.Word.WholeNumber.whole g.row.PRECISION
           (g.E.EncodesOver.rows c.args.encoder.now) (reverse c.args.items.now) (reverse wrote.words)
           (g.met.E.EncodesOver.within_law c.args.encoder.now)
-          (AllZip-reverse (λ item word. IsQuantileOf entry g.D.Probability.BitArray.whole item (g.D.Probability.BitArray.whole word))
+          (AllZip-reverse (λ item word. IsQuantileOf entry g.Word.WholeNumber.whole item (g.Word.WholeNumber.whole word))
           c.args.items.now wrote.words wrote.quantiles);
     }
 
@@ -37,12 +37,12 @@ returns-in-Ok-read_back g c =
     let stored : wrote.words ≡ c.write_quantiles.new.sink.items = wrote.told [] (sym c.new-words.ensures.items) in
     record {
       ok =
-          reads-back-reversed _ _ g.E.EncodesOver.symbol_eq entry g.D.Probability.BitArray.whole g.D.Probability.BitArray.BITS
-          g.row.PRECISION (g.D.EntropyModel.rows c.args.decoder.now) c.args.items.now c.in-Ok-read_back.pairs.items wrote.words
-          (g.met.D.DecoderModel.tile_law c.args.decoder.now) g.met.D.Probability.BitArray.same_law c.requires.alike wrote.quantiles
+          reads-back-reversed _ _ g.E.EncodesOver.symbol_eq entry g.Word.WholeNumber.whole g.Word.WholeNumber.BITS
+          g.row.PRECISION (g.D.DecodesOver.rows c.args.decoder.now) c.args.items.now c.in-Ok-read_back.pairs.items wrote.words
+          (g.met.D.DecodesOver.tile_law c.args.decoder.now) g.met.Word.WholeNumber.same_law c.requires.alike wrote.quantiles
           (c.in-Ok-read_back.ensures.ok (reverse wrote.words)
           (record { rest = []; told = append-nil (reverse wrote.words) ∙ ap reverse stored })
           (length-reverse wrote.words
-          ∙ as-many entry g.D.Probability.BitArray.whole c.args.items.now wrote.words wrote.quantiles)).0;
+          ∙ as-many entry g.Word.WholeNumber.whole c.args.items.now wrote.words wrote.quantiles)).0;
       fault = λ fault e. absurd (cc);
     }
