@@ -24,7 +24,7 @@ fn written(alloc: Global, model: &Model) -> Result<Vec<u8>, CoderError<QuantileF
 type Read = Result<usize, CoderError<ReadFault, Infallible>>;
 
 fn read(model: &Model, words: &mut Vec<u8>, back: &mut Vec<(usize, u8)>) -> Read {
-    read_symbols::<Stack, _, _, 6>(model, words, 3, back)
+    read_symbols::<Stack, _, _, _, _, 6>(model, words, 3, back)
 }
 
 #[test]

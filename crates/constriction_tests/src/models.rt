@@ -3,10 +3,12 @@
 pub mod any_symbols;
 pub mod contiguous;
 pub mod conversions;
+pub mod generic_callers;
 mod laws;
 pub mod lookup_any_symbols;
 pub mod lookup_contiguous;
 pub mod own_model;
+mod own_number;
 mod refused_lookup_memory;
 mod refused_memory;
 mod search;

@@ -1,7 +1,7 @@
 //! A caller's own word: a 16-bit sample, which is a type of its own over `u16`.
 //!
 //! The files stand in the order in which the traits build on one another: `operators`, `number`,
-//! `checked`, `integer`, then `nonzero` and `word`.
+//! `checked`, `integer`, then `nonzero`, `whole_number` and `word`.
 
 mod checked;
 mod integer;
@@ -10,6 +10,7 @@ mod number;
 mod operators;
 #[cfg(test)]
 mod tests;
+mod whole_number;
 mod word;
 
 use std::fmt;

@@ -28,7 +28,7 @@ fn read_slice(model: &Small, words: &[u8], count: usize, out: &mut Vec<(usize, u
         × (out.new.items ≡ out.old.items ++ pairs)) }
 {
     let mut source = InfallibleIteratorReadWords::new(words.iter().copied());
-    read_symbols::<Queue, _, _, 6>(model, &mut source, count, out)
+    read_symbols::<Queue, _, _, _, _, 6>(model, &mut source, count, out)
 }
 
 /// The same, where nothing is to be learned of the pairs.
@@ -43,7 +43,7 @@ fn turned(words: &[u8]) -> Reverse<InfallibleIteratorReadWords<Copied<Iter<'_, u
 
 /// Reads the pairs of these words by such a source.
 fn read_turned(model: &Small, words: &[u8], count: usize, out: &mut Vec<(usize, u8)>) -> Read {
-    read_symbols::<Stack, _, _, 6>(model, &mut turned(words), count, out)
+    read_symbols::<Stack, _, _, _, _, 6>(model, &mut turned(words), count, out)
 }
 
 #[test]
@@ -76,7 +76,7 @@ fn read_items(
     count: usize,
     out: &mut Vec<(usize, u8)>,
 ) -> Result<usize, CoderError<ReadFault, u8>> {
-    read_symbols::<Queue, _, _, 6>(model, source, count, out)
+    read_symbols::<Queue, _, _, _, _, 6>(model, source, count, out)
 }
 
 #[test]

@@ -56,7 +56,7 @@ fn ask(
     encoder: &Encoder<6>,
     queries: &[Asked],
 ) -> Result<Vec<Replied>, AllocError> {
-    answer_queries::<_, _, 6>(alloc, form, encoder, queries)
+    answer_queries::<_, _, _, _, 6>(alloc, form, encoder, queries)
 }
 
 /// A caller over any symbols and words: it has a form looked up, made anew and searched, and knows its rows.

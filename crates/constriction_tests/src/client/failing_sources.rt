@@ -20,7 +20,7 @@ fn words_in(words: &[u8]) -> Words<'_> {
 
 /// Reads pairs in the order of the words.
 fn read(model: &Table<6>, source: &mut Words, count: usize, out: &mut Vec<(usize, u8)>) -> Read {
-    read_symbols::<Queue, _, _, 6>(model, source, count, out)
+    read_symbols::<Queue, _, _, _, _, 6>(model, source, count, out)
 }
 
 #[test]
@@ -44,7 +44,7 @@ fn read_letters(
     count: usize,
     out: &mut Vec<(Letter, u8)>,
 ) -> Read {
-    read_symbols::<Queue, _, _, 6>(model, source, count, out)
+    read_symbols::<Queue, _, _, _, _, 6>(model, source, count, out)
 }
 
 #[test]

@@ -36,7 +36,7 @@ fn read<const PRECISION: usize>(
     count: usize,
     out: &mut Vec<(usize, u8)>,
 ) -> Read {
-    read_symbols::<Stack, _, _, PRECISION>(model, words, count, out)
+    read_symbols::<Stack, _, _, _, _, PRECISION>(model, words, count, out)
 }
 
 type Back = Result<Vec<(usize, u8)>, CoderError<QuantileFault, AllocError>>;
@@ -370,7 +370,7 @@ fn read_interrupted(
     source: &mut Interrupted,
     out: &mut Vec<(usize, u8)>,
 ) -> Result<usize, CoderError<ReadFault, &'static str>> {
-    read_symbols::<Queue, _, _, 6>(model, source, 3, out)
+    read_symbols::<Queue, _, _, _, _, 6>(model, source, 3, out)
 }
 
 #[test]

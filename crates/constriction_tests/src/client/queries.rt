@@ -71,7 +71,7 @@ fn ask(
     encoder: &Encoder<6>,
     queries: &[Asked],
 ) -> Result<Vec<Replied>, AllocError> {
-    answer_queries::<_, _, 6>(alloc, form, encoder, queries)
+    answer_queries::<_, _, _, _, 6>(alloc, form, encoder, queries)
 }
 
 #[test]
@@ -90,7 +90,7 @@ fn ask_both_ways(
     model: &Table<6>,
     queries: &[Query<usize, u8>],
 ) -> Result<Vec<Reply<usize, u8>>, AllocError> {
-    answer_queries::<_, _, 6>(alloc, model, &model, queries)
+    answer_queries::<_, _, _, _, 6>(alloc, model, &model, queries)
 }
 
 #[test]
@@ -122,7 +122,7 @@ fn ask_uniform(
 ) -> Result<Vec<Reply<usize, u8>>, AllocError> {
     let form = UniformModel::<u8, 8>::new(3);
     match to_generic_encoder_model::<_, 8>(alloc, form) {
-        Ok(encoder) => answer_queries::<_, _, 8>(alloc, &form, &encoder, queries),
+        Ok(encoder) => answer_queries::<_, _, _, _, 8>(alloc, &form, &encoder, queries),
         Err(_) => Err(AllocError),
     }
 }
@@ -155,7 +155,7 @@ fn ask_for_row(
     encoder: &LetterEncoder,
     quantile: u8,
 ) -> Result<Vec<Reply<Letter, u8>>, AllocError> {
-    answer_queries::<_, _, 6>(alloc, form, encoder, &[Query::OfQuantile(quantile)])
+    answer_queries::<_, _, _, _, 6>(alloc, form, encoder, &[Query::OfQuantile(quantile)])
 }
 
 #[test]

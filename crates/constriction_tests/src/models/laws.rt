@@ -18,7 +18,7 @@ use constriction::laws::{
 use constriction::stream::model::{
     DecoderModel, EncoderModel, EntropyModel, IterableEntropyModel, Weight,
 };
-use constriction_words::{BitArray, NonZeroBitArray};
+use constriction_words::{BitArray, WholeNumber};
 use std::alloc::{AllocError, Global};
 use std::test::Fail;
 
@@ -62,7 +62,7 @@ where
     M: IterableEntropyModel<PRECISION>,
     M::Symbol: Drop,
     requires clones { M.clones_are_same }
-    ensures { IfOk result (λ rows. map (row_of M.Probability.whole M.Probability.NonZero.base) rows.items ≡ M.rows model) }
+    ensures { IfOk result (λ rows. map (row_of M.Probability.whole M.Probability.base) rows.items ≡ M.rows model) }
 {
     table_gives_all_rows::<M, PRECISION>();
     let mut rows = Vec::new(alloc);
@@ -97,8 +97,8 @@ where
     requires clones { M.IterableEntropyModel.clones_are_same }
     requires other_clones { N.IterableEntropyModel.clones_are_same }
     requires alike { AnswerAlike PRECISION (M.rows model) (N.rows other) }
-    ensures { IfOk result (λ t. map (row_of M.Probability.whole M.Probability.NonZero.base) t.0.items
-        ≡ map (row_of N.Probability.whole N.Probability.NonZero.base) t.1.items) }
+    ensures { IfOk result (λ t. map (row_of M.Probability.whole M.Probability.base) t.0.items
+        ≡ map (row_of N.Probability.whole N.Probability.base) t.1.items) }
 {
     equal_answers::<M, N, PRECISION>();
     let rows = read_table(alloc, model)?;
@@ -144,7 +144,7 @@ struct ThreeLetterTable {
 impl Iterator for ThreeLetterTable {
     type Item = Result<(u8, u8, Weight<u8>), AllocError>;
 
-    ghost next_gives = { λ t r u. YieldsRow ⟦<u8 as BitArray>⟧.whole ⟦<Weight<u8> as NonZeroBitArray>⟧.base ⊥
+    ghost next_gives = { λ t r u. YieldsRow ⟦<u8 as WholeNumber>⟧.whole ⟦<u8 as WholeNumber>⟧.base ⊥
         (drop t.next (rows_of (97 ∷ 98 ∷ 99 ∷ []) (1 ∷ 2 ∷ 1 ∷ []))) r
         (drop u.next (rows_of (97 ∷ 98 ∷ 99 ∷ []) (1 ∷ 2 ∷ 1 ∷ []))) };
 

@@ -14,7 +14,7 @@ use crate::models::conversions::{Decoder, Made, made};
 use constriction::stream::model::{
     EncoderModel, EntropyModel, IterableEntropyModel, ModelError, Weight, to_generic_decoder_model,
 };
-use constriction_words::{BitArray, NonZeroBitArray};
+use constriction_words::{BitArray, WholeNumber};
 use std::alloc::{AllocError, Global};
 use std::process::Abort;
 
@@ -67,7 +67,7 @@ pub struct TripleTable<'m> {
 impl<'m> Iterator for TripleTable<'m> {
     type Item = Result<(char, u8, Weight<u8>), AllocError>;
 
-    ghost next_gives = { λ t r u. YieldsRow ⟦<u8 as BitArray>⟧.whole ⟦<Weight<u8> as NonZeroBitArray>⟧.base ⊥
+    ghost next_gives = { λ t r u. YieldsRow ⟦<u8 as WholeNumber>⟧.whole ⟦<u8 as WholeNumber>⟧.base ⊥
         (drop t.next (⟦<Triple as EntropyModel<3>>⟧.rows t.model.now)) r
         (drop u.next (⟦<Triple as EntropyModel<3>>⟧.rows u.model.now)) };
 
@@ -198,7 +198,7 @@ struct TwiceTable {
 impl Iterator for TwiceTable {
     type Item = Result<(char, u8, Weight<u8>), AllocError>;
 
-    ghost next_gives = { λ t r u. YieldsRow ⟦<u8 as BitArray>⟧.whole ⟦<Weight<u8> as NonZeroBitArray>⟧.base ⊥
+    ghost next_gives = { λ t r u. YieldsRow ⟦<u8 as WholeNumber>⟧.whole ⟦<u8 as WholeNumber>⟧.base ⊥
         (drop t.next (rows_of (t.symbol ∷ t.symbol ∷ []) (32 ∷ 32 ∷ []))) r
         (drop u.next (rows_of (u.symbol ∷ u.symbol ∷ []) (32 ∷ 32 ∷ []))) };
 

@@ -9,7 +9,7 @@ use constriction::stream::model::{
     ContiguousLookupDecoderModel, DecoderModel, ModelError, Probe,
     SmallContiguousLookupDecoderModel, row_of_quantile,
 };
-use constriction_words::{IndexWord, NonZeroBitArray};
+use constriction_words::{BitArray, IndexWord, NonZeroBitArray};
 use std::alloc::Global;
 use std::iter;
 use std::process::Abort;
@@ -41,7 +41,7 @@ fn lookup_of<Word: IndexWord, const PRECISION: usize>(
 }
 
 /// The row of a quantile, with its weight as a plain word.
-fn row_of<Word: IndexWord, const PRECISION: usize>(
+fn row_of<Word: BitArray + IndexWord, const PRECISION: usize>(
     model: &Lookup<Word, PRECISION>,
     quantile: Word,
 ) -> Option<(usize, Word, Word)>

@@ -12,7 +12,7 @@ use crate::words::weights::greatest_is_same_as;
 use constriction::stream::model::{
     ContiguousCategoricalEntropyModel, DecoderModel, EncoderModel, ModelError,
 };
-use constriction_words::{BitArray, IndexWord, NonZeroBitArray};
+use constriction_words::{BitArray, IndexWord, NonZeroBitArray, WholeNumber};
 use num_traits::{PrimInt, cast};
 use std::alloc::Global;
 use std::process::Abort;
@@ -53,7 +53,7 @@ fn samples_are_words(rt: HostRuntime) {
     same(
         &rt,
         (
-            <Sample as BitArray>::BITS,
+            <Sample as WholeNumber>::BITS,
             wrapped(),
             zero_is_refused::<Sample>(),
         ),

@@ -1,7 +1,7 @@
 //! Samples as words.
 
 ghost use Rattle.std.specs.Prelude.{ℕ};
-ghost use Rattle.std.proofs.Common.{ap, refl, lit≤};
+ghost use Rattle.std.proofs.Common.{refl, lit≤};
 ghost use Rattle.std.proofs.lemmas.Bool.Decides.{Decides-eqb};
 ghost use Rattle.constriction_words.specs.Word.{lt-whole, le-whole};
 
@@ -10,14 +10,6 @@ use crate::own_word::nonzero::NonZeroSample;
 use constriction_words::{BitArray, IndexWord, NonZeroBitArray};
 
 impl BitArray for Sample {
-    const BITS: usize = 16;
-
-    ghost BITS = { 16 };
-
-    type NonZero = NonZeroSample;
-
-    ghost whole = { λ a. a.0 };
-
     fn into_nonzero(self) -> Option<NonZeroSample> {
         NonZeroSample::new(self)
     }
@@ -44,7 +36,7 @@ impl BitArray for Sample {
 
     ghost width_law = { (refl, lit≤ tt) };
 
-    ghost same_law = { λ a b e. ap (λ n. record { 0 = n }) e };
+    ghost base_law = { λ x. refl };
 
     ghost eq_law = { λ a b. Decides-eqb a.0 b.0 };
 

@@ -3,7 +3,7 @@
 ghost use Rattle.std.specs.Prelude.{◌≡◌, ◌+◌, ◌-◌, ◌*◌, ◌/◌, ◌%◌, ◌<◌, ◌≤◌, ◌^◌};
 
 use crate::checks::same;
-use constriction_words::{BitArray, IndexWord, NonZeroBitArray};
+use constriction_words::{BitArray, IndexWord, NonZeroBitArray, WholeNumber};
 
 /// The sum of two words.
 fn plus<P: BitArray>(a: P, b: P) -> P
@@ -159,12 +159,12 @@ fn words_have_their_width_and_indices(rt: HostRuntime) {
     same(
         &rt,
         [
-            <u8 as BitArray>::BITS,
-            <u16 as BitArray>::BITS,
-            <u32 as BitArray>::BITS,
-            <u64 as BitArray>::BITS,
-            <usize as BitArray>::BITS,
-            <u128 as BitArray>::BITS,
+            <u8 as WholeNumber>::BITS,
+            <u16 as WholeNumber>::BITS,
+            <u32 as WholeNumber>::BITS,
+            <u64 as WholeNumber>::BITS,
+            <usize as WholeNumber>::BITS,
+            <u128 as WholeNumber>::BITS,
         ],
         [8, 16, 32, 64, 64, 128],
     );

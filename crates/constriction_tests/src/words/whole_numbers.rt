@@ -67,6 +67,44 @@ fn orders() -> [bool; 7] {
     ]
 }
 
+/// What each call answers at the ends of a width: of comparisons, and of the others as numbers.
+fn ends<N: WholeNumber>() -> ([bool; 6], [usize; 6])
+    requires { 1 < N.BITS }
+{
+    let greatest = N::greatest_word();
+    let one = N::greatest(1);
+    let least = N::least();
+    let weight = one.to_weight();
+    let comparisons = [
+        least.plus(greatest).is_greatest(),
+        greatest.minus(greatest).is_least(),
+        N::wrapping_pow2(N::BITS).is_least(),
+        least.wrapping_minus(one).is_greatest(),
+        greatest.is_below(one),
+        one.is_at_most(greatest),
+    ];
+    let numbers = [
+        N::from_weight(weight).to_number(),
+        one.times(one).to_number(),
+        one.divided_by(one).to_number(),
+        one.shifted_right(1).to_number(),
+        N::from_number(0).to_number(),
+        least.plus(one).to_number(),
+    ];
+    (comparisons, numbers)
+}
+
+#[test]
+fn each_width_has_its_ends(rt: HostRuntime) {
+    let expected = ([true, true, true, true, false, true], [1, 1, 1, 0, 0, 1]);
+    same(&rt, ends::<u8>(), expected);
+    same(&rt, ends::<u16>(), expected);
+    same(&rt, ends::<u32>(), expected);
+    same(&rt, ends::<u64>(), expected);
+    same(&rt, ends::<usize>(), expected);
+    same(&rt, ends::<u128>(), expected);
+}
+
 #[test]
 fn words_are_whole_numbers(rt: HostRuntime) {
     same(&rt, ways(), [247, 247, 247, 9]);

@@ -8,7 +8,7 @@ returns g c =
       arith,
       c.requires.order,
       P.sub_law c.args.a c.args.b c.sub.result c.sub.ensures,
-      ap g.P.BitArray.whole c.one.ensures ∙ P.one_law,
+      ap g.P.WholeNumber.whole c.one.ensures ∙ P.one_law,
       P.add_law c.sub.result c.one.result c.add.result c.add.ensures,
     )
 
@@ -23,5 +23,5 @@ add-requires g c =
       c.requires.order,
       c.requires.room,
       P.sub_law c.args.a c.args.b c.sub.result c.sub.ensures,
-      ap g.P.BitArray.whole c.one.ensures ∙ P.one_law,
+      ap g.P.WholeNumber.whole c.one.ensures ∙ P.one_law,
     ))

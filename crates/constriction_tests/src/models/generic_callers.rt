@@ -1,0 +1,105 @@
+//! Callers that are generic in the model or in its words, and compute with them.
+
+ghost use Rattle.std.specs.Prelude.{◌≡◌, ◌+◌, ◌%◌, ◌^◌, ◌<◌, ◌≤◌, IfOk};
+ghost use Rattle.constriction.specs.Rows.{Row, IsRowOf};
+
+use crate::checks::same;
+use constriction::stream::model::{
+    ContiguousCategoricalEntropyModel, DecoderModel, DecodesOver, EncoderModel, EncodesOver,
+    SmallUniformModel,
+};
+use constriction_words::{BitArray, NonZeroBitArray};
+use std::alloc::AllocError;
+use std::test::Fail;
+
+/// Where the row after a quantile's begins, modulo `2^BITS`, by any decoder over these words.
+pub fn end_of_row<Symbol: Drop, Word: BitArray, D, const PRECISION: usize>(
+    model: &D,
+    quantile: Word,
+) -> Result<Word, AllocError>
+where
+    D: DecodesOver<Symbol, Word, PRECISION>,
+    requires clones { D.clones_are_same }
+    requires in_range { Word.whole quantile < 2 ^ PRECISION }
+    ensures { IfOk result (λ end. (row : Row Symbol) × IsRowOf (D.rows model.now) (Word.whole quantile) row
+        × (Word.whole end ≡ (row.left + row.weight) % 2 ^ Word.BITS)) }
+{
+    let (_symbol, left, weight) = model.row(quantile)?;
+    Ok(left.wrapping_add(&weight.get()))
+}
+
+/// The number of quantiles of a quantile's row, by a decoder over any words that compute.
+pub fn weight_of_row<M: DecoderModel<PRECISION>, const PRECISION: usize>(
+    model: &M,
+    quantile: M::Probability,
+) -> Result<M::Probability, AllocError>
+where
+    M::Symbol: Drop,
+    M::Probability: BitArray,
+    requires clones { M.clones_are_same }
+    requires in_range { M.Probability.whole quantile < 2 ^ PRECISION }
+    ensures { IfOk result (λ weight. M.Probability.whole weight ≤ 2 ^ PRECISION) }
+{
+    let (_symbol, _left, weight) = model.quantile_function(quantile)?;
+    Ok(weight.get())
+}
+
+/// The weight of a symbol as a word, by any encoder over these words: 0 where it has none.
+pub fn weight_or_0<Symbol, Word: BitArray, E, const PRECISION: usize>(
+    model: &E,
+    symbol: &Symbol,
+) -> Word
+where
+    E: EncodesOver<Symbol, Word, PRECISION>,
+{
+    match model.entry(symbol) {
+        Some((_left, weight)) => weight.get(),
+        None => Word::zero(),
+    }
+}
+
+/// The quantile after the first one of a quantile's row, modulo `2^BITS`, by a model over any words.
+pub fn after_the_first<Word: BitArray, const PRECISION: usize>(
+    model: &ContiguousCategoricalEntropyModel<Word, Vec<Word>, PRECISION>,
+    quantile: Word,
+) -> Result<Word, AllocError>
+    requires { Word.whole quantile < 2 ^ PRECISION }
+{
+    let (_symbol, left, _weight) = model.quantile_function(quantile)?;
+    Ok(left.wrapping_add(&Word::one()))
+}
+
+/// The last quantile of a quantile's row, by any decoder over `u16`.
+fn last_of_row<M: DecoderModel<12, Probability = u16>>(
+    model: &M,
+    quantile: u16,
+) -> Result<u16, AllocError>
+where
+    M::Symbol: Drop,
+    requires clones { M.clones_are_same }
+    requires in_range { quantile < 2 ^ 12 }
+{
+    let (_symbol, left, weight) = model.quantile_function(quantile)?;
+    Ok(left.wrapping_add(weight.get() - 1))
+}
+
+#[test]
+fn callers_that_compute_with_words(rt: HostRuntime) -> Result<(), Fail> {
+    let weights = [3u8, 18, 1, 42];
+    let model = ContiguousCategoricalEntropyModel::<
+        u8,
+        Vec<u8>,
+        6,
+    >::from_nonzero_fixed_point_probabilities(rt.alloc(), weights, false)?;
+    same(&rt, end_of_row::<_, _, _, 6>(&model, 20)?, 21);
+    same(&rt, end_of_row::<_, _, _, 6>(&model, 63)?, 64);
+    same(&rt, weight_of_row::<_, 6>(&model, 20)?, 18);
+    same(&rt, weight_or_0::<_, _, _, 6>(&model, &1), 18u8);
+    same(&rt, weight_or_0::<_, _, _, 6>(&model, &4), 0u8);
+    same(&rt, after_the_first(&model, 22)?, 23);
+    let uniform = SmallUniformModel::new(5);
+    same(&rt, end_of_row::<_, _, _, 12>(&uniform, 4095)?, 4096u16);
+    same(&rt, weight_or_0::<_, _, _, 12>(&uniform, &4), 820u16);
+    same(&rt, last_of_row(&uniform, 3276)?, 4095);
+    Ok(())
+}
