@@ -4,6 +4,7 @@ mod Cutting
 mod Exactly
 mod Finding
 mod ItemWriting
+mod LineReading
 mod Numbers
 mod Places
 mod Rebuilding

@@ -217,7 +217,6 @@ fn parse_command(
 }
 
 /// What a line asks for, as a function of the line.
-#[tactic(auto, unfolding(crate::specs::Reading::read_line, crate::specs::Reading::read_words))]
 fn parse_line(alloc: Global, line: &[u8]) -> Result<Option<Command>, AllocError>
     ensures { IfOk result (λ found. option_map view found ≡ read_line line.now) }
 {
