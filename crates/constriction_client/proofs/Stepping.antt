@@ -31,12 +31,14 @@ pub queue_word : {W : Type 0} (s : State W) (r : Result (Option W) Infallible) (
     → r ≡ Ok o → o ≡ last_or None (reversal s).before
 queue_word s r t o read unwrapped = stack_word (reversal s) r (reversal t) o (((reversal-reads s).0 r t).1.0 read) unwrapped
 
--- a seek to the place as far from the other end is a seek in the reversal
-pub seek_back : {W : Type 0} (xs ys : List W) (p q n : ℕ) → ys ≡ xs → n ≡ length xs - q → q ≤ length xs
+-- a seek to the place as far from the other end is a seek in the reversal, where the end is that of the same words
+pub seek_back : {W : Type 0} (xs ys all : List W) (p q n : ℕ) → ys ≡ xs → all ≡ xs → n ≡ length all - q → q ≤ length all
     → reversal (state ys n) ≡ moved_by (call.Seek q) (reversal (state xs p))
-seek_back xs ys p q n stays there within =
-    let all : words (reversal (state xs p)) ≡ reverse xs =
+seek_back xs ys all p q n stays whole there within =
+    let told : words (reversal (state xs p)) ≡ reverse xs =
     sym (reverse-append (take p xs) (drop p xs)) ∙ ap reverse (take-append-drop p xs) in
-    let fits : leb q (length (reverse xs)) ≡ true = le-leb q (length (reverse xs)) (omega (arith, length-reverse xs)) in
-    let back : length xs - (length xs - q) ≡ q = omega arith in
-    rw (stays, there, all, fits) (sym (ap (state (reverse xs)) (sym back) ∙ state-reverse xs (length xs - q) (omega arith)))
+    let counted : length all ≡ length xs = ap length whole in
+    let fits : leb q (length (reverse xs)) ≡ true = le-leb q (length (reverse xs)) (omega (arith, counted, length-reverse xs)) in
+    let back : length xs - (length xs - q) ≡ q = omega (arith, counted) in
+    rw (stays, there, counted, told, fits)
+    (sym (ap (state (reverse xs)) (sym back) ∙ state-reverse xs (length xs - q) (omega (arith, counted))))

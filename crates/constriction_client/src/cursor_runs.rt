@@ -14,7 +14,6 @@ use constriction_words::{Pos, Queue, Seek, Stack, UnwrapInfallible};
 use std::alloc::{AllocError, Global};
 
 /// Makes a call of a cursor.
-#[tactic(auto, using(crate::proofs::Stepping::stack_word))]
 fn step<Word: Copy + Drop, Buf: SafeBufMut<Word>>(
     cursor: &mut Cursor<Word, Buf>,
     call: &CursorCall<Word>,
@@ -57,7 +56,6 @@ fn step<Word: Copy + Drop, Buf: SafeBufMut<Word>>(
 }
 
 /// Seeks a position of the unreversed side in a cursor that was turned round.
-#[tactic(auto, using(crate::proofs::Stepping::seek_back))]
 fn seek_reversed<Word, Buf: SafeBufMut<Word>>(
     reversed: &mut Reverse<Cursor<Word, Buf>>,
     position: usize,

@@ -1,0 +1,12 @@
+use Rattle.std.proofs.Common.{ap}
+use Rattle.constriction_backends.specs.Cursor.{state_of}
+use Rattle.constriction_client.specs.declared.cursor_calls.CursorReply.TheVariants as reply
+use Rattle.constriction_client.proofs.Stepping.{stack_word}
+use Rattle.constriction_client.proofs.cursor_runs.step.Goals as goal
+
+pub returns-in-StackRead-clause-reply : goal.returns-in-StackRead-clause-reply
+returns-in-StackRead-clause-reply g c =
+    rw c.in-StackRead.is
+    (ap (λ o. reply.Word o)
+    (stack_word (state_of c.args.cursor.now) c.read.result (state_of c.read.new.self) c.unwrap_infallible.result
+    c.read.ensures.gives.0 c.unwrap_infallible.ensures))
