@@ -1,5 +1,5 @@
 -- A list as a stack, whose top is its end.
-use Rattle.std.specs.Prelude.{◌≡◌, ◌↔◌, ◌<◌, ◌≤◌, ℕ, List, [], ◌∷◌, ◌++◌, length, Option, Some, Result, Ok, MatchResult, MatchOption, IsOk}
+use Rattle.std.specs.Prelude.{◌≡◌, ◌↔◌, ◌<◌, ◌≤◌, ℕ, List, [], ◌∷◌, ◌++◌, length, Option, Some, Result, Ok, MatchResult, MatchOption, IsOk, OnErr}
 use Rattle.constriction_words.specs.Rewinding.{Rewinds, Storage}
 
 -- a read answers the last word and drops it, or None on the empty list, and no error
@@ -16,11 +16,14 @@ pub record PopsFrom {W E : Type 0} (least : ℕ) (old : Storage W) (r : Result (
   pub capacity : new.capacity ≡ old.capacity
   pub at_least : least ≤ old.capacity
 
--- A write pushes the word. It succeeds where there is capacity left, and the capacity, which is never below `least`, does not fall.
+-- A write pushes the word. With capacity left it succeeds, and the capacity stays. It is refused only where none is left, and then the
+-- capacity stays as well. The capacity, which is never below `least`, does not fall.
 pub record PushesTo {W E : Type 0} (least : ℕ) (old : Storage W) (w : W) (r : Result (Unit {0}) E) (new : Storage W)
     : Type 0 where
   pub pushes : Pushes old.words w r new.words
   pub succeeds : length old.words < old.capacity → IsOk r
+  pub keeps : length old.words < old.capacity → new.capacity ≡ old.capacity
+  pub refused : OnErr r ((old.capacity ≤ length old.words) × (new.capacity ≡ old.capacity))
   pub capacity : old.capacity ≤ new.capacity
   pub at_least : least ≤ old.capacity
 

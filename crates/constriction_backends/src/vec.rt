@@ -62,7 +62,10 @@ impl<Word: Drop> WriteWords<Word> for Vec<Word> {
 
     #[inline]
     fn write(&mut self, word: Word) -> Result<(), AllocError> {
-        self.push(word)?;
+        if self.len() >= self.capacity() {
+            self.reserve(1)?;
+        }
+        self.push_reserved(word);
         Ok(())
     }
 
