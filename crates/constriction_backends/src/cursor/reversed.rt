@@ -1,6 +1,6 @@
 //! Turning a cursor round, and writing to one that was turned round.
 
-ghost use Rattle.std.specs.Prelude.{◌≡◌, ◌<◌, ◌↔◌, ⊤, length, IsOk};
+ghost use Rattle.std.specs.Prelude.{◌≡◌, ◌<◌, ◌↔◌, ⊤, true, length, IsOk};
 ghost use Rattle.constriction_backends.specs.Cursor.{buf_of, pos_of, state_of, TurnsRound, WritesBackTo};
 ghost use Rattle.constriction_backends.specs.CursorState.{reversal};
 ghost use Rattle.constriction_backends.specs.CursorLaws.{Overwrites-told, Overwrites-counts};
@@ -69,6 +69,13 @@ impl<Word: Drop, Buf: SafeBufMut<Word>> WriteWords<Word> for Reverse<Cursor<Word
         words[pos] = word;
         cursor.pos = pos;
         Ok(())
+    }
+
+    #[inline]
+    fn maybe_full(&self) -> bool
+        ensures { result ≡ true }
+    {
+        true
     }
 
     ghost writes_told = { λ s w r t h. Overwrites-told (λ (x : _). reversal (state_of x.0)) s w r t h.0 };

@@ -1,6 +1,6 @@
 //! A cursor as a sink: a write overwrites the word at the position.
 
-ghost use Rattle.std.specs.Prelude.{◌≡◌, ◌<◌, ◌↔◌, ⊤, length, IsOk};
+ghost use Rattle.std.specs.Prelude.{◌≡◌, ◌<◌, ◌↔◌, ⊤, true, length, IsOk};
 ghost use Rattle.constriction_backends.specs.Cursor.{buf_of, pos_of, state_of, WritesTo};
 ghost use Rattle.constriction_backends.specs.CursorLaws.{Overwrites-told, Overwrites-counts};
 ghost use Rattle.constriction_backends.specs.SinkLaws.{free_is_taken};
@@ -34,6 +34,13 @@ impl<Word: Drop, Buf: SafeBufMut<Word>> WriteWords<Word> for Cursor<Word, Buf> {
         let words = self.buf.words_mut();
         words[pos] = word;
         Ok(())
+    }
+
+    #[inline]
+    fn maybe_full(&self) -> bool
+        ensures { result ≡ true }
+    {
+        true
     }
 
     ghost writes_told = { λ s w r t h. Overwrites-told state_of s w r t h.0 };

@@ -1,6 +1,6 @@
 //! Sources over iterators of words and errors.
 
-ghost use Rattle.std.specs.Prelude.{◌≡◌, false};
+ghost use Rattle.std.specs.Prelude.{◌≡◌, false, true};
 ghost use Rattle.std.specs.Iterator.{size, count_unless};
 ghost use Rattle.std.specs.Iterator.Adapters.{fuse_source, fuse_done, fuse_steps};
 ghost use Rattle.constriction_backends.specs.Items.{item_of, CountsDown};
@@ -67,6 +67,13 @@ impl<
             Some(Ok(word)) => Ok(Some(word)),
             Some(Err(error)) => Err(error),
         }
+    }
+
+    #[inline]
+    fn maybe_exhausted(&self) -> bool
+        ensures { result ≡ true }
+    {
+        true
     }
 
     ghost reads_told = { λ _ _ _ _ _ h. absurd h };

@@ -1,6 +1,6 @@
 //! Sources over iterators of words.
 
-ghost use Rattle.std.specs.Prelude.{◌≡◌, false};
+ghost use Rattle.std.specs.Prelude.{◌≡◌, false, true};
 ghost use Rattle.std.specs.Iterator.{AlwaysYields, size, count_unless};
 ghost use Rattle.std.specs.Iterator.Adapters.{fuse_source, fuse_done, fuse_steps};
 ghost use Rattle.constriction_backends.specs.Items.{GivesWord, CountsDown};
@@ -60,6 +60,13 @@ impl<Word, S: Semantics, Iter: Iterator<Item = Word>> ReadWords<Word, S>
     #[inline]
     fn read(&mut self) -> Result<Option<Word>, Infallible> {
         Ok(self.inner.next())
+    }
+
+    #[inline]
+    fn maybe_exhausted(&self) -> bool
+        ensures { result ≡ true }
+    {
+        true
     }
 
     ghost reads_told = { λ s r t. word-told Iter.next_gives fuse_done fuse_source s.inner r t.inner };
