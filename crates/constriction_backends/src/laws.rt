@@ -3,7 +3,7 @@
 ghost use Rattle.std.specs.Prelude.{◌≡◌, [], ◌∷◌, ◌++◌, List, Some, Err, IfOk};
 ghost use Rattle.std.specs.Iterator.{IsFinite};
 ghost use Rattle.constriction_backends.specs.Source.{RemainingCounts};
-ghost use Rattle.constriction_backends.specs.Sink.{CountsExtend, ExtendingTells};
+ghost use Rattle.constriction_backends.specs.Sink.{CountsExtend, ExtendsBy, ExtendingTells};
 ghost use Rattle.constriction_backends.specs.Stack.{PopsWhatWasPushed, ReadsWhatWasWritten, SeeksBack};
 
 mod cursor;
@@ -64,8 +64,8 @@ pub fn seek_back<Word>()
     ensures { SeeksBack Word }
 {}
 
-/// Writes the words of an iterator to a sink that counts its free places: they are refused exactly
-/// where there are more of them than places, and otherwise take a place each.
+/// Writes the words of an iterator in order to a sink that counts its free places: they are refused
+/// exactly where there are more of them than places, and otherwise take a place each.
 #[tactic(auto, using(crate::proofs::Places::extending_counted))]
 pub fn extending_counts<Word, Sink: BoundedWriteWords<Word>, Words: Iterator<Item = Word>>(
     sink: &mut Sink,
@@ -75,6 +75,7 @@ pub fn extending_counts<Word, Sink: BoundedWriteWords<Word>, Words: Iterator<Ite
     requires can_next { Words.can_next words }
     requires ends { IsFinite (Words.remaining words) }
     ensures goes_on { Sink.can_write sink.new }
+    ensures gives { ExtendsBy Sink.write_gives Words.next_gives sink.old words result sink.new }
     ensures counted { CountsExtend Words.next_gives
         (Sink.free_places sink.old) words result (Sink.free_places sink.new) }
 {
