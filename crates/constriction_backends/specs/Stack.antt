@@ -34,13 +34,15 @@ PopsWhatWasPushed Word WriteError ReadError =
     → (let written : Result (Unit {0}) WriteError = Ok tt in Pushes old w written between) → Pops between r new
     → (r ≡ Ok (Some w)) × (new ≡ old)
 
--- What is read after a write that succeeded, where the words before it are told: the word that was written, and the words before it are
--- told again; or the read fails, and the word still comes after them. `writes`, `reads` and `tells` are those of a stack.
-abbrev pub ReadsWhatWasWritten : {S W R E : Type 0} → (S → W → Result (Unit {0}) E → S → Type 0)
-    → (S → Result (Option W) R → S → Type 0) → (S → List W → Type 0) → Type 0
-ReadsWhatWasWritten {S} {W} {R} writes reads tells =
-    (old between new : S) (w : W) (r : Result (Option W) R) (words : List W) → writes old w (Ok tt) between → reads between r new
-    → tells old words → MatchResult r (λ o. (o ≡ Some w) × tells new words) (λ _. tells new (words ++ w ∷ []))
+-- A stack whose writes, reads and told words are these reads what was written to it.
+pub record ReadsWhatWasWritten {S W R E : Type 0} (writes : S → W → Result (Unit {0}) E → S → Type 0)
+    (reads : S → Result (Option W) R → S → Type 0) (tells : S → List W → Type 0) : Type 0 where
+  -- a word whose write succeeded is told after those before it
+  pub told : (old new : S) (w : W) (words : List W) → writes old w (Ok tt) new → tells old words → tells new (words ++ w ∷ [])
+  -- From any state that tells words and this word after them, the word is read, and they are told again; or the read fails, and the
+  -- word still comes after them.
+  pub read : (later new : S) (w : W) (r : Result (Option W) R) (words : List W) → tells later (words ++ w ∷ []) → reads later r new
+      → MatchResult r (λ o. (o ≡ Some w) × tells new words) (λ _. tells new (words ++ w ∷ []))
 
 -- A position that was taken while the list was `taken` is sought back exactly where the list is no shorter now. And where
 -- the words of then still stand, they are what is left.

@@ -1,7 +1,7 @@
 -- The steps of a stack meet the laws of sources and sinks: the impls cite these, and a caller's own may. No public clause cites this
 -- module.
 use Rattle.std.specs.Prelude.{◌≡◌, List, [], ◌∷◌, ◌++◌, ⊤, reverse, length, Option, Some, None, Result, Ok, Err, IfErr}
-use Rattle.std.proofs.Common.{sym, ◌∙◌, ap, subst}
+use Rattle.std.proofs.Common.{sym, ◌∙◌, ap, subst, refl}
 use Rattle.std.proofs.lemmas.List.{reverse-append, reverse-reverse, length-append, length-reverse}
 use Rattle.constriction_backends.specs.Source.{ReadsTold, CountsRead}
 use Rattle.constriction_backends.specs.Sink.{WritesTold}
@@ -38,6 +38,14 @@ tells_all items s exact words e = sym (ap length e ∙ length-reverse (items s))
 pub any_error : {E : Type 0} (r : Result (Unit {0}) E) → IfErr r (λ _. ⊤)
 any_error (Ok x) = tt
 any_error (Err e) = tt
+
+-- a read of a stack that tells no words answers that there is none, and none are told then
+pub none_to_read : {S W E : Type 0} (upcoming written : S → List W → Type 0)
+    → ((s : S) (words : List W) → upcoming s words → written s (reverse words))
+    → (r : Result (Option W) E) (t : S) → ReadsTold upcoming [] r t → (r ≡ Ok None) × written t []
+none_to_read upcoming written upcoming_is_written (Ok None) t h = (refl, upcoming_is_written t [] h.1)
+none_to_read upcoming written upcoming_is_written (Ok (Some w)) t (rest, e, told) = absurd (let none = e in cc)
+none_to_read upcoming written upcoming_is_written (Err e) t h = absurd (h.0 refl)
 
 last_first : {W : Type 0} (words : List W) (w : W) → reverse (words ++ w ∷ []) ≡ w ∷ reverse words
 last_first words w = reverse-append words (w ∷ [])

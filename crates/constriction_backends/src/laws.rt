@@ -24,9 +24,9 @@ pub fn pushed_is_popped<Word, WriteError, ReadError>()
     ensures { PopsWhatWasPushed Word WriteError ReadError }
 {}
 
-/// A word that was written to a stack is read next, whenever that is, and then the stack tells its
-/// old words again; or the read fails, and the word still comes after them. So it is of each backend
-/// that is a stack, where it tells its words.
+/// A word that was written to a stack is told after its old words. In whatever state they are told so,
+/// the word is read next, and then the stack tells the old words again; or the read fails, and the word
+/// still comes after them. So it is of each backend that is a stack, where it tells its words.
 pub fn written_is_read<Word, Backend: StackBackend<Word>>()
     ensures { ReadsWhatWasWritten Backend.write_gives Backend.read_gives Backend.tells_written }
 {}
