@@ -39,7 +39,7 @@ pub trait WriteWords<Word> {
         ensures goes_on { can_write self.new };
 
     /// Writes the words of an iterator in order, and stops at the first one that is refused. The
-    /// words before it stay written, and those after it are not asked for.
+    /// words before it stay written.
     #[tactic(auto, using(crate::specs::SinkLaws::writes_more))]
     fn extend_from_iter<I: Iterator<Item = Word>>(
         &mut self,
