@@ -7,6 +7,7 @@ pub mod CursorState
 pub mod ExtendingLaws
 pub mod ItemLaws
 pub mod Items
+pub mod KnownLength
 pub mod Part
 pub mod Sink
 pub mod SinkLaws
