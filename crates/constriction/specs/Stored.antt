@@ -1,5 +1,5 @@
--- How models store their rows: by the left cumulatives, and after them the total. No public clause cites this module, but the
--- member `rows` of the contiguous model and a ghost field of it do.
+-- How models store their rows: by the left cumulatives, and in contiguous models the total after them. No public clause cites this
+-- module, but the member `rows` of these models, ghost fields of models and of symbol tables, and definitions of `Tables` do.
 use Rattle.std.specs.Prelude.{◌≡◌, ℕ, ◌+◌, ◌-◌, ◌%◌, ◌^◌, List, [], ◌∷◌, ◌++◌, length, take}
 use Rattle.constriction.specs.Acceptance.{IsAccepted}
 

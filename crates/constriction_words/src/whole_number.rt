@@ -10,7 +10,9 @@ ghost use Rattle.std.specs.Prelude.{◌≡◌, ◌↔◌, ◌+◌, ◌-◌, ◌*
 ///
 /// Each [`BitArray`](crate::bit_array::BitArray) is one. It stands apart from it since a contract over so
 /// few calls costs a tenth of the same contract over all that words can, and a proof a fifth. A type of
-/// the caller's own may be a whole number alone, and then serves for models, and not for coders.
+/// the caller's own may be a whole number alone. It then serves for models, and for coders that are generic
+/// in their words and compute with these calls alone, as a decoder that makes its quantiles by
+/// `from_number`; a coder that shifts or wraps asks for a `BitArray`.
 pub trait WholeNumber: Copy {
     /// How many bits a word has.
     const BITS: usize;

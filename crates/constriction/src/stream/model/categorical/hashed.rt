@@ -191,8 +191,8 @@ impl<
     /// were read to their ends or only so far that no lists that begin so are accepted. `OutOfMemory`
     /// comes where memory for the table is refused.
     ///
-    /// One pass over both, one hash a symbol, and one allocation where the symbols' iterator announces
-    /// how many there are.
+    /// One pass over both, and one hash a symbol. Where the symbols' iterator announces how many there
+    /// are, memory is asked for before the first one and not again: the hash table has four allocations.
     pub fn from_symbols_and_nonzero_fixed_point_probabilities<
         S: IntoIterator<Item = Symbol>,
         P: IntoIterator<Item = Probability>,
