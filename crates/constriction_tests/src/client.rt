@@ -8,6 +8,7 @@ mod failing_sources;
 mod items;
 mod lines;
 mod queries;
+mod refused_lines;
 mod runs;
 mod tables;
 mod two_models;

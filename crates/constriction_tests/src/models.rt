@@ -1,5 +1,6 @@
 //! Entropy models and the counted search, over worked tables and a caller's own.
 
+mod aliases;
 pub mod any_symbols;
 pub mod contiguous;
 pub mod conversions;

@@ -6,8 +6,8 @@ ghost use Rattle.std.specs.Option.{option_map};
 use crate::checks::{same, vec_of};
 use constriction_backends::{
     AsSeekReadWords, BoundedReadWords, FallibleCallbackWriteWords, FallibleIteratorReadWords,
-    InfallibleCallbackWriteWords, InfallibleIteratorReadWords, IntoReadWords, ReadWords, Reverse,
-    WriteWords,
+    FusedWords, InfallibleCallbackWriteWords, InfallibleIteratorReadWords, IntoReadWords,
+    ReadWords, Reverse, WriteWords,
 };
 use constriction_words::{Queue, Stack, UnwrapInfallible};
 use std::convert::Infallible;
@@ -182,7 +182,8 @@ fn after_gap(source: &mut InfallibleIteratorReadWords<Gapped>) -> Read {
 
 /// The next item of what such a source turns into.
 fn left_after_gap(source: InfallibleIteratorReadWords<Gapped>) -> Option<u8> {
-    source.into_iter().next()
+    let mut left: FusedWords<Gapped> = source.into_iter();
+    left.next()
 }
 
 #[test]

@@ -1,7 +1,7 @@
 //! Each call of a cursor, over each kind of buffer.
 
 use crate::backends::marked::Marked;
-use crate::checks::{boxed_of, same, same_at, vec_of};
+use crate::checks::{boxed_of, end_of_requests, same, same_at, vec_of};
 use constriction_backends::{
     BoundedReadWords, BoundedWriteError, BoundedWriteWords, Cursor, ReadWords, SafeBuf, SafeBufMut,
     WriteWords,
@@ -322,4 +322,5 @@ fn a_refusal_of_memory_leaves_the_cursor_that_is_copied(rt: HostRuntime) {
     }
     same(&rt, cursor.written(), words.as_slice());
     same(&rt, cursor.pos(), 3);
+    end_of_requests(&rt);
 }

@@ -2,7 +2,7 @@
 
 ghost use Rattle.std.specs.Prelude.{◌<◌, IsOk, length};
 
-use crate::checks::{holds as vec_holds, same, same_at, vec_of};
+use crate::checks::{end_of_requests, holds as vec_holds, same, same_at, vec_of};
 use constriction_backends::{
     BoundedReadWords, Cursor, ReadWords, Reverse, StackBackend, WriteWords, laws,
 };
@@ -155,6 +155,7 @@ fn a_refusal_of_memory_leaves_words_within_the_value(rt: HostRuntime) {
     same(&rt, pushed(&mut words, 2), Ok(()));
     let answer = extended(&mut words, &[3, 4]);
     holds_all_or_two(&rt, &words, answer);
+    end_of_requests(&rt);
 }
 
 /// It asks for memory once, as above, within a call that has written two words by then.
@@ -163,6 +164,7 @@ fn a_refusal_of_memory_keeps_the_words_before(rt: HostRuntime) {
     let mut words: Two = SmallVec::new(rt.alloc());
     let answer = extended(&mut words, &[1, 2, 3, 4]);
     holds_all_or_two(&rt, &words, answer);
+    end_of_requests(&rt);
 }
 
 const NINE: [u8; 9] = [1, 2, 3, 4, 5, 6, 7, 8, 9];
@@ -188,6 +190,7 @@ fn each_refusal_of_memory_keeps_the_words_before(rt: HostRuntime) {
     let mut small: Two = SmallVec::new(rt.alloc());
     let answer = extended(&mut small, &NINE);
     holds_a_beginning(&rt, small.as_slice(), answer);
+    end_of_requests(&rt);
 }
 
 fn tells_what_it_was_extended_by<Words: Iterator<Item = u8> + Drop>(_words: Words) {

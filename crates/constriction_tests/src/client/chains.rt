@@ -3,7 +3,7 @@
 ghost use Rattle.std.specs.Prelude.{◌≡◌, ◌<◌, ◌≤◌, IfOk};
 ghost use Rattle.constriction.specs.Tables.{ClonesAreSame};
 
-use crate::checks::{holds, holds_at, same, same_at};
+use crate::checks::{end_of_requests, holds, holds_at, same, same_at};
 use crate::client::queries::{
     Asked, QUERIES, Replied, decoder_of_letters, encoder_of_letters, replies,
 };
@@ -268,6 +268,20 @@ fn letters_reply_after_any_chain(rt: HostRuntime) {
     }
 }
 
+/// Whichever request for memory is refused, there are no replies after a chain then.
+#[test]
+fn a_refusal_of_memory_leaves_no_replies_after_a_chain(rt: HostRuntime) {
+    let Ok(searching) = decoder::<6>(rt.alloc(), &SYMBOLS, &WEIGHTS, false) else {
+        return;
+    };
+    let steps = [ChainStep::ToLookup, ChainStep::Rebuild];
+    match ask_after(rt.alloc(), searching, &steps, &QUERIES) {
+        Ok(found) => holds(&rt, &found, &replies()),
+        Err(error) => same(&rt, error, ModelError::OutOfMemory),
+    }
+    end_of_requests(&rt);
+}
+
 /// Takes the form of letters whose clones may be refused through a chain.
 fn converted_letters(
     alloc: Global,
@@ -290,16 +304,24 @@ fn a_refused_clone_refuses_a_chain(rt: HostRuntime) {
     }
 }
 
+/// Each kind of step, and a rebuilding of each form.
+const EACH_STEP: [ChainStep; 5] = [
+    ChainStep::ToSearch,
+    ChainStep::Rebuild,
+    ChainStep::ToLookup,
+    ChainStep::Rebuild,
+    ChainStep::IntoSearch,
+];
+
 /// Whichever request for memory is refused, the form is then given up.
 #[test]
 fn a_refusal_of_memory_gives_up_the_form(rt: HostRuntime) {
-    for (name, steps, tables) in CHAINS {
-        let Ok(searching) = decoder::<6>(rt.alloc(), &SYMBOLS, &WEIGHTS, false) else {
-            return;
-        };
-        match converted(rt.alloc(), DecoderForm::Search(searching), steps) {
-            Ok(made) => is_form(&rt, name, &made, tables[0]),
-            Err(error) => same_at(&rt, name, error, ModelError::OutOfMemory),
-        }
+    let Ok(searching) = decoder::<6>(rt.alloc(), &SYMBOLS, &WEIGHTS, false) else {
+        return;
+    };
+    match converted(rt.alloc(), DecoderForm::Search(searching), &EACH_STEP) {
+        Ok(made) => is_form(&rt, "each step", &made, false),
+        Err(error) => same(&rt, error, ModelError::OutOfMemory),
     }
+    end_of_requests(&rt);
 }

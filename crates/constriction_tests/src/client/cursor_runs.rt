@@ -5,7 +5,7 @@ ghost use Rattle.constriction_backends.specs.Cursor.{state_of};
 ghost use Rattle.constriction_backends.specs.CursorState.{reversal};
 
 use crate::backends::marked::Marked;
-use crate::checks::{holds, same, same_at, vec_of};
+use crate::checks::{end_of_requests, holds, same, same_at, vec_of};
 use constriction_backends::{Cursor, Reverse, SafeBuf, SafeBufMut};
 use constriction_client::laws::{run_cursor_and_reversal, runs_are_alike};
 use constriction_client::{CursorCall, CursorReply, run_cursor, run_reversed};
@@ -325,6 +325,7 @@ fn a_refusal_of_memory_leaves_a_cursor(rt: HostRuntime) {
     same(&rt, cursor.pos(), if is_refused { 3 } else { 1 });
     let first = if is_refused { 10 } else { 7 };
     same(&rt, words, [first, 20, 30]);
+    end_of_requests(&rt);
 }
 
 /// The same.
@@ -337,6 +338,7 @@ fn a_refusal_of_memory_leaves_a_reversal(rt: HostRuntime) {
     same(&rt, reversed.0.pos(), if is_refused { 0 } else { 2 });
     let last = if is_refused { 10 } else { 7 };
     same(&rt, words, [30, 20, last]);
+    end_of_requests(&rt);
 }
 
 /// Runs the calls on a cursor over 10, 20, 30 at 3 and on its reversal.
@@ -366,4 +368,5 @@ fn a_refusal_of_memory_leaves_a_cursor_and_its_reversal(rt: HostRuntime) {
             )
         }
     }
+    end_of_requests(&rt);
 }

@@ -6,7 +6,7 @@ ghost use Rattle.constriction.specs.Rows.{rows_of};
 ghost use Rattle.constriction_backends.specs.Stack.{Pushes};
 ghost use Rattle.constriction_backends.specs.StackLaws.{Pushes-told};
 
-use crate::checks::{holds, holds_at, same, same_at, vec_of};
+use crate::checks::{end_of_requests, holds, holds_at, same, same_at, vec_of};
 use crate::models::contiguous::{Table, WEIGHTS, made, small, table};
 use constriction::stream::model::{DecoderModel, EncoderModel, EntropyModel, Weight};
 use constriction_backends::{ReadWords, WriteWords};
@@ -247,6 +247,7 @@ fn a_refusal_of_memory_ends_what_is_written(rt: HostRuntime) {
     let mut words = Vec::new(rt.alloc());
     let written = write(&model, &ITEMS, &mut words);
     wrote_all_or_was_refused(&rt, written, words.as_slice());
+    end_of_requests(&rt);
 }
 
 /// All six pairs are read, or memory was refused and the word whose pair found no room is gone.
@@ -272,6 +273,7 @@ fn a_refusal_of_memory_ends_what_is_read(rt: HostRuntime) {
     let mut out = Vec::new(rt.alloc());
     let answer = read(&model, &mut words, 6, &mut out);
     read_all_or_was_refused(&rt, answer, words.len(), out.as_slice());
+    end_of_requests(&rt);
 }
 
 /// And of the way there and back.
@@ -284,6 +286,7 @@ fn a_refusal_of_memory_ends_the_way(rt: HostRuntime) {
         Ok(pairs) => holds(&rt, &pairs, &REVERSED),
         Err(fault) => same(&rt, fault, CoderError::Backend(AllocError)),
     }
+    end_of_requests(&rt);
 }
 
 /// Why a sink of at most two words refuses a word.

@@ -2,7 +2,7 @@
 
 ghost use Rattle.std.specs.Prelude.{◌≢◌};
 
-use crate::checks::{holds, same};
+use crate::checks::{end_of_requests, holds, same};
 use crate::models::any_symbols::{Decoder, Encoder, SYMBOLS, WEIGHTS, decoder, encoder};
 use crate::models::contiguous::{Table, small};
 use crate::models::symbol_types::{Letter, LetterDecoder, letters};
@@ -192,4 +192,5 @@ fn a_refusal_of_memory_leaves_both_models(rt: HostRuntime) {
         Ok(found) => holds(&rt, &found, &replies()),
         Err(error) => same(&rt, error, AllocError),
     }
+    end_of_requests(&rt);
 }

@@ -1,6 +1,6 @@
 //! Runs over whole inputs, and over readers and writers that give or take little, fail, or end.
 
-use crate::checks::{holds, holds_at, prints, same, same_at};
+use crate::checks::{end_of_requests, holds, holds_at, prints, same, same_at};
 use constriction_client::laws::{
     each_quantile_in_range_has_a_row, reads_back, reads_back_reversed,
     the_row_found_is_the_row_of_the_quantile, weights_are_tested_as_models_accept_them,
@@ -235,7 +235,11 @@ fn a_writer_that_fails_has_a_beginning(rt: HostRuntime) {
 }
 
 /// What a run over an input answers, and how much room it leaves.
-fn run_into(alloc: Global, mut input: &[u8], mut room: &mut [u8]) -> (Result<(), RunFault>, usize) {
+pub fn run_into(
+    alloc: Global,
+    mut input: &[u8],
+    mut room: &mut [u8],
+) -> (Result<(), RunFault>, usize) {
     let result = run(alloc, &mut input, &mut room);
     (result, room.len())
 }
@@ -348,8 +352,7 @@ fn is_beginning(rt: &impl Abort, room: &[u8], text: &[u8]) {
     }
 }
 
-/// The whole text, or the answers before a refusal of memory, each of them whole:
-/// Whichever request is refused, the answers before it are written.
+/// The whole text, or where a request is refused the answers before it, each of them whole.
 #[test]
 fn answers_before_a_refusal_of_memory_are_written(rt: HostRuntime) {
     let mut room = [0u8; 29];
@@ -357,6 +360,7 @@ fn answers_before_a_refusal_of_memory_are_written(rt: HostRuntime) {
     let (result, places) = run_into(rt.alloc(), input, &mut room);
     is_whole_or_refused(&rt, result, places);
     is_beginning(&rt, &room, b"0 0 64\nbad line\n0 0 1\n1 1 63\n");
+    end_of_requests(&rt);
 }
 
 fn run_faults_are_sentences(rt: &impl Abort, alloc: Global) {

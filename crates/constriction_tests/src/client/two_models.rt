@@ -4,8 +4,9 @@ ghost use Rattle.std.specs.Prelude.{◌≡◌, ◌<◌, ◌≤◌, [], ◌∷◌
 ghost use Rattle.std.proofs.Common.{eq-eqb, refl, rules};
 ghost use Rattle.constriction.specs.Rows.{contiguous_rows, entry_of};
 
-use crate::checks::{holds, holds_at, same, same_at, vec_of};
+use crate::checks::{end_of_requests, holds, holds_at, same, same_at, vec_of};
 use crate::client::items::Letters;
+use crate::models::lookup_contiguous::answers_as_a_scan;
 use constriction::stream::model::{
     ContiguousCategoricalEntropyModel, DecoderModel, EncoderModel, EncodesOver, EntropyModel,
     ModelError, Weight,
@@ -13,7 +14,8 @@ use constriction::stream::model::{
 use constriction_backends::{BoundedWriteError, Cursor};
 use constriction_client::QuantileFault;
 use constriction_client::laws::{
-    CursorFault, decoder_and_encoder, there_and_back_in_a_cursor, there_and_back_of_two,
+    CursorFault, DecoderAndEncoder, decoder_and_encoder, there_and_back_in_a_cursor,
+    there_and_back_of_two,
 };
 use constriction_words::{BitArray, CoderError, Pos, ReadWriteError, Seek};
 use std::alloc::{AllocError, Global};
@@ -250,6 +252,41 @@ fn a_refusal_of_memory_leaves_the_words_in_a_cursor(rt: HostRuntime) {
         ),
     }
     holds(&rt, cursor.buf(), &[7, 2, 63, 3]);
+    end_of_requests(&rt);
+}
+
+/// Whichever request is refused, nothing comes back from a stack then.
+#[test]
+fn a_refusal_of_memory_ends_the_way_by_two_models(rt: HostRuntime) {
+    let Ok(model) = model(rt.alloc()) else {
+        return;
+    };
+    match through_a_stack(rt.alloc(), &model, &model, &ITEMS) {
+        Ok(items) => holds(&rt, &items, &REVERSED),
+        Err(fault) => same(&rt, fault, CoderError::Backend(AllocError)),
+    }
+    end_of_requests(&rt);
+}
+
+/// The decoder and the encoder that are made of a model.
+fn both_of(alloc: Global, model: &Small) -> Result<DecoderAndEncoder<usize, u8, 6>, ModelError> {
+    decoder_and_encoder(alloc, model)
+}
+
+/// Both models, or none where a request is refused.
+#[test]
+fn a_refusal_of_memory_leaves_no_decoder_and_no_encoder(rt: HostRuntime) {
+    let Ok(model) = model(rt.alloc()) else {
+        return;
+    };
+    match both_of(rt.alloc(), &model) {
+        Ok((decoder, encoder)) => {
+            answers_as_a_scan::<_, 6>(&rt, &decoder, &WEIGHTS);
+            same(&rt, encoder.support_size(), 4);
+        }
+        Err(error) => same(&rt, error, ModelError::OutOfMemory),
+    }
+    end_of_requests(&rt);
 }
 
 type Letter = (u8, u8);

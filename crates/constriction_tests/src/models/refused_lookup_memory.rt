@@ -1,7 +1,7 @@
 //! What the calls that make lookup models answer where memory is refused: a model, or `OutOfMemory`.
 //! `tools/refused-memory` refuses each request in turn.
 
-use crate::checks::same;
+use crate::checks::{end_of_requests, same};
 use crate::models::any_symbols::{ROWS, SYMBOLS, WEIGHTS, decoder, decodes};
 use crate::models::contiguous::table;
 use crate::models::lookup_any_symbols::{self, has_rows, looked_up};
@@ -59,6 +59,7 @@ fn a_refusal_of_memory_leaves_no_contiguous_model(rt: HostRuntime) {
         Err(error) => same(&rt, error, AllocError),
     }
     answers_as_a_scan::<_, 6>(&rt, &model, &WEIGHTS);
+    end_of_requests(&rt);
 }
 
 #[test]
@@ -73,6 +74,7 @@ fn a_refusal_of_memory_leaves_no_model_of_letters(rt: HostRuntime) {
         Err(error) => same(&rt, error, AllocError),
     }
     decodes(&rt, &model, &ROWS);
+    end_of_requests(&rt);
 }
 
 #[test]
@@ -90,6 +92,7 @@ fn a_refusal_of_memory_leaves_the_searching_model(rt: HostRuntime) {
     is_of_letters(&rt, &by_function);
     is_of_letters(&rt, &by_method);
     decodes(&rt, &model, &ROWS);
+    end_of_requests(&rt);
 }
 
 /// The table of this model announces no row, so that what is made of it grows.
@@ -102,4 +105,5 @@ fn a_refusal_of_memory_leaves_a_model_of_the_caller(rt: HostRuntime) {
             Err(error) => same(&rt, error, ModelError::OutOfMemory),
         }
     }
+    end_of_requests(&rt);
 }

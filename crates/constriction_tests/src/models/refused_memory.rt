@@ -1,7 +1,7 @@
 //! What the calls that make searching models answer where memory is refused: a model, or
 //! `OutOfMemory`. `tools/refused-memory` refuses each request in turn.
 
-use crate::checks::same;
+use crate::checks::{end_of_requests, same};
 use crate::models::any_symbols::{
     Decoder, Encoder, ROWS, SYMBOLS, WEIGHTS, decoder, decodes, encodes,
 };
@@ -39,6 +39,7 @@ fn a_refusal_of_memory_leaves_no_contiguous_model(rt: HostRuntime) {
         Err(error) => same(&rt, error, AllocError),
     }
     answers_as_a_scan::<_, 6>(&rt, &model, &WEIGHTS);
+    end_of_requests(&rt);
 }
 
 /// Stops the test where the answer is neither a model of the rows nor a refusal of memory.
@@ -89,6 +90,7 @@ fn a_refusal_of_memory_leaves_no_decoder(rt: HostRuntime) {
         Err(error) => same(&rt, error, AllocError),
     }
     decodes(&rt, &model, &ROWS);
+    end_of_requests(&rt);
 }
 
 #[test]
@@ -103,6 +105,7 @@ fn a_refusal_of_memory_leaves_no_encoder(rt: HostRuntime) {
         Err(error) => same(&rt, error, AllocError),
     }
     encodes(&rt, &model, &ROWS);
+    end_of_requests(&rt);
 }
 
 #[test]
@@ -116,6 +119,7 @@ fn a_refusal_of_memory_leaves_the_model_that_others_are_made_from(rt: HostRuntim
     is_decoder(&rt, &by_method.0);
     is_encoder(&rt, &by_method.1);
     decodes(&rt, &model, &ROWS);
+    end_of_requests(&rt);
 }
 
 /// The table of this model announces no row, so that what is made of it grows.
@@ -134,4 +138,5 @@ fn a_refusal_of_memory_leaves_a_model_of_the_caller(rt: HostRuntime) {
             Err(error) => same(&rt, error, ModelError::OutOfMemory),
         }
     }
+    end_of_requests(&rt);
 }
