@@ -2,7 +2,8 @@
 use Rattle.std.proofs.Common.{◌≡◌, ℕ, ◌+◌, ◌-◌, ◌*◌, ◌/◌, ◌%◌, ◌^◌, ◌<◌, ◌≤◌, refl, ap, sym, ◌∙◌, arith}
 use Rattle.std.proofs.Math.Nat.{add-div_right, pow-le-pow_right}
 use Rattle.std.proofs.lemmas.Nat.{mul-le}
-use Rattle.constriction.specs.UniformRowLemmas.{bin_of, rest_of, bin-positive, bins-fit}
+use Rattle.constriction.specs.Rows.{bin_of, rest_of}
+use Rattle.constriction.specs.UniformRowLemmas.{bin-positive, bins-fit}
 use Rattle.constriction.proofs.TableLemmas.{difference-mod}
 
 -- one quantile for each symbol, and the whole part of what is left over for each

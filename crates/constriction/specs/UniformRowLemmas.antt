@@ -15,7 +15,7 @@ use Rattle.constriction.specs.CodingLemmas.{rows-within}
 use Rattle.constriction.specs.Model.{LiesWithin}
 use Rattle.constriction.specs.RowLemmas.{length-rows_from, weights-rows_from, symbols-rows_from}
 use Rattle.constriction.specs.RowLemmas.{rows_from-at, contiguous-at, contiguous-past}
-use Rattle.constriction.specs.Rows.{Row, contiguous_rows, indices, uniform_weights, uniform_rows, RowsTile, IsRowOf, entry_of}
+use Rattle.constriction.specs.Rows.{Row, contiguous_rows, indices, uniform_weights, uniform_rows, bin_of, rest_of, RowsTile, IsRowOf, entry_of}
 
 -- k weights and a last one
 abbrev with_last : (k bin rest : ℕ) → List ℕ
@@ -39,13 +39,6 @@ at-with_last k bin rest i h =
 
 last-with_last : (k bin rest : ℕ) → get_or (with_last k bin rest) k 0 ≡ rest
 last-with_last k bin rest = get_or_push (replicate k bin) rest 0 k (length-replicate k bin)
-
--- the weight of each symbol but the last one, and what those leave for it, where the last symbol is given
-abbrev pub bin_of : ℕ → ℕ → ℕ
-bin_of precision last = 2 ^ precision / (last + 1)
-
-abbrev pub rest_of : ℕ → ℕ → ℕ
-rest_of precision last = 2 ^ precision - last * bin_of precision last
 
 -- w is the weight of the symbol k
 abbrev pub IsWeight : ℕ → ℕ → ℕ → ℕ → Type 0

@@ -4,9 +4,9 @@ ghost use Rattle.std.specs.Prelude.{◌≡◌, ◌+◌, ◌*◌, ◌/◌, ◌^�
 ghost use Rattle.std.specs.Iterator.{UpTo, size};
 ghost use Rattle.std.proofs.Common.{eq-eqb, refl};
 ghost use Rattle.constriction.specs.Model.{row_of, LiesWithin};
-ghost use Rattle.constriction.specs.Rows.{uniform_rows, IsRowOf};
+ghost use Rattle.constriction.specs.Rows.{uniform_rows, bin_of, rest_of, IsRowOf};
 ghost use Rattle.constriction.specs.Tables.{rows_between};
-ghost use Rattle.constriction.specs.UniformRowLemmas.{bin_of, rest_of, IsWeight, uniform-within, uniform-tiles};
+ghost use Rattle.constriction.specs.UniformRowLemmas.{IsWeight, uniform-within, uniform-tiles};
 
 use crate::stream::model::traits::{
     DecoderModel, EncoderModel, EntropyModel, IterableEntropyModel, Weight,
