@@ -2,13 +2,14 @@
 use Rattle.std.specs.Prelude.{◌≡◌, ℕ, Bool, true, false, List, [], ◌∷◌, ◌++◌, map, Option, Some, None, Ok, Result}
 use Rattle.std.specs.Cmp.{IsEquivalence}
 use Rattle.std.specs.Iterator.{Yields, Drains}
-use Rattle.std.specs.List.{list_any, AllByRecursion, IsDistinct}
+use Rattle.std.specs.List.{list_any, IsDistinct}
 use Rattle.std.proofs.Common.{refl, ap, sym, ◌∙◌, subst}
 use Rattle.std.proofs.lemmas.List.{map-append}
 use Rattle.std.proofs.lemmas.Simd.{map-map}
-use Rattle.std.proofs.lemmas.Map.Keys.{IsDistinct-push, IsDistinct-head, IsDistinct-tail, IsDistinct-cons}
-use Rattle.constriction.specs.Model.{row_of}
+use Rattle.std.proofs.lemmas.Map.Keys.{IsDistinct-push}
+use Rattle.constriction.specs.Model.{row_of, StandForRows, ClonesRepeat}
 use Rattle.constriction.specs.Rows.{Row, RowsTile, symbols_of}
+use Rattle.constriction.specs.StandLemmas.{tile-made}
 use Rattle.constriction.specs.Stored.{IsStored}
 use Rattle.constriction.specs.Tables.{YieldsRow, rows_paired}
 use Rattle.constriction.specs.Walked.{WalkedGood, WalkedBad}
@@ -16,18 +17,6 @@ use Rattle.constriction.specs.WalkLemmas.{gives-all-rows, walks-rows}
 use Rattle.constriction.proofs.FillLemmas.{yields-more}
 use Rattle.constriction.proofs.PairedLemmas.{paired-of_rows}
 use Rattle.constriction.proofs.ReadLemmas.{not-distinct, none-distinct}
-
--- ---- lists that begin a list with no two equal symbols
-
-all-begin : {K : Type 0} (P : K → Type 0) (xs ys : List K) → AllByRecursion P (xs ++ ys) → AllByRecursion P xs
-all-begin P [] ys a = tt
-all-begin P (x ∷ xs) ys a = (a.0, all-begin P xs ys a.1)
-
-distinct-begin : {K : Type 0} (eq : K → K → Bool) (xs ys : List K) → IsDistinct eq (xs ++ ys) → IsDistinct eq xs
-distinct-begin eq [] ys d = none-distinct eq
-distinct-begin eq (x ∷ xs) ys d =
-    IsDistinct-cons eq x xs (all-begin (λ y. eq x y ≡ false) xs ys (IsDistinct-head eq x (xs ++ ys) d))
-    (distinct-begin eq xs ys (IsDistinct-tail eq x (xs ++ ys) d))
 
 module _ {Symbol Word Weight Refusal T : Type 0} (steps : T → Option (Result (Symbol × Word × Weight) Refusal) → T → Type 0) (it : T) where
   -- one row more of a walk
@@ -83,45 +72,57 @@ module _ {Symbol Word Weight Refusal T : Type 0} (steps : T → Option (Result (
 
 -- ---- walks through all rows of a model
 
-module _ {Symbol Word Weight Refusal T : Type 0} (whole : Word → ℕ) (base : Weight → Word) (MayRefuse : Type 0)
-    (steps : T → Option (Result (Symbol × Word × Weight) Refusal) → T → Type 0) (rows_left : T → List (Row Symbol))
+module _ {Symbol Word Weight Refusal T : Type 0} (Stands : Symbol → Symbol → Type 0) (MayRefuse : Symbol → Type 0) (whole : Word → ℕ)
+    (base : Weight → Word) (steps : T → Option (Result (Symbol × Word × Weight) Refusal) → T → Type 0) (rows_left : T → List (Row Symbol))
     (law : (t : T) (r : Option (Result (Symbol × Word × Weight) Refusal)) (u : T) → steps t r u
-    → YieldsRow whole base MayRefuse (rows_left t) r (rows_left u))
+    → YieldsRow Stands MayRefuse whole base (rows_left t) r (rows_left u))
     (rows : List (Row Symbol)) (it : T) (all : rows_left it ≡ rows) where
   -- what a walk to the end gives, where it gives no refusal
-  pub walked-all : (xs : List (Symbol × Word × Weight)) → Drains steps it (map Ok xs) → map (row_of whole base) xs ≡ rows
-  walked-all xs d = (gives-all-rows whole base MayRefuse steps rows_left law it (map Ok xs) d).unrefused xs refl ∙ all
+  pub walked-all : (xs : List (Symbol × Word × Weight)) → Drains steps it (map Ok xs) → StandForRows Stands (map (row_of whole base) xs) rows
+  walked-all xs d =
+      subst (λ (rs : List (Row Symbol)). StandForRows Stands (map (row_of whole base) xs) rs) all
+      ((gives-all-rows Stands MayRefuse whole base steps rows_left law it (map Ok xs) d).unrefused xs refl)
 
   module _ (eq : Symbol → Symbol → Bool) where
-    walked-symbols : (xs : List (Symbol × Word × Weight)) (some : List (Row Symbol)) → map (row_of whole base) xs ≡ some
-        → map (λ x. x.0) xs ≡ symbols_of some
-    walked-symbols xs some e = sym (map-map (λ r. r.symbol) (row_of whole base) xs) ∙ ap symbols_of e
+    walked-symbols : (xs : List (Symbol × Word × Weight)) → map (λ x. x.0) xs ≡ symbols_of (map (row_of whole base) xs)
+    walked-symbols xs = sym (map-map (λ r. r.symbol) (row_of whole base) xs)
 
-    pub walked-stored : (bits precision : ℕ) → RowsTile bits precision rows → (entries : List (Word × Symbol))
-        → WalkedGood steps it (λ xs. (entries ≡ map (λ x. (x.1, x.0)) xs) × IsDistinct eq (map (λ x. x.0) xs))
-        → IsStored bits precision (map (λ x. whole x.0) entries) × (rows_paired whole precision entries ≡ rows)
-    walked-stored bits precision t entries good =
-        let is = walked-all good.0 good.1 in
-        paired-of_rows whole bits precision rows entries t (
-          ap (map (λ y. y.1)) good.2.0 ∙ map-map (λ y. y.1) (λ y. (y.1, y.0)) good.0 ∙ walked-symbols good.0 rows is,
-          ap (map (λ y. whole y.0)) good.2.0 ∙ map-map (λ y. whole y.0) (λ y. (y.1, y.0)) good.0
-              ∙ sym (map-map (λ r. r.left) (row_of whole base) good.0) ∙ ap (map (λ r. r.left)) is,
+    -- the entries of such a walk
+    module _ (bits precision : ℕ) (t : RowsTile bits precision rows) (entries : List (Word × Symbol))
+        (good : WalkedGood steps it (λ xs. (entries ≡ map (λ x. (x.1, x.0)) xs) × IsDistinct eq (map (λ x. x.0) xs))) where
+      abbrev made : List (Row Symbol)
+      made = map (row_of whole base) good.0
+
+      made-stored : IsStored bits precision (map (λ x. whole x.0) entries) × (rows_paired whole precision entries ≡ made)
+      made-stored =
+          paired-of_rows whole bits precision made entries (tile-made Stands bits precision made rows (walked-all good.0 good.1) t) (
+            ap (map (λ y. y.1)) good.2.0 ∙ map-map (λ y. y.1) (λ y. (y.1, y.0)) good.0 ∙ walked-symbols good.0,
+            ap (map (λ y. whole y.0)) good.2.0 ∙ map-map (λ y. whole y.0) (λ y. (y.1, y.0)) good.0
+                ∙ sym (map-map (λ r. r.left) (row_of whole base) good.0),
+          )
+
+      pub walked-stored : IsStored bits precision (map (λ x. whole x.0) entries)
+          × StandForRows Stands (rows_paired whole precision entries) rows
+      walked-stored = (
+        made-stored.0,
+        subst (λ (rs : List (Row Symbol)). StandForRows Stands rs rows) (sym made-stored.1) (walked-all good.0 good.1),
+      )
+
+      pub walked-distinct : IsDistinct eq (map (λ y. y.1) entries) × IsDistinct eq (symbols_of (rows_paired whole precision entries))
+      walked-distinct =
+          let held : map (λ x. x.0) good.0 ≡ map (λ y. y.1) entries =
+          sym (ap (map (λ y. y.1)) good.2.0 ∙ map-map (λ y. y.1) (λ y. (y.1, y.0)) good.0) in (
+            subst (IsDistinct eq) held good.2.1,
+            subst (IsDistinct eq) (walked-symbols good.0 ∙ ap symbols_of (sym made-stored.1)) good.2.1,
+          )
+
+    pub walked-repeat : WalkedBad steps it (λ xs. IsDistinct eq (map (λ x. x.0) xs)) → ClonesRepeat eq Stands rows
+    walked-repeat bad =
+        let gave = walks-rows Stands MayRefuse whole base steps rows_left law it (map Ok bad.0) bad.1 bad.2 in (
+          map (row_of whole base) bad.0,
+          gave.0,
+          rows_left bad.1,
+          sym all ∙ gave.1,
+          gave.2.unrefused bad.0 refl,
+          λ d. bad.3 (subst (IsDistinct eq) (sym (walked-symbols bad.0)) d),
         )
-
-    pub walked-distinct : (entries : List (Word × Symbol))
-        → WalkedGood steps it (λ xs. (entries ≡ map (λ x. (x.1, x.0)) xs) × IsDistinct eq (map (λ x. x.0) xs))
-        → IsDistinct eq (map (λ y. y.1) entries) × IsDistinct eq (symbols_of rows)
-    walked-distinct entries good =
-        let held : map (λ x. x.0) good.0 ≡ map (λ y. y.1) entries =
-        sym (ap (map (λ y. y.1)) good.2.0 ∙ map-map (λ y. y.1) (λ y. (y.1, y.0)) good.0) in (
-          subst (IsDistinct eq) held good.2.1,
-          subst (IsDistinct eq) (walked-symbols good.0 rows (walked-all good.0 good.1)) good.2.1,
-        )
-
-    pub walked-repeat : WalkedBad steps it (λ xs. IsDistinct eq (map (λ x. x.0) xs)) → ¬ (IsDistinct eq (symbols_of rows))
-    walked-repeat bad = λ d.
-        let gave = walks-rows whole base MayRefuse steps rows_left law it (map Ok bad.0) bad.1 bad.2 in
-        let begin : symbols_of rows ≡ map (λ x. x.0) bad.0 ++ symbols_of (rows_left bad.1) =
-        ap symbols_of (sym all ∙ gave.1) ∙ map-append (λ r. r.symbol) gave.0 (rows_left bad.1)
-        ∙ ap (λ ss. ss ++ symbols_of (rows_left bad.1)) (sym (walked-symbols bad.0 gave.0 (gave.2.unrefused bad.0 refl))) in
-        bad.3 (distinct-begin eq (map (λ x. x.0) bad.0) (symbols_of (rows_left bad.1)) (subst (IsDistinct eq) begin d))

@@ -8,15 +8,14 @@ use Rattle.std.specs.Map.{lookup, keys_of}
 use Rattle.std.specs.Set.{is_member, distinct_count}
 use Rattle.std.proofs.Common.{refl, ap, sym, ◌∙◌, subst, arith}
 use Rattle.std.proofs.lemmas.List.{reverse-append, length-map, map-append}
-use Rattle.std.proofs.lemmas.List.Elements.{All-cons, All-nil, All-tail, same_from_all_zip}
+use Rattle.std.proofs.lemmas.List.Elements.{All-cons, All-nil, All-tail}
 use Rattle.std.proofs.lemmas.Map.Keys.{IsDistinct-head, IsDistinct-tail}
 use Rattle.std.proofs.lemmas.Map.Made.{length-from_keys, is_some-lookup}
 use Rattle.constriction.specs.Filling.{HoldsEntries}
 use Rattle.constriction.specs.Hashed.{rows_of_table, SameEntries}
-use Rattle.constriction.specs.Model.{row_of, LiesWithin}
+use Rattle.constriction.specs.Model.{row_of, LiesWithin, StandForRows}
 use Rattle.constriction.specs.RowLemmas.{entry_of-cons}
 use Rattle.constriction.specs.Rows.{Row, entry_of, symbols_of}
-use Rattle.constriction.specs.Tables.{ClonesAreSame}
 use Rattle.constriction.specs.Walked.{WalkedGood}
 use Rattle.constriction.proofs.CollectLemmas.{walked-more}
 
@@ -162,12 +161,27 @@ module _ {K : Type 0} (eq : K → K → Bool) (laws : IsEquivalence eq) where
     hashed-member rows f k b h e =
         sym (has-entry rows k) ∙ ap is_some (sym (h k)) ∙ some-map numbers (f k) ∙ e
 
--- clones of entries, where clones of symbols are the same values
-pub entries-cloned : {K X : Type 0} (IsClone : K → K → Type 0) → ClonesAreSame IsClone → (es fs : List (K × X))
-    → AllZip (λ p q. IsClone p.0 q.0 × (q.1 ≡ p.1)) es fs → fs ≡ es
-entries-cloned IsClone same es fs h =
-    same_from_all_zip (λ p q. IsClone p.0 q.0 × (q.1 ≡ p.1)) es fs h
-    (λ p q r. ap (λ k. (k, q.1)) (same p.0 q.0 r.0) ∙ ap (λ e. (p.0, e)) r.1)
+-- the rows of a table of clones
+pub table-cloned : {K X : Type 0} (IsClone : K → K → Type 0) (numbers : X → ℕ × ℕ) (es fs : List (K × X))
+    → AllZip (λ p q. IsClone p.0 q.0 × (q.1 ≡ p.1)) es fs
+    → StandForRows IsClone (rows_of_table numbers fs) (rows_of_table numbers es)
+table-cloned IsClone numbers [] [] h = tt
+table-cloned IsClone numbers [] (f ∷ fs) h = h
+table-cloned IsClone numbers (e ∷ es) [] h = h
+table-cloned IsClone numbers (e ∷ es) (f ∷ fs) h = (
+  (h.0.0, ap (λ x. (numbers x).0) h.0.1, ap (λ x. (numbers x).1) h.0.1),
+  table-cloned IsClone numbers es fs h.1,
+)
+
+-- rows that were made of others lie where these do
+pub within-made : {K : Type 0} (Stands : K → K → Type 0) (precision : ℕ) (made rows : List (Row K)) → StandForRows Stands made rows
+    → All (LiesWithin precision) rows → All (LiesWithin precision) made
+within-made Stands precision [] rows h a = All-nil (LiesWithin precision)
+within-made Stands precision (m ∷ ms) [] h a = absurd h
+within-made Stands precision (m ∷ ms) (r ∷ rs) h a =
+    let lies = a 0 r (omega arith) in
+    All-cons (LiesWithin precision) m ms (omega (arith, h.0.2, lies.0), omega (arith, h.0.1, h.0.2, lies.1))
+    (within-made Stands precision ms rs h.1 (All-tail (LiesWithin precision) r rs a))
 
 -- ---- the entries of the rows that a walk gives
 

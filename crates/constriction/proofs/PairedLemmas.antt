@@ -1,14 +1,15 @@
 -- Rows whose left cumulatives are stored beside their symbols, without a total after them.
-use Rattle.std.specs.Prelude.{⊤, Result, Ok, Err, IfOk}
-use Rattle.std.specs.List.{IsDistinct}
-use Rattle.std.proofs.Common.{Bool, ◌≡◌, ℕ, ◌+◌, ◌-◌, ◌%◌, ◌^◌, ◌<◌, ◌≤◌, List, [], ◌∷◌, ◌++◌, length, get_or, map, refl, ap, sym, ◌∙◌, arith, inl, inr}
+use Rattle.std.specs.Prelude.{⊤, Result, Ok, Err, IfOk, IfErr}
+use Rattle.std.specs.List.{AllZip, IsDistinct}
+use Rattle.std.proofs.Common.{Bool, ◌≡◌, ℕ, ◌+◌, ◌-◌, ◌%◌, ◌^◌, ◌<◌, ◌≤◌, List, [], ◌∷◌, ◌++◌, length, get_or, map, refl, ap, sym, subst, ◌∙◌, arith, inl, inr}
 use Rattle.std.proofs.Math.Nat.{mod-eq_of_lt, pow-le-pow_right}
 use Rattle.std.proofs.lemmas.Bool.{cases_lt}
 use Rattle.std.proofs.lemmas.List.{length-map, get_or-map}
 use Rattle.constriction.specs.Acceptance.{AreAccepted}
-use Rattle.constriction.specs.Filling.{HoldsRows}
+use Rattle.constriction.specs.Filling.{HoldsRows, AreEntriesCloned}
+use Rattle.constriction.specs.Model.{StandForRows, RowMayBeRefused}
 use Rattle.constriction.specs.RowLemmas.{weights-rows_from, symbols-rows_from}
-use Rattle.constriction.specs.Rows.{Row, rows_of, symbols_of, RowsTile, IsRowOf}
+use Rattle.constriction.specs.Rows.{Row, rows_from, rows_of, symbols_of, RowsTile, IsRowOf}
 use Rattle.constriction.specs.Stored.{IsStored, weights_of}
 use Rattle.constriction.specs.StoredLemmas.{IsRowAt, stored-row, stored-of_rows}
 use Rattle.constriction.specs.SymbolRowLemmas.{symbols-many, symbol-rows_many, symbol-is_at, paired-long, paired-tiles}
@@ -154,19 +155,38 @@ module _ {Symbol : Type 0} (eq : Symbol → Symbol → Bool) (bits precision : �
       → IsDistinct eq (map (λ x. x.1) entries)
   paired-distinct whole entries h = rw (h.0, accepted-symbols) a.distinct
 
--- the symbols and weights of rows that tile, no two symbols of which are equal
-pub tiling-rebuilds : {Symbol : Type 0} (eq : Symbol → Symbol → Bool) (bits precision : ℕ) (rows : List (Row Symbol))
-    → RowsTile bits precision rows → IsDistinct eq (symbols_of rows)
-    → AreAccepted eq bits precision (symbols_of rows) (map (λ r. r.weight) rows)
-    × (rows_of (symbols_of rows) (map (λ r. r.weight) rows) ≡ rows)
-tiling-rebuilds eq bits precision rows t distinct = (
-  record {
-    tile = t.accepted;
-    as_many = length-map rows (λ r. r.symbol) ∙ sym (length-map rows (λ r. r.weight));
-    distinct = distinct;
-  },
-  sym t.in_order,
-)
+-- clones of entries
+module _ {Symbol Word : Type 0} (whole : Word → ℕ) (IsClone : Symbol → Symbol → Type 0) where
+  pub cloned-words : (entries cloned : List (Word × Symbol)) → AreEntriesCloned IsClone entries cloned
+      → map (λ x. whole x.0) cloned ≡ map (λ x. whole x.0) entries
+  cloned-words [] [] h = refl
+  cloned-words [] (c ∷ cs) h = absurd h
+  cloned-words (e ∷ es) [] h = absurd h
+  cloned-words (e ∷ es) (c ∷ cs) h =
+      ap (λ w. whole w ∷ map (λ x. whole x.0) cs) h.0.1 ∙ ap (λ ns. whole e.0 ∷ ns) (cloned-words es cs h.1)
+
+  pub cloned-symbols : (entries cloned : List (Word × Symbol)) → AreEntriesCloned IsClone entries cloned
+      → AllZip (λ t s. IsClone s t) (map (λ x. x.1) cloned) (map (λ x. x.1) entries)
+  cloned-symbols [] [] h = tt
+  cloned-symbols [] (c ∷ cs) h = h
+  cloned-symbols (e ∷ es) [] h = h
+  cloned-symbols (e ∷ es) (c ∷ cs) h = (h.0.0, cloned-symbols es cs h.1)
+
+  cloned-from : (l : ℕ) (ts ss : List Symbol) (ws : List ℕ) → AllZip (λ t s. IsClone s t) ts ss
+      → StandForRows IsClone (rows_from l ts ws) (rows_from l ss ws)
+  cloned-from l [] [] ws h = tt
+  cloned-from l [] (s ∷ ss) ws h = absurd h
+  cloned-from l (t ∷ ts) [] ws h = absurd h
+  cloned-from l (t ∷ ts) (s ∷ ss) [] h = tt
+  cloned-from l (t ∷ ts) (s ∷ ss) (w ∷ ws) h = ((h.0, refl, refl), cloned-from (l + w) ts ss ws h.1)
+
+  pub cloned-rows : (precision : ℕ) (entries cloned : List (Word × Symbol)) → AreEntriesCloned IsClone entries cloned
+      → StandForRows IsClone (rows_paired whole precision cloned) (rows_paired whole precision entries)
+  cloned-rows precision entries cloned h =
+      subst (λ (ls : List ℕ). StandForRows IsClone (rows_of (map (λ x. x.1) cloned) (weights_of precision ls)) (rows_paired whole precision entries))
+      (sym (cloned-words entries cloned h))
+      (cloned-from 0 (map (λ x. x.1) cloned) (map (λ x. x.1) entries) (weights_of precision (map (λ x. whole x.0) entries))
+      (cloned-symbols entries cloned h))
 
 -- entries that were lent: their rows are stored, all of them are left at first, and there are so many
 pub paired-lent : {Symbol Word : Type 0} (whole : Word → ℕ) (bits precision : ℕ) (entries lent : List (Word × Symbol))
@@ -177,8 +197,24 @@ pub paired-lent : {Symbol Word : Type 0} (whole : Word → ℕ) (bits precision 
 paired-lent whole bits precision entries lent t e =
     rw e (t, paired-all whole bits precision entries t, omega arith, omega arith)
 
--- the row that was answered, where one was, is that of the quantile
-pub found-row : {Symbol A E : Type 0} {rows : List (Row Symbol)} {q i : ℕ} (r : Result A E) (row : A → Row Symbol) → IsRowIndexOf rows q i
-    → IfOk r (λ x. get_or rows i (row x) ≡ row x) → IfOk r (λ x. IsRowOf rows q (row x))
-found-row (Ok x) row found is = rw is at (found.row (row x))
-found-row (Err e) row found is = tt
+-- the answer for the row at an index is for that of the quantile, and so is a refusal
+module _ {Symbol A E : Type 0} {rows : List (Row Symbol)} {q i : ℕ} (r : Result A E) (found : IsRowIndexOf rows q i) where
+  pub found-row : (Own : A → Symbol → Type 0) (row : A → Symbol → Row Symbol)
+      → IfOk r (λ x. (own : Symbol) × Own x own × (get_or rows i (row x own) ≡ row x own))
+      → IfOk r (λ x. (own : Symbol) × Own x own × IsRowOf rows q (row x own))
+  found-row Own row h = if-ok r h
+    where
+      if-ok : (o : Result A E) → IfOk o (λ x. (own : Symbol) × Own x own × (get_or rows i (row x own) ≡ row x own))
+          → IfOk o (λ x. (own : Symbol) × Own x own × IsRowOf rows q (row x own))
+      if-ok (Ok x) k = (k.0, k.1, subst (λ (t : Row Symbol). IsRowOf rows q t) k.2 (found.row (row x k.0)))
+      if-ok (Err e) k = tt
+
+  pub found-refused : (MayRefuse : Symbol → Type 0)
+      → IfErr r (λ _. (t : Row Symbol) × (get_or rows i t ≡ t) × MayRefuse t.symbol)
+      → IfErr r (λ _. RowMayBeRefused MayRefuse rows q)
+  found-refused MayRefuse h = if-err r h
+    where
+      if-err : (o : Result A E) → IfErr o (λ _. (t : Row Symbol) × (get_or rows i t ≡ t) × MayRefuse t.symbol)
+          → IfErr o (λ _. RowMayBeRefused MayRefuse rows q)
+      if-err (Ok x) k = tt
+      if-err (Err e) k = (k.0, subst (λ (t : Row Symbol). IsRowOf rows q t) k.1 (found.row k.0), k.2)

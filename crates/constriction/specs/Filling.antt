@@ -1,5 +1,6 @@
 -- How far the quantiles below 2 ^ precision are filled. No public clause cites this module.
 use Rattle.std.specs.Prelude.{◌≡◌, ℕ, ◌+◌, ◌^◌, ◌<◌, Bool, List, All, map, sum, Option, Some, None, IfSome}
+use Rattle.std.specs.List.{AllZip}
 use Rattle.std.specs.Option.{option_map}
 use Rattle.constriction.specs.Rows.{Row, symbols_of, entry_of}
 use Rattle.constriction.specs.Stored.{lefts_from}
@@ -29,6 +30,10 @@ pub record IsFilled {Word : Type 0} (whole : Word → ℕ) (bits precision : ℕ
 abbrev pub HoldsRows : {Word Symbol : Type 0} → (Word → ℕ) → List (Word × Symbol) → List (Row Symbol) → Type 0
 HoldsRows whole entries rows =
     (map (λ x. x.1) entries ≡ symbols_of rows) × (map (λ x. whole x.0) entries ≡ map (λ r. r.left) rows)
+
+-- to these entries the others are clones: one for each, in order, with the same word and a clone of the symbol
+abbrev pub AreEntriesCloned : {Word Symbol : Type 0} → (Symbol → Symbol → Type 0) → List (Word × Symbol) → List (Word × Symbol) → Type 0
+AreEntriesCloned IsClone entries cloned = AllZip (λ e c. IsClone e.1 c.1 × (c.0 ≡ e.0)) entries cloned
 
 -- a table finds for each symbol its entry in these rows, and nothing where it has none
 abbrev pub HoldsEntries : {Symbol Entry : Type 0} → (Symbol → Symbol → Bool) → (Entry → ℕ × ℕ) → (Symbol → Option Entry) → List (Row Symbol)

@@ -1,30 +1,34 @@
 -- What follows from the contracts of models: the functions of the module `laws` say it.
-use Rattle.std.specs.Prelude.{◌≡◌, ◌↔◌, ℕ, ◌+◌, ◌-◌, ◌^◌, ◌<◌, ◌≤◌, Bool, true, List, ◌++◌, length, map, Contains, Option, Some, Result, Ok, IfOk, IfErr, nat_eq}
-use Rattle.std.specs.Cmp.{IsPartialEquivalence}
+use Rattle.std.specs.Prelude.{◌≡◌, ◌↔◌, ℕ, ◌+◌, ◌-◌, ◌^◌, ◌<◌, ◌≤◌, Bool, true, List, ◌++◌, length, map, Contains, Option, Some, Result, Ok, IfOk, nat_eq}
 use Rattle.std.specs.Iterator.{Yields, Drains}
 use Rattle.std.specs.List.{AllZip, IsDistinct}
 use Rattle.constriction.specs.Acceptance.{AreAccepted}
 use Rattle.constriction.specs.Rows.{Row, IsRowOf, contiguous_rows, entry_of, rows_of, symbols_of, uniform_rows}
-use Rattle.constriction.specs.Model.{row_of}
+use Rattle.constriction.specs.Model.{row_of, LiesWithin, StandsForRow, StandForRows, ClonesAreSame}
 use Rattle.constriction.specs.Tables.{StandsFor}
 
 -- ---- tables: `steps` are the steps of one, and `rows_left` tells the rows that it has yet to give
 
-module _ {Symbol Word Weight Refusal : Type 0} (whole : Word → ℕ) (base : Weight → Word) (MayRefuse : Type 0) where
-  -- The items are the rows, one by one and in order; where rows may be refused, refusals in the places of rows. Where none of them is a
-  -- refusal, they are the rows themselves.
+module _ {Symbol Word Weight Refusal : Type 0} (Stands : Symbol → Symbol → Type 0) (MayRefuse : Symbol → Type 0) (whole : Word → ℕ)
+    (base : Weight → Word) where
+  -- The items stand for the rows, one by one and in order; where the clone of a row's symbol may be refused, a refusal in its place. Where
+  -- none of them is a refusal, they are rows that stand for these, and where clones are the same values, they are these.
   pub record AreRows (items : List (Result (Symbol × Word × Weight) Refusal)) (rows : List (Row Symbol)) : Type 0 where
-    pub stand : AllZip (StandsFor whole base MayRefuse) items rows
-    pub unrefused : (xs : List (Symbol × Word × Weight)) → items ≡ map Ok xs → map (row_of whole base) xs ≡ rows
+    pub stand : AllZip (StandsFor Stands MayRefuse whole base) items rows
+    pub unrefused : (xs : List (Symbol × Word × Weight)) → items ≡ map Ok xs → StandForRows Stands (map (row_of whole base) xs) rows
+    pub exact : ClonesAreSame Stands → (xs : List (Symbol × Word × Weight)) → items ≡ map Ok xs → map (row_of whole base) xs ≡ rows
 
-  -- The answer x for the quantile q is in the table: an item is x, or where rows may be refused, a refusal in its place; and no other
-  -- item is a row that holds q.
-  pub record IsInTable (items : List (Result (Symbol × Word × Weight) Refusal)) (q : ℕ) (x : Symbol × Word × Weight) : Type 0 where
+  -- The row r of the quantile q is in the table: an item stands for it, and each item that holds q does. Where clones are the same values,
+  -- an answer of this row is that item, and each item that holds q.
+  pub record IsInTable (items : List (Result (Symbol × Word × Weight) Refusal)) (q : ℕ) (r : Row Symbol) : Type 0 where
     pub item : Result (Symbol × Word × Weight) Refusal
     pub among : Contains items item
-    pub is : IfOk item (λ y. y ≡ x)
-    pub refused : IfErr item (λ _. MayRefuse)
-    pub alone : (y : Symbol × Word × Weight) → Contains items (Ok y) → whole y.1 ≤ q → q < whole y.1 + whole (base y.2) → y ≡ x
+    pub stands : StandsFor Stands MayRefuse whole base item r
+    pub alone : (y : Symbol × Word × Weight) → Contains items (Ok y) → whole y.1 ≤ q → q < whole y.1 + whole (base y.2)
+        → StandsForRow Stands whole base y r
+    pub exact : ClonesAreSame Stands → (x : Symbol × Word × Weight) → row_of whole base x ≡ r
+        → IfOk item (λ y. y ≡ x)
+        × ((y : Symbol × Word × Weight) → Contains items (Ok y) → whole y.1 ≤ q → q < whole y.1 + whole (base y.2) → y ≡ x)
 
   module _ {T : Type 0} (steps : T → Option (Result (Symbol × Word × Weight) Refusal) → T → Type 0)
       (rows_left : T → List (Row Symbol)) where
@@ -39,11 +43,11 @@ module _ {Symbol Word Weight Refusal : Type 0} (whole : Word → ℕ) (base : We
     GivesAllRows =
         (t : T) (items : List (Result (Symbol × Word × Weight) Refusal)) → Drains steps t items → AreRows items (rows_left t)
 
-    -- an answer of a model, whose row is that of the quantile, is in the model's table, walked to its end
+    -- the row of a quantile, for which a model's answer stands, is in the model's table, walked to its end
     abbrev pub AnswersAreInTable : {M : Type 0} → (M → List (Row Symbol)) → Type 0
     AnswersAreInTable {M} rows =
-        (m : M) (t : T) (items : List (Result (Symbol × Word × Weight) Refusal)) (q : ℕ) (x : Symbol × Word × Weight)
-        → rows_left t ≡ rows m → Drains steps t items → IsRowOf (rows m) q (row_of whole base x) → IsInTable items q x
+        (m : M) (t : T) (items : List (Result (Symbol × Word × Weight) Refusal)) (q : ℕ) (r : Row Symbol)
+        → rows_left t ≡ rows m → Drains steps t items → IsRowOf (rows m) q r → IsInTable items q r
 
 -- steps to the end of a table give as many items as rows were left
 abbrev pub GivesAsMany : {T Item Symbol : Type 0} → (T → Option Item → T → Type 0) → (T → List (Row Symbol)) → Type 0
@@ -55,6 +59,19 @@ abbrev pub UniformRowsAreAsMany : Type 0
 UniformRowsAreAsMany = (precision n : ℕ) → 0 < n → length (uniform_rows precision n) ≡ n
 
 -- ---- symbols with offsets, and quantiles
+
+-- A quantile has one row: it is among the rows, it lies below 2 ^ precision, so that it weighs no more than that, and no other row holds
+-- the quantile.
+pub record HasOneRow {Symbol : Type 0} (precision : ℕ) (rows : List (Row Symbol)) (q : ℕ) : Type 0 where
+  pub row : Row Symbol
+  pub found : IsRowOf rows q row
+  pub within : LiesWithin precision row
+  pub at_most : row.weight ≤ 2 ^ precision
+  pub alone : (other : Row Symbol) → IsRowOf rows q other → other ≡ row
+
+-- each quantile below 2 ^ precision has one row of a decoder model
+abbrev pub QuantilesHaveOneRow : {M Symbol : Type 0} → ℕ → (M → List (Row Symbol)) → Type 0
+QuantilesHaveOneRow {M} precision rows = (m : M) (q : ℕ) → q < 2 ^ precision → HasOneRow precision (rows m) q
 
 -- no two symbols of a contiguous model are equal, and so of a uniform one
 abbrev pub ContiguousSymbolsDiffer : Type 0
@@ -88,12 +105,11 @@ pub record IsOneToOne {Symbol : Type 0} (eq : Symbol → Symbol → Bool) (entry
   -- and equal symbols have one entry, so that with the same offset they have the same quantile
   pub same : (s t : Symbol) → eq s t ≡ true → entry s ≡ entry t
 
--- So it is between the rows of a decoder and an encoder whose entries are those of these rows, where equality is symmetric and
--- transitive and no two symbols are equal.
+-- So it is between the rows of a decoder and an encoder whose entries are those of these rows, where no two symbols are equal.
 abbrev pub PairsAreQuantiles : {Symbol D E : Type 0} → (Symbol → Symbol → Bool) → ℕ → (D → List (Row Symbol))
     → (E → List (Row Symbol)) → Type 0
 PairsAreQuantiles {Symbol} {D} {E} eq precision rows encoder_rows =
-    IsPartialEquivalence eq → (d : D) (e : E) → IsDistinct eq (symbols_of (rows d))
+    (d : D) (e : E) → IsDistinct eq (symbols_of (rows d))
     → ((s : Symbol) → entry_of eq (encoder_rows e) s ≡ entry_of eq (rows d) s)
     → IsOneToOne eq (entry_of eq (encoder_rows e)) precision (rows d)
 

@@ -1,6 +1,7 @@
 pub mod Acceptance
 pub mod CodingLemmas
 pub mod Filling
+pub mod GivenLemmas
 pub mod Hashed
 pub mod Laws
 pub mod Model
@@ -11,6 +12,7 @@ pub mod Rows
 pub mod Searching
 pub mod SlotTable
 pub mod Slots
+pub mod StandLemmas
 pub mod Stored
 pub mod StoredLemmas
 pub mod StoredRowLemmas

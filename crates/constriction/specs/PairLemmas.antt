@@ -1,7 +1,7 @@
 -- Symbols with offsets, and quantiles: the entry of a row's own symbol, and the pair of each quantile. No public clause cites this module.
 use Rattle.std.specs.Prelude.{◌≡◌, ℕ, ◌+◌, ◌-◌, ◌^◌, ◌<◌, ◌≤◌, Bool, true, false, List, [], ◌∷◌, length, map, sum, Contains, Option, Some, None, nat_eq}
 use Rattle.std.proofs.Common.{suc, zero, get_or, refl, ap, sym, subst, ◌∙◌, arith, inl, inr, cond}
-use Rattle.std.specs.Cmp.{IsPartialEquivalence, both_ways}
+use Rattle.std.specs.Cmp.{IsEquivalence}
 use Rattle.std.specs.Option.{option_or}
 use Rattle.std.specs.List.{AllByRecursion, IsDistinct, range_with_len}
 use Rattle.std.proofs.lemmas.Bool.{cases_lt, ne_eqb}
@@ -11,8 +11,8 @@ use Rattle.std.proofs.lemmas.List.Sums.{sum_by-cons}
 use Rattle.std.proofs.lemmas.Map.Keys.{IsDistinct-head, IsDistinct-tail}
 use Rattle.constriction.specs.Rows.{Row, RowsTile, IsRowOf, rows_from, entry_of, indices, contiguous_rows, symbols_of}
 use Rattle.constriction.specs.RowLemmas.{entry_of-cons, symbols-rows_from}
-use Rattle.constriction.specs.CodingLemmas.{entry-row, entry-below, one-row, rows-within}
-use Rattle.constriction.specs.Laws.{ContiguousSymbolsDiffer, IsQuantileAt, IsOneToOne, PairsAreQuantiles}
+use Rattle.constriction.specs.CodingLemmas.{entry-row, entry-below, one-row, row-within, rows-within}
+use Rattle.constriction.specs.Laws.{ContiguousSymbolsDiffer, QuantilesHaveOneRow, IsQuantileAt, IsOneToOne, PairsAreQuantiles}
 
 -- a row among others is one among more
 pub row-further : {Symbol : Type 0} (x : Row Symbol) (xs : List (Row Symbol)) (q : ℕ) (r : Row Symbol) → IsRowOf xs q r
@@ -42,6 +42,20 @@ has-row {Symbol = Symbol} bits precision rows q tile below =
     let same : length ss ≡ length ws = length-map rows (λ r. r.symbol) ∙ sym (length-map rows (λ r. r.weight)) in
     let one = reached 0 ss ws q same (omega arith) (omega (arith, tile.accepted.tiles.total)) in
     (one.0, subst (λ (rs : List (Row Symbol)). IsRowOf rs q one.0) (sym tile.in_order) one.1)
+
+-- so each quantile has one row, where all rows tile
+pub one-row-each : {Symbol M : Type 0} (bits precision : ℕ) (rows : M → List (Row Symbol)) → ((m : M) → RowsTile bits precision (rows m))
+    → QuantilesHaveOneRow precision rows
+one-row-each bits precision rows tile m q below =
+    let one = has-row bits precision (rows m) q (tile m) below in
+    let within = row-within bits precision (rows m) q one.0 (tile m) one.1 in
+    record {
+      row = one.0;
+      found = one.1;
+      within = within;
+      at_most = omega (arith, within.1);
+      alone = λ other found. one-row bits precision (rows m) q other one.0 (tile m) found one.1;
+    }
 
 -- a symbol that differs from those of all rows has no entry
 no-entry : {Symbol : Type 0} (eq : Symbol → Symbol → Bool) (s : Symbol) (rows : List (Row Symbol))
@@ -135,13 +149,12 @@ module _ {Symbol : Type 0} (eq : Symbol → Symbol → Bool) (entry : Symbol →
       (rows-within bits precision rows tile) is.below in
       omega (arith, is.sum)
 
-  pub one-to-one : ((x : Symbol) → eq x x ≡ true) → IsPartialEquivalence eq → IsDistinct eq (symbols_of rows)
-      → IsOneToOne eq entry precision rows
-  one-to-one itself lawful distinct = record {
+  pub one-to-one : IsEquivalence eq → IsDistinct eq (symbols_of rows) → IsOneToOne eq entry precision rows
+  one-to-one laws distinct = record {
     has_row = λ q below. has-row bits precision rows q tile below;
     there = λ q r found.
         let known : entry r.symbol ≡ Some (r.left, r.weight) =
-        agree r.symbol ∙ own-entry eq rows r itself lawful.symm distinct found.among in (
+        agree r.symbol ∙ own-entry eq rows r laws.refl laws.symm distinct found.among in (
           known,
           record {
             left = r.left;
@@ -156,16 +169,14 @@ module _ {Symbol : Type 0} (eq : Symbol → Symbol → Bool) (entry : Symbol →
     one = λ s t m n q a b.
         let p = pair-row s m q a in
         let other = pair-back t n q p.0 b p.1 in
-        let this : eq s p.0.symbol ≡ true = lawful.symm s p.0.symbol ∙ p.2 in
-        (lawful.trans s p.0.symbol t this other.0, p.4 ∙ sym other.2);
+        (sym (laws.congr p.0.symbol s t p.2) ∙ other.0, p.4 ∙ sym other.2);
     same = λ s t e.
-        let alike : (x : Symbol) → eq x s ≡ eq x t = λ x.
-        both_ways (eq x s) (eq x t) (λ h. lawful.trans x s t h e) (λ h. lawful.trans x t s h (lawful.symm t s ∙ e)) in
+        let alike : (x : Symbol) → eq x s ≡ eq x t = λ x. laws.symm x s ∙ laws.congr s t x e ∙ laws.symm t x in
         agree s ∙ same-entry eq s t rows alike ∙ sym (agree t);
   }
 
 pub pairs-are-quantiles : {Symbol D E : Type 0} (eq : Symbol → Symbol → Bool) (bits precision : ℕ) (rows : D → List (Row Symbol))
-    (encoder_rows : E → List (Row Symbol)) → ((m : D) → RowsTile bits precision (rows m)) → ((x : Symbol) → eq x x ≡ true)
+    (encoder_rows : E → List (Row Symbol)) → ((m : D) → RowsTile bits precision (rows m)) → IsEquivalence eq
     → PairsAreQuantiles eq precision rows encoder_rows
-pairs-are-quantiles eq bits precision rows encoder_rows tile itself lawful d e distinct agree =
-    one-to-one eq (entry_of eq (encoder_rows e)) bits precision (rows d) (tile d) agree itself lawful distinct
+pairs-are-quantiles eq bits precision rows encoder_rows tile laws d e distinct agree =
+    one-to-one eq (entry_of eq (encoder_rows e)) bits precision (rows d) (tile d) agree laws distinct

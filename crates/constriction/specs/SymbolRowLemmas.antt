@@ -1,5 +1,5 @@
 -- The rows of symbols and of a stored list: what the models' laws cite. No public clause cites this module.
-use Rattle.std.specs.Prelude.{◌≡◌, ℕ, ◌+◌, ◌^◌, ◌<◌, ◌≤◌, List, length, map, sum, take, Option, Some, None, Result, Ok, Err}
+use Rattle.std.specs.Prelude.{◌≡◌, ℕ, ◌+◌, ◌^◌, ◌<◌, ◌≤◌, List, length, map, sum, take}
 use Rattle.std.proofs.Common.{get_or, refl, ap, sym, ◌∙◌, arith, inl, inr}
 use Rattle.std.proofs.lemmas.Bool.{cases_lt}
 use Rattle.std.proofs.lemmas.List.{length-map}
@@ -7,7 +7,7 @@ use Rattle.constriction.specs.Rows.{Row, rows_of, RowsTile, IsRowOf}
 use Rattle.constriction.specs.Stored.{IsStored, weights_of}
 use Rattle.constriction.specs.RowLemmas.{length-rows_from, weights-rows_from, symbols-rows_from, rows_from-at}
 use Rattle.constriction.specs.StoredLemmas.{stored-row, length-gaps, lefts_from-at}
-use Rattle.constriction.specs.Tables.{YieldsRow, YieldsClone, StandsFor, StandsForClone, ClonesAreSame, MayRefuse, rows_paired}
+use Rattle.constriction.specs.Tables.{rows_paired}
 
 module _ {Symbol : Type 0} (bits precision : ℕ) (ss : List Symbol) (lefts : List ℕ) (t : IsStored bits precision lefts)
     (long : length ss ≡ length lefts) where
@@ -67,21 +67,3 @@ module _ {Symbol Word : Type 0} (whole : Word → ℕ) (bits precision : ℕ) (e
 
   pub paired-tiles : RowsTile bits precision (rows_paired whole precision entries)
   paired-tiles = symbol-rows_tile bits precision (map (λ x. x.1) entries) (map (λ x. whole x.0) entries) t paired-long
-
--- steps of tables that clone symbols, where clones are the same values
-module _ {Symbol Word Weight Refusal : Type 0} (IsClone : Symbol → Symbol → Type 0) (IsInfallible : Symbol → Type 0)
-    (whole : Word → ℕ) (base : Weight → Word) (same : ClonesAreSame IsClone) where
-  pub stands-for_row : (item : Result (Symbol × Word × Weight) Refusal) (row : Row Symbol)
-      → StandsForClone IsClone IsInfallible whole base item row → StandsFor whole base (MayRefuse IsInfallible) item row
-  stands-for_row (Ok x) row h = (
-    ap (λ s. record { symbol = s; left = whole x.1; weight = whole (base x.2) }) (same row.symbol x.0 h.0.0)
-        ∙ ap (λ l. record { symbol = row.symbol; left = l; weight = whole (base x.2) }) h.0.1
-        ∙ ap (λ w. record { symbol = row.symbol; left = row.left; weight = w }) h.0.2,
-    tt,
-  )
-  stands-for_row (Err e) row h = (tt, (row.symbol, h.1))
-
-  pub yields-row : (before : List (Row Symbol)) (o : Option (Result (Symbol × Word × Weight) Refusal)) (after : List (Row Symbol))
-      → YieldsClone IsClone IsInfallible whole base before o after → YieldsRow whole base (MayRefuse IsInfallible) before o after
-  yields-row before None after h = h
-  yields-row before (Some item) after h = (h.0, h.1, stands-for_row item h.0 h.2)

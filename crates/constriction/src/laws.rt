@@ -2,7 +2,7 @@
 //! each model that meets the traits, those of the caller too.
 
 ghost use Rattle.constriction.specs.Laws.{WalksRows, GivesAllRows, GivesAsMany, AnswersAreInTable, UniformRowsAreAsMany};
-ghost use Rattle.constriction.specs.Laws.{PairsAreQuantiles, ContiguousSymbolsDiffer, EqualAnswers, Rebuilds, SymbolsDiffer};
+ghost use Rattle.constriction.specs.Laws.{QuantilesHaveOneRow, PairsAreQuantiles, ContiguousSymbolsDiffer, EqualAnswers, Rebuilds, SymbolsDiffer};
 
 use crate::stream::model::{
     DecoderModel, EncodesOver, EntropyModel, IterableEntropyModel,
@@ -11,21 +11,20 @@ use crate::stream::model::{
 use constriction_backends::SafeBuf;
 use constriction_words::{IndexWord, WholeNumber};
 
-/// Steps of a symbol table give the first of the rows that it has yet to give, in order, and leave
-/// the others. Where memory for a clone of a symbol is refused, the refusal stands in the row's
-/// place.
+/// Steps of a symbol table give the first of the rows that it has yet to give, in order and with clones of
+/// their symbols where the model owns these, and leave the others. Where memory for a clone of a symbol is
+/// refused, the refusal stands in the row's place.
 pub fn table_walks_rows<M: IterableEntropyModel<PRECISION>, const PRECISION: usize>()
-    requires clones { M.clones_are_same }
-    ensures { WalksRows M.Probability.whole M.Probability.base M.may_refuse
+    ensures { WalksRows M.stands_for M.may_refuse M.Probability.whole M.Probability.base
         M.SymbolTable.next_gives M.rows_left }
 {}
 
 /// A symbol table that is walked to its end gives all rows that were left, in order and each once:
 /// where it is fresh, those of its model. So a reader of tables has from it the model's rows, and
-/// where no item is a refusal nothing else.
+/// where no item is a refusal nothing else: the very rows where clones are the same values, and otherwise
+/// rows whose symbols are clones.
 pub fn table_gives_all_rows<M: IterableEntropyModel<PRECISION>, const PRECISION: usize>()
-    requires clones { M.clones_are_same }
-    ensures { GivesAllRows M.Probability.whole M.Probability.base M.may_refuse
+    ensures { GivesAllRows M.stands_for M.may_refuse M.Probability.whole M.Probability.base
         M.SymbolTable.next_gives M.rows_left }
 {}
 
@@ -33,7 +32,6 @@ pub fn table_gives_all_rows<M: IterableEntropyModel<PRECISION>, const PRECISION:
 /// Where a model tells the number of its symbols, as by `support_size`, a fresh table of it has so
 /// many items.
 pub fn table_length<M: IterableEntropyModel<PRECISION>, const PRECISION: usize>()
-    requires clones { M.clones_are_same }
     ensures { GivesAsMany M.SymbolTable.next_gives M.rows_left }
 {}
 
@@ -42,23 +40,27 @@ pub fn uniform_row_count()
     ensures { UniformRowsAreAsMany }
 {}
 
-/// What [`DecoderModel::quantile_function`] answers for a quantile is in the model's symbol table,
-/// walked to its end: an item is this answer, or a refusal in its place, and no other item is a row
-/// that holds the quantile. So a decoder may look quantiles up in a table that was read before.
+/// The row of a quantile, for which [`DecoderModel::quantile_function`] answers, is in the model's symbol
+/// table, walked to its end: an item stands for it, or a refusal in its place, and no item that holds the
+/// quantile stands for another row. So a decoder may look quantiles up in a table that was read before: where
+/// clones are the same values it finds the answer itself.
 pub fn answers_are_in_table<M, const PRECISION: usize>()
 where
     M: DecoderModel<PRECISION> + IterableEntropyModel<PRECISION>,
-    requires clones { M.IterableEntropyModel.clones_are_same }
-    ensures { AnswersAreInTable M.Probability.whole M.Probability.base M.IterableEntropyModel.may_refuse
-        M.SymbolTable.next_gives M.rows_left M.rows }
+    ensures { AnswersAreInTable M.IterableEntropyModel.stands_for M.IterableEntropyModel.may_refuse
+        M.Probability.whole M.Probability.base M.SymbolTable.next_gives M.rows_left M.rows }
+{}
+
+/// Each quantile below `2^PRECISION` has one row of a decoder model, which lies below `2^PRECISION` too, so that
+/// its weight is at most that. What [`DecoderModel::quantile_function`] answers stands for this row.
+pub fn quantiles_have_one_row<M: DecoderModel<PRECISION>, const PRECISION: usize>()
+    ensures { QuantilesHaveOneRow PRECISION M.rows }
 {}
 
 /// Where no two symbols are equal, the symbols that have an entry, each with the offsets below its
 /// weight, and the quantiles below `2^PRECISION` correspond one to one: a coder that decodes a
 /// quantile to a symbol and an offset gets the quantile back when it encodes these, and the other
 /// way round. The encoder's entries are those of the decoder's rows.
-///
-/// Of the symbols' equality it asks that it is symmetric and transitive.
 pub fn pairs_are_quantiles<D, E, const PRECISION: usize>()
 where
     D: DecoderModel<PRECISION>,

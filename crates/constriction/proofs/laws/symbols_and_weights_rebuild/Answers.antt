@@ -1,4 +1,4 @@
-use Rattle.constriction.proofs.PairedLemmas.{tiling-rebuilds}
+use Rattle.constriction.specs.StandLemmas.{tiling-rebuilds}
 use Rattle.constriction.proofs.laws.symbols_and_weights_rebuild.Goals as goal
 
 pub returns : goal.returns

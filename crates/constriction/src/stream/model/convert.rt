@@ -1,9 +1,9 @@
 //! Models that are made from any model that can be walked through.
 
-ghost use Rattle.std.specs.Prelude.{◌≡◌, ◌<◌, ◌≤◌, length, IfOk, IfErr, ⊤};
+ghost use Rattle.std.specs.Prelude.{◌≡◌, ◌<◌, ◌≤◌, IfOk, IfErr, ⊤};
 ghost use Rattle.std.specs.List.{IsDistinct};
-ghost use Rattle.std.specs.Set.{distinct_count};
-ghost use Rattle.constriction.specs.Hashed.{SameEntries};
+ghost use Rattle.constriction.specs.Hashed.{HoldsEntriesOf};
+ghost use Rattle.constriction.specs.Model.{StandForRows, ClonesRepeat};
 ghost use Rattle.constriction.specs.Rows.{symbols_of};
 
 use crate::stream::model::categorical::hashed::NonContiguousCategoricalEncoderModel;
@@ -40,13 +40,13 @@ pub trait FromIterableEntropyModel<
         requires positive { 0 < PRECISION }
         requires fits { PRECISION ≤ M.Probability.BITS }
         requires precise { precise }
-        requires clones { M.clones_are_same }
         ensures ok { IfOk result (tells model) }
         ensures invalid { result ≡ Err ModelError.InvalidTable → refuses model };
 }
 
-/// It tells the rows of its source, no two symbols of which are equal, and refuses a source that has two
-/// equal symbols.
+/// It tells the rows of its source, with the symbols that the walk gave, no two of which are equal, and
+/// refuses a source whose walk gives two equal symbols. Where symbols are cloned and a clone is equal to its
+/// symbol, that is where two symbols of the source are equal.
 impl<M, const PRECISION: usize> FromIterableEntropyModel<M, PRECISION>
     for NonContiguousCategoricalDecoderModel<
         M::Symbol,
@@ -58,11 +58,12 @@ where
     M: IterableEntropyModel<PRECISION>,
     M::Symbol: Eq + Drop,
 {
-    ghost tells = { λ m d.
-        (⟦<NonContiguousCategoricalDecoderModel<M::Symbol, M::Probability, Vec<(M::Probability, M::Symbol)>, PRECISION> as EntropyModel<PRECISION>>⟧.rows d
-        ≡ M.rows m) × IsDistinct M.Symbol.eq (symbols_of (M.rows m)) };
+    ghost tells = { λ m d. StandForRows M.stands_for
+        (⟦<NonContiguousCategoricalDecoderModel<M::Symbol, M::Probability, Vec<(M::Probability, M::Symbol)>, PRECISION> as EntropyModel<PRECISION>>⟧.rows d) (M.rows m)
+        × IsDistinct M.Symbol.eq (symbols_of
+        (⟦<NonContiguousCategoricalDecoderModel<M::Symbol, M::Probability, Vec<(M::Probability, M::Symbol)>, PRECISION> as EntropyModel<PRECISION>>⟧.rows d)) };
 
-    ghost refuses = { λ m. ¬ (IsDistinct M.Symbol.eq (symbols_of (M.rows m))) };
+    ghost refuses = { λ m. ClonesRepeat M.Symbol.eq M.stands_for (M.rows m) };
 
     ghost precise = { ⊤ };
 
@@ -71,8 +72,7 @@ where
     }
 }
 
-/// It tells the rows of its source, no two symbols of which are equal, and refuses a source that has two
-/// equal symbols. `PRECISION` is at most 63.
+/// It tells and refuses what a [`NonContiguousCategoricalDecoderModel`] does. `PRECISION` is at most 63.
 impl<M, const PRECISION: usize> FromIterableEntropyModel<M, PRECISION>
     for NonContiguousLookupDecoderModel<
         M::Symbol,
@@ -86,11 +86,12 @@ where
     M::Symbol: Eq + Drop,
     M::Probability: IndexWord,
 {
-    ghost tells = { λ m d.
-        (⟦<NonContiguousLookupDecoderModel<M::Symbol, M::Probability, Vec<(M::Probability, M::Symbol)>, Vec<M::Probability>, PRECISION> as EntropyModel<PRECISION>>⟧.rows d
-        ≡ M.rows m) × IsDistinct M.Symbol.eq (symbols_of (M.rows m)) };
+    ghost tells = { λ m d. StandForRows M.stands_for
+        (⟦<NonContiguousLookupDecoderModel<M::Symbol, M::Probability, Vec<(M::Probability, M::Symbol)>, Vec<M::Probability>, PRECISION> as EntropyModel<PRECISION>>⟧.rows d) (M.rows m)
+        × IsDistinct M.Symbol.eq (symbols_of
+        (⟦<NonContiguousLookupDecoderModel<M::Symbol, M::Probability, Vec<(M::Probability, M::Symbol)>, Vec<M::Probability>, PRECISION> as EntropyModel<PRECISION>>⟧.rows d)) };
 
-    ghost refuses = { λ m. ¬ (IsDistinct M.Symbol.eq (symbols_of (M.rows m))) };
+    ghost refuses = { λ m. ClonesRepeat M.Symbol.eq M.stands_for (M.rows m) };
 
     ghost precise = { PRECISION ≤ 63 };
 
@@ -99,18 +100,17 @@ where
     }
 }
 
-/// It has the entries of its source, of each symbol that of the last row, and refuses no source.
+/// It has the entries of its source, of each symbol that the walk gave that of the last row, and refuses no
+/// source.
 impl<M, const PRECISION: usize> FromIterableEntropyModel<M, PRECISION>
     for NonContiguousCategoricalEncoderModel<M::Symbol, M::Probability, PRECISION>
 where
     M: IterableEntropyModel<PRECISION>,
     M::Symbol: Hash + Eq + Drop,
 {
-    ghost tells = { λ m e. SameEntries M.Symbol.eq
+    ghost tells = { λ m e. HoldsEntriesOf M.Symbol.eq M.stands_for
         (⟦<NonContiguousCategoricalEncoderModel<M::Symbol, M::Probability, PRECISION> as EntropyModel<PRECISION>>⟧.rows e)
-        (M.rows m) × (length
-        (⟦<NonContiguousCategoricalEncoderModel<M::Symbol, M::Probability, PRECISION> as EntropyModel<PRECISION>>⟧.rows e)
-        ≡ distinct_count M.Symbol.eq (symbols_of (M.rows m))) };
+        (M.rows m) };
 
     ghost refuses = { λ _. ⊥ };
 
@@ -123,8 +123,9 @@ where
 
 /// The decoder model of the same rows as any model that can be walked through.
 ///
-/// `InvalidTable` comes exactly where two symbols of the rows are equal. `OutOfMemory` comes where memory
-/// for the entries, or for a clone of a symbol, is refused.
+/// Its symbols are those that the walk gave: clones, where the model owns its symbols. `InvalidTable` comes
+/// only where two of them are equal, so where a clone is equal to its symbol exactly where two symbols of the
+/// rows are. `OutOfMemory` comes where memory for the entries, or for a clone of a symbol, is refused.
 ///
 /// One walk, and each symbol is compared with those before it: `n * (n - 1) / 2` comparisons for `n` rows.
 pub fn to_generic_decoder_model<M, const PRECISION: usize>(
@@ -144,11 +145,11 @@ where
     M::Symbol: Eq + Drop,
     requires positive { 0 < PRECISION }
     requires fits { PRECISION ≤ M.Probability.BITS }
-    requires clones { M.clones_are_same }
-    ensures ok { IfOk result (λ d.
-        (⟦<NonContiguousCategoricalDecoderModel<M::Symbol, M::Probability, Vec<(M::Probability, M::Symbol)>, PRECISION> as EntropyModel<PRECISION>>⟧.rows d
-        ≡ M.rows model) × IsDistinct M.Symbol.eq (symbols_of (M.rows model))) }
-    ensures invalid { result ≡ Err ModelError.InvalidTable → ¬ (IsDistinct M.Symbol.eq (symbols_of (M.rows model))) }
+    ensures ok { IfOk result (λ d. StandForRows M.stands_for
+        (⟦<NonContiguousCategoricalDecoderModel<M::Symbol, M::Probability, Vec<(M::Probability, M::Symbol)>, PRECISION> as EntropyModel<PRECISION>>⟧.rows d) (M.rows model)
+        × IsDistinct M.Symbol.eq (symbols_of
+        (⟦<NonContiguousCategoricalDecoderModel<M::Symbol, M::Probability, Vec<(M::Probability, M::Symbol)>, PRECISION> as EntropyModel<PRECISION>>⟧.rows d))) }
+    ensures invalid { result ≡ Err ModelError.InvalidTable → ClonesRepeat M.Symbol.eq M.stands_for (M.rows model) }
 {
     let cdf = entries_walked::<_, _, _, _, PRECISION>(alloc, model.symbol_table())?;
     Ok(NonContiguousCategoricalDecoderModel {
@@ -159,8 +160,10 @@ where
 
 /// The lookup model of the same rows as any model that can be walked through.
 ///
-/// `InvalidTable` comes exactly where two symbols of the rows are equal. `OutOfMemory` comes where memory
-/// for the entries, for a clone of a symbol, or for the table is refused.
+/// Its symbols are those that the walk gave: clones, where the model owns its symbols. `InvalidTable` comes
+/// only where two of them are equal, so where a clone is equal to its symbol exactly where two symbols of the
+/// rows are. `OutOfMemory` comes where memory for the entries, for a clone of a symbol, or for the table is
+/// refused.
 ///
 /// One walk, in which each symbol is compared with those before it, and one pass over the rows.
 pub fn to_generic_lookup_decoder_model<M, const PRECISION: usize>(
@@ -183,18 +186,18 @@ where
     requires positive { 0 < PRECISION }
     requires narrow { PRECISION ≤ 63 }
     requires fits { PRECISION ≤ M.Probability.BITS }
-    requires clones { M.clones_are_same }
-    ensures ok { IfOk result (λ d.
-        (⟦<NonContiguousLookupDecoderModel<M::Symbol, M::Probability, Vec<(M::Probability, M::Symbol)>, Vec<M::Probability>, PRECISION> as EntropyModel<PRECISION>>⟧.rows d
-        ≡ M.rows model) × IsDistinct M.Symbol.eq (symbols_of (M.rows model))) }
-    ensures invalid { result ≡ Err ModelError.InvalidTable → ¬ (IsDistinct M.Symbol.eq (symbols_of (M.rows model))) }
+    ensures ok { IfOk result (λ d. StandForRows M.stands_for
+        (⟦<NonContiguousLookupDecoderModel<M::Symbol, M::Probability, Vec<(M::Probability, M::Symbol)>, Vec<M::Probability>, PRECISION> as EntropyModel<PRECISION>>⟧.rows d) (M.rows model)
+        × IsDistinct M.Symbol.eq (symbols_of
+        (⟦<NonContiguousLookupDecoderModel<M::Symbol, M::Probability, Vec<(M::Probability, M::Symbol)>, Vec<M::Probability>, PRECISION> as EntropyModel<PRECISION>>⟧.rows d))) }
+    ensures invalid { result ≡ Err ModelError.InvalidTable → ClonesRepeat M.Symbol.eq M.stands_for (M.rows model) }
 {
     let searching = to_generic_decoder_model::<M, PRECISION>(alloc, model)?;
     Ok(NonContiguousLookupDecoderModel::with_table(alloc, searching)?)
 }
 
-/// The encoder model of the same entries as any model that can be walked through: of each symbol it has
-/// the last row.
+/// The encoder model of the same entries as any model that can be walked through: of each symbol that the
+/// walk gave it has the last row.
 ///
 /// The only refusal is `OutOfMemory`, where memory for the table, or for a clone of a symbol, is refused.
 ///
@@ -206,13 +209,9 @@ pub fn to_generic_encoder_model<M, const PRECISION: usize>(
 where
     M: IterableEntropyModel<PRECISION>,
     M::Symbol: Hash + Eq + Drop,
-    requires clones { M.clones_are_same }
-    ensures entries { IfOk result (λ e. SameEntries M.Symbol.eq
+    ensures entries { IfOk result (λ e. HoldsEntriesOf M.Symbol.eq M.stands_for
         (⟦<NonContiguousCategoricalEncoderModel<M::Symbol, M::Probability, PRECISION> as EntropyModel<PRECISION>>⟧.rows e)
         (M.rows model)) }
-    ensures size { IfOk result (λ e. length
-        (⟦<NonContiguousCategoricalEncoderModel<M::Symbol, M::Probability, PRECISION> as EntropyModel<PRECISION>>⟧.rows e)
-        ≡ distinct_count M.Symbol.eq (symbols_of (M.rows model))) }
     ensures refused { IfErr result (λ e. e ≡ ModelError.OutOfMemory) }
 {
     let table = table_walked::<_, _, _, _, PRECISION>(alloc, model.symbol_table())?;

@@ -1,8 +1,8 @@
 //! Decoders over given symbols and words: the bound for coders that compute with words.
 
 ghost use Rattle.std.specs.Prelude.{◌^◌, ◌<◌, List, IfOk, IfErr};
-ghost use Rattle.constriction.specs.Model.{row_of, LiesWithin};
-ghost use Rattle.constriction.specs.Rows.{Row, RowsTile, IsRowOf};
+ghost use Rattle.constriction.specs.Model.{row_of, LiesWithin, AnswersQuantile, RowMayBeRefused};
+ghost use Rattle.constriction.specs.Rows.{Row, RowsTile};
 
 use crate::stream::model::traits::{DecoderModel, Weight};
 use constriction_words::WholeNumber;
@@ -16,23 +16,22 @@ use std::alloc::AllocError;
 /// ([`EncodesOver`](crate::stream::model::encodes_over::EncodesOver)) are too. A function over one model
 /// alone may ask `M::Probability: BitArray` of an `M: DecoderModel<PRECISION>`.
 pub trait DecodesOver<Symbol, Word: WholeNumber, const PRECISION: usize> {
-    // Where answers are clones of symbols: that a clone is the same value. A model that clones none owes nothing.
-    ghost clones_are_same: { Type 0 };
+    // That the second symbol stands for the first one, as an answer's does for that of its row. Of a model that answers clones it is
+    // what the symbols' type says of a clone, and of one that makes none it is equality.
+    ghost stands_for: { Symbol → Symbol → Type 0 };
 
-    // That a look-up may be refused, for want of memory. Of a model that takes none it is ⊥.
-    ghost may_refuse: { Type 0 };
+    // That a row with this symbol may be refused, for want of memory. Of a model that takes none it is ⊥.
+    ghost may_refuse: { Symbol → Type 0 };
 
     // The rows that the answers are of.
     ghost rows: { Self → List (Row Symbol) };
 
     /// The row of a quantile, as [`DecoderModel::quantile_function`] answers it.
     fn row(&self, quantile: Word) -> Result<(Symbol, Word, Weight<Word>), AllocError>
-        requires clones { clones_are_same }
         requires in_range { Word.whole quantile < 2 ^ PRECISION }
-        ensures row { IfOk result (λ x. IsRowOf (rows self.now) (Word.whole quantile)
-            (row_of Word.whole Word.base x)) }
+        ensures row { IfOk result (AnswersQuantile stands_for Word.whole Word.base (rows self.now) (Word.whole quantile)) }
         ensures within { IfOk result (λ x. LiesWithin PRECISION (row_of Word.whole Word.base x)) }
-        ensures refused { IfErr result (λ _. may_refuse) };
+        ensures refused { IfErr result (λ _. RowMayBeRefused may_refuse (rows self.now) (Word.whole quantile)) };
 
     // The rows tile the quantiles, so that each quantile has exactly one row.
     ghost tile_law: { (m : Self) → RowsTile Word.BITS PRECISION (rows m) };
@@ -43,7 +42,7 @@ impl<M: DecoderModel<PRECISION>, const PRECISION: usize> DecodesOver<
     M::Probability,
     PRECISION,
 > for M {
-    ghost clones_are_same = { M.clones_are_same };
+    ghost stands_for = { M.stands_for };
 
     ghost may_refuse = { M.may_refuse };
 

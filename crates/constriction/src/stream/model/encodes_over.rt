@@ -1,6 +1,7 @@
 //! Encoders over given symbols and words: the bound that joins an encoder to a decoder.
 
-ghost use Rattle.std.specs.Prelude.{◌≡◌, ◌^◌, ◌<◌, Bool, List, All, IsTrue};
+ghost use Rattle.std.specs.Prelude.{◌≡◌, ◌^◌, ◌<◌, Bool, List, All};
+ghost use Rattle.std.specs.Cmp.{IsEquivalence};
 ghost use Rattle.std.specs.Option.{option_map};
 ghost use Rattle.constriction.specs.Model.{entry_in, LiesWithin};
 ghost use Rattle.constriction.specs.Rows.{Row, entry_of};
@@ -26,8 +27,8 @@ pub trait EncodesOver<Symbol, Word: WholeNumber, const PRECISION: usize> {
         ensures { option_map (entry_in Word.whole Word.base) result
             ≡ entry_of symbol_eq (rows self.now) symbol.now };
 
-    // Each symbol is equal to itself.
-    ghost reflexive_law: { (s : Symbol) → IsTrue (symbol_eq s s) };
+    // It is reflexive, symmetric and transitive, so that equal symbols are equal to the same others.
+    ghost equality_law: { IsEquivalence symbol_eq };
 
     // Each row has quantiles, and all of them lie below 2 ^ PRECISION.
     ghost within_law: { (m : Self) → All (LiesWithin PRECISION) (rows m) };
@@ -47,7 +48,7 @@ impl<M: EncoderModel<PRECISION>, const PRECISION: usize> EncodesOver<
         self.left_cumulative_and_probability(symbol)
     }
 
-    ghost reflexive_law = { M.reflexive_law };
+    ghost equality_law = { M.equality_law };
 
     ghost within_law = { λ m. M.within_law m };
 }

@@ -25,13 +25,13 @@ impl<M: EncoderModel<PRECISION>, const PRECISION: usize> EncoderModel<PRECISION>
         (**self).left_cumulative_and_probability(symbol)
     }
 
-    ghost reflexive_law = { M.reflexive_law };
+    ghost equality_law = { M.equality_law };
 
     ghost within_law = { λ m. M.within_law m.now };
 }
 
 impl<M: DecoderModel<PRECISION>, const PRECISION: usize> DecoderModel<PRECISION> for &M {
-    ghost clones_are_same = { M.clones_are_same };
+    ghost stands_for = { M.stands_for };
 
     ghost may_refuse = { M.may_refuse };
 
@@ -51,7 +51,7 @@ impl<M: IterableEntropyModel<PRECISION> + Copy, const PRECISION: usize> Iterable
 > for &M {
     type SymbolTable = M::SymbolTable;
 
-    ghost clones_are_same = { M.clones_are_same };
+    ghost stands_for = { M.stands_for };
 
     ghost may_refuse = { M.may_refuse };
 

@@ -1,10 +1,11 @@
 //! The traits of models: what a model tells, and what it answers in each direction.
 
-ghost use Rattle.std.specs.Prelude.{◌≡◌, ◌^◌, ◌<◌, Bool, List, All, IfOk, IfErr, IsTrue, length};
+ghost use Rattle.std.specs.Prelude.{◌≡◌, ◌^◌, ◌<◌, Bool, List, All, IfOk, IfErr, length};
+ghost use Rattle.std.specs.Cmp.{IsEquivalence};
 ghost use Rattle.std.specs.Iterator.{UpTo};
 ghost use Rattle.std.specs.Option.{option_map};
-ghost use Rattle.constriction.specs.Rows.{Row, RowsTile, IsRowOf, entry_of};
-ghost use Rattle.constriction.specs.Model.{row_of, entry_in, LiesWithin};
+ghost use Rattle.constriction.specs.Rows.{Row, RowsTile, entry_of};
+ghost use Rattle.constriction.specs.Model.{row_of, entry_in, LiesWithin, AnswersQuantile, RowMayBeRefused};
 ghost use Rattle.constriction.specs.Tables.{YieldsRow};
 
 use constriction_words::WholeNumber;
@@ -43,8 +44,8 @@ pub trait EncoderModel<const PRECISION: usize>: EntropyModel<PRECISION> {
         ensures { option_map (entry_in Self.Probability.whole Self.Probability.base) result
             ≡ entry_of symbol_eq (Self.rows self.now) symbol.now };
 
-    // Each symbol is equal to itself.
-    ghost reflexive_law: { (s : Self.Symbol) → IsTrue (symbol_eq s s) };
+    // It is reflexive, symmetric and transitive, so that equal symbols are equal to the same others.
+    ghost equality_law: { IsEquivalence symbol_eq };
 
     // Each row has quantiles, and all of them lie below 2 ^ PRECISION.
     ghost within_law: { (m : Self) → All (LiesWithin PRECISION) (Self.rows m) };
@@ -52,14 +53,16 @@ pub trait EncoderModel<const PRECISION: usize>: EntropyModel<PRECISION> {
 
 /// A model that a decoder asks: it knows the row of each quantile.
 pub trait DecoderModel<const PRECISION: usize>: EntropyModel<PRECISION> {
-    // Where answers are clones of symbols: that a clone is the same value. A model that clones none owes nothing.
-    ghost clones_are_same: { Type 0 };
+    // That the second symbol stands for the first one, as an answer's does for that of its row. Of a model that answers clones it is
+    // what the symbols' type says of a clone, and of one that makes none it is equality.
+    ghost stands_for: { Self.Symbol → Self.Symbol → Type 0 };
 
-    // That a look-up may be refused, for want of memory. Of a model that takes none it is ⊥.
-    ghost may_refuse: { Type 0 };
+    // That a row with this symbol may be refused, for want of memory. Of a model that takes none it is ⊥.
+    ghost may_refuse: { Self.Symbol → Type 0 };
 
     /// The row of a quantile: the symbol whose interval holds it, the left cumulative and the
-    /// weight. It fails only where memory for a clone of the symbol is refused.
+    /// weight. Where the model owns its symbols the answer has a clone, which is what the symbols' type says
+    /// of one: of a `String` one of the same text. It fails only where memory for this clone is refused.
     ///
     /// A coder that fails with a [`CoderError`](constriction_words::CoderError) passes the refusal on
     /// by `map_err(CoderError::Frontend)` or a `match`: a bare `?` makes it an error of the backend
@@ -68,13 +71,13 @@ pub trait DecoderModel<const PRECISION: usize>: EntropyModel<PRECISION> {
         &self,
         quantile: Self::Probability,
     ) -> Result<(Self::Symbol, Self::Probability, Weight<Self::Probability>), AllocError>
-        requires clones { clones_are_same }
         requires in_range { Self.Probability.whole quantile < 2 ^ PRECISION }
-        ensures row { IfOk result (λ x. IsRowOf (Self.rows self.now) (Self.Probability.whole quantile)
-            (row_of Self.Probability.whole Self.Probability.base x)) }
+        ensures row { IfOk result (AnswersQuantile stands_for Self.Probability.whole Self.Probability.base
+            (Self.rows self.now) (Self.Probability.whole quantile)) }
         ensures within { IfOk result (λ x. LiesWithin PRECISION
             (row_of Self.Probability.whole Self.Probability.base x)) }
-        ensures refused { IfErr result (λ _. may_refuse) };
+        ensures refused { IfErr result (λ _. RowMayBeRefused may_refuse (Self.rows self.now)
+            (Self.Probability.whole quantile)) };
 
     // The rows tile the quantiles, so that each quantile has exactly one row.
     ghost tile_law: { (m : Self) → RowsTile Self.Probability.BITS PRECISION (Self.rows m) };
@@ -90,11 +93,12 @@ pub trait IterableEntropyModel<const PRECISION: usize>: EntropyModel<PRECISION> 
         Item = Result<(Self::Symbol, Self::Probability, Weight<Self::Probability>), AllocError>,
     >;
 
-    // Where rows have clones of symbols: that a clone is the same value. A table that clones none owes nothing.
-    ghost clones_are_same: { Type 0 };
+    // That the second symbol stands for the first one, as an item's does for that of its row. Of a table of clones it is what the
+    // symbols' type says of a clone, and of one that makes none it is equality.
+    ghost stands_for: { Self.Symbol → Self.Symbol → Type 0 };
 
-    // That a row may be refused, for want of memory. Of a table that takes none it is ⊥.
-    ghost may_refuse: { Type 0 };
+    // That a row with this symbol may be refused, for want of memory. Of a table that takes none it is ⊥.
+    ghost may_refuse: { Self.Symbol → Type 0 };
 
     // The rows that a table has yet to give.
     ghost rows_left: { Self.SymbolTable → List (Row Self.Symbol) };
@@ -102,15 +106,14 @@ pub trait IterableEntropyModel<const PRECISION: usize>: EntropyModel<PRECISION> 
     /// All rows in order, each once: symbol, left cumulative and weight. Where memory for a clone of a
     /// symbol is refused, the refusal stands in the row's place, and the walk goes on after it.
     fn symbol_table(self) -> Self::SymbolTable
-        requires clones { clones_are_same }
         ensures all { rows_left result ≡ Self.rows self }
         ensures callable { Self.SymbolTable.can_next result }
         ensures ends { UpTo (Self.SymbolTable.remaining result) (length (Self.rows self)) };
 
     // Each step gives the first of the rows that are left, and nothing exactly where none is left.
-    ghost steps_law: { clones_are_same → (t : Self.SymbolTable) (r : _) (u : Self.SymbolTable)
+    ghost steps_law: { (t : Self.SymbolTable) (r : _) (u : Self.SymbolTable)
         → Self.SymbolTable.next_gives t r u
-        → YieldsRow Self.Probability.whole Self.Probability.base may_refuse
+        → YieldsRow stands_for may_refuse Self.Probability.whole Self.Probability.base
         (rows_left t) r (rows_left u) };
 
     // The rows tile the quantiles, so that each quantile has exactly one row.

@@ -2,8 +2,8 @@
 
 ghost use Rattle.std.specs.Prelude.{◌≡◌, ◌+◌, ◌*◌, ◌/◌, ◌^◌, ◌<◌, ◌≤◌, ℕ, nat_eq, length, IfOk, IfErr, IsOk, ⊤};
 ghost use Rattle.std.specs.Iterator.{UpTo, size};
-ghost use Rattle.std.proofs.Common.{eq-eqb, refl};
-ghost use Rattle.constriction.specs.Model.{row_of, LiesWithin};
+ghost use Rattle.std.specs.Cmp.{nat_eq_equiv};
+ghost use Rattle.constriction.specs.Model.{row_of, LiesWithin, AnswersQuantile, RowMayBeRefused};
 ghost use Rattle.constriction.specs.Rows.{uniform_rows, bin_of, rest_of, IsRowOf};
 ghost use Rattle.constriction.specs.Tables.{rows_between};
 ghost use Rattle.constriction.specs.UniformRowLemmas.{IsWeight, uniform-within, uniform-tiles};
@@ -134,16 +134,16 @@ impl<Probability: WholeNumber, const PRECISION: usize> EncoderModel<PRECISION>
         }
     }
 
-    ghost reflexive_law = { λ s. eq-eqb s s refl };
+    ghost equality_law = { nat_eq_equiv };
 
     ghost within_law = { λ m. uniform-within PRECISION _ m.within _ m.fits m.some };
 }
 
 impl<Probability: WholeNumber, const PRECISION: usize> DecoderModel<PRECISION>
     for UniformModel<Probability, PRECISION> {
-    ghost clones_are_same = { ⊤ };
+    ghost stands_for = { λ s t. t ≡ s };
 
-    ghost may_refuse = { ⊥ };
+    ghost may_refuse = { λ _. ⊥ };
 
     /// The row of a quantile, by one division. It takes no memory and always succeeds.
     #[inline]
@@ -151,15 +151,19 @@ impl<Probability: WholeNumber, const PRECISION: usize> DecoderModel<PRECISION>
         &self,
         quantile: Probability,
     ) -> Result<(usize, Probability, Weight<Probability>), AllocError>
-        requires clones { ⊤ }
         requires in_range { Probability.whole quantile < 2 ^ PRECISION }
-        ensures row { IfOk result (λ x. IsRowOf
+        ensures row { IfOk result (AnswersQuantile (λ s t. t ≡ s) Probability.whole Probability.base
+            (⟦<UniformModel<Probability, PRECISION> as EntropyModel<PRECISION>>⟧.rows self.now)
+            (Probability.whole quantile)) }
+        ensures exact { IfOk result (λ x. IsRowOf
             (⟦<UniformModel<Probability, PRECISION> as EntropyModel<PRECISION>>⟧.rows self.now)
             (Probability.whole quantile) (row_of Probability.whole Probability.base x)) }
         ensures within { IfOk result (λ x. LiesWithin PRECISION
             (row_of Probability.whole Probability.base x)) }
+        ensures refused { IfErr result (λ _. RowMayBeRefused (λ _. ⊥)
+            (⟦<UniformModel<Probability, PRECISION> as EntropyModel<PRECISION>>⟧.rows self.now)
+            (Probability.whole quantile)) }
         ensures succeeds { IsOk result }
-        ensures refused { IfErr result (λ _. ⊥) }
     {
         let symbol = symbol_of(quantile, self.probability_per_bin, self.last_symbol);
         let (left, weight) = self.row_words_of(symbol);
@@ -173,9 +177,9 @@ impl<Probability: WholeNumber, const PRECISION: usize> IterableEntropyModel<PREC
     for UniformModel<Probability, PRECISION> {
     type SymbolTable = UniformSymbolTable<Probability, PRECISION>;
 
-    ghost clones_are_same = { ⊤ };
+    ghost stands_for = { λ s t. t ≡ s };
 
-    ghost may_refuse = { ⊥ };
+    ghost may_refuse = { λ _. ⊥ };
 
     ghost rows_left = { λ t. rows_between t.from t.to (uniform_rows PRECISION (Probability.whole t.model.last_symbol + 1)) };
 
@@ -183,7 +187,6 @@ impl<Probability: WholeNumber, const PRECISION: usize> IterableEntropyModel<PREC
     /// every item is a row.
     #[inline]
     fn symbol_table(self) -> UniformSymbolTable<Probability, PRECISION>
-        requires clones { ⊤ }
         ensures all { ⟦<UniformModel<Probability, PRECISION> as IterableEntropyModel<PRECISION>>⟧.rows_left result
             ≡ ⟦<UniformModel<Probability, PRECISION> as EntropyModel<PRECISION>>⟧.rows self }
         ensures callable { ⟦<UniformSymbolTable<Probability, PRECISION> as Iterator>⟧.can_next result }
@@ -195,7 +198,7 @@ impl<Probability: WholeNumber, const PRECISION: usize> IterableEntropyModel<PREC
         UniformSymbolTable::new(self)
     }
 
-    ghost steps_law = { λ _ t r u step. step };
+    ghost steps_law = { λ t r u step. step };
 
     ghost tile_law = { λ m. uniform-tiles PRECISION _ m.within _ m.fits m.some };
 }

@@ -3,8 +3,8 @@
 ghost use Rattle.std.specs.Prelude.{◌≡◌, ◌+◌, ◌^◌, ◌<◌, ◌≤◌, ℕ, length, map, nat_eq, IfOk, IfErr, IsOk, ⊤};
 ghost use Rattle.std.specs.Iterator.{IsFiniteIterable, UpTo, size};
 ghost use Rattle.constriction.specs.Acceptance.{completed, IsAccepted, GaveGood, GaveBad};
-ghost use Rattle.std.proofs.Common.{eq-eqb, refl};
-ghost use Rattle.constriction.specs.Model.{row_of, LiesWithin};
+ghost use Rattle.std.specs.Cmp.{nat_eq_equiv};
+ghost use Rattle.constriction.specs.Model.{row_of, LiesWithin, AnswersQuantile, RowMayBeRefused};
 ghost use Rattle.constriction.specs.Probe.{TellsRows, IsRowIndexOf, IsSearchable, IsLastAtMost};
 ghost use Rattle.constriction.specs.Rows.{contiguous_rows, IsRowOf};
 ghost use Rattle.constriction.specs.Stored.{IsTable, lefts_in, weights_of};
@@ -223,7 +223,7 @@ impl<Probability: WholeNumber, Cdf: SafeBuf<Probability>, const PRECISION: usize
         }
     }
 
-    ghost reflexive_law = { λ s. eq-eqb s s refl };
+    ghost equality_law = { nat_eq_equiv };
 
     ghost within_law = { λ m. stored-within _ _ _ m.stored.stored };
 }
@@ -231,9 +231,9 @@ impl<Probability: WholeNumber, Cdf: SafeBuf<Probability>, const PRECISION: usize
 impl<Probability: WholeNumber, Cdf: SafeBuf<Probability>, const PRECISION: usize> DecoderModel<
     PRECISION,
 > for ContiguousCategoricalEntropyModel<Probability, Cdf, PRECISION> {
-    ghost clones_are_same = { ⊤ };
+    ghost stands_for = { λ s t. t ≡ s };
 
-    ghost may_refuse = { ⊥ };
+    ghost may_refuse = { λ _. ⊥ };
 
     /// The row of a quantile, by [`row_of_quantile`]. It takes no memory and always succeeds.
     #[inline]
@@ -241,15 +241,19 @@ impl<Probability: WholeNumber, Cdf: SafeBuf<Probability>, const PRECISION: usize
         &self,
         quantile: Probability,
     ) -> Result<(usize, Probability, Weight<Probability>), AllocError>
-        requires clones { ⊤ }
         requires in_range { Probability.whole quantile < 2 ^ PRECISION }
-        ensures row { IfOk result (λ x. IsRowOf
+        ensures row { IfOk result (AnswersQuantile (λ s t. t ≡ s) Probability.whole Probability.base
+            (⟦<ContiguousCategoricalEntropyModel<Probability, Cdf, PRECISION> as EntropyModel<PRECISION>>⟧.rows self.now)
+            (Probability.whole quantile)) }
+        ensures exact { IfOk result (λ x. IsRowOf
             (⟦<ContiguousCategoricalEntropyModel<Probability, Cdf, PRECISION> as EntropyModel<PRECISION>>⟧.rows self.now)
             (Probability.whole quantile) (row_of Probability.whole Probability.base x)) }
         ensures within { IfOk result (λ x. LiesWithin PRECISION
             (row_of Probability.whole Probability.base x)) }
+        ensures refused { IfErr result (λ _. RowMayBeRefused (λ _. ⊥)
+            (⟦<ContiguousCategoricalEntropyModel<Probability, Cdf, PRECISION> as EntropyModel<PRECISION>>⟧.rows self.now)
+            (Probability.whole quantile)) }
         ensures succeeds { IsOk result }
-        ensures refused { IfErr result (λ _. ⊥) }
     {
         let mut rows = CdfProbe::<Probability, Alone>::new(self.cdf_entries());
         let index = row_of_quantile(&mut rows, quantile);
@@ -268,9 +272,9 @@ impl<
     for &'m ContiguousCategoricalEntropyModel<Probability, Cdf, PRECISION> {
     type SymbolTable = ContiguousSymbolTable<'m, Probability, PRECISION>;
 
-    ghost clones_are_same = { ⊤ };
+    ghost stands_for = { λ s t. t ≡ s };
 
-    ghost may_refuse = { ⊥ };
+    ghost may_refuse = { λ _. ⊥ };
 
     ghost rows_left = { λ t. rows_stored PRECISION (map Probability.whole t.cdf.now) t.from t.to };
 
@@ -278,7 +282,6 @@ impl<
     /// every item is a row.
     #[inline]
     fn symbol_table(self) -> ContiguousSymbolTable<'m, Probability, PRECISION>
-        requires clones { ⊤ }
         ensures all { ⟦<&'m ContiguousCategoricalEntropyModel<Probability, Cdf, PRECISION> as IterableEntropyModel<PRECISION>>⟧.rows_left result
             ≡ ⟦<ContiguousCategoricalEntropyModel<Probability, Cdf, PRECISION> as EntropyModel<PRECISION>>⟧.rows self.now }
         ensures callable { ⟦<ContiguousSymbolTable<'m, Probability, PRECISION> as Iterator>⟧.can_next result }
@@ -297,7 +300,7 @@ impl<
         }
     }
 
-    ghost steps_law = { λ _ t r u step. step };
+    ghost steps_law = { λ t r u step. step };
 
     ghost tile_law = { λ m. stored-tiles _ _ _ m.now.stored.stored };
 }

@@ -9,9 +9,8 @@ ghost use Rattle.std.proofs.Props.{props};
 ghost use Rattle.constriction.specs.Acceptance.{completed, AreAccepted, GaveBothGood, GaveBothBad};
 ghost use Rattle.constriction.specs.Filling.{HoldsEntries};
 ghost use Rattle.constriction.specs.Hashed.{rows_of_table, SameEntries};
-ghost use Rattle.constriction.specs.Model.{LiesWithin};
+ghost use Rattle.constriction.specs.Model.{LiesWithin, StandForRows};
 ghost use Rattle.constriction.specs.Rows.{rows_of};
-ghost use Rattle.constriction.specs.Tables.{ClonesAreSame};
 
 use crate::stream::model::categorical::filling::rows_announced;
 use crate::stream::model::categorical::reading::{TakesRows, rows_read};
@@ -99,7 +98,7 @@ impl<Symbol: Hash + Eq, Probability: WholeNumber, const PRECISION: usize> Encode
         }
     }
 
-    ghost reflexive_law = { Symbol.Eq.laws.refl };
+    ghost equality_law = { Symbol.Eq.laws };
 
     ghost within_law = { λ m. m.within };
 }
@@ -244,16 +243,18 @@ impl<
     Probability: WholeNumber,
     const PRECISION: usize,
 > NonContiguousCategoricalEncoderModel<Symbol, Probability, PRECISION> {
-    /// A model of the same entries, with a table of its own from the allocator of this one's.
+    /// A model of the same entries, for clones of the symbols, with a table of its own from the allocator of
+    /// this one's.
     ///
     /// A copy of the table and a clone of each symbol. It is refused where memory for one of these is.
     pub fn clone(&self) -> Result<Self, AllocError>
-        requires { ClonesAreSame Symbol.is_clone }
-        ensures { IfOk result (λ m.
-            ⟦<NonContiguousCategoricalEncoderModel<Symbol, Probability, PRECISION> as EntropyModel<PRECISION>>⟧.rows m
-            ≡ ⟦<NonContiguousCategoricalEncoderModel<Symbol, Probability, PRECISION> as EntropyModel<PRECISION>>⟧.rows self.now) }
+        ensures { IfOk result (λ m. StandForRows Symbol.is_clone
+            (⟦<NonContiguousCategoricalEncoderModel<Symbol, Probability, PRECISION> as EntropyModel<PRECISION>>⟧.rows m)
+            (⟦<NonContiguousCategoricalEncoderModel<Symbol, Probability, PRECISION> as EntropyModel<PRECISION>>⟧.rows self.now)) }
     {
         let table = self.table.clone()?;
+        // A call on the clone tells that no two of its keys are equal, whatever is known of clones of them.
+        let _len = table.len();
         Ok(Self { table })
     }
 }

@@ -1,9 +1,9 @@
 //! Models of the symbols 0, 1, .., which look up where to search for the row of a quantile.
 
-ghost use Rattle.std.specs.Prelude.{◌≡◌, ◌+◌, ◌/◌, ◌^◌, ◌<◌, ◌≤◌, ℕ, length, map, IfOk, IfErr, IsOk, ⊤};
+ghost use Rattle.std.specs.Prelude.{◌≡◌, ◌+◌, ◌/◌, ◌^◌, ◌<◌, ◌≤◌, ℕ, length, map, IfOk, IfErr, IsOk};
 ghost use Rattle.std.specs.Iterator.{IsFiniteIterable, UpTo, size};
 ghost use Rattle.constriction.specs.Acceptance.{completed, IsAccepted, GaveGood, GaveBad};
-ghost use Rattle.constriction.specs.Model.{row_of, LiesWithin};
+ghost use Rattle.constriction.specs.Model.{row_of, LiesWithin, AnswersQuantile, RowMayBeRefused};
 ghost use Rattle.constriction.specs.Probe.{TellsRows, IsRowIndexOf, IsSearchable, IsLastAtMost};
 ghost use Rattle.constriction.specs.Rows.{contiguous_rows, IsRowOf};
 ghost use Rattle.constriction.specs.Slots.{MeetsSlot, slot_count, slot_width};
@@ -259,9 +259,9 @@ impl<
     const PRECISION: usize,
 > DecoderModel<PRECISION>
     for ContiguousLookupDecoderModel<Probability, Cdf, LookupTable, PRECISION> {
-    ghost clones_are_same = { ⊤ };
+    ghost stands_for = { λ s t. t ≡ s };
 
-    ghost may_refuse = { ⊥ };
+    ghost may_refuse = { λ _. ⊥ };
 
     /// The row of a quantile, by the table, and where more than one row meets the quantile's slot by a
     /// search of those. It takes no memory and always succeeds.
@@ -270,15 +270,19 @@ impl<
         &self,
         quantile: Probability,
     ) -> Result<(usize, Probability, Weight<Probability>), AllocError>
-        requires clones { ⊤ }
         requires in_range { Probability.whole quantile < 2 ^ PRECISION }
-        ensures row { IfOk result (λ x. IsRowOf
+        ensures row { IfOk result (AnswersQuantile (λ s t. t ≡ s) Probability.whole Probability.base
+            (⟦<ContiguousLookupDecoderModel<Probability, Cdf, LookupTable, PRECISION> as EntropyModel<PRECISION>>⟧.rows self.now)
+            (Probability.whole quantile)) }
+        ensures exact { IfOk result (λ x. IsRowOf
             (⟦<ContiguousLookupDecoderModel<Probability, Cdf, LookupTable, PRECISION> as EntropyModel<PRECISION>>⟧.rows self.now)
             (Probability.whole quantile) (row_of Probability.whole Probability.base x)) }
         ensures within { IfOk result (λ x. LiesWithin PRECISION
             (row_of Probability.whole Probability.base x)) }
+        ensures refused { IfErr result (λ _. RowMayBeRefused (λ _. ⊥)
+            (⟦<ContiguousLookupDecoderModel<Probability, Cdf, LookupTable, PRECISION> as EntropyModel<PRECISION>>⟧.rows self.now)
+            (Probability.whole quantile)) }
         ensures succeeds { IsOk result }
-        ensures refused { IfErr result (λ _. ⊥) }
     {
         let index = row_in_slot::<Probability, Alone, PRECISION>(
             self.model.cdf_entries(),
@@ -301,9 +305,9 @@ impl<
     for &'m ContiguousLookupDecoderModel<Probability, Cdf, LookupTable, PRECISION> {
     type SymbolTable = ContiguousSymbolTable<'m, Probability, PRECISION>;
 
-    ghost clones_are_same = { ⊤ };
+    ghost stands_for = { λ s t. t ≡ s };
 
-    ghost may_refuse = { ⊥ };
+    ghost may_refuse = { λ _. ⊥ };
 
     ghost rows_left = { λ t. rows_stored PRECISION (map Probability.whole t.cdf.now) t.from t.to };
 
@@ -311,7 +315,6 @@ impl<
     /// every item is a row.
     #[inline]
     fn symbol_table(self) -> ContiguousSymbolTable<'m, Probability, PRECISION>
-        requires clones { ⊤ }
         ensures all { ⟦<&'m ContiguousLookupDecoderModel<Probability, Cdf, LookupTable, PRECISION> as IterableEntropyModel<PRECISION>>⟧.rows_left result
             ≡ ⟦<ContiguousLookupDecoderModel<Probability, Cdf, LookupTable, PRECISION> as EntropyModel<PRECISION>>⟧.rows self.now }
         ensures callable { ⟦<ContiguousSymbolTable<'m, Probability, PRECISION> as Iterator>⟧.can_next result }
@@ -325,7 +328,7 @@ impl<
         (&self.model).symbol_table()
     }
 
-    ghost steps_law = { λ _ t r u step. step };
+    ghost steps_law = { λ t r u step. step };
 
     ghost tile_law = { λ m. stored-tiles _ _ _ m.now.model.stored.stored };
 }

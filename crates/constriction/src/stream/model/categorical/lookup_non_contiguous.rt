@@ -5,13 +5,14 @@ ghost use Rattle.std.specs.Iterator.{IsFiniteIterable, UpTo, size};
 ghost use Rattle.std.specs.List.{IsDistinct};
 ghost use Rattle.std.proofs.Props.{props};
 ghost use Rattle.constriction.specs.Acceptance.{completed, AreAccepted, GaveBothGood, GaveBothBad};
+ghost use Rattle.constriction.specs.Model.{StandForRows, ClonesAreEqual};
 ghost use Rattle.constriction.specs.Probe.{TellsRows, IsRowIndexOf, IsSearchable, IsLastAtMost};
 ghost use Rattle.constriction.specs.Rows.{rows_of};
 ghost use Rattle.constriction.specs.Slots.{MeetsSlot, slot_count, slot_width};
 ghost use Rattle.constriction.specs.SlotTable.{HasSlots};
 ghost use Rattle.constriction.specs.Stored.{IsStored};
-ghost use Rattle.constriction.specs.SymbolRowLemmas.{paired-tiles, yields-row};
-ghost use Rattle.constriction.specs.Tables.{rows_paired, rows_between, ClonesAreSame, MayRefuse};
+ghost use Rattle.constriction.specs.SymbolRowLemmas.{paired-tiles};
+ghost use Rattle.constriction.specs.Tables.{rows_paired, rows_between};
 
 use crate::stream::model::categorical::filling::copied;
 use crate::stream::model::categorical::non_contiguous::{
@@ -178,14 +179,15 @@ impl<
     Vec<Probability>,
     PRECISION,
 > {
-    /// A model of the same rows, with rows and a table of its own from the allocators of this one's.
+    /// A model of the same rows with clones of the symbols, and with rows and a table of its own from the
+    /// allocators of this one's. A clone has to be equal to its symbol, so that no two are equal.
     ///
     /// Two allocations and a clone of each symbol. It is refused where memory for one of these is.
     pub fn clone(&self) -> Result<Self, AllocError>
-        requires { ClonesAreSame Symbol.is_clone }
-        ensures { IfOk result (λ m.
-            ⟦<NonContiguousLookupDecoderModel<Symbol, Probability, Vec<(Probability, Symbol)>, Vec<Probability>, PRECISION> as EntropyModel<PRECISION>>⟧.rows m
-            ≡ ⟦<NonContiguousLookupDecoderModel<Symbol, Probability, Vec<(Probability, Symbol)>, Vec<Probability>, PRECISION> as EntropyModel<PRECISION>>⟧.rows self.now) }
+        requires { ClonesAreEqual Symbol.eq Symbol.is_clone }
+        ensures { IfOk result (λ m. StandForRows Symbol.is_clone
+            (⟦<NonContiguousLookupDecoderModel<Symbol, Probability, Vec<(Probability, Symbol)>, Vec<Probability>, PRECISION> as EntropyModel<PRECISION>>⟧.rows m)
+            (⟦<NonContiguousLookupDecoderModel<Symbol, Probability, Vec<(Probability, Symbol)>, Vec<Probability>, PRECISION> as EntropyModel<PRECISION>>⟧.rows self.now)) }
     {
         let cdf = entries_cloned(*self.cdf.allocator(), self.cdf.as_slice())?;
         let lookup_table = copied(*self.lookup_table.allocator(), self.lookup_table.as_slice())?;
@@ -203,8 +205,9 @@ impl<
     Cdf: SafeBuf<(Probability, Symbol)>,
     const PRECISION: usize,
 > NonContiguousCategoricalDecoderModel<Symbol, Probability, Cdf, PRECISION> {
-    /// The model of the same rows that looks up where to search. Its only refusal is `OutOfMemory`,
-    /// where memory for the rows, for a clone of a symbol, or for the table is refused.
+    /// The model of the same rows, with clones of the symbols, that looks up where to search. A clone has to be
+    /// equal to its symbol, so that no two are equal. Its only refusal is `OutOfMemory`, where memory for the
+    /// rows, for a clone of a symbol, or for the table is refused.
     ///
     /// Two allocations, a clone of each symbol and one pass over the rows. No symbols are compared.
     pub fn to_lookup_decoder_model(
@@ -221,10 +224,10 @@ impl<
         ModelError,
     >
         requires narrow { PRECISION ≤ 63 }
-        requires clones { ClonesAreSame Symbol.is_clone }
-        ensures ok { IfOk result (λ m.
-            ⟦<NonContiguousLookupDecoderModel<Symbol, Probability, Vec<(Probability, Symbol)>, Vec<Probability>, PRECISION> as EntropyModel<PRECISION>>⟧.rows m
-            ≡ ⟦<NonContiguousCategoricalDecoderModel<Symbol, Probability, Cdf, PRECISION> as EntropyModel<PRECISION>>⟧.rows self.now) }
+        requires clones { ClonesAreEqual Symbol.eq Symbol.is_clone }
+        ensures ok { IfOk result (λ m. StandForRows Symbol.is_clone
+            (⟦<NonContiguousLookupDecoderModel<Symbol, Probability, Vec<(Probability, Symbol)>, Vec<Probability>, PRECISION> as EntropyModel<PRECISION>>⟧.rows m)
+            (⟦<NonContiguousCategoricalDecoderModel<Symbol, Probability, Cdf, PRECISION> as EntropyModel<PRECISION>>⟧.rows self.now)) }
         ensures refused { IfErr result (λ e. e ≡ ModelError.OutOfMemory) }
     {
         let model = self.in_vec(alloc)?;
@@ -358,9 +361,9 @@ impl<
     const PRECISION: usize,
 > DecoderModel<PRECISION>
     for NonContiguousLookupDecoderModel<Symbol, Probability, Cdf, LookupTable, PRECISION> {
-    ghost clones_are_same = { ClonesAreSame Symbol.is_clone };
+    ghost stands_for = { Symbol.is_clone };
 
-    ghost may_refuse = { MayRefuse Symbol.is_infallible };
+    ghost may_refuse = { λ s. ¬ (Symbol.is_infallible s) };
 
     /// The row of a quantile, with a clone of its symbol: by the table, and where more than one row meets
     /// the quantile's slot by a search of those.
@@ -391,9 +394,9 @@ impl<
     for &'m NonContiguousLookupDecoderModel<Symbol, Probability, Cdf, LookupTable, PRECISION> {
     type SymbolTable = NonContiguousSymbolTable<'m, Symbol, Probability, PRECISION>;
 
-    ghost clones_are_same = { ClonesAreSame Symbol.is_clone };
+    ghost stands_for = { Symbol.is_clone };
 
-    ghost may_refuse = { MayRefuse Symbol.is_infallible };
+    ghost may_refuse = { λ s. ¬ (Symbol.is_infallible s) };
 
     ghost rows_left = { λ t. rows_between t.from t.to (rows_paired Probability.whole PRECISION t.cdf.now) };
 
@@ -401,7 +404,6 @@ impl<
     /// memory for a clone is refused, the refusal stands in the row's place.
     #[inline]
     fn symbol_table(self) -> NonContiguousSymbolTable<'m, Symbol, Probability, PRECISION>
-        requires clones { ⊤ }
         ensures all { ⟦<&'m NonContiguousLookupDecoderModel<Symbol, Probability, Cdf, LookupTable, PRECISION> as IterableEntropyModel<PRECISION>>⟧.rows_left result
             ≡ ⟦<NonContiguousLookupDecoderModel<Symbol, Probability, Cdf, LookupTable, PRECISION> as EntropyModel<PRECISION>>⟧.rows self.now }
         ensures callable { ⟦<NonContiguousSymbolTable<'m, Symbol, Probability, PRECISION> as Iterator>⟧.can_next result }
@@ -420,8 +422,7 @@ impl<
         }
     }
 
-    ghost steps_law = { λ same t r u step. yields-row Symbol.is_clone Symbol.is_infallible Probability.whole Probability.base
-        same _ r _ step };
+    ghost steps_law = { λ t r u step. step };
 
     ghost tile_law = { λ m. paired-tiles Probability.whole _ _ _ m.now.stored };
 }

@@ -5,12 +5,13 @@ ghost use Rattle.std.specs.Iterator.{IsFiniteIterable, UpTo, size};
 ghost use Rattle.std.specs.List.{list_any, IsDistinct};
 ghost use Rattle.std.proofs.Props.{props};
 ghost use Rattle.constriction.specs.Acceptance.{completed, AreAccepted, GaveBothGood, GaveBothBad};
-ghost use Rattle.constriction.specs.Filling.{HoldsRows};
+ghost use Rattle.constriction.specs.Filling.{HoldsRows, AreEntriesCloned};
+ghost use Rattle.constriction.specs.Model.{StandForRows, ClonesAreEqual};
 ghost use Rattle.constriction.specs.Probe.{TellsRows, IsRowIndexOf, IsSearchable, IsLastAtMost};
 ghost use Rattle.constriction.specs.Rows.{rows_of};
 ghost use Rattle.constriction.specs.Stored.{IsStored};
-ghost use Rattle.constriction.specs.SymbolRowLemmas.{paired-tiles, yields-row};
-ghost use Rattle.constriction.specs.Tables.{rows_paired, rows_between, ClonesAreSame, MayRefuse};
+ghost use Rattle.constriction.specs.SymbolRowLemmas.{paired-tiles};
+ghost use Rattle.constriction.specs.Tables.{rows_paired, rows_between};
 
 use crate::stream::model::categorical::filling::{room_for, rows_announced};
 use crate::stream::model::categorical::non_contiguous_table::NonContiguousSymbolTable;
@@ -84,8 +85,7 @@ pub(crate) fn entries_cloned<Word: Copy, Symbol: Clone>(
     alloc: Global,
     entries: &[(Word, Symbol)],
 ) -> Result<Vec<(Word, Symbol)>, AllocError>
-    requires { ClonesAreSame Symbol.is_clone }
-    ensures { IfOk result (λ v. v.items ≡ entries.now) }
+    ensures { IfOk result (λ v. AreEntriesCloned Symbol.is_clone entries.now v.items) }
 {
     let mut cloned = Vec::with_capacity(alloc, entries.len())?;
     'entries: for entry in entries {
@@ -179,14 +179,15 @@ impl<
     Probability: WholeNumber,
     const PRECISION: usize,
 > NonContiguousCategoricalDecoderModel<Symbol, Probability, Vec<(Probability, Symbol)>, PRECISION> {
-    /// A model of the same rows, with entries of its own from the allocator of this one's.
+    /// A model of the same rows with clones of the symbols, and with entries of its own from the allocator of
+    /// this one's. A clone has to be equal to its symbol, so that no two are equal.
     ///
     /// One allocation and a clone of each symbol. It is refused where memory for one of these is.
     pub fn clone(&self) -> Result<Self, AllocError>
-        requires { ClonesAreSame Symbol.is_clone }
-        ensures { IfOk result (λ m.
-            ⟦<NonContiguousCategoricalDecoderModel<Symbol, Probability, Vec<(Probability, Symbol)>, PRECISION> as EntropyModel<PRECISION>>⟧.rows m
-            ≡ ⟦<NonContiguousCategoricalDecoderModel<Symbol, Probability, Vec<(Probability, Symbol)>, PRECISION> as EntropyModel<PRECISION>>⟧.rows self.now) }
+        requires { ClonesAreEqual Symbol.eq Symbol.is_clone }
+        ensures { IfOk result (λ m. StandForRows Symbol.is_clone
+            (⟦<NonContiguousCategoricalDecoderModel<Symbol, Probability, Vec<(Probability, Symbol)>, PRECISION> as EntropyModel<PRECISION>>⟧.rows m)
+            (⟦<NonContiguousCategoricalDecoderModel<Symbol, Probability, Vec<(Probability, Symbol)>, PRECISION> as EntropyModel<PRECISION>>⟧.rows self.now)) }
     {
         self.in_vec(*self.cdf.allocator())
     }
@@ -266,7 +267,7 @@ impl<
     Cdf: SafeBuf<(Probability, Symbol)>,
     const PRECISION: usize,
 > NonContiguousCategoricalDecoderModel<Symbol, Probability, Cdf, PRECISION> {
-    /// The same model over clones of the entries of this one.
+    /// The same model over clones of the entries of this one, which have to be equal to these.
     pub(crate) fn in_vec(
         &self,
         alloc: Global,
@@ -279,10 +280,10 @@ impl<
         >,
         AllocError,
     >
-        requires { ClonesAreSame Symbol.is_clone }
-        ensures { IfOk result (λ m.
-            ⟦<NonContiguousCategoricalDecoderModel<Symbol, Probability, Vec<(Probability, Symbol)>, PRECISION> as EntropyModel<PRECISION>>⟧.rows m
-            ≡ ⟦<NonContiguousCategoricalDecoderModel<Symbol, Probability, Cdf, PRECISION> as EntropyModel<PRECISION>>⟧.rows self.now) }
+        requires { ClonesAreEqual Symbol.eq Symbol.is_clone }
+        ensures { IfOk result (λ m. StandForRows Symbol.is_clone
+            (⟦<NonContiguousCategoricalDecoderModel<Symbol, Probability, Vec<(Probability, Symbol)>, PRECISION> as EntropyModel<PRECISION>>⟧.rows m)
+            (⟦<NonContiguousCategoricalDecoderModel<Symbol, Probability, Cdf, PRECISION> as EntropyModel<PRECISION>>⟧.rows self.now)) }
     {
         let cdf = entries_cloned(alloc, self.cdf.words())?;
         Ok(NonContiguousCategoricalDecoderModel {
@@ -299,9 +300,9 @@ impl<
     const PRECISION: usize,
 > DecoderModel<PRECISION>
     for NonContiguousCategoricalDecoderModel<Symbol, Probability, Cdf, PRECISION> {
-    ghost clones_are_same = { ClonesAreSame Symbol.is_clone };
+    ghost stands_for = { Symbol.is_clone };
 
-    ghost may_refuse = { MayRefuse Symbol.is_infallible };
+    ghost may_refuse = { λ s. ¬ (Symbol.is_infallible s) };
 
     /// The row of a quantile, by [`row_of_quantile`], with a clone of its symbol.
     #[inline]
@@ -327,9 +328,9 @@ impl<
     for &'m NonContiguousCategoricalDecoderModel<Symbol, Probability, Cdf, PRECISION> {
     type SymbolTable = NonContiguousSymbolTable<'m, Symbol, Probability, PRECISION>;
 
-    ghost clones_are_same = { ClonesAreSame Symbol.is_clone };
+    ghost stands_for = { Symbol.is_clone };
 
-    ghost may_refuse = { MayRefuse Symbol.is_infallible };
+    ghost may_refuse = { λ s. ¬ (Symbol.is_infallible s) };
 
     ghost rows_left = { λ t. rows_between t.from t.to (rows_paired Probability.whole PRECISION t.cdf.now) };
 
@@ -337,7 +338,6 @@ impl<
     /// memory for a clone is refused, the refusal stands in the row's place.
     #[inline]
     fn symbol_table(self) -> NonContiguousSymbolTable<'m, Symbol, Probability, PRECISION>
-        requires clones { ⊤ }
         ensures all { ⟦<&'m NonContiguousCategoricalDecoderModel<Symbol, Probability, Cdf, PRECISION> as IterableEntropyModel<PRECISION>>⟧.rows_left result
             ≡ ⟦<NonContiguousCategoricalDecoderModel<Symbol, Probability, Cdf, PRECISION> as EntropyModel<PRECISION>>⟧.rows self.now }
         ensures callable { ⟦<NonContiguousSymbolTable<'m, Symbol, Probability, PRECISION> as Iterator>⟧.can_next result }
@@ -356,8 +356,7 @@ impl<
         }
     }
 
-    ghost steps_law = { λ same t r u step. yields-row Symbol.is_clone Symbol.is_infallible Probability.whole Probability.base
-        same _ r _ step };
+    ghost steps_law = { λ t r u step. step };
 
     ghost tile_law = { λ m. paired-tiles Probability.whole _ _ _ m.now.stored };
 }

@@ -4,7 +4,7 @@ ghost use Rattle.std.specs.Prelude.{◌≡◌, ◌^◌, ◌<◌, ◌≤◌, IfSo
 ghost use Rattle.std.specs.Iterator.{UpTo, at_most, size};
 ghost use Rattle.std.specs.Iterator.SizeHint.{IsExactHint, IsWithinCount};
 ghost use Rattle.constriction.specs.Stored.{IsStored};
-ghost use Rattle.constriction.specs.Tables.{YieldsClone, YieldsLastClone, rows_paired, rows_between};
+ghost use Rattle.constriction.specs.Tables.{YieldsRow, YieldsLastRow, rows_paired, rows_between};
 
 use crate::stream::model::categorical::stored::paired_row_at;
 use crate::stream::model::traits::Weight;
@@ -34,7 +34,7 @@ impl<'m, Symbol: Clone, Probability: WholeNumber, const PRECISION: usize> Iterat
     for NonContiguousSymbolTable<'m, Symbol, Probability, PRECISION> {
     type Item = Result<(Symbol, Probability, Weight<Probability>), AllocError>;
 
-    ghost next_gives = { λ t r u. YieldsClone Symbol.is_clone Symbol.is_infallible Probability.whole Probability.base
+    ghost next_gives = { λ t r u. YieldsRow Symbol.is_clone (λ s. ¬ (Symbol.is_infallible s)) Probability.whole Probability.base
         (rows_between t.from t.to (rows_paired Probability.whole PRECISION t.cdf.now)) r
         (rows_between u.from u.to (rows_paired Probability.whole PRECISION u.cdf.now)) };
 
@@ -71,7 +71,7 @@ impl<'m, Symbol: Clone, Probability: WholeNumber, const PRECISION: usize> Iterat
 
 impl<'m, Symbol: Clone, Probability: WholeNumber, const PRECISION: usize> DoubleEndedIterator
     for NonContiguousSymbolTable<'m, Symbol, Probability, PRECISION> {
-    ghost next_back_gives = { λ t r u. YieldsLastClone Symbol.is_clone Symbol.is_infallible Probability.whole Probability.base
+    ghost next_back_gives = { λ t r u. YieldsLastRow Symbol.is_clone (λ s. ¬ (Symbol.is_infallible s)) Probability.whole Probability.base
         (rows_between t.from t.to (rows_paired Probability.whole PRECISION t.cdf.now)) r
         (rows_between u.from u.to (rows_paired Probability.whole PRECISION u.cdf.now)) };
 

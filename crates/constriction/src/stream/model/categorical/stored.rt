@@ -2,9 +2,9 @@
 
 ghost use Rattle.std.specs.Prelude.{◌≡◌, ◌+◌, ◌<◌, ◌≤◌, length, map, slice_index, slice_index_or, IfOk, IfErr};
 ghost use Rattle.constriction.specs.Model.{row_of, LiesWithin};
-ghost use Rattle.constriction.specs.Rows.{contiguous_rows};
+ghost use Rattle.constriction.specs.Rows.{Row, contiguous_rows};
 ghost use Rattle.constriction.specs.Stored.{IsStored, IsTable, lefts_in, weights_of};
-ghost use Rattle.constriction.specs.Tables.{rows_paired, ClonesAreSame, MayRefuse};
+ghost use Rattle.constriction.specs.Tables.{rows_paired};
 
 use crate::stream::model::cdf_probe::{Alone, CdfEntry, WithSymbol};
 use crate::stream::model::traits::Weight;
@@ -115,15 +115,16 @@ pub(crate) fn cloned_row_at<P: WholeNumber, Symbol: Clone, const PRECISION: usiz
     cdf: &[(P, Symbol)],
     index: usize,
 ) -> Result<(Symbol, P, Weight<P>), AllocError>
-    requires clones { ClonesAreSame Symbol.is_clone }
     requires some { 0 < PRECISION }
     requires fits { PRECISION ≤ P.BITS }
     requires stored { IsStored P.BITS PRECISION (map (λ x. P.whole x.0) cdf.now) }
     requires in_bounds { index < length cdf.now }
-    ensures row { IfOk result (λ x. slice_index_or (rows_paired P.whole PRECISION cdf.now) index
-        (row_of P.whole P.base x) ≡ row_of P.whole P.base x) }
+    ensures row { IfOk result (λ x. (own : Symbol) × Symbol.is_clone own x.0
+        × (slice_index_or (rows_paired P.whole PRECISION cdf.now) index (row_of P.whole P.base (own, x.1, x.2))
+        ≡ row_of P.whole P.base (own, x.1, x.2))) }
     ensures within { IfOk result (λ x. LiesWithin PRECISION (row_of P.whole P.base x)) }
-    ensures refused { IfErr result (λ _. MayRefuse Symbol.is_infallible) }
+    ensures refused { IfErr result (λ _. (r : Row Symbol) × (slice_index_or (rows_paired P.whole PRECISION cdf.now) index r ≡ r)
+        × ¬ (Symbol.is_infallible r.symbol)) }
 {
     let (left, weight) = paired_row_at::<P, Symbol, PRECISION>(cdf, index);
     match cdf[index].1.clone() {

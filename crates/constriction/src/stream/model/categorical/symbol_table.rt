@@ -33,7 +33,7 @@ impl<'m, Probability: WholeNumber, const PRECISION: usize> Iterator
     for ContiguousSymbolTable<'m, Probability, PRECISION> {
     type Item = Result<(usize, Probability, Weight<Probability>), AllocError>;
 
-    ghost next_gives = { λ t r u. YieldsRow Probability.whole Probability.base ⊥
+    ghost next_gives = { λ t r u. YieldsRow (λ s t. t ≡ s) (λ _. ⊥) Probability.whole Probability.base
         (rows_stored PRECISION (map Probability.whole t.cdf.now) t.from t.to) r
         (rows_stored PRECISION (map Probability.whole u.cdf.now) u.from u.to) };
 
@@ -67,7 +67,7 @@ impl<'m, Probability: WholeNumber, const PRECISION: usize> Iterator
 
 impl<'m, Probability: WholeNumber, const PRECISION: usize> DoubleEndedIterator
     for ContiguousSymbolTable<'m, Probability, PRECISION> {
-    ghost next_back_gives = { λ t r u. YieldsLastRow Probability.whole Probability.base ⊥
+    ghost next_back_gives = { λ t r u. YieldsLastRow (λ s t. t ≡ s) (λ _. ⊥) Probability.whole Probability.base
         (rows_stored PRECISION (map Probability.whole t.cdf.now) t.from t.to) r
         (rows_stored PRECISION (map Probability.whole u.cdf.now) u.from u.to) };
 

@@ -41,7 +41,7 @@ impl<Probability: WholeNumber, const PRECISION: usize> Iterator
     for UniformSymbolTable<Probability, PRECISION> {
     type Item = Result<(usize, Probability, Weight<Probability>), AllocError>;
 
-    ghost next_gives = { λ t r u. YieldsRow Probability.whole Probability.base ⊥
+    ghost next_gives = { λ t r u. YieldsRow (λ s t. t ≡ s) (λ _. ⊥) Probability.whole Probability.base
         (rows_between t.from t.to (uniform_rows PRECISION (Probability.whole t.model.last_symbol + 1))) r
         (rows_between u.from u.to (uniform_rows PRECISION (Probability.whole u.model.last_symbol + 1))) };
 
@@ -75,7 +75,7 @@ impl<Probability: WholeNumber, const PRECISION: usize> Iterator
 
 impl<Probability: WholeNumber, const PRECISION: usize> DoubleEndedIterator
     for UniformSymbolTable<Probability, PRECISION> {
-    ghost next_back_gives = { λ t r u. YieldsLastRow Probability.whole Probability.base ⊥
+    ghost next_back_gives = { λ t r u. YieldsLastRow (λ s t. t ≡ s) (λ _. ⊥) Probability.whole Probability.base
         (rows_between t.from t.to (uniform_rows PRECISION (Probability.whole t.model.last_symbol + 1))) r
         (rows_between u.from u.to (uniform_rows PRECISION (Probability.whole u.model.last_symbol + 1))) };
 

@@ -11,15 +11,15 @@ invariant_of-result g c =
     record {
       precise = (c.requires.positive, c.requires.fits);
       stored =
-          (walked-stored g.M.Probability.WholeNumber.whole g.M.Probability.WholeNumber.base g.M.IterableEntropyModel.may_refuse
-          g.M.SymbolTable.Iterator.next_gives g.M.IterableEntropyModel.rows_left (M.steps_law c.requires.clones)
-          (g.M.EntropyModel.rows c.args.model) c.symbol_table.result c.symbol_table.ensures.all eq g.M.Probability.WholeNumber.BITS
-          g.row.PRECISION (M.tile_law c.args.model) entries c.in_ok-cdf.ensures.ok).0;
+          (walked-stored g.M.IterableEntropyModel.stands_for g.M.IterableEntropyModel.may_refuse g.M.Probability.WholeNumber.whole
+          g.M.Probability.WholeNumber.base g.M.SymbolTable.Iterator.next_gives g.M.IterableEntropyModel.rows_left M.steps_law
+          (g.M.EntropyModel.rows c.args.model) c.symbol_table.result c.symbol_table.ensures.all eq g.M.Probability.WholeNumber.BITS g.row.PRECISION
+          (M.tile_law c.args.model) entries c.in_ok-cdf.ensures.ok).0;
       distinct =
-          (walked-distinct g.M.Probability.WholeNumber.whole g.M.Probability.WholeNumber.base
-          g.M.IterableEntropyModel.may_refuse g.M.SymbolTable.Iterator.next_gives g.M.IterableEntropyModel.rows_left
-          (M.steps_law c.requires.clones) (g.M.EntropyModel.rows c.args.model) c.symbol_table.result c.symbol_table.ensures.all eq
-          entries c.in_ok-cdf.ensures.ok).0;
+          (walked-distinct g.M.IterableEntropyModel.stands_for g.M.IterableEntropyModel.may_refuse g.M.Probability.WholeNumber.whole
+          g.M.Probability.WholeNumber.base g.M.SymbolTable.Iterator.next_gives g.M.IterableEntropyModel.rows_left M.steps_law
+          (g.M.EntropyModel.rows c.args.model) c.symbol_table.result c.symbol_table.ensures.all eq g.M.Probability.WholeNumber.BITS g.row.PRECISION
+          (M.tile_law c.args.model) entries c.in_ok-cdf.ensures.ok).0;
     }
 
 pub returns-clause-ok : goal.returns-clause-ok
@@ -27,20 +27,21 @@ returns-clause-ok g c =
     let M = g.met.M.IterableEntropyModel in
     let eq = g.M.Symbol.PartialEq.eq in
     let entries = c.in_ok-cdf.cdf.items in (
-      (walked-stored g.M.Probability.WholeNumber.whole g.M.Probability.WholeNumber.base g.M.IterableEntropyModel.may_refuse
-          g.M.SymbolTable.Iterator.next_gives g.M.IterableEntropyModel.rows_left (M.steps_law c.requires.clones)
-          (g.M.EntropyModel.rows c.args.model) c.symbol_table.result c.symbol_table.ensures.all eq g.M.Probability.WholeNumber.BITS
-          g.row.PRECISION (M.tile_law c.args.model) entries c.in_ok-cdf.ensures.ok).1,
-      (walked-distinct g.M.Probability.WholeNumber.whole g.M.Probability.WholeNumber.base
-          g.M.IterableEntropyModel.may_refuse g.M.SymbolTable.Iterator.next_gives g.M.IterableEntropyModel.rows_left
-          (M.steps_law c.requires.clones) (g.M.EntropyModel.rows c.args.model) c.symbol_table.result c.symbol_table.ensures.all eq
-          entries c.in_ok-cdf.ensures.ok).1,
+      (walked-stored g.M.IterableEntropyModel.stands_for g.M.IterableEntropyModel.may_refuse g.M.Probability.WholeNumber.whole
+          g.M.Probability.WholeNumber.base g.M.SymbolTable.Iterator.next_gives g.M.IterableEntropyModel.rows_left M.steps_law
+          (g.M.EntropyModel.rows c.args.model) c.symbol_table.result c.symbol_table.ensures.all eq g.M.Probability.WholeNumber.BITS g.row.PRECISION
+          (M.tile_law c.args.model) entries c.in_ok-cdf.ensures.ok).1,
+      (walked-distinct g.M.IterableEntropyModel.stands_for g.M.IterableEntropyModel.may_refuse g.M.Probability.WholeNumber.whole
+          g.M.Probability.WholeNumber.base g.M.SymbolTable.Iterator.next_gives g.M.IterableEntropyModel.rows_left M.steps_law
+          (g.M.EntropyModel.rows c.args.model) c.symbol_table.result c.symbol_table.ensures.all eq g.M.Probability.WholeNumber.BITS g.row.PRECISION
+          (M.tile_law c.args.model) entries c.in_ok-cdf.ensures.ok).1,
     )
 
 pub returns-in_err-cdf-clause-invalid : goal.returns-in_err-cdf-clause-invalid
 returns-in_err-cdf-clause-invalid g c = λ h.
+    let M = g.met.M.IterableEntropyModel in
+    let eq = g.M.Symbol.PartialEq.eq in
     let e : c.entries_walked.result ≡ Err InvalidTable = search rules in
-    walked-repeat g.M.Probability.WholeNumber.whole g.M.Probability.WholeNumber.base g.M.IterableEntropyModel.may_refuse
-    g.M.SymbolTable.Iterator.next_gives g.M.IterableEntropyModel.rows_left
-    (g.met.M.IterableEntropyModel.steps_law c.requires.clones) (g.M.EntropyModel.rows c.args.model) c.symbol_table.result
-    c.symbol_table.ensures.all g.M.Symbol.PartialEq.eq (c.entries_walked.ensures.invalid e)
+    walked-repeat g.M.IterableEntropyModel.stands_for g.M.IterableEntropyModel.may_refuse g.M.Probability.WholeNumber.whole
+    g.M.Probability.WholeNumber.base g.M.SymbolTable.Iterator.next_gives g.M.IterableEntropyModel.rows_left M.steps_law
+    (g.M.EntropyModel.rows c.args.model) c.symbol_table.result c.symbol_table.ensures.all eq (c.entries_walked.ensures.invalid e)

@@ -1,3 +1,4 @@
+use Rattle.std.proofs.Common.{refl}
 use Rattle.constriction.proofs.PairedLemmas.{paired-at, paired-row}
 use Rattle.constriction.proofs.stream.model.categorical.stored.cloned_row_at.Goals as goal
 
@@ -7,12 +8,31 @@ returns-in-Ok g c =
     let bits = g.P.WholeNumber.BITS in
     let entries = c.args.cdf.now in
     let row = paired-row whole bits g.row.PRECISION entries c.requires.stored c.args.index c.requires.in_bounds in
-    let clone = rw (← c.index-cdf-index.is) at c.in-Ok.ensures.cases in
     record {
-      row =
-          paired-at whole bits g.row.PRECISION entries c.requires.stored c.args.index (whole c.paired_row_at-left.result.0)
-          (whole (g.P.WholeNumber.base c.paired_row_at-left.result.1)) c.in-Ok.symbol c.index-cdf-index.result c.requires.in_bounds
-          c.index-cdf-index.is (c.requires.clones _ _ clone) c.paired_row_at-left.ensures.left c.paired_row_at-left.ensures.weight;
+      row = (
+        c.index-cdf-index.result.1,
+        rw (← c.index-cdf-index.is) at c.in-Ok.ensures.cases,
+        paired-at whole bits g.row.PRECISION entries c.requires.stored c.args.index (whole c.paired_row_at-left.result.0)
+            (whole (g.P.WholeNumber.base c.paired_row_at-left.result.1)) c.index-cdf-index.result.1 c.index-cdf-index.result
+            c.requires.in_bounds c.index-cdf-index.is refl c.paired_row_at-left.ensures.left c.paired_row_at-left.ensures.weight,
+      );
       within = rw (c.paired_row_at-left.ensures.left, c.paired_row_at-left.ensures.weight) (row.positive, row.within);
       refused = tt;
+    }
+
+pub returns-in-Err : goal.returns-in-Err
+returns-in-Err g c =
+    let whole = g.P.WholeNumber.whole in
+    let bits = g.P.WholeNumber.BITS in
+    let entries = c.args.cdf.now in
+    record {
+      row = tt;
+      within = tt;
+      refused = (
+        _,
+        paired-at whole bits g.row.PRECISION entries c.requires.stored c.args.index (whole c.paired_row_at-left.result.0)
+            (whole (g.P.WholeNumber.base c.paired_row_at-left.result.1)) c.index-cdf-index.result.1 c.index-cdf-index.result
+            c.requires.in_bounds c.index-cdf-index.is refl c.paired_row_at-left.ensures.left c.paired_row_at-left.ensures.weight,
+        rw (← c.index-cdf-index.is) at c.in-Err.ensures.cases,
+      );
     }

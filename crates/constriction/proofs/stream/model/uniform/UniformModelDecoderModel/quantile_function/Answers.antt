@@ -16,11 +16,12 @@ returns g c =
     (whole answered.0) (whole (base answered.1)) c.to_number.ensures row.left row.weight
     _ _ c.requires.in_range m.bin found.before found.last in
     record {
-      row = held;
+      row = (c.to_number.result, refl, held);
+      exact = held;
       within =
           row-within g.Probability.WholeNumber.BITS g.row.PRECISION _ _
           (row_of whole base (c.to_number.result, answered.0, answered.1))
           (uniform-tiles g.row.PRECISION _ m.within _ m.fits m.some) held;
-      succeeds = refl {a = true};
       refused = tt;
+      succeeds = refl {a = true};
     }

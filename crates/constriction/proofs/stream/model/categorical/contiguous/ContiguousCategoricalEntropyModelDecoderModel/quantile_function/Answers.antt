@@ -29,11 +29,12 @@ returns g c =
     let found = table-index g.Probability.WholeNumber.BITS g.row.PRECISION (map whole words) (map whole c.cdf_entries.result.now)
     c.args.self.now.stored c.cdf_entries.ensures (whole c.args.quantile) c.row_of_quantile-index.result c.requires.in_range
     (rw c.new-rows.ensures.cumulatives at c.row_of_quantile-index.ensures.found) in
+    let answer = row_of whole g.Probability.WholeNumber.base c.contiguous_row_at.result in
+    let held = rw (rw c.words.ensures at c.contiguous_row_at.ensures.row) at (found.0.row answer) in
     record {
-      row =
-          rw (rw c.words.ensures at c.contiguous_row_at.ensures.row) at
-          (found.0.row (row_of whole g.Probability.WholeNumber.base c.contiguous_row_at.result));
+      row = (c.contiguous_row_at.result.0, refl, held);
+      exact = held;
       within = c.contiguous_row_at.ensures.within;
-      succeeds = refl {a = true};
       refused = tt;
+      succeeds = refl {a = true};
     }

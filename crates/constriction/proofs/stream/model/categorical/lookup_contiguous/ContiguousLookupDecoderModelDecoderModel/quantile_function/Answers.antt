@@ -38,11 +38,12 @@ returns g c =
     let found = table-index g.Probability.WholeNumber.BITS g.row.PRECISION (map whole words) (map whole c.cdf_entries.result.now)
     c.args.self.now.model.stored c.cdf_entries.ensures (whole c.args.quantile) c.row_in_slot-index.result c.requires.in_range
     c.row_in_slot-index.ensures in
+    let answer = row_of whole g.Probability.WholeNumber.base c.contiguous_row_at.result in
+    let held = rw (rw c.words-2.ensures at c.contiguous_row_at.ensures.row) at (found.0.row answer) in
     record {
-      row =
-          rw (rw c.words-2.ensures at c.contiguous_row_at.ensures.row) at
-          (found.0.row (row_of whole g.Probability.WholeNumber.base c.contiguous_row_at.result));
+      row = (c.contiguous_row_at.result.0, refl, held);
+      exact = held;
       within = c.contiguous_row_at.ensures.within;
-      succeeds = refl {a = true};
       refused = tt;
+      succeeds = refl {a = true};
     }

@@ -1,5 +1,5 @@
 use Rattle.constriction.specs.Model.{row_of}
-use Rattle.constriction.proofs.PairedLemmas.{lent-lefts, paired-search, paired-index, found-row}
+use Rattle.constriction.proofs.PairedLemmas.{lent-lefts, paired-search, paired-index, found-row, found-refused}
 use Rattle.constriction.proofs.stream.model.categorical.lookup_non_contiguous.NonContiguousLookupDecoderModelDecoderModel.quantile_function.Goals as goal
 
 pub row_in_slot-index-requires-clause-increases : goal.row_in_slot-index-requires-clause-increases
@@ -35,4 +35,16 @@ returns-clause-row g c =
     let found = paired-index whole g.Probability.WholeNumber.BITS g.row.PRECISION entries c.args.self.now.stored
     c.words.result.now c.words.ensures (whole c.args.quantile) c.row_in_slot-index.result c.requires.in_range
     c.row_in_slot-index.ensures in
-    found-row c.cloned_row_at.result (row_of whole g.Probability.WholeNumber.base) found.0 (rw c.words-3.ensures at c.cloned_row_at.ensures.row)
+    found-row c.cloned_row_at.result found.0 (λ x own. g.Symbol.Clone.is_clone own x.0)
+    (λ x own. row_of whole g.Probability.WholeNumber.base (own, x.1, x.2))
+    (rw c.words-3.ensures at c.cloned_row_at.ensures.row)
+
+pub returns-clause-refused : goal.returns-clause-refused
+returns-clause-refused g c =
+    let whole = g.Probability.WholeNumber.whole in
+    let entries = g.Cdf.SafeBuf.words_of c.args.self.now.cdf in
+    let found = paired-index whole g.Probability.WholeNumber.BITS g.row.PRECISION entries c.args.self.now.stored
+    c.words.result.now c.words.ensures (whole c.args.quantile) c.row_in_slot-index.result c.requires.in_range
+    c.row_in_slot-index.ensures in
+    found-refused c.cloned_row_at.result found.0 (λ s. ¬ (g.Symbol.Clone.is_infallible s))
+    (rw c.words-3.ensures at c.cloned_row_at.ensures.refused)

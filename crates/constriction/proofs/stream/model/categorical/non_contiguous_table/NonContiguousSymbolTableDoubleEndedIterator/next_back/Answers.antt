@@ -1,4 +1,4 @@
-use Rattle.std.proofs.Common.{◌<◌, refl, arith}
+use Rattle.std.proofs.Common.{◌<◌, arith}
 use Rattle.constriction.specs.Tables.{rows_paired}
 use Rattle.constriction.proofs.StepLemmas.{none-between, fewer-last}
 use Rattle.constriction.proofs.PairedLemmas.{paired-last}
@@ -17,7 +17,7 @@ returns-in-Ok g c =
     let step = paired-last g.Probability.WholeNumber.whole _ g.row.PRECISION t.cdf.now t.stored t.from t.to _ _ c.index-self-index.result some
     t.in_bounds c.index-self-index.is c.paired_row_at-left.ensures.left c.paired_row_at-left.ensures.weight in
     record {
-      steps = (_, step, ((rw (← c.index-self-index.is) at c.in-Ok.ensures.cases, refl, refl), tt));
+      steps = (c.index-self-index.result.1, rw (← c.index-self-index.is) at c.in-Ok.ensures.cases, step);
       goes = record { on = λ _. (tt, tt, fewer-last _ _ _ step); keeps = tt; rests = λ _. tt };
     }
 
@@ -28,7 +28,7 @@ returns-in-Err g c =
     let step = paired-last g.Probability.WholeNumber.whole _ g.row.PRECISION t.cdf.now t.stored t.from t.to _ _ c.index-self-index.result some
     t.in_bounds c.index-self-index.is c.paired_row_at-left.ensures.left c.paired_row_at-left.ensures.weight in
     record {
-      steps = (_, step, (tt, rw (← c.index-self-index.is) at c.in-Err.ensures.cases));
+      steps = (_, rw (← c.index-self-index.is) at c.in-Err.ensures.cases, step);
       goes = record { on = λ _. (tt, tt, fewer-last _ _ _ step); keeps = tt; rests = λ _. tt };
     }
 

@@ -20,7 +20,7 @@ returns g c =
     let step = last-stored g.Probability.WholeNumber.BITS g.row.PRECISION table t.stored t.from t.to _ _ some within
     c.row_at-left.ensures.left c.row_at-left.ensures.weight in
     record {
-      steps = (_, step, (refl, tt));
+      steps = (_, refl, step);
       goes = record { on = λ _. (tt, tt, fewer-last _ _ _ step); keeps = tt; rests = λ _. tt };
     }
 

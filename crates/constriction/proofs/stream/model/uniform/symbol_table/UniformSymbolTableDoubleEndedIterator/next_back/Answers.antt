@@ -23,7 +23,7 @@ returns g c =
     uniform-at g.row.PRECISION last t.model.within (t.to - 1) _ _ _ c.from_number.ensures row.left row.weight _ (omega arith) in
     let first = last-between rows t.from t.to _ below (omega arith) here in
     record {
-      steps = (_, first, (refl, tt));
+      steps = (_, refl, first);
       goes = record { on = λ _. (tt, tt, fewer-last _ _ _ first); keeps = tt; rests = λ _. tt };
     }
 

@@ -22,7 +22,7 @@ returns g c =
     let here = uniform-at g.row.PRECISION last t.model.within t.from _ _ _ c.from_number.ensures row.left row.weight _ (omega arith) in
     let first = first-between rows t.from t.to _ below (omega arith) here in
     record {
-      steps = (_, first, (refl, tt));
+      steps = (_, refl, first);
       goes = record { on = λ _. (tt, tt, fewer-first _ _ _ first); keeps = tt; rests = λ _. tt };
     }
 
