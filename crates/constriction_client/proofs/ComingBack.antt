@@ -32,18 +32,18 @@ among-front (y ∷ a) b (z ∷ c) d x e n =
     let rest = among-front a b c d x others (omega arith) in
     (suc rest.0, omega arith, rest.2)
 
-module _ {Symbol Word Source Error : Type 0} (precision : ℕ) (rows : List (Row Symbol)) (whole : Word → ℕ)
+module _ {Symbol Word Source Error : Type 0} (Stands : Symbol → Symbol → Type 0) (precision : ℕ) (rows : List (Row Symbol)) (whole : Word → ℕ)
     (gives : Source → Result (Option Word) Error → Source → Type 0) (tells : Source → List Word → Type 0) (count : ℕ)
     (s t : Source) (new : List (Symbol × Word)) where
   -- where as many words as are asked for were to come, all of them are read
-  pub all-read : (n : ℕ) → ReadsPairs precision rows whole gives tells count s [] (Ok n) t new
+  pub all-read : (n : ℕ) → ReadsPairs Stands precision rows whole gives tells count s [] (Ok n) t new
       → (words : List Word) → ComeNext tells s words → length words ≡ count
-      → ArePairs rows whole words new × Reads gives s words t
+      → ArePairs Stands rows whole words new × Reads gives s words t
   all-read n read words next many =
       let left = read.told (words ++ next.rest) next.told in
       let split : words ++ next.rest ≡ read.words ++ left.0 =
       left.1 ∙ ap (λ ws. read.words ++ (ws ++ left.0)) read.ended.1 in
-      let long = AllZip-long (IsPairOf rows whole) read.words read.pairs read.of_words in
+      let long = AllZip-long (IsPairOf Stands rows whole) read.words read.pairs read.of_words in
       let whole_list : (words ≡ read.words) × (t ≡ read.reached) = elim read.ended.2 [
         | inl all ↦ (
           same-front words next.rest read.words left.0 split (omega (arith, long, all.0, many)),
@@ -54,31 +54,31 @@ module _ {Symbol Word Source Error : Type 0} (precision : ℕ) (rows : List (Row
             let short : words ++ next.rest ≡ read.words = split ∙ ap (λ ws. read.words ++ ws) ended ∙ append-nil read.words in
             absurd (omega (arith, ap length short, length-append words next.rest, long, fewer.0, many))
       ] in (
-        subst (λ (ws : List Word). ArePairs rows whole ws new) (sym whole_list.0)
-            (subst (λ (ps : List (Symbol × Word)). ArePairs rows whole read.words ps) (sym read.added) read.of_words),
+        subst (λ (ws : List Word). ArePairs Stands rows whole ws new) (sym whole_list.0)
+            (subst (λ (ps : List (Symbol × Word)). ArePairs Stands rows whole read.words ps) (sym read.added) read.of_words),
         subst (λ (ws : List Word). Reads gives s ws t) (sym whole_list.0)
             (subst (λ (u : Source). Reads gives s read.words u) (sym whole_list.1) read.read),
       )
 
   -- where memory was refused, some words were read
-  pub some-read : (error : CoderError ReadFault Error) → ReadsPairs precision rows whole gives tells count s [] (Err error) t new
+  pub some-read : (error : CoderError ReadFault Error) → ReadsPairs Stands precision rows whole gives tells count s [] (Err error) t new
       → error ≡ Frontend OutOfMemory → (words : List Word) × Reads gives s words t
   some-read error read is =
-      let at : ReadsPairs precision rows whole gives tells count s [] (Err (Frontend OutOfMemory)) t new =
-      subst (λ e. ReadsPairs precision rows whole gives tells count s [] (Err e) t new) is read in
+      let at : ReadsPairs Stands precision rows whole gives tells count s [] (Err (Frontend OutOfMemory)) t new =
+      subst (λ e. ReadsPairs Stands precision rows whole gives tells count s [] (Err e) t new) is read in
       (at.words ++ at.ended.0 ∷ [], reads-more gives s at.words at.reached at.ended.0 t at.read at.ended.3)
 
   -- of quantiles none is too large
   pub never-too-large : (error : CoderError ReadFault Error)
-      → ReadsPairs precision rows whole gives tells count s [] (Err error) t new
+      → ReadsPairs Stands precision rows whole gives tells count s [] (Err error) t new
       → error ≡ Frontend QuantileTooLarge → QuantilesCome precision whole tells count s → ⊥
   never-too-large error read is come =
-      let at : ReadsPairs precision rows whole gives tells count s [] (Err (Frontend QuantileTooLarge)) t new =
-      subst (λ e. ReadsPairs precision rows whole gives tells count s [] (Err e) t new) is read in
+      let at : ReadsPairs Stands precision rows whole gives tells count s [] (Err (Frontend QuantileTooLarge)) t new =
+      subst (λ e. ReadsPairs Stands precision rows whole gives tells count s [] (Err e) t new) is read in
       let left = at.told (come.words ++ come.next.rest) come.next.told in
       let split : come.words ++ come.next.rest ≡ at.words ++ at.ended.0 ∷ left.0 =
       left.1 ∙ ap (λ ws. at.words ++ (ws ++ left.0)) at.ended.2 in
-      let long = AllZip-long (IsPairOf rows whole) at.words at.pairs at.of_words in
+      let long = AllZip-long (IsPairOf Stands rows whole) at.words at.pairs at.of_words in
       let among = among-front come.words come.next.rest at.words left.0 at.ended.0 split (omega (arith, long, at.ended.1, come.many)) in
       let small = All-contains (λ w. whole w < 2 ^ precision) come.words at.ended.0 come.in_range among in
       omega (arith, small, at.ended.4)

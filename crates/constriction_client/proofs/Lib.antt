@@ -1,4 +1,5 @@
 mod Accepting
+mod Chaining
 mod ComingBack
 mod Cutting
 mod Exactly

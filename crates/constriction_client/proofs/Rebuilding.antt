@@ -1,15 +1,18 @@
 -- Models that are made anew of the symbols and the weights of a table.
-use Rattle.std.proofs.Common.{◌≡◌, ℕ, Bool, List, [], ◌∷◌, ◌++◌, Option, None, Result, Ok, Err, length, map, take, drop, refl, ap, sym, subst, ◌∙◌, take-append-drop}
+use Rattle.std.proofs.Common.{◌≡◌, ℕ, Bool, List, [], ◌∷◌, ◌++◌, Option, Result, Ok, Err, map, refl, ap, sym, subst, ◌∙◌}
 use Rattle.std.specs.Prelude.{IfOk, IfErr}
+use Rattle.std.specs.Cmp.{IsEquivalence}
 use Rattle.std.specs.Iterator.{Drains}
+use Rattle.std.specs.List.{IsDistinct}
 use Rattle.std.proofs.lemmas.Iterator.{YieldsList}
-use Rattle.std.proofs.lemmas.Iterator.Consumers.{YieldsList-so_far, YieldsList-end}
 use Rattle.std.proofs.lemmas.List.{map-append}
 use Rattle.std.proofs.lemmas.Simd.{map-map}
-use Rattle.constriction.specs.Acceptance.{AreAccepted, GaveBothGood, GaveBothBad, Reading, ToItsEnd, SoFar, WasRead, MayGive}
+use Rattle.constriction.specs.Acceptance.{AreAccepted, GaveBothGood, GaveBothBad}
+use Rattle.constriction.specs.GivenLemmas.{made-of-lists, refused-lists}
 use Rattle.constriction.specs.Laws.{AreRows}
-use Rattle.constriction.specs.Model.{row_of}
-use Rattle.constriction.specs.Rows.{Row, rows_of, symbols_of}
+use Rattle.constriction.specs.Model.{row_of, StandForRows, ClonesAreEqual}
+use Rattle.constriction.specs.Rows.{Row, RowsTile, rows_of, symbols_of}
+use Rattle.constriction.specs.StandLemmas.{tile-made, distinct-made, tiling-rebuilds}
 use Rattle.constriction.specs.declared.stream.model.error.ModelError.{ModelError}
 use Rattle.constriction.specs.declared.stream.model.error.ModelError.TheVariants.{InvalidTable, OutOfMemory}
 
@@ -21,23 +24,6 @@ memory-alone InvalidTable h = absurd (h refl)
 only-memory : {A : Type 0} (r : Result A ModelError) → (r ≡ Err InvalidTable → ⊥) → IfErr r (λ e. e ≡ OutOfMemory)
 only-memory (Ok x) h = tt
 only-memory (Err e) h = memory-alone e (λ is. h (ap Err is))
-
-same-map : {A : Type 0} (xs : List A) → map (λ y. y) xs ≡ xs
-same-map [] = refl
-same-map (x ∷ xs) = ap (λ ys. x ∷ ys) (same-map xs)
-
--- ---- an iterator that gives a list
-
-module _ {S A : Type 0} (steps : S → Option A → S → Type 0) (it : S) (list : List A) (gives : YieldsList steps (λ y. y) it list) where
-  all-given : (xs : List A) → Drains steps it xs → xs ≡ list
-  all-given xs d = sym (same-map xs) ∙ (YieldsList-end gives xs d.1.0 d.1.1 None d.0 refl d.1.2).0
-
-  -- whatever was read of it, it may give the list
-  may-give : (reading : Reading) (xs : List A) → WasRead steps it reading xs → MayGive reading xs list
-  may-give ToItsEnd xs d = sym (all-given xs d)
-  may-give SoFar xs y =
-      let front : xs ≡ take (length xs) list = sym (same-map xs) ∙ YieldsList-so_far gives xs y.0 y.1 in
-      (drop (length xs) list, sym (take-append-drop (length xs) list) ∙ ap (λ ys. ys ++ drop (length xs) list) (sym front))
 
 -- ---- a constructor that was given symbols and weights
 
@@ -51,34 +37,23 @@ module _ {S T Symbol Word : Type 0} (steps : S → Option Symbol → S → Type 
       × GaveBothGood steps it other_steps jt (λ ss ws. AreAccepted eq bits precision ss (map whole ws)
       × (rows m ≡ rows_of ss (map whole ws))))
       → IfOk r (λ m. rows m ≡ rows_of symbols (map whole weights))
-  made-of-them rows (Err e) h = tt
-  made-of-them rows (Ok m) (it, here, jt, there, given) =
-      made-good it here jt there (rows m) given
+  made-of-them {Model = Model} rows r h =
+      second (λ (m : Model). AreAccepted eq bits precision symbols (map whole weights))
+      (λ (m : Model). rows m ≡ rows_of symbols (map whole weights)) r (made-of-lists steps symbols came gives other_steps weights other_came other_gives
+      (λ (m : Model) ss ws. AreAccepted eq bits precision ss (map whole ws) × (rows m ≡ rows_of ss (map whole ws))) r h)
     where
-      made-good : (it : S) → came it → (jt : T) → other_came jt → (made : List (Row Symbol))
-          → GaveBothGood steps it other_steps jt (λ ss ws. AreAccepted eq bits precision ss (map whole ws)
-          × (made ≡ rows_of ss (map whole ws)))
-          → made ≡ rows_of symbols (map whole weights)
-      made-good it here jt there made (xs, ys, d, e, good) =
-          good.1 ∙ ap (λ ss. rows_of ss (map whole ys)) (all-given steps it symbols (gives it here) xs d)
-          ∙ ap (λ ws. rows_of symbols (map whole ws)) (all-given other_steps jt weights (other_gives jt there) ys e)
+      second : {A E : Type 0} (P Q : A → Type 0) (r : Result A E) → IfOk r (λ x. P x × Q x) → IfOk r Q
+      second P Q (Ok x) k = k.1
+      second P Q (Err e) k = tt
 
   -- where they are accepted, memory alone was wanting
   pub not-refused : {Model : Type 0} (r : Result Model ModelError) → AreAccepted eq bits precision symbols (map whole weights)
       → (r ≡ Err InvalidTable → (it : S) × came it × (jt : T) × other_came jt
       × GaveBothBad steps it other_steps jt (λ ss ws. AreAccepted eq bits precision ss (map whole ws)))
       → IfErr r (λ e. e ≡ OutOfMemory)
-  not-refused r accepted bad = only-memory r (λ invalid. refuted (bad invalid))
-    where
-      refuted : (it : S) × came it × (jt : T) × other_came jt
-          × GaveBothBad steps it other_steps jt (λ ss ws. AreAccepted eq bits precision ss (map whole ws)) → ⊥
-      refuted (it, here, jt, there, given) = refuted-at it here jt there given
-        where
-          refuted-at : (it : S) → came it → (jt : T) → other_came jt
-              → GaveBothBad steps it other_steps jt (λ ss ws. AreAccepted eq bits precision ss (map whole ws)) → ⊥
-          refuted-at it here jt there (xs, ys, read, other_read, was, other_was, never) =
-              never symbols weights (may-give steps it symbols (gives it here) read xs was)
-              (may-give other_steps jt weights (other_gives jt there) other_read ys other_was) accepted
+  not-refused r accepted bad = only-memory r (λ invalid.
+      refused-lists steps symbols came gives other_steps weights other_came other_gives
+      (λ ss ws. AreAccepted eq bits precision ss (map whole ws)) (bad invalid) accepted)
 
 -- ---- the symbols and the weights of a table
 
@@ -118,19 +93,16 @@ module _ {Symbol Word Weight Refusal : Type 0} (base : Weight → Word) where
   parted-all steps started walk items symbols weights e drained p =
       (p.rows, subst (λ s. Drains steps s (map Ok p.rows)) e (subst (λ xs. Drains steps started xs) p.came drained), p.symbols_are, p.weights_are)
 
-  -- where the items are rows, in order, these are the rows' own
-  pub parted-rows : (whole : Word → ℕ) (MayRefuse : Type 0) (read : List (Symbol × Word × Weight)) (symbols : List Symbol)
-      (weights : List Word) (rows : List (Row Symbol))
-      → AreRows whole base MayRefuse (let items : List (Result (Symbol × Word × Weight) Refusal) = map Ok read in items) rows
-      → symbols ≡ map (λ x. x.0) read → weights ≡ map (λ x. base x.2) read
-      → (symbols ≡ symbols_of rows) × (map whole weights ≡ map (λ r. r.weight) rows)
-  parted-rows whole MayRefuse read symbols weights rows are symbols_are weights_are =
-      let same : map (row_of whole base) read ≡ rows = are.unrefused read refl in (
-        symbols_are ∙ sym (map-map (λ (r : Row Symbol). r.symbol) (row_of whole base) read) ∙ ap symbols_of same,
-        ap (map whole) weights_are ∙ map-map whole (λ (x : Symbol × Word × Weight). base x.2) read
-            ∙ sym (map-map (λ (r : Row Symbol). r.weight) (row_of whole base) read)
-            ∙ ap (map (λ (r : Row Symbol). r.weight)) same,
-      )
+-- these are the symbols and the weights of the rows that the items are
+pub parted-rows : {Symbol Word Weight : Type 0} (base : Weight → Word) (whole : Word → ℕ) (read : List (Symbol × Word × Weight)) (symbols : List Symbol) (weights : List Word)
+    → symbols ≡ map (λ x. x.0) read → weights ≡ map (λ x. base x.2) read
+    → (symbols ≡ symbols_of (map (row_of whole base) read))
+    × (map whole weights ≡ map (λ r. r.weight) (map (row_of whole base) read))
+parted-rows {Symbol} {Word} {Weight} base whole read symbols weights symbols_are weights_are = (
+  symbols_are ∙ sym (map-map (λ (r : Row Symbol). r.symbol) (row_of whole base) read),
+  ap (map whole) weights_are ∙ map-map whole (λ (x : Symbol × Word × Weight). base x.2) read
+      ∙ sym (map-map (λ (r : Row Symbol). r.weight) (row_of whole base) read),
+)
 
 -- what is true of the symbols and weights of rows is true of lists that are these
 their-lists : {Symbol : Type 0} (eq : Symbol → Symbol → Bool) (bits precision : ℕ) (rows : List (Row Symbol))
@@ -142,19 +114,39 @@ their-lists : {Symbol : Type 0} (eq : Symbol → Symbol → Bool) (bits precisio
 their-lists eq bits precision rows symbols numbers same h = rw (same.0, same.1) h
 
 -- of the lists that were read of a table
-pub lists-of-table : {Symbol Word Weight Refusal Walk : Type 0} (eq : Symbol → Symbol → Bool) (bits precision : ℕ)
-    (whole : Word → ℕ) (base : Weight → Word) (MayRefuse : Type 0)
-    (steps : Walk → Option (Result (Symbol × Word × Weight) Refusal) → Walk → Type 0) (walk : Walk) (left rows : List (Row Symbol))
-    (symbols : List Symbol) (weights : List Word) → left ≡ rows
-    → ((items : List (Result (Symbol × Word × Weight) Refusal)) → Drains steps walk items → AreRows whole base MayRefuse items left)
-    → (read : List (Symbol × Word × Weight)) × Drains steps walk (map Ok read)
-    × (symbols ≡ map (λ x. x.0) read) × (weights ≡ map (λ x. base x.2) read)
-    → AreAccepted eq bits precision (symbols_of rows) (map (λ r. r.weight) rows)
-    × (rows_of (symbols_of rows) (map (λ r. r.weight) rows) ≡ rows)
-    → AreAccepted eq bits precision symbols (map whole weights) × (rows_of symbols (map whole weights) ≡ rows)
-lists-of-table {Symbol} {Word} {Weight} {Refusal} eq bits precision whole base MayRefuse steps walk left rows symbols weights e gives
-    (read, drained, ss, ws) h =
-    let items : List (Result (Symbol × Word × Weight) Refusal) = map Ok read in
-    their-lists eq bits precision rows symbols (map whole weights)
-    (parted-rows base whole MayRefuse read symbols weights rows
-    (subst (λ rs. AreRows whole base MayRefuse items rs) e (gives items drained)) ss ws) h
+module _ {Symbol Word Weight Refusal Walk : Type 0} (eq : Symbol → Symbol → Bool) (laws : IsEquivalence eq)
+    (Stands : Symbol → Symbol → Type 0) (equal : ClonesAreEqual eq Stands) (MayRefuse : Symbol → Type 0) (bits precision : ℕ)
+    (whole : Word → ℕ) (base : Weight → Word) (steps : Walk → Option (Result (Symbol × Word × Weight) Refusal) → Walk → Type 0) where
+  lists-of-rows : (rows : List (Row Symbol)) (read : List (Symbol × Word × Weight)) (symbols : List Symbol) (weights : List Word)
+      → RowsTile bits precision rows → IsDistinct eq (symbols_of rows)
+      → StandForRows Stands (map (row_of whole base) read) rows
+      → symbols ≡ map (λ x. x.0) read → weights ≡ map (λ x. base x.2) read
+      → AreAccepted eq bits precision symbols (map whole weights)
+      × StandForRows Stands (rows_of symbols (map whole weights)) rows
+  lists-of-rows rows read symbols weights tile distinct stand ss ws =
+      let made : List (Row Symbol) = map (row_of whole base) read in
+      let built = their-lists eq bits precision made symbols (map whole weights) (parted-rows base whole read symbols weights ss ws)
+      (tiling-rebuilds eq bits precision made (tile-made Stands bits precision made rows stand tile)
+      (distinct-made eq laws Stands equal made rows stand distinct)) in
+      (built.0, subst (λ (rs : List (Row Symbol)). StandForRows Stands rs rows) (sym built.1) stand)
+
+  pub lists-of-table : (walk : Walk) (left rows : List (Row Symbol)) (symbols : List Symbol) (weights : List Word) → left ≡ rows
+      → RowsTile bits precision rows → IsDistinct eq (symbols_of rows)
+      → ((items : List (Result (Symbol × Word × Weight) Refusal)) → Drains steps walk items
+      → AreRows Stands MayRefuse whole base items left)
+      → (read : List (Symbol × Word × Weight)) × Drains steps walk (map Ok read)
+      × (symbols ≡ map (λ x. x.0) read) × (weights ≡ map (λ x. base x.2) read)
+      → AreAccepted eq bits precision symbols (map whole weights)
+      × StandForRows Stands (rows_of symbols (map whole weights)) rows
+  lists-of-table walk left rows symbols weights e tile distinct gives (read, drained, ss, ws) =
+      lists-of-rows rows read symbols weights tile distinct
+      (subst (λ (rs : List (Row Symbol)). StandForRows Stands (map (row_of whole base) read) rs) e
+      ((gives (map Ok read) drained).unrefused read refl)) ss ws
+
+-- a form whose rows are these, where these stand for others
+pub rows-stand : {Symbol Form Error : Type 0} (Stands : Symbol → Symbol → Type 0) (rows : Form → List (Row Symbol))
+    (listed others : List (Row Symbol)) (r : Result Form Error) → IfOk r (λ m. rows m ≡ listed) → StandForRows Stands listed others
+    → IfOk r (λ m. StandForRows Stands (rows m) others)
+rows-stand {Symbol = Symbol} Stands rows listed others (Ok m) is stand =
+    subst (λ (rs : List (Row Symbol)). StandForRows Stands rs others) (sym is) stand
+rows-stand Stands rows listed others (Err e) is stand = tt

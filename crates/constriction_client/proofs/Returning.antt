@@ -1,48 +1,77 @@
--- The pair of an item's word is the item, one by one and over whole lists.
+-- The pair of an item's word is the item, one by one and over whole lists, but that its symbol may stand for an equal one.
 use Rattle.std.proofs.Common.{◌≡◌, ℕ, ◌^◌, ◌<◌, Bool, List, [], ◌∷◌, Option, Result, length, reverse, ap, sym, ◌∙◌, subst, arith}
 use Rattle.std.specs.Prelude.{All, IsTrue}
+use Rattle.std.specs.Cmp.{IsEquivalence}
 use Rattle.std.specs.List.{AllZip}
 use Rattle.std.proofs.lemmas.List.{reverse-append}
 use Rattle.std.proofs.lemmas.List.Elements.{All-nil, All-cons}
 use Rattle.std.proofs.lemmas.Slice.Zip.{all_zipped_more, AllZip-long}
-use Rattle.constriction.specs.Model.{LiesWithin}
+use Rattle.constriction.specs.Model.{LiesWithin, ClonesAreEqual}
 use Rattle.constriction.specs.Rows.{Row, RowsTile, entry_of}
 use Rattle.constriction_words.specs.declared.coder_error.CoderError.{CoderError}
 use Rattle.constriction_words.specs.declared.coder_error.CoderError.TheVariants.{Frontend}
 use Rattle.constriction_client.specs.declared.quantiles.QuantileFault.{QuantileFault}
-use Rattle.constriction_client.specs.Quantiles.{IsQuantileOf, AreQuantiles, IsPairOf, StopsAtItem}
-use Rattle.constriction_client.specs.ThereAndBack.{ReadsBack, ReadsBackReversed, HasFault}
+use Rattle.constriction_client.specs.Quantiles.{IsQuantileOf, AreQuantiles, IsPairOf, ArePairs, StopsAtItem}
+use Rattle.constriction_client.specs.ThereAndBack.{AreItems, StandForItems, ReadsBack, ReadsBackReversed, HasFault}
 use Rattle.constriction.specs.CodingLemmas.{entry-row, entry-below, one-row}
 
 -- one item
-same-item : {Symbol Word : Type 0} (eq : Symbol → Symbol → Bool) (entry : Symbol → Option (ℕ × ℕ)) (whole : Word → ℕ)
-    (bits precision : ℕ) (rows : List (Row Symbol))
+same-item : {Symbol Word : Type 0} (Stands : Symbol → Symbol → Type 0) (eq : Symbol → Symbol → Bool) (entry : Symbol → Option (ℕ × ℕ))
+    (whole : Word → ℕ) (bits precision : ℕ) (rows : List (Row Symbol))
     (item pair : Symbol × Word) (word : Word) → RowsTile bits precision rows → ((a b : Word)
     → whole a ≡ whole b → a ≡ b)
     → ((s : Symbol) → entry s ≡ entry_of eq rows s)
-    → IsQuantileOf entry whole item (whole word) → IsPairOf rows whole word pair
-    → IsTrue (eq pair.0 item.0) × (pair.1 ≡ item.1)
-same-item {Symbol = Symbol} eq entry whole bits precision rows item pair word tile one_word agree quantile is =
+    → IsQuantileOf entry whole item (whole word) → IsPairOf Stands rows whole word pair
+    → ((own : Symbol) × IsTrue (eq own item.0) × Stands own pair.0) × (pair.1 ≡ item.1)
+same-item {Symbol = Symbol} Stands eq entry whole bits precision rows item pair word tile one_word agree quantile is =
     let has = entry-row eq rows item.0 quantile.left quantile.weight (sym (agree item.0) ∙ quantile.known) in
     let row : is.row ≡ has.row = one-row bits precision rows (whole word) is.row has.row tile is.found (record {
       among = has.among;
       from = omega (arith, has.left_is, quantile.sum);
       to = omega (arith, has.left_is, has.weight_is, quantile.sum, quantile.below);
     }) in
-    let left : is.row.left ≡ quantile.left = ap (λ (r : Row Symbol). r.left) row ∙ has.left_is in
-    let symbol : pair.0 ≡ has.row.symbol = is.symbol ∙ ap (λ (r : Row Symbol). r.symbol) row in
-    (ap (λ s. eq s item.0) symbol ∙ has.same, one_word pair.1 item.1 (omega (arith, left, is.offset, quantile.sum)))
+    let left : is.row.left ≡ quantile.left = ap (λ (r : Row Symbol). r.left) row ∙ has.left_is in (
+      (has.row.symbol, has.same, subst (λ (r : Row Symbol). Stands r.symbol pair.0) row is.symbol),
+      one_word pair.1 item.1 (omega (arith, left, is.offset, quantile.sum)),
+    )
+
+-- all items, in order
+pub stand-back : {Symbol Word : Type 0} (Stands : Symbol → Symbol → Type 0) (eq : Symbol → Symbol → Bool) (entry : Symbol → Option (ℕ × ℕ))
+    (whole : Word → ℕ) (bits precision : ℕ) (rows : List (Row Symbol)) (items pairs : List (Symbol × Word)) (words : List Word)
+    → RowsTile bits precision rows → ((a b : Word) → whole a ≡ whole b → a ≡ b)
+    → ((s : Symbol) → entry s ≡ entry_of eq rows s)
+    → AreQuantiles entry whole items words → ArePairs Stands rows whole words pairs → StandForItems Stands eq items pairs
+stand-back Stands eq entry whole bits precision rows [] [] [] tile one_word agree h k = tt
+stand-back Stands eq entry whole bits precision rows [] (p ∷ ps) [] tile one_word agree h k = absurd k
+stand-back Stands eq entry whole bits precision rows [] ps (w ∷ ws) tile one_word agree h k = absurd h
+stand-back Stands eq entry whole bits precision rows (i ∷ is) ps [] tile one_word agree h k = absurd h
+stand-back Stands eq entry whole bits precision rows (i ∷ is) [] (w ∷ ws) tile one_word agree h k = absurd k
+stand-back Stands eq entry whole bits precision rows (i ∷ is) (p ∷ ps) (w ∷ ws) tile one_word agree h k = (
+  same-item Stands eq entry whole bits precision rows i p w tile one_word agree h.0 k.0,
+  stand-back Stands eq entry whole bits precision rows is ps ws tile one_word agree h.1 k.1,
+)
+
+-- pairs whose symbols stand for equal ones are the items, where a symbol that stands for one is equal to what that is
+are-these : {Symbol Word : Type 0} (Stands : Symbol → Symbol → Type 0) (eq : Symbol → Symbol → Bool)
+    → ((s t u : Symbol) → Stands s t → IsTrue (eq s u) → IsTrue (eq t u))
+    → (items pairs : List (Symbol × Word)) → StandForItems Stands eq items pairs → AreItems eq items pairs
+are-these Stands eq carry [] [] h = tt
+are-these Stands eq carry [] (p ∷ ps) h = absurd h
+are-these Stands eq carry (i ∷ is) [] h = absurd h
+are-these Stands eq carry (i ∷ is) (p ∷ ps) h = (
+  (carry h.0.0.0 p.0 i.0 h.0.0.2 h.0.0.1, h.0.1),
+  are-these Stands eq carry is ps h.1,
+)
+
+pub are-items : {Symbol Word : Type 0} (Stands : Symbol → Symbol → Type 0) (eq : Symbol → Symbol → Bool) → IsEquivalence eq
+    → (items pairs : List (Symbol × Word)) → StandForItems Stands eq items pairs → ClonesAreEqual eq Stands → AreItems eq items pairs
+are-items Stands eq laws items pairs h equal =
+    are-these Stands eq (λ s t u stands same. sym (laws.congr s t u (equal s t stands)) ∙ same) items pairs h
 
 pub reads-back : (Symbol Word : Type 0) → ReadsBack Symbol Word
-reads-back Symbol Word eq entry whole bits precision rows [] [] [] tile one_word agree h k = tt
-reads-back Symbol Word eq entry whole bits precision rows [] (p ∷ ps) [] tile one_word agree h k = absurd k
-reads-back Symbol Word eq entry whole bits precision rows [] ps (w ∷ ws) tile one_word agree h k = absurd h
-reads-back Symbol Word eq entry whole bits precision rows (i ∷ is) ps [] tile one_word agree h k = absurd h
-reads-back Symbol Word eq entry whole bits precision rows (i ∷ is) [] (w ∷ ws) tile one_word agree h k = absurd k
-reads-back Symbol Word eq entry whole bits precision rows (i ∷ is) (p ∷ ps) (w ∷ ws) tile one_word agree h k = (
-  same-item eq entry whole bits precision rows i p w tile one_word agree h.0 k.0,
-  reads-back Symbol Word eq entry whole bits precision rows is ps ws tile one_word agree h.1 k.1,
-)
+reads-back Symbol Word eq entry whole bits precision rows items pairs words tile one_word agree h k =
+    are-these (λ s t. t ≡ s) eq (λ s t u is same. ap (λ x. eq x u) is ∙ same) items pairs
+    (stand-back (λ s t. t ≡ s) eq entry whole bits precision rows items pairs words tile one_word agree h k)
 
 -- what holds of two lists one by one holds of the reversed ones
 pub AllZip-reverse : {X Y : Type 0} (R : X → Y → Type 0) (xs : List X) (ys : List Y) → AllZip R xs ys
@@ -53,6 +82,17 @@ AllZip-reverse R (x ∷ xs) [] h = absurd h
 AllZip-reverse R (x ∷ xs) (y ∷ ys) h =
     rw (reverse-append (x ∷ []) xs, reverse-append (y ∷ []) ys)
     (all_zipped_more R (reverse xs) (reverse ys) x y (AllZip-reverse R xs ys h.1) h.0)
+
+pub stand-back-reversed : {Symbol Word : Type 0} (Stands : Symbol → Symbol → Type 0) (eq : Symbol → Symbol → Bool)
+    (entry : Symbol → Option (ℕ × ℕ)) (whole : Word → ℕ) (bits precision : ℕ) (rows : List (Row Symbol))
+    (items pairs : List (Symbol × Word)) (words : List Word)
+    → RowsTile bits precision rows → ((a b : Word) → whole a ≡ whole b → a ≡ b)
+    → ((s : Symbol) → entry s ≡ entry_of eq rows s)
+    → AreQuantiles entry whole items words → ArePairs Stands rows whole (reverse words) pairs
+    → StandForItems Stands eq (reverse items) pairs
+stand-back-reversed Stands eq entry whole bits precision rows items pairs words tile one_word agree h k =
+    stand-back Stands eq entry whole bits precision rows (reverse items) pairs (reverse words) tile one_word agree
+    (AllZip-reverse (λ item word. IsQuantileOf entry whole item (whole word)) items words h) k
 
 pub reads-back-reversed : (Symbol Word : Type 0) → ReadsBackReversed Symbol Word
 reads-back-reversed Symbol Word eq entry whole bits precision rows items pairs words tile one_word agree h k =

@@ -17,12 +17,12 @@ module _ {Word Source Error : Type 0} (gives : Source → Result (Option Word) E
   reads-more s (x ∷ xs) j w t p h = (p.0, p.1, reads-more p.0 xs j w t p.2 h)
 
 -- the words so far were read, and each gave a pair
-pub record HasRead {Symbol Word Source Error : Type 0} (precision : ℕ) (rows : List (Row Symbol)) (whole : Word → ℕ)
+pub record HasRead {Symbol Word Source Error : Type 0} (Stands : Symbol → Symbol → Type 0) (precision : ℕ) (rows : List (Row Symbol)) (whole : Word → ℕ)
     (gives : Source → Result (Option Word) Error → Source → Type 0) (tells : Source → List Word → Type 0)
     (s : Source) (old : List (Symbol × Word)) (n : ℕ) (t : Source) (new : List (Symbol × Word)) : Type 0 where
   pub words : List Word
   pub pairs : List (Symbol × Word)
-  pub of_words : ArePairs rows whole words pairs
+  pub of_words : ArePairs Stands rows whole words pairs
   pub in_range : All (λ word. whole word < 2 ^ precision) words
   pub added : new ≡ old ++ pairs
   pub many : length pairs ≡ n
@@ -30,12 +30,12 @@ pub record HasRead {Symbol Word Source Error : Type 0} (precision : ℕ) (rows :
   pub told : (upcoming : List Word) → tells s upcoming
       → (rest : List Word) × (upcoming ≡ words ++ rest) × tells t rest
 
-module _ {Symbol Word Source Error : Type 0} (precision : ℕ) (rows : List (Row Symbol)) (whole : Word → ℕ)
+module _ {Symbol Word Source Error : Type 0} (Stands : Symbol → Symbol → Type 0) (precision : ℕ) (rows : List (Row Symbol)) (whole : Word → ℕ)
     (gives : Source → Result (Option Word) Error → Source → Type 0) (tells : Source → List Word → Type 0)
     (law : (s : Source) (r : Result (Option Word) Error) (t : Source) → gives s r t
     → (ws : List Word) → tells s ws → ReadsTold tells ws r t) where
   pub read-none : (s : Source) (old : List (Symbol × Word))
-      → HasRead precision rows whole gives tells s old 0 s old
+      → HasRead Stands precision rows whole gives tells s old 0 s old
   read-none s old = record {
     words = [];
     pairs = [];
@@ -61,14 +61,14 @@ module _ {Symbol Word Source Error : Type 0} (precision : ℕ) (rows : List (Row
 
   pub read-more : (s : Source) (old : List (Symbol × Word)) (n : ℕ) (j : Source) (mid : List (Symbol × Word)) (word : Word)
       (pair : Symbol × Word) (t : Source) (new : List (Symbol × Word))
-      → HasRead precision rows whole gives tells s old n j mid
-      → gives j (Ok (Some word)) t → whole word < 2 ^ precision → IsPairOf rows whole word pair
+      → HasRead Stands precision rows whole gives tells s old n j mid
+      → gives j (Ok (Some word)) t → whole word < 2 ^ precision → IsPairOf Stands rows whole word pair
       → new ≡ mid ++ pair ∷ []
-      → HasRead precision rows whole gives tells s old (n + 1) t new
+      → HasRead Stands precision rows whole gives tells s old (n + 1) t new
   read-more s old n j mid word pair t new so_far took small is e = record {
     words = so_far.words ++ word ∷ [];
     pairs = so_far.pairs ++ pair ∷ [];
-    of_words = all_zipped_more (IsPairOf rows whole) so_far.words so_far.pairs word pair so_far.of_words is;
+    of_words = all_zipped_more (IsPairOf Stands rows whole) so_far.words so_far.pairs word pair so_far.of_words is;
     in_range = All-push (λ w. whole w < 2 ^ precision) so_far.words word so_far.in_range small;
     added = e ∙ ap (λ ps. ps ++ pair ∷ []) so_far.added ∙ append_assoc old so_far.pairs (pair ∷ []);
     many = omega (arith, length-append so_far.pairs (pair ∷ []), so_far.many);
@@ -80,14 +80,14 @@ module _ {Symbol Word Source Error : Type 0} (precision : ℕ) (rows : List (Row
 
   -- as many pairs were added as words were read
   pub read-counted : (s : Source) (old : List (Symbol × Word)) (n : ℕ) (t : Source) (new : List (Symbol × Word))
-      → HasRead precision rows whole gives tells s old n t new → length new ≡ length old + n
+      → HasRead Stands precision rows whole gives tells s old n t new → length new ≡ length old + n
   read-counted s old n t new so_far =
       omega (arith, ap length so_far.added, length-append old so_far.pairs, so_far.many)
 
   -- all that were asked for
   pub read-all : (s : Source) (old : List (Symbol × Word)) (count n : ℕ) (t : Source) (new : List (Symbol × Word))
-      → HasRead precision rows whole gives tells s old n t new → n ≡ count
-      → ReadsPairs precision rows whole gives tells count s old (Ok count) t new
+      → HasRead Stands precision rows whole gives tells s old n t new → n ≡ count
+      → ReadsPairs Stands precision rows whole gives tells count s old (Ok count) t new
   read-all s old count n t new so_far e = record {
     words = so_far.words;
     pairs = so_far.pairs;
@@ -103,8 +103,8 @@ module _ {Symbol Word Source Error : Type 0} (precision : ℕ) (rows : List (Row
 
   -- the source ended
   pub read-to-end : (s : Source) (old : List (Symbol × Word)) (count n : ℕ) (j t : Source) (new : List (Symbol × Word))
-      → HasRead precision rows whole gives tells s old n j new → n < count → gives j (Ok None) t
-      → ReadsPairs precision rows whole gives tells count s old (Ok n) t new
+      → HasRead Stands precision rows whole gives tells s old n j new → n < count → gives j (Ok None) t
+      → ReadsPairs Stands precision rows whole gives tells count s old (Ok n) t new
   read-to-end s old count n j t new so_far less end = record {
     words = so_far.words;
     pairs = so_far.pairs;
@@ -124,10 +124,10 @@ module _ {Symbol Word Source Error : Type 0} (precision : ℕ) (rows : List (Row
   -- a word that gives no pair
   pub read-fault : (s : Source) (old : List (Symbol
       × Word)) (count n : ℕ) (j : Source) (word : Word) (t : Source) (new : List (Symbol × Word))
-      (fault : ReadFault) → HasRead precision rows whole gives tells s old n j new → n < count
+      (fault : ReadFault) → HasRead Stands precision rows whole gives tells s old n j new → n < count
       → gives j (Ok (Some word)) t
       → IsReadFaultOf precision (whole word) fault
-      → ReadsPairs precision rows whole gives tells count s old (Err (Frontend fault)) t new
+      → ReadsPairs Stands precision rows whole gives tells count s old (Err (Frontend fault)) t new
   read-fault s old count n j word t new fault so_far less took is = record {
     words = so_far.words;
     pairs = so_far.pairs;
@@ -143,8 +143,8 @@ module _ {Symbol Word Source Error : Type 0} (precision : ℕ) (rows : List (Row
 
   -- a read that failed
   pub read-failed : (s : Source) (old : List (Symbol × Word)) (count n : ℕ) (j t : Source) (new : List (Symbol × Word)) (error : Error)
-      → HasRead precision rows whole gives tells s old n j new → n < count → gives j (Err error) t
-      → ReadsPairs precision rows whole gives tells count s old (Err (Backend error)) t new
+      → HasRead Stands precision rows whole gives tells s old n j new → n < count → gives j (Err error) t
+      → ReadsPairs Stands precision rows whole gives tells count s old (Err (Backend error)) t new
   read-failed s old count n j t new error so_far less failed = record {
     words = so_far.words;
     pairs = so_far.pairs;
@@ -163,8 +163,8 @@ module _ {Symbol Word Source Error : Type 0} (precision : ℕ) (rows : List (Row
 
   -- all that were asked for, and no more: what a call then answers
   pub read-asked : (s : Source) (old : List (Symbol × Word)) (count n : ℕ) (t : Source) (new : List (Symbol × Word))
-      → HasRead precision rows whole gives tells s old n t new → n ≤ count → count ≤ n
-      → ReadsPairs precision rows whole gives tells count s old (Ok count) t new
+      → HasRead Stands precision rows whole gives tells s old n t new → n ≤ count → count ≤ n
+      → ReadsPairs Stands precision rows whole gives tells count s old (Ok count) t new
       × (length new ≡ length old + count) × (count ≤ count)
   read-asked s old count n t new so_far most least =
       let same : n ≡ count = omega arith in

@@ -1,6 +1,8 @@
--- What kind of form a chain of conversions leaves.
-use Rattle.std.specs.Prelude.{Bool, true, false, List, reverse, find}
+-- What a chain of conversions leaves: the kind of the form, and its rows.
+use Rattle.std.specs.Prelude.{◌≡◌, Bool, true, false, List, [], ◌∷◌, reverse, find}
 use Rattle.std.specs.Option.{option_map_or}
+use Rattle.constriction.specs.Model.{StandForRows}
+use Rattle.constriction.specs.Rows.{Row}
 use Rattle.constriction_client.specs.declared.chain.ChainStep.{ChainStep}
 use Rattle.constriction_client.specs.declared.chain.ChainStep.TheVariants.{ToSearch, ToLookup, IntoSearch, Rebuild}
 
@@ -21,3 +23,18 @@ is_to_lookup Rebuild = false
 -- whether a form is a lookup form after the steps: the last one that isn't Rebuild says so, and where there is none, the form before
 abbrev pub is_lookup_after : List ChainStep → Bool → Bool
 is_lookup_after steps before = option_map_or is_to_lookup (find has_kind (reverse steps)) before
+
+-- The rows that a step leaves of others: those themselves where the form's entries stay, and with clones of the symbols where the form is
+-- made anew.
+abbrev pub StepLeaves : {Symbol : Type 0} → (Symbol → Symbol → Type 0) → ChainStep → List (Row Symbol) → List (Row Symbol) → Type 0
+StepLeaves IsClone ToSearch rows made = StandForRows IsClone made rows
+StepLeaves IsClone ToLookup rows made = StandForRows IsClone made rows
+StepLeaves IsClone IntoSearch rows made = made ≡ rows
+StepLeaves IsClone Rebuild rows made = StandForRows IsClone made rows
+
+-- the rows that steps leave, one after another
+abbrev pub ChainLeaves : {Symbol : Type 0} → (Symbol → Symbol → Type 0) → List ChainStep → List (Row Symbol) → List (Row Symbol)
+    → Type 0
+ChainLeaves IsClone [] rows made = made ≡ rows
+ChainLeaves {Symbol} IsClone (step ∷ steps) rows made =
+    (between : List (Row Symbol)) × StepLeaves IsClone step rows between × ChainLeaves IsClone steps between made

@@ -1,3 +1,4 @@
+pub mod ChainLemmas
 pub mod Chains
 pub mod Collecting
 pub mod Coming

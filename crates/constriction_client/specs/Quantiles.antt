@@ -30,17 +30,19 @@ abbrev pub AreQuantiles : {Symbol Word : Type 0} → (Symbol → Option (ℕ × 
     → List Word → Type 0
 AreQuantiles entry whole items words = AllZip (λ item word. IsQuantileOf entry whole item (whole word)) items words
 
--- the pair of a word: the symbol of the word's row, and how far the word lies after the left cumulative of that row
-pub record IsPairOf {Symbol Word : Type 0} (rows : List (Row Symbol)) (whole : Word → ℕ) (word : Word)
+-- The pair of a word: a symbol that stands for that of the word's row, and how far the word lies after the left cumulative of that row.
+-- `Stands` says what the symbols of a decoder's answers are of those of its rows.
+pub record IsPairOf {Symbol Word : Type 0} (Stands : Symbol → Symbol → Type 0) (rows : List (Row Symbol)) (whole : Word → ℕ) (word : Word)
     (pair : Symbol × Word) : Type 0 where
   pub row : Row Symbol
   pub found : IsRowOf rows (whole word) row
-  pub symbol : pair.0 ≡ row.symbol
+  pub symbol : Stands row.symbol pair.0
   pub offset : row.left + whole pair.1 ≡ whole word
 
 -- the pairs are those of the words, one by one
-abbrev pub ArePairs : {Symbol Word : Type 0} → List (Row Symbol) → (Word → ℕ) → List Word → List (Symbol × Word) → Type 0
-ArePairs rows whole words pairs = AllZip (IsPairOf rows whole) words pairs
+abbrev pub ArePairs : {Symbol Word : Type 0} → (Symbol → Symbol → Type 0) → List (Row Symbol) → (Word → ℕ) → List Word
+    → List (Symbol × Word) → Type 0
+ArePairs Stands rows whole words pairs = AllZip (IsPairOf Stands rows whole) words pairs
 
 -- ---- what is written. `gives` and `tells` are those of a sink.
 
@@ -109,13 +111,13 @@ LeavesWords count (Err (Backend e)) rest = rest ≢ []
 
 -- Words were read in order, and their pairs were put after the old ones. Where s tells the words to come, t tells
 -- those that are left.
-pub record ReadsPairs {Symbol Word Source Error : Type 0} (precision : ℕ) (rows : List (Row Symbol)) (whole : Word → ℕ)
+pub record ReadsPairs {Symbol Word Source Error : Type 0} (Stands : Symbol → Symbol → Type 0) (precision : ℕ) (rows : List (Row Symbol)) (whole : Word → ℕ)
     (gives : Source → Result (Option Word) Error → Source → Type 0) (tells : Source → List Word → Type 0) (count : ℕ)
     (s : Source) (old : List (Symbol × Word)) (result : Result ℕ (CoderError ReadFault Error))
     (t : Source) (new : List (Symbol × Word)) : Type 0 where
   pub words : List Word
   pub pairs : List (Symbol × Word)
-  pub of_words : ArePairs rows whole words pairs
+  pub of_words : ArePairs Stands rows whole words pairs
   pub in_range : All (λ word. whole word < 2 ^ precision) words
   pub added : new ≡ old ++ pairs
   pub reached : Source

@@ -1,5 +1,6 @@
 -- The replies to queries, by a scan of rows. In them numbers stand for words.
-use Rattle.std.specs.Prelude.{ℕ, ◌^◌, Bool, nat_lt, List, map, find, Option, if◌then◌else◌}
+use Rattle.std.specs.Prelude.{◌≡◌, ℕ, ◌^◌, Bool, nat_lt, List, map, find, Option, if◌then◌else◌}
+use Rattle.std.specs.List.{AllZip}
 use Rattle.std.specs.Option.{option_map, option_map_or}
 use Rattle.constriction.specs.Rows.{Row, entry_of}
 use Rattle.constriction.specs.Model.{entry_in}
@@ -41,3 +42,15 @@ replies_of_two precision whole rows entry queries = map (reply_to_query precisio
 abbrev pub replies_by_scan : {Symbol Word : Type 0} → ℕ → (Word → ℕ) → (Symbol → Symbol → Bool) → List (Row Symbol)
     → List (Query Symbol Word) → List (Reply Symbol ℕ ℕ)
 replies_by_scan precision whole eq rows queries = replies_of_two precision whole rows (entry_of eq rows) queries
+
+-- A reply stands for that of a scan: it is the same, but that a row may have a symbol that stands for the row's. `Stands` says what the
+-- symbols of a decoder's answers are of those of its rows.
+abbrev pub StandsForReply : {Symbol : Type 0} → (Symbol → Symbol → Type 0) → Reply Symbol ℕ ℕ → Reply Symbol ℕ ℕ → Type 0
+StandsForReply {Symbol} Stands (reply.Row symbol left weight) scanned =
+    (own : Symbol) × Stands own symbol × (scanned ≡ reply.Row own left weight)
+StandsForReply Stands reply.OutOfRange scanned = scanned ≡ reply.OutOfRange
+StandsForReply Stands (reply.Entry entry) scanned = scanned ≡ reply.Entry entry
+
+-- replies stand for those of a scan, one by one
+abbrev pub StandForReplies : {Symbol : Type 0} → (Symbol → Symbol → Type 0) → List (Reply Symbol ℕ ℕ) → List (Reply Symbol ℕ ℕ) → Type 0
+StandForReplies Stands replies scanned = AllZip (StandsForReply Stands) replies scanned

@@ -10,7 +10,13 @@ abbrev pub AreItems : {Symbol Word : Type 0} → (Symbol → Symbol → Bool) �
     → Type 0
 AreItems eq items pairs = AllZip (λ item pair. IsTrue (eq pair.0 item.0) × (pair.1 ≡ item.1)) items pairs
 
--- In rows that tile, the pairs of the words of items are the items. The items' entries may be those of another model, as long
+-- The pairs stand for the items, one by one: each symbol stands for one that is equal to the item's, and the offsets are the same.
+abbrev pub StandForItems : {Symbol Word : Type 0} → (Symbol → Symbol → Type 0) → (Symbol → Symbol → Bool) → List (Symbol × Word)
+    → List (Symbol × Word) → Type 0
+StandForItems {Symbol} Stands eq items pairs =
+    AllZip (λ item pair. ((own : Symbol) × IsTrue (eq own item.0) × Stands own pair.0) × (pair.1 ≡ item.1)) items pairs
+
+-- In rows that tile, the pairs of the words of items are the items, where the symbols of the pairs are those of rows. The items' entries may be those of another model, as long
 -- as they are the entries of these rows. Two words of one number are one word, and that is all that is asked of words;
 -- nothing is asked of the equality of symbols, and rows may repeat a symbol.
 abbrev pub ReadsBack : Type 0 → Type 0 → Type 0
@@ -19,7 +25,7 @@ ReadsBack Symbol Word =
     (rows : List (Row Symbol)) (items pairs : List (Symbol × Word)) (words : List Word)
     → RowsTile bits precision rows → ((a b : Word) → whole a ≡ whole b → a ≡ b)
     → ((s : Symbol) → entry s ≡ entry_of eq rows s)
-    → AreQuantiles entry whole items words → ArePairs rows whole words pairs → AreItems eq items pairs
+    → AreQuantiles entry whole items words → ArePairs (λ s t. t ≡ s) rows whole words pairs → AreItems eq items pairs
 
 -- From the last word to the first one they are the items from the last to the first.
 abbrev pub ReadsBackReversed : Type 0 → Type 0 → Type 0
@@ -28,7 +34,7 @@ ReadsBackReversed Symbol Word =
     (rows : List (Row Symbol)) (items pairs : List (Symbol × Word)) (words : List Word)
     → RowsTile bits precision rows → ((a b : Word) → whole a ≡ whole b → a ≡ b)
     → ((s : Symbol) → entry s ≡ entry_of eq rows s)
-    → AreQuantiles entry whole items words → ArePairs rows whole (reverse words) pairs
+    → AreQuantiles entry whole items words → ArePairs (λ s t. t ≡ s) rows whole (reverse words) pairs
     → AreItems eq (reverse items) pairs
 
 -- an item has no quantile for this reason, and those before it have one

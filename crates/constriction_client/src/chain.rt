@@ -5,14 +5,14 @@ ghost use Rattle.std.specs.Iterator.{Drains, IsFinite};
 ghost use Rattle.std.specs.List.{IsDistinct};
 ghost use Rattle.constriction.specs.Acceptance.{AreAccepted};
 ghost use Rattle.constriction.specs.Laws.{SymbolsDiffer};
+ghost use Rattle.constriction.specs.Model.{StandForRows, ClonesAreSame, ClonesAreEqual};
 ghost use Rattle.constriction.specs.Rows.{Row, rows_of, symbols_of};
-ghost use Rattle.constriction.specs.Tables.{ClonesAreSame};
-ghost use Rattle.constriction_client.specs.Chains.{is_lookup_after};
+ghost use Rattle.constriction_client.specs.Chains.{is_lookup_after, StepLeaves, ChainLeaves};
 ghost use Rattle.constriction_client.specs.declared.decoder_form.SearchOrLookup.TheVariants as kind;
 
 use crate::decoder_form::{DecoderForm, Searching, Tabled};
 use crate::laws::form_symbols_differ;
-use constriction::laws::{symbols_and_weights_rebuild, table_gives_all_rows};
+use constriction::laws::table_gives_all_rows;
 use constriction::stream::model::{
     EntropyModel, FromIterableEntropyModel, IterableEntropyModel, ModelError, Weight,
 };
@@ -57,8 +57,8 @@ where
     Ok((symbols, words))
 }
 
-/// The symbols and the weights of a model's rows, in order. They are accepted by the constructors from symbols
-/// and weights, and give the model's rows again.
+/// The symbols that a walk through a model gives and the weights of its rows, in order. They are accepted by the
+/// constructors from symbols and weights, and give rows that stand for the model's.
 fn symbols_and_weights<M, const PRECISION: usize>(
     alloc: Global,
     model: M,
@@ -66,14 +66,14 @@ fn symbols_and_weights<M, const PRECISION: usize>(
 where
     M: IterableEntropyModel<PRECISION>,
     M::Symbol: Eq + Drop,
-    requires clones { M.clones_are_same }
+    requires clones { ClonesAreEqual M.Symbol.eq M.stands_for }
     requires distinct { IsDistinct M.Symbol.eq (symbols_of (M.rows model)) }
     ensures accepted { IfOk result (λ lists. AreAccepted M.Symbol.eq M.Probability.BITS PRECISION lists.0.items
         (map M.Probability.whole lists.1.items)) }
-    ensures rows { IfOk result (λ lists. rows_of lists.0.items (map M.Probability.whole lists.1.items) ≡ M.rows model) }
+    ensures rows { IfOk result (λ lists. StandForRows M.stands_for
+        (rows_of lists.0.items (map M.Probability.whole lists.1.items)) (M.rows model)) }
 {
     table_gives_all_rows::<M, PRECISION>();
-    symbols_and_weights_rebuild::<M, PRECISION>();
     let (symbols, weights) = symbols_and_words(alloc, model.symbol_table())?;
     Ok((symbols, weights))
 }
@@ -123,11 +123,14 @@ fn tabled_of<Symbol: Eq + Drop, Probability: IndexWord, const PRECISION: usize>(
     }
 }
 
-/// What a chain takes its form through. No conversion changes the rows, and the only refusal is
-/// `OutOfMemory`.
+/// What a chain takes its form through. A conversion keeps the rows, or makes them anew with clones of their
+/// symbols, and the only refusal is `OutOfMemory`.
 trait Converts<Symbol>: Sized {
     // The rows of a form.
     ghost told: { Self → List (Row Symbol) };
+
+    // What is known of a clone of a symbol.
+    ghost clone_of: { Symbol → Symbol → Type 0 };
 
     // Whether a form looks up which rows to search.
     ghost looks_up: { Self → Bool };
@@ -138,14 +141,14 @@ trait Converts<Symbol>: Sized {
     /// The searching form of the same rows.
     fn to_search(&self, alloc: Global) -> Result<Self, ModelError>
         requires { may_convert }
-        ensures rows { IfOk result (λ made. told made ≡ told self.now) }
+        ensures rows { IfOk result (λ made. StandForRows clone_of (told made) (told self.now)) }
         ensures kind { IfOk result (λ made. looks_up made ≡ false) }
         ensures refused { IfErr result (λ e. e ≡ ModelError.OutOfMemory) };
 
     /// The form with a table, of the same rows.
     fn to_lookup(&self, alloc: Global) -> Result<Self, ModelError>
         requires { may_convert }
-        ensures rows { IfOk result (λ made. told made ≡ told self.now) }
+        ensures rows { IfOk result (λ made. StandForRows clone_of (told made) (told self.now)) }
         ensures kind { IfOk result (λ made. looks_up made ≡ true) }
         ensures refused { IfErr result (λ e. e ≡ ModelError.OutOfMemory) };
 
@@ -157,7 +160,7 @@ trait Converts<Symbol>: Sized {
     /// A form of the same kind, made anew of the symbols and the weights of the rows.
     fn rebuild(&self, alloc: Global) -> Result<Self, ModelError>
         requires { may_convert }
-        ensures rows { IfOk result (λ made. told made ≡ told self.now) }
+        ensures rows { IfOk result (λ made. StandForRows clone_of (told made) (told self.now)) }
         ensures kind { IfOk result (λ made. looks_up made ≡ looks_up self.now) }
         ensures refused { IfErr result (λ e. e ≡ ModelError.OutOfMemory) };
 }
@@ -166,10 +169,12 @@ impl<Symbol: Eq + Clone + Drop, Probability: IndexWord, const PRECISION: usize> 
     for DecoderForm<Symbol, Probability, PRECISION> {
     ghost told = { ⟦<DecoderForm<Symbol, Probability, PRECISION> as EntropyModel<PRECISION>>⟧.rows };
 
+    ghost clone_of = { Symbol.is_clone };
+
     ghost looks_up = { λ f. elim f [ kind.Search _ ↦ false | kind.Lookup _ ↦ true ] };
 
     ghost may_convert = { (0 < PRECISION) × (PRECISION ≤ Probability.BITS) × (PRECISION ≤ 63)
-        × ClonesAreSame Symbol.is_clone
+        × ClonesAreEqual Symbol.eq Symbol.is_clone
         × SymbolsDiffer Symbol.eq ⟦<DecoderForm<Symbol, Probability, PRECISION> as EntropyModel<PRECISION>>⟧.rows };
 
     fn to_search(&self, alloc: Global) -> Result<Self, ModelError> {
@@ -211,7 +216,7 @@ fn convert<Symbol, Form: Converts<Symbol> + Drop>(
     step: &ChainStep,
 ) -> Result<Form, ModelError>
     requires { Form.may_convert }
-    ensures rows { IfOk result (λ made. Form.told made ≡ Form.told form) }
+    ensures rows { IfOk result (λ made. StepLeaves Form.clone_of step.now (Form.told form) (Form.told made)) }
     ensures kind { IfOk result (λ made. Form.looks_up made
         ≡ is_lookup_after (step.now ∷ []) (Form.looks_up form)) }
     ensures refused { IfErr result (λ e. e ≡ ModelError.OutOfMemory) }
@@ -231,7 +236,7 @@ fn convert_by<Symbol, Form: Converts<Symbol> + Drop>(
     steps: &[ChainStep],
 ) -> Result<Form, ModelError>
     requires { Form.may_convert }
-    ensures rows { IfOk result (λ made. Form.told made ≡ Form.told form) }
+    ensures rows { IfOk result (λ made. ChainLeaves Form.clone_of steps.now (Form.told form) (Form.told made)) }
     ensures kind { IfOk result (λ made. Form.looks_up made
         ≡ is_lookup_after steps.now (Form.looks_up form)) }
     ensures refused { IfErr result (λ e. e ≡ ModelError.OutOfMemory) }
@@ -244,8 +249,9 @@ fn convert_by<Symbol, Form: Converts<Symbol> + Drop>(
 }
 
 /// Conversions of a decoder's model, one after another. Whatever they are, the model tells the same rows
-/// after them, and so answers alike. The last step that is not [`ChainStep::Rebuild`] says which form it
-/// has; where there is none, it has the form that it had.
+/// after them, and so answers alike: where a step makes the model anew, with clones of the symbols, which
+/// have to be equal to these, so that no two are equal. The last step that is not [`ChainStep::Rebuild`] says
+/// which form it has; where there is none, it has the form that it had.
 ///
 /// The only refusal is `OutOfMemory`, where memory for a model, for the lists of a rebuilding or for a clone
 /// of a symbol is refused. The form is then given up.
@@ -260,8 +266,12 @@ pub fn convert_chain<Symbol: Eq + Clone + Drop, Probability: IndexWord, const PR
     requires positive { 0 < PRECISION }
     requires fits { PRECISION ≤ Probability.BITS }
     requires narrow { PRECISION ≤ 63 }
-    requires clones { ClonesAreSame Symbol.is_clone }
-    ensures rows { IfOk result (λ made. ⟦<DecoderForm<Symbol, Probability, PRECISION> as EntropyModel<PRECISION>>⟧.rows made
+    requires clones { ClonesAreEqual Symbol.eq Symbol.is_clone }
+    ensures rows { IfOk result (λ made. ChainLeaves Symbol.is_clone steps.now
+        (⟦<DecoderForm<Symbol, Probability, PRECISION> as EntropyModel<PRECISION>>⟧.rows form)
+        (⟦<DecoderForm<Symbol, Probability, PRECISION> as EntropyModel<PRECISION>>⟧.rows made)) }
+    ensures exact { IfOk result (λ made. ClonesAreSame Symbol.is_clone
+        → ⟦<DecoderForm<Symbol, Probability, PRECISION> as EntropyModel<PRECISION>>⟧.rows made
         ≡ ⟦<DecoderForm<Symbol, Probability, PRECISION> as EntropyModel<PRECISION>>⟧.rows form) }
     ensures kind { IfOk result (λ made. elim made [ kind.Search _ ↦ false | kind.Lookup _ ↦ true ]
         ≡ is_lookup_after steps.now (elim form [ kind.Search _ ↦ false | kind.Lookup _ ↦ true ])) }

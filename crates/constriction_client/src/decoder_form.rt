@@ -59,12 +59,11 @@ impl<Symbol: Eq + Clone, Probability: IndexWord, const PRECISION: usize> Decoder
     for DecoderForm<Symbol, Probability, PRECISION> {
     ghost use Rattle.constriction.specs.Rows.{RowsTile};
     ghost use Rattle.constriction.specs.SymbolRowLemmas.{paired-tiles};
-    ghost use Rattle.constriction.specs.Tables.{ClonesAreSame, MayRefuse};
     ghost use Rattle.constriction_client.specs.declared.decoder_form.SearchOrLookup.TheVariants as form;
 
-    ghost clones_are_same = { ClonesAreSame Symbol.is_clone };
+    ghost stands_for = { Symbol.is_clone };
 
-    ghost may_refuse = { MayRefuse Symbol.is_infallible };
+    ghost may_refuse = { λ s. ¬ (Symbol.is_infallible s) };
 
     fn quantile_function(
         &self,
@@ -90,15 +89,15 @@ impl<
     const PRECISION: usize,
 > IterableEntropyModel<PRECISION> for &'m DecoderForm<Symbol, Probability, PRECISION> {
     ghost use Rattle.constriction.specs.Rows.{RowsTile};
-    ghost use Rattle.constriction.specs.SymbolRowLemmas.{paired-tiles, yields-row};
-    ghost use Rattle.constriction.specs.Tables.{rows_paired, rows_between, ClonesAreSame, MayRefuse};
+    ghost use Rattle.constriction.specs.SymbolRowLemmas.{paired-tiles};
+    ghost use Rattle.constriction.specs.Tables.{rows_paired, rows_between};
     ghost use Rattle.constriction_client.specs.declared.decoder_form.SearchOrLookup.TheVariants as form;
 
     type SymbolTable = NonContiguousSymbolTable<'m, Symbol, Probability, PRECISION>;
 
-    ghost clones_are_same = { ClonesAreSame Symbol.is_clone };
+    ghost stands_for = { Symbol.is_clone };
 
-    ghost may_refuse = { MayRefuse Symbol.is_infallible };
+    ghost may_refuse = { λ s. ¬ (Symbol.is_infallible s) };
 
     ghost rows_left = { λ t. rows_between t.from t.to (rows_paired Probability.whole PRECISION t.cdf.now) };
 
@@ -109,8 +108,7 @@ impl<
         }
     }
 
-    ghost steps_law = { λ same t r u step. yields-row Symbol.is_clone Symbol.is_infallible Probability.whole Probability.base
-        same _ r _ step };
+    ghost steps_law = { λ t r u step. step };
 
     ghost tile_law = { λ m. elim m.now as (λ f. RowsTile Probability.BITS PRECISION
         (⟦<DecoderForm<Symbol, Probability, PRECISION> as EntropyModel<PRECISION>>⟧.rows f)) [

@@ -86,8 +86,7 @@ where
     M: DecodesOver<Symbol, Word, PRECISION>,
     requires positive { 0 < PRECISION }
     requires fits { PRECISION ≤ Word.BITS }
-    requires clones { M.clones_are_same }
-    ensures ok { IfOk result (IsPairOf (M.rows model.now) Word.whole word) }
+    ensures ok { IfOk result (IsPairOf M.stands_for (M.rows model.now) Word.whole word) }
     ensures in_range { OnOk result (Word.whole word < 2 ^ PRECISION) }
     ensures err { IfErr result (IsReadFaultOf PRECISION (Word.whole word)) }
 {
@@ -136,8 +135,9 @@ where
     Ok(())
 }
 
-/// Reads up to `count` words, and adds the pair of each to `out`: the symbol of the word's row and
-/// the offset, which is how far the word lies after the left cumulative of that row.
+/// Reads up to `count` words, and adds the pair of each to `out`: the symbol of the word's row, as the model
+/// answers it, so a clone where the model owns its symbols, and the offset, which is how far the word lies
+/// after the left cumulative of that row.
 ///
 /// The answer is the number of pairs that were added. It is below `count` only where the source
 /// ended, which is no fault. `Frontend` is answered at a word that is no quantile, and where memory
@@ -156,9 +156,8 @@ where
     R: ReadWords<Word, S>,
     requires positive { 0 < PRECISION }
     requires fits { PRECISION ≤ Word.BITS }
-    requires clones { M.clones_are_same }
     requires can_read { R.can_read source.old }
-    ensures pairs { ReadsPairs PRECISION (M.rows model.now) Word.whole R.read_gives R.tells_upcoming
+    ensures pairs { ReadsPairs M.stands_for PRECISION (M.rows model.now) Word.whole R.read_gives R.tells_upcoming
         count source.old out.old.items result source.new out.new.items }
     ensures counted { IfOk result (λ n. length out.new.items ≡ length out.old.items + n) }
     ensures at_most { IfOk result (λ n. n ≤ count) }

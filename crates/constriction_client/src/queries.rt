@@ -1,8 +1,10 @@
 //! Questions to two models, and the replies to them.
 
 ghost use Rattle.std.specs.Prelude.{◌≡◌, ◌<◌, ◌≤◌, IfOk, map};
+ghost use Rattle.constriction.specs.Model.{ClonesAreSame};
 ghost use Rattle.constriction.specs.Rows.{entry_of};
 ghost use Rattle.constriction_client.specs.Replies.{in_numbers, reply_to_query, replies_of_two, replies_by_scan};
+ghost use Rattle.constriction_client.specs.Replies.{StandsForReply, StandForReplies};
 
 use constriction::stream::model::{DecodesOver, EncodesOver, Weight, is_quantile};
 use constriction_words::WholeNumber;
@@ -44,10 +46,9 @@ where
     E: EncodesOver<Symbol, Word, PRECISION>,
     requires positive { 0 < PRECISION }
     requires fits { PRECISION ≤ Word.BITS }
-    requires clones { D.clones_are_same }
-    ensures { IfOk result (λ reply. in_numbers Word.whole Word.base reply
-        ≡ reply_to_query PRECISION Word.whole (D.rows form.now)
-        (entry_of E.symbol_eq (E.rows encoder.now)) query.now) }
+    ensures { IfOk result (λ reply. StandsForReply D.stands_for (in_numbers Word.whole Word.base reply)
+        (reply_to_query PRECISION Word.whole (D.rows form.now)
+        (entry_of E.symbol_eq (E.rows encoder.now)) query.now)) }
 {
     match query {
         Query::OfQuantile(word) => {
@@ -65,7 +66,8 @@ where
 /// is over the same symbols and words.
 ///
 /// Where both are of one list of rows, and so after any conversions, the replies are those that a scan of
-/// these rows gives. A word that is no quantile is not asked of the decoder.
+/// these rows gives, with clones of the rows' symbols where the decoder owns them. A word that is no quantile
+/// is not asked of the decoder.
 ///
 /// Memory for the replies is asked for once, before the first query. It fails where that is refused, or
 /// memory for a clone of a symbol.
@@ -81,14 +83,18 @@ where
     E: EncodesOver<Symbol, Word, PRECISION>,
     requires positive { 0 < PRECISION }
     requires fits { PRECISION ≤ Word.BITS }
-    requires clones { D.clones_are_same }
-    ensures ok { IfOk result (λ replies. map (in_numbers Word.whole Word.base) replies.items
-        ≡ replies_of_two PRECISION Word.whole (D.rows form.now)
-        (entry_of E.symbol_eq (E.rows encoder.now)) queries.now) }
+    ensures ok { IfOk result (λ replies. StandForReplies D.stands_for
+        (map (in_numbers Word.whole Word.base) replies.items)
+        (replies_of_two PRECISION Word.whole (D.rows form.now)
+        (entry_of E.symbol_eq (E.rows encoder.now)) queries.now)) }
     ensures of_one { IfOk result (λ replies.
         ((s : Symbol) → entry_of E.symbol_eq (E.rows encoder.now) s ≡ entry_of E.symbol_eq (D.rows form.now) s)
+        → StandForReplies D.stands_for (map (in_numbers Word.whole Word.base) replies.items)
+        (replies_by_scan PRECISION Word.whole E.symbol_eq (D.rows form.now) queries.now)) }
+    ensures exact { IfOk result (λ replies. ClonesAreSame D.stands_for
         → map (in_numbers Word.whole Word.base) replies.items
-        ≡ replies_by_scan PRECISION Word.whole E.symbol_eq (D.rows form.now) queries.now) }
+        ≡ replies_of_two PRECISION Word.whole (D.rows form.now)
+        (entry_of E.symbol_eq (E.rows encoder.now)) queries.now) }
 {
     let mut replies = Vec::with_capacity(alloc, queries.len())?;
     for query in queries {

@@ -1,6 +1,7 @@
 //! The lines of rows, one after another.
 
 ghost use Rattle.std.specs.Prelude.{◌≡◌, ◌∷◌, ◌++◌, ℕ, List, [], IfOk, IfSome, IfNone, OnOk, string_bytes};
+ghost use Rattle.constriction.specs.Model.{ClonesAreSame};
 ghost use Rattle.constriction.specs.Rows.{Row};
 ghost use Rattle.constriction_client.specs.Text.{row_text, rows_text};
 
@@ -55,9 +56,9 @@ where
 
     ghost left = { M.rows_left };
 
-    ghost has_table = { M.IterableEntropyModel.clones_are_same };
+    ghost has_table = { ClonesAreSame M.IterableEntropyModel.stands_for };
 
-    ghost can_go_on = { λ t. M.SymbolTable.can_next t × M.IterableEntropyModel.clones_are_same };
+    ghost can_go_on = { λ t. M.SymbolTable.can_next t × ClonesAreSame M.IterableEntropyModel.stands_for };
 
     fn table(self) -> M::SymbolTable {
         self.symbol_table()

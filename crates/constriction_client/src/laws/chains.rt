@@ -2,8 +2,8 @@
 
 ghost use Rattle.std.specs.Prelude.{◌≡◌, ◌<◌, ◌≤◌, map, IfOk, IfErr};
 ghost use Rattle.constriction.specs.Laws.{SymbolsDiffer};
+ghost use Rattle.constriction.specs.Model.{ClonesAreSame};
 ghost use Rattle.constriction.specs.Rows.{entry_of};
-ghost use Rattle.constriction.specs.Tables.{ClonesAreSame};
 ghost use Rattle.constriction_client.specs.Replies.{in_numbers, replies_by_scan};
 
 use crate::chain::{ChainStep, convert_chain};
@@ -29,7 +29,9 @@ pub fn form_symbols_differ<Symbol: Eq, Probability: IndexWord, const PRECISION: 
 }
 
 /// Converts a decoder's model by any steps, and answers queries by what they leave and by an encoder of the
-/// same rows: the replies are those that a scan of the rows before the conversions gives.
+/// same rows: where clones of symbols are the same values, the replies are those that a scan of the rows
+/// before the conversions gives. For symbols whose clones are equal and not the same, as `String`,
+/// [`convert_chain`] and [`answer_queries`] say what is answered.
 ///
 /// The only refusal is `OutOfMemory`. The form is given up.
 pub fn answer_after_chain<

@@ -2,12 +2,13 @@
 
 ghost use Rattle.std.specs.Prelude.{◌≡◌, ◌<◌, ◌≤◌, List, length, reverse, Err, IfOk, IfErr, OnOk, OnErr};
 ghost use Rattle.std.specs.List.{IsDistinct};
+ghost use Rattle.constriction.specs.Model.{StandForRows, ClonesAreEqual};
 ghost use Rattle.constriction.specs.Rows.{entry_of, symbols_of};
 ghost use Rattle.constriction_client.specs.Coming.{ComeNext, QuantilesCome, GoesBack};
 ghost use Rattle.constriction_client.specs.declared.quantiles.QuantileFault.{QuantileFault};
 ghost use Rattle.constriction_client.specs.Placing.{PlacesItems, EndsPlacing};
 ghost use Rattle.constriction_client.specs.Quantiles.{ArePairs, Reads};
-ghost use Rattle.constriction_client.specs.ThereAndBack.{AreItems, HasFault};
+ghost use Rattle.constriction_client.specs.ThereAndBack.{AreItems, StandForItems, HasFault};
 
 use crate::quantiles::{QuantileFault, ReadFault, read_symbols, write_quantiles};
 use constriction::stream::model::{
@@ -52,11 +53,10 @@ where
     R: ReadWords<Word, S, ReadError = Infallible>,
     requires positive { 0 < PRECISION }
     requires fits { PRECISION ≤ Word.BITS }
-    requires clones { D.clones_are_same }
     requires can_read { R.can_read source.old }
     requires come { QuantilesCome PRECISION Word.whole R.tells_upcoming count source.old }
     ensures ok { IfOk result (λ pairs. (words : List Word) → ComeNext R.tells_upcoming source.old words
-        → length words ≡ count → ArePairs (D.rows decoder.now) Word.whole words pairs.items
+        → length words ≡ count → ArePairs D.stands_for (D.rows decoder.now) Word.whole words pairs.items
         × Reads R.read_gives source.old words source.new) }
     ensures err { OnErr result ((words : List Word) × Reads R.read_gives source.old words source.new) }
 {
@@ -70,7 +70,8 @@ where
 }
 
 /// Writes items to a stack in memory by the encoder and reads them back by the decoder, the last
-/// one first. The encoder's entries are those of the decoder's rows.
+/// one first. The encoder's entries are those of the decoder's rows. What comes back has symbols that are
+/// equal to those of the items, or where the decoder owns its symbols clones of such ones.
 ///
 /// It fails with the fault of the first item that has no quantile, or where memory is refused.
 pub fn there_and_back_of_two<Symbol: Drop, Word, D, E, const PRECISION: usize>(
@@ -85,10 +86,11 @@ where
     E: EncodesOver<Symbol, Word, PRECISION>,
     requires positive { 0 < PRECISION }
     requires fits { PRECISION ≤ Word.BITS }
-    requires clones { D.clones_are_same }
     requires alike { (s : Symbol) → entry_of E.symbol_eq (E.rows encoder.now) s
         ≡ entry_of E.symbol_eq (D.rows decoder.now) s }
-    ensures ok { IfOk result (λ pairs. AreItems E.symbol_eq (reverse items.now) pairs.items) }
+    ensures ok { IfOk result (λ pairs. StandForItems D.stands_for E.symbol_eq (reverse items.now) pairs.items) }
+    ensures equal { IfOk result (λ pairs. ClonesAreEqual E.symbol_eq D.stands_for
+        → AreItems E.symbol_eq (reverse items.now) pairs.items) }
     ensures fault { (fault : QuantileFault) → result ≡ Err (CoderError.Frontend fault)
         → HasFault (entry_of E.symbol_eq (E.rows encoder.now)) Word.whole items.now fault }
 {
@@ -114,8 +116,9 @@ where
     M::Symbol: Drop,
     requires positive { 0 < PRECISION }
     requires fits { PRECISION ≤ M.Probability.BITS }
-    requires clones { M.clones_are_same }
-    ensures ok { IfOk result (λ pairs. AreItems M.symbol_eq (reverse items.now) pairs.items) }
+    ensures ok { IfOk result (λ pairs. StandForItems M.stands_for M.symbol_eq (reverse items.now) pairs.items) }
+    ensures equal { IfOk result (λ pairs. ClonesAreEqual M.symbol_eq M.stands_for
+        → AreItems M.symbol_eq (reverse items.now) pairs.items) }
     ensures fault { (fault : QuantileFault) → result ≡ Err (CoderError.Frontend fault)
         → HasFault (entry_of M.symbol_eq (M.rows model.now)) M.Probability.whole items.now fault }
 {
@@ -123,7 +126,7 @@ where
 }
 
 /// The decoder model of the rows of any model that can be walked through, and the hashed encoder model
-/// of its entries. They agree, so that what the one writes the other reads: they are the two models that
+/// of its entries. Where that model owns its symbols, both have clones of them, which have to be equal to them. They agree, so that what the one writes the other reads: they are the two models that
 /// [`there_and_back_of_two`] and [`there_and_back_in_a_cursor`] take.
 ///
 /// `InvalidTable` comes exactly where two symbols of the rows are equal, `OutOfMemory` where memory is
@@ -137,10 +140,10 @@ where
     M::Symbol: Hash + Eq + Drop,
     requires positive { 0 < PRECISION }
     requires fits { PRECISION ≤ M.Probability.BITS }
-    requires clones { M.clones_are_same }
-    ensures rows { IfOk result (λ both.
-        ⟦<NonContiguousCategoricalDecoderModel<M::Symbol, M::Probability, Vec<(M::Probability, M::Symbol)>, PRECISION> as EntropyModel<PRECISION>>⟧.rows both.0
-        ≡ M.rows model) }
+    requires clones { ClonesAreEqual M.Symbol.eq M.stands_for }
+    ensures rows { IfOk result (λ both. StandForRows M.stands_for
+        (⟦<NonContiguousCategoricalDecoderModel<M::Symbol, M::Probability, Vec<(M::Probability, M::Symbol)>, PRECISION> as EntropyModel<PRECISION>>⟧.rows both.0)
+        (M.rows model)) }
     ensures alike { IfOk result (λ both. (s : M.Symbol) → entry_of M.Symbol.eq
         (⟦<NonContiguousCategoricalEncoderModel<M::Symbol, M::Probability, PRECISION> as EntropyModel<PRECISION>>⟧.rows both.1) s
         ≡ entry_of M.Symbol.eq
@@ -206,10 +209,11 @@ where
     Buf: SafeBufMut<Word>,
     requires positive { 0 < PRECISION }
     requires fits { PRECISION ≤ Word.BITS }
-    requires clones { D.clones_are_same }
     requires alike { (s : Symbol) → entry_of E.symbol_eq (E.rows encoder.now) s
         ≡ entry_of E.symbol_eq (D.rows decoder.now) s }
-    ensures ok { IfOk result (λ pairs. AreItems E.symbol_eq items.now pairs.items) }
+    ensures ok { IfOk result (λ pairs. StandForItems D.stands_for E.symbol_eq items.now pairs.items) }
+    ensures equal { IfOk result (λ pairs. ClonesAreEqual E.symbol_eq D.stands_for
+        → AreItems E.symbol_eq items.now pairs.items) }
     ensures placed { OnOk result (PlacesItems (entry_of E.symbol_eq (E.rows encoder.now)) Word.whole
         Buf.with_words cursor.old items.now cursor.new) }
     ensures err { IfErr result (λ fault. EndsPlacing (entry_of E.symbol_eq (E.rows encoder.now)) Word.whole

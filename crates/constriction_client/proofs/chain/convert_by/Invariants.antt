@@ -1,10 +1,10 @@
 use Rattle.std.proofs.Common.{◌≡◌, take}
-use Rattle.constriction_client.specs.Chains.{is_lookup_after}
+use Rattle.constriction_client.specs.Chains.{is_lookup_after, ChainLeaves}
 use Rattle.constriction_client.proofs.chain.convert_by.Given as goal
 
--- the rows are those of the first form, and the kind is that which the steps so far say
+-- the rows are those that the steps so far leave of the first form, and the kind is that which they say
 abbrev pub invariant-loop-step : goal.invariant-loop-step
 invariant-loop-step g l = record {
-  rows : g.Form.Converts.told l.form ≡ g.Form.Converts.told l.fn.form;
+  rows : ChainLeaves g.Form.Converts.clone_of (take l.step-index l.steps) (g.Form.Converts.told l.fn.form) (g.Form.Converts.told l.form);
   kind : g.Form.Converts.looks_up l.form ≡ is_lookup_after (take l.step-index l.steps) (g.Form.Converts.looks_up l.fn.form);
 }

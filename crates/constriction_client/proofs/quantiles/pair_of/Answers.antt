@@ -1,4 +1,4 @@
-use Rattle.std.proofs.Common.{refl, arith}
+use Rattle.std.proofs.Common.{arith}
 use Rattle.constriction_client.proofs.WordNumbers.{not-less}
 use Rattle.constriction_client.proofs.quantiles.pair_of.Goals as goal
 
@@ -10,15 +10,15 @@ returns-then-not-is_quantile g c = record {
 }
 
 pub minus-requires : goal.minus-requires
-minus-requires g c = c.in-Ok.ensures.row.from
+minus-requires g c = c.in-Ok.ensures.row.2.from
 
 pub returns-in-Ok : goal.returns-in-Ok
 returns-in-Ok g c = record {
   ok = record {
     row = _;
-    found = c.in-Ok.ensures.row;
-    symbol = refl;
-    offset = omega (arith, c.minus.ensures, c.in-Ok.ensures.row.from);
+    found = c.in-Ok.ensures.row.2;
+    symbol = c.in-Ok.ensures.row.1;
+    offset = omega (arith, c.minus.ensures, c.in-Ok.ensures.row.2.from);
   };
   in_range = c.is_quantile.ensures.0 c.if-not-is_quantile.false;
   err = tt;

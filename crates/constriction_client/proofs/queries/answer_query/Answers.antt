@@ -1,15 +1,15 @@
-use Rattle.std.proofs.Common.{◌∙◌, ap, sym}
+use Rattle.std.proofs.Common.{subst, sym}
 use Rattle.constriction.specs.Rows.{entry_of}
-use Rattle.constriction_client.specs.Replies.{reply_to_query}
-use Rattle.constriction_client.proofs.Finding.{replied}
+use Rattle.constriction_client.specs.declared.queries.Query.{Query}
+use Rattle.constriction_client.specs.Replies.{reply_to_query, StandsForReply, in_numbers}
+use Rattle.constriction_client.proofs.Finding.{told-reply}
 use Rattle.constriction_client.proofs.queries.answer_query.Goals as goal
 
 pub returns-in_ok-symbol-in-OfQuantile : goal.returns-in_ok-symbol-in-OfQuantile
 returns-in_ok-symbol-in-OfQuantile g c =
     let whole = g.Word.WholeNumber.whole in
     let rows = g.D.DecodesOver.rows c.args.form.now in
-    replied g.Word.WholeNumber.BITS g.row.PRECISION rows (whole c.in-OfQuantile.word) _
-    (c.is_quantile.ensures.0 c.if-not-is_quantile.false) (g.met.D.DecodesOver.tile_law c.args.form.now)
-    c.in_ok-symbol-in-OfQuantile.ensures.row
-    ∙ ap (reply_to_query g.row.PRECISION whole rows (entry_of g.E.EncodesOver.symbol_eq (g.E.EncodesOver.rows c.args.encoder.now)))
-    (sym c.in-OfQuantile.is)
+    rw c.in-OfQuantile.is
+    (told-reply g.D.DecodesOver.stands_for whole g.Word.WholeNumber.base g.Word.WholeNumber.BITS g.row.PRECISION rows
+    (whole c.in-OfQuantile.word) _ (c.is_quantile.ensures.0 c.if-not-is_quantile.false)
+    (g.met.D.DecodesOver.tile_law c.args.form.now) c.in_ok-symbol-in-OfQuantile.ensures.row)
