@@ -15,12 +15,12 @@ as-many R (x ∷ xs) [] h = absurd h
 as-many R (x ∷ xs) (y ∷ ys) h = ap suc (as-many R xs ys h.1)
 
 -- the pairs that were added are those of so many of the words to come
-pub pairs-of-first : {Symbol Word Source Error : Type 0} (precision : ℕ) (rows : List (Row Symbol)) (whole : Word → ℕ)
+pub pairs-of-first : {Symbol Word Source Error : Type 0} (Stands : Symbol → Symbol → Type 0) (precision : ℕ) (rows : List (Row Symbol)) (whole : Word → ℕ)
     (gives : Source → Result (Option Word) Error → Source → Type 0) (tells : Source → List Word → Type 0) (count : ℕ)
     (s : Source) (old : List (Symbol × Word)) (n : ℕ) (t : Source) (new : List (Symbol × Word)) (upcoming : List Word)
-    → ReadsPairs precision rows whole gives tells count s old (Ok n) t new → tells s upcoming
-    → (pairs : List (Symbol × Word)) × ArePairs rows whole (take n upcoming) pairs × (new ≡ old ++ pairs)
-pairs-of-first precision rows whole gives tells count s old n t new upcoming r told =
+    → ReadsPairs Stands precision rows whole gives tells count s old (Ok n) t new → tells s upcoming
+    → (pairs : List (Symbol × Word)) × ArePairs Stands rows whole (take n upcoming) pairs × (new ≡ old ++ pairs)
+pairs-of-first Stands precision rows whole gives tells count s old n t new upcoming r told =
     let left = r.told upcoming told in
     let split : upcoming ≡ r.words ++ left.0 = left.1 ∙ ap (λ more. r.words ++ (more ++ left.0)) r.ended.1 in
     let many : n ≡ length r.words = r.ended.0 ∙ sym (as-many _ r.words r.pairs r.of_words) in
@@ -28,12 +28,12 @@ pairs-of-first precision rows whole gives tells count s old n t new upcoming r t
     ∙ take-append_seam r.words left.0 in
     (r.pairs, rw first r.of_words, r.added)
 
-pub pairs-if-read : {Symbol Word Source Error : Type 0} (precision : ℕ) (rows : List (Row Symbol)) (whole : Word → ℕ)
+pub pairs-if-read : {Symbol Word Source Error : Type 0} (Stands : Symbol → Symbol → Type 0) (precision : ℕ) (rows : List (Row Symbol)) (whole : Word → ℕ)
     (gives : Source → Result (Option Word) Error → Source → Type 0) (tells : Source → List Word → Type 0) (count : ℕ)
     (s : Source) (old : List (Symbol × Word)) (r : Result ℕ (CoderError ReadFault Error)) (t : Source)
     (new : List (Symbol × Word)) (upcoming : List Word)
-    → ReadsPairs precision rows whole gives tells count s old r t new → tells s upcoming
-    → IfOk r (λ n. (pairs : List (Symbol × Word)) × ArePairs rows whole (take n upcoming) pairs × (new ≡ old ++ pairs))
-pairs-if-read precision rows whole gives tells count s old (Ok n) t new upcoming r told =
-    pairs-of-first precision rows whole gives tells count s old n t new upcoming r told
-pairs-if-read precision rows whole gives tells count s old (Err e) t new upcoming r told = tt
+    → ReadsPairs Stands precision rows whole gives tells count s old r t new → tells s upcoming
+    → IfOk r (λ n. (pairs : List (Symbol × Word)) × ArePairs Stands rows whole (take n upcoming) pairs × (new ≡ old ++ pairs))
+pairs-if-read Stands precision rows whole gives tells count s old (Ok n) t new upcoming r told =
+    pairs-of-first Stands precision rows whole gives tells count s old n t new upcoming r told
+pairs-if-read Stands precision rows whole gives tells count s old (Err e) t new upcoming r told = tt

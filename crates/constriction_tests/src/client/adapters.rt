@@ -23,7 +23,7 @@ type Read = Result<usize, CoderError<ReadFault, Infallible>>;
 /// Reads the pairs of the first words of a slice, by a source over its iterator.
 fn read_slice(model: &Small, words: &[u8], count: usize, out: &mut Vec<(usize, u8)>) -> Read
     ensures { IfOk result (λ n. (pairs : List _)
-        × ArePairs (⟦<ContiguousCategoricalEntropyModel<u8, Vec<u8>, 6> as EntropyModel<6>>⟧.rows model.now) (λ word. word)
+        × ArePairs (λ s t. t ≡ s) (⟦<ContiguousCategoricalEntropyModel<u8, Vec<u8>, 6> as EntropyModel<6>>⟧.rows model.now) (λ word. word)
         (take n words.now) pairs
         × (out.new.items ≡ out.old.items ++ pairs)) }
 {

@@ -1,7 +1,10 @@
 //! Chains of conversions, and what the forms that they leave answer.
 
-ghost use Rattle.std.specs.Prelude.{◌≡◌, ◌<◌, ◌≤◌, IfOk};
-ghost use Rattle.constriction.specs.Tables.{ClonesAreSame};
+ghost use Rattle.std.specs.Prelude.{◌≡◌, ◌<◌, ◌≤◌, [], ◌∷◌, nat_eq, IfOk};
+ghost use Rattle.constriction.specs.Hashed.{SameEntries};
+ghost use Rattle.constriction.specs.Model.{ClonesAreEqual};
+ghost use Rattle.constriction_client.specs.Chains.{ChainLeaves};
+ghost use Rattle.constriction_client.specs.declared.chain.ChainStep.TheVariants.{ToLookup, Rebuild, IntoSearch};
 
 use crate::checks::{end_of_requests, holds, holds_at, same, same_at};
 use crate::client::queries::{
@@ -67,9 +70,10 @@ fn searched_again<Symbol: Eq + Clone + Drop, Probability: IndexWord, const PRECI
     requires positive { 0 < PRECISION }
     requires fits { PRECISION ≤ Probability.BITS }
     requires narrow { PRECISION ≤ 63 }
-    requires clones { ClonesAreSame Symbol.is_clone }
-    ensures { IfOk result (λ made. ⟦<DecoderForm<Symbol, Probability, PRECISION> as EntropyModel<PRECISION>>⟧.rows made
-        ≡ ⟦<DecoderForm<Symbol, Probability, PRECISION> as EntropyModel<PRECISION>>⟧.rows form) }
+    requires clones { ClonesAreEqual Symbol.eq Symbol.is_clone }
+    ensures { IfOk result (λ made. ChainLeaves Symbol.is_clone (ToLookup ∷ Rebuild ∷ IntoSearch ∷ [])
+        (⟦<DecoderForm<Symbol, Probability, PRECISION> as EntropyModel<PRECISION>>⟧.rows form)
+        (⟦<DecoderForm<Symbol, Probability, PRECISION> as EntropyModel<PRECISION>>⟧.rows made)) }
 {
     convert_chain(
         alloc,
@@ -241,6 +245,14 @@ fn every_chain_keeps_the_replies(rt: HostRuntime) {
     }
 }
 
+/// The encoder's model that is made of a decoder's: it has its entries, since clones of letters are the letters.
+fn encoder_of(alloc: Global, model: &Decoder<6>) -> Result<Encoder<6>, ModelError>
+    ensures { IfOk result (λ e. SameEntries nat_eq
+        (⟦<Encoder<6> as EntropyModel<6>>⟧.rows e) (⟦<Decoder<6> as EntropyModel<6>>⟧.rows model.now)) }
+{
+    to_generic_encoder_model::<_, 6>(alloc, model)
+}
+
 /// Takes the form with these entries through a chain, and asks it and the encoder's model that was made of
 /// it before.
 fn ask_after(
@@ -249,7 +261,7 @@ fn ask_after(
     steps: &[ChainStep],
     queries: &[Asked],
 ) -> Result<Vec<Replied>, ModelError> {
-    let encoder = to_generic_encoder_model::<_, 6>(alloc, &searching)?;
+    let encoder = encoder_of(alloc, &searching)?;
     answer_after_chain(
         alloc,
         DecoderForm::Search(searching),

@@ -1,7 +1,8 @@
 //! Items to words and back, over a worked table and ends that fail.
 
 ghost use Rattle.std.specs.Prelude.{◌≡◌, [], ◌∷◌, nat_eq, ⊤};
-ghost use Rattle.std.proofs.Common.{eq-eqb, refl, rules};
+ghost use Rattle.std.specs.Cmp.{nat_eq_equiv};
+ghost use Rattle.std.proofs.Common.{rules};
 ghost use Rattle.constriction.specs.Rows.{rows_of};
 ghost use Rattle.constriction_backends.specs.Stack.{Pushes};
 ghost use Rattle.constriction_backends.specs.StackLaws.{Pushes-told};
@@ -413,15 +414,15 @@ impl EncoderModel<2> for Letters {
         }
     }
 
-    ghost reflexive_law = { λ s. eq-eqb s s refl };
+    ghost equality_law = { nat_eq_equiv };
 
     ghost within_law = { λ _. Prim.search rules };
 }
 
 impl DecoderModel<2> for Letters {
-    ghost clones_are_same = { ⊤ };
+    ghost stands_for = { λ s t. t ≡ s };
 
-    ghost may_refuse = { ⊥ };
+    ghost may_refuse = { λ _. ⊥ };
 
     fn quantile_function(&self, quantile: u8) -> Result<(u8, u8, Weight<u8>), AllocError> {
         match quantile {

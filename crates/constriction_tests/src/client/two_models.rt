@@ -1,7 +1,8 @@
 //! Items that one model writes and another one reads back: through a stack, and in a cursor.
 
 ghost use Rattle.std.specs.Prelude.{◌≡◌, ◌<◌, ◌≤◌, [], ◌∷◌, nat_eq, IfOk};
-ghost use Rattle.std.proofs.Common.{eq-eqb, refl, rules};
+ghost use Rattle.std.specs.Cmp.{nat_eq_equiv};
+ghost use Rattle.std.proofs.Common.{rules};
 ghost use Rattle.constriction.specs.Rows.{contiguous_rows, entry_of};
 
 use crate::checks::{end_of_requests, holds, holds_at, same, same_at, vec_of};
@@ -56,7 +57,7 @@ impl EncoderModel<2> for LetterEntries {
         }
     }
 
-    ghost reflexive_law = { λ s. eq-eqb s s refl };
+    ghost equality_law = { nat_eq_equiv };
 
     ghost within_law = { λ _. Prim.search rules };
 }
@@ -75,7 +76,6 @@ where
     E: EncodesOver<D::Symbol, D::Probability, PRECISION>,
     requires positive { 0 < PRECISION }
     requires fits { PRECISION ≤ D.Probability.BITS }
-    requires clones { D.clones_are_same }
     requires alike { (s : D.Symbol) → entry_of E.symbol_eq (E.rows encoder.now) s
         ≡ entry_of E.symbol_eq (D.rows decoder.now) s }
 {
@@ -95,7 +95,6 @@ where
     E: EncodesOver<D::Symbol, u8, PRECISION>,
     requires positive { 0 < PRECISION }
     requires fits { PRECISION ≤ 8 }
-    requires clones { D.clones_are_same }
     requires alike { (s : D.Symbol) → entry_of E.symbol_eq (E.rows encoder.now) s ≡ entry_of E.symbol_eq (D.rows decoder.now) s }
 {
     there_and_back_of_two(alloc, decoder, encoder, items).is_ok()

@@ -87,7 +87,6 @@ pub fn plain<Symbol: Drop>(
 pub fn decodes<M>(rt: &impl Abort, model: &M, rows: &[Row])
 where
     M: DecoderModel<6, Symbol = char, Probability = u8>,
-    requires { M.clones_are_same }
 {
     for row in rows {
         let (_, left, weight) = *row;

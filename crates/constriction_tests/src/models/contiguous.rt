@@ -265,7 +265,6 @@ fn symbol_through_bounds<M: DecoderModel<6> + EncoderModel<6>>(
 where
     M: Drop,
     M::Symbol: Drop,
-    requires clones { M.clones_are_same }
     requires in_range { M.Probability.whole quantile < 2 ^ 6 }
 {
     let (symbol, _, _) = model.quantile_function(quantile).ok()?;
@@ -282,7 +281,6 @@ fn symbol_through_a_reference<M: DecoderModel<6> + EncoderModel<6>>(
 ) -> Option<M::Symbol>
 where
     M::Symbol: Drop,
-    requires clones { M.clones_are_same }
     requires in_range { M.Probability.whole quantile < 2 ^ 6 }
 {
     symbol_through_bounds(model, quantile)

@@ -47,7 +47,6 @@ where
     M::Symbol: Hash + Eq + Drop,
     requires positive { 0 < PRECISION }
     requires fits { PRECISION ≤ 8 }
-    requires clones { M.clones_are_same }
 {
     (
         (

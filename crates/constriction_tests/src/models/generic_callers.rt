@@ -19,7 +19,6 @@ pub fn end_of_row<Symbol: Drop, Word: BitArray, D, const PRECISION: usize>(
 ) -> Result<Word, AllocError>
 where
     D: DecodesOver<Symbol, Word, PRECISION>,
-    requires clones { D.clones_are_same }
     requires in_range { Word.whole quantile < 2 ^ PRECISION }
     ensures { IfOk result (λ end. (row : Row Symbol) × IsRowOf (D.rows model.now) (Word.whole quantile) row
         × (Word.whole end ≡ (row.left + row.weight) % 2 ^ Word.BITS)) }
@@ -36,7 +35,6 @@ pub fn weight_of_row<M: DecoderModel<PRECISION>, const PRECISION: usize>(
 where
     M::Symbol: Drop,
     M::Probability: BitArray,
-    requires clones { M.clones_are_same }
     requires in_range { M.Probability.whole quantile < 2 ^ PRECISION }
     ensures { IfOk result (λ weight. M.Probability.whole weight ≤ 2 ^ PRECISION) }
 {
@@ -76,7 +74,6 @@ fn last_of_row<M: DecoderModel<12, Probability = u16>>(
 ) -> Result<u16, AllocError>
 where
     M::Symbol: Drop,
-    requires clones { M.clones_are_same }
     requires in_range { quantile < 2 ^ 12 }
 {
     let (_symbol, left, weight) = model.quantile_function(quantile)?;

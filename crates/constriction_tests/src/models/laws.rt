@@ -1,11 +1,11 @@
 //! What a caller has from the laws of models: over the contiguous model, and over a model of the
 //! caller with a table of its own.
 
-ghost use Rattle.std.specs.Prelude.{◌≡◌, ◌<◌, ◌≤◌, ◌^◌, ◌-◌, [], ◌∷◌, ⊤, length, map, drop, IfOk};
+ghost use Rattle.std.specs.Prelude.{◌≡◌, ◌<◌, ◌≤◌, ◌^◌, ◌-◌, [], ◌∷◌, length, map, drop, IfOk};
 ghost use Rattle.std.specs.Iterator.{at_most};
 ghost use Rattle.std.proofs.Common.{rules};
 ghost use Rattle.constriction.specs.Rows.{rows_of};
-ghost use Rattle.constriction.specs.Model.{row_of};
+ghost use Rattle.constriction.specs.Model.{row_of, ClonesAreSame};
 ghost use Rattle.constriction.specs.Tables.{YieldsRow};
 ghost use Rattle.constriction.specs.Laws.{AnswerAlike};
 
@@ -45,7 +45,6 @@ fn count<M, const PRECISION: usize>(model: M) -> usize
 where
     M: IterableEntropyModel<PRECISION>,
     M::Symbol: Drop,
-    requires clones { M.clones_are_same }
     requires few { length (M.rows model) < 2 ^ 64 }
     ensures { result ≡ length (M.rows model) }
 {
@@ -61,7 +60,7 @@ fn read_table<M, const PRECISION: usize>(
 where
     M: IterableEntropyModel<PRECISION>,
     M::Symbol: Drop,
-    requires clones { M.clones_are_same }
+    requires clones { ClonesAreSame M.stands_for }
     ensures { IfOk result (λ rows. map (row_of M.Probability.whole M.Probability.base) rows.items ≡ M.rows model) }
 {
     table_gives_all_rows::<M, PRECISION>();
@@ -94,8 +93,8 @@ where
         + EntropyModel<PRECISION, Symbol = M::Symbol>
         + Drop,
     M::Symbol: Drop,
-    requires clones { M.IterableEntropyModel.clones_are_same }
-    requires other_clones { N.IterableEntropyModel.clones_are_same }
+    requires clones { ClonesAreSame M.IterableEntropyModel.stands_for }
+    requires other_clones { ClonesAreSame N.IterableEntropyModel.stands_for }
     requires alike { AnswerAlike PRECISION (M.rows model) (N.rows other) }
     ensures { IfOk result (λ t. map (row_of M.Probability.whole M.Probability.base) t.0.items
         ≡ map (row_of N.Probability.whole N.Probability.base) t.1.items) }
@@ -119,9 +118,9 @@ impl EntropyModel<2> for ThreeLetters {
 }
 
 impl DecoderModel<2> for ThreeLetters {
-    ghost clones_are_same = { ⊤ };
+    ghost stands_for = { λ s t. t ≡ s };
 
-    ghost may_refuse = { ⊥ };
+    ghost may_refuse = { λ _. ⊥ };
 
     fn quantile_function(&self, quantile: u8) -> Result<(u8, u8, Weight<u8>), AllocError> {
         match quantile {
@@ -144,7 +143,7 @@ struct ThreeLetterTable {
 impl Iterator for ThreeLetterTable {
     type Item = Result<(u8, u8, Weight<u8>), AllocError>;
 
-    ghost next_gives = { λ t r u. YieldsRow ⟦<u8 as WholeNumber>⟧.whole ⟦<u8 as WholeNumber>⟧.base ⊥
+    ghost next_gives = { λ t r u. YieldsRow (λ s t. t ≡ s) (λ _. ⊥) ⟦<u8 as WholeNumber>⟧.whole ⟦<u8 as WholeNumber>⟧.base
         (drop t.next (rows_of (97 ∷ 98 ∷ 99 ∷ []) (1 ∷ 2 ∷ 1 ∷ []))) r
         (drop u.next (rows_of (97 ∷ 98 ∷ 99 ∷ []) (1 ∷ 2 ∷ 1 ∷ []))) };
 
@@ -165,9 +164,9 @@ impl Iterator for ThreeLetterTable {
 impl IterableEntropyModel<2> for ThreeLetters {
     type SymbolTable = ThreeLetterTable;
 
-    ghost clones_are_same = { ⊤ };
+    ghost stands_for = { λ s t. t ≡ s };
 
-    ghost may_refuse = { ⊥ };
+    ghost may_refuse = { λ _. ⊥ };
 
     ghost rows_left = { λ t. drop t.next (rows_of (97 ∷ 98 ∷ 99 ∷ []) (1 ∷ 2 ∷ 1 ∷ [])) };
 
@@ -175,7 +174,7 @@ impl IterableEntropyModel<2> for ThreeLetters {
         ThreeLetterTable { next: 0 }
     }
 
-    ghost steps_law = { λ _ t r u h. h };
+    ghost steps_law = { λ t r u h. h };
 
     ghost tile_law = { λ _. Prim.search rules };
 }

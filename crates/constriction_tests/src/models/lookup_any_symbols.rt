@@ -198,7 +198,6 @@ where
     M::Symbol: Eq + Drop,
     requires positive { 0 < PRECISION }
     requires fits { PRECISION ≤ 8 }
-    requires clones { M.clones_are_same }
 {
     (
         to_generic_lookup_decoder_model::<M, PRECISION>(alloc, source),

@@ -56,7 +56,6 @@ pub fn made<const PRECISION: usize>(
 pub fn answers_as_a_scan<M, const PRECISION: usize>(rt: &impl Abort, model: &M, weights: &[u8])
 where
     M: DecoderModel<PRECISION, Symbol = usize, Probability = u8>,
-    requires clones { M.clones_are_same }
     requires positive { 0 < PRECISION }
     requires fits { PRECISION ≤ 8 }
 {

@@ -3,7 +3,8 @@
 
 ghost use Rattle.std.specs.Prelude.{◌≡◌, ◌<◌, ◌-◌, ◌∷◌, [], nat_eq, drop, IfOk, IsErr, ⊤};
 ghost use Rattle.std.specs.Iterator.{at_most};
-ghost use Rattle.std.proofs.Common.{eq-eqb, refl, rules};
+ghost use Rattle.std.specs.Cmp.{nat_eq_equiv};
+ghost use Rattle.std.proofs.Common.{refl, rules};
 ghost use Rattle.std.proofs.lemmas.Grind.{common_steps};
 ghost use Rattle.constriction.specs.Rows.{rows_of};
 ghost use Rattle.constriction.specs.Tables.{YieldsRow};
@@ -52,7 +53,7 @@ impl EncoderModel<3> for Triple {
         None
     }
 
-    ghost reflexive_law = { λ s. eq-eqb s s refl };
+    ghost equality_law = { nat_eq_equiv };
 
     ghost within_law = { λ m. Prim.search rules };
 }
@@ -67,7 +68,7 @@ pub struct TripleTable<'m> {
 impl<'m> Iterator for TripleTable<'m> {
     type Item = Result<(char, u8, Weight<u8>), AllocError>;
 
-    ghost next_gives = { λ t r u. YieldsRow ⟦<u8 as WholeNumber>⟧.whole ⟦<u8 as WholeNumber>⟧.base ⊥
+    ghost next_gives = { λ t r u. YieldsRow (λ s t. t ≡ s) (λ _. ⊥) ⟦<u8 as WholeNumber>⟧.whole ⟦<u8 as WholeNumber>⟧.base
         (drop t.next (⟦<Triple as EntropyModel<3>>⟧.rows t.model.now)) r
         (drop u.next (⟦<Triple as EntropyModel<3>>⟧.rows u.model.now)) };
 
@@ -88,9 +89,9 @@ impl<'m> Iterator for TripleTable<'m> {
 impl<'m> IterableEntropyModel<3> for &'m Triple {
     type SymbolTable = TripleTable<'m>;
 
-    ghost clones_are_same = { ⊤ };
+    ghost stands_for = { λ s t. t ≡ s };
 
-    ghost may_refuse = { ⊥ };
+    ghost may_refuse = { λ _. ⊥ };
 
     ghost rows_left = { λ t. drop t.next (⟦<Triple as EntropyModel<3>>⟧.rows t.model.now) };
 
@@ -101,7 +102,7 @@ impl<'m> IterableEntropyModel<3> for &'m Triple {
         }
     }
 
-    ghost steps_law = { λ _ t r u step. step };
+    ghost steps_law = { λ t r u step. step };
 
     ghost tile_law = { λ m. record {
       accepted = record {
@@ -198,7 +199,7 @@ struct TwiceTable {
 impl Iterator for TwiceTable {
     type Item = Result<(char, u8, Weight<u8>), AllocError>;
 
-    ghost next_gives = { λ t r u. YieldsRow ⟦<u8 as WholeNumber>⟧.whole ⟦<u8 as WholeNumber>⟧.base ⊥
+    ghost next_gives = { λ t r u. YieldsRow (λ s t. t ≡ s) (λ _. ⊥) ⟦<u8 as WholeNumber>⟧.whole ⟦<u8 as WholeNumber>⟧.base
         (drop t.next (rows_of (t.symbol ∷ t.symbol ∷ []) (32 ∷ 32 ∷ []))) r
         (drop u.next (rows_of (u.symbol ∷ u.symbol ∷ []) (32 ∷ 32 ∷ []))) };
 
@@ -218,9 +219,9 @@ impl Iterator for TwiceTable {
 impl IterableEntropyModel<6> for Twice {
     type SymbolTable = TwiceTable;
 
-    ghost clones_are_same = { ⊤ };
+    ghost stands_for = { λ s t. t ≡ s };
 
-    ghost may_refuse = { ⊥ };
+    ghost may_refuse = { λ _. ⊥ };
 
     ghost rows_left = { λ t. drop t.next (rows_of (t.symbol ∷ t.symbol ∷ []) (32 ∷ 32 ∷ [])) };
 
@@ -231,7 +232,7 @@ impl IterableEntropyModel<6> for Twice {
         }
     }
 
-    ghost steps_law = { λ _ t r u step. step };
+    ghost steps_law = { λ t r u step. step };
 
     ghost tile_law = { λ _. record {
       accepted = record {

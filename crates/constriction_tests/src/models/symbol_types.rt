@@ -88,7 +88,6 @@ fn row<M: DecoderModel<6, Symbol = Tag, Probability = u8>>(
     model: &M,
     quantile: u8,
 ) -> Result<(u32, u8, u8), AllocError>
-    requires clones { M.clones_are_same }
     requires in_range { quantile < 64 }
 {
     let (tag, left, weight) = plain(model.quantile_function(quantile))?;

@@ -39,7 +39,6 @@ fn count_items<M, const PRECISION: usize>(model: M) -> usize
 where
     M: IterableEntropyModel<PRECISION>,
     M::Symbol: Drop,
-    requires clones { M.clones_are_same }
     requires few { length (M.rows model) < 2 ^ 64 }
     ensures { result ≡ length (M.rows model) }
 {
@@ -74,7 +73,6 @@ fn follows(
 pub fn tile<M, const PRECISION: usize>(rt: &impl Abort, model: M)
 where
     M: IterableEntropyModel<PRECISION, Symbol = usize, Probability = u8>,
-    requires clones { M.clones_are_same }
     requires fits { PRECISION ≤ 8 }
 {
     let mut next = (0usize, 0u64);
@@ -100,7 +98,6 @@ where
 pub fn look_up<M, const PRECISION: usize>(model: &M, quantile: u8) -> Option<(usize, u8, u8)>
 where
     M: DecoderModel<PRECISION, Symbol = usize, Probability = u8>,
-    requires clones { M.clones_are_same }
     requires positive { 0 < PRECISION }
     requires fits { PRECISION ≤ 8 }
 {
@@ -116,7 +113,6 @@ where
 fn is_answered<M, const PRECISION: usize>(rt: &impl Abort, model: &M, expected: (usize, u8, u8))
 where
     M: EncoderModel<PRECISION, Symbol = usize, Probability = u8> + DecoderModel<PRECISION>,
-    requires clones { M.clones_are_same }
     requires positive { 0 < PRECISION }
     requires fits { PRECISION ≤ 8 }
 {
@@ -137,8 +133,6 @@ where
         + EncoderModel<PRECISION>
         + DecoderModel<PRECISION>
         + Copy,
-    requires rows { M.IterableEntropyModel.clones_are_same }
-    requires look_ups { M.DecoderModel.clones_are_same }
     requires positive { 0 < PRECISION }
     requires fits { PRECISION ≤ 8 }
 {

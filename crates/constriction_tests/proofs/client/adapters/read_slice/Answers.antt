@@ -14,6 +14,6 @@ returns c =
     let given : AlwaysYields (copies fronts) (λ x. x) c.copied.result c.args.words.now =
     subst (λ (ws : List ℕ). AlwaysYields (copies fronts) (λ x. x) c.copied.result ws) here (Copied-slice c.copied.result) in
     let inner : fuse_source source.inner ≡ c.copied.result = c.new-source.ensures.source in
-    pairs-if-read _ _ _ _ _ _ _ _ c.read_symbols.result _ _ c.args.words.now c.read_symbols.ensures.pairs
+    pairs-if-read _ _ _ _ _ _ _ _ _ c.read_symbols.result _ _ c.args.words.now c.read_symbols.ensures.pairs
     (tells-new (copies fronts) fuse_done fuse_source source.inner c.args.words.now c.new-source.ensures.fresh
     (subst (λ (it : _). AlwaysYields (copies fronts) (λ x. x) it c.args.words.now) (sym inner) given))

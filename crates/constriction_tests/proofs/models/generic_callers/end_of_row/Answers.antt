@@ -4,7 +4,7 @@ use Rattle.constriction_tests.proofs.models.generic_callers.end_of_row.Goals as 
 pub returns : goal.returns
 returns g c =
     let answer = c.in_ok-_symbol in (
-      row_of g.Word.WholeNumber.whole g.Word.WholeNumber.base (answer._symbol, answer.left, answer.weight),
-      answer.ensures.row,
+      row_of g.Word.WholeNumber.whole g.Word.WholeNumber.base (answer.ensures.row.0, answer.left, answer.weight),
+      answer.ensures.row.2,
       rw (c.get.ensures.value, g.met.Word.BitArray.base_law answer.weight) at c.wrapping_add.ensures,
     )

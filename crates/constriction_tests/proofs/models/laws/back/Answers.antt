@@ -1,6 +1,5 @@
 use Rattle.std.proofs.Common.{◌≡◌, ℕ, List, Some, None, refl, ap, arith}
 use Rattle.std.specs.Prelude.{nat_eq}
-use Rattle.std.specs.Cmp.{nat_eq_equiv, partial_equiv_from_equiv}
 use Rattle.std.specs.List.{IsDistinct}
 use Rattle.constriction.specs.Rows.{Row, IsRowOf, entry_of, symbols_of}
 use Rattle.constriction.specs.Laws.{PairsAreQuantiles}
@@ -11,7 +10,7 @@ module _ {Model : Type 0} (precision : ℕ) (rows : Model → List (Row ℕ)) (m
     (found : IsRowOf (rows m) q r) where
   -- the symbol of a quantile's row has the entry of the row
   its-entry : entry_of nat_eq (rows m) r.symbol ≡ Some (r.left, r.weight)
-  its-entry = ((law (partial_equiv_from_equiv nat_eq_equiv) m m differ (λ s. refl)).there q r found).0
+  its-entry = ((law m m differ (λ s. refl)).there q r found).0
 
   no-entry : None ≡ entry_of nat_eq (rows m) r.symbol → ⊥
   no-entry e = let f = its-entry in cc
@@ -26,15 +25,15 @@ module _ {Model : Type 0} (precision : ℕ) (rows : Model → List (Row ℕ)) (m
 pub unreachable-requires-in-None : goal.unreachable-requires-in-None
 unreachable-requires-in-None c =
     no-entry 6 _ c.args.model.now c.args.quantile _ c.pairs_are_quantiles.ensures (c.contiguous_symbols_differ.ensures _)
-    c.in-Ok.ensures.row c.in-None.ensures
+    c.in-Ok.ensures.exact c.in-None.ensures
 
 pub returns : goal.returns
 returns c =
     omega (
       arith,
-      c.in-Ok.ensures.row.from,
+      c.in-Ok.ensures.exact.from,
       same-left 6 _ c.args.model.now c.args.quantile _ c.pairs_are_quantiles.ensures (c.contiguous_symbols_differ.ensures _)
-          c.in-Ok.ensures.row _ _ c.in-Some.ensures,
+          c.in-Ok.ensures.exact _ _ c.in-Some.ensures,
     )
 
 pub overflow_add-result : goal.overflow_add-result
@@ -42,7 +41,7 @@ overflow_add-result c =
     omega (
       arith,
       c.ranges.quantile,
-      c.in-Ok.ensures.row.from,
+      c.in-Ok.ensures.exact.from,
       same-left 6 _ c.args.model.now c.args.quantile _ c.pairs_are_quantiles.ensures (c.contiguous_symbols_differ.ensures _)
-          c.in-Ok.ensures.row _ _ c.in-Some.ensures,
+          c.in-Ok.ensures.exact _ _ c.in-Some.ensures,
     )

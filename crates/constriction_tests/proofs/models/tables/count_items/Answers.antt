@@ -1,4 +1,5 @@
 use Rattle.std.proofs.Common.{◌≡◌, ◌+◌, ◌^◌, ◌<◌, List, ◌∷◌, ◌∙◌, length, ap, arith, rules}
+use Rattle.constriction.specs.WalkLemmas.{first-given}
 use Rattle.constriction_tests.proofs.models.tables.count_items.Goals as goal
 
 -- a step takes one of what was left
@@ -13,8 +14,10 @@ rows-init g c =
 
 pub overflow_add-count : goal.overflow_add-count
 overflow_add-count g c =
-    let step = g.met.M.IterableEntropyModel.steps_law c.requires.clones c.rows._row-iterator _ c.next.new.self
-    c.in-Some.ensures.steps in
+    let step = first-given g.M.IterableEntropyModel.stands_for g.M.IterableEntropyModel.may_refuse g.M.Probability.WholeNumber.whole
+    g.M.Probability.WholeNumber.base (g.M.IterableEntropyModel.rows_left c.rows._row-iterator) _
+    (g.M.IterableEntropyModel.rows_left c.next.new.self)
+    (g.met.M.IterableEntropyModel.steps_law c.rows._row-iterator _ c.next.new.self c.in-Some.ensures.steps) in
     let fewer = one-fewer (g.M.IterableEntropyModel.rows_left c.rows._row-iterator)
     (g.M.IterableEntropyModel.rows_left c.next.new.self) step.1 in
     let below : c.rows.count + 1 < 2 ^ 64 = omega (arith, fewer, c.rows.invariant.2, c.requires.few) in
@@ -22,8 +25,10 @@ overflow_add-count g c =
 
 pub rows-preserved : goal.rows-preserved
 rows-preserved g c =
-    let step = g.met.M.IterableEntropyModel.steps_law c.requires.clones c.rows._row-iterator _ c.next.new.self
-    c.in-Some.ensures.steps in
+    let step = first-given g.M.IterableEntropyModel.stands_for g.M.IterableEntropyModel.may_refuse g.M.Probability.WholeNumber.whole
+    g.M.Probability.WholeNumber.base (g.M.IterableEntropyModel.rows_left c.rows._row-iterator) _
+    (g.M.IterableEntropyModel.rows_left c.next.new.self)
+    (g.met.M.IterableEntropyModel.steps_law c.rows._row-iterator _ c.next.new.self c.in-Some.ensures.steps) in
     let fewer = one-fewer (g.M.IterableEntropyModel.rows_left c.rows._row-iterator)
     (g.M.IterableEntropyModel.rows_left c.next.new.self) step.1 in
     let next = c.in-Some.ensures.goes.on c.rows.invariant.1 in
@@ -31,6 +36,6 @@ rows-preserved g c =
 
 pub returns : goal.returns
 returns g c =
-    let step = g.met.M.IterableEntropyModel.steps_law c.requires.clones c.rows._row-iterator _ c.next.new.self
+    let step = g.met.M.IterableEntropyModel.steps_law c.rows._row-iterator _ c.next.new.self
     c.in-None.ensures.steps in
     omega (arith, ap length step.0, c.rows.invariant.2)

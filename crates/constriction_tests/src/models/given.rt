@@ -1,0 +1,28 @@
+//! What a caller knows of a model that it makes of an array of weights.
+
+ghost use Rattle.std.specs.Prelude.{◌≡◌, Err, IfOk, map};
+ghost use Rattle.constriction.specs.Acceptance.{IsAccepted};
+ghost use Rattle.constriction.specs.Rows.{contiguous_rows};
+
+use crate::checks::same;
+use crate::models::contiguous::Table;
+use constriction::stream::model::{EntropyModel, ModelError};
+use constriction_words::WholeNumber;
+use std::alloc::Global;
+
+/// The model of four weights: its rows are those of the weights, and where there is none but for want of
+/// memory, they are not accepted.
+fn of_four(alloc: Global, weights: [u8; 4]) -> Result<Table<6>, ModelError>
+    ensures rows { IfOk result (λ m. ⟦<Table<6> as EntropyModel<6>>⟧.rows m
+        ≡ contiguous_rows (map ⟦<u8 as WholeNumber>⟧.whole weights)) }
+    ensures invalid { result ≡ Err ModelError.InvalidTable → ¬ (IsAccepted 8 6 (map ⟦<u8 as WholeNumber>⟧.whole weights)) }
+{
+    Table::from_nonzero_fixed_point_probabilities(alloc, weights, false)
+}
+
+#[test]
+fn a_model_of_an_array_has_its_rows(rt: HostRuntime) {
+    same(&rt, of_four(rt.alloc(), [3, 18, 1, 42]).is_ok(), true);
+    let refused = of_four(rt.alloc(), [3, 18, 1, 43]).err();
+    same(&rt, refused, Some(ModelError::InvalidTable));
+}
