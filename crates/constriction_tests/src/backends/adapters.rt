@@ -1,17 +1,18 @@
 //! Sources over iterators and sinks over callbacks.
 
-ghost use Rattle.std.specs.Prelude.{◌≡◌, ◌+◌, ◌/◌, slice_get, Err};
+ghost use Rattle.std.specs.Prelude.{◌≡◌, ◌↔◌, ◌+◌, ◌-◌, ◌/◌, ◌≤◌, length, slice_get, None, Ok, Err};
 ghost use Rattle.std.specs.Option.{option_map};
 
 use crate::checks::{same, vec_of};
 use constriction_backends::{
     AsSeekReadWords, BoundedReadWords, FallibleCallbackWriteWords, FallibleIteratorReadWords,
     FusedWords, InfallibleCallbackWriteWords, InfallibleIteratorReadWords, IntoReadWords,
-    ReadWords, Reverse, WriteWords,
+    ReadWords, Reverse, WriteWords, laws,
 };
 use constriction_words::{Queue, Stack, UnwrapInfallible};
 use std::convert::Infallible;
 use std::iter::Copied;
+use std::ops::Range;
 use std::process::Abort;
 use std::slice::Iter;
 
@@ -259,6 +260,49 @@ fn an_error_stands_in_the_place_of_a_word(rt: HostRuntime) {
     has_items_left(&rt, &source, 0);
     same(&rt, no_item_is_left(&source), true);
     same(&rt, first_item(all_items()), (Some(Ok(1)), 2));
+}
+
+/// Two reads of a source whose count is right: the second one finds an item where two were left.
+fn two_reads<Source: BoundedReadWords<u8, Queue>>(
+    source: &mut Source,
+) -> (
+    Result<Option<u8>, Source::ReadError>,
+    Result<Option<u8>, Source::ReadError>,
+)
+    requires can_read { Source.can_read source.old }
+    requires exact { Source.is_exact source.old }
+    ensures { (result.1 ≡ Ok None) ↔ (Source.items_left source.old ≤ 1) }
+{
+    laws::remaining_counts::<u8, Queue, Source>();
+    (source.read(), source.read())
+}
+
+/// Two reads of the words of a slice.
+fn two_of_slice(words: &[u8]) -> (Read, Read)
+    ensures { (result.1 ≡ Ok None) ↔ (length words.now ≤ 1) }
+{
+    two_reads(&mut InfallibleIteratorReadWords::new(words.iter().copied()))
+}
+
+/// Two reads of the numbers of a range.
+fn two_of_range(numbers: Range<u8>) -> (Read, Read)
+    ensures { (result.1 ≡ Ok None) ↔ (numbers.end - numbers.start ≤ 1) }
+{
+    two_reads(&mut InfallibleIteratorReadWords::new(numbers))
+}
+
+/// Two reads of words, and of errors in their place.
+fn two_of_items(items: &[Result<u8, char>]) -> (ReadItem, ReadItem)
+    ensures { (result.1 ≡ Ok None) ↔ (length items.now ≤ 1) }
+{
+    two_reads(&mut FallibleIteratorReadWords::new(items.iter().copied()))
+}
+
+#[test]
+fn the_second_read_ends_where_one_item_was_left(rt: HostRuntime) {
+    same(&rt, two_of_slice(&[5]), (Ok(Some(5)), Ok(None)));
+    same(&rt, two_of_range(7..9), (Ok(Some(7)), Ok(Some(8))));
+    same(&rt, two_of_items(&ITEMS), (Ok(Some(1)), Err('x')));
 }
 
 /// Whether a sink may be full before it is given words, what it answers to them, what its callback,

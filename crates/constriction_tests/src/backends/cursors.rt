@@ -1,10 +1,13 @@
 //! Each call of a cursor, over each kind of buffer.
 
+ghost use Rattle.std.specs.Prelude.{◌≡◌, ◌++◌, OnOk};
+ghost use Rattle.constriction_backends.specs.Cursor.{state_of};
+
 use crate::backends::marked::Marked;
 use crate::checks::{boxed_of, end_of_requests, same, same_at, vec_of};
 use constriction_backends::{
     BoundedReadWords, BoundedWriteError, BoundedWriteWords, Cursor, ReadWords, SafeBuf, SafeBufMut,
-    WriteWords,
+    WriteWords, laws,
 };
 use constriction_words::{Pos, Queue, Seek, Stack};
 use std::alloc::{AllocError, Global};
@@ -163,12 +166,15 @@ fn counts<Buf: SafeBufMut<u8>>(rt: &impl Abort, buf: Buf) -> Buf {
     cursor.into_buf_and_pos().0
 }
 
-/// What a cursor answers to the words of an iterator.
+/// What a cursor answers to the words of an iterator. Where it took them, they stand after those that
+/// were written before, in their order.
 fn extended<Buf: SafeBufMut<u8>>(
     cursor: &mut Cursor<u8, Buf>,
     added: &[u8],
-) -> Result<(), BoundedWriteError> {
-    cursor.extend_from_iter(added.iter().copied())
+) -> Result<(), BoundedWriteError>
+    ensures { OnOk result ((state_of cursor.new).before ≡ (state_of cursor.old).before ++ added.now) }
+{
+    laws::extending_counts(cursor, added.iter().copied())
 }
 
 /// What a cursor answers to a seek to 1, and to the words of an iterator from there on.
@@ -207,6 +213,25 @@ fn a_cursor_of_two_words_takes_two_of_three(rt: HostRuntime) {
     same(&rt, answer, Err(BoundedWriteError::OutOfSpace));
     same(&rt, cursor.buf().as_slice(), [1, 2].as_slice());
     same(&rt, cursor.pos(), 2);
+}
+
+/// What a cursor of one word answers to the words of an iterator, and the next word of that then.
+fn next_after_a_refusal(words: &[u8]) -> (Result<(), BoundedWriteError>, Option<u8>) {
+    let mut place = [0u8];
+    let buf: &mut [u8; 1] = &mut place;
+    let mut cursor = Cursor::<u8, _>::new_at_write_beginning(buf);
+    let mut items = words.iter().copied();
+    let answer = cursor.extend_from_iter(&mut items);
+    (answer, items.next())
+}
+
+#[test]
+fn items_after_a_refused_one_are_not_asked_for(rt: HostRuntime) {
+    same(
+        &rt,
+        next_after_a_refusal(&[1, 2, 3, 4]),
+        (Err(BoundedWriteError::OutOfSpace), Some(3)),
+    );
 }
 
 /// A view of a cursor of 10, 20, 30 at 1 moves by itself.

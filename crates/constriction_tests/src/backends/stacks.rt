@@ -1,6 +1,6 @@
 //! `Vec` and `SmallVec` as stacks.
 
-ghost use Rattle.std.specs.Prelude.{◌<◌, IsOk, length};
+ghost use Rattle.std.specs.Prelude.{◌≡◌, ◌<◌, List, [], Some, None, Ok, IfSome, IsOk, length, vec_capacity};
 
 use crate::checks::{end_of_requests, holds as vec_holds, same, same_at, vec_of};
 use constriction_backends::{
@@ -212,6 +212,16 @@ fn there_and_back_in_a_vec(words: &mut Vec<u8>, word: u8) -> Result<Option<u8>, 
     }
 }
 
+/// A read of any stack: where nothing was written, nothing comes.
+fn read_once<Backend: StackBackend<u8>>(
+    backend: &mut Backend,
+) -> Result<Option<u8>, Backend::ReadError>
+    requires { Backend.can_read backend.old }
+    ensures { Backend.tells_written backend.old [] → (result ≡ Ok None) × Backend.tells_written backend.new [] }
+{
+    backend.read()
+}
+
 #[test]
 fn what_was_pushed_is_popped(rt: HostRuntime) {
     laws_of_stacks_may_be_called();
@@ -221,12 +231,14 @@ fn what_was_pushed_is_popped(rt: HostRuntime) {
         same(&rt, word, Some(7));
     }
     assert!(rt; words.is_empty());
+    same(&rt, read_once(&mut words), Ok(None));
 }
 
-/// The last word of a stack is replaced: that needs no memory.
+/// The last word of a stack is replaced: that needs no memory, and none is asked for.
 fn replace_last(words: &mut Vec<u8>, word: u8) -> Result<(), AllocError>
     requires { 0 < length words.old.items }
-    ensures { IsOk result }
+    ensures ok { IsOk result }
+    ensures capacity { vec_capacity words.new ≡ vec_capacity words.old }
 {
     let _ = ReadWords::<u8, Stack>::read(words);
     words.write(word)
@@ -263,7 +275,8 @@ fn a_popped_word_leaves_its_place(rt: HostRuntime) {
     replaced_in_a_queue(&rt, rt.alloc());
 }
 
-/// Two words through any stack, as a stack coder writes and reads them.
+/// Two words through any stack, as a stack coder writes and reads them: they come back, the second one
+/// first, and then the stack tells its old words.
 fn there_and_back<Backend: StackBackend<u8>>(
     backend: &mut Backend,
     first: u8,
@@ -273,11 +286,23 @@ where
     Backend::WriteError: Drop,
     Backend::ReadError: Drop,
     requires { Backend.can_write backend.old }
+    ensures { IfSome result (λ read. (words : List _) → Backend.tells_written backend.old words
+        → (read ≡ (Some second, Some first)) × Backend.tells_written backend.new words) }
 {
-    backend.write(first).ok()?;
-    backend.write(second).ok()?;
-    let last = backend.read().ok()?;
-    Some((last, backend.read().ok()?))
+    laws::written_is_read::<u8, Backend>();
+    let Ok(()) = backend.write(first) else {
+        return None;
+    };
+    let Ok(()) = backend.write(second) else {
+        return None;
+    };
+    let Ok(last) = backend.read() else {
+        return None;
+    };
+    let Ok(next) = backend.read() else {
+        return None;
+    };
+    Some((last, next))
 }
 
 fn gives_back<Backend: StackBackend<u8>>(rt: &impl Abort, backend: &mut Backend)
