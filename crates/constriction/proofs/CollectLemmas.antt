@@ -6,17 +6,16 @@ use Rattle.std.specs.List.{list_any, IsDistinct}
 use Rattle.std.proofs.Common.{refl, ap, sym, ◌∙◌, subst}
 use Rattle.std.proofs.lemmas.List.{map-append}
 use Rattle.std.proofs.lemmas.Simd.{map-map}
-use Rattle.std.proofs.lemmas.Map.Keys.{IsDistinct-push}
-use Rattle.constriction.specs.Model.{row_of, StandForRows, ClonesRepeat}
+use Rattle.constriction.specs.Model.{row_of, StandForRows, ClonesAreEqual, ClonesRepeat}
 use Rattle.constriction.specs.Rows.{Row, RowsTile, symbols_of}
-use Rattle.constriction.specs.StandLemmas.{tile-made}
+use Rattle.constriction.specs.StandLemmas.{tile-made, distinct-made}
 use Rattle.constriction.specs.Stored.{IsStored}
 use Rattle.constriction.specs.Tables.{YieldsRow, rows_paired}
 use Rattle.constriction.specs.Walked.{WalkedGood, WalkedBad}
 use Rattle.constriction.specs.WalkLemmas.{gives-all-rows, walks-rows}
 use Rattle.constriction.proofs.FillLemmas.{yields-more}
 use Rattle.constriction.proofs.PairedLemmas.{paired-of_rows}
-use Rattle.constriction.proofs.ReadLemmas.{not-distinct, none-distinct}
+use Rattle.constriction.proofs.ReadLemmas.{not-distinct, none-distinct, distinct-push, never-any}
 
 module _ {Symbol Word Weight Refusal T : Type 0} (steps : T → Option (Result (Symbol × Word × Weight) Refusal) → T → Type 0) (it : T) where
   -- one row more of a walk
@@ -27,7 +26,7 @@ module _ {Symbol Word Weight Refusal T : Type 0} (steps : T → Option (Result (
       subst (λ (ys : List (Result (Symbol × Word × Weight) Refusal)). Yields steps it ys v) (sym (map-append Ok xs (x ∷ [])))
       (yields-more steps it (map Ok xs) u (Ok x) v w one)
 
-  module _ (eq : Symbol → Symbol → Bool) (laws : IsEquivalence eq) where
+  module _ (eq : Symbol → Symbol → Bool) (symm : (s t : Symbol) → eq s t ≡ eq t s) where
     -- the entries are those of the rows that the walk gave so far, no two symbols of which are equal
     pub record IsCollected (u : T) (entries : List (Word × Symbol)) : Type 0 where
       pub taken : List (Symbol × Word × Weight)
@@ -53,7 +52,7 @@ module _ {Symbol Word Weight Refusal T : Type 0} (steps : T → Option (Result (
         walked = walked-more f.taken u v o x f.walked step e;
         held = n ∙ ap (λ ys. ys ++ (x.1, x.0) ∷ []) f.held ∙ sym (map-append (λ y. (y.1, y.0)) f.taken (x ∷ []));
         distinct = rw (map-append (λ y. y.0) f.taken (x ∷ []))
-            (IsDistinct-push laws (map (λ y. y.0) f.taken) x.0 f.distinct (answer false apart));
+            (distinct-push eq symm (map (λ y. y.0) f.taken) x.0 f.distinct (answer false apart));
       }
 
       -- a symbol that is equal to one before it
@@ -62,13 +61,24 @@ module _ {Symbol Word Weight Refusal T : Type 0} (steps : T → Option (Result (
         f.taken ++ x ∷ [],
         v,
         walked-more f.taken u v o x f.walked step e,
-        λ d. not-distinct eq laws (map (λ y. y.0) f.taken) [] x.0 (answer true h)
+        λ d. not-distinct eq symm (map (λ y. y.0) f.taken) [] x.0 (answer true h)
             (subst (IsDistinct eq) (map-append (λ y. y.0) f.taken (x ∷ [])) d),
       )
 
     pub collected-end : (u v : T) (entries : List (Word × Symbol)) → IsCollected u entries → steps u None v
         → WalkedGood steps it (λ xs. (entries ≡ map (λ x. (x.1, x.0)) xs) × IsDistinct eq (map (λ x. x.0) xs))
     collected-end u v entries f end = (f.taken, (v, (u, f.walked, end)), (f.held, f.distinct))
+
+-- ---- walks whose symbols are not compared
+
+module _ {Symbol Word Weight Refusal T : Type 0} (steps : T → Option (Result (Symbol × Word × Weight) Refusal) → T → Type 0) (it : T) where
+  -- one row more
+  pub collected-uncompared : (u v : T) (entries next : List (Word × Symbol)) (o : Result (Symbol × Word × Weight) Refusal)
+      (x : Symbol × Word × Weight) → IsCollected steps it (λ _ _. false) (λ _ _. refl) u entries → steps u (Some o) v → o ≡ Ok x
+      → next ≡ entries ++ (x.1, x.0) ∷ [] → IsCollected steps it (λ _ _. false) (λ _ _. refl) v next
+  collected-uncompared u v entries next o x f step e n =
+      collected-step steps it (λ _ _. false) (λ _ _. refl) u v entries o x f step e entries
+      (list_any (λ _. false) (map (λ y. y.1) entries)) refl refl next n (never-any (map (λ y. y.1) entries))
 
 -- ---- walks through all rows of a model
 
@@ -86,6 +96,18 @@ module _ {Symbol Word Weight Refusal T : Type 0} (Stands : Symbol → Symbol →
   module _ (eq : Symbol → Symbol → Bool) where
     walked-symbols : (xs : List (Symbol × Word × Weight)) → map (λ x. x.0) xs ≡ symbols_of (map (row_of whole base) xs)
     walked-symbols xs = sym (map-map (λ r. r.symbol) (row_of whole base) xs)
+
+    -- the symbols of a walk differ where those of the rows do, and a clone is equal to its symbol
+    pub walked-apart : IsEquivalence eq → ClonesAreEqual eq Stands → IsDistinct eq (symbols_of rows) → (entries : List (Word × Symbol))
+        → WalkedGood steps it (λ xs. entries ≡ map (λ x. (x.1, x.0)) xs)
+        → WalkedGood steps it (λ xs. (entries ≡ map (λ x. (x.1, x.0)) xs) × IsDistinct eq (map (λ x. x.0) xs))
+    walked-apart laws equal differ entries good =
+        let made : List (Row Symbol) = map (row_of whole base) good.0 in (
+          good.0,
+          good.1,
+          (good.2,
+              subst (IsDistinct eq) (sym (walked-symbols good.0)) (distinct-made eq laws Stands equal made rows (walked-all good.0 good.1) differ)),
+        )
 
     -- the entries of such a walk
     module _ (bits precision : ℕ) (t : RowsTile bits precision rows) (entries : List (Word × Symbol))

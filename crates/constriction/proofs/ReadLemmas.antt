@@ -1,13 +1,13 @@
 -- Reading rows from symbols and weights.
 use Rattle.std.specs.Prelude.{◌≡◌, ℕ, ◌+◌, ◌-◌, ◌%◌, ◌^◌, ◌<◌, ◌≤◌, ◌||◌, Bool, true, false, List, [], ◌∷◌, ◌++◌, length, map, sum, Option, Some, None}
-use Rattle.std.proofs.Common.{refl, ap, sym, ◌∙◌, arith, subst, rules, tests}
-use Rattle.std.specs.Cmp.{IsEquivalence}
+use Rattle.std.proofs.Common.{refl, ap, sym, ◌∙◌, arith, subst, inl, inr, rules, tests}
 use Rattle.std.specs.Iterator.{Yields}
 use Rattle.std.specs.List.{list_any, AllByRecursion, IsDistinct}
 use Rattle.std.proofs.Math.Nat.{mod-eq_of_lt}
 use Rattle.std.proofs.lemmas.List.{length-map, length-append, length_push, map-append, append_assoc}
 use Rattle.std.proofs.lemmas.List.Sums.{sum_by-cons}
-use Rattle.std.proofs.lemmas.Map.Keys.{IsDistinct-head, IsDistinct-tail, IsDistinct-push}
+use Rattle.std.proofs.lemmas.Bool.{cases_Bool}
+use Rattle.std.proofs.lemmas.Map.Keys.{IsDistinct-head, IsDistinct-tail, IsDistinct-cons}
 use Rattle.constriction.specs.Acceptance.{IsAccepted, AreAccepted, completed, GaveBothGood, GaveBothBad, ToItsEnd, SoFar}
 use Rattle.constriction.specs.Filling.{IsFilled, IsRowEnd}
 use Rattle.constriction.specs.RowLemmas.{symbols-rows_from}
@@ -21,17 +21,41 @@ holds-mid P [] ys y a = a.0
 holds-mid P (x ∷ xs) ys y a = holds-mid P xs ys y a.1
 
 -- a list in which a symbol is equal to one before it
-pub not-distinct : {K : Type 0} (eq : K → K → Bool) → IsEquivalence eq → (xs ys : List K) (y : K) → list_any (eq y) xs ≡ true
-    → ¬ (IsDistinct eq (xs ++ y ∷ ys))
-not-distinct eq laws [] ys y e d = search (rules, tests)
-not-distinct eq laws (x ∷ xs) ys y e d =
-    let apart : eq y x ≡ false = laws.symm y x ∙ holds-mid (λ w. eq x w ≡ false) xs ys y (IsDistinct-head eq x (xs ++ y ∷ ys) d) in
+pub not-distinct : {K : Type 0} (eq : K → K → Bool) → ((x y : K) → eq x y ≡ eq y x) → (xs ys : List K) (y : K)
+    → list_any (eq y) xs ≡ true → ¬ (IsDistinct eq (xs ++ y ∷ ys))
+not-distinct eq symm [] ys y e d = search (rules, tests)
+not-distinct eq symm (x ∷ xs) ys y e d =
+    let apart : eq y x ≡ false = symm y x ∙ holds-mid (λ w. eq x w ≡ false) xs ys y (IsDistinct-head eq x (xs ++ y ∷ ys) d) in
     let rest : list_any (eq y) xs ≡ true = ap (λ b. b || list_any (eq y) xs) (sym apart) ∙ e in
-    not-distinct eq laws xs ys y rest (IsDistinct-tail eq x (xs ++ y ∷ ys) d)
+    not-distinct eq symm xs ys y rest (IsDistinct-tail eq x (xs ++ y ∷ ys) d)
 
 pub none-distinct : {K : Type 0} (eq : K → K → Bool) → IsDistinct eq []
 unfolding IsDistinct
 none-distinct eq = tt
+
+-- ---- a list with one symbol more, which is equal to none before it
+
+all-push : {K : Type 0} (P : K → Type 0) (xs : List K) (y : K) → AllByRecursion P xs → P y → AllByRecursion P (xs ++ y ∷ [])
+all-push P [] y a p = (p, tt)
+all-push P (x ∷ xs) y a p = (a.0, all-push P xs y a.1 p)
+
+pub distinct-push : {K : Type 0} (eq : K → K → Bool) → ((x y : K) → eq x y ≡ eq y x) → (xs : List K) (y : K) → IsDistinct eq xs
+    → list_any (eq y) xs ≡ false → IsDistinct eq (xs ++ y ∷ [])
+distinct-push eq symm [] y d absent = IsDistinct-cons eq y [] tt (none-distinct eq)
+distinct-push eq symm (x ∷ xs) y d absent = elim (cases_Bool (eq y x)) [
+  | inl same ↦
+      let bad : true ≡ false = ap (λ b. b || list_any (eq y) xs) (sym same) ∙ absent in
+      cc
+  | inr apart ↦
+      let rest : list_any (eq y) xs ≡ false = ap (λ b. b || list_any (eq y) xs) (sym apart) ∙ absent in
+      IsDistinct-cons eq x (xs ++ y ∷ []) (all-push (λ w. eq x w ≡ false) xs y (IsDistinct-head eq x xs d) (symm x y ∙ apart))
+      (distinct-push eq symm xs y (IsDistinct-tail eq x xs d) rest)
+]
+
+-- where symbols are not compared, none is equal to another
+pub never-any : {K : Type 0} (xs : List K) → list_any (λ _. false) xs ≡ false
+never-any [] = refl
+never-any (x ∷ xs) = never-any xs
 
 -- ---- one row more
 
@@ -59,7 +83,7 @@ length-completed precision false ws = omega arith
 length-completed precision true ws = omega (arith, length_push ws (2 ^ precision - sum ws))
 
 module _ {S T Symbol W Stored : Type 0} (steps : S → Option Symbol → S → Type 0) (it : S) (wsteps : T → Option W → T → Type 0) (jt : T)
-    (eq : Symbol → Symbol → Bool) (laws : IsEquivalence eq) (holds : Stored → List (Row Symbol) → Type 0) (whole : W → ℕ)
+    (eq : Symbol → Symbol → Bool) (symm : (s t : Symbol) → eq s t ≡ eq t s) (holds : Stored → List (Row Symbol) → Type 0) (whole : W → ℕ)
     (bits precision : ℕ) where
   -- what was read and stored so far: the rows of as many symbols as weights, which leave `room` quantiles after the one at `left`
   pub record IsRead (stored : Stored) (u : S) (v : T) (left : W) (room : ℕ) : Type 0 where
@@ -119,7 +143,7 @@ module _ {S T Symbol W Stored : Type 0} (steps : S → Option Symbol → S → T
       from_symbols = yields-more steps it r.symbols u s u' r.from_symbols ss;
       from_weights = yields-more wsteps jt r.weights v w v' r.from_weights sw;
       as_many = omega (arith, r.as_many, length_push r.symbols s, length_push r.weights w);
-      distinct = IsDistinct-push laws r.symbols s r.distinct (apart-read s false apart);
+      distinct = distinct-push eq symm r.symbols s r.distinct (apart-read s false apart);
       held = subst (holds stored')
           (rows-push s (whole w) (whole left) refl ∙ ap (rows_of (r.symbols ++ s ∷ [])) (sym (map-append whole r.weights (w ∷ [])))) h;
       filled = filled-more whole bits precision r.weights r.table left w (Some next) r.filled end;
@@ -172,7 +196,7 @@ module _ {S T Symbol W Stored : Type 0} (steps : S → Option Symbol → S → T
         (v', yields-more wsteps jt r.weights v w v' r.from_weights sw),
         λ all others a b good.
             let is : all ≡ r.symbols ++ s ∷ a.0 = a.1 ∙ append_assoc r.symbols (s ∷ []) a.0 in
-            not-distinct eq laws r.symbols a.0 s (apart-read s true found) (subst (IsDistinct eq) is good.distinct),
+            not-distinct eq symm r.symbols a.0 s (apart-read s true found) (subst (IsDistinct eq) is good.distinct),
       )
 
       pub bad-repeat_last : (u' : S) (v' : T) (s : Symbol) → wsteps v None v' → steps u (Some s) u'
@@ -186,7 +210,7 @@ module _ {S T Symbol W Stored : Type 0} (steps : S → Option Symbol → S → T
         (v', (v, r.from_weights, sw)),
         λ all others a b good.
             let is : all ≡ r.symbols ++ s ∷ a.0 = a.1 ∙ append_assoc r.symbols (s ∷ []) a.0 in
-            not-distinct eq laws r.symbols a.0 s (apart-read s true found) (subst (IsDistinct eq) is good.distinct),
+            not-distinct eq symm r.symbols a.0 s (apart-read s true found) (subst (IsDistinct eq) is good.distinct),
       )
 
       -- one weight more than fills the quantiles
@@ -292,7 +316,7 @@ module _ {S T Symbol W Stored : Type 0} (steps : S → Option Symbol → S → T
           as_many =
               length_push r.symbols s ∙ ap (λ n. n + 1) r.as_many ∙ sym (length_push r.weights w) ∙ sym
               (length-map (r.weights ++ w ∷ []) whole);
-          distinct = IsDistinct-push laws r.symbols s r.distinct (apart-read s false apart);
+          distinct = distinct-push eq symm r.symbols s r.distinct (apart-read s false apart);
         },
         subst (holds stored')
             (rows-push s (whole w) (whole left) refl ∙ ap (rows_of (r.symbols ++ s ∷ [])) (sym (map-append whole r.weights (w ∷ [])))) h,
@@ -318,7 +342,7 @@ module _ {S T Symbol W Stored : Type 0} (steps : S → Option Symbol → S → T
               as_many =
                   length_push r.symbols s ∙ ap (λ n. n + 1) (r.as_many ∙ sym (length-map r.weights whole))
                   ∙ sym (length_push (map whole r.weights) (2 ^ precision - sum (map whole r.weights)));
-              distinct = IsDistinct-push laws r.symbols s r.distinct (apart-read s false apart);
+              distinct = distinct-push eq symm r.symbols s r.distinct (apart-read s false apart);
             },
             subst (holds stored')
                 (rows-push s (whole w) (whole left) refl ∙ ap (λ n. rows_of (r.symbols ++ s ∷ []) (map whole r.weights ++ n ∷ [])) is) h,

@@ -1,6 +1,6 @@
 -- Rows and answers whose symbols stand for those of other rows, as clones do: they tile as these, and where clones are the same values they
 -- are these; and what follows where clones are equal to what they are clones of. No public clause cites this module.
-use Rattle.std.specs.Prelude.{◌≡◌, ℕ, ◌+◌, Bool, true, false, List, [], ◌∷◌, ◌++◌, length, map}
+use Rattle.std.specs.Prelude.{◌≡◌, ℕ, ◌+◌, Bool, false, List, [], ◌∷◌, ◌++◌, map}
 use Rattle.std.specs.Cmp.{IsEquivalence}
 use Rattle.std.specs.List.{AllZip, AllByRecursion, IsDistinct}
 use Rattle.std.specs.Option.{option_or}

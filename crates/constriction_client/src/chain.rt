@@ -14,7 +14,8 @@ use crate::decoder_form::{DecoderForm, Searching, Tabled};
 use crate::laws::form_symbols_differ;
 use constriction::laws::table_gives_all_rows;
 use constriction::stream::model::{
-    EntropyModel, FromIterableEntropyModel, IterableEntropyModel, ModelError, Weight,
+    EntropyModel, IterableEntropyModel, ModelError, Weight, to_generic_decoder_model_of_distinct,
+    to_generic_lookup_decoder_model_of_distinct,
 };
 use constriction_words::{IndexWord, WholeNumber};
 use std::alloc::{AllocError, Global};
@@ -22,9 +23,9 @@ use std::alloc::{AllocError, Global};
 /// A conversion of a [`DecoderForm`].
 #[derive(Debug, PartialEq, Eq, Drop)]
 pub enum ChainStep {
-    /// To the form that searches all rows, by `from_iterable_entropy_model`.
+    /// To the form that searches all rows, by `to_generic_decoder_model_of_distinct`.
     ToSearch,
-    /// To the form with a table, by `from_iterable_entropy_model`.
+    /// To the form with a table, by `to_generic_lookup_decoder_model_of_distinct`.
     ToLookup,
     /// To the form that searches all rows, by `into_non_contiguous_categorical`, which takes no memory. A
     /// form that searches stays.
@@ -178,14 +179,14 @@ impl<Symbol: Eq + Clone + Drop, Probability: IndexWord, const PRECISION: usize> 
         × SymbolsDiffer Symbol.eq ⟦<DecoderForm<Symbol, Probability, PRECISION> as EntropyModel<PRECISION>>⟧.rows };
 
     fn to_search(&self, alloc: Global) -> Result<Self, ModelError> {
-        match Searching::from_iterable_entropy_model(alloc, self) {
+        match to_generic_decoder_model_of_distinct::<_, PRECISION>(alloc, self) {
             Ok(model) => Ok(DecoderForm::Search(model)),
             Err(refusal) => Err(refusal),
         }
     }
 
     fn to_lookup(&self, alloc: Global) -> Result<Self, ModelError> {
-        match Tabled::from_iterable_entropy_model(alloc, self) {
+        match to_generic_lookup_decoder_model_of_distinct::<_, PRECISION>(alloc, self) {
             Ok(model) => Ok(DecoderForm::Lookup(model)),
             Err(refusal) => Err(refusal),
         }

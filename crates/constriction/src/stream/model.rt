@@ -34,6 +34,9 @@ pub use crate::stream::model::categorical::non_contiguous::{
 pub use crate::stream::model::categorical::non_contiguous_table::NonContiguousSymbolTable;
 pub use crate::stream::model::categorical::symbol_table::ContiguousSymbolTable;
 pub use crate::stream::model::cdf_probe::{Alone, CdfEntry, CdfProbe, WithSymbol};
+pub use crate::stream::model::convert::distinct::{
+    to_generic_decoder_model_of_distinct, to_generic_lookup_decoder_model_of_distinct,
+};
 pub use crate::stream::model::convert::{
     FromIterableEntropyModel, to_generic_decoder_model, to_generic_encoder_model,
     to_generic_lookup_decoder_model,

@@ -17,6 +17,8 @@ use std::alloc::Global;
 use std::hash::Hash;
 use std::marker::PhantomData;
 
+pub mod distinct;
+
 /// A model that is made from any model that can be walked through.
 ///
 /// The trait takes that model `M`, so that its words and symbols are those of the result. It has to be in

@@ -158,7 +158,7 @@ impl<Symbol: Hash + Eq + Drop, Probability: WholeNumber> TakesRows<Symbol, Proba
         insert_apart(self, symbol, Entry { left, weight })
     }
 
-    ghost equality_law = { Symbol.Eq.laws };
+    ghost symmetry_law = { Symbol.Eq.laws.symm };
 }
 
 impl<

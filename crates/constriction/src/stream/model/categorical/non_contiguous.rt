@@ -108,7 +108,7 @@ impl<Word: WholeNumber, Symbol: Eq + Drop> TakesRows<Symbol, Word> for Vec<(Word
         Ok(())
     }
 
-    ghost equality_law = { Symbol.Eq.laws };
+    ghost symmetry_law = { Symbol.Eq.laws.symm };
 }
 
 impl<

@@ -2,7 +2,6 @@
 
 ghost use Rattle.std.specs.Prelude.{◌≡◌, ◌+◌, ◌<◌, ◌≤◌, ℕ, List, Bool, [], ◌∷◌, ◌++◌, IfOk, IsOk, true, false, map};
 ghost use Rattle.std.specs.Iterator.{IsFinite};
-ghost use Rattle.std.specs.Cmp.{IsEquivalence};
 ghost use Rattle.std.specs.List.{list_any};
 ghost use Rattle.constriction.specs.Acceptance.{completed, AreAccepted, GaveBothGood, GaveBothBad};
 ghost use Rattle.constriction.specs.Rows.{Row, rows_of, symbols_of};
@@ -13,7 +12,7 @@ use constriction_words::WholeNumber;
 
 /// What rows are stored in, one after another, with no two equal symbols.
 pub(crate) trait TakesRows<Symbol, Word: WholeNumber> {
-    // Whether two symbols are equal.
+    // Whether two symbols are equal. Of what compares none it is never so.
     ghost symbol_eq: { Symbol → Symbol → Bool };
 
     // That these rows are stored, and no others.
@@ -29,7 +28,7 @@ pub(crate) trait TakesRows<Symbol, Word: WholeNumber> {
         ensures repeated { result ≡ Err ModelError.InvalidTable → (rows : List (Row Symbol))
             → holds self.old rows → list_any (symbol_eq symbol) (symbols_of rows) ≡ true };
 
-    ghost equality_law: { IsEquivalence symbol_eq };
+    ghost symmetry_law: { (s t : Symbol) → symbol_eq s t ≡ symbol_eq t s };
 }
 
 /// The rows of these symbols and weights, the last of which may be inferred, stored in what holds no

@@ -47,6 +47,29 @@ where
     Ok(cdf)
 }
 
+/// The entries of the rows that a walk gives, whose symbols are not compared.
+#[inline]
+pub(crate) fn entries_collected<Symbol, Word, Positive, Walk, const PRECISION: usize>(
+    alloc: Global,
+    mut walk: Walk,
+) -> Result<Vec<(Word, Symbol)>, AllocError>
+where
+    Symbol: Drop,
+    Word: Copy,
+    Positive: Copy,
+    Walk: Iterator<Item = Result<(Symbol, Word, Positive), AllocError>>,
+    requires goes { Walk.can_next walk }
+    requires ends { IsFinite (Walk.remaining walk) }
+    ensures { IfOk result (λ v. WalkedGood Walk.next_gives walk (λ xs. v.items ≡ map (λ x. (x.1, x.0)) xs)) }
+{
+    let mut entries = room_for(alloc, rows_announced::<PRECISION>(walk.size_hint().0));
+    'rows: while let Some(row) = walk.next() {
+        let (symbol, left, _weight) = row?;
+        entries.push((left, symbol))?;
+    }
+    Ok(entries)
+}
+
 /// A table of the entries of the rows that a walk gives, of each symbol that of the last row.
 #[inline]
 pub(crate) fn table_walked<Symbol, Word, Positive, Walk, const PRECISION: usize>(

@@ -14,7 +14,7 @@ rows-init g c = (
   c.requires.symbols_go,
   c.requires.symbols_end,
   read-none g.Symbols.Iterator.next_gives _ g.Weights.Iterator.next_gives _ g.Stored.TakesRows.symbol_eq
-      g.met.Stored.TakesRows.equality_law g.Stored.TakesRows.holds g.P.WholeNumber.whole g.P.WholeNumber.BITS g.row.PRECISION
+      g.met.Stored.TakesRows.symmetry_law g.Stored.TakesRows.holds g.P.WholeNumber.whole g.P.WholeNumber.BITS g.row.PRECISION
       c.args.stored c.least-left.result (g.P.WholeNumber.whole c.greatest-room.result) c.requires.none c.least-left.ensures
       c.greatest-room.ensures.value,
 )
@@ -42,7 +42,7 @@ returns-then-not-is_filled_by-clause-invalid g c = λ _.
     let why : (whole w ≡ 0) ⊎ (2 ^ g.row.PRECISION < sum (map whole read.weights) + whole w) =
     elim bad [ inl none ↦ inl none | inr much ↦ inr (omega (arith, much, read.rest, read.filled.is)) ] in
     bad-weight g.Symbols.Iterator.next_gives _ g.Weights.Iterator.next_gives _ g.Stored.TakesRows.symbol_eq
-    g.met.Stored.TakesRows.equality_law g.Stored.TakesRows.holds g.P.WholeNumber.whole g.P.WholeNumber.BITS g.row.PRECISION
+    g.met.Stored.TakesRows.symmetry_law g.Stored.TakesRows.holds g.P.WholeNumber.whole g.P.WholeNumber.BITS g.row.PRECISION
     c.rows.stored c.rows.symbols c.rows.weights c.rows.left (g.P.WholeNumber.whole c.rows.room) c.rows.invariant.4 c.args.infer_last _ w
     c.in-Some.ensures.steps
     (λ more. bad-more whole g.P.WholeNumber.BITS g.row.PRECISION c.args.infer_last read.weights more w why)
@@ -63,7 +63,7 @@ returns-then-infer_last-clause-invalid g c = λ _.
     let much : 2 ^ g.row.PRECISION ≤ sum (map whole (read.weights ++ w ∷ [])) = omega (arith, full.is) in
     let infer : c.args.infer_last ≡ true = c.if-infer_last.true in
     bad-weight g.Symbols.Iterator.next_gives _ g.Weights.Iterator.next_gives _ g.Stored.TakesRows.symbol_eq
-    g.met.Stored.TakesRows.equality_law g.Stored.TakesRows.holds g.P.WholeNumber.whole g.P.WholeNumber.BITS g.row.PRECISION
+    g.met.Stored.TakesRows.symmetry_law g.Stored.TakesRows.holds g.P.WholeNumber.whole g.P.WholeNumber.BITS g.row.PRECISION
     c.rows.stored c.rows.symbols c.rows.weights c.rows.left (g.P.WholeNumber.whole c.rows.room) c.rows.invariant.4 c.args.infer_last _ w
     c.in-Some.ensures.steps
     (λ more. rw infer (bad-full-more whole g.P.WholeNumber.BITS g.row.PRECISION (read.weights ++ w ∷ []) more much))
@@ -74,7 +74,7 @@ next-requires-then-is_at_most g c = c.rows.invariant.2
 pub returns-in_default-next-clause-invalid : goal.returns-in_default-next-clause-invalid
 returns-in_default-next-clause-invalid g c = λ _.
     bad-few g.Symbols.Iterator.next_gives _ g.Weights.Iterator.next_gives _ g.Stored.TakesRows.symbol_eq
-    g.met.Stored.TakesRows.equality_law g.Stored.TakesRows.holds g.P.WholeNumber.whole g.P.WholeNumber.BITS g.row.PRECISION
+    g.met.Stored.TakesRows.symmetry_law g.Stored.TakesRows.holds g.P.WholeNumber.whole g.P.WholeNumber.BITS g.row.PRECISION
     c.rows.stored c.rows.symbols c.rows.weights c.rows.left (g.P.WholeNumber.whole c.rows.room) c.rows.invariant.4 c.args.infer_last _ _
     c.in-Some.weight c.in-Some.ensures.steps c.in_default-next.ensures.steps
 
@@ -82,7 +82,7 @@ pub returns-in_err-take_row-clause-invalid : goal.returns-in_err-take_row-clause
 returns-in_err-take_row-clause-invalid g c = λ h.
     let e : c.take_row.result ≡ Err InvalidTable = search rules in
     bad-repeat g.Symbols.Iterator.next_gives _ g.Weights.Iterator.next_gives _ g.Stored.TakesRows.symbol_eq
-    g.met.Stored.TakesRows.equality_law g.Stored.TakesRows.holds g.P.WholeNumber.whole g.P.WholeNumber.BITS g.row.PRECISION
+    g.met.Stored.TakesRows.symmetry_law g.Stored.TakesRows.holds g.P.WholeNumber.whole g.P.WholeNumber.BITS g.row.PRECISION
     c.rows.stored c.rows.symbols c.rows.weights c.rows.left (g.P.WholeNumber.whole c.rows.room) c.rows.invariant.4 c.args.infer_last _ _
     c.in-Some.weight c.in-Some-next.symbol
     c.in-Some.ensures.steps c.in-Some-next.ensures.steps (c.take_row.ensures.repeated e
@@ -104,7 +104,7 @@ returns-in-Some-next-2-clause-invalid g c = λ _.
     let full = filled-more whole g.P.WholeNumber.BITS g.row.PRECISION read.weights read.table c.rows.left w None read.filled end in
     let much : 2 ^ g.row.PRECISION ≤ sum (map whole (read.weights ++ w ∷ [])) = omega (arith, full.is) in
     bad-weight_after g.Symbols.Iterator.next_gives _ g.Weights.Iterator.next_gives _ g.Stored.TakesRows.symbol_eq
-    g.met.Stored.TakesRows.equality_law g.Stored.TakesRows.holds g.P.WholeNumber.whole g.P.WholeNumber.BITS g.row.PRECISION
+    g.met.Stored.TakesRows.symmetry_law g.Stored.TakesRows.holds g.P.WholeNumber.whole g.P.WholeNumber.BITS g.row.PRECISION
     c.rows.stored c.rows.symbols c.rows.weights c.rows.left (g.P.WholeNumber.whole c.rows.room) c.rows.invariant.4 c.args.infer_last _ _
     w c.in-Some-next-2.field-0 c.in-Some.ensures.steps c.in-Some-next-2.ensures.steps much
 
@@ -112,7 +112,7 @@ pub returns-in-Some-next-3-clause-invalid : goal.returns-in-Some-next-3-clause-i
 returns-in-Some-next-3-clause-invalid g c = λ _.
     let given : c.args.infer_last ≡ false = c.if-infer_last.false in
     rw given (bad-many g.Symbols.Iterator.next_gives _ g.Weights.Iterator.next_gives _ g.Stored.TakesRows.symbol_eq
-    g.met.Stored.TakesRows.equality_law g.Stored.TakesRows.holds g.P.WholeNumber.whole g.P.WholeNumber.BITS g.row.PRECISION
+    g.met.Stored.TakesRows.symmetry_law g.Stored.TakesRows.holds g.P.WholeNumber.whole g.P.WholeNumber.BITS g.row.PRECISION
     c.rows.stored c.rows.symbols c.rows.weights c.rows.left (g.P.WholeNumber.whole c.rows.room) c.rows.invariant.4 _ _ _ _
     c.in-Some.weight c.in-Some-next.symbol c.in-Some-next-3.field-0
     c.in-Some.ensures.steps c.in_default-next-2.ensures.steps c.in-Some-next.ensures.steps c.in-Some-next-3.ensures.steps)
@@ -131,7 +131,7 @@ returns-then-is_at_most-clause-ok g c =
     read.rest wrapped (pow_pos g.P.WholeNumber.BITS) takes.0 takes.1 in
     let given : c.args.infer_last ≡ false = c.if-infer_last.false in
     rw given (good-last g.Symbols.Iterator.next_gives _ g.Weights.Iterator.next_gives _ g.Stored.TakesRows.symbol_eq
-    g.met.Stored.TakesRows.equality_law g.Stored.TakesRows.holds g.P.WholeNumber.whole g.P.WholeNumber.BITS g.row.PRECISION
+    g.met.Stored.TakesRows.symmetry_law g.Stored.TakesRows.holds g.P.WholeNumber.whole g.P.WholeNumber.BITS g.row.PRECISION
     c.rows.stored c.rows.symbols c.rows.weights c.rows.left (g.P.WholeNumber.whole c.rows.room) c.rows.invariant.4 c.take_row.new.self _
     _ _ _ c.in-Some-next.symbol w
     c.in-Some.ensures.steps c.in_default-next-2.ensures.steps c.in-Some-next.ensures.steps c.in_default-next-3.ensures.steps
@@ -144,7 +144,7 @@ next-requires-in-Some g c = c.rows.invariant.2
 pub returns-in_default-next-4-clause-invalid : goal.returns-in_default-next-4-clause-invalid
 returns-in_default-next-4-clause-invalid g c = λ _.
     bad-few g.Symbols.Iterator.next_gives _ g.Weights.Iterator.next_gives _ g.Stored.TakesRows.symbol_eq
-    g.met.Stored.TakesRows.equality_law g.Stored.TakesRows.holds g.P.WholeNumber.whole g.P.WholeNumber.BITS g.row.PRECISION
+    g.met.Stored.TakesRows.symmetry_law g.Stored.TakesRows.holds g.P.WholeNumber.whole g.P.WholeNumber.BITS g.row.PRECISION
     c.rows.stored c.rows.symbols c.rows.weights c.rows.left (g.P.WholeNumber.whole c.rows.room) c.rows.invariant.4 c.args.infer_last _ _
     c.in-Some.weight c.in-Some.ensures.steps c.in_default-next-4.ensures.steps
 
@@ -167,7 +167,7 @@ pub returns-in_err-take_row-2-clause-invalid : goal.returns-in_err-take_row-2-cl
 returns-in_err-take_row-2-clause-invalid g c = λ h.
     let e : c.take_row-in-Some.result ≡ Err InvalidTable = search rules in
     bad-repeat g.Symbols.Iterator.next_gives _ g.Weights.Iterator.next_gives _ g.Stored.TakesRows.symbol_eq
-    g.met.Stored.TakesRows.equality_law g.Stored.TakesRows.holds g.P.WholeNumber.whole g.P.WholeNumber.BITS g.row.PRECISION
+    g.met.Stored.TakesRows.symmetry_law g.Stored.TakesRows.holds g.P.WholeNumber.whole g.P.WholeNumber.BITS g.row.PRECISION
     c.rows.stored c.rows.symbols c.rows.weights c.rows.left (g.P.WholeNumber.whole c.rows.room) c.rows.invariant.4 c.args.infer_last _ _
     c.in-Some.weight c.in-Some-next-4.symbol
     c.in-Some.ensures.steps c.in-Some-next-4.ensures.steps (c.take_row-in-Some.ensures.repeated e
@@ -207,7 +207,7 @@ rows-preserved g c =
       symbols.0,
       symbols.1,
       read-more g.Symbols.Iterator.next_gives _ g.Weights.Iterator.next_gives _ g.Stored.TakesRows.symbol_eq
-          g.met.Stored.TakesRows.equality_law g.Stored.TakesRows.holds g.P.WholeNumber.whole g.P.WholeNumber.BITS g.row.PRECISION
+          g.met.Stored.TakesRows.symmetry_law g.Stored.TakesRows.holds g.P.WholeNumber.whole g.P.WholeNumber.BITS g.row.PRECISION
           c.rows.stored c.rows.symbols c.rows.weights c.rows.left (g.P.WholeNumber.whole c.rows.room) c.rows.invariant.4
           c.take_row-in-Some.new.self c.next-in-Some.new.self c.next.new.self c.in-Some-next-4.symbol w c.plus-left.result
           (whole c.minus-room.result)
@@ -221,7 +221,7 @@ pub returns-then-not-infer_last-clause-invalid : goal.returns-then-not-infer_las
 returns-then-not-infer_last-clause-invalid g c = λ _.
     let given : c.args.infer_last ≡ false = c.if-not-infer_last.true in
     rw given (bad-left_over g.Symbols.Iterator.next_gives _ g.Weights.Iterator.next_gives _ g.Stored.TakesRows.symbol_eq
-    g.met.Stored.TakesRows.equality_law g.Stored.TakesRows.holds g.P.WholeNumber.whole g.P.WholeNumber.BITS g.row.PRECISION
+    g.met.Stored.TakesRows.symmetry_law g.Stored.TakesRows.holds g.P.WholeNumber.whole g.P.WholeNumber.BITS g.row.PRECISION
     c.rows.stored c.rows.symbols c.rows.weights c.rows.left (g.P.WholeNumber.whole c.rows.room) c.rows.invariant.4 _
     c.in_default.ensures.steps)
 
@@ -230,7 +230,7 @@ returns-then-is_greatest-clause-invalid g c = λ _.
     let infer : c.args.infer_last ≡ true = c.if-not-infer_last.false in
     let wide : g.P.WholeNumber.whole c.rows.room + 1 ≡ 2 ^ g.P.WholeNumber.BITS = search rules in
     rw infer (bad-wide_last g.Symbols.Iterator.next_gives _ g.Weights.Iterator.next_gives _ g.Stored.TakesRows.symbol_eq
-    g.met.Stored.TakesRows.equality_law g.Stored.TakesRows.holds g.P.WholeNumber.whole g.P.WholeNumber.BITS g.row.PRECISION
+    g.met.Stored.TakesRows.symmetry_law g.Stored.TakesRows.holds g.P.WholeNumber.whole g.P.WholeNumber.BITS g.row.PRECISION
     c.rows.stored c.rows.symbols c.rows.weights c.rows.left (g.P.WholeNumber.whole c.rows.room) c.rows.invariant.4 _
     c.in_default.ensures.steps wide)
 
@@ -241,7 +241,7 @@ pub returns-in_default-next-5-clause-invalid : goal.returns-in_default-next-5-cl
 returns-in_default-next-5-clause-invalid g c = λ _.
     let infer : c.args.infer_last ≡ true = c.if-not-infer_last.false in
     rw infer (bad-few_last g.Symbols.Iterator.next_gives _ g.Weights.Iterator.next_gives _ g.Stored.TakesRows.symbol_eq
-    g.met.Stored.TakesRows.equality_law g.Stored.TakesRows.holds g.P.WholeNumber.whole g.P.WholeNumber.BITS g.row.PRECISION
+    g.met.Stored.TakesRows.symmetry_law g.Stored.TakesRows.holds g.P.WholeNumber.whole g.P.WholeNumber.BITS g.row.PRECISION
     c.rows.stored c.rows.symbols c.rows.weights c.rows.left (g.P.WholeNumber.whole c.rows.room) c.rows.invariant.4 _ _
     c.in_default.ensures.steps c.in_default-next-5.ensures.steps)
 
@@ -261,7 +261,7 @@ pub returns-in_err-take_row-3-clause-invalid : goal.returns-in_err-take_row-3-cl
 returns-in_err-take_row-3-clause-invalid g c = λ h.
     let e : c.take_row-2.result ≡ Err InvalidTable = search rules in
     bad-repeat_last g.Symbols.Iterator.next_gives _ g.Weights.Iterator.next_gives _ g.Stored.TakesRows.symbol_eq
-    g.met.Stored.TakesRows.equality_law g.Stored.TakesRows.holds g.P.WholeNumber.whole g.P.WholeNumber.BITS g.row.PRECISION
+    g.met.Stored.TakesRows.symmetry_law g.Stored.TakesRows.holds g.P.WholeNumber.whole g.P.WholeNumber.BITS g.row.PRECISION
     c.rows.stored c.rows.symbols c.rows.weights c.rows.left (g.P.WholeNumber.whole c.rows.room) c.rows.invariant.4 c.args.infer_last _ _
     c.in-Some-next-5.symbol
     c.in_default.ensures.steps c.in-Some-next-5.ensures.steps (c.take_row-2.ensures.repeated e
@@ -272,7 +272,7 @@ pub returns-in-Some-next-6-clause-invalid : goal.returns-in-Some-next-6-clause-i
 returns-in-Some-next-6-clause-invalid g c = λ _.
     let infer : c.args.infer_last ≡ true = c.if-not-infer_last.false in
     rw infer (bad-many_last g.Symbols.Iterator.next_gives _ g.Weights.Iterator.next_gives _ g.Stored.TakesRows.symbol_eq
-    g.met.Stored.TakesRows.equality_law g.Stored.TakesRows.holds g.P.WholeNumber.whole g.P.WholeNumber.BITS g.row.PRECISION
+    g.met.Stored.TakesRows.symmetry_law g.Stored.TakesRows.holds g.P.WholeNumber.whole g.P.WholeNumber.BITS g.row.PRECISION
     c.rows.stored c.rows.symbols c.rows.weights c.rows.left (g.P.WholeNumber.whole c.rows.room) c.rows.invariant.4 _ _ _
     c.in-Some-next-5.symbol c.in-Some-next-6.field-0
     c.in_default.ensures.steps c.in-Some-next-5.ensures.steps c.in-Some-next-6.ensures.steps)
@@ -292,7 +292,7 @@ returns-clause-ok g c =
     ] in
     let last : whole c.plus.result ≡ whole c.rows.room + 1 = omega (arith, c.plus.ensures, one) in
     rw infer (good-inferred_last g.Symbols.Iterator.next_gives _ g.Weights.Iterator.next_gives _ g.Stored.TakesRows.symbol_eq
-    g.met.Stored.TakesRows.equality_law g.Stored.TakesRows.holds g.P.WholeNumber.whole g.P.WholeNumber.BITS g.row.PRECISION
+    g.met.Stored.TakesRows.symmetry_law g.Stored.TakesRows.holds g.P.WholeNumber.whole g.P.WholeNumber.BITS g.row.PRECISION
     c.rows.stored c.rows.symbols c.rows.weights c.rows.left (g.P.WholeNumber.whole c.rows.room) c.rows.invariant.4 c.take_row-2.new.self
     _ _ _ c.in-Some-next-5.symbol c.plus.result
     c.in_default.ensures.steps c.in-Some-next-5.ensures.steps c.in_default-next-6.ensures.steps

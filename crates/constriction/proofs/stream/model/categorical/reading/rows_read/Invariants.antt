@@ -10,5 +10,5 @@ invariant-rows g l =
     × g.Symbols.Iterator.can_next l.symbols
     × IsFinite (g.Symbols.Iterator.remaining l.symbols)
     × IsRead g.Symbols.Iterator.next_gives l.initial.symbols g.Weights.Iterator.next_gives l.initial.weights g.Stored.TakesRows.symbol_eq
-    g.met.Stored.TakesRows.equality_law g.Stored.TakesRows.holds g.P.WholeNumber.whole g.P.WholeNumber.BITS g.row.PRECISION
+    g.met.Stored.TakesRows.symmetry_law g.Stored.TakesRows.holds g.P.WholeNumber.whole g.P.WholeNumber.BITS g.row.PRECISION
     l.stored l.symbols l.weights l.left (g.P.WholeNumber.whole l.room)
