@@ -1,12 +1,15 @@
 mod AnswerLemmas
+mod ApartLemmas
 mod CollectLemmas
 mod Digits
 mod FillLemmas
 mod Halving
 mod HashLemmas
+mod OrderLemmas
 mod PairedLemmas
 mod ProbeLemmas
 mod ReadLemmas
+mod SeenLemmas
 mod SlotFilling
 mod SlotLemmas
 mod StepLemmas

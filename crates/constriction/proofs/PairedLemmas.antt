@@ -4,7 +4,7 @@ use Rattle.std.specs.List.{AllZip, IsDistinct}
 use Rattle.std.proofs.Common.{Bool, ◌≡◌, ℕ, ◌+◌, ◌-◌, ◌%◌, ◌^◌, ◌<◌, ◌≤◌, List, [], ◌∷◌, ◌++◌, length, get_or, map, refl, ap, sym, subst, ◌∙◌, arith, inl, inr}
 use Rattle.std.proofs.Math.Nat.{mod-eq_of_lt, pow-le-pow_right}
 use Rattle.std.proofs.lemmas.Bool.{cases_lt}
-use Rattle.std.proofs.lemmas.List.{length-map, get_or-map}
+use Rattle.std.proofs.lemmas.List.{length-map, map-append, get_or-map}
 use Rattle.constriction.specs.Acceptance.{AreAccepted}
 use Rattle.constriction.specs.Filling.{HoldsRows, AreEntriesCloned}
 use Rattle.constriction.specs.Model.{StandForRows, RowMayBeRefused}
@@ -138,6 +138,15 @@ pub paired-of_rows : {Symbol Word : Type 0} (whole : Word → ℕ) (bits precisi
 paired-of_rows whole bits precision rows entries t h =
     let table = stored-of_rows bits precision rows t in
     (rw h.1 table.0, rw (h.0, h.1) table.1)
+
+-- one row more is held by one entry more
+pub held-more : {Word Symbol : Type 0} (whole : Word → ℕ) (entries : List (Word × Symbol)) (rows : List (Row Symbol)) (r : Row Symbol) (left : Word)
+    → HoldsRows whole entries rows → whole left ≡ r.left → HoldsRows whole (entries ++ (left, r.symbol) ∷ []) (rows ++ r ∷ [])
+held-more whole entries rows r left h e = (
+  map-append (λ x. x.1) entries ((left, r.symbol) ∷ []) ∙ ap (λ ss. ss ++ r.symbol ∷ []) h.0 ∙ sym (map-append (λ x. x.symbol) rows (r ∷ [])),
+  map-append (λ x. whole x.0) entries ((left, r.symbol) ∷ []) ∙ ap (λ ns. ns ++ whole left ∷ []) h.1
+      ∙ ap (λ n. map (λ x. x.left) rows ++ n ∷ []) e ∙ sym (map-append (λ x. x.left) rows (r ∷ [])),
+)
 
 -- the rows of accepted symbols and weights
 module _ {Symbol : Type 0} (eq : Symbol → Symbol → Bool) (bits precision : ℕ) (ss : List Symbol) (ws : List ℕ)

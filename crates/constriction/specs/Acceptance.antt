@@ -63,3 +63,8 @@ module _ {S T A B : Type 0} (steps : S → Option A → S → Type 0) (it : S) (
   GaveBothBad = (xs : List A) × (ys : List B) × (read other_read : Reading)
       × WasRead steps it read xs × WasRead other_steps other other_read ys
       × ((all : List A) (others : List B) → MayGive read xs all → MayGive other_read ys others → ¬ (Good all others))
+
+-- no two symbols of a list that an iterator gives are equal, whichever iterator the argument becomes
+abbrev pub GivesDistinct : {J S Symbol : Type 0} → (J → S → Type 0) → (S → Option Symbol → S → Type 0) → (Symbol → Symbol → Bool) → J → Type 0
+GivesDistinct {S = S} {Symbol = Symbol} becomes steps eq from =
+    (it : S) (symbols : List Symbol) → becomes from it → Drains steps it symbols → IsDistinct eq symbols

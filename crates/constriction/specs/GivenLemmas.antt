@@ -3,8 +3,9 @@
 -- That an iterator gives a list is std's `YieldsList`: by `gives-array` of an array, by `YieldsList-from_vec` of a Vec, by
 -- `YieldsList-from_copied` over `YieldsList-from_slice` of a slice whose words are copied.
 use Rattle.std.proofs.Common.{◌≡◌, ℕ, List, [], ◌∷◌, ◌++◌, Option, None, Result, Ok, Err, length, map, take, drop, refl, ap, sym, subst, ◌∙◌, inl, inr, take-append-drop}
-use Rattle.std.specs.Prelude.{IfOk}
+use Rattle.std.specs.Prelude.{Bool, IfOk}
 use Rattle.std.specs.Iterator.{Drains}
+use Rattle.std.specs.List.{IsDistinct}
 use Rattle.std.proofs.lemmas.Iterator.{YieldsList}
 use Rattle.std.specs.Array.Iter.{array_into_iter_items, array_steps}
 use Rattle.std.proofs.lemmas.Iterator.Consumers.{YieldsList-so_far, YieldsList-end, YieldsList-from_shown}
@@ -47,6 +48,10 @@ module _ {S A : Type 0} (steps : S → Option A → S → Type 0) (it : S) (list
         let more = may-give SoFar xs (t, y) in
         λ good. never more.0 (subst Good more.1 good)
   ]
+
+  -- where no two symbols of the list are equal, no two are that it gave
+  pub distinct-given : (eq : A → A → Bool) → IsDistinct eq list → (xs : List A) → Drains steps it xs → IsDistinct eq xs
+  distinct-given eq d xs drained = subst (IsDistinct eq) (sym (all-given xs drained)) d
 
 -- ---- two iterators, each of which gives a list
 

@@ -1,8 +1,8 @@
 -- What follows of the rows that a chain of conversions leaves: where clones are the same values they are the rows of before, and where a
 -- clone is equal to its symbol they have the entries of these. No public clause cites this module.
-use Rattle.std.specs.Prelude.{◌≡◌, ℕ, Bool, List, [], ◌∷◌, ◌++◌}
+use Rattle.std.specs.Prelude.{◌≡◌, Bool, List, [], ◌∷◌, ◌++◌}
 use Rattle.std.specs.Cmp.{IsEquivalence}
-use Rattle.std.proofs.Common.{refl, ap, sym, ◌∙◌, subst}
+use Rattle.std.proofs.Common.{refl, ap, ◌∙◌, subst}
 use Rattle.constriction.specs.Hashed.{SameEntries}
 use Rattle.constriction.specs.Model.{ClonesAreSame, ClonesAreEqual}
 use Rattle.constriction.specs.Rows.{Row, entry_of}

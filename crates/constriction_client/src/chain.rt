@@ -10,7 +10,7 @@ ghost use Rattle.constriction.specs.Rows.{Row, rows_of, symbols_of};
 ghost use Rattle.constriction_client.specs.Chains.{is_lookup_after, StepLeaves, ChainLeaves};
 ghost use Rattle.constriction_client.specs.declared.decoder_form.SearchOrLookup.TheVariants as kind;
 
-use crate::decoder_form::{DecoderForm, Searching, Tabled};
+use crate::decoder_form::{DecoderForm, Searching};
 use crate::laws::form_symbols_differ;
 use constriction::laws::table_gives_all_rows;
 use constriction::stream::model::{
@@ -30,7 +30,8 @@ pub enum ChainStep {
     /// To the form that searches all rows, by `into_non_contiguous_categorical`, which takes no memory. A
     /// form that searches stays.
     IntoSearch,
-    /// To a form of the same kind, by its constructor from the symbols and the weights of the rows.
+    /// To a form of the same kind, by `from_distinct_symbols_and_nonzero_fixed_point_probabilities` from the
+    /// symbols and the weights of the rows.
     Rebuild,
 }
 
@@ -79,46 +80,36 @@ where
     Ok((symbols, weights))
 }
 
-/// The searching form of symbols and weights that are accepted.
+/// The searching model of symbols and weights that are accepted. The symbols are not compared.
 fn searching_of<Symbol: Eq + Drop, Probability: IndexWord, const PRECISION: usize>(
     alloc: Global,
     symbols: Vec<Symbol>,
     weights: Vec<Probability>,
-) -> Result<DecoderForm<Symbol, Probability, PRECISION>, ModelError>
+) -> Result<Searching<Symbol, Probability, PRECISION>, ModelError>
     requires positive { 0 < PRECISION }
     requires fits { PRECISION ≤ Probability.BITS }
     requires accepted { AreAccepted Symbol.eq Probability.BITS PRECISION symbols.items (map Probability.whole weights.items) }
-    ensures rows { IfOk result (λ m. ⟦<DecoderForm<Symbol, Probability, PRECISION> as EntropyModel<PRECISION>>⟧.rows m
+    ensures rows { IfOk result (λ m. ⟦<Searching<Symbol, Probability, PRECISION> as EntropyModel<PRECISION>>⟧.rows m
         ≡ rows_of symbols.items (map Probability.whole weights.items)) }
-    ensures kind { IfOk result (λ m. elim m [ kind.Search _ ↦ false | kind.Lookup _ ↦ true ] ≡ false) }
     ensures refused { IfErr result (λ e. e ≡ ModelError.OutOfMemory) }
 {
-    match Searching::from_symbols_and_nonzero_fixed_point_probabilities(
+    Searching::from_distinct_symbols_and_nonzero_fixed_point_probabilities(
         alloc, symbols, weights, false,
-    ) {
-        Ok(model) => Ok(DecoderForm::Search(model)),
-        Err(refusal) => Err(refusal),
-    }
+    )
 }
 
-/// The same with a table.
+/// The form with a table of the same rows.
 fn tabled_of<Symbol: Eq + Drop, Probability: IndexWord, const PRECISION: usize>(
     alloc: Global,
-    symbols: Vec<Symbol>,
-    weights: Vec<Probability>,
+    model: Searching<Symbol, Probability, PRECISION>,
 ) -> Result<DecoderForm<Symbol, Probability, PRECISION>, ModelError>
-    requires positive { 0 < PRECISION }
-    requires fits { PRECISION ≤ Probability.BITS }
-    requires narrow { PRECISION ≤ 63 }
-    requires accepted { AreAccepted Symbol.eq Probability.BITS PRECISION symbols.items (map Probability.whole weights.items) }
+    requires { PRECISION ≤ 63 }
     ensures rows { IfOk result (λ m. ⟦<DecoderForm<Symbol, Probability, PRECISION> as EntropyModel<PRECISION>>⟧.rows m
-        ≡ rows_of symbols.items (map Probability.whole weights.items)) }
+        ≡ ⟦<Searching<Symbol, Probability, PRECISION> as EntropyModel<PRECISION>>⟧.rows model) }
     ensures kind { IfOk result (λ m. elim m [ kind.Search _ ↦ false | kind.Lookup _ ↦ true ] ≡ true) }
     ensures refused { IfErr result (λ e. e ≡ ModelError.OutOfMemory) }
 {
-    match Tabled::from_symbols_and_nonzero_fixed_point_probabilities(
-        alloc, symbols, weights, false,
-    ) {
+    match model.into_lookup_decoder_model(alloc) {
         Ok(model) => Ok(DecoderForm::Lookup(model)),
         Err(refusal) => Err(refusal),
     }
@@ -203,9 +194,10 @@ impl<Symbol: Eq + Clone + Drop, Probability: IndexWord, const PRECISION: usize> 
 
     fn rebuild(&self, alloc: Global) -> Result<Self, ModelError> {
         let (symbols, weights) = symbols_and_weights::<_, PRECISION>(alloc, self)?;
+        let model = searching_of(alloc, symbols, weights)?;
         match self {
-            DecoderForm::Search(_) => searching_of(alloc, symbols, weights),
-            DecoderForm::Lookup(_) => tabled_of(alloc, symbols, weights),
+            DecoderForm::Search(_) => Ok(DecoderForm::Search(model)),
+            DecoderForm::Lookup(_) => tabled_of(alloc, model),
         }
     }
 }

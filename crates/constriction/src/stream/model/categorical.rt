@@ -1,6 +1,7 @@
 //! Models that are given by a list of weights.
 
 pub mod contiguous;
+pub mod distinct;
 pub(crate) mod filling;
 pub mod hashed;
 pub mod lookup_contiguous;
@@ -11,4 +12,5 @@ mod reading;
 pub(crate) mod slots;
 mod stored;
 pub mod symbol_table;
+mod uncompared;
 pub(crate) mod walking;

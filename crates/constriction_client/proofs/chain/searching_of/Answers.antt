@@ -1,27 +1,27 @@
-use Rattle.std.proofs.Common.{◌∙◌, refl}
+use Rattle.std.proofs.Common.{◌∙◌, lit<, rules}
 use Rattle.std.proofs.lemmas.Iterator.Adapters.{YieldsList-from_vec}
+use Rattle.constriction.specs.GivenLemmas.{distinct-given}
 use Rattle.constriction_client.proofs.Rebuilding.{made-of-them, not-refused}
 use Rattle.constriction_client.proofs.chain.searching_of.Goals as goal
 
-pub returns-in-Ok : goal.returns-in-Ok
-returns-in-Ok g c = record {
-  rows =
-      rw c.in-Ok.is at (made-of-them _ _ g.Symbol.PartialEq.eq g.Probability.WholeNumber.whole g.Probability.WholeNumber.BITS g.row.PRECISION
-      c.args.symbols.items c.args.weights.items _ (λ it came. YieldsList-from_vec _ came.0 (came.1 ∙ c.args.symbols.ok.0))
-      _ (λ jt came. YieldsList-from_vec _ came.0 (came.1 ∙ c.args.weights.ok.0)) _
-      c.from_symbols_and_nonzero_fixed_point_probabilities.result c.from_symbols_and_nonzero_fixed_point_probabilities.ensures.ok);
-  kind = refl;
-  refused = tt;
-}
+pub from_distinct_symbols_and_nonzero_fixed_point_probabilities-requires : goal.from_distinct_symbols_and_nonzero_fixed_point_probabilities-requires
+from_distinct_symbols_and_nonzero_fixed_point_probabilities-requires g c =
+    (lit< tt, (c.requires.positive, (c.requires.fits, (search rules, (search rules, λ it given came drained.
+        distinct-given _ it c.args.symbols.items (YieldsList-from_vec _ came.0 (came.1 ∙ c.args.symbols.ok.0)) g.Symbol.PartialEq.eq
+        c.requires.accepted.distinct given drained)))))
 
-pub returns-in-Err : goal.returns-in-Err
-returns-in-Err g c = record {
-  rows = tt;
-  kind = tt;
-  refused =
-      rw c.in-Err.is at (not-refused _ _ g.Symbol.PartialEq.eq g.Probability.WholeNumber.whole g.Probability.WholeNumber.BITS g.row.PRECISION
-      c.args.symbols.items c.args.weights.items _ (λ it came. YieldsList-from_vec _ came.0 (came.1 ∙ c.args.symbols.ok.0))
-      _ (λ jt came. YieldsList-from_vec _ came.0 (came.1 ∙ c.args.weights.ok.0))
-      c.from_symbols_and_nonzero_fixed_point_probabilities.result c.requires.accepted
-      c.from_symbols_and_nonzero_fixed_point_probabilities.ensures.invalid);
-}
+pub returns-clause-rows : goal.returns-clause-rows
+returns-clause-rows g c =
+    made-of-them _ _ g.Symbol.PartialEq.eq g.Probability.WholeNumber.whole g.Probability.WholeNumber.BITS g.row.PRECISION
+    c.args.symbols.items c.args.weights.items _ (λ it came. YieldsList-from_vec _ came.0 (came.1 ∙ c.args.symbols.ok.0))
+    _ (λ jt came. YieldsList-from_vec _ came.0 (came.1 ∙ c.args.weights.ok.0)) _
+    c.from_distinct_symbols_and_nonzero_fixed_point_probabilities.result
+    c.from_distinct_symbols_and_nonzero_fixed_point_probabilities.ensures.ok
+
+pub returns-clause-refused : goal.returns-clause-refused
+returns-clause-refused g c =
+    not-refused _ _ g.Symbol.PartialEq.eq g.Probability.WholeNumber.whole g.Probability.WholeNumber.BITS g.row.PRECISION
+    c.args.symbols.items c.args.weights.items _ (λ it came. YieldsList-from_vec _ came.0 (came.1 ∙ c.args.symbols.ok.0))
+    _ (λ jt came. YieldsList-from_vec _ came.0 (came.1 ∙ c.args.weights.ok.0))
+    c.from_distinct_symbols_and_nonzero_fixed_point_probabilities.result c.requires.accepted
+    c.from_distinct_symbols_and_nonzero_fixed_point_probabilities.ensures.invalid

@@ -1,3 +1,4 @@
+use Rattle.std.proofs.Common.{refl}
 use Rattle.constriction_client.proofs.Rebuilding.{rows-stand}
 use Rattle.constriction_client.proofs.chain.DecoderFormConverts.rebuild.Goals as goal
 
@@ -9,14 +10,16 @@ symbols_and_weights-requires-clause-clones g c = c.requires.3
 
 pub returns-in-Search : goal.returns-in-Search
 returns-in-Search g c = record {
-  rows = rows-stand g.Symbol.Clone.is_clone _ _ _ c.searching_of.result c.searching_of.ensures.rows c.in_ok-symbols.ensures.rows;
-  kind = rw c.in-Search.is c.searching_of.ensures.kind;
-  refused = c.searching_of.ensures.refused;
+  rows = rw c.in_ok-model.ensures.rows c.in_ok-symbols.ensures.rows;
+  kind = rw c.in-Search.is refl;
+  refused = tt;
 }
 
 pub returns-in-Lookup : goal.returns-in-Lookup
 returns-in-Lookup g c = record {
-  rows = rows-stand g.Symbol.Clone.is_clone _ _ _ c.tabled_of.result c.tabled_of.ensures.rows c.in_ok-symbols.ensures.rows;
+  rows =
+      rows-stand g.Symbol.Clone.is_clone _ _ _ c.tabled_of.result c.tabled_of.ensures.rows
+      (rw c.in_ok-model.ensures.rows c.in_ok-symbols.ensures.rows);
   kind = rw c.in-Lookup.is c.tabled_of.ensures.kind;
   refused = c.tabled_of.ensures.refused;
 }

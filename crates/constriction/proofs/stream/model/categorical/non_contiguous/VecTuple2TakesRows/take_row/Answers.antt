@@ -1,8 +1,7 @@
-use Rattle.std.proofs.Common.{◌≡◌, ℕ, Bool, List, [], ◌∷◌, ◌++◌, map, ap, sym, refl, ◌∙◌}
-use Rattle.std.proofs.lemmas.List.{map-append}
+use Rattle.std.proofs.Common.{◌≡◌, Bool, List, map, ap, sym, refl, ◌∙◌}
 use Rattle.std.specs.List.{list_any}
-use Rattle.constriction.specs.Filling.{HoldsRows}
 use Rattle.constriction.specs.Rows.{Row, symbols_of}
+use Rattle.constriction.proofs.PairedLemmas.{held-more}
 use Rattle.constriction.proofs.stream.model.categorical.non_contiguous.VecTuple2TakesRows.take_row.Goals as goal
 
 found-same : {Word Symbol : Type 0} (test : Symbol → Bool) (entries lent : List (Word × Symbol)) (rows : List (Row Symbol)) (found b : Bool)
@@ -10,14 +9,6 @@ found-same : {Word Symbol : Type 0} (test : Symbol → Bool) (entries lent : Lis
     → list_any test (symbols_of rows) ≡ b
 found-same test entries lent rows found b h same is e =
     ap (list_any test) (sym h) ∙ ap (λ ys. list_any test (map (λ x. x.1) ys)) (sym same) ∙ sym is ∙ e
-
-held-more : {Word Symbol : Type 0} (whole : Word → ℕ) (entries : List (Word × Symbol)) (rows : List (Row Symbol)) (r : Row Symbol) (left : Word)
-    → HoldsRows whole entries rows → whole left ≡ r.left → HoldsRows whole (entries ++ (left, r.symbol) ∷ []) (rows ++ r ∷ [])
-held-more whole entries rows r left h e = (
-  map-append (λ x. x.1) entries ((left, r.symbol) ∷ []) ∙ ap (λ ss. ss ++ r.symbol ∷ []) h.0 ∙ sym (map-append (λ x. x.symbol) rows (r ∷ [])),
-  map-append (λ x. whole x.0) entries ((left, r.symbol) ∷ []) ∙ ap (λ ns. ns ++ whole left ∷ []) h.1
-      ∙ ap (λ n. map (λ x. x.left) rows ++ n ∷ []) e ∙ sym (map-append (λ x. x.left) rows (r ∷ [])),
-)
 
 pub returns-then-has_symbol-clause-repeated : goal.returns-then-has_symbol-clause-repeated
 returns-then-has_symbol-clause-repeated g c = λ _ rows h.
