@@ -105,8 +105,10 @@ module _ {Symbol Word Weight Refusal T : Type 0} (Stands : Symbol → Symbol →
         let made : List (Row Symbol) = map (row_of whole base) good.0 in (
           good.0,
           good.1,
-          (good.2,
-              subst (IsDistinct eq) (sym (walked-symbols good.0)) (distinct-made eq laws Stands equal made rows (walked-all good.0 good.1) differ)),
+          (
+            good.2,
+            subst (IsDistinct eq) (sym (walked-symbols good.0)) (distinct-made eq laws Stands equal made rows (walked-all good.0 good.1) differ),
+          ),
         )
 
     -- the entries of such a walk

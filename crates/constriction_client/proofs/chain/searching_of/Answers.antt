@@ -5,10 +5,24 @@ use Rattle.constriction_client.proofs.Rebuilding.{made-of-them, not-refused}
 use Rattle.constriction_client.proofs.chain.searching_of.Goals as goal
 
 pub from_distinct_symbols_and_nonzero_fixed_point_probabilities-requires : goal.from_distinct_symbols_and_nonzero_fixed_point_probabilities-requires
-from_distinct_symbols_and_nonzero_fixed_point_probabilities-requires g c =
-    (lit< tt, (c.requires.positive, (c.requires.fits, (search rules, (search rules, λ it given came drained.
-        distinct-given _ it c.args.symbols.items (YieldsList-from_vec _ came.0 (came.1 ∙ c.args.symbols.ok.0)) g.Symbol.PartialEq.eq
-        c.requires.accepted.distinct given drained)))))
+from_distinct_symbols_and_nonzero_fixed_point_probabilities-requires g c = (
+  lit< tt,
+  (
+    c.requires.positive,
+    (
+      c.requires.fits,
+      (
+        search rules,
+        (
+          search rules,
+          λ it given came drained.
+              distinct-given _ it c.args.symbols.items (YieldsList-from_vec _ came.0 (came.1 ∙ c.args.symbols.ok.0)) g.Symbol.PartialEq.eq
+              c.requires.accepted.distinct given drained,
+        ),
+      ),
+    ),
+  ),
+)
 
 pub returns-clause-rows : goal.returns-clause-rows
 returns-clause-rows g c =

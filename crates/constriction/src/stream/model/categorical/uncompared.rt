@@ -40,12 +40,7 @@ pub(crate) fn entries_read<
     S: IntoIterator<Item = Symbol>,
     W: IntoIterator<Item = P>,
     const PRECISION: usize,
->(
-    alloc: Global,
-    symbols: S,
-    weights: W,
-    infer_last: bool,
-) -> Result<Vec<(P, Symbol)>, ModelError>
+>(alloc: Global, symbols: S, weights: W, infer_last: bool) -> Result<Vec<(P, Symbol)>, ModelError>
     requires positive { 0 < PRECISION }
     requires fits { PRECISION ≤ P.BITS }
     requires symbols_end { IsFiniteIterable S.into_iter_gives S.IntoIter.can_next S.IntoIter.remaining symbols }

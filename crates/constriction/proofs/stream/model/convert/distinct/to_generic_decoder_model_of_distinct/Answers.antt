@@ -32,8 +32,7 @@ returns-clause-ok g c =
     let good = walked-apart g.M.IterableEntropyModel.stands_for g.M.IterableEntropyModel.may_refuse g.M.Probability.WholeNumber.whole
     g.M.Probability.WholeNumber.base g.M.SymbolTable.Iterator.next_gives g.M.IterableEntropyModel.rows_left M.steps_law
     (g.M.EntropyModel.rows c.args.model) c.symbol_table.result c.symbol_table.ensures.all eq
-    g.met.M.Symbol.Eq.laws c.requires.clones c.requires.distinct entries c.in_ok-cdf.ensures in
-    (
+    g.met.M.Symbol.Eq.laws c.requires.clones c.requires.distinct entries c.in_ok-cdf.ensures in (
       (walked-stored g.M.IterableEntropyModel.stands_for g.M.IterableEntropyModel.may_refuse g.M.Probability.WholeNumber.whole
           g.M.Probability.WholeNumber.base g.M.SymbolTable.Iterator.next_gives g.M.IterableEntropyModel.rows_left M.steps_law
           (g.M.EntropyModel.rows c.args.model) c.symbol_table.result c.symbol_table.ensures.all eq g.M.Probability.WholeNumber.BITS g.row.PRECISION

@@ -33,9 +33,16 @@ returns-clause-ok g c =
       given.1,
       given.2,
       given.3,
-      (read.0, read.1, read.2, read.3,
-          (apart-accepted eq whole bits g.row.PRECISION entries read.0 weights read.4.0 read.4.1 differ,
-          (apart-stored eq whole bits g.row.PRECISION entries read.0 weights read.4.0 read.4.1 differ).1)),
+      (
+        read.0,
+        read.1,
+        read.2,
+        read.3,
+        (
+          apart-accepted eq whole bits g.row.PRECISION entries read.0 weights read.4.0 read.4.1 differ,
+          (apart-stored eq whole bits g.row.PRECISION entries read.0 weights read.4.0 read.4.1 differ).1,
+        ),
+      ),
     )
 
 pub returns-in_err-cdf-clause-invalid : goal.returns-in_err-cdf-clause-invalid

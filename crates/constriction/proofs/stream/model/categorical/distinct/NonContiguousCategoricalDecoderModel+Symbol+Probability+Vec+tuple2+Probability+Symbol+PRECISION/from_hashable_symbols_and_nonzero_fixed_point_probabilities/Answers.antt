@@ -34,14 +34,18 @@ returns-clause-ok g c =
     let entries = c.in_ok-cdf.cdf.items in
     let symbols = read-symbols eq whole bits g.row.PRECISION entries read.0 weights read.4.0 read.4.1 in
     let differ : IsDistinct eq read.0 =
-    subst (IsDistinct eq) symbols (rw c.deref.ensures.value at (c.in_ok-apart.ensures.0 c.if-not-apart.false)) in
-    (
+    subst (IsDistinct eq) symbols (rw c.deref.ensures.value at (c.in_ok-apart.ensures.0 c.if-not-apart.false)) in (
       given.0,
       given.1,
       given.2,
       given.3,
-      (read.0, read.1, read.2, read.3,
-          (apart-accepted eq whole bits g.row.PRECISION entries read.0 weights read.4.0 read.4.1 differ, (apart-stored eq whole bits g.row.PRECISION entries read.0 weights read.4.0 read.4.1 differ).1)),
+      (
+        read.0,
+        read.1,
+        read.2,
+        read.3,
+        (apart-accepted eq whole bits g.row.PRECISION entries read.0 weights read.4.0 read.4.1 differ, (apart-stored eq whole bits g.row.PRECISION entries read.0 weights read.4.0 read.4.1 differ).1),
+      ),
     )
 
 pub returns-in_err-cdf-clause-invalid : goal.returns-in_err-cdf-clause-invalid

@@ -37,14 +37,18 @@ returns-clause-ok g c =
     let symbols = read-symbols eq whole bits g.row.PRECISION entries read.0 weights read.4.0 read.4.1 in
     let order : IsStrictlySortedBy g.Symbol.Ord.cmp read.0 =
     subst (IsStrictlySortedBy g.Symbol.Ord.cmp) symbols (rw c.deref.ensures.value at (c.are_in_order-in_order.ensures.0 c.if-not-in_order.false)) in
-    let differ = sorted-distinct eq g.Symbol.Ord.cmp g.met.Symbol.Ord.matches_eq read.0 order in
-    (
+    let differ = sorted-distinct eq g.Symbol.Ord.cmp g.met.Symbol.Ord.matches_eq read.0 order in (
       given.0,
       given.1,
       given.2,
       given.3,
-      (read.0, read.1, read.2, read.3,
-          (apart-accepted eq whole bits g.row.PRECISION entries read.0 weights read.4.0 read.4.1 differ, order, (apart-stored eq whole bits g.row.PRECISION entries read.0 weights read.4.0 read.4.1 differ).1)),
+      (
+        read.0,
+        read.1,
+        read.2,
+        read.3,
+        (apart-accepted eq whole bits g.row.PRECISION entries read.0 weights read.4.0 read.4.1 differ, order, (apart-stored eq whole bits g.row.PRECISION entries read.0 weights read.4.0 read.4.1 differ).1),
+      ),
     )
 
 pub returns-in_err-cdf-clause-invalid : goal.returns-in_err-cdf-clause-invalid
