@@ -4,6 +4,7 @@ mod aliases;
 pub mod any_symbols;
 pub mod contiguous;
 pub mod conversions;
+mod distinct_symbols;
 pub mod generic_callers;
 mod given;
 mod laws;
