@@ -130,6 +130,9 @@ where
 /// rows are. `OutOfMemory` comes where memory for the entries, or for a clone of a symbol, is refused.
 ///
 /// One walk, and each symbol is compared with those before it: `n * (n - 1) / 2` comparisons for `n` rows.
+/// Where symbols are known to differ, [`to_generic_decoder_model_of_distinct`] compares none.
+///
+/// [`to_generic_decoder_model_of_distinct`]: crate::stream::model::to_generic_decoder_model_of_distinct
 pub fn to_generic_decoder_model<M, const PRECISION: usize>(
     alloc: Global,
     model: M,
@@ -168,6 +171,9 @@ where
 /// refused.
 ///
 /// One walk, in which each symbol is compared with those before it, and one pass over the rows.
+/// Where symbols are known to differ, [`to_generic_lookup_decoder_model_of_distinct`] compares none.
+///
+/// [`to_generic_lookup_decoder_model_of_distinct`]: crate::stream::model::to_generic_lookup_decoder_model_of_distinct
 pub fn to_generic_lookup_decoder_model<M, const PRECISION: usize>(
     alloc: Global,
     model: M,

@@ -127,11 +127,14 @@ impl<
     ///
     /// One pass over both, one entry a symbol, and one allocation where the symbols' iterator announces
     /// how many there are. Each symbol is compared with those before it, which takes no memory and
-    /// `n * (n - 1) / 2` comparisons for `n` symbols. Where that is too much, as for many thousand
-    /// symbols, [`NonContiguousCategoricalEncoderModel`] finds repeats by one hash a symbol, for symbols
-    /// that have one.
+    /// `n * (n - 1) / 2` comparisons for `n` symbols. Where that is too much, take
+    /// [`from_hashable_symbols_and_nonzero_fixed_point_probabilities`],
+    /// [`from_sorted_symbols_and_nonzero_fixed_point_probabilities`], or, where symbols are known to differ,
+    /// [`from_distinct_symbols_and_nonzero_fixed_point_probabilities`].
     ///
-    /// [`NonContiguousCategoricalEncoderModel`]: crate::stream::model::NonContiguousCategoricalEncoderModel
+    /// [`from_hashable_symbols_and_nonzero_fixed_point_probabilities`]: Self::from_hashable_symbols_and_nonzero_fixed_point_probabilities
+    /// [`from_sorted_symbols_and_nonzero_fixed_point_probabilities`]: Self::from_sorted_symbols_and_nonzero_fixed_point_probabilities
+    /// [`from_distinct_symbols_and_nonzero_fixed_point_probabilities`]: Self::from_distinct_symbols_and_nonzero_fixed_point_probabilities
     pub fn from_symbols_and_nonzero_fixed_point_probabilities<
         S: IntoIterator<Item = Symbol>,
         P: IntoIterator<Item = Probability>,
