@@ -6,6 +6,7 @@ mod cursor_runs;
 mod failing_sinks;
 mod failing_sources;
 mod items;
+mod known;
 mod lines;
 mod queries;
 mod refused_lines;

@@ -10,11 +10,12 @@ use constriction::stream::model::{EntropyModel, ModelError};
 use constriction_words::WholeNumber;
 use std::alloc::Global;
 
-/// The model of four weights: its rows are those of the weights, and where there is none but for want of
-/// memory, they are not accepted.
-fn of_four(alloc: Global, weights: [u8; 4]) -> Result<Table<6>, ModelError>
+/// The model of four weights: its rows are those of the weights, which are accepted, and where there is none
+/// but for want of memory, they are not.
+pub fn of_four(alloc: Global, weights: [u8; 4]) -> Result<Table<6>, ModelError>
     ensures rows { IfOk result (λ m. ⟦<Table<6> as EntropyModel<6>>⟧.rows m
         ≡ contiguous_rows (map ⟦<u8 as WholeNumber>⟧.whole weights)) }
+    ensures accepted { IfOk result (λ _. IsAccepted 8 6 (map ⟦<u8 as WholeNumber>⟧.whole weights)) }
     ensures invalid { result ≡ Err ModelError.InvalidTable → ¬ (IsAccepted 8 6 (map ⟦<u8 as WholeNumber>⟧.whole weights)) }
 {
     Table::from_nonzero_fixed_point_probabilities(alloc, weights, false)
