@@ -1,7 +1,7 @@
 //! Items to words and back, chains of conversions and queries, and lines and whole inputs.
 
 mod adapters;
-mod chains;
+pub mod chains;
 mod cursor_runs;
 mod failing_sinks;
 mod failing_sources;

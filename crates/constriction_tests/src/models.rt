@@ -6,7 +6,7 @@ pub mod contiguous;
 pub mod conversions;
 pub mod generic_callers;
 pub mod given;
-mod known;
+pub mod known;
 mod laws;
 pub mod lookup_any_symbols;
 pub mod lookup_contiguous;

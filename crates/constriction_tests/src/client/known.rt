@@ -1,22 +1,24 @@
 //! What contracts alone tell a caller of the client: which words, which items, which replies. No body that
 //! answers otherwise meets them, however a proof of it may be refused.
 
-ghost use Rattle.std.specs.Prelude.{◌≡◌, ◌++◌, [], ◌∷◌, Some, IfOk, OnOk, IsTrue, IsNone, map};
-ghost use Rattle.constriction.specs.Rows.{contiguous_rows};
+ghost use Rattle.std.specs.Prelude.{◌≡◌, ◌++◌, ℕ, [], ◌∷◌, Some, IfOk, IfSome, OnOk, IsTrue, IsNone, map};
+ghost use Rattle.constriction.specs.Rows.{contiguous_rows, entry_of, rows_of};
 ghost use Rattle.constriction_backends.specs.Cursor.{state_of};
 ghost use Rattle.constriction_client.specs.Replies.{in_numbers};
 ghost use Rattle.constriction_client.specs.declared.cursor_calls.CursorReply.TheVariants as reply;
 ghost use Rattle.constriction_client.specs.declared.queries.Reply.TheVariants as answer;
 
 use crate::checks::{holds, same};
+use crate::client::chains::encoder_of;
 use crate::models::contiguous::Table;
 use crate::models::given::of_four;
-use constriction::stream::model::EntropyModel;
+use crate::models::known::decoder_of;
+use constriction::stream::model::{EncodesOver, EntropyModel, ModelError};
 use constriction_backends::{Cursor, Reverse};
-use constriction_client::laws::there_and_back;
+use constriction_client::laws::{answer_after_chain, there_and_back, there_and_back_in_a_cursor};
 use constriction_client::{
-    Command, CursorCall, CursorReply, QuantileFault, Query, Reply, answer_queries, parse,
-    run_cursor, run_reversed, write_quantiles,
+    ChainStep, Command, CursorCall, CursorReply, DecoderForm, QuantileFault, Query, Reply,
+    answer_queries, parse, run_cursor, run_reversed, write_quantiles,
 };
 use constriction_words::{CoderError, WholeNumber};
 use std::alloc::{AllocError, Global};
@@ -40,6 +42,30 @@ fn back(
     there_and_back::<_, 6>(alloc, model, &[(1, 2)])
 }
 
+/// The same through a cursor of two words.
+fn through_a_cursor(
+    alloc: Global,
+    model: &Table<6>,
+    cursor: &mut Cursor<u8, Vec<u8>>,
+) -> Option<Vec<(usize, u8)>>
+    requires rows { ⟦<Table<6> as EntropyModel<6>>⟧.rows model.now ≡ contiguous_rows (3 ∷ 18 ∷ 1 ∷ 42 ∷ []) }
+    requires at { state_of cursor.old ≡ record { before = []; after = 0 ∷ 1 ∷ [] } }
+    ensures items { IfSome result (λ pairs. pairs.items ≡ (1, 2) ∷ []) }
+    ensures words { IfSome result (λ _. state_of cursor.new ≡ record { before = 5 ∷ []; after = 1 ∷ [] }) }
+{
+    match there_and_back_in_a_cursor::<_, _, _, _, _, 6>(alloc, model, model, &[(1, 2)], cursor) {
+        Ok(pairs) => Some(pairs),
+        Err(_) => None,
+    }
+}
+
+/// A cursor over 0 and 1 at its beginning.
+fn at_0(alloc: Global) -> Result<Cursor<u8, Vec<u8>>, AllocError>
+    ensures { IfOk result (λ c. state_of c ≡ record { before = []; after = 0 ∷ 1 ∷ [] }) }
+{
+    Ok(Cursor::new_at_write_beginning(Vec::from_array(alloc, [0u8, 1])?))
+}
+
 /// The replies to three queries.
 fn replies(alloc: Global, model: &Table<6>) -> Result<Vec<Reply<usize, u8>>, AllocError>
     requires { ⟦<Table<6> as EntropyModel<6>>⟧.rows model.now ≡ contiguous_rows (3 ∷ 18 ∷ 1 ∷ 42 ∷ []) }
@@ -53,6 +79,25 @@ fn replies(alloc: Global, model: &Table<6>) -> Result<Vec<Reply<usize, u8>>, All
         Query::OfSymbol(1),
     ];
     answer_queries::<_, _, _, _, 6>(alloc, model, model, &queries)
+}
+
+/// The replies to two queries after two conversions, by any encoder of the same entries.
+fn replies_after<E: EncodesOver<char, u8, 6>>(
+    alloc: Global,
+    form: DecoderForm<char, u8, 6>,
+    encoder: &E,
+) -> Result<Vec<Reply<char, u8>>, ModelError>
+    requires rows { ⟦<DecoderForm<char, u8, 6> as EntropyModel<6>>⟧.rows form
+        ≡ rows_of (97 ∷ 120 ∷ 99 ∷ 121 ∷ []) (3 ∷ 18 ∷ 1 ∷ 42 ∷ []) }
+    requires alike { (s : ℕ) → entry_of E.symbol_eq (E.rows encoder.now) s
+        ≡ entry_of E.symbol_eq (⟦<DecoderForm<char, u8, 6> as EntropyModel<6>>⟧.rows form) s }
+    ensures { IfOk result (λ replies.
+        map (in_numbers ⟦<u8 as WholeNumber>⟧.whole ⟦<u8 as WholeNumber>⟧.base) replies.items
+        ≡ answer.Row 120 3 18 ∷ answer.OutOfRange ∷ []) }
+{
+    let steps = [ChainStep::ToLookup, ChainStep::Rebuild];
+    let queries = [Query::OfQuantile(20), Query::OfQuantile(64)];
+    answer_after_chain(alloc, form, &steps, encoder, &queries)
 }
 
 /// A cursor over 10, 20 and 30 that stands at 1.
@@ -119,8 +164,23 @@ fn contracts_leave_one_result(rt: HostRuntime) -> Result<(), Fail> {
     same(&rt, written(&model, &mut sink), true);
     holds(&rt, &sink, &[5]);
     holds(&rt, &back(rt.alloc(), &model)?, &[(1, 2)]);
+    let mut cursor = at_0(rt.alloc())?;
+    same(
+        &rt,
+        through_a_cursor(rt.alloc(), &model, &mut cursor).is_some(),
+        true,
+    );
     same(&rt, replies(rt.alloc(), &model)?.len(), 3);
     same(&rt, of_a_letter(rt.alloc())?.is_none(), true);
+    Ok(())
+}
+
+#[test]
+fn contracts_leave_one_reply_after_a_chain(rt: HostRuntime) -> Result<(), Fail> {
+    let model = decoder_of(rt.alloc(), ['a', 'x', 'c', 'y'], [3, 18, 1, 42])?;
+    let encoder = encoder_of(rt.alloc(), &model)?;
+    let found = replies_after(rt.alloc(), DecoderForm::Search(model), &encoder)?;
+    same(&rt, found.len(), 2);
     Ok(())
 }
 

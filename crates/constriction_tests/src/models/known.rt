@@ -20,7 +20,7 @@ use std::test::Fail;
 
 type Lookup = ContiguousLookupDecoderModel<u8, Vec<u8>, Vec<u8>, 6>;
 
-type Decoder = NonContiguousCategoricalDecoderModel<char, u8, Vec<(u8, char)>, 6>;
+pub type Decoder = NonContiguousCategoricalDecoderModel<char, u8, Vec<(u8, char)>, 6>;
 
 type Tabled = NonContiguousLookupDecoderModel<char, u8, Vec<(u8, char)>, Vec<u8>, 6>;
 
@@ -173,7 +173,11 @@ fn are_quantiles() -> (bool, bool)
 
 /// The decoder of four letters: its rows are those of the letters and their weights, which are accepted, and
 /// where there is none but for want of memory, they are not.
-fn decoder_of(alloc: Global, symbols: [char; 4], weights: [u8; 4]) -> Result<Decoder, ModelError>
+pub fn decoder_of(
+    alloc: Global,
+    symbols: [char; 4],
+    weights: [u8; 4],
+) -> Result<Decoder, ModelError>
     ensures rows { IfOk result (λ m. ⟦<Decoder as EntropyModel<6>>⟧.rows m
         ≡ rows_of symbols (map ⟦<u8 as WholeNumber>⟧.whole weights)) }
     ensures accepted { IfOk result (λ _. AreAccepted ⟦<char as PartialEq>⟧.eq 8 6 symbols (map ⟦<u8 as WholeNumber>⟧.whole weights)) }
