@@ -1,26 +1,28 @@
 //! What contracts alone tell a caller who knows the rows of a model: which row, which entry, which ends of a
 //! table. No body that answers otherwise meets them, however a proof of it may be refused.
 
-ghost use Rattle.std.specs.Prelude.{◌≡◌, ◌+◌, [], ◌∷◌, Some, Ok, Err, IfOk, true, false, map};
+ghost use Rattle.std.specs.Prelude.{◌≡◌, ◌+◌, [], ◌∷◌, Some, Ok, Err, IfOk, true, false, map, nat_eq};
 ghost use Rattle.constriction.specs.Acceptance.{AreAccepted};
+ghost use Rattle.constriction.specs.Hashed.{SameEntries};
 ghost use Rattle.constriction.specs.Probe.{IsRowIndexOf};
 ghost use Rattle.constriction.specs.Rows.{contiguous_rows, rows_of};
 
 use crate::checks::same;
+use crate::client::chains::encoder_of;
 use crate::models::contiguous::Table;
-use crate::models::given::of_four;
+use crate::models::given::{Lookup, lookup_of_four, of_four};
 use constriction::stream::model::{
-    ContiguousLookupDecoderModel, DecoderModel, EncoderModel, EntropyModel, IterableEntropyModel,
-    ModelError, NonContiguousCategoricalDecoderModel, NonContiguousLookupDecoderModel,
-    SmallUniformModel, is_quantile, row_of_quantile,
+    DecoderModel, EncoderModel, EntropyModel, IterableEntropyModel, ModelError,
+    NonContiguousCategoricalDecoderModel, NonContiguousCategoricalEncoderModel,
+    NonContiguousLookupDecoderModel, SmallUniformModel, is_quantile, row_of_quantile,
 };
 use constriction_words::{NonZeroBitArray, WholeNumber};
 use std::alloc::{AllocError, Global};
 use std::test::Fail;
 
-type Lookup = ContiguousLookupDecoderModel<u8, Vec<u8>, Vec<u8>, 6>;
-
 pub type Decoder = NonContiguousCategoricalDecoderModel<char, u8, Vec<(u8, char)>, 6>;
+
+type Encoder = NonContiguousCategoricalEncoderModel<char, u8, 6>;
 
 type Tabled = NonContiguousLookupDecoderModel<char, u8, Vec<(u8, char)>, Vec<u8>, 6>;
 
@@ -41,6 +43,17 @@ fn looked_up(model: &Lookup) -> Result<(usize, u8, u8), AllocError>
     ensures { result ≡ Ok (1, 3, 18) }
 {
     match model.quantile_function(20) {
+        Ok((symbol, left, weight)) => Ok((symbol, left, weight.get())),
+        Err(refusal) => Err(refusal),
+    }
+}
+
+/// The same in a view.
+fn looked_up_in_a_view(model: &Lookup) -> Result<(usize, u8, u8), AllocError>
+    requires { ⟦<Lookup as EntropyModel<6>>⟧.rows model.now ≡ contiguous_rows (3 ∷ 18 ∷ 1 ∷ 42 ∷ []) }
+    ensures { result ≡ Ok (1, 3, 18) }
+{
+    match model.as_view().quantile_function(20) {
         Ok((symbol, left, weight)) => Ok((symbol, left, weight.get())),
         Err(refusal) => Err(refusal),
     }
@@ -68,6 +81,48 @@ fn letter_looked_up(model: &Tabled) -> Result<(char, u8, u8), AllocError>
         Ok((symbol, left, weight)) => Ok((symbol, left, weight.get())),
         Err(refusal) => Err(refusal),
     }
+}
+
+/// The same in a clone.
+fn letter_looked_up_in_a_clone(model: &Tabled) -> Result<(char, u8, u8), AllocError>
+    requires { ⟦<Tabled as EntropyModel<6>>⟧.rows model.now
+        ≡ rows_of (97 ∷ 120 ∷ 99 ∷ 121 ∷ []) (3 ∷ 18 ∷ 1 ∷ 42 ∷ []) }
+    ensures { IfOk result (λ row. row ≡ (120, 3, 18)) }
+{
+    match model.clone()?.quantile_function(20) {
+        Ok((symbol, left, weight)) => Ok((symbol, left, weight.get())),
+        Err(refusal) => Err(refusal),
+    }
+}
+
+/// How many symbols a contiguous model has, and a decoder of letters.
+fn sizes(model: &Table<6>, letters: &Decoder) -> (usize, usize)
+    requires rows { ⟦<Table<6> as EntropyModel<6>>⟧.rows model.now ≡ contiguous_rows (3 ∷ 18 ∷ 1 ∷ 42 ∷ []) }
+    requires letters { ⟦<Decoder as EntropyModel<6>>⟧.rows letters.now
+        ≡ rows_of (97 ∷ 120 ∷ 99 ∷ 121 ∷ []) (3 ∷ 18 ∷ 1 ∷ 42 ∷ []) }
+    ensures { result ≡ (4, 4) }
+{
+    (model.support_size(), letters.support_size())
+}
+
+/// The entry of `x` by an encoder of letters.
+fn entry_of_x(model: &Encoder) -> Option<(u8, u8)>
+    requires { SameEntries nat_eq (⟦<Encoder as EntropyModel<6>>⟧.rows model.now)
+        (rows_of (97 ∷ 120 ∷ 99 ∷ 121 ∷ []) (3 ∷ 18 ∷ 1 ∷ 42 ∷ [])) }
+    ensures { result ≡ Some (3, 18) }
+{
+    let (left, weight) = model.left_cumulative_and_probability(&'x')?;
+    Some((left, weight.get()))
+}
+
+/// A clone of it, which has the same entries.
+fn cloned(model: &Encoder) -> Result<Encoder, AllocError>
+    requires { SameEntries nat_eq (⟦<Encoder as EntropyModel<6>>⟧.rows model.now)
+        (rows_of (97 ∷ 120 ∷ 99 ∷ 121 ∷ []) (3 ∷ 18 ∷ 1 ∷ 42 ∷ [])) }
+    ensures { IfOk result (λ m. SameEntries nat_eq (⟦<Encoder as EntropyModel<6>>⟧.rows m)
+        (rows_of (97 ∷ 120 ∷ 99 ∷ 121 ∷ []) (3 ∷ 18 ∷ 1 ∷ 42 ∷ []))) }
+{
+    model.clone()
 }
 
 /// The entry of the second symbol.
@@ -187,6 +242,16 @@ pub fn decoder_of(
     Decoder::from_symbols_and_nonzero_fixed_point_probabilities(alloc, symbols, weights, false)
 }
 
+/// The same of a lookup model over letters.
+fn lookup_of(alloc: Global, symbols: [char; 4], weights: [u8; 4]) -> Result<Tabled, ModelError>
+    ensures rows { IfOk result (λ m. ⟦<Tabled as EntropyModel<6>>⟧.rows m
+        ≡ rows_of symbols (map ⟦<u8 as WholeNumber>⟧.whole weights)) }
+    ensures invalid { result ≡ Err ModelError.InvalidTable
+        → ¬ (AreAccepted ⟦<char as PartialEq>⟧.eq 8 6 symbols (map ⟦<u8 as WholeNumber>⟧.whole weights)) }
+{
+    Tabled::from_symbols_and_nonzero_fixed_point_probabilities(alloc, symbols, weights, false)
+}
+
 #[test]
 fn contracts_leave_one_answer(rt: HostRuntime) -> Result<(), Fail> {
     let model = of_four(rt.alloc(), [3, 18, 1, 42])?;
@@ -194,8 +259,9 @@ fn contracts_leave_one_answer(rt: HostRuntime) -> Result<(), Fail> {
     same(&rt, second_entry(&model), Some((3, 18)));
     same(&rt, ends(&model), (Some(0), Some(3), 2));
     same(&rt, index_of_20(&model), (0, 1));
-    let tabled = model.to_lookup_decoder_model(rt.alloc())?;
+    let tabled = lookup_of_four(rt.alloc(), [3, 18, 1, 42])?;
     same(&rt, looked_up(&tabled), Ok((1, 3, 18)));
+    same(&rt, looked_up_in_a_view(&tabled), Ok((1, 3, 18)));
     same(&rt, row_of_819(), Ok((1, 819, 819)));
     same(&rt, last_entry(), Some((3276, 820)));
     same(&rt, uniform_ends(), (Some(0), Some(4), 3));
@@ -208,8 +274,14 @@ fn contracts_leave_one_answer_over_letters(rt: HostRuntime) -> Result<(), Fail> 
     let model = decoder_of(rt.alloc(), ['a', 'x', 'c', 'y'], [3, 18, 1, 42])?;
     same(&rt, letter_of_20(&model), Ok(('x', 3, 18)));
     same(&rt, letters_at_the_ends(&model), (Some('a'), Some('y'), 2));
-    let tabled = model.to_lookup_decoder_model(rt.alloc())?;
+    let numbers = of_four(rt.alloc(), [3, 18, 1, 42])?;
+    same(&rt, sizes(&numbers, &model), (4, 4));
+    let encoder = encoder_of(rt.alloc(), &model)?;
+    same(&rt, entry_of_x(&encoder), Some((3, 18)));
+    same(&rt, entry_of_x(&cloned(&encoder)?), Some((3, 18)));
+    let tabled = lookup_of(rt.alloc(), ['a', 'x', 'c', 'y'], [3, 18, 1, 42])?;
     same(&rt, letter_looked_up(&tabled), Ok(('x', 3, 18)));
+    same(&rt, letter_looked_up_in_a_clone(&tabled), Ok(('x', 3, 18)));
     same(&rt, index_looked_up(&tabled), (1, 0));
     Ok(())
 }
