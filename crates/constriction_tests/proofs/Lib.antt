@@ -1,3 +1,4 @@
 mod EvenLemmas
+mod GivenParts
 mod RowLemmas
 mod SliceReading

@@ -246,7 +246,7 @@ fn every_chain_keeps_the_replies(rt: HostRuntime) {
 }
 
 /// The encoder's model that is made of a decoder's: it has its entries, since clones of letters are the letters.
-fn encoder_of(alloc: Global, model: &Decoder<6>) -> Result<Encoder<6>, ModelError>
+pub fn encoder_of(alloc: Global, model: &Decoder<6>) -> Result<Encoder<6>, ModelError>
     ensures { IfOk result (λ e. SameEntries nat_eq
         (⟦<Encoder<6> as EntropyModel<6>>⟧.rows e) (⟦<Decoder<6> as EntropyModel<6>>⟧.rows model.now)) }
 {

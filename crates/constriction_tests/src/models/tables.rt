@@ -9,7 +9,7 @@ use constriction::stream::model::{
     ContiguousSymbolTable, DecoderModel, EncoderModel, IterableEntropyModel, UniformModel, Weight,
     is_quantile,
 };
-use constriction_words::{BitArray, NonZeroBitArray};
+use constriction_words::{NonZeroBitArray, WholeNumber};
 use std::alloc::AllocError;
 use std::iter::Rev;
 use std::process::Abort;
@@ -19,13 +19,13 @@ use std::test::Fail;
 type Step<Word> = Option<Result<(usize, Word, Weight<Word>), AllocError>>;
 
 /// The row of a step, with its weight as a plain word.
-fn row<Word: BitArray>(step: Step<Word>) -> Option<(usize, Word, Word)> {
+fn row<Word: WholeNumber>(step: Step<Word>) -> Option<(usize, Word, Word)> {
     let (symbol, left, weight) = step?.ok()?;
-    Some((symbol, left, weight.get()))
+    Some((symbol, left, Word::from_weight(weight)))
 }
 
 /// How many rows a table of a contiguous model has left.
-fn rows_left<'m, Word: BitArray + 'm, const PRECISION: usize>(
+fn rows_left<'m, Word: WholeNumber + 'm, const PRECISION: usize>(
     table: &ContiguousSymbolTable<'m, Word, PRECISION>,
 ) -> usize
     ensures { result ≡ length
@@ -50,7 +50,7 @@ where
 }
 
 /// How many symbols a model has, and how many items its walk.
-fn counts<Word: BitArray, const PRECISION: usize>(
+fn counts<Word: WholeNumber, const PRECISION: usize>(
     model: &Model<Word, PRECISION>,
 ) -> (usize, usize) {
     let size = model.support_size();

@@ -7,7 +7,7 @@ use constriction::stream::model::{
     DecoderModel, DefaultUniformModel, EncoderModel, IterableEntropyModel, SmallUniformModel,
     UniformModel, UniformSymbolTable, Weight,
 };
-use constriction_words::{BitArray, NonZeroBitArray};
+use constriction_words::WholeNumber;
 use std::alloc::{AllocError, Global};
 use std::process::Abort;
 use std::test::Fail;
@@ -16,17 +16,17 @@ use std::test::Fail;
 type Row<Word> = (usize, Word, Word);
 
 /// A row of an answer, with its weight as a plain word.
-fn plain<Word: BitArray>(
+fn plain<Word: WholeNumber>(
     answer: Result<(usize, Word, Weight<Word>), AllocError>,
 ) -> Option<Row<Word>> {
     let (symbol, left, weight) = answer.ok()?;
-    Some((symbol, left, weight.get()))
+    Some((symbol, left, Word::from_weight(weight)))
 }
 
 /// The entry of an answer, with its weight as a plain word.
-fn plain_entry<Word: BitArray>(answer: Option<(Word, Weight<Word>)>) -> Option<(Word, Word)> {
+fn plain_entry<Word: WholeNumber>(answer: Option<(Word, Weight<Word>)>) -> Option<(Word, Word)> {
     let (left, weight) = answer?;
-    Some((left, weight.get()))
+    Some((left, Word::from_weight(weight)))
 }
 
 /// The row of a quantile of a small model.

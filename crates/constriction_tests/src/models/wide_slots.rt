@@ -9,7 +9,7 @@ use constriction::stream::model::{
     ContiguousLookupDecoderModel, DecoderModel, ModelError, Probe,
     SmallContiguousLookupDecoderModel, row_of_quantile,
 };
-use constriction_words::{BitArray, IndexWord, NonZeroBitArray};
+use constriction_words::{IndexWord, NonZeroBitArray, WholeNumber};
 use std::alloc::Global;
 use std::iter;
 use std::process::Abort;
@@ -41,14 +41,14 @@ fn lookup_of<Word: IndexWord, const PRECISION: usize>(
 }
 
 /// The row of a quantile, with its weight as a plain word.
-fn row_of<Word: BitArray + IndexWord, const PRECISION: usize>(
+fn row_of<Word: IndexWord, const PRECISION: usize>(
     model: &Lookup<Word, PRECISION>,
     quantile: Word,
 ) -> Option<(usize, Word, Word)>
     requires { Word.whole quantile < 2 ^ PRECISION }
 {
     let (symbol, left, weight) = model.quantile_function(quantile).ok()?;
-    Some((symbol, left, weight.get()))
+    Some((symbol, left, Word::from_weight(weight)))
 }
 
 /// What the search finds among the rows that meet the quantile's slot, how many these are, and how often

@@ -8,7 +8,7 @@ use constriction::stream::model::{
     Alone, CdfEntry, ContiguousCategoricalEntropyModel, DecoderModel, EncoderModel, ModelError,
     Probe, SmallContiguousCategoricalEntropyModel, WithSymbol, is_quantile, row_of_quantile,
 };
-use constriction_words::{BitArray, NonZeroBitArray};
+use constriction_words::{NonZeroBitArray, WholeNumber};
 use std::alloc::{AllocError, Global};
 use std::iter;
 use std::process::Abort;
@@ -22,7 +22,7 @@ pub type Model<Word, const PRECISION: usize> = ContiguousCategoricalEntropyModel
 >;
 
 /// The model of weights in a slice.
-pub fn model_of<Word: BitArray, const PRECISION: usize>(
+pub fn model_of<Word: WholeNumber, const PRECISION: usize>(
     alloc: Global,
     weights: &[Word],
     infer_last: bool,
@@ -47,7 +47,7 @@ const COUNTS: [u32; 37] = [
 ];
 
 /// The row of a quantile of the model of weights.
-fn row_of<Word: BitArray, const PRECISION: usize>(
+fn row_of<Word: WholeNumber, const PRECISION: usize>(
     alloc: Global,
     weights: &[Word],
     infer_last: bool,
@@ -59,7 +59,7 @@ fn row_of<Word: BitArray, const PRECISION: usize>(
 {
     let model = model_of::<Word, PRECISION>(alloc, weights, infer_last)?;
     match model.quantile_function(quantile) {
-        Ok((symbol, left, weight)) => Ok((symbol, left, weight.get())),
+        Ok((symbol, left, weight)) => Ok((symbol, left, Word::from_weight(weight))),
         Err(AllocError) => Err(ModelError::OutOfMemory),
     }
 }
