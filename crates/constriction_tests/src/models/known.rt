@@ -226,6 +226,13 @@ fn are_quantiles() -> (bool, bool)
     (is_quantile::<u8, 6>(63), is_quantile::<u8, 6>(64))
 }
 
+/// The greatest quantile at a precision of 6.
+fn last_quantile() -> u8
+    ensures { result ≡ 63 }
+{
+    u8::greatest(6)
+}
+
 /// The decoder of four letters: its rows are those of the letters and their weights, which are accepted, and
 /// where there is none but for want of memory, they are not.
 pub fn decoder_of(
@@ -266,6 +273,7 @@ fn contracts_leave_one_answer(rt: HostRuntime) -> Result<(), Fail> {
     same(&rt, last_entry(), Some((3276, 820)));
     same(&rt, uniform_ends(), (Some(0), Some(4), 3));
     same(&rt, are_quantiles(), (true, false));
+    same(&rt, last_quantile(), 63);
     Ok(())
 }
 
