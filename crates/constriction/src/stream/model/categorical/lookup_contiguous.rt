@@ -265,7 +265,7 @@ impl<
 
     /// The row of a quantile, by the table, and where more than one row meets the quantile's slot by a
     /// search of those. It takes no memory and always succeeds.
-    #[inline(always)]
+    #[inline]
     fn quantile_function(
         &self,
         quantile: Probability,

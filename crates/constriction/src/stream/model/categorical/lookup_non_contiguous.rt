@@ -367,7 +367,7 @@ impl<
 
     /// The row of a quantile, with a clone of its symbol: by the table, and where more than one row meets
     /// the quantile's slot by a search of those.
-    #[inline(always)]
+    #[inline]
     fn quantile_function(
         &self,
         quantile: Probability,
