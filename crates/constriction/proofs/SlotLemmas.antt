@@ -8,20 +8,50 @@ use Rattle.std.specs.List.Sorted.{IsStrictlyIncreasing}
 use Rattle.constriction.specs.Rows.{Row, RowsTile}
 use Rattle.constriction.specs.Probe.{IsSearchable, IsLastAtMost, TellsRows, IsRowIndexOf}
 use Rattle.constriction.specs.Slots.{MeetsSlot, slot_width, slot_count}
-use Rattle.constriction.specs.SlotTable.{IsSlot, IsSlotPart}
+use Rattle.constriction.specs.SlotTable.{words_a_slot, HasSlots, IsSlot, IsSlotPart}
 use Rattle.constriction.proofs.Halving.{later}
 use Rattle.constriction.proofs.SlotFilling.{slot-within, slot-below, whole-part}
 use Rattle.constriction.proofs.TileLemmas.{IsTile, tile-at, tiles-many, tiles-increase, tiles-found}
 
 -- the slot of a quantile holds it
-pub slot-from : (precision q : ℕ) → q / slot_width precision * slot_width precision ≤ q
-slot-from precision q = div-mul-le_self q (slot_width precision)
+pub slot-from : (precision slot_bits q : ℕ) → q / slot_width precision slot_bits * slot_width precision slot_bits ≤ q
+slot-from precision slot_bits q = div-mul-le_self q (slot_width precision slot_bits)
 
-pub slot-to : (precision q : ℕ) → q ≤ q / slot_width precision * slot_width precision + (slot_width precision - 1)
-slot-to precision q =
-    let wide : 0 < slot_width precision = pow_pos (precision - 8) in
-    let below = (whole-part (slot_width precision) q (q / slot_width precision) wide).0 (omega arith) in
+pub slot-to : (precision slot_bits q : ℕ) → q ≤ q / slot_width precision slot_bits * slot_width precision slot_bits + (slot_width precision slot_bits - 1)
+slot-to precision slot_bits q =
+    let wide : 0 < slot_width precision slot_bits = pow_pos (precision - slot_bits) in
+    let below = (whole-part (slot_width precision slot_bits) q (q / slot_width precision slot_bits) wide).0 (omega arith) in
     omega arith
+
+-- the rows of a slot that has one word
+module _ (width count : ℕ) (lefts table : List ℕ) (slot : ℕ) (s : HasSlots width count lefts table) (within : slot < count) where
+  module _ (one : words_a_slot width ≡ 1) where
+    pub alone-within : slot < length table
+    alone-within =
+        let long : length table ≡ 1 * count = rw one at s.long in
+        omega arith
+
+    pub slot-alone : IsSlot lefts width slot (get_or table slot 0) (get_or table slot 0)
+    slot-alone =
+        let same : 1 * slot ≡ slot = omega arith in
+        let same_last : 1 * slot + 0 ≡ slot = omega arith in
+        record {
+          from = rw same at ((rw one at (s.words.first slot)) (omega (arith, alone-within)));
+          to = rw same_last at ((rw one at (s.words.last slot)) (omega (arith, alone-within)));
+        }
+
+  -- and of one that has two
+  module _ (two : words_a_slot width ≡ 2) where
+    pub pair-within : 2 * slot + 1 < length table
+    pair-within =
+        let long : length table ≡ 2 * count = rw two at s.long in
+        omega arith
+
+    pub slot-pair : IsSlot lefts width slot (get_or table (2 * slot) 0) (get_or table (2 * slot + 1) 0)
+    slot-pair = record {
+      from = (rw two at (s.words.first slot)) (omega (arith, pair-within));
+      to = (rw two at (s.words.last slot)) (omega (arith, pair-within));
+    }
 
 -- a greater quantile has no earlier row
 last-order : (lefts : List ℕ) (x y i k : ℕ) → IsLastAtMost lefts x i → IsLastAtMost lefts y k → x ≤ y → i ≤ k
@@ -33,6 +63,15 @@ last-order lefts x y i k a b h = elim (cases_lt k i) [
 pub slot-order : (lefts : List ℕ) (width slot first last : ℕ) → IsSlot lefts width slot first last → first ≤ last
 slot-order lefts width slot first last s =
     last-order lefts (slot * width) (slot * width + (width - 1)) first last s.from s.to (omega arith)
+
+-- a row that alone meets the slot is that of each of its quantiles
+pub slot-only : (lefts : List ℕ) (width slot first last q : ℕ) → IsSlot lefts width slot first last → first ≡ last → slot * width ≤ q
+    → q ≤ slot * width + (width - 1) → IsLastAtMost lefts q first
+slot-only lefts width slot first last q s e low high = record {
+  in_bounds = s.from.in_bounds;
+  at_most = omega (arith, s.from.at_most);
+  last = λ j a b. omega (arith, s.to.last j (omega arith) b);
+}
 
 pub part-whole : {W : Type 0} (whole : W → ℕ) (xs : List W) (first count : ℕ)
     → map whole (take count (drop first xs)) ≡ take count (drop first (map whole xs))
@@ -88,15 +127,15 @@ module _ (lefts : List ℕ) (up : IsStrictlyIncreasing lefts) (width slot first 
     ];
   }
 
-module _ {S : Type 0} (bits precision : ℕ) (rows : List (Row S)) (t : RowsTile bits precision rows) where
+module _ {S : Type 0} (bits precision slot_bits : ℕ) (rows : List (Row S)) (t : RowsTile bits precision rows) where
   many : length (map (λ r. r.left) rows) ≡ length rows
   many = tiles-many bits precision rows t
 
   up : IsStrictlyIncreasing (map (λ r. r.left) rows)
   up = tiles-increase bits precision rows t
 
-  module _ (j first : ℕ) (told : List ℕ) (p : IsSlotPart (map (λ r. r.left) rows) (slot_width precision) j first told) where
-    meets-in : (i : ℕ) (r : Row S) → i < length rows → IsTile precision rows i r → MeetsSlot (slot_width precision) j r
+  module _ (j first : ℕ) (told : List ℕ) (p : IsSlotPart (map (λ r. r.left) rows) (slot_width precision slot_bits) j first told) where
+    meets-in : (i : ℕ) (r : Row S) → i < length rows → IsTile precision rows i r → MeetsSlot (slot_width precision slot_bits) j r
         → (first ≤ i) × (i < p.last + 1)
     meets-in i r h tile m =
         let lefts : List ℕ = map (λ r. r.left) rows in
@@ -115,22 +154,22 @@ module _ {S : Type 0} (bits precision : ℕ) (rows : List (Row S)) (t : RowsTile
           | inr not ↦ not
         ] in
         let upper : i < p.last + 1 = elim (cases_lt p.last i) [
-          | inl after ↦ absurd (omega (arith, to.last i after b, tile.left, m.in_slot, m.in_row, pow_pos (precision - 8)))
+          | inl after ↦ absurd (omega (arith, to.last i after b, tile.left, m.in_slot, m.in_row, pow_pos (precision - slot_bits)))
           | inr not ↦ omega arith
         ] in
         (lower, upper)
 
-    in-meets : (i : ℕ) (r : Row S) → i < length rows → IsTile precision rows i r → j < slot_count precision
-        → first ≤ i → i < p.last + 1 → MeetsSlot (slot_width precision) j r
+    in-meets : (i : ℕ) (r : Row S) → i < length rows → IsTile precision rows i r → j < slot_count precision slot_bits
+        → first ≤ i → i < p.last + 1 → MeetsSlot (slot_width precision slot_bits) j r
     in-meets i r h tile jb lower upper =
         let lefts : List ℕ = map (λ r. r.left) rows in
         let from = p.rows.from in
         let to = p.rows.to in
-        let width : 0 < 2 ^ (precision - 8) = pow_pos (precision - 8) in
+        let width : 0 < 2 ^ (precision - slot_bits) = pow_pos (precision - slot_bits) in
         let b : i < length lefts = omega (arith, many) in
         elim (cases_lt first i) [
           | inl more ↦ (
-              let low : get_or lefts i 0 ≤ j * slot_width precision + (slot_width precision - 1) = elim (cases_lt i p.last) [
+              let low : get_or lefts i 0 ≤ j * slot_width precision slot_bits + (slot_width precision slot_bits - 1) = elim (cases_lt i p.last) [
                 | inl before ↦ omega (arith, later lefts i p.last up before to.in_bounds, to.at_most)
                 | inr same ↦ (let is : p.last ≡ i = omega arith in rw (← is) to.at_most)
               ] in
@@ -141,16 +180,16 @@ module _ {S : Type 0} (bits precision : ℕ) (rows : List (Row S)) (t : RowsTile
               })
           | inr same ↦ (
               let is : first ≡ i = omega arith in
-              let low : get_or lefts i 0 ≤ j * slot_width precision = rw (← is) from.at_most in
-              let high : j * slot_width precision < r.left + r.weight = elim (cases_lt (i + 1) (length rows)) [
+              let low : get_or lefts i 0 ≤ j * slot_width precision slot_bits = rw (← is) from.at_most in
+              let high : j * slot_width precision slot_bits < r.left + r.weight = elim (cases_lt (i + 1) (length rows)) [
                 | inl before ↦ omega (arith, tile.next before, from.last (i + 1) (omega arith) (omega (arith, many)))
-                | inr end ↦ omega (arith, tile.last (omega arith), slot-within precision j jb)
+                | inr end ↦ omega (arith, tile.last (omega arith), slot-within precision slot_bits j jb)
               ] in
-              record { quantile = j * slot_width precision; in_slot = (omega arith, omega arith); in_row = (omega (arith, tile.left), high) })
+              record { quantile = j * slot_width precision slot_bits; in_slot = (omega arith, omega arith); in_row = (omega (arith, tile.left), high) })
         ]
 
     -- exactly the rows that meet the slot are told
-    slot-tells : j < slot_count precision → TellsRows rows (MeetsSlot (slot_width precision) j) first told
+    slot-tells : j < slot_count precision slot_bits → TellsRows rows (MeetsSlot (slot_width precision slot_bits) j) first told
     slot-tells jb = record {
       exactly = λ i d h.
           let tile = tile-at bits precision rows t i d h in
@@ -159,25 +198,25 @@ module _ {S : Type 0} (bits precision : ℕ) (rows : List (Row S)) (t : RowsTile
       in_order = p.in_order;
     }
 
-    slot-searchable : (q : ℕ) → j * slot_width precision ≤ q → IsSearchable told q
+    slot-searchable : (q : ℕ) → j * slot_width precision slot_bits ≤ q → IsSearchable told q
     slot-searchable q low =
-        part-searchable (map (λ r. r.left) rows) up (slot_width precision) j first told p q low
+        part-searchable (map (λ r. r.left) rows) up (slot_width precision slot_bits) j first told p q low
 
-    slot-found : (q i : ℕ) → q < 2 ^ precision → q ≤ j * slot_width precision + (slot_width precision - 1) → IsLastAtMost told q i
+    slot-found : (q i : ℕ) → q < 2 ^ precision → q ≤ j * slot_width precision slot_bits + (slot_width precision slot_bits - 1) → IsLastAtMost told q i
         → IsRowIndexOf rows q (first + i)
     slot-found q i below high f =
         tiles-found bits precision rows t q (first + i) below
-        (part-found (map (λ r. r.left) rows) up (slot_width precision) j first told p q i high f)
+        (part-found (map (λ r. r.left) rows) up (slot_width precision slot_bits) j first told p q i high f)
 
   -- a probe of the rows that meet the slot of a quantile
   pub slot-probed : (q first : ℕ) (lefts told : List ℕ) → lefts ≡ map (λ r. r.left) rows → q < 2 ^ precision
-      → IsSlotPart lefts (slot_width precision) (q / slot_width precision) first told
-      → TellsRows rows (MeetsSlot (slot_width precision) (q / slot_width precision)) first told
+      → IsSlotPart lefts (slot_width precision slot_bits) (q / slot_width precision slot_bits) first told
+      → TellsRows rows (MeetsSlot (slot_width precision slot_bits) (q / slot_width precision slot_bits)) first told
       × IsSearchable told q
       × ((i : ℕ) → IsLastAtMost told q i → IsRowIndexOf rows q (first + i))
   slot-probed q first lefts told e below part =
       let p = rw e at part in (
-        slot-tells (q / slot_width precision) first told p (slot-below precision q below),
-        slot-searchable (q / slot_width precision) first told p q (slot-from precision q),
-        (λ i f. slot-found (q / slot_width precision) first told p q i below (slot-to precision q) f),
+        slot-tells (q / slot_width precision slot_bits) first told p (slot-below precision slot_bits q below),
+        slot-searchable (q / slot_width precision slot_bits) first told p q (slot-from precision slot_bits q),
+        (λ i f. slot-found (q / slot_width precision slot_bits) first told p q i below (slot-to precision slot_bits q) f),
       )

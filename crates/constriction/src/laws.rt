@@ -7,6 +7,7 @@ ghost use Rattle.constriction.specs.Laws.{QuantilesHaveOneRow, PairsAreQuantiles
 use crate::stream::model::{
     DecoderModel, EncodesOver, EntropyModel, IterableEntropyModel,
     NonContiguousCategoricalDecoderModel, NonContiguousLookupDecoderModel,
+    SlottedNonContiguousLookupDecoderModel,
 };
 use constriction_backends::SafeBuf;
 use constriction_words::{IndexWord, WholeNumber};
@@ -99,6 +100,24 @@ where
     LookupTable: SafeBuf<Probability>,
     ensures { SymbolsDiffer Symbol.eq
         ⟦<NonContiguousLookupDecoderModel<Symbol, Probability, Cdf, LookupTable, PRECISION> as EntropyModel<PRECISION>>⟧.rows }
+{}
+
+/// And of one with whatever number of slots.
+pub fn slotted_non_contiguous_lookup_symbols_differ<
+    Symbol,
+    Probability,
+    Cdf,
+    LookupTable,
+    const PRECISION: usize,
+    const SLOT_BITS: usize,
+>()
+where
+    Symbol: Eq,
+    Probability: IndexWord,
+    Cdf: SafeBuf<(Probability, Symbol)>,
+    LookupTable: SafeBuf<Probability>,
+    ensures { SymbolsDiffer Symbol.eq
+        ⟦<SlottedNonContiguousLookupDecoderModel<Symbol, Probability, Cdf, LookupTable, PRECISION, SLOT_BITS> as EntropyModel<PRECISION>>⟧.rows }
 {}
 
 /// Two decoder models of the same symbols and the same `PRECISION` have the same row for each

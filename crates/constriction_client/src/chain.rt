@@ -15,7 +15,6 @@ use crate::laws::form_symbols_differ;
 use constriction::laws::table_gives_all_rows;
 use constriction::stream::model::{
     EntropyModel, IterableEntropyModel, ModelError, Weight, to_generic_decoder_model_of_distinct,
-    to_generic_lookup_decoder_model_of_distinct,
 };
 use constriction_words::{IndexWord, WholeNumber};
 use std::alloc::{AllocError, Global};
@@ -25,7 +24,7 @@ use std::alloc::{AllocError, Global};
 pub enum ChainStep {
     /// To the form that searches all rows, by `to_generic_decoder_model_of_distinct`.
     ToSearch,
-    /// To the form with a table, by `to_generic_lookup_decoder_model_of_distinct`.
+    /// To the form with a table, by `to_generic_decoder_model_of_distinct` and `into_lookup_decoder_model`.
     ToLookup,
     /// To the form that searches all rows, by `into_non_contiguous_categorical`, which takes no memory. A
     /// form that searches stays.
@@ -177,8 +176,8 @@ impl<Symbol: Eq + Clone + Drop, Probability: IndexWord, const PRECISION: usize> 
     }
 
     fn to_lookup(&self, alloc: Global) -> Result<Self, ModelError> {
-        match to_generic_lookup_decoder_model_of_distinct::<_, PRECISION>(alloc, self) {
-            Ok(model) => Ok(DecoderForm::Lookup(model)),
+        match to_generic_decoder_model_of_distinct::<_, PRECISION>(alloc, self) {
+            Ok(model) => tabled_of(alloc, model),
             Err(refusal) => Err(refusal),
         }
     }

@@ -78,7 +78,7 @@ impl<Symbol: Eq + Clone, Probability: IndexWord, const PRECISION: usize> Decoder
     ghost tile_law = { λ m. elim m as (λ f. RowsTile Probability.BITS PRECISION
         (⟦<DecoderForm<Symbol, Probability, PRECISION> as EntropyModel<PRECISION>>⟧.rows f)) [
           | form.Search s ↦ paired-tiles Probability.whole _ _ _ s.stored
-          | form.Lookup s ↦ paired-tiles Probability.whole _ _ _ s.stored
+          | form.Lookup s ↦ paired-tiles Probability.whole _ _ _ s.model.stored
         ] };
 }
 
@@ -113,6 +113,6 @@ impl<
     ghost tile_law = { λ m. elim m.now as (λ f. RowsTile Probability.BITS PRECISION
         (⟦<DecoderForm<Symbol, Probability, PRECISION> as EntropyModel<PRECISION>>⟧.rows f)) [
           | form.Search s ↦ paired-tiles Probability.whole _ _ _ s.stored
-          | form.Lookup s ↦ paired-tiles Probability.whole _ _ _ s.stored
+          | form.Lookup s ↦ paired-tiles Probability.whole _ _ _ s.model.stored
         ] };
 }

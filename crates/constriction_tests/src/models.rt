@@ -17,6 +17,7 @@ mod owned_symbols;
 mod refused_lookup_memory;
 mod refused_memory;
 mod search;
+mod slot_bits;
 pub mod symbol_types;
 pub mod tables;
 pub mod uniform;

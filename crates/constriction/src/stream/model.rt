@@ -21,17 +21,23 @@ pub use crate::stream::model::categorical::hashed::{
     DefaultNonContiguousCategoricalEncoderModel, NonContiguousCategoricalEncoderModel,
     SmallNonContiguousCategoricalEncoderModel,
 };
+pub use crate::stream::model::categorical::lookup::LookupDecoderModel;
 pub use crate::stream::model::categorical::lookup_contiguous::{
-    ContiguousLookupDecoderModel, SmallContiguousLookupDecoderModel,
+    ContiguousLookupDecoderModel, SlottedContiguousLookupDecoderModel,
+    SmallContiguousDirectLookupDecoderModel, SmallContiguousLookupDecoderModel,
 };
 pub use crate::stream::model::categorical::lookup_non_contiguous::{
-    NonContiguousLookupDecoderModel, SmallNonContiguousLookupDecoderModel,
+    NonContiguousLookupDecoderModel, SlottedNonContiguousLookupDecoderModel,
+    SmallNonContiguousDirectLookupDecoderModel, SmallNonContiguousLookupDecoderModel,
 };
 pub use crate::stream::model::categorical::non_contiguous::{
     DefaultNonContiguousCategoricalDecoderModel, NonContiguousCategoricalDecoderModel,
     SmallNonContiguousCategoricalDecoderModel,
 };
 pub use crate::stream::model::categorical::non_contiguous_table::NonContiguousSymbolTable;
+pub use crate::stream::model::categorical::stores_rows::{
+    AnswersRows, OfAnySymbols, OfNumbers, StoresRows,
+};
 pub use crate::stream::model::categorical::symbol_table::ContiguousSymbolTable;
 pub use crate::stream::model::cdf_probe::{Alone, CdfEntry, CdfProbe, WithSymbol};
 pub use crate::stream::model::convert::distinct::{
@@ -39,7 +45,7 @@ pub use crate::stream::model::convert::distinct::{
 };
 pub use crate::stream::model::convert::{
     FromIterableEntropyModel, to_generic_decoder_model, to_generic_encoder_model,
-    to_generic_lookup_decoder_model,
+    to_generic_lookup_decoder_model, to_generic_slotted_lookup_decoder_model,
 };
 pub use crate::stream::model::decodes_over::DecodesOver;
 pub use crate::stream::model::encodes_over::EncodesOver;

@@ -5,8 +5,9 @@ use constriction::stream::model::{
     DecoderModel, DefaultContiguousCategoricalEntropyModel,
     DefaultNonContiguousCategoricalDecoderModel, DefaultNonContiguousCategoricalEncoderModel,
     DefaultUniformModel, EntropyModel, ModelError, SmallContiguousCategoricalEntropyModel,
-    SmallContiguousLookupDecoderModel, SmallNonContiguousCategoricalDecoderModel,
-    SmallNonContiguousCategoricalEncoderModel, SmallNonContiguousLookupDecoderModel,
+    SmallContiguousDirectLookupDecoderModel, SmallContiguousLookupDecoderModel,
+    SmallNonContiguousCategoricalDecoderModel, SmallNonContiguousCategoricalEncoderModel,
+    SmallNonContiguousDirectLookupDecoderModel, SmallNonContiguousLookupDecoderModel,
     SmallUniformModel,
 };
 use constriction_words::NonZeroBitArray;
@@ -31,6 +32,8 @@ fn names_are_over_their_words_at_their_precision() {
     is_small::<SmallNonContiguousCategoricalEncoderModel<char>>();
     is_small::<SmallContiguousLookupDecoderModel>();
     is_small::<SmallNonContiguousLookupDecoderModel<char>>();
+    is_small::<SmallContiguousDirectLookupDecoderModel>();
+    is_small::<SmallNonContiguousDirectLookupDecoderModel<char>>();
     is_small::<SmallUniformModel>();
 }
 

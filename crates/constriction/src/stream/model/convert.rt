@@ -7,7 +7,10 @@ ghost use Rattle.constriction.specs.Model.{StandForRows, ClonesRepeat};
 ghost use Rattle.constriction.specs.Rows.{symbols_of};
 
 use crate::stream::model::categorical::hashed::NonContiguousCategoricalEncoderModel;
-use crate::stream::model::categorical::lookup_non_contiguous::NonContiguousLookupDecoderModel;
+use crate::stream::model::categorical::lookup::LookupDecoderModel;
+use crate::stream::model::categorical::lookup_non_contiguous::{
+    NonContiguousLookupDecoderModel, SlottedNonContiguousLookupDecoderModel,
+};
 use crate::stream::model::categorical::non_contiguous::NonContiguousCategoricalDecoderModel;
 use crate::stream::model::categorical::walking::{entries_walked, table_walked};
 use crate::stream::model::error::ModelError;
@@ -75,13 +78,14 @@ where
 }
 
 /// It tells and refuses what a [`NonContiguousCategoricalDecoderModel`] does. `PRECISION` is at most 63.
-impl<M, const PRECISION: usize> FromIterableEntropyModel<M, PRECISION>
-    for NonContiguousLookupDecoderModel<
+impl<M, const PRECISION: usize, const SLOT_BITS: usize> FromIterableEntropyModel<M, PRECISION>
+    for SlottedNonContiguousLookupDecoderModel<
         M::Symbol,
         M::Probability,
         Vec<(M::Probability, M::Symbol)>,
         Vec<M::Probability>,
         PRECISION,
+        SLOT_BITS,
     >
 where
     M: IterableEntropyModel<PRECISION>,
@@ -89,16 +93,16 @@ where
     M::Probability: IndexWord,
 {
     ghost tells = { λ m d. StandForRows M.stands_for
-        (⟦<NonContiguousLookupDecoderModel<M::Symbol, M::Probability, Vec<(M::Probability, M::Symbol)>, Vec<M::Probability>, PRECISION> as EntropyModel<PRECISION>>⟧.rows d) (M.rows m)
+        (⟦<SlottedNonContiguousLookupDecoderModel<M::Symbol, M::Probability, Vec<(M::Probability, M::Symbol)>, Vec<M::Probability>, PRECISION, SLOT_BITS> as EntropyModel<PRECISION>>⟧.rows d) (M.rows m)
         × IsDistinct M.Symbol.eq (symbols_of
-        (⟦<NonContiguousLookupDecoderModel<M::Symbol, M::Probability, Vec<(M::Probability, M::Symbol)>, Vec<M::Probability>, PRECISION> as EntropyModel<PRECISION>>⟧.rows d)) };
+        (⟦<SlottedNonContiguousLookupDecoderModel<M::Symbol, M::Probability, Vec<(M::Probability, M::Symbol)>, Vec<M::Probability>, PRECISION, SLOT_BITS> as EntropyModel<PRECISION>>⟧.rows d)) };
 
     ghost refuses = { λ m. ClonesRepeat M.Symbol.eq M.stands_for (M.rows m) };
 
     ghost precise = { PRECISION ≤ 63 };
 
     fn from_iterable_entropy_model(alloc: Global, model: M) -> Result<Self, ModelError> {
-        to_generic_lookup_decoder_model::<M, PRECISION>(alloc, model)
+        to_generic_slotted_lookup_decoder_model::<M, PRECISION, SLOT_BITS>(alloc, model)
     }
 }
 
@@ -200,8 +204,39 @@ where
         (⟦<NonContiguousLookupDecoderModel<M::Symbol, M::Probability, Vec<(M::Probability, M::Symbol)>, Vec<M::Probability>, PRECISION> as EntropyModel<PRECISION>>⟧.rows d))) }
     ensures invalid { result ≡ Err ModelError.InvalidTable → ClonesRepeat M.Symbol.eq M.stands_for (M.rows model) }
 {
+    to_generic_slotted_lookup_decoder_model::<M, PRECISION, 8>(alloc, model)
+}
+
+/// The same with `2^min(PRECISION, SLOT_BITS)` slots.
+pub fn to_generic_slotted_lookup_decoder_model<M, const PRECISION: usize, const SLOT_BITS: usize>(
+    alloc: Global,
+    model: M,
+) -> Result<
+    SlottedNonContiguousLookupDecoderModel<
+        M::Symbol,
+        M::Probability,
+        Vec<(M::Probability, M::Symbol)>,
+        Vec<M::Probability>,
+        PRECISION,
+        SLOT_BITS,
+    >,
+    ModelError,
+>
+where
+    M: IterableEntropyModel<PRECISION>,
+    M::Symbol: Eq + Drop,
+    M::Probability: IndexWord,
+    requires positive { 0 < PRECISION }
+    requires narrow { PRECISION ≤ 63 }
+    requires fits { PRECISION ≤ M.Probability.BITS }
+    ensures ok { IfOk result (λ d. StandForRows M.stands_for
+        (⟦<SlottedNonContiguousLookupDecoderModel<M::Symbol, M::Probability, Vec<(M::Probability, M::Symbol)>, Vec<M::Probability>, PRECISION, SLOT_BITS> as EntropyModel<PRECISION>>⟧.rows d) (M.rows model)
+        × IsDistinct M.Symbol.eq (symbols_of
+        (⟦<SlottedNonContiguousLookupDecoderModel<M::Symbol, M::Probability, Vec<(M::Probability, M::Symbol)>, Vec<M::Probability>, PRECISION, SLOT_BITS> as EntropyModel<PRECISION>>⟧.rows d))) }
+    ensures invalid { result ≡ Err ModelError.InvalidTable → ClonesRepeat M.Symbol.eq M.stands_for (M.rows model) }
+{
     let searching = to_generic_decoder_model::<M, PRECISION>(alloc, model)?;
-    Ok(NonContiguousLookupDecoderModel::with_table(alloc, searching)?)
+    Ok(LookupDecoderModel::with_table(alloc, searching)?)
 }
 
 /// The encoder model of the same entries as any model that can be walked through: of each symbol that the

@@ -70,6 +70,7 @@ fn sixteenth<R: Probe>(rows: &mut R, q: R::Word, first: usize, size: usize) -> (
 /// The search halves the rows that are left until one is left, so it asks at most as many
 /// questions as one less than the number of rows has binary digits.
 #[tactic(auto, using(crate::proofs::Digits::digits_word, crate::proofs::Digits::digits_more, crate::proofs::Halving::narrowed_one, crate::proofs::Halving::narrowed_all))]
+#[inline(always)]
 pub fn row_of_quantile<R: Probe>(rows: &mut R, q: R::Word) -> usize
     requires searchable { IsSearchable (R.cumulatives rows.old) (R.number q) }
     requires room { R.questions rows.old ≤ usize.MAX - 64 }

@@ -236,7 +236,7 @@ impl<Probability: WholeNumber, Cdf: SafeBuf<Probability>, const PRECISION: usize
     ghost may_refuse = { λ _. ⊥ };
 
     /// The row of a quantile, by [`row_of_quantile`]. It takes no memory and always succeeds.
-    #[inline]
+    #[inline(always)]
     fn quantile_function(
         &self,
         quantile: Probability,

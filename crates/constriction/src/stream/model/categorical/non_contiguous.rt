@@ -308,7 +308,7 @@ impl<
     ghost may_refuse = { λ s. ¬ (Symbol.is_infallible s) };
 
     /// The row of a quantile, by [`row_of_quantile`], with a clone of its symbol.
-    #[inline]
+    #[inline(always)]
     fn quantile_function(
         &self,
         quantile: Probability,

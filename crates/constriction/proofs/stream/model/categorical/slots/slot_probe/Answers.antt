@@ -7,7 +7,7 @@ use Rattle.constriction.proofs.stream.model.categorical.slots.slot_probe.Goals a
 pub probe_of-requires-clause-order : goal.probe_of-requires-clause-order
 probe_of-requires-clause-order g c =
     let lefts = map g.Kind.CdfEntry.cumulative c.args.entries.now in
-    let width : ℕ = slot_width g.row.PRECISION in
+    let width : ℕ = slot_width g.row.PRECISION g.row.SLOT_BITS in
     slot-order lefts width (g.Kind.Word.WholeNumber.whole c.args.quantile / width) _ _ c.rows_of_slot-first.ensures
 
 pub probe_of-requires-clause-within : goal.probe_of-requires-clause-within
@@ -17,7 +17,7 @@ probe_of-requires-clause-within g c =
 pub returns-clause-part : goal.returns-clause-part
 returns-clause-part g c =
     let lefts = map g.Kind.CdfEntry.cumulative c.args.entries.now in
-    let width : ℕ = slot_width g.row.PRECISION in
+    let width : ℕ = slot_width g.row.PRECISION g.row.SLOT_BITS in
     rw c.probe_of.ensures.cumulatives
     (slot-part lefts width (g.Kind.Word.WholeNumber.whole c.args.quantile / width) c.rows_of_slot-first.result.0
     c.rows_of_slot-first.result.1 c.rows_of_slot-first.ensures)

@@ -1,6 +1,7 @@
-use Rattle.std.proofs.Common.{◌≡◌, ℕ, ◌+◌, ◌*◌, ◌^◌, ◌<◌, ◌≤◌, length, map, get_or, ap, sym, refl, ◌∙◌, arith}
+use Rattle.std.proofs.Common.{◌≡◌, ℕ, ◌+◌, ◌-◌, ◌^◌, ◌<◌, ◌≤◌, length, map, get_or, ap, sym, refl, ◌∙◌, arith}
 use Rattle.std.proofs.Math.Pow.{pow_mono}
 use Rattle.std.proofs.lemmas.List.{length-map}
+use Rattle.std.proofs.lemmas.Nat.{pow_pos}
 use Rattle.constriction.specs.Slots.{slot_width}
 use Rattle.constriction.specs.StoredLemmas.{read-whole}
 use Rattle.constriction.specs.SlotTable.{IsFirstWord}
@@ -26,8 +27,8 @@ rows-preserved g c =
     let inv = c.rows.invariant in
     let left : get_or lefts next 0 ≡ whole c.cumulative_of.result =
     read-whole cumulative entries next c.index-entries-next.result here c.index-entries-next.is ∙ sym c.cumulative_of.ensures in
-    let to : IsFirstWord (slot_width g.row.PRECISION) (get_or lefts next 0) c.first_word-end.result = rw left c.first_word-end.ensures in
-    let filled = row-filled whole (slot_width g.row.PRECISION) lefts c.rows.table.items c.resize.new.self.items c.rows.row c.first_word-end.result
+    let to : IsFirstWord (slot_width g.row.PRECISION g.row.SLOT_BITS) (get_or lefts next 0) c.first_word-end.result = rw left c.first_word-end.ensures in
+    let filled = row-filled whole (slot_width g.row.PRECISION g.row.SLOT_BITS) (pow_pos (g.row.PRECISION - g.row.SLOT_BITS)) lefts c.rows.table.items c.resize.new.self.items c.rows.row c.first_word-end.result
     c.requires.searchable.increases inv.2 inv.3 (omega (arith, inv.1, long)) c.rows.table.len c.rows.table.ok.0 c.in_ok-resize.ensures.items next inv.0
     (omega arith) to in (
       ap (λ n. n + 1) c.from_number-row.ensures,
@@ -44,7 +45,7 @@ returns g c =
     let long : length lefts ≡ length c.args.entries.now = length-map c.args.entries.now cumulative in
     let inv = c.rows.invariant in
     let row : whole c.rows.row < length lefts = omega (arith, inv.1, long) in
-    all-filled whole (slot_width g.row.PRECISION) lefts c.rows.table.items c.resize-2.new.self.items c.rows.row (2 * c.number_of_slots-words.result)
-    c.requires.searchable.increases inv.2 inv.3 row c.rows.table.len c.rows.table.ok.0 c.in_ok-resize-2.ensures.items g.row.PRECISION refl
-    (ap (λ n. 2 * n) c.number_of_slots-words.ensures.is) (omega (arith, inv.0, row, long, c.rows-test.false))
+    all-filled whole (slot_width g.row.PRECISION g.row.SLOT_BITS) (pow_pos (g.row.PRECISION - g.row.SLOT_BITS)) lefts c.rows.table.items c.resize-2.new.self.items c.rows.row c.words_of_table-words.result
+    c.requires.searchable.increases inv.2 inv.3 row c.rows.table.len c.rows.table.ok.0 c.in_ok-resize-2.ensures.items g.row.PRECISION g.row.SLOT_BITS refl
+    c.words_of_table-words.ensures (omega (arith, inv.0, row, long, c.rows-test.false))
     (c.requires.below (whole c.rows.row) row)
