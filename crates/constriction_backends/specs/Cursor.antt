@@ -2,7 +2,7 @@
 use Rattle.std.specs.Prelude.{◌≡◌, ◌-◌, ℕ, List, length, reverse, slice_set, ◌<◌, ◌≤◌, ◌⊎◌, Result, MatchResult}
 use Rattle.std.proofs.Common.{inl, inr}
 use Rattle.std.proofs.lemmas.Bool.{cases_lt}
-use Rattle.constriction_backends.specs.declared.buf.SafeBuf.{Ghosts}
+use Rattle.constriction_buffers.specs.declared.buf.SafeBuf.{Ghosts}
 use Rattle.constriction_backends.specs.declared.cursor.Cursor.{Cursor}
 use Rattle.constriction_backends.specs.CursorState.{State, state, reversal, Overwrites}
 

@@ -3,7 +3,7 @@ use Rattle.std.specs.Prelude.{◌≡◌, ◌≤◌, ℕ, List, [], ◌∷◌, �
 use Rattle.std.proofs.Common.{sym, ◌∙◌, ap, subst, length-append, add-one}
 use Rattle.std.proofs.lemmas.List.{reverse-append}
 use Rattle.std.proofs.Math.Bridge.{le_prop}
-use Rattle.constriction_backends.specs.declared.buf.SafeBuf.{Ghosts}
+use Rattle.constriction_buffers.specs.declared.buf.SafeBuf.{Ghosts}
 use Rattle.constriction_backends.specs.declared.cursor.Cursor.{Cursor}
 use Rattle.constriction_backends.specs.Source.{ReadsTold, CountsRead}
 use Rattle.constriction_backends.specs.Sink.{WritesTold, CountsWrite}

@@ -1,6 +1,6 @@
 -- What follows from the steps of a cursor: of its reversal, of positions that were taken, and of writes in a row.
 use Rattle.std.specs.Prelude.{◌≡◌, ◌↔◌, List, ◌++◌, length, drop, reverse, Option, Result, IsOk}
-use Rattle.constriction_backends.specs.declared.buf.SafeBuf.{Ghosts}
+use Rattle.constriction_buffers.specs.declared.buf.SafeBuf.{Ghosts}
 use Rattle.constriction_backends.specs.declared.cursor.Cursor.{Cursor}
 use Rattle.constriction_backends.specs.Cursor.{state_of, SeeksTo, WritesTo, TurnsRound}
 use Rattle.constriction_backends.specs.CursorState.{State, reversal, StackReads, QueueReads}

@@ -1,5 +1,5 @@
-pub mod Buffer
-pub mod BufferLaws
+pub use Rattle.constriction_buffers.specs.Buffer
+pub use Rattle.constriction_buffers.specs.BufferLaws
 pub mod Cursor
 pub mod CursorLaws
 pub mod CursorRuns
@@ -14,4 +14,4 @@ pub mod SinkLaws
 pub mod Source
 pub mod Stack
 pub mod StackLaws
-pub mod VecBuffer
+pub use Rattle.constriction_buffers.specs.VecBuffer

@@ -12,7 +12,7 @@ mod reversed;
 mod seek;
 mod write;
 
-use crate::buf::SafeBuf;
+use constriction_buffers::SafeBuf;
 use std::marker::PhantomData;
 
 /// A buffer with a position in it: the words before the position were written, and those from it

@@ -5,13 +5,13 @@
 //! ([`Queue`](constriction_words::Queue)).
 #![tactic(auto)]
 
-mod buf;
 mod callbacks;
 mod convert;
 mod cursor;
 mod error;
 mod iterators;
 pub mod laws;
+mod part;
 mod read;
 mod reverse;
 mod small_vec;
@@ -19,7 +19,6 @@ mod stack;
 mod vec;
 mod write;
 
-pub use crate::buf::{SafeBuf, SafeBufMut};
 pub use crate::callbacks::{FallibleCallbackWriteWords, InfallibleCallbackWriteWords};
 pub use crate::convert::{AsReadWords, AsSeekReadWords, IntoReadWords, IntoSeekReadWords};
 pub use crate::cursor::Cursor;
@@ -29,4 +28,5 @@ pub use crate::read::{BoundedReadWords, ReadWords};
 pub use crate::reverse::Reverse;
 pub use crate::stack::StackBackend;
 pub use crate::write::{BoundedWriteWords, WriteWords};
+pub use constriction_buffers::{SafeBuf, SafeBufMut};
 pub use constriction_words::ReadWriteError;

@@ -5,11 +5,11 @@ ghost use Rattle.std.proofs.Common.{ap, sym, ◌∙◌};
 ghost use Rattle.std.proofs.lemmas.List.{reverse-reverse};
 ghost use Rattle.constriction_backends.specs.Cursor.{state_of};
 
-use crate::buf::SafeBufMut;
 use crate::cursor::Cursor;
 use crate::read::ReadWords;
 use crate::reverse::Reverse;
 use crate::write::WriteWords;
+use constriction_buffers::SafeBufMut;
 use constriction_words::Stack;
 use smallvec::SmallVec;
 use std::alloc::Allocator;

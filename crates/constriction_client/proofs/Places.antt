@@ -3,7 +3,7 @@ use Rattle.std.proofs.Common.{◌≡◌, ℕ, ◌≤◌, List, [], ◌∷◌, �
 use Rattle.std.proofs.lemmas.List.{length-take-le}
 use Rattle.std.proofs.Math.Seq.{take-append_seam, drop-append_seam}
 use Rattle.constriction_words.specs.declared.coder_error.CoderError.TheVariants.{Frontend, Backend}
-use Rattle.constriction_backends.specs.declared.buf.SafeBuf.{Ghosts}
+use Rattle.constriction_buffers.specs.declared.buf.SafeBuf.{Ghosts}
 use Rattle.constriction_backends.specs.declared.cursor.Cursor.{Cursor}
 use Rattle.constriction_backends.specs.Cursor.{state_of, WritesTo}
 use Rattle.constriction_backends.specs.CursorRuns.{ExtendingOverwrites}

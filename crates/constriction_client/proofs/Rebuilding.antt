@@ -13,8 +13,8 @@ use Rattle.constriction.specs.Laws.{AreRows}
 use Rattle.constriction.specs.Model.{row_of, StandForRows, ClonesAreEqual}
 use Rattle.constriction.specs.Rows.{Row, RowsTile, rows_of, symbols_of}
 use Rattle.constriction.specs.StandLemmas.{tile-made, distinct-made, tiling-rebuilds}
-use Rattle.constriction.specs.declared.stream.model.error.ModelError.{ModelError}
-use Rattle.constriction.specs.declared.stream.model.error.ModelError.TheVariants.{InvalidTable, OutOfMemory}
+use Rattle.constriction_model.specs.declared.error.ModelError.{ModelError}
+use Rattle.constriction_model.specs.declared.error.ModelError.TheVariants.{InvalidTable, OutOfMemory}
 
 -- where a table is not invalid, memory alone is wanting
 pub memory-alone : (e : ModelError) → (e ≡ InvalidTable → ⊥) → e ≡ OutOfMemory

@@ -3,7 +3,7 @@
 use Rattle.std.specs.Prelude.{◌≡◌, Bool, List, [], ◌∷◌, ◌++◌}
 use Rattle.std.specs.Cmp.{IsEquivalence}
 use Rattle.std.proofs.Common.{refl, ap, ◌∙◌, subst}
-use Rattle.constriction.specs.Hashed.{SameEntries}
+use Rattle.constriction.specs.Entries.{SameEntries}
 use Rattle.constriction.specs.Model.{ClonesAreSame, ClonesAreEqual}
 use Rattle.constriction.specs.Rows.{Row, entry_of}
 use Rattle.constriction.specs.StandLemmas.{same-rows, entries-made}

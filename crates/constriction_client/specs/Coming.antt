@@ -1,6 +1,6 @@
 -- Words that are the next ones to come from a source. No public clause cites this module. `tells` is that of a source.
 use Rattle.std.specs.Prelude.{◌≡◌, ℕ, ◌^◌, ◌<◌, List, ◌++◌, length, All, Option}
-use Rattle.constriction_backends.specs.declared.buf.SafeBuf.{Ghosts}
+use Rattle.constriction_buffers.specs.declared.buf.SafeBuf.{Ghosts}
 use Rattle.constriction_backends.specs.declared.cursor.Cursor.{Cursor}
 use Rattle.constriction_backends.specs.Cursor.{buf_of, pos_of}
 use Rattle.constriction_client.specs.Placing.{PlacesItems}

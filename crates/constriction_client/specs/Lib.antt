@@ -1,16 +1,8 @@
 pub mod ChainLemmas
 pub mod Chains
-pub mod Collecting
 pub mod Coming
 pub mod CursorCalls
-pub mod Grammar
-pub mod NumberWords
-pub mod Parts
 pub mod Placing
 pub mod Quantiles
-pub mod Reading
 pub mod Replies
-pub mod Runs
-pub mod Scanning
-pub mod Text
 pub mod ThereAndBack

@@ -4,7 +4,7 @@ use Rattle.constriction_words.specs.declared.coder_error.CoderError.{CoderError}
 use Rattle.constriction_words.specs.declared.coder_error.CoderError.TheVariants.{Frontend, Backend}
 use Rattle.constriction_words.specs.declared.read_write_error.ReadWriteError.{ReadWriteError}
 use Rattle.constriction_words.specs.declared.read_write_error.ReadWriteError.TheVariants.{Read, Write}
-use Rattle.constriction_backends.specs.declared.buf.SafeBuf.{Ghosts}
+use Rattle.constriction_buffers.specs.declared.buf.SafeBuf.{Ghosts}
 use Rattle.constriction_backends.specs.declared.cursor.Cursor.{Cursor}
 use Rattle.constriction_backends.specs.Cursor.{buf_of, state_of}
 use Rattle.constriction_client.specs.declared.quantiles.QuantileFault.{QuantileFault}

@@ -8,7 +8,7 @@ use Rattle.constriction_client.specs.declared.queries.Query.{Query}
 use Rattle.constriction_client.specs.declared.queries.Query.TheVariants.{OfQuantile, OfSymbol}
 use Rattle.constriction_client.specs.declared.queries.Reply.{Reply}
 use Rattle.constriction_client.specs.declared.queries.Reply.TheVariants as reply
-use Rattle.constriction_client.specs.Scanning.{holds}
+use Rattle.constriction_model.specs.Scanning.{holds}
 
 -- a reply with the numbers of its words in their place
 abbrev pub in_numbers : {Symbol Word Weight : Type 0} → (Word → ℕ) → (Weight → Word) → Reply Symbol Word Weight

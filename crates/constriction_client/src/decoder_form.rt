@@ -90,7 +90,8 @@ impl<
 > IterableEntropyModel<PRECISION> for &'m DecoderForm<Symbol, Probability, PRECISION> {
     ghost use Rattle.constriction.specs.Rows.{RowsTile};
     ghost use Rattle.constriction.specs.SymbolRowLemmas.{paired-tiles};
-    ghost use Rattle.constriction.specs.Tables.{rows_paired, rows_between};
+    ghost use Rattle.constriction.specs.Stored.{rows_paired};
+    ghost use Rattle.constriction.specs.Tables.{rows_between};
     ghost use Rattle.constriction_client.specs.declared.decoder_form.SearchOrLookup.TheVariants as form;
 
     type SymbolTable = NonContiguousSymbolTable<'m, Symbol, Probability, PRECISION>;

@@ -2,9 +2,6 @@
 
 ghost use Rattle.constriction_client.specs.CursorCalls.{RunsAlike};
 ghost use Rattle.constriction_client.specs.ThereAndBack.{ReadsBack, ReadsBackReversed};
-ghost use Rattle.constriction_client.specs.Reading.{ReadsExactly};
-ghost use Rattle.constriction_client.specs.Scanning.{FindsARow, FindsTheRow};
-ghost use Rattle.constriction_client.specs.Text.{TestsAcceptance};
 
 mod chains;
 mod cursor_runs;
@@ -16,6 +13,9 @@ pub use self::round_trips::{
     CursorFault, DecoderAndEncoder, decoder_and_encoder, there_and_back,
     there_and_back_in_a_cursor, there_and_back_of_two,
 };
+pub use constriction::laws::{
+    each_quantile_in_range_has_a_row, the_row_found_is_the_row_of_the_quantile,
+};
 
 /// What was written for items is read back as these items, in the order of a queue.
 pub fn reads_back<Symbol, Word>()
@@ -26,27 +26,6 @@ pub fn reads_back<Symbol, Word>()
 /// of a stack.
 pub fn reads_back_reversed<Symbol, Word>()
     ensures { ReadsBackReversed Symbol Word }
-{}
-
-/// A line spells at most one request, and reading the line finds it.
-pub fn reading_is_exactly_spelling()
-    ensures { ReadsExactly }
-{}
-
-/// The test that the text of an input makes of weights is what constructors of models accept.
-pub fn weights_are_tested_as_models_accept_them()
-    ensures { TestsAcceptance }
-{}
-
-/// The row that a scan finds for a quantile, as in replies and in the text of an input, is the one that
-/// models answer.
-pub fn the_row_found_is_the_row_of_the_quantile<Symbol>()
-    ensures { FindsTheRow Symbol }
-{}
-
-/// There is one for each quantile in range.
-pub fn each_quantile_in_range_has_a_row<Symbol>()
-    ensures { FindsARow Symbol }
 {}
 
 /// A run of calls in a state and a run of the same calls in its reversal have the same replies, and

@@ -1,7 +1,7 @@
 //! Answers the lines of standard input on standard output.
 #![tactic(auto)]
 
-use constriction_client::run;
+use constriction_text::run;
 use std::io;
 use std::process::ExitCode;
 

@@ -1,3 +1,3 @@
 pub mod CoderError
 pub mod Rewinding
-pub mod Word
+pub use Rattle.constriction_numbers.specs.Word

@@ -5,7 +5,7 @@ ghost use Rattle.std.specs.Int.{FitsUnsignedBits};
 ghost use Rattle.num_traits.specs.Laws.{bit_len};
 ghost use Rattle.std.specs.Ordering.{partial_lt, partial_le};
 
-use crate::whole_number::WholeNumber;
+use constriction_numbers::WholeNumber;
 use num_traits::{FixedWidth, PrimInt};
 use std::default::Default;
 use std::fmt::{Debug, Display};

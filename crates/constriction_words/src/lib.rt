@@ -6,19 +6,16 @@
 
 mod bit_array;
 mod coder_error;
-mod index_word;
 mod infallible;
 mod position;
 mod read_write_error;
 mod semantics;
-mod whole_number;
 mod words;
 
 pub use crate::bit_array::{BitArray, NonZeroBitArray};
 pub use crate::coder_error::{CoderError, DefaultEncoderFrontendError, NanError};
-pub use crate::index_word::IndexWord;
 pub use crate::infallible::UnwrapInfallible;
 pub use crate::position::{Pos, PosSeek, Seek};
 pub use crate::read_write_error::ReadWriteError;
 pub use crate::semantics::{Queue, Semantics, Stack};
-pub use crate::whole_number::WholeNumber;
+pub use constriction_numbers::{IndexWord, WholeNumber};

@@ -6,9 +6,9 @@ ghost use Rattle.std.proofs.lemmas.List.{length-reverse};
 ghost use Rattle.constriction_backends.specs.Cursor.{state_of};
 ghost use Rattle.constriction_backends.specs.CursorLaws.{StackReads-counts, QueueReads-counts};
 
-use crate::buf::SafeBuf;
 use crate::cursor::Cursor;
 use crate::read::BoundedReadWords;
+use constriction_buffers::SafeBuf;
 use constriction_words::{Queue, Stack};
 
 impl<Word: Copy, Buf: SafeBuf<Word>> BoundedReadWords<Word, Stack> for Cursor<Word, Buf> {

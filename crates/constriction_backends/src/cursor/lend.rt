@@ -4,8 +4,9 @@ ghost use Rattle.std.specs.Prelude.{◌≡◌, ◌+◌, ◌++◌, length};
 ghost use Rattle.std.specs.Borrow.{Lends, follows, sem, Array};
 ghost use Rattle.constriction_backends.specs.Cursor.{buf_of, pos_of, state_of, over};
 
-use crate::buf::{SafeBuf, SafeBufMut, part_mut};
 use crate::cursor::Cursor;
+use crate::part::part_mut;
+use constriction_buffers::{SafeBuf, SafeBufMut};
 use std::marker::PhantomData;
 
 impl<Word, Buf: SafeBufMut<Word>> Cursor<Word, Buf> {

@@ -3,8 +3,8 @@
 ghost use Rattle.std.specs.Prelude.{◌≡◌, ◌≤◌, ◌↔◌, length, IfOk, IsOk};
 ghost use Rattle.constriction_backends.specs.Cursor.{buf_of, pos_of};
 
-use crate::buf::{SafeBuf, SafeBufMut};
 use crate::cursor::Cursor;
+use constriction_buffers::{SafeBuf, SafeBufMut};
 use std::alloc::{AllocError, Global};
 use std::marker::PhantomData;
 

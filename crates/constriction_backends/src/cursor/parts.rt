@@ -3,8 +3,8 @@
 ghost use Rattle.std.specs.Prelude.{◌≡◌};
 ghost use Rattle.constriction_backends.specs.Cursor.{buf_of, pos_of, state_of};
 
-use crate::buf::SafeBuf;
 use crate::cursor::Cursor;
+use constriction_buffers::SafeBuf;
 use std::marker::PhantomData;
 
 impl<Word, Buf: SafeBuf<Word>> Cursor<Word, Buf> {

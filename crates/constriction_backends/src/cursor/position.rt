@@ -2,8 +2,8 @@
 
 ghost use Rattle.constriction_backends.specs.Cursor.{pos_of};
 
-use crate::buf::SafeBuf;
 use crate::cursor::Cursor;
+use constriction_buffers::SafeBuf;
 use constriction_words::{Pos, PosSeek};
 
 impl<Word, Buf: SafeBuf<Word>> PosSeek for Cursor<Word, Buf> {

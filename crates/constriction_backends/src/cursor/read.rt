@@ -6,9 +6,9 @@ ghost use Rattle.constriction_backends.specs.Cursor.{buf_of, state_of};
 ghost use Rattle.constriction_backends.specs.CursorState.{StackReads, QueueReads};
 ghost use Rattle.constriction_backends.specs.CursorLaws.{StackReads-told, QueueReads-told};
 
-use crate::buf::SafeBuf;
 use crate::cursor::Cursor;
 use crate::read::ReadWords;
+use constriction_buffers::SafeBuf;
 use constriction_words::{Queue, Stack};
 use std::convert::Infallible;
 

@@ -6,11 +6,11 @@ ghost use Rattle.constriction_backends.specs.CursorState.{reversal};
 ghost use Rattle.constriction_backends.specs.CursorLaws.{Overwrites-told, Overwrites-counts};
 ghost use Rattle.constriction_backends.specs.SinkLaws.{free_is_taken};
 
-use crate::buf::SafeBufMut;
 use crate::cursor::Cursor;
 use crate::error::BoundedWriteError;
 use crate::reverse::Reverse;
 use crate::write::{BoundedWriteWords, WriteWords};
+use constriction_buffers::SafeBufMut;
 
 impl<Word, Buf: SafeBufMut<Word>> Cursor<Word, Buf> {
     /// Reverses the words in place, and moves the position to the same cut: the cursor that results

@@ -2,8 +2,8 @@
 
 ghost use Rattle.constriction_backends.specs.Cursor.{SeeksTo};
 
-use crate::buf::SafeBuf;
 use crate::cursor::Cursor;
+use constriction_buffers::SafeBuf;
 use constriction_words::Seek;
 
 impl<Word, Buf: SafeBuf<Word>> Seek for Cursor<Word, Buf> {

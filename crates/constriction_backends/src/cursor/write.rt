@@ -5,10 +5,10 @@ ghost use Rattle.constriction_backends.specs.Cursor.{buf_of, pos_of, state_of, W
 ghost use Rattle.constriction_backends.specs.CursorLaws.{Overwrites-told, Overwrites-counts};
 ghost use Rattle.constriction_backends.specs.SinkLaws.{free_is_taken};
 
-use crate::buf::{SafeBuf, SafeBufMut};
 use crate::cursor::Cursor;
 use crate::error::BoundedWriteError;
 use crate::write::{BoundedWriteWords, WriteWords};
+use constriction_buffers::{SafeBuf, SafeBufMut};
 
 impl<Word: Drop, Buf: SafeBufMut<Word>> WriteWords<Word> for Cursor<Word, Buf> {
     type WriteError = BoundedWriteError;

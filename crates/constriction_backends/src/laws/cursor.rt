@@ -3,7 +3,7 @@
 ghost use Rattle.constriction_backends.specs.CursorRuns.{ReversalTwice, ReversalReads, TurnedTwice};
 ghost use Rattle.constriction_backends.specs.CursorRuns.{CursorSeeksBack, SeekStays, ExtendingOverwrites};
 
-use crate::buf::{SafeBuf, SafeBufMut};
+use constriction_buffers::{SafeBuf, SafeBufMut};
 
 /// The reversal of the reversal of a cursor's state is that state.
 pub fn reversal_twice<Word>()

@@ -4,11 +4,9 @@ ghost use Rattle.std.specs.Prelude.{ℕ};
 ghost use Rattle.std.specs.Int.NonZero.{non_zero_u16_get};
 ghost use Rattle.std.proofs.Common.{refl, lit≤};
 ghost use Rattle.std.proofs.lemmas.Bool.Decides.{Decides-eqb};
-ghost use Rattle.constriction_words.specs.Word.{pos-nonzero, same-above-0, lt-whole, le-whole};
+ghost use Rattle.constriction_numbers.specs.Word.{pos-nonzero, same-above-0, lt-whole, le-whole};
 
 use crate::bit_array::{BitArray, NonZeroBitArray};
-use crate::index_word::IndexWord;
-use crate::whole_number::WholeNumber;
 use std::num::NonZeroU16;
 
 impl NonZeroBitArray for NonZeroU16 {
@@ -33,109 +31,6 @@ impl NonZeroBitArray for NonZeroU16 {
     ghost same_law = { λ a b e. same-above-0 (λ n h. record { value = n; ok = h }) a.ok b.ok e };
 
     ghost eq_law = { λ a b. Decides-eqb (non_zero_u16_get a) (non_zero_u16_get b) };
-}
-
-impl WholeNumber for u16 {
-    const BITS: usize = 16;
-
-    ghost BITS = { 16 };
-
-    type NonZero = NonZeroU16;
-
-    ghost whole = { λ x. x };
-
-    ghost base = { non_zero_u16_get };
-
-    #[inline]
-    fn greatest_word() -> u16 {
-        u16::MAX
-    }
-
-    #[inline]
-    fn shifted_right(self, places: usize) -> u16 {
-        self >> places as u32
-    }
-
-    #[inline]
-    fn wrapping_pow2(exponent: usize) -> u16 {
-        u16::wrapping_add(u16::greatest(exponent), 1)
-    }
-
-    #[inline]
-    fn is_at_most(self, other: u16) -> bool {
-        self <= other
-    }
-
-    #[inline]
-    fn is_below(self, other: u16) -> bool {
-        self < other
-    }
-
-    #[inline]
-    fn is_least(self) -> bool {
-        self == 0
-    }
-
-    #[inline]
-    fn is_greatest(self) -> bool {
-        self == u16::MAX
-    }
-
-    #[inline]
-    fn plus(self, other: u16) -> u16 {
-        self + other
-    }
-
-    #[inline]
-    fn minus(self, other: u16) -> u16 {
-        self - other
-    }
-
-    #[inline]
-    fn wrapping_minus(self, other: u16) -> u16 {
-        u16::wrapping_sub(self, other)
-    }
-
-    #[inline]
-    fn times(self, other: u16) -> u16 {
-        self * other
-    }
-
-    #[inline]
-    fn divided_by(self, other: u16) -> u16 {
-        self / other
-    }
-
-    #[inline]
-    fn from_number(number: usize) -> u16 {
-        number as u16
-    }
-
-    #[inline]
-    fn to_number(self) -> usize {
-        usize::from(self)
-    }
-
-    #[inline]
-    fn least() -> u16 {
-        0
-    }
-
-    #[inline]
-    fn to_weight(self) -> NonZeroU16 {
-        NonZeroU16::new(self).unwrap()
-    }
-
-    #[inline]
-    fn from_weight(weight: NonZeroU16) -> u16 {
-        NonZeroU16::get(weight)
-    }
-
-    ghost same_law = { λ a b e. e };
-
-    ghost weight_law = { λ x. x.ok };
-
-    ghost same_weight_law = { λ a b e. same-above-0 (λ n h. record { value = n; ok = h }) a.ok b.ok e };
 }
 
 impl BitArray for u16 {
@@ -208,16 +103,4 @@ impl BitArray for u16 {
     ghost can_shr_law = { λ a n h. h };
 
     ghost shr_law = { λ a n r e. e };
-}
-
-impl IndexWord for u16 {
-    #[inline]
-    fn to_index(self) -> usize {
-        usize::from(self)
-    }
-
-    #[inline]
-    fn from_index(i: usize) -> u16 {
-        i as u16
-    }
 }

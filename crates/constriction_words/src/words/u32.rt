@@ -4,10 +4,9 @@ ghost use Rattle.std.specs.Prelude.{ℕ};
 ghost use Rattle.std.specs.Int.NonZero.{non_zero_u32_get};
 ghost use Rattle.std.proofs.Common.{refl, lit≤};
 ghost use Rattle.std.proofs.lemmas.Bool.Decides.{Decides-eqb};
-ghost use Rattle.constriction_words.specs.Word.{pos-nonzero, same-above-0, lt-whole, le-whole};
+ghost use Rattle.constriction_numbers.specs.Word.{pos-nonzero, same-above-0, lt-whole, le-whole};
 
 use crate::bit_array::{BitArray, NonZeroBitArray};
-use crate::whole_number::WholeNumber;
 use std::num::NonZeroU32;
 
 impl NonZeroBitArray for NonZeroU32 {
@@ -32,109 +31,6 @@ impl NonZeroBitArray for NonZeroU32 {
     ghost same_law = { λ a b e. same-above-0 (λ n h. record { value = n; ok = h }) a.ok b.ok e };
 
     ghost eq_law = { λ a b. Decides-eqb (non_zero_u32_get a) (non_zero_u32_get b) };
-}
-
-impl WholeNumber for u32 {
-    const BITS: usize = 32;
-
-    ghost BITS = { 32 };
-
-    type NonZero = NonZeroU32;
-
-    ghost whole = { λ x. x };
-
-    ghost base = { non_zero_u32_get };
-
-    #[inline]
-    fn greatest_word() -> u32 {
-        u32::MAX
-    }
-
-    #[inline]
-    fn shifted_right(self, places: usize) -> u32 {
-        self >> places as u32
-    }
-
-    #[inline]
-    fn wrapping_pow2(exponent: usize) -> u32 {
-        u32::wrapping_add(u32::greatest(exponent), 1)
-    }
-
-    #[inline]
-    fn is_at_most(self, other: u32) -> bool {
-        self <= other
-    }
-
-    #[inline]
-    fn is_below(self, other: u32) -> bool {
-        self < other
-    }
-
-    #[inline]
-    fn is_least(self) -> bool {
-        self == 0
-    }
-
-    #[inline]
-    fn is_greatest(self) -> bool {
-        self == u32::MAX
-    }
-
-    #[inline]
-    fn plus(self, other: u32) -> u32 {
-        self + other
-    }
-
-    #[inline]
-    fn minus(self, other: u32) -> u32 {
-        self - other
-    }
-
-    #[inline]
-    fn wrapping_minus(self, other: u32) -> u32 {
-        u32::wrapping_sub(self, other)
-    }
-
-    #[inline]
-    fn times(self, other: u32) -> u32 {
-        self * other
-    }
-
-    #[inline]
-    fn divided_by(self, other: u32) -> u32 {
-        self / other
-    }
-
-    #[inline]
-    fn from_number(number: usize) -> u32 {
-        number as u32
-    }
-
-    #[inline]
-    fn to_number(self) -> usize {
-        self as usize
-    }
-
-    #[inline]
-    fn least() -> u32 {
-        0
-    }
-
-    #[inline]
-    fn to_weight(self) -> NonZeroU32 {
-        NonZeroU32::new(self).unwrap()
-    }
-
-    #[inline]
-    fn from_weight(weight: NonZeroU32) -> u32 {
-        NonZeroU32::get(weight)
-    }
-
-    ghost same_law = { λ a b e. e };
-
-    ghost weight_law = { λ x. x.ok };
-
-    ghost same_weight_law = { λ a b e. same-above-0 (λ n h. record { value = n; ok = h }) a.ok b.ok e };
 }
 
 impl BitArray for u32 {

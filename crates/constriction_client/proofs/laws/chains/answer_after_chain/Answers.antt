@@ -1,6 +1,6 @@
 use Rattle.std.proofs.Common.{◌∙◌, arith}
 use Rattle.constriction.specs.StandLemmas.{same-equal}
-use Rattle.constriction_client.proofs.Finding.{scan-of-rows}
+use Rattle.constriction_client.proofs.Replying.{scan-of-rows}
 use Rattle.constriction_client.proofs.laws.chains.answer_after_chain.Goals as goal
 
 pub convert_chain-requires : goal.convert_chain-requires

@@ -1,5 +1,5 @@
 use Rattle.std.proofs.Common.{◌≡◌, Err, rules, sym, ◌∙◌}
-use Rattle.constriction.specs.declared.stream.model.error.ModelError.TheVariants.{InvalidTable}
+use Rattle.constriction_model.specs.declared.error.ModelError.TheVariants.{InvalidTable}
 use Rattle.constriction.specs.StandLemmas.{entries-made, entries-of, repeats-made}
 use Rattle.constriction_client.proofs.laws.round_trips.decoder_and_encoder.Goals as goal
 

@@ -1,7 +1,0 @@
-use Rattle.constriction.proofs.AnswerLemmas.{equal-answers}
-use Rattle.constriction.proofs.laws.equal_answers.Goals as goal
-
-pub returns : goal.returns
-returns g c =
-    equal-answers g.M.Probability.WholeNumber.BITS g.N.Probability.WholeNumber.BITS g.row.PRECISION g.M.EntropyModel.rows
-    g.N.EntropyModel.rows g.met.M.DecoderModel.tile_law g.met.N.DecoderModel.tile_law

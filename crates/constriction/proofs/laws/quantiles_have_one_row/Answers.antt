@@ -1,6 +1,0 @@
-use Rattle.constriction.specs.PairLemmas.{one-row-each}
-use Rattle.constriction.proofs.laws.quantiles_have_one_row.Goals as goal
-
-pub returns : goal.returns
-returns g c =
-    one-row-each g.M.Probability.WholeNumber.BITS g.row.PRECISION g.M.EntropyModel.rows g.met.M.DecoderModel.tile_law

@@ -1,5 +1,0 @@
-use Rattle.constriction.proofs.TableLemmas.{lefts-words}
-use Rattle.constriction.proofs.stream.model.categorical.contiguous.ContiguousCategoricalEntropyModel.cdf_entries.Goals as goal
-
-pub returns : goal.returns
-returns g c = rw c.words-cdf.ensures (lefts-words g.Probability.WholeNumber.whole (g.Cdf.SafeBuf.words_of c.args.self.now.cdf))

@@ -1,8 +1,0 @@
-use Rattle.std.proofs.Common.{sym}
-use Rattle.constriction.proofs.PairedLemmas.{paired-left}
-use Rattle.constriction.proofs.stream.model.categorical.non_contiguous_table.NonContiguousSymbolTableExactSizeIterator.len.Goals as goal
-
-pub returns-clause-value : goal.returns-clause-value
-returns-clause-value g c =
-    let t = c.args.self.now in
-    sym (paired-left g.Probability.WholeNumber.whole _ g.row.PRECISION t.cdf.now t.stored t.from t.to t.in_bounds)

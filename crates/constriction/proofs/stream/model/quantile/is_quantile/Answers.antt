@@ -1,8 +1,0 @@
-use Rattle.std.proofs.Common.{arith}
-use Rattle.constriction.proofs.stream.model.quantile.is_quantile.Goals as goal
-
-pub returns : goal.returns
-returns g c = (
-  (λ h. let most = c.is_at_most.ensures.0 h in omega (arith, c.greatest.ensures.value)),
-  (λ h. c.is_at_most.ensures.1 (omega (arith, c.greatest.ensures.value))),
-)

@@ -1,0 +1,14 @@
+mod ApartLemmas
+mod CollectLemmas
+mod FillLemmas
+mod HashLemmas
+mod OrderLemmas
+mod PairedLemmas
+mod ProbeLemmas
+mod ReadLemmas
+mod SeenLemmas
+mod SlotFilling
+mod SlotLemmas
+mod StoredSteps
+mod TableLemmas
+mod TileLemmas

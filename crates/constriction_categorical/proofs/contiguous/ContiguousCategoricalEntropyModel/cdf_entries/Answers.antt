@@ -1,0 +1,5 @@
+use Rattle.constriction_categorical.proofs.TableLemmas.{lefts-words}
+use Rattle.constriction_categorical.proofs.contiguous.ContiguousCategoricalEntropyModel.cdf_entries.Goals as goal
+
+pub returns : goal.returns
+returns g c = rw c.words-cdf.ensures (lefts-words g.Probability.WholeNumber.whole (g.Cdf.SafeBuf.words_of c.args.self.now.cdf))

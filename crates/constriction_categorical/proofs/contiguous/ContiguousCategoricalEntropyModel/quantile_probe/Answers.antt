@@ -1,0 +1,16 @@
+use Rattle.std.proofs.Common.{map}
+use Rattle.constriction_categorical.proofs.TileLemmas.{table-probed}
+use Rattle.constriction_categorical.proofs.contiguous.ContiguousCategoricalEntropyModel.quantile_probe.Goals as goal
+
+pub returns : goal.returns
+returns g c =
+    let whole = g.Probability.WholeNumber.whole in
+    let table = map whole (g.Cdf.SafeBuf.words_of c.args.self.now.cdf) in
+    let probed = table-probed g.Probability.WholeNumber.BITS g.row.PRECISION table (map whole c.cdf_entries.result.now)
+    c.args.self.now.stored c.cdf_entries.ensures in
+    record {
+      rows = rw c.new.ensures.cumulatives probed.0;
+      searchable = rw c.new.ensures.cumulatives (probed.1 (whole c.args.quantile));
+      fresh = c.new.ensures.fresh;
+      found = rw c.new.ensures.cumulatives (λ i f. probed.2 (whole c.args.quantile) i c.requires f);
+    }

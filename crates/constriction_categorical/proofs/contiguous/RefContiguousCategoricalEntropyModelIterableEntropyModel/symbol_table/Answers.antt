@@ -1,0 +1,16 @@
+use Rattle.constriction_categorical.proofs.StoredSteps.{all-stored, lent-table}
+use Rattle.constriction_model.proofs.StepLemmas.{same-length, same-most}
+use Rattle.constriction_categorical.proofs.contiguous.RefContiguousCategoricalEntropyModelIterableEntropyModel.symbol_table.Goals as goal
+
+pub returns : goal.returns
+returns g c =
+    let all = all-stored g.Probability.WholeNumber.whole _ g.row.PRECISION _ _ c.args.self.now.stored c.words-cdf.ensures in
+    record { all = all; callable = tt; ends = (tt, same-most _ _ all); counted = same-length _ _ all }
+
+pub overflow_sub-result : goal.overflow_sub-result
+overflow_sub-result g c = (lent-table g.Probability.WholeNumber.whole _ g.row.PRECISION _ _ c.args.self.now.stored c.words-cdf.ensures).3
+
+pub invariant_of-result : goal.invariant_of-result
+invariant_of-result g c =
+    let table = lent-table g.Probability.WholeNumber.whole _ g.row.PRECISION _ _ c.args.self.now.stored c.words-cdf.ensures in
+    record { narrow = c.args.self.now.precise.1; stored = table.0; in_order = table.1; in_bounds = table.2 }

@@ -1,0 +1,47 @@
+use Rattle.std.proofs.Common.{◌≡◌, Err, rules}
+use Rattle.constriction_model.specs.declared.error.ModelError.TheVariants.{InvalidTable}
+use Rattle.constriction_categorical.proofs.CollectLemmas.{walked-stored, walked-distinct, walked-repeat}
+use Rattle.constriction_categorical.proofs.convert.to_generic_decoder_model.Goals as goal
+
+pub invariant_of-result : goal.invariant_of-result
+invariant_of-result g c =
+    let M = g.met.M.IterableEntropyModel in
+    let eq = g.M.Symbol.PartialEq.eq in
+    let entries = c.in_ok-cdf.cdf.items in
+    record {
+      precise = (c.requires.positive, c.requires.fits);
+      stored =
+          (walked-stored g.M.IterableEntropyModel.stands_for g.M.IterableEntropyModel.may_refuse g.M.Probability.WholeNumber.whole
+          g.M.Probability.WholeNumber.base g.M.SymbolTable.Iterator.next_gives g.M.IterableEntropyModel.rows_left M.steps_law
+          (g.M.EntropyModel.rows c.args.model) c.symbol_table.result c.symbol_table.ensures.all eq g.M.Probability.WholeNumber.BITS g.row.PRECISION
+          (M.tile_law c.args.model) entries c.in_ok-cdf.ensures.ok).0;
+      distinct =
+          (walked-distinct g.M.IterableEntropyModel.stands_for g.M.IterableEntropyModel.may_refuse g.M.Probability.WholeNumber.whole
+          g.M.Probability.WholeNumber.base g.M.SymbolTable.Iterator.next_gives g.M.IterableEntropyModel.rows_left M.steps_law
+          (g.M.EntropyModel.rows c.args.model) c.symbol_table.result c.symbol_table.ensures.all eq g.M.Probability.WholeNumber.BITS g.row.PRECISION
+          (M.tile_law c.args.model) entries c.in_ok-cdf.ensures.ok).0;
+    }
+
+pub returns-clause-ok : goal.returns-clause-ok
+returns-clause-ok g c =
+    let M = g.met.M.IterableEntropyModel in
+    let eq = g.M.Symbol.PartialEq.eq in
+    let entries = c.in_ok-cdf.cdf.items in (
+      (walked-stored g.M.IterableEntropyModel.stands_for g.M.IterableEntropyModel.may_refuse g.M.Probability.WholeNumber.whole
+          g.M.Probability.WholeNumber.base g.M.SymbolTable.Iterator.next_gives g.M.IterableEntropyModel.rows_left M.steps_law
+          (g.M.EntropyModel.rows c.args.model) c.symbol_table.result c.symbol_table.ensures.all eq g.M.Probability.WholeNumber.BITS g.row.PRECISION
+          (M.tile_law c.args.model) entries c.in_ok-cdf.ensures.ok).1,
+      (walked-distinct g.M.IterableEntropyModel.stands_for g.M.IterableEntropyModel.may_refuse g.M.Probability.WholeNumber.whole
+          g.M.Probability.WholeNumber.base g.M.SymbolTable.Iterator.next_gives g.M.IterableEntropyModel.rows_left M.steps_law
+          (g.M.EntropyModel.rows c.args.model) c.symbol_table.result c.symbol_table.ensures.all eq g.M.Probability.WholeNumber.BITS g.row.PRECISION
+          (M.tile_law c.args.model) entries c.in_ok-cdf.ensures.ok).1,
+    )
+
+pub returns-in_err-cdf-clause-invalid : goal.returns-in_err-cdf-clause-invalid
+returns-in_err-cdf-clause-invalid g c = λ h.
+    let M = g.met.M.IterableEntropyModel in
+    let eq = g.M.Symbol.PartialEq.eq in
+    let e : c.entries_walked.result ≡ Err InvalidTable = search rules in
+    walked-repeat g.M.IterableEntropyModel.stands_for g.M.IterableEntropyModel.may_refuse g.M.Probability.WholeNumber.whole
+    g.M.Probability.WholeNumber.base g.M.SymbolTable.Iterator.next_gives g.M.IterableEntropyModel.rows_left M.steps_law
+    (g.M.EntropyModel.rows c.args.model) c.symbol_table.result c.symbol_table.ensures.all eq (c.entries_walked.ensures.invalid e)

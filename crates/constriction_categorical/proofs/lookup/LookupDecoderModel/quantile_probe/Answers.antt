@@ -1,0 +1,15 @@
+use Rattle.std.proofs.Common.{map}
+use Rattle.constriction_categorical.proofs.SlotLemmas.{slot-probed}
+use Rattle.constriction_categorical.proofs.lookup.LookupDecoderModel.quantile_probe.Goals as goal
+
+pub slot_probe-requires-clause-slots : goal.slot_probe-requires-clause-slots
+slot_probe-requires-clause-slots g c = rw (c.entries.ensures, c.words.ensures) c.args.self.now.slots
+
+pub returns : goal.returns
+returns g c =
+    let probed = slot-probed g.Model.Probability.WholeNumber.BITS g.row.PRECISION g.row.SLOT_BITS (g.Model.EntropyModel.rows c.args.self.now.model)
+    (g.met.Model.StoresRows.stored_law c.args.self.now.model) (g.Model.Probability.WholeNumber.whole c.args.quantile) c.slot_probe.result.0
+    (map g.Model.Kind.CdfEntry.cumulative c.entries.result.now)
+    (map g.Model.Kind.CdfEntry.cumulative c.slot_probe.result.1.entries.now) c.entries.ensures
+    c.requires c.slot_probe.ensures.part in
+    record { rows = probed.0; searchable = probed.1; fresh = c.slot_probe.ensures.fresh; found = probed.2 }

@@ -1,0 +1,65 @@
+use Rattle.std.proofs.Common.{◌≡◌, map, Err, refl, rules}
+use Rattle.constriction_model.specs.declared.error.ModelError.TheVariants.{InvalidTable}
+use Rattle.constriction_model.specs.Acceptance.{completed}
+use Rattle.constriction_model.specs.Rows.{rows_of}
+use Rattle.constriction_categorical.proofs.PairedLemmas.{paired-of_rows, accepted-tile, paired-distinct}
+use Rattle.constriction_categorical.proofs.non_contiguous.NonContiguousCategoricalDecoderModel+Symbol+Probability+Vec+tuple2+Probability+Symbol+PRECISION.from_symbols_and_nonzero_fixed_point_probabilities.Goals as goal
+
+pub invariant_of-result : goal.invariant_of-result
+invariant_of-result g c =
+    let whole = g.Probability.WholeNumber.whole in
+    let eq = g.Symbol.PartialEq.eq in
+    let given = c.in_ok-cdf.ensures.ok in
+    let weights = completed g.row.PRECISION c.args.infer_last_probability (map whole given.1) in
+    let good = given.4 in
+    let tile = accepted-tile eq g.Probability.WholeNumber.BITS g.row.PRECISION given.0 weights good.0 in
+    record {
+      precise = (c.requires.positive, c.requires.fits);
+      stored = (paired-of_rows whole g.Probability.WholeNumber.BITS g.row.PRECISION (rows_of given.0 weights) c.in_ok-cdf.cdf.items tile
+          good.1).0;
+      distinct = paired-distinct eq g.Probability.WholeNumber.BITS g.row.PRECISION given.0 weights good.0 whole c.in_ok-cdf.cdf.items good.1;
+    }
+
+pub returns-clause-ok : goal.returns-clause-ok
+returns-clause-ok g c =
+    let whole = g.Probability.WholeNumber.whole in
+    let eq = g.Symbol.PartialEq.eq in
+    let given = c.in_ok-cdf.ensures.ok in
+    let weights = completed g.row.PRECISION c.args.infer_last_probability (map whole given.1) in
+    let good = given.4 in
+    let tile = accepted-tile eq g.Probability.WholeNumber.BITS g.row.PRECISION given.0 weights good.0 in
+    let rows = paired-of_rows whole g.Probability.WholeNumber.BITS g.row.PRECISION (rows_of given.0 weights) c.in_ok-cdf.cdf.items tile
+    good.1 in (
+      c.into_iter-symbols.result,
+      c.into_iter-symbols.ensures.into_iter_gives,
+      c.into_iter.result,
+      c.into_iter.ensures.into_iter_gives,
+      (given.0, given.1, given.2, given.3, (good.0, rows.1)),
+    )
+
+pub rows_read-requires-clause-none : goal.rows_read-requires-clause-none
+rows_read-requires-clause-none g c = rw c.room_for-room.ensures (refl, refl)
+
+pub rows_read-requires-clause-symbols_go : goal.rows_read-requires-clause-symbols_go
+rows_read-requires-clause-symbols_go g c =
+    (c.requires.symbols_end c.into_iter-symbols.result c.into_iter-symbols.ensures.into_iter_gives).0
+
+pub rows_read-requires-clause-symbols_end : goal.rows_read-requires-clause-symbols_end
+rows_read-requires-clause-symbols_end g c =
+    (c.requires.symbols_end c.into_iter-symbols.result c.into_iter-symbols.ensures.into_iter_gives).1
+
+pub rows_read-requires-clause-weights_go : goal.rows_read-requires-clause-weights_go
+rows_read-requires-clause-weights_go g c = (c.requires.probabilities_end c.into_iter.result c.into_iter.ensures.into_iter_gives).0
+
+pub rows_read-requires-clause-weights_end : goal.rows_read-requires-clause-weights_end
+rows_read-requires-clause-weights_end g c = (c.requires.probabilities_end c.into_iter.result c.into_iter.ensures.into_iter_gives).1
+
+pub returns-in_err-cdf-clause-invalid : goal.returns-in_err-cdf-clause-invalid
+returns-in_err-cdf-clause-invalid g c = λ h.
+    let e : c.rows_read.result ≡ Err InvalidTable = search rules in (
+      c.into_iter-symbols.result,
+      c.into_iter-symbols.ensures.into_iter_gives,
+      c.into_iter.result,
+      c.into_iter.ensures.into_iter_gives,
+      c.rows_read.ensures.invalid e,
+    )

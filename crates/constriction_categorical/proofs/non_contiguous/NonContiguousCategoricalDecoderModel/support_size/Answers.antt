@@ -1,0 +1,8 @@
+use Rattle.std.proofs.Common.{length, ap, sym, ◌∙◌}
+use Rattle.constriction_categorical.proofs.PairedLemmas.{paired-many}
+use Rattle.constriction_categorical.proofs.non_contiguous.NonContiguousCategoricalDecoderModel.support_size.Goals as goal
+
+pub returns : goal.returns
+returns g c =
+    ap length c.words.ensures
+    ∙ sym (paired-many g.Probability.WholeNumber.whole _ g.row.PRECISION (g.Cdf.SafeBuf.words_of c.args.self.now.cdf) c.args.self.now.stored)

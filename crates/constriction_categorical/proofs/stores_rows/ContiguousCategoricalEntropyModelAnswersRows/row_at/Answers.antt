@@ -1,0 +1,22 @@
+use Rattle.std.proofs.Common.{◌+◌, ◌<◌, length, map, refl, arith}
+use Rattle.std.proofs.lemmas.List.{length-map}
+use Rattle.constriction_categorical.proofs.TableLemmas.{table-rows}
+use Rattle.constriction_categorical.proofs.stores_rows.ContiguousCategoricalEntropyModelAnswersRows.row_at.Goals as goal
+
+pub contiguous_row_at-requires-clause-table : goal.contiguous_row_at-requires-clause-table
+contiguous_row_at-requires-clause-table g c = rw c.words.ensures c.args.self.now.stored
+
+pub contiguous_row_at-requires-clause-in_bounds : goal.contiguous_row_at-requires-clause-in_bounds
+contiguous_row_at-requires-clause-in_bounds g c =
+    let words = g.Cdf.SafeBuf.words_of c.args.self.now.cdf in
+    let within : c.args.index + 1 < length words =
+    omega (
+      arith,
+      c.requires,
+      length-map words g.Probability.WholeNumber.whole,
+      table-rows g.Probability.WholeNumber.BITS g.row.PRECISION (map g.Probability.WholeNumber.whole words) c.args.self.now.stored,
+    ) in
+    rw c.words.ensures within
+
+pub returns-clause-row : goal.returns-clause-row
+returns-clause-row g c = (c.contiguous_row_at.result.0, refl, rw c.words.ensures at c.contiguous_row_at.ensures.row)

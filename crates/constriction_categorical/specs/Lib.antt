@@ -1,0 +1,9 @@
+pub mod Filling
+pub mod Hashed
+pub mod SlotTable
+pub mod Slots
+pub mod Stored
+pub mod StoredLemmas
+pub mod StoredRowLemmas
+pub mod SymbolRowLemmas
+pub mod Walked

@@ -1,0 +1,18 @@
+-- The slots of lookup models, and which rows meet one.
+use Rattle.std.specs.Prelude.{ℕ, ◌+◌, ◌-◌, ◌*◌, ◌^◌, ◌<◌, ◌≤◌, min}
+use Rattle.constriction_model.specs.Rows.{Row}
+
+-- how many slots there are, of a model that divides its quantiles into 2 ^ slot_bits of them, or into as many as there are quantiles
+-- where these are fewer
+abbrev pub slot_count : (precision slot_bits : ℕ) → ℕ
+slot_count precision slot_bits = 2 ^ min precision slot_bits
+
+-- how many quantiles each slot holds: one where the precision is at most slot_bits
+abbrev pub slot_width : (precision slot_bits : ℕ) → ℕ
+slot_width precision slot_bits = 2 ^ (precision - slot_bits)
+
+-- a row meets a slot: some quantile lies in both
+pub record MeetsSlot {Symbol : Type 0} (width slot : ℕ) (row : Row Symbol) : Type 0 where
+  pub quantile : ℕ
+  pub in_slot : (slot * width ≤ quantile) × (quantile < slot * width + width)
+  pub in_row : (row.left ≤ quantile) × (quantile < row.left + row.weight)

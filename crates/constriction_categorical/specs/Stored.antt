@@ -1,0 +1,44 @@
+-- How models store their rows: by the left cumulatives, and in contiguous models the total after them. No public clause cites this
+-- module, but the member `rows` of these models and ghost fields of models and of symbol tables do.
+use Rattle.std.specs.Prelude.{◌≡◌, ℕ, ◌+◌, ◌-◌, ◌%◌, ◌^◌, List, [], ◌∷◌, ◌++◌, length, map, take}
+use Rattle.constriction_model.specs.Acceptance.{IsAccepted}
+use Rattle.constriction_model.specs.Rows.{Row, contiguous_rows, rows_of}
+use Rattle.constriction_model.specs.Tables.{rows_between}
+
+-- where the rows of these weights begin, the first at `left`
+abbrev pub lefts_from : ℕ → List ℕ → List ℕ
+lefts_from left [] = []
+lefts_from left (w ∷ ws) = left ∷ lefts_from (left + w) ws
+
+-- the weights of rows that begin there, the last of which ends at `total`
+abbrev pub gaps : ℕ → List ℕ → List ℕ
+gaps total [] = []
+gaps total (l ∷ []) = (total - l) ∷ []
+gaps total (l ∷ (m ∷ ls)) = (m - l) ∷ gaps total (m ∷ ls)
+
+-- the weights of rows that begin there and tile
+abbrev pub weights_of : ℕ → List ℕ → List ℕ
+weights_of precision lefts = gaps (2 ^ precision) lefts
+
+-- left cumulatives that stand for accepted weights
+pub record IsStored (bits precision : ℕ) (lefts : List ℕ) : Type 0 where
+  pub accepted : IsAccepted bits precision (weights_of precision lefts)
+  pub in_order : lefts ≡ lefts_from 0 (weights_of precision lefts)
+
+-- the left cumulatives of a table: all of it but its last number
+abbrev pub lefts_in : List ℕ → List ℕ
+lefts_in table = take (length table - 1) table
+
+-- a table over words of so many bits: the left cumulatives of accepted weights, and after them the total, which wraps to 0 where it is
+-- no word
+pub record IsTable (bits precision : ℕ) (table : List ℕ) : Type 0 where
+  pub stored : IsStored bits precision (lefts_in table)
+  pub ends : table ≡ lefts_in table ++ (2 ^ precision % 2 ^ bits) ∷ []
+
+-- the rows of a contiguous model with such a table, from one index up to another
+abbrev pub rows_stored : ℕ → List ℕ → ℕ → ℕ → List (Row ℕ)
+rows_stored precision table from to = rows_between from to (contiguous_rows (weights_of precision (lefts_in table)))
+
+-- the rows of a model that stores each row's left cumulative and symbol
+abbrev pub rows_paired : {Word Symbol : Type 0} → (Word → ℕ) → ℕ → List (Word × Symbol) → List (Row Symbol)
+rows_paired whole precision entries = rows_of (map (λ x. x.1) entries) (weights_of precision (map (λ x. whole x.0) entries))

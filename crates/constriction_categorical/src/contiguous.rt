@@ -1,0 +1,304 @@
+//! Models of the symbols 0, 1, .., which find the row of a quantile by a search.
+
+ghost use Rattle.std.specs.Prelude.{◌≡◌, ◌+◌, ◌^◌, ◌<◌, ◌≤◌, ℕ, length, map, nat_eq, IfOk, IfErr, IsOk, ⊤};
+ghost use Rattle.std.specs.Iterator.{IsFiniteIterable, UpTo, size};
+ghost use Rattle.constriction_model.specs.Acceptance.{completed, IsAccepted, GaveGood, GaveBad};
+ghost use Rattle.std.specs.Cmp.{nat_eq_equiv};
+ghost use Rattle.constriction_model.specs.Model.{row_of, LiesWithin, AnswersQuantile, RowMayBeRefused};
+ghost use Rattle.constriction_model.specs.Probe.{TellsRows, IsRowIndexOf, IsSearchable, IsLastAtMost};
+ghost use Rattle.constriction_model.specs.Rows.{contiguous_rows, IsRowOf};
+ghost use Rattle.constriction_categorical.specs.Stored.{IsTable, lefts_in, weights_of};
+ghost use Rattle.constriction_categorical.specs.StoredRowLemmas.{stored-within, stored-tiles};
+ghost use Rattle.constriction_categorical.specs.Stored.{rows_stored};
+
+use crate::filling::{copied, table_of};
+use crate::iterable::IterableEntropyModel;
+use crate::stored::{contiguous_row_at, row_at};
+use crate::symbol_table::ContiguousSymbolTable;
+use constriction_buffers::SafeBuf;
+use constriction_model::{
+    Alone, CdfProbe, DecoderModel, EncoderModel, EntropyModel, ModelError, Probe, Weight,
+    row_of_quantile,
+};
+use constriction_numbers::WholeNumber;
+use std::alloc::{AllocError, Global};
+use std::marker::PhantomData;
+
+/// A model of the symbols 0, 1, .., given by their weights.
+///
+/// It stores one word a symbol, the left cumulative, and one word more, the total, in a buffer of
+/// the caller's choice.
+#[derive(Debug, Drop)]
+pub struct ContiguousCategoricalEntropyModel<
+    Probability: WholeNumber,
+    Cdf: SafeBuf<Probability>,
+    const PRECISION: usize,
+> {
+    pub(crate) cdf: Cdf,
+    probability: PhantomData<Probability>,
+    ghost precise: { (0 < PRECISION) × (PRECISION ≤ Probability.BITS) },
+    ghost stored: { IsTable Probability.BITS PRECISION (map Probability.whole (Cdf.words_of cdf)) },
+}
+
+/// The model over 24 bits of `u32`, which suits most uses.
+pub type DefaultContiguousCategoricalEntropyModel<Cdf = Vec<u32>> =
+    ContiguousCategoricalEntropyModel<u32, Cdf, 24>;
+
+/// The model over 12 bits of `u16`, for small tables of symbols.
+pub type SmallContiguousCategoricalEntropyModel<Cdf = Vec<u16>> = ContiguousCategoricalEntropyModel<
+    u16,
+    Cdf,
+    12,
+>;
+
+impl<Probability: WholeNumber, const PRECISION: usize> ContiguousCategoricalEntropyModel<
+    Probability,
+    Vec<Probability>,
+    PRECISION,
+> {
+    /// The model of these weights. Where the last weight is inferred, it is what the given ones
+    /// leave of `2^PRECISION`, and there is one symbol more than given weights.
+    ///
+    /// The weights are accepted exactly where they are all positive, the inferred one included,
+    /// their sum is `2^PRECISION`, and each of them is a word. So below the full width of the word
+    /// the single weight `2^PRECISION` is accepted, and so is no weight at all where one is
+    /// inferred; at the full width neither exists. `InvalidTable` comes where they are not
+    /// accepted, whether the iterator was read to its end or only so far that no list that begins
+    /// so is accepted. `OutOfMemory` comes where memory for the table is refused.
+    ///
+    /// One pass over the weights, one word of memory a symbol, and one allocation where the iterator
+    /// announces how many weights there are.
+    pub fn from_nonzero_fixed_point_probabilities<I: IntoIterator<Item = Probability>>(
+        alloc: Global,
+        probabilities: I,
+        infer_last_probability: bool,
+    ) -> Result<Self, ModelError>
+        requires positive { 0 < PRECISION }
+        requires fits { PRECISION ≤ Probability.BITS }
+        requires ends { IsFiniteIterable I.into_iter_gives I.IntoIter.can_next I.IntoIter.remaining
+            probabilities }
+        ensures ok { IfOk result (λ m. (it : I.IntoIter) × I.into_iter_gives probabilities it
+            × GaveGood I.IntoIter.next_gives it (λ ws.
+            let weights = completed PRECISION infer_last_probability (map Probability.whole ws) in
+            IsAccepted Probability.BITS PRECISION weights
+            × (⟦<ContiguousCategoricalEntropyModel<Probability, Vec<Probability>, PRECISION> as EntropyModel<PRECISION>>⟧.rows m
+            ≡ contiguous_rows weights))) }
+        ensures invalid { result ≡ Err ModelError.InvalidTable → (it : I.IntoIter)
+            × I.into_iter_gives probabilities it
+            × GaveBad I.IntoIter.next_gives it (λ ws. IsAccepted Probability.BITS PRECISION
+            (completed PRECISION infer_last_probability (map Probability.whole ws))) }
+    {
+        let cdf = table_of::<Probability, I, PRECISION>(
+            alloc,
+            probabilities,
+            infer_last_probability,
+        )?;
+        Ok(Self {
+            cdf,
+            probability: PhantomData,
+        })
+    }
+
+    /// A model of the same rows, with a table of its own from the allocator of this one's.
+    ///
+    /// One allocation and one copy of the table.
+    pub fn clone(&self) -> Result<Self, AllocError>
+        ensures { IfOk result (λ m.
+            ⟦<ContiguousCategoricalEntropyModel<Probability, Vec<Probability>, PRECISION> as EntropyModel<PRECISION>>⟧.rows m
+            ≡ ⟦<ContiguousCategoricalEntropyModel<Probability, Vec<Probability>, PRECISION> as EntropyModel<PRECISION>>⟧.rows self.now) }
+    {
+        self.in_vec(*self.cdf.allocator())
+    }
+}
+
+impl<
+    Probability: WholeNumber,
+    Cdf: SafeBuf<Probability>,
+    const PRECISION: usize,
+> ContiguousCategoricalEntropyModel<Probability, Cdf, PRECISION> {
+    /// How many symbols the model has.
+    #[inline]
+    pub fn support_size(&self) -> usize
+        ensures { result ≡ length
+            (⟦<ContiguousCategoricalEntropyModel<Probability, Cdf, PRECISION> as EntropyModel<PRECISION>>⟧.rows self.now) }
+    {
+        self.cdf.words().len() - 1
+    }
+
+    /// The left cumulatives, one word a row.
+    #[inline]
+    pub(crate) fn cdf_entries<'m>(&'m self) -> &'m [Probability]
+        ensures { map Probability.whole result.now ≡ lefts_in (map Probability.whole (Cdf.words_of self.now.cdf)) }
+    {
+        let cdf = self.cdf.words();
+        &cdf[..cdf.len() - 1]
+    }
+
+    /// The same model over a copy of the table of this one.
+    pub(crate) fn in_vec(
+        &self,
+        alloc: Global,
+    ) -> Result<
+        ContiguousCategoricalEntropyModel<Probability, Vec<Probability>, PRECISION>,
+        AllocError,
+    >
+        ensures { IfOk result (λ m.
+            ⟦<ContiguousCategoricalEntropyModel<Probability, Vec<Probability>, PRECISION> as EntropyModel<PRECISION>>⟧.rows m
+            ≡ ⟦<ContiguousCategoricalEntropyModel<Probability, Cdf, PRECISION> as EntropyModel<PRECISION>>⟧.rows self.now) }
+    {
+        let cdf = copied(alloc, self.cdf.words())?;
+        Ok(ContiguousCategoricalEntropyModel {
+            cdf,
+            probability: PhantomData,
+        })
+    }
+
+    /// The same model over the table of this one.
+    #[inline]
+    pub fn as_view<'m>(
+        &'m self,
+    ) -> ContiguousCategoricalEntropyModel<Probability, &'m [Probability], PRECISION>
+        ensures { ⟦<ContiguousCategoricalEntropyModel<Probability, &'m [Probability], PRECISION> as EntropyModel<PRECISION>>⟧.rows result
+            ≡ ⟦<ContiguousCategoricalEntropyModel<Probability, Cdf, PRECISION> as EntropyModel<PRECISION>>⟧.rows self.now }
+    {
+        ContiguousCategoricalEntropyModel {
+            cdf: self.cdf.words(),
+            probability: PhantomData,
+        }
+    }
+
+    /// A probe of the rows in question for a quantile, which are all rows, and the index of the
+    /// first of them. What [`row_of_quantile`] answers on it, plus that index, is the index of the
+    /// quantile's row.
+    #[inline]
+    pub fn quantile_probe<'m>(
+        &'m self,
+        quantile: Probability,
+    ) -> (usize, CdfProbe<'m, Probability, Alone>)
+        requires { Probability.whole quantile < 2 ^ PRECISION }
+        ensures rows { TellsRows
+            (⟦<ContiguousCategoricalEntropyModel<Probability, Cdf, PRECISION> as EntropyModel<PRECISION>>⟧.rows self.now)
+            (λ _. ⊤) result.0 (⟦<CdfProbe<'m, Probability, Alone> as Probe>⟧.cumulatives result.1) }
+        ensures searchable { IsSearchable (⟦<CdfProbe<'m, Probability, Alone> as Probe>⟧.cumulatives result.1)
+            (Probability.whole quantile) }
+        ensures fresh { ⟦<CdfProbe<'m, Probability, Alone> as Probe>⟧.questions result.1 ≡ 0 }
+        ensures found { (i : ℕ)
+            → IsLastAtMost (⟦<CdfProbe<'m, Probability, Alone> as Probe>⟧.cumulatives result.1)
+            (Probability.whole quantile) i
+            → IsRowIndexOf
+            (⟦<ContiguousCategoricalEntropyModel<Probability, Cdf, PRECISION> as EntropyModel<PRECISION>>⟧.rows self.now)
+            (Probability.whole quantile) (result.0 + i) }
+    {
+        (0, CdfProbe::new(self.cdf_entries()))
+    }
+}
+
+impl<Probability: WholeNumber, Cdf: SafeBuf<Probability>, const PRECISION: usize> EntropyModel<
+    PRECISION,
+> for ContiguousCategoricalEntropyModel<Probability, Cdf, PRECISION> {
+    type Symbol = usize;
+
+    type Probability = Probability;
+
+    ghost rows = { λ m. contiguous_rows (weights_of PRECISION (lefts_in (map Probability.whole (Cdf.words_of m.cdf)))) };
+}
+
+impl<Probability: WholeNumber, Cdf: SafeBuf<Probability>, const PRECISION: usize> EncoderModel<
+    PRECISION,
+> for ContiguousCategoricalEntropyModel<Probability, Cdf, PRECISION> {
+    ghost symbol_eq = { nat_eq };
+
+    #[inline]
+    fn left_cumulative_and_probability(
+        &self,
+        symbol: &usize,
+    ) -> Option<(Probability, Weight<Probability>)> {
+        let cdf = self.cdf.words();
+        if *symbol < cdf.len() - 1 {
+            Some(row_at::<Probability, PRECISION>(cdf, *symbol))
+        } else {
+            None
+        }
+    }
+
+    ghost equality_law = { nat_eq_equiv };
+
+    ghost within_law = { λ m. stored-within _ _ _ m.stored.stored };
+}
+
+impl<Probability: WholeNumber, Cdf: SafeBuf<Probability>, const PRECISION: usize> DecoderModel<
+    PRECISION,
+> for ContiguousCategoricalEntropyModel<Probability, Cdf, PRECISION> {
+    ghost stands_for = { λ s t. t ≡ s };
+
+    ghost may_refuse = { λ _. ⊥ };
+
+    /// The row of a quantile, by [`row_of_quantile`]. It takes no memory and always succeeds.
+    #[inline(always)]
+    fn quantile_function(
+        &self,
+        quantile: Probability,
+    ) -> Result<(usize, Probability, Weight<Probability>), AllocError>
+        requires in_range { Probability.whole quantile < 2 ^ PRECISION }
+        ensures row { IfOk result (AnswersQuantile (λ s t. t ≡ s) Probability.whole Probability.base
+            (⟦<ContiguousCategoricalEntropyModel<Probability, Cdf, PRECISION> as EntropyModel<PRECISION>>⟧.rows self.now)
+            (Probability.whole quantile)) }
+        ensures exact { IfOk result (λ x. IsRowOf
+            (⟦<ContiguousCategoricalEntropyModel<Probability, Cdf, PRECISION> as EntropyModel<PRECISION>>⟧.rows self.now)
+            (Probability.whole quantile) (row_of Probability.whole Probability.base x)) }
+        ensures within { IfOk result (λ x. LiesWithin PRECISION
+            (row_of Probability.whole Probability.base x)) }
+        ensures refused { IfErr result (λ _. RowMayBeRefused (λ _. ⊥)
+            (⟦<ContiguousCategoricalEntropyModel<Probability, Cdf, PRECISION> as EntropyModel<PRECISION>>⟧.rows self.now)
+            (Probability.whole quantile)) }
+        ensures succeeds { IsOk result }
+    {
+        let mut rows = CdfProbe::<Probability, Alone>::new(self.cdf_entries());
+        let index = row_of_quantile(&mut rows, quantile);
+        Ok(contiguous_row_at::<Probability, PRECISION>(self.cdf.words(), index))
+    }
+
+    ghost tile_law = { λ m. stored-tiles _ _ _ m.stored.stored };
+}
+
+impl<
+    'm,
+    Probability: WholeNumber + 'm,
+    Cdf: SafeBuf<Probability> + 'm,
+    const PRECISION: usize,
+> IterableEntropyModel<PRECISION>
+    for &'m ContiguousCategoricalEntropyModel<Probability, Cdf, PRECISION> {
+    type SymbolTable = ContiguousSymbolTable<'m, Probability, PRECISION>;
+
+    ghost stands_for = { λ s t. t ≡ s };
+
+    ghost may_refuse = { λ _. ⊥ };
+
+    ghost rows_left = { λ t. rows_stored PRECISION (map Probability.whole t.cdf.now) t.from t.to };
+
+    /// All rows in order, each once: symbol, left cumulative and weight. It takes no memory, and
+    /// every item is a row.
+    #[inline]
+    fn symbol_table(self) -> ContiguousSymbolTable<'m, Probability, PRECISION>
+        ensures all { ⟦<&'m ContiguousCategoricalEntropyModel<Probability, Cdf, PRECISION> as IterableEntropyModel<PRECISION>>⟧.rows_left result
+            ≡ ⟦<ContiguousCategoricalEntropyModel<Probability, Cdf, PRECISION> as EntropyModel<PRECISION>>⟧.rows self.now }
+        ensures callable { ⟦<ContiguousSymbolTable<'m, Probability, PRECISION> as Iterator>⟧.can_next result }
+        ensures ends { UpTo (⟦<ContiguousSymbolTable<'m, Probability, PRECISION> as Iterator>⟧.remaining result)
+            (length
+            (⟦<ContiguousCategoricalEntropyModel<Probability, Cdf, PRECISION> as EntropyModel<PRECISION>>⟧.rows self.now)) }
+        ensures counted { size (⟦<ContiguousSymbolTable<'m, Probability, PRECISION> as Iterator>⟧.remaining result)
+            ≡ length
+            (⟦<ContiguousCategoricalEntropyModel<Probability, Cdf, PRECISION> as EntropyModel<PRECISION>>⟧.rows self.now) }
+    {
+        let cdf = self.cdf.words();
+        ContiguousSymbolTable {
+            cdf,
+            from: 0,
+            to: cdf.len() - 1,
+        }
+    }
+
+    ghost steps_law = { λ t r u step. step };
+
+    ghost tile_law = { λ m. stored-tiles _ _ _ m.now.stored.stored };
+}

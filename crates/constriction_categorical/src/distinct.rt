@@ -1,0 +1,226 @@
+//! Constructors of the decoder over any symbols that do not compare each symbol with all before it.
+//!
+//! [`into_lookup_decoder_model`](NonContiguousCategoricalDecoderModel::into_lookup_decoder_model) makes a lookup
+//! model of what they make.
+
+ghost use Rattle.std.specs.Prelude.{◌≡◌, ◌↔◌, ◌<◌, ◌≤◌, IfOk, IsTrue, map};
+ghost use Rattle.std.specs.Iterator.{IsFiniteIterable};
+ghost use Rattle.std.specs.List.{IsDistinct};
+ghost use Rattle.std.specs.List.Sorted.{IsStrictlySortedBy};
+ghost use Rattle.constriction_model.specs.Acceptance.{completed, AreAccepted, GaveBothGood, GaveBothBad, GivesDistinct};
+ghost use Rattle.constriction_model.specs.Rows.{rows_of};
+
+use crate::non_contiguous::NonContiguousCategoricalDecoderModel;
+use crate::uncompared::entries_read;
+use constriction_model::{EntropyModel, ModelError};
+use constriction_numbers::WholeNumber;
+use std::alloc::{AllocError, Global};
+use std::collections::HashSet;
+use std::hash::Hash;
+use std::marker::PhantomData;
+
+/// The symbol of an entry.
+#[inline]
+fn symbol_in<'e, Word, Symbol>(entry: &'e (Word, Symbol)) -> &'e Symbol
+    ensures { result.now ≡ entry.now.1 }
+{
+    &entry.1
+}
+
+/// Whether no two symbols of the entries are equal, by one hash of each and a set of references to them.
+fn are_apart<Word, Symbol: Hash + Eq>(
+    alloc: Global,
+    entries: &[(Word, Symbol)],
+) -> Result<bool, AllocError>
+    ensures { IfOk result (λ b. IsTrue b ↔ IsDistinct Symbol.eq (map (λ x. x.1) entries.now)) }
+{
+    let mut seen: HashSet<&Symbol> = HashSet::with_capacity(alloc, entries.len())?;
+    'entries: for entry in entries {
+        if !seen.insert(symbol_in(entry))? {
+            return Ok(false);
+        }
+    }
+    Ok(true)
+}
+
+/// Whether each symbol of the entries is less than the next one.
+fn are_in_order<Word, Symbol: Ord>(entries: &[(Word, Symbol)]) -> bool
+    ensures { IsTrue result ↔ IsStrictlySortedBy Symbol.cmp (map (λ x. x.1) entries.now) }
+{
+    let mut next = 1;
+    'entries: while next < entries.len() {
+        if !entries[next - 1].1.cmp(&entries[next].1).is_lt() {
+            return false;
+        }
+        next += 1;
+    }
+    true
+}
+
+impl<
+    Symbol: Eq + Drop,
+    Probability: WholeNumber,
+    const PRECISION: usize,
+> NonContiguousCategoricalDecoderModel<Symbol, Probability, Vec<(Probability, Symbol)>, PRECISION> {
+    /// The model of these symbols and weights, for a caller who knows that no two of the symbols are equal. It
+    /// accepts and refuses what [`from_symbols_and_nonzero_fixed_point_probabilities`] does.
+    ///
+    /// One pass over both, one entry a symbol, and one allocation where the symbols' iterator announces
+    /// how many there are. No symbols are compared.
+    ///
+    /// [`from_symbols_and_nonzero_fixed_point_probabilities`]: Self::from_symbols_and_nonzero_fixed_point_probabilities
+    pub fn from_distinct_symbols_and_nonzero_fixed_point_probabilities<
+        S: IntoIterator<Item = Symbol>,
+        P: IntoIterator<Item = Probability>,
+    >(
+        alloc: Global,
+        symbols: S,
+        probabilities: P,
+        infer_last_probability: bool,
+    ) -> Result<Self, ModelError>
+        requires positive { 0 < PRECISION }
+        requires fits { PRECISION ≤ Probability.BITS }
+        requires symbols_end { IsFiniteIterable S.into_iter_gives S.IntoIter.can_next S.IntoIter.remaining symbols }
+        requires probabilities_end { IsFiniteIterable P.into_iter_gives P.IntoIter.can_next P.IntoIter.remaining
+            probabilities }
+        requires distinct { GivesDistinct S.into_iter_gives S.IntoIter.next_gives Symbol.eq symbols }
+        ensures ok { IfOk result (λ m. (it : S.IntoIter) × S.into_iter_gives symbols it
+            × (jt : P.IntoIter) × P.into_iter_gives probabilities jt
+            × GaveBothGood S.IntoIter.next_gives it P.IntoIter.next_gives jt (λ ss ws.
+            let weights = completed PRECISION infer_last_probability (map Probability.whole ws) in
+            AreAccepted Symbol.eq Probability.BITS PRECISION ss weights
+            × (⟦<NonContiguousCategoricalDecoderModel<Symbol, Probability, Vec<(Probability, Symbol)>, PRECISION> as EntropyModel<PRECISION>>⟧.rows m
+            ≡ rows_of ss weights))) }
+        ensures invalid { result ≡ Err ModelError.InvalidTable → (it : S.IntoIter) × S.into_iter_gives symbols it
+            × (jt : P.IntoIter) × P.into_iter_gives probabilities jt
+            × GaveBothBad S.IntoIter.next_gives it P.IntoIter.next_gives jt (λ ss ws.
+            AreAccepted Symbol.eq Probability.BITS PRECISION ss
+            (completed PRECISION infer_last_probability (map Probability.whole ws))) }
+    {
+        let cdf = entries_read::<Probability, Symbol, S, P, PRECISION>(
+            alloc,
+            symbols,
+            probabilities,
+            infer_last_probability,
+        )?;
+        Ok(Self {
+            cdf,
+            entries: PhantomData,
+        })
+    }
+}
+
+impl<
+    Symbol: Hash + Eq + Drop,
+    Probability: WholeNumber,
+    const PRECISION: usize,
+> NonContiguousCategoricalDecoderModel<Symbol, Probability, Vec<(Probability, Symbol)>, PRECISION> {
+    /// The model of these symbols and weights, for symbols that have a hash. It accepts and refuses what
+    /// [`from_symbols_and_nonzero_fixed_point_probabilities`] does. Two equal symbols are found once both
+    /// iterators were read to their ends. `OutOfMemory` comes where memory for the entries, or for a set of
+    /// references to the symbols, is refused.
+    ///
+    /// One pass over both, and one hash a symbol after it. The set has as many places as there are symbols, and
+    /// is let go before the call answers.
+    ///
+    /// [`from_symbols_and_nonzero_fixed_point_probabilities`]: Self::from_symbols_and_nonzero_fixed_point_probabilities
+    pub fn from_hashable_symbols_and_nonzero_fixed_point_probabilities<
+        S: IntoIterator<Item = Symbol>,
+        P: IntoIterator<Item = Probability>,
+    >(
+        alloc: Global,
+        symbols: S,
+        probabilities: P,
+        infer_last_probability: bool,
+    ) -> Result<Self, ModelError>
+        requires positive { 0 < PRECISION }
+        requires fits { PRECISION ≤ Probability.BITS }
+        requires symbols_end { IsFiniteIterable S.into_iter_gives S.IntoIter.can_next S.IntoIter.remaining symbols }
+        requires probabilities_end { IsFiniteIterable P.into_iter_gives P.IntoIter.can_next P.IntoIter.remaining
+            probabilities }
+        ensures ok { IfOk result (λ m. (it : S.IntoIter) × S.into_iter_gives symbols it
+            × (jt : P.IntoIter) × P.into_iter_gives probabilities jt
+            × GaveBothGood S.IntoIter.next_gives it P.IntoIter.next_gives jt (λ ss ws.
+            let weights = completed PRECISION infer_last_probability (map Probability.whole ws) in
+            AreAccepted Symbol.eq Probability.BITS PRECISION ss weights
+            × (⟦<NonContiguousCategoricalDecoderModel<Symbol, Probability, Vec<(Probability, Symbol)>, PRECISION> as EntropyModel<PRECISION>>⟧.rows m
+            ≡ rows_of ss weights))) }
+        ensures invalid { result ≡ Err ModelError.InvalidTable → (it : S.IntoIter) × S.into_iter_gives symbols it
+            × (jt : P.IntoIter) × P.into_iter_gives probabilities jt
+            × GaveBothBad S.IntoIter.next_gives it P.IntoIter.next_gives jt (λ ss ws.
+            AreAccepted Symbol.eq Probability.BITS PRECISION ss
+            (completed PRECISION infer_last_probability (map Probability.whole ws))) }
+    {
+        let cdf = entries_read::<Probability, Symbol, S, P, PRECISION>(
+            alloc,
+            symbols,
+            probabilities,
+            infer_last_probability,
+        )?;
+        let apart = are_apart(alloc, &cdf)?;
+        if !apart {
+            return Err(ModelError::InvalidTable);
+        }
+        Ok(Self {
+            cdf,
+            entries: PhantomData,
+        })
+    }
+}
+
+impl<
+    Symbol: Ord + Drop,
+    Probability: WholeNumber,
+    const PRECISION: usize,
+> NonContiguousCategoricalDecoderModel<Symbol, Probability, Vec<(Probability, Symbol)>, PRECISION> {
+    /// The model of these symbols and weights, for symbols in increasing order. Where they are, it accepts and
+    /// refuses what [`from_symbols_and_nonzero_fixed_point_probabilities`] does. Where one of them is not less
+    /// than the next one, they are refused: `InvalidTable` then says that the list is invalid or not in order,
+    /// and another constructor may accept it.
+    ///
+    /// One pass over both, one entry a symbol, and one comparison of neighbours for each symbol after it.
+    ///
+    /// [`from_symbols_and_nonzero_fixed_point_probabilities`]: Self::from_symbols_and_nonzero_fixed_point_probabilities
+    pub fn from_sorted_symbols_and_nonzero_fixed_point_probabilities<
+        S: IntoIterator<Item = Symbol>,
+        P: IntoIterator<Item = Probability>,
+    >(
+        alloc: Global,
+        symbols: S,
+        probabilities: P,
+        infer_last_probability: bool,
+    ) -> Result<Self, ModelError>
+        requires positive { 0 < PRECISION }
+        requires fits { PRECISION ≤ Probability.BITS }
+        requires symbols_end { IsFiniteIterable S.into_iter_gives S.IntoIter.can_next S.IntoIter.remaining symbols }
+        requires probabilities_end { IsFiniteIterable P.into_iter_gives P.IntoIter.can_next P.IntoIter.remaining
+            probabilities }
+        ensures ok { IfOk result (λ m. (it : S.IntoIter) × S.into_iter_gives symbols it
+            × (jt : P.IntoIter) × P.into_iter_gives probabilities jt
+            × GaveBothGood S.IntoIter.next_gives it P.IntoIter.next_gives jt (λ ss ws.
+            let weights = completed PRECISION infer_last_probability (map Probability.whole ws) in
+            AreAccepted Symbol.eq Probability.BITS PRECISION ss weights × IsStrictlySortedBy Symbol.cmp ss
+            × (⟦<NonContiguousCategoricalDecoderModel<Symbol, Probability, Vec<(Probability, Symbol)>, PRECISION> as EntropyModel<PRECISION>>⟧.rows m
+            ≡ rows_of ss weights))) }
+        ensures invalid { result ≡ Err ModelError.InvalidTable → (it : S.IntoIter) × S.into_iter_gives symbols it
+            × (jt : P.IntoIter) × P.into_iter_gives probabilities jt
+            × GaveBothBad S.IntoIter.next_gives it P.IntoIter.next_gives jt (λ ss ws.
+            AreAccepted Symbol.eq Probability.BITS PRECISION ss
+            (completed PRECISION infer_last_probability (map Probability.whole ws)) × IsStrictlySortedBy Symbol.cmp ss) }
+    {
+        let cdf = entries_read::<Probability, Symbol, S, P, PRECISION>(
+            alloc,
+            symbols,
+            probabilities,
+            infer_last_probability,
+        )?;
+        let in_order = are_in_order(&cdf);
+        if !in_order {
+            return Err(ModelError::InvalidTable);
+        }
+        Ok(Self {
+            cdf,
+            entries: PhantomData,
+        })
+    }
+}

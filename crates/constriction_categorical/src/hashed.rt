@@ -1,0 +1,260 @@
+//! Models of any symbols for encoders, which find the entry of a symbol by its hash.
+
+ghost use Rattle.std.specs.Prelude.{◌≡◌, ◌^◌, ◌<◌, ◌≤◌, All, length, map, cond, is_some, IfOk, IsOk, true, false, ⊤};
+ghost use Rattle.std.specs.HashMap.{get, IsEmpty, IsUnique};
+ghost use Rattle.std.specs.Iterator.{IsFiniteIterable};
+ghost use Rattle.std.specs.List.{IsDistinct};
+ghost use Rattle.std.specs.Map.{keys_of};
+ghost use Rattle.std.proofs.Props.{props};
+ghost use Rattle.constriction_model.specs.Acceptance.{completed, AreAccepted, GaveBothGood, GaveBothBad};
+ghost use Rattle.constriction_categorical.specs.Filling.{HoldsEntries};
+ghost use Rattle.constriction_categorical.specs.Hashed.{rows_of_table};
+ghost use Rattle.constriction_model.specs.Entries.{SameEntries};
+ghost use Rattle.constriction_model.specs.Model.{LiesWithin, StandForRows};
+ghost use Rattle.constriction_model.specs.Rows.{rows_of};
+
+use crate::filling::rows_announced;
+use crate::reading::{TakesRows, rows_read};
+use constriction_model::{EncoderModel, EntropyModel, ModelError, Weight};
+use constriction_numbers::WholeNumber;
+use std::alloc::{AllocError, Global};
+use std::collections::HashMap;
+use std::fmt::Debug;
+use std::hash::Hash;
+
+/// What a table has for a symbol: where its row begins, and its weight.
+#[derive(Debug)]
+pub(crate) struct Entry<Word: Copy, Positive: Copy> {
+    pub(crate) left: Word,
+    pub(crate) weight: Positive,
+}
+
+impl<Word: Copy, Positive: Copy> Clone for Entry<Word, Positive> {
+    ghost is_clone = { λ x y. y ≡ x };
+
+    ghost is_infallible = { λ _. ⊤ };
+
+    fn clone(&self) -> Result<Entry<Word, Positive>, AllocError> {
+        Ok(*self)
+    }
+}
+
+impl<Word: Copy, Positive: Copy> Copy for Entry<Word, Positive> {}
+
+/// A model of any symbols for encoders: it finds the entry of a symbol by its hash.
+///
+/// It stores the entry of each symbol in a hash table. Its rows are these entries, in no order that
+/// means anything.
+#[derive(Drop)]
+#[derive_where(Debug; Symbol: Debug, Probability: Debug, Weight<Probability>: Debug)]
+pub struct NonContiguousCategoricalEncoderModel<
+    Symbol: Hash + Eq,
+    Probability: WholeNumber,
+    const PRECISION: usize,
+> {
+    pub(crate) table: HashMap<Symbol, Entry<Probability, Weight<Probability>>>,
+    ghost distinct: { IsDistinct Symbol.eq (keys_of table.entries) } by { Prim.hlevel props },
+    ghost within: { All (LiesWithin PRECISION) (rows_of_table
+        (λ e. (Probability.whole e.left, Probability.whole (Probability.base e.weight))) table.entries) },
+}
+
+/// The model over 24 bits of `u32`, which suits most uses.
+pub type DefaultNonContiguousCategoricalEncoderModel<Symbol> = NonContiguousCategoricalEncoderModel<
+    Symbol,
+    u32,
+    24,
+>;
+
+/// The model over 12 bits of `u16`, for small tables of symbols.
+pub type SmallNonContiguousCategoricalEncoderModel<Symbol> = NonContiguousCategoricalEncoderModel<
+    Symbol,
+    u16,
+    12,
+>;
+
+impl<Symbol: Hash + Eq, Probability: WholeNumber, const PRECISION: usize> EntropyModel<PRECISION>
+    for NonContiguousCategoricalEncoderModel<Symbol, Probability, PRECISION> {
+    type Symbol = Symbol;
+
+    type Probability = Probability;
+
+    ghost rows = { λ m. rows_of_table
+        (λ e. (Probability.whole e.left, Probability.whole (Probability.base e.weight))) m.table.entries };
+}
+
+impl<Symbol: Hash + Eq, Probability: WholeNumber, const PRECISION: usize> EncoderModel<PRECISION>
+    for NonContiguousCategoricalEncoderModel<Symbol, Probability, PRECISION> {
+    ghost symbol_eq = { Symbol.eq };
+
+    /// The entry of a symbol, by one hash. It takes no memory.
+    #[inline]
+    fn left_cumulative_and_probability(
+        &self,
+        symbol: &Symbol,
+    ) -> Option<(Probability, Weight<Probability>)> {
+        match self.table.get(symbol) {
+            Some(entry) => Some((entry.left, entry.weight)),
+            None => None,
+        }
+    }
+
+    ghost equality_law = { Symbol.Eq.laws };
+
+    ghost within_law = { λ m. m.within };
+}
+
+/// An empty table with room for so many symbols, where memory for that is not refused.
+#[inline]
+pub(crate) fn table_for<Symbol: Hash + Eq + Drop, Value: Drop>(
+    alloc: Global,
+    announced: usize,
+) -> HashMap<Symbol, Value>
+    ensures empty { IsEmpty result }
+    ensures unique { IsUnique Symbol.eq result }
+{
+    match HashMap::with_capacity(alloc, announced) {
+        Ok(room) => room,
+        Err(_) => HashMap::new(alloc),
+    }
+}
+
+/// Puts a value at a symbol. `InvalidTable` comes exactly where there is one at an equal symbol, which is
+/// then lost: the table is of no use any more.
+#[inline]
+fn insert_apart<Symbol: Hash + Eq + Drop, Value: Drop>(
+    table: &mut HashMap<Symbol, Value>,
+    symbol: Symbol,
+    value: Value,
+) -> Result<(), ModelError>
+    ensures unique { IsUnique Symbol.eq table.new }
+    ensures updates { IsOk result → (s : Symbol)
+        → get Symbol.eq table.new s ≡ cond (Symbol.eq symbol s) (Some value) (get Symbol.eq table.old s) }
+    ensures apart { IsOk result → is_some (get Symbol.eq table.old symbol) ≡ false }
+    ensures repeated { result ≡ Err ModelError.InvalidTable → is_some (get Symbol.eq table.old symbol) ≡ true }
+{
+    let old = table.insert(symbol, value)?;
+    if old.is_some() {
+        return Err(ModelError::InvalidTable);
+    }
+    Ok(())
+}
+
+impl<Symbol: Hash + Eq + Drop, Probability: WholeNumber> TakesRows<Symbol, Probability>
+    for HashMap<Symbol, Entry<Probability, Weight<Probability>>> {
+    ghost symbol_eq = { Symbol.eq };
+
+    ghost holds = { λ t rows. IsUnique Symbol.eq t × HoldsEntries Symbol.eq
+        (λ e. (Probability.whole e.left, Probability.whole (Probability.base e.weight)))
+        (get Symbol.eq t) rows };
+
+    #[inline]
+    fn take_row(
+        &mut self,
+        symbol: Symbol,
+        left: Probability,
+        weight: Probability,
+    ) -> Result<(), ModelError> {
+        let weight = weight.to_weight();
+        insert_apart(self, symbol, Entry { left, weight })
+    }
+
+    ghost symmetry_law = { Symbol.Eq.laws.symm };
+}
+
+impl<
+    Symbol: Hash + Eq,
+    Probability: WholeNumber,
+    const PRECISION: usize,
+> NonContiguousCategoricalEncoderModel<Symbol, Probability, PRECISION> {
+    /// How many symbols have an entry.
+    #[inline]
+    pub fn support_size(&self) -> usize
+        ensures { result ≡ length
+            (⟦<NonContiguousCategoricalEncoderModel<Symbol, Probability, PRECISION> as EntropyModel<PRECISION>>⟧.rows self.now) }
+    {
+        self.table.len()
+    }
+}
+
+impl<
+    Symbol: Hash + Eq + Drop,
+    Probability: WholeNumber,
+    const PRECISION: usize,
+> NonContiguousCategoricalEncoderModel<Symbol, Probability, PRECISION> {
+    /// The model of these symbols and weights, one weight a symbol. Where the last weight is inferred,
+    /// it is what the given ones leave of `2^PRECISION`, and there is one symbol more than given weights.
+    ///
+    /// They are accepted exactly where the weights are all positive, the inferred one included, their
+    /// sum is `2^PRECISION`, each of them is a word, there is exactly one symbol for each weight, and no
+    /// two symbols are equal. `InvalidTable` comes where they are not accepted, whether both iterators
+    /// were read to their ends or only so far that no lists that begin so are accepted. `OutOfMemory`
+    /// comes where memory for the table is refused.
+    ///
+    /// One pass over both, and one hash a symbol. Where the symbols' iterator announces how many there
+    /// are, memory is asked for before the first one and not again: the hash table has four allocations.
+    pub fn from_symbols_and_nonzero_fixed_point_probabilities<
+        S: IntoIterator<Item = Symbol>,
+        P: IntoIterator<Item = Probability>,
+    >(
+        alloc: Global,
+        symbols: S,
+        probabilities: P,
+        infer_last_probability: bool,
+    ) -> Result<Self, ModelError>
+        requires positive { 0 < PRECISION }
+        requires fits { PRECISION ≤ Probability.BITS }
+        requires symbols_end { IsFiniteIterable S.into_iter_gives S.IntoIter.can_next S.IntoIter.remaining symbols }
+        requires probabilities_end { IsFiniteIterable P.into_iter_gives P.IntoIter.can_next P.IntoIter.remaining
+            probabilities }
+        ensures ok { IfOk result (λ m. (it : S.IntoIter) × S.into_iter_gives symbols it
+            × (jt : P.IntoIter) × P.into_iter_gives probabilities jt
+            × GaveBothGood S.IntoIter.next_gives it P.IntoIter.next_gives jt (λ ss ws.
+            let weights = completed PRECISION infer_last_probability (map Probability.whole ws) in
+            let rows = ⟦<NonContiguousCategoricalEncoderModel<Symbol, Probability, PRECISION> as EntropyModel<PRECISION>>⟧.rows m in
+            AreAccepted Symbol.eq Probability.BITS PRECISION ss weights
+            × SameEntries Symbol.eq rows (rows_of ss weights) × (length rows ≡ length ss))) }
+        ensures invalid { result ≡ Err ModelError.InvalidTable → (it : S.IntoIter) × S.into_iter_gives symbols it
+            × (jt : P.IntoIter) × P.into_iter_gives probabilities jt
+            × GaveBothBad S.IntoIter.next_gives it P.IntoIter.next_gives jt (λ ss ws.
+            AreAccepted Symbol.eq Probability.BITS PRECISION ss
+            (completed PRECISION infer_last_probability (map Probability.whole ws))) }
+    {
+        let symbols = symbols.into_iter();
+        let room = table_for(alloc, rows_announced::<PRECISION>(symbols.size_hint().0));
+        let table = rows_read::<
+            Probability,
+            Symbol,
+            HashMap<Symbol, Entry<Probability, Weight<Probability>>>,
+            _,
+            _,
+            PRECISION,
+        >(
+            room,
+            symbols,
+            probabilities.into_iter(),
+            infer_last_probability,
+        )?;
+        Ok(Self { table })
+    }
+}
+
+impl<
+    Symbol: Hash + Eq + Clone,
+    Probability: WholeNumber,
+    const PRECISION: usize,
+> NonContiguousCategoricalEncoderModel<Symbol, Probability, PRECISION> {
+    /// A model of the same entries, for clones of the symbols, with a table of its own from the allocator of
+    /// this one's.
+    ///
+    /// A copy of the table and a clone of each symbol. It is refused where memory for one of these is.
+    pub fn clone(&self) -> Result<Self, AllocError>
+        ensures { IfOk result (λ m. StandForRows Symbol.is_clone
+            (⟦<NonContiguousCategoricalEncoderModel<Symbol, Probability, PRECISION> as EntropyModel<PRECISION>>⟧.rows m)
+            (⟦<NonContiguousCategoricalEncoderModel<Symbol, Probability, PRECISION> as EntropyModel<PRECISION>>⟧.rows self.now)) }
+    {
+        let table = self.table.clone()?;
+        // A call on the clone tells that no two of its keys are equal, whatever is known of clones of them.
+        let _len = table.len();
+        Ok(Self { table })
+    }
+}

@@ -1,0 +1,49 @@
+//! The trait of models whose rows can be walked through.
+//!
+//! It stands beside its impls for references to models: an impl for a reference is found by who lists the
+//! crate of the trait, or uses it through another one, but not by who uses the crate of the model so.
+
+ghost use Rattle.std.specs.Prelude.{◌≡◌, List, length};
+ghost use Rattle.std.specs.Iterator.{UpTo};
+ghost use Rattle.constriction_model.specs.Rows.{Row, RowsTile};
+ghost use Rattle.constriction_model.specs.Tables.{YieldsRow};
+
+use constriction_model::{EntropyModel, Weight};
+use std::alloc::AllocError;
+
+/// A model whose rows can be walked through.
+///
+/// It is implemented for what a symbol table is made of: for a reference to a model that the table
+/// borrows from, and for a model that can be copied into it, whose references have it too.
+pub trait IterableEntropyModel<const PRECISION: usize>: EntropyModel<PRECISION> {
+    /// The walk through the rows.
+    type SymbolTable: Iterator<
+        Item = Result<(Self::Symbol, Self::Probability, Weight<Self::Probability>), AllocError>,
+    >;
+
+    // That the second symbol stands for the first one, as an item's does for that of its row. Of a table of clones it is what the
+    // symbols' type says of a clone, and of one that makes none it is equality.
+    ghost stands_for: { Self.Symbol → Self.Symbol → Type 0 };
+
+    // That a row with this symbol may be refused, for want of memory. Of a table that takes none it is ⊥.
+    ghost may_refuse: { Self.Symbol → Type 0 };
+
+    // The rows that a table has yet to give.
+    ghost rows_left: { Self.SymbolTable → List (Row Self.Symbol) };
+
+    /// All rows in order, each once: symbol, left cumulative and weight. Where memory for a clone of a
+    /// symbol is refused, the refusal stands in the row's place, and the walk goes on after it.
+    fn symbol_table(self) -> Self::SymbolTable
+        ensures all { rows_left result ≡ Self.rows self }
+        ensures callable { Self.SymbolTable.can_next result }
+        ensures ends { UpTo (Self.SymbolTable.remaining result) (length (Self.rows self)) };
+
+    // Each step gives the first of the rows that are left, and nothing exactly where none is left.
+    ghost steps_law: { (t : Self.SymbolTable) (r : _) (u : Self.SymbolTable)
+        → Self.SymbolTable.next_gives t r u
+        → YieldsRow stands_for may_refuse Self.Probability.whole Self.Probability.base
+        (rows_left t) r (rows_left u) };
+
+    // The rows tile the quantiles, so that each quantile has exactly one row.
+    ghost tile_law: { (m : Self) → RowsTile Self.Probability.BITS PRECISION (Self.rows m) };
+}

@@ -1,0 +1,214 @@
+//! Models that look up where to search for the row of a quantile.
+
+ghost use Rattle.std.specs.Prelude.{◌≡◌, ◌+◌, ◌/◌, ◌^◌, ◌<◌, ◌≤◌, ℕ, map, IfOk};
+ghost use Rattle.constriction_model.specs.Probe.{TellsRows, IsRowIndexOf, IsSearchable, IsLastAtMost};
+ghost use Rattle.constriction_categorical.specs.Slots.{MeetsSlot, slot_count, slot_width};
+ghost use Rattle.constriction_categorical.specs.SlotTable.{HasSlots};
+
+use crate::slots::{row_in_slot, slot_probe, slots_of};
+use crate::stores_rows::{AnswersRows, OfAnySymbols, OfNumbers, StoresRows};
+use constriction_buffers::SafeBuf;
+use constriction_model::{CdfProbe, DecoderModel, EntropyModel, Probe, Weight};
+use std::alloc::{AllocError, Global};
+
+/// A searching model with a table, for decoders: the table tells where to search for the row of a
+/// quantile.
+///
+/// The quantiles are divided into `2^min(PRECISION, SLOT_BITS)` slots of equal width. The table has two
+/// words a slot, the first and the last row that meet it, so a look-up searches the rows between these
+/// alone, and nothing at all where one row meets the slot. Where `SLOT_BITS` is at least `PRECISION`, a slot
+/// holds one quantile: the table has one word a slot, the quantile's row, and a look-up searches nothing.
+/// Beside the table stands the searching model.
+///
+/// [`ContiguousLookupDecoderModel`] and [`NonContiguousLookupDecoderModel`] are names of it with 8
+/// `SLOT_BITS`. A caller's own model that [`StoresRows`] gets a table by [`with_table`](Self::with_table).
+///
+/// [`ContiguousLookupDecoderModel`]: crate::ContiguousLookupDecoderModel
+/// [`NonContiguousLookupDecoderModel`]: crate::NonContiguousLookupDecoderModel
+#[derive(Debug, Drop)]
+pub struct LookupDecoderModel<Model, LookupTable, const PRECISION: usize, const SLOT_BITS: usize>
+where
+    Model: EntropyModel<PRECISION>,
+    LookupTable: SafeBuf<Model::Probability>,
+{
+    pub(crate) model: Model,
+    pub(crate) lookup_table: LookupTable,
+    ghost narrow: { PRECISION ≤ 63 },
+    ghost slots: { HasSlots (slot_width PRECISION SLOT_BITS) (slot_count PRECISION SLOT_BITS)
+        (map (λ r. r.left) (Model.rows model))
+        (map Model.Probability.whole (LookupTable.words_of lookup_table)) },
+}
+
+impl<Model, LookupTable, const PRECISION: usize, const SLOT_BITS: usize> EntropyModel<PRECISION>
+    for LookupDecoderModel<Model, LookupTable, PRECISION, SLOT_BITS>
+where
+    Model: EntropyModel<PRECISION>,
+    LookupTable: SafeBuf<Model::Probability>,
+{
+    type Symbol = Model::Symbol;
+
+    type Probability = Model::Probability;
+
+    ghost rows = { λ m. Model.rows m.model };
+}
+
+impl<
+    Model: StoresRows<PRECISION>,
+    const PRECISION: usize,
+    const SLOT_BITS: usize,
+> LookupDecoderModel<Model, Vec<Model::Probability>, PRECISION, SLOT_BITS> {
+    /// The model of the same rows, with a table. Want of memory for the table is its only refusal.
+    ///
+    /// One pass over the rows, and one allocation: of two words a slot, or of one where a slot holds one
+    /// quantile.
+    pub fn with_table(alloc: Global, model: Model) -> Result<Self, AllocError>
+    where
+        Model: Drop,
+        requires narrow { PRECISION ≤ 63 }
+        ensures { IfOk result (λ m.
+            ⟦<LookupDecoderModel<Model, Vec<Model::Probability>, PRECISION, SLOT_BITS> as EntropyModel<PRECISION>>⟧.rows m
+            ≡ Model.rows model) }
+    {
+        let lookup_table = slots_of::<Model::Entry, Model::Kind, PRECISION, SLOT_BITS>(
+            alloc,
+            model.entries(),
+        )?;
+        Ok(Self {
+            model,
+            lookup_table,
+        })
+    }
+}
+
+impl<Model, LookupTable, const PRECISION: usize, const SLOT_BITS: usize> LookupDecoderModel<
+    Model,
+    LookupTable,
+    PRECISION,
+    SLOT_BITS,
+>
+where
+    Model: StoresRows<PRECISION>,
+    LookupTable: SafeBuf<Model::Probability>,
+{
+    /// A probe of the rows in question for a quantile, which are those that meet its slot, and the
+    /// index of the first of them. What [`row_of_quantile`] answers on it, plus that index, is the
+    /// index of the quantile's row. Where `m` rows meet the slot it asks as many questions at most as
+    /// `m - 1` has binary digits.
+    ///
+    /// [`row_of_quantile`]: constriction_model::row_of_quantile
+    #[inline]
+    pub fn quantile_probe<'m>(
+        &'m self,
+        quantile: Model::Probability,
+    ) -> (usize, CdfProbe<'m, Model::Entry, Model::Kind>)
+        requires { Model.Probability.whole quantile < 2 ^ PRECISION }
+        ensures rows { TellsRows
+            (⟦<LookupDecoderModel<Model, LookupTable, PRECISION, SLOT_BITS> as EntropyModel<PRECISION>>⟧.rows self.now)
+            (MeetsSlot (slot_width PRECISION SLOT_BITS) (Model.Probability.whole quantile / slot_width PRECISION SLOT_BITS)) result.0
+            (⟦<CdfProbe<'m, Model::Entry, Model::Kind> as Probe>⟧.cumulatives result.1) }
+        ensures searchable { IsSearchable (⟦<CdfProbe<'m, Model::Entry, Model::Kind> as Probe>⟧.cumulatives result.1)
+            (Model.Probability.whole quantile) }
+        ensures fresh { ⟦<CdfProbe<'m, Model::Entry, Model::Kind> as Probe>⟧.questions result.1 ≡ 0 }
+        ensures found { (i : ℕ)
+            → IsLastAtMost (⟦<CdfProbe<'m, Model::Entry, Model::Kind> as Probe>⟧.cumulatives result.1)
+            (Model.Probability.whole quantile) i
+            → IsRowIndexOf
+            (⟦<LookupDecoderModel<Model, LookupTable, PRECISION, SLOT_BITS> as EntropyModel<PRECISION>>⟧.rows self.now)
+            (Model.Probability.whole quantile) (result.0 + i) }
+    {
+        slot_probe::<Model::Entry, Model::Kind, PRECISION, SLOT_BITS>(
+            self.model.entries(),
+            self.lookup_table.words(),
+            quantile,
+        )
+    }
+}
+
+impl<Model, LookupTable, const PRECISION: usize, const SLOT_BITS: usize> DecoderModel<PRECISION>
+    for LookupDecoderModel<Model, LookupTable, PRECISION, SLOT_BITS>
+where
+    Model: AnswersRows<PRECISION>,
+    LookupTable: SafeBuf<Model::Probability>,
+{
+    ghost stands_for = { Model.stands_for };
+
+    ghost may_refuse = { Model.may_refuse };
+
+    /// The row of a quantile, by the table, and where more than one row meets the quantile's slot by a
+    /// search of those. Where the model owns its symbols the answer has a clone.
+    #[inline(always)]
+    fn quantile_function(
+        &self,
+        quantile: Model::Probability,
+    ) -> Result<
+        (
+            Model::Symbol,
+            Model::Probability,
+            Weight<Model::Probability>,
+        ),
+        AllocError,
+    > {
+        let index = row_in_slot::<Model::Entry, Model::Kind, PRECISION, SLOT_BITS>(
+            self.model.entries(),
+            self.lookup_table.words(),
+            quantile,
+        );
+        self.model.row_at(index)
+    }
+
+    ghost tile_law = { λ m. Model.tile_law m.model };
+}
+
+impl<Model, LookupTable, const PRECISION: usize, const SLOT_BITS: usize> LookupDecoderModel<
+    Model,
+    LookupTable,
+    PRECISION,
+    SLOT_BITS,
+>
+where
+    Model: OfNumbers<PRECISION>,
+    LookupTable: SafeBuf<Model::Probability>,
+{
+    /// The model of the same rows that searches all of them, with the rows of this one. The table is
+    /// let go.
+    #[inline]
+    pub fn into_contiguous_categorical(self) -> Model
+    where
+        LookupTable: Drop,
+        ensures { Model.rows result
+            ≡ ⟦<LookupDecoderModel<Model, LookupTable, PRECISION, SLOT_BITS> as EntropyModel<PRECISION>>⟧.rows self }
+    {
+        let Self {
+            model,
+            lookup_table: _,
+        } = self;
+        model
+    }
+}
+
+impl<Model, LookupTable, const PRECISION: usize, const SLOT_BITS: usize> LookupDecoderModel<
+    Model,
+    LookupTable,
+    PRECISION,
+    SLOT_BITS,
+>
+where
+    Model: OfAnySymbols<PRECISION>,
+    LookupTable: SafeBuf<Model::Probability>,
+{
+    /// The model of the same rows that searches all of them, with the entries of this one. The table is
+    /// let go.
+    #[inline]
+    pub fn into_non_contiguous_categorical(self) -> Model
+    where
+        LookupTable: Drop,
+        ensures { Model.rows result
+            ≡ ⟦<LookupDecoderModel<Model, LookupTable, PRECISION, SLOT_BITS> as EntropyModel<PRECISION>>⟧.rows self }
+    {
+        let Self {
+            model,
+            lookup_table: _,
+        } = self;
+        model
+    }
+}

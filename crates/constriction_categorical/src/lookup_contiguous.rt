@@ -1,0 +1,248 @@
+//! Models of the symbols 0, 1, .., which look up where to search for the row of a quantile.
+
+ghost use Rattle.std.specs.Prelude.{◌≡◌, ◌<◌, ◌≤◌, length, map, IfOk, IfErr};
+ghost use Rattle.std.specs.Iterator.{IsFiniteIterable, UpTo, size};
+ghost use Rattle.constriction_model.specs.Acceptance.{completed, IsAccepted, GaveGood, GaveBad};
+ghost use Rattle.constriction_model.specs.Rows.{contiguous_rows};
+ghost use Rattle.constriction_categorical.specs.StoredRowLemmas.{stored-tiles};
+ghost use Rattle.constriction_categorical.specs.Stored.{rows_stored};
+
+use crate::contiguous::ContiguousCategoricalEntropyModel;
+use crate::filling::copied;
+use crate::iterable::IterableEntropyModel;
+use crate::lookup::LookupDecoderModel;
+use crate::symbol_table::ContiguousSymbolTable;
+use constriction_buffers::SafeBuf;
+use constriction_model::{EntropyModel, ModelError};
+use constriction_numbers::IndexWord;
+use std::alloc::{AllocError, Global};
+
+/// A model of the symbols 0, 1, .., given by their weights, for decoders: a table of
+/// `2^min(PRECISION, SLOT_BITS)` slots tells where to search for the row of a quantile.
+///
+/// Beside the table of a [`LookupDecoderModel`] stands what a [`ContiguousCategoricalEntropyModel`]
+/// stores, one word a symbol and one word more.
+pub type SlottedContiguousLookupDecoderModel<
+    Probability,
+    Cdf,
+    LookupTable,
+    const PRECISION: usize,
+    const SLOT_BITS: usize,
+> = LookupDecoderModel<
+    ContiguousCategoricalEntropyModel<Probability, Cdf, PRECISION>,
+    LookupTable,
+    PRECISION,
+    SLOT_BITS,
+>;
+
+/// The model with `2^min(PRECISION, 8)` slots, whose table has 512 words at most.
+pub type ContiguousLookupDecoderModel<Probability, Cdf, LookupTable, const PRECISION: usize> =
+    SlottedContiguousLookupDecoderModel<Probability, Cdf, LookupTable, PRECISION, 8>;
+
+/// The model over 12 bits of `u16`, for small tables of symbols.
+pub type SmallContiguousLookupDecoderModel<Cdf = Vec<u16>, LookupTable = Vec<u16>> =
+    ContiguousLookupDecoderModel<u16, Cdf, LookupTable, 12>;
+
+/// The model over 12 bits of `u16` with a slot for each quantile: its table has 4,096 words, and a look-up
+/// searches nothing.
+pub type SmallContiguousDirectLookupDecoderModel<Cdf = Vec<u16>, LookupTable = Vec<u16>> =
+    SlottedContiguousLookupDecoderModel<u16, Cdf, LookupTable, 12, 12>;
+
+impl<
+    Probability: IndexWord,
+    const PRECISION: usize,
+    const SLOT_BITS: usize,
+> SlottedContiguousLookupDecoderModel<
+    Probability,
+    Vec<Probability>,
+    Vec<Probability>,
+    PRECISION,
+    SLOT_BITS,
+> {
+    /// The model of these weights. It accepts what
+    /// [`ContiguousCategoricalEntropyModel::from_nonzero_fixed_point_probabilities`] accepts, and
+    /// refuses the others with `InvalidTable` as soon as that is known, before there is a table of
+    /// slots. `OutOfMemory` comes where memory for the rows or for the table is refused.
+    ///
+    /// One pass over the weights and one over the rows. Beside the rows it takes one allocation for the
+    /// table, with 8 `SLOT_BITS` of 512 words at most.
+    pub fn from_nonzero_fixed_point_probabilities<I: IntoIterator<Item = Probability>>(
+        alloc: Global,
+        probabilities: I,
+        infer_last_probability: bool,
+    ) -> Result<Self, ModelError>
+        requires positive { 0 < PRECISION }
+        requires narrow { PRECISION ≤ 63 }
+        requires fits { PRECISION ≤ Probability.BITS }
+        requires ends { IsFiniteIterable I.into_iter_gives I.IntoIter.can_next I.IntoIter.remaining
+            probabilities }
+        ensures ok { IfOk result (λ m. (it : I.IntoIter) × I.into_iter_gives probabilities it
+            × GaveGood I.IntoIter.next_gives it (λ ws.
+            let weights = completed PRECISION infer_last_probability (map Probability.whole ws) in
+            IsAccepted Probability.BITS PRECISION weights
+            × (⟦<SlottedContiguousLookupDecoderModel<Probability, Vec<Probability>, Vec<Probability>, PRECISION, SLOT_BITS> as EntropyModel<PRECISION>>⟧.rows m
+            ≡ contiguous_rows weights))) }
+        ensures invalid { result ≡ Err ModelError.InvalidTable → (it : I.IntoIter)
+            × I.into_iter_gives probabilities it
+            × GaveBad I.IntoIter.next_gives it (λ ws. IsAccepted Probability.BITS PRECISION
+            (completed PRECISION infer_last_probability (map Probability.whole ws))) }
+    {
+        let model = ContiguousCategoricalEntropyModel::<
+            Probability,
+            Vec<Probability>,
+            PRECISION,
+        >::from_nonzero_fixed_point_probabilities(alloc, probabilities, infer_last_probability)?;
+        Ok(Self::with_table(alloc, model)?)
+    }
+
+    /// A model of the same rows, with rows and a table of its own from the allocators of this one's.
+    ///
+    /// Two allocations, and one copy of each.
+    pub fn clone(&self) -> Result<Self, AllocError>
+        ensures { IfOk result (λ m.
+            ⟦<SlottedContiguousLookupDecoderModel<Probability, Vec<Probability>, Vec<Probability>, PRECISION, SLOT_BITS> as EntropyModel<PRECISION>>⟧.rows m
+            ≡ ⟦<SlottedContiguousLookupDecoderModel<Probability, Vec<Probability>, Vec<Probability>, PRECISION, SLOT_BITS> as EntropyModel<PRECISION>>⟧.rows self.now) }
+    {
+        let model = self.model.clone()?;
+        let lookup_table = copied(*self.lookup_table.allocator(), self.lookup_table.as_slice())?;
+        Ok(Self {
+            model,
+            lookup_table,
+        })
+    }
+}
+
+impl<
+    Probability: IndexWord,
+    Cdf: SafeBuf<Probability>,
+    const PRECISION: usize,
+> ContiguousCategoricalEntropyModel<Probability, Cdf, PRECISION> {
+    /// The model of the same rows that looks up where to search. Its only refusal is `OutOfMemory`,
+    /// where memory for a copy of the rows, or for the table, is refused.
+    ///
+    /// Two allocations, one copy of the rows and one pass over them.
+    pub fn to_lookup_decoder_model(
+        &self,
+        alloc: Global,
+    ) -> Result<
+        ContiguousLookupDecoderModel<Probability, Vec<Probability>, Vec<Probability>, PRECISION>,
+        ModelError,
+    >
+        requires { PRECISION ≤ 63 }
+        ensures ok { IfOk result (λ m.
+            ⟦<ContiguousLookupDecoderModel<Probability, Vec<Probability>, Vec<Probability>, PRECISION> as EntropyModel<PRECISION>>⟧.rows m
+            ≡ ⟦<ContiguousCategoricalEntropyModel<Probability, Cdf, PRECISION> as EntropyModel<PRECISION>>⟧.rows self.now) }
+        ensures refused { IfErr result (λ e. e ≡ ModelError.OutOfMemory) }
+    {
+        self.to_slotted_lookup_decoder_model::<8>(alloc)
+    }
+
+    /// The same with `2^min(PRECISION, SLOT_BITS)` slots.
+    pub fn to_slotted_lookup_decoder_model<const SLOT_BITS: usize>(
+        &self,
+        alloc: Global,
+    ) -> Result<
+        SlottedContiguousLookupDecoderModel<
+            Probability,
+            Vec<Probability>,
+            Vec<Probability>,
+            PRECISION,
+            SLOT_BITS,
+        >,
+        ModelError,
+    >
+        requires { PRECISION ≤ 63 }
+        ensures ok { IfOk result (λ m.
+            ⟦<SlottedContiguousLookupDecoderModel<Probability, Vec<Probability>, Vec<Probability>, PRECISION, SLOT_BITS> as EntropyModel<PRECISION>>⟧.rows m
+            ≡ ⟦<ContiguousCategoricalEntropyModel<Probability, Cdf, PRECISION> as EntropyModel<PRECISION>>⟧.rows self.now) }
+        ensures refused { IfErr result (λ e. e ≡ ModelError.OutOfMemory) }
+    {
+        let model = self.in_vec(alloc)?;
+        Ok(LookupDecoderModel::with_table(alloc, model)?)
+    }
+}
+
+impl<
+    Probability: IndexWord,
+    Cdf: SafeBuf<Probability>,
+    LookupTable: SafeBuf<Probability>,
+    const PRECISION: usize,
+    const SLOT_BITS: usize,
+> SlottedContiguousLookupDecoderModel<Probability, Cdf, LookupTable, PRECISION, SLOT_BITS> {
+    /// The same model over the rows and the table of this one.
+    #[inline]
+    pub fn as_view<'m>(
+        &'m self,
+    ) -> SlottedContiguousLookupDecoderModel<
+        Probability,
+        &'m [Probability],
+        &'m [Probability],
+        PRECISION,
+        SLOT_BITS,
+    >
+        ensures { ⟦<SlottedContiguousLookupDecoderModel<Probability, &'m [Probability], &'m [Probability], PRECISION, SLOT_BITS> as EntropyModel<PRECISION>>⟧.rows result
+            ≡ ⟦<SlottedContiguousLookupDecoderModel<Probability, Cdf, LookupTable, PRECISION, SLOT_BITS> as EntropyModel<PRECISION>>⟧.rows self.now }
+    {
+        LookupDecoderModel {
+            model: self.model.as_view(),
+            lookup_table: self.lookup_table.words(),
+        }
+    }
+
+    /// The model of the same rows, over the rows of this one, that searches all of them. It encodes
+    /// too.
+    #[inline]
+    pub fn as_contiguous_categorical<'m>(
+        &'m self,
+    ) -> ContiguousCategoricalEntropyModel<Probability, &'m [Probability], PRECISION>
+        ensures { ⟦<ContiguousCategoricalEntropyModel<Probability, &'m [Probability], PRECISION> as EntropyModel<PRECISION>>⟧.rows result
+            ≡ ⟦<SlottedContiguousLookupDecoderModel<Probability, Cdf, LookupTable, PRECISION, SLOT_BITS> as EntropyModel<PRECISION>>⟧.rows self.now }
+    {
+        self.model.as_view()
+    }
+}
+
+impl<
+    'm,
+    Probability: IndexWord + 'm,
+    Cdf: SafeBuf<Probability> + 'm,
+    LookupTable: SafeBuf<Probability> + 'm,
+    const PRECISION: usize,
+    const SLOT_BITS: usize,
+> IterableEntropyModel<PRECISION>
+    for &'m SlottedContiguousLookupDecoderModel<
+        Probability,
+        Cdf,
+        LookupTable,
+        PRECISION,
+        SLOT_BITS,
+    > {
+    type SymbolTable = ContiguousSymbolTable<'m, Probability, PRECISION>;
+
+    ghost stands_for = { λ s t. t ≡ s };
+
+    ghost may_refuse = { λ _. ⊥ };
+
+    ghost rows_left = { λ t. rows_stored PRECISION (map Probability.whole t.cdf.now) t.from t.to };
+
+    /// All rows in order, each once: symbol, left cumulative and weight. It takes no memory, and
+    /// every item is a row.
+    #[inline]
+    fn symbol_table(self) -> ContiguousSymbolTable<'m, Probability, PRECISION>
+        ensures all { ⟦<&'m SlottedContiguousLookupDecoderModel<Probability, Cdf, LookupTable, PRECISION, SLOT_BITS> as IterableEntropyModel<PRECISION>>⟧.rows_left result
+            ≡ ⟦<SlottedContiguousLookupDecoderModel<Probability, Cdf, LookupTable, PRECISION, SLOT_BITS> as EntropyModel<PRECISION>>⟧.rows self.now }
+        ensures callable { ⟦<ContiguousSymbolTable<'m, Probability, PRECISION> as Iterator>⟧.can_next result }
+        ensures ends { UpTo (⟦<ContiguousSymbolTable<'m, Probability, PRECISION> as Iterator>⟧.remaining result)
+            (length
+            (⟦<SlottedContiguousLookupDecoderModel<Probability, Cdf, LookupTable, PRECISION, SLOT_BITS> as EntropyModel<PRECISION>>⟧.rows self.now)) }
+        ensures counted { size (⟦<ContiguousSymbolTable<'m, Probability, PRECISION> as Iterator>⟧.remaining result)
+            ≡ length
+            (⟦<SlottedContiguousLookupDecoderModel<Probability, Cdf, LookupTable, PRECISION, SLOT_BITS> as EntropyModel<PRECISION>>⟧.rows self.now) }
+    {
+        (&self.model).symbol_table()
+    }
+
+    ghost steps_law = { λ t r u step. step };
+
+    ghost tile_law = { λ m. stored-tiles _ _ _ m.now.model.stored.stored };
+}

@@ -1,0 +1,320 @@
+//! Models of any symbols, which look up where to search for the row of a quantile.
+
+ghost use Rattle.std.specs.Prelude.{◌≡◌, ◌<◌, ◌≤◌, length, map, IfOk, IfErr};
+ghost use Rattle.std.specs.Iterator.{IsFiniteIterable, UpTo, size};
+ghost use Rattle.constriction_model.specs.Acceptance.{completed, AreAccepted, GaveBothGood, GaveBothBad};
+ghost use Rattle.constriction_model.specs.Model.{StandForRows, ClonesAreEqual};
+ghost use Rattle.constriction_model.specs.Rows.{rows_of};
+ghost use Rattle.constriction_categorical.specs.SymbolRowLemmas.{paired-tiles};
+ghost use Rattle.constriction_categorical.specs.Stored.{rows_paired};
+ghost use Rattle.constriction_model.specs.Tables.{rows_between};
+
+use crate::filling::copied;
+use crate::iterable::IterableEntropyModel;
+use crate::lookup::LookupDecoderModel;
+use crate::non_contiguous::NonContiguousCategoricalDecoderModel;
+use crate::non_contiguous_table::NonContiguousSymbolTable;
+use constriction_buffers::SafeBuf;
+use constriction_model::{EntropyModel, ModelError};
+use constriction_numbers::IndexWord;
+use std::alloc::{AllocError, Global};
+
+/// A model of any symbols, no two of which are equal, for decoders: a table of
+/// `2^min(PRECISION, SLOT_BITS)` slots tells where to search for the row of a quantile.
+///
+/// Beside the table of a [`LookupDecoderModel`] stands what a [`NonContiguousCategoricalDecoderModel`]
+/// stores, one entry a symbol.
+pub type SlottedNonContiguousLookupDecoderModel<
+    Symbol,
+    Probability,
+    Cdf,
+    LookupTable,
+    const PRECISION: usize,
+    const SLOT_BITS: usize,
+> = LookupDecoderModel<
+    NonContiguousCategoricalDecoderModel<Symbol, Probability, Cdf, PRECISION>,
+    LookupTable,
+    PRECISION,
+    SLOT_BITS,
+>;
+
+/// The model with `2^min(PRECISION, 8)` slots, whose table has 512 words at most.
+pub type NonContiguousLookupDecoderModel<
+    Symbol,
+    Probability,
+    Cdf,
+    LookupTable,
+    const PRECISION: usize,
+> = SlottedNonContiguousLookupDecoderModel<Symbol, Probability, Cdf, LookupTable, PRECISION, 8>;
+
+/// The model over 12 bits of `u16`, for small tables of symbols.
+pub type SmallNonContiguousLookupDecoderModel<
+    Symbol,
+    Cdf = Vec<(u16, Symbol)>,
+    LookupTable = Vec<u16>,
+> = NonContiguousLookupDecoderModel<Symbol, u16, Cdf, LookupTable, 12>;
+
+/// The model over 12 bits of `u16` with a slot for each quantile: its table has 4,096 words, and a look-up
+/// searches nothing.
+pub type SmallNonContiguousDirectLookupDecoderModel<
+    Symbol,
+    Cdf = Vec<(u16, Symbol)>,
+    LookupTable = Vec<u16>,
+> = SlottedNonContiguousLookupDecoderModel<Symbol, u16, Cdf, LookupTable, 12, 12>;
+
+impl<
+    Symbol: Eq + Drop,
+    Probability: IndexWord,
+    const PRECISION: usize,
+    const SLOT_BITS: usize,
+> SlottedNonContiguousLookupDecoderModel<
+    Symbol,
+    Probability,
+    Vec<(Probability, Symbol)>,
+    Vec<Probability>,
+    PRECISION,
+    SLOT_BITS,
+> {
+    /// The model of these symbols and weights. It accepts what
+    /// [`NonContiguousCategoricalDecoderModel::from_symbols_and_nonzero_fixed_point_probabilities`]
+    /// accepts, so distinct symbols alone, and refuses the others with `InvalidTable` as soon as that is
+    /// known, before there is a table of slots. `OutOfMemory` comes where memory for the rows or for the
+    /// table is refused.
+    ///
+    /// One pass over both, in which each symbol is compared with those before it, and one over the rows.
+    /// Beside the rows it takes one allocation for the table, with 8 `SLOT_BITS` of 512 words at most.
+    pub fn from_symbols_and_nonzero_fixed_point_probabilities<
+        S: IntoIterator<Item = Symbol>,
+        P: IntoIterator<Item = Probability>,
+    >(
+        alloc: Global,
+        symbols: S,
+        probabilities: P,
+        infer_last_probability: bool,
+    ) -> Result<Self, ModelError>
+        requires positive { 0 < PRECISION }
+        requires narrow { PRECISION ≤ 63 }
+        requires fits { PRECISION ≤ Probability.BITS }
+        requires symbols_end { IsFiniteIterable S.into_iter_gives S.IntoIter.can_next S.IntoIter.remaining symbols }
+        requires probabilities_end { IsFiniteIterable P.into_iter_gives P.IntoIter.can_next P.IntoIter.remaining
+            probabilities }
+        ensures ok { IfOk result (λ m. (it : S.IntoIter) × S.into_iter_gives symbols it
+            × (jt : P.IntoIter) × P.into_iter_gives probabilities jt
+            × GaveBothGood S.IntoIter.next_gives it P.IntoIter.next_gives jt (λ ss ws.
+            let weights = completed PRECISION infer_last_probability (map Probability.whole ws) in
+            AreAccepted Symbol.eq Probability.BITS PRECISION ss weights
+            × (⟦<SlottedNonContiguousLookupDecoderModel<Symbol, Probability, Vec<(Probability, Symbol)>, Vec<Probability>, PRECISION, SLOT_BITS> as EntropyModel<PRECISION>>⟧.rows m
+            ≡ rows_of ss weights))) }
+        ensures invalid { result ≡ Err ModelError.InvalidTable → (it : S.IntoIter) × S.into_iter_gives symbols it
+            × (jt : P.IntoIter) × P.into_iter_gives probabilities jt
+            × GaveBothBad S.IntoIter.next_gives it P.IntoIter.next_gives jt (λ ss ws.
+            AreAccepted Symbol.eq Probability.BITS PRECISION ss
+            (completed PRECISION infer_last_probability (map Probability.whole ws))) }
+    {
+        let model = NonContiguousCategoricalDecoderModel::<
+            Symbol,
+            Probability,
+            Vec<(Probability, Symbol)>,
+            PRECISION,
+        >::from_symbols_and_nonzero_fixed_point_probabilities(
+            alloc,
+            symbols,
+            probabilities,
+            infer_last_probability,
+        )?;
+        Ok(Self::with_table(alloc, model)?)
+    }
+}
+
+impl<
+    Symbol: Eq + Clone + Drop,
+    Probability: IndexWord,
+    const PRECISION: usize,
+    const SLOT_BITS: usize,
+> SlottedNonContiguousLookupDecoderModel<
+    Symbol,
+    Probability,
+    Vec<(Probability, Symbol)>,
+    Vec<Probability>,
+    PRECISION,
+    SLOT_BITS,
+> {
+    /// A model of the same rows with clones of the symbols, and with rows and a table of its own from the
+    /// allocators of this one's. A clone has to be equal to its symbol, so that no two are equal.
+    ///
+    /// Two allocations and a clone of each symbol. It is refused where memory for one of these is.
+    pub fn clone(&self) -> Result<Self, AllocError>
+        requires { ClonesAreEqual Symbol.eq Symbol.is_clone }
+        ensures { IfOk result (λ m. StandForRows Symbol.is_clone
+            (⟦<SlottedNonContiguousLookupDecoderModel<Symbol, Probability, Vec<(Probability, Symbol)>, Vec<Probability>, PRECISION, SLOT_BITS> as EntropyModel<PRECISION>>⟧.rows m)
+            (⟦<SlottedNonContiguousLookupDecoderModel<Symbol, Probability, Vec<(Probability, Symbol)>, Vec<Probability>, PRECISION, SLOT_BITS> as EntropyModel<PRECISION>>⟧.rows self.now)) }
+    {
+        let model = self.model.clone()?;
+        let lookup_table = copied(*self.lookup_table.allocator(), self.lookup_table.as_slice())?;
+        Ok(Self {
+            model,
+            lookup_table,
+        })
+    }
+}
+
+impl<
+    Symbol: Eq + Clone + Drop,
+    Probability: IndexWord,
+    Cdf: SafeBuf<(Probability, Symbol)>,
+    const PRECISION: usize,
+> NonContiguousCategoricalDecoderModel<Symbol, Probability, Cdf, PRECISION> {
+    /// The model of the same rows, with clones of the symbols, that looks up where to search. A clone has to be
+    /// equal to its symbol, so that no two are equal. Its only refusal is `OutOfMemory`, where memory for the
+    /// rows, for a clone of a symbol, or for the table is refused.
+    ///
+    /// Two allocations, a clone of each symbol and one pass over the rows. No symbols are compared.
+    pub fn to_lookup_decoder_model(
+        &self,
+        alloc: Global,
+    ) -> Result<
+        NonContiguousLookupDecoderModel<
+            Symbol,
+            Probability,
+            Vec<(Probability, Symbol)>,
+            Vec<Probability>,
+            PRECISION,
+        >,
+        ModelError,
+    >
+        requires narrow { PRECISION ≤ 63 }
+        requires clones { ClonesAreEqual Symbol.eq Symbol.is_clone }
+        ensures ok { IfOk result (λ m. StandForRows Symbol.is_clone
+            (⟦<NonContiguousLookupDecoderModel<Symbol, Probability, Vec<(Probability, Symbol)>, Vec<Probability>, PRECISION> as EntropyModel<PRECISION>>⟧.rows m)
+            (⟦<NonContiguousCategoricalDecoderModel<Symbol, Probability, Cdf, PRECISION> as EntropyModel<PRECISION>>⟧.rows self.now)) }
+        ensures refused { IfErr result (λ e. e ≡ ModelError.OutOfMemory) }
+    {
+        self.to_slotted_lookup_decoder_model::<8>(alloc)
+    }
+
+    /// The same with `2^min(PRECISION, SLOT_BITS)` slots.
+    pub fn to_slotted_lookup_decoder_model<const SLOT_BITS: usize>(
+        &self,
+        alloc: Global,
+    ) -> Result<
+        SlottedNonContiguousLookupDecoderModel<
+            Symbol,
+            Probability,
+            Vec<(Probability, Symbol)>,
+            Vec<Probability>,
+            PRECISION,
+            SLOT_BITS,
+        >,
+        ModelError,
+    >
+        requires narrow { PRECISION ≤ 63 }
+        requires clones { ClonesAreEqual Symbol.eq Symbol.is_clone }
+        ensures ok { IfOk result (λ m. StandForRows Symbol.is_clone
+            (⟦<SlottedNonContiguousLookupDecoderModel<Symbol, Probability, Vec<(Probability, Symbol)>, Vec<Probability>, PRECISION, SLOT_BITS> as EntropyModel<PRECISION>>⟧.rows m)
+            (⟦<NonContiguousCategoricalDecoderModel<Symbol, Probability, Cdf, PRECISION> as EntropyModel<PRECISION>>⟧.rows self.now)) }
+        ensures refused { IfErr result (λ e. e ≡ ModelError.OutOfMemory) }
+    {
+        let model = self.in_vec(alloc)?;
+        Ok(LookupDecoderModel::with_table(alloc, model)?)
+    }
+}
+
+impl<
+    Symbol: Eq,
+    Probability: IndexWord,
+    Cdf: SafeBuf<(Probability, Symbol)>,
+    LookupTable: SafeBuf<Probability>,
+    const PRECISION: usize,
+    const SLOT_BITS: usize,
+> SlottedNonContiguousLookupDecoderModel<
+    Symbol,
+    Probability,
+    Cdf,
+    LookupTable,
+    PRECISION,
+    SLOT_BITS,
+> {
+    /// The same model over the entries and the table of this one.
+    #[inline]
+    pub fn as_view<'m>(
+        &'m self,
+    ) -> SlottedNonContiguousLookupDecoderModel<
+        Symbol,
+        Probability,
+        &'m [(Probability, Symbol)],
+        &'m [Probability],
+        PRECISION,
+        SLOT_BITS,
+    >
+        ensures { ⟦<SlottedNonContiguousLookupDecoderModel<Symbol, Probability, &'m [(Probability, Symbol)], &'m [Probability], PRECISION, SLOT_BITS> as EntropyModel<PRECISION>>⟧.rows result
+            ≡ ⟦<SlottedNonContiguousLookupDecoderModel<Symbol, Probability, Cdf, LookupTable, PRECISION, SLOT_BITS> as EntropyModel<PRECISION>>⟧.rows self.now }
+    {
+        LookupDecoderModel {
+            model: self.model.as_view(),
+            lookup_table: self.lookup_table.words(),
+        }
+    }
+
+    /// The model of the same rows, over the entries of this one, that searches all of them.
+    #[inline]
+    pub fn as_non_contiguous_categorical<'m>(
+        &'m self,
+    ) -> NonContiguousCategoricalDecoderModel<
+        Symbol,
+        Probability,
+        &'m [(Probability, Symbol)],
+        PRECISION,
+    >
+        ensures { ⟦<NonContiguousCategoricalDecoderModel<Symbol, Probability, &'m [(Probability, Symbol)], PRECISION> as EntropyModel<PRECISION>>⟧.rows result
+            ≡ ⟦<SlottedNonContiguousLookupDecoderModel<Symbol, Probability, Cdf, LookupTable, PRECISION, SLOT_BITS> as EntropyModel<PRECISION>>⟧.rows self.now }
+    {
+        self.model.as_view()
+    }
+}
+
+impl<
+    'm,
+    Symbol: Eq + Clone + 'm,
+    Probability: IndexWord + 'm,
+    Cdf: SafeBuf<(Probability, Symbol)> + 'm,
+    LookupTable: SafeBuf<Probability> + 'm,
+    const PRECISION: usize,
+    const SLOT_BITS: usize,
+> IterableEntropyModel<PRECISION>
+    for &'m SlottedNonContiguousLookupDecoderModel<
+        Symbol,
+        Probability,
+        Cdf,
+        LookupTable,
+        PRECISION,
+        SLOT_BITS,
+    > {
+    type SymbolTable = NonContiguousSymbolTable<'m, Symbol, Probability, PRECISION>;
+
+    ghost stands_for = { Symbol.is_clone };
+
+    ghost may_refuse = { λ s. ¬ (Symbol.is_infallible s) };
+
+    ghost rows_left = { λ t. rows_between t.from t.to (rows_paired Probability.whole PRECISION t.cdf.now) };
+
+    /// All rows in order, each once: symbol, left cumulative and weight, the symbol by a clone. Where
+    /// memory for a clone is refused, the refusal stands in the row's place.
+    #[inline]
+    fn symbol_table(self) -> NonContiguousSymbolTable<'m, Symbol, Probability, PRECISION>
+        ensures all { ⟦<&'m SlottedNonContiguousLookupDecoderModel<Symbol, Probability, Cdf, LookupTable, PRECISION, SLOT_BITS> as IterableEntropyModel<PRECISION>>⟧.rows_left result
+            ≡ ⟦<SlottedNonContiguousLookupDecoderModel<Symbol, Probability, Cdf, LookupTable, PRECISION, SLOT_BITS> as EntropyModel<PRECISION>>⟧.rows self.now }
+        ensures callable { ⟦<NonContiguousSymbolTable<'m, Symbol, Probability, PRECISION> as Iterator>⟧.can_next result }
+        ensures ends { UpTo (⟦<NonContiguousSymbolTable<'m, Symbol, Probability, PRECISION> as Iterator>⟧.remaining result)
+            (length
+            (⟦<SlottedNonContiguousLookupDecoderModel<Symbol, Probability, Cdf, LookupTable, PRECISION, SLOT_BITS> as EntropyModel<PRECISION>>⟧.rows self.now)) }
+        ensures counted { size (⟦<NonContiguousSymbolTable<'m, Symbol, Probability, PRECISION> as Iterator>⟧.remaining result)
+            ≡ length
+            (⟦<SlottedNonContiguousLookupDecoderModel<Symbol, Probability, Cdf, LookupTable, PRECISION, SLOT_BITS> as EntropyModel<PRECISION>>⟧.rows self.now) }
+    {
+        (&self.model).symbol_table()
+    }
+
+    ghost steps_law = { λ t r u step. step };
+
+    ghost tile_law = { λ m. paired-tiles Probability.whole _ _ _ m.now.model.stored };
+}

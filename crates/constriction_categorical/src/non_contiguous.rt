@@ -1,0 +1,365 @@
+//! Models of any symbols, which find the row of a quantile by a search.
+
+ghost use Rattle.std.specs.Prelude.{◌≡◌, ◌+◌, ◌^◌, ◌<◌, ◌≤◌, ℕ, length, map, IfOk, ⊤};
+ghost use Rattle.std.specs.Iterator.{IsFiniteIterable, UpTo, size};
+ghost use Rattle.std.specs.List.{list_any, IsDistinct};
+ghost use Rattle.std.proofs.Props.{props};
+ghost use Rattle.constriction_model.specs.Acceptance.{completed, AreAccepted, GaveBothGood, GaveBothBad};
+ghost use Rattle.constriction_categorical.specs.Filling.{HoldsRows, AreEntriesCloned};
+ghost use Rattle.constriction_model.specs.Model.{StandForRows, ClonesAreEqual};
+ghost use Rattle.constriction_model.specs.Probe.{TellsRows, IsRowIndexOf, IsSearchable, IsLastAtMost};
+ghost use Rattle.constriction_model.specs.Rows.{rows_of};
+ghost use Rattle.constriction_categorical.specs.Stored.{IsStored};
+ghost use Rattle.constriction_categorical.specs.SymbolRowLemmas.{paired-tiles};
+ghost use Rattle.constriction_categorical.specs.Stored.{rows_paired};
+ghost use Rattle.constriction_model.specs.Tables.{rows_between};
+
+use crate::filling::{room_for, rows_announced};
+use crate::iterable::IterableEntropyModel;
+use crate::non_contiguous_table::NonContiguousSymbolTable;
+use crate::reading::{TakesRows, rows_read};
+use crate::stored::cloned_row_at;
+use constriction_buffers::SafeBuf;
+use constriction_model::{
+    CdfProbe, DecoderModel, EntropyModel, ModelError, Probe, Weight, WithSymbol, row_of_quantile,
+};
+use constriction_numbers::WholeNumber;
+use std::alloc::{AllocError, Global};
+use std::marker::PhantomData;
+
+/// A model of any symbols, no two of which are equal, for decoders: it finds the row of a quantile.
+///
+/// It stores one entry a symbol, the left cumulative and the symbol, in a buffer of the caller's
+/// choice.
+#[derive(Debug, Drop)]
+pub struct NonContiguousCategoricalDecoderModel<
+    Symbol: Eq,
+    Probability: WholeNumber,
+    Cdf: SafeBuf<(Probability, Symbol)>,
+    const PRECISION: usize,
+> {
+    pub(crate) cdf: Cdf,
+    pub(crate) entries: PhantomData<(Probability, Symbol)>,
+    ghost precise: { (0 < PRECISION) × (PRECISION ≤ Probability.BITS) },
+    ghost stored: { IsStored Probability.BITS PRECISION (map (λ x. Probability.whole x.0) (Cdf.words_of cdf)) },
+    ghost distinct: { IsDistinct Symbol.eq (map (λ x. x.1) (Cdf.words_of cdf)) } by { Prim.hlevel props },
+}
+
+/// The model over 24 bits of `u32`, which suits most uses.
+pub type DefaultNonContiguousCategoricalDecoderModel<Symbol, Cdf = Vec<(u32, Symbol)>> =
+    NonContiguousCategoricalDecoderModel<Symbol, u32, Cdf, 24>;
+
+/// The model over 12 bits of `u16`, for small tables of symbols.
+pub type SmallNonContiguousCategoricalDecoderModel<Symbol, Cdf = Vec<(u16, Symbol)>> =
+    NonContiguousCategoricalDecoderModel<Symbol, u16, Cdf, 12>;
+
+impl<
+    Symbol: Eq,
+    Probability: WholeNumber,
+    Cdf: SafeBuf<(Probability, Symbol)>,
+    const PRECISION: usize,
+> EntropyModel<PRECISION>
+    for NonContiguousCategoricalDecoderModel<Symbol, Probability, Cdf, PRECISION> {
+    type Symbol = Symbol;
+
+    type Probability = Probability;
+
+    ghost rows = { λ m. rows_paired Probability.whole PRECISION (Cdf.words_of m.cdf) };
+}
+
+/// Whether one of the entries has an equal symbol.
+#[inline]
+pub(crate) fn has_symbol<Word, Symbol: Eq>(entries: &[(Word, Symbol)], symbol: &Symbol) -> bool
+    ensures { result ≡ list_any (Symbol.eq symbol.now) (map (λ x. x.1) entries.now) }
+{
+    for entry in entries {
+        if *symbol == entry.1 {
+            return true;
+        }
+    }
+    false
+}
+
+/// These entries, each with a clone of its symbol.
+pub(crate) fn entries_cloned<Word: Copy, Symbol: Clone>(
+    alloc: Global,
+    entries: &[(Word, Symbol)],
+) -> Result<Vec<(Word, Symbol)>, AllocError>
+    ensures { IfOk result (λ v. AreEntriesCloned Symbol.is_clone entries.now v.items) }
+{
+    let mut cloned = Vec::with_capacity(alloc, entries.len())?;
+    'entries: for entry in entries {
+        cloned.push((entry.0, entry.1.clone()?))?;
+    }
+    Ok(cloned)
+}
+
+impl<Word: WholeNumber, Symbol: Eq + Drop> TakesRows<Symbol, Word> for Vec<(Word, Symbol)> {
+    ghost symbol_eq = { Symbol.eq };
+
+    ghost holds = { λ v rows. HoldsRows Word.whole v.items rows };
+
+    #[inline]
+    fn take_row(&mut self, symbol: Symbol, left: Word, _weight: Word) -> Result<(), ModelError> {
+        if has_symbol(self, &symbol) {
+            return Err(ModelError::InvalidTable);
+        }
+        self.push((left, symbol))?;
+        Ok(())
+    }
+
+    ghost symmetry_law = { Symbol.Eq.laws.symm };
+}
+
+impl<
+    Symbol: Eq + Drop,
+    Probability: WholeNumber,
+    const PRECISION: usize,
+> NonContiguousCategoricalDecoderModel<Symbol, Probability, Vec<(Probability, Symbol)>, PRECISION> {
+    /// The model of these symbols and weights, one weight a symbol. Where the last weight is inferred,
+    /// it is what the given ones leave of `2^PRECISION`, and there is one symbol more than given weights.
+    ///
+    /// They are accepted exactly where the weights are all positive, the inferred one included, their
+    /// sum is `2^PRECISION`, each of them is a word, there is exactly one symbol for each weight, and no
+    /// two symbols are equal. `InvalidTable` comes where they are not accepted, whether both iterators
+    /// were read to their ends or only so far that no lists that begin so are accepted. `OutOfMemory`
+    /// comes where memory for the entries is refused.
+    ///
+    /// One pass over both, one entry a symbol, and one allocation where the symbols' iterator announces
+    /// how many there are. Each symbol is compared with those before it, which takes no memory and
+    /// `n * (n - 1) / 2` comparisons for `n` symbols. Where that is too much, take
+    /// [`from_hashable_symbols_and_nonzero_fixed_point_probabilities`],
+    /// [`from_sorted_symbols_and_nonzero_fixed_point_probabilities`], or, where symbols are known to differ,
+    /// [`from_distinct_symbols_and_nonzero_fixed_point_probabilities`].
+    ///
+    /// [`from_hashable_symbols_and_nonzero_fixed_point_probabilities`]: Self::from_hashable_symbols_and_nonzero_fixed_point_probabilities
+    /// [`from_sorted_symbols_and_nonzero_fixed_point_probabilities`]: Self::from_sorted_symbols_and_nonzero_fixed_point_probabilities
+    /// [`from_distinct_symbols_and_nonzero_fixed_point_probabilities`]: Self::from_distinct_symbols_and_nonzero_fixed_point_probabilities
+    pub fn from_symbols_and_nonzero_fixed_point_probabilities<
+        S: IntoIterator<Item = Symbol>,
+        P: IntoIterator<Item = Probability>,
+    >(
+        alloc: Global,
+        symbols: S,
+        probabilities: P,
+        infer_last_probability: bool,
+    ) -> Result<Self, ModelError>
+        requires positive { 0 < PRECISION }
+        requires fits { PRECISION ≤ Probability.BITS }
+        requires symbols_end { IsFiniteIterable S.into_iter_gives S.IntoIter.can_next S.IntoIter.remaining symbols }
+        requires probabilities_end { IsFiniteIterable P.into_iter_gives P.IntoIter.can_next P.IntoIter.remaining
+            probabilities }
+        ensures ok { IfOk result (λ m. (it : S.IntoIter) × S.into_iter_gives symbols it
+            × (jt : P.IntoIter) × P.into_iter_gives probabilities jt
+            × GaveBothGood S.IntoIter.next_gives it P.IntoIter.next_gives jt (λ ss ws.
+            let weights = completed PRECISION infer_last_probability (map Probability.whole ws) in
+            AreAccepted Symbol.eq Probability.BITS PRECISION ss weights
+            × (⟦<NonContiguousCategoricalDecoderModel<Symbol, Probability, Vec<(Probability, Symbol)>, PRECISION> as EntropyModel<PRECISION>>⟧.rows m
+            ≡ rows_of ss weights))) }
+        ensures invalid { result ≡ Err ModelError.InvalidTable → (it : S.IntoIter) × S.into_iter_gives symbols it
+            × (jt : P.IntoIter) × P.into_iter_gives probabilities jt
+            × GaveBothBad S.IntoIter.next_gives it P.IntoIter.next_gives jt (λ ss ws.
+            AreAccepted Symbol.eq Probability.BITS PRECISION ss
+            (completed PRECISION infer_last_probability (map Probability.whole ws))) }
+    {
+        let symbols = symbols.into_iter();
+        let room = room_for(alloc, rows_announced::<PRECISION>(symbols.size_hint().0));
+        let cdf = rows_read::<Probability, Symbol, Vec<(Probability, Symbol)>, _, _, PRECISION>(
+            room,
+            symbols,
+            probabilities.into_iter(),
+            infer_last_probability,
+        )?;
+        Ok(Self {
+            cdf,
+            entries: PhantomData,
+        })
+    }
+}
+
+impl<
+    Symbol: Eq + Clone,
+    Probability: WholeNumber,
+    const PRECISION: usize,
+> NonContiguousCategoricalDecoderModel<Symbol, Probability, Vec<(Probability, Symbol)>, PRECISION> {
+    /// A model of the same rows with clones of the symbols, and with entries of its own from the allocator of
+    /// this one's. A clone has to be equal to its symbol, so that no two are equal.
+    ///
+    /// One allocation and a clone of each symbol. It is refused where memory for one of these is.
+    pub fn clone(&self) -> Result<Self, AllocError>
+        requires { ClonesAreEqual Symbol.eq Symbol.is_clone }
+        ensures { IfOk result (λ m. StandForRows Symbol.is_clone
+            (⟦<NonContiguousCategoricalDecoderModel<Symbol, Probability, Vec<(Probability, Symbol)>, PRECISION> as EntropyModel<PRECISION>>⟧.rows m)
+            (⟦<NonContiguousCategoricalDecoderModel<Symbol, Probability, Vec<(Probability, Symbol)>, PRECISION> as EntropyModel<PRECISION>>⟧.rows self.now)) }
+    {
+        self.in_vec(*self.cdf.allocator())
+    }
+}
+
+impl<
+    Symbol: Eq,
+    Probability: WholeNumber,
+    Cdf: SafeBuf<(Probability, Symbol)>,
+    const PRECISION: usize,
+> NonContiguousCategoricalDecoderModel<Symbol, Probability, Cdf, PRECISION> {
+    /// How many symbols the model has.
+    #[inline]
+    pub fn support_size(&self) -> usize
+        ensures { result ≡ length
+            (⟦<NonContiguousCategoricalDecoderModel<Symbol, Probability, Cdf, PRECISION> as EntropyModel<PRECISION>>⟧.rows self.now) }
+    {
+        self.cdf.words().len()
+    }
+
+    /// The entries: left cumulative and symbol of each row.
+    #[inline]
+    pub(crate) fn cdf_entries<'m>(&'m self) -> &'m [(Probability, Symbol)]
+        ensures { result.now ≡ Cdf.words_of self.now.cdf }
+    {
+        self.cdf.words()
+    }
+
+    /// The same model over the entries of this one.
+    #[inline]
+    pub fn as_view<'m>(
+        &'m self,
+    ) -> NonContiguousCategoricalDecoderModel<
+        Symbol,
+        Probability,
+        &'m [(Probability, Symbol)],
+        PRECISION,
+    >
+        ensures { ⟦<NonContiguousCategoricalDecoderModel<Symbol, Probability, &'m [(Probability, Symbol)], PRECISION> as EntropyModel<PRECISION>>⟧.rows result
+            ≡ ⟦<NonContiguousCategoricalDecoderModel<Symbol, Probability, Cdf, PRECISION> as EntropyModel<PRECISION>>⟧.rows self.now }
+    {
+        NonContiguousCategoricalDecoderModel {
+            cdf: self.cdf.words(),
+            entries: PhantomData,
+        }
+    }
+
+    /// A probe of the rows in question for a quantile, which are all rows, and the index of the
+    /// first of them. What [`row_of_quantile`] answers on it, plus that index, is the index of the
+    /// quantile's row.
+    #[inline]
+    pub fn quantile_probe<'m>(
+        &'m self,
+        quantile: Probability,
+    ) -> (usize, CdfProbe<'m, (Probability, Symbol), WithSymbol>)
+        requires { Probability.whole quantile < 2 ^ PRECISION }
+        ensures rows { TellsRows
+            (⟦<NonContiguousCategoricalDecoderModel<Symbol, Probability, Cdf, PRECISION> as EntropyModel<PRECISION>>⟧.rows self.now)
+            (λ _. ⊤) result.0 (⟦<CdfProbe<'m, (Probability, Symbol), WithSymbol> as Probe>⟧.cumulatives result.1) }
+        ensures searchable { IsSearchable (⟦<CdfProbe<'m, (Probability, Symbol), WithSymbol> as Probe>⟧.cumulatives result.1)
+            (Probability.whole quantile) }
+        ensures fresh { ⟦<CdfProbe<'m, (Probability, Symbol), WithSymbol> as Probe>⟧.questions result.1 ≡ 0 }
+        ensures found { (i : ℕ)
+            → IsLastAtMost (⟦<CdfProbe<'m, (Probability, Symbol), WithSymbol> as Probe>⟧.cumulatives result.1)
+            (Probability.whole quantile) i
+            → IsRowIndexOf
+            (⟦<NonContiguousCategoricalDecoderModel<Symbol, Probability, Cdf, PRECISION> as EntropyModel<PRECISION>>⟧.rows self.now)
+            (Probability.whole quantile) (result.0 + i) }
+    {
+        (0, CdfProbe::new(self.cdf_entries()))
+    }
+}
+
+impl<
+    Symbol: Eq + Clone,
+    Probability: WholeNumber,
+    Cdf: SafeBuf<(Probability, Symbol)>,
+    const PRECISION: usize,
+> NonContiguousCategoricalDecoderModel<Symbol, Probability, Cdf, PRECISION> {
+    /// The same model over clones of the entries of this one, which have to be equal to these.
+    pub(crate) fn in_vec(
+        &self,
+        alloc: Global,
+    ) -> Result<
+        NonContiguousCategoricalDecoderModel<
+            Symbol,
+            Probability,
+            Vec<(Probability, Symbol)>,
+            PRECISION,
+        >,
+        AllocError,
+    >
+        requires { ClonesAreEqual Symbol.eq Symbol.is_clone }
+        ensures { IfOk result (λ m. StandForRows Symbol.is_clone
+            (⟦<NonContiguousCategoricalDecoderModel<Symbol, Probability, Vec<(Probability, Symbol)>, PRECISION> as EntropyModel<PRECISION>>⟧.rows m)
+            (⟦<NonContiguousCategoricalDecoderModel<Symbol, Probability, Cdf, PRECISION> as EntropyModel<PRECISION>>⟧.rows self.now)) }
+    {
+        let cdf = entries_cloned(alloc, self.cdf.words())?;
+        Ok(NonContiguousCategoricalDecoderModel {
+            cdf,
+            entries: PhantomData,
+        })
+    }
+}
+
+impl<
+    Symbol: Eq + Clone,
+    Probability: WholeNumber,
+    Cdf: SafeBuf<(Probability, Symbol)>,
+    const PRECISION: usize,
+> DecoderModel<PRECISION>
+    for NonContiguousCategoricalDecoderModel<Symbol, Probability, Cdf, PRECISION> {
+    ghost stands_for = { Symbol.is_clone };
+
+    ghost may_refuse = { λ s. ¬ (Symbol.is_infallible s) };
+
+    /// The row of a quantile, by [`row_of_quantile`], with a clone of its symbol.
+    #[inline(always)]
+    fn quantile_function(
+        &self,
+        quantile: Probability,
+    ) -> Result<(Symbol, Probability, Weight<Probability>), AllocError> {
+        let mut rows = CdfProbe::<(Probability, Symbol), WithSymbol>::new(self.cdf_entries());
+        let index = row_of_quantile(&mut rows, quantile);
+        cloned_row_at::<Probability, Symbol, PRECISION>(self.cdf.words(), index)
+    }
+
+    ghost tile_law = { λ m. paired-tiles Probability.whole _ _ _ m.stored };
+}
+
+impl<
+    'm,
+    Symbol: Eq + Clone + 'm,
+    Probability: WholeNumber + 'm,
+    Cdf: SafeBuf<(Probability, Symbol)> + 'm,
+    const PRECISION: usize,
+> IterableEntropyModel<PRECISION>
+    for &'m NonContiguousCategoricalDecoderModel<Symbol, Probability, Cdf, PRECISION> {
+    type SymbolTable = NonContiguousSymbolTable<'m, Symbol, Probability, PRECISION>;
+
+    ghost stands_for = { Symbol.is_clone };
+
+    ghost may_refuse = { λ s. ¬ (Symbol.is_infallible s) };
+
+    ghost rows_left = { λ t. rows_between t.from t.to (rows_paired Probability.whole PRECISION t.cdf.now) };
+
+    /// All rows in order, each once: symbol, left cumulative and weight, the symbol by a clone. Where
+    /// memory for a clone is refused, the refusal stands in the row's place.
+    #[inline]
+    fn symbol_table(self) -> NonContiguousSymbolTable<'m, Symbol, Probability, PRECISION>
+        ensures all { ⟦<&'m NonContiguousCategoricalDecoderModel<Symbol, Probability, Cdf, PRECISION> as IterableEntropyModel<PRECISION>>⟧.rows_left result
+            ≡ ⟦<NonContiguousCategoricalDecoderModel<Symbol, Probability, Cdf, PRECISION> as EntropyModel<PRECISION>>⟧.rows self.now }
+        ensures callable { ⟦<NonContiguousSymbolTable<'m, Symbol, Probability, PRECISION> as Iterator>⟧.can_next result }
+        ensures ends { UpTo (⟦<NonContiguousSymbolTable<'m, Symbol, Probability, PRECISION> as Iterator>⟧.remaining result)
+            (length
+            (⟦<NonContiguousCategoricalDecoderModel<Symbol, Probability, Cdf, PRECISION> as EntropyModel<PRECISION>>⟧.rows self.now)) }
+        ensures counted { size (⟦<NonContiguousSymbolTable<'m, Symbol, Probability, PRECISION> as Iterator>⟧.remaining result)
+            ≡ length
+            (⟦<NonContiguousCategoricalDecoderModel<Symbol, Probability, Cdf, PRECISION> as EntropyModel<PRECISION>>⟧.rows self.now) }
+    {
+        let cdf = self.cdf.words();
+        NonContiguousSymbolTable {
+            cdf,
+            from: 0,
+            to: cdf.len(),
+        }
+    }
+
+    ghost steps_law = { λ t r u step. step };
+
+    ghost tile_law = { λ m. paired-tiles Probability.whole _ _ _ m.now.stored };
+}

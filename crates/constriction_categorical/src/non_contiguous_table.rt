@@ -1,0 +1,103 @@
+//! The walk through the rows of a model that stores its symbols.
+
+ghost use Rattle.std.specs.Prelude.{◌≡◌, ◌^◌, ◌<◌, ◌≤◌, IfSome, length, map};
+ghost use Rattle.std.specs.Iterator.{UpTo, at_most, size};
+ghost use Rattle.std.specs.Iterator.SizeHint.{IsExactHint, IsWithinCount};
+ghost use Rattle.constriction_categorical.specs.Stored.{IsStored};
+ghost use Rattle.constriction_model.specs.Tables.{YieldsRow, YieldsLastRow, rows_between};
+ghost use Rattle.constriction_categorical.specs.Stored.{rows_paired};
+
+use crate::stored::paired_row_at;
+use constriction_model::Weight;
+use constriction_numbers::WholeNumber;
+use std::alloc::AllocError;
+
+/// The rows of a [`NonContiguousCategoricalDecoderModel`] that are left, walked through from either
+/// end.
+///
+/// Each row is given once, whichever end it is taken from, with a clone of its symbol, and either end
+/// answers `None` exactly where none is left. Where memory for a clone is refused, the refusal stands
+/// in the row's place, and the walk goes on with the next one.
+///
+/// [`NonContiguousCategoricalDecoderModel`]: crate::NonContiguousCategoricalDecoderModel
+#[derive(Debug, Drop)]
+pub struct NonContiguousSymbolTable<'m, Symbol, Probability: WholeNumber, const PRECISION: usize> {
+    pub(crate) cdf: &'m [(Probability, Symbol)],
+    pub(crate) from: usize,
+    pub(crate) to: usize,
+    ghost precise: { (0 < PRECISION) × (PRECISION ≤ Probability.BITS) },
+    ghost stored: { IsStored Probability.BITS PRECISION (map (λ x. Probability.whole x.0) cdf.now) },
+    ghost in_order: { from ≤ to },
+    ghost in_bounds: { to ≤ length cdf.now },
+}
+
+impl<'m, Symbol: Clone, Probability: WholeNumber, const PRECISION: usize> Iterator
+    for NonContiguousSymbolTable<'m, Symbol, Probability, PRECISION> {
+    type Item = Result<(Symbol, Probability, Weight<Probability>), AllocError>;
+
+    ghost next_gives = { λ t r u. YieldsRow Symbol.is_clone (λ s. ¬ (Symbol.is_infallible s)) Probability.whole Probability.base
+        (rows_between t.from t.to (rows_paired Probability.whole PRECISION t.cdf.now)) r
+        (rows_between u.from u.to (rows_paired Probability.whole PRECISION u.cdf.now)) };
+
+    ghost remaining = { λ t. at_most (length (rows_between t.from t.to (rows_paired Probability.whole PRECISION t.cdf.now))) };
+
+    #[inline]
+    fn next(&mut self) -> Option<Result<(Symbol, Probability, Weight<Probability>), AllocError>> {
+        let index = self.from;
+        if index == self.to {
+            return None;
+        }
+        let (left, weight) = paired_row_at::<Probability, Symbol, PRECISION>(self.cdf, index);
+        self.from = index + 1;
+        match self.cdf[index].1.clone() {
+            Ok(symbol) => Some(Ok((symbol, left, weight))),
+            Err(refused) => Some(Err(refused)),
+        }
+    }
+
+    /// How many rows are left, exactly.
+    #[inline]
+    fn size_hint(&self) -> (usize, Option<usize>)
+        ensures lower { IsWithinCount result.0
+            (⟦<NonContiguousSymbolTable<'m, Symbol, Probability, PRECISION> as Iterator>⟧.remaining self.now) }
+        ensures upper { IfSome result.1 (UpTo
+            (⟦<NonContiguousSymbolTable<'m, Symbol, Probability, PRECISION> as Iterator>⟧.remaining self.now)) }
+        ensures exact { IsExactHint result
+            (size (⟦<NonContiguousSymbolTable<'m, Symbol, Probability, PRECISION> as Iterator>⟧.remaining self.now)) }
+    {
+        let size = self.len();
+        (size, Some(size))
+    }
+}
+
+impl<'m, Symbol: Clone, Probability: WholeNumber, const PRECISION: usize> DoubleEndedIterator
+    for NonContiguousSymbolTable<'m, Symbol, Probability, PRECISION> {
+    ghost next_back_gives = { λ t r u. YieldsLastRow Symbol.is_clone (λ s. ¬ (Symbol.is_infallible s)) Probability.whole Probability.base
+        (rows_between t.from t.to (rows_paired Probability.whole PRECISION t.cdf.now)) r
+        (rows_between u.from u.to (rows_paired Probability.whole PRECISION u.cdf.now)) };
+
+    #[inline]
+    fn next_back(
+        &mut self,
+    ) -> Option<Result<(Symbol, Probability, Weight<Probability>), AllocError>> {
+        if self.from == self.to {
+            return None;
+        }
+        let index = self.to - 1;
+        let (left, weight) = paired_row_at::<Probability, Symbol, PRECISION>(self.cdf, index);
+        self.to = index;
+        match self.cdf[index].1.clone() {
+            Ok(symbol) => Some(Ok((symbol, left, weight))),
+            Err(failed) => Some(Err(failed)),
+        }
+    }
+}
+
+impl<'m, Symbol: Clone, Probability: WholeNumber, const PRECISION: usize> ExactSizeIterator
+    for NonContiguousSymbolTable<'m, Symbol, Probability, PRECISION> {
+    /// How many rows are left.
+    #[inline]
+    fn len(&self) -> usize {
+        self.to - self.from
+    }
+}

@@ -1,0 +1,137 @@
+//! Models that store their rows, which is what a table of slots stands beside.
+
+ghost use Rattle.std.specs.Prelude.{◌≡◌, ◌<◌, ◌≤◌, length, map, slice_index_or, IfOk, IfErr};
+ghost use Rattle.constriction_model.specs.Model.{row_of, LiesWithin};
+ghost use Rattle.constriction_model.specs.Rows.{Row, RowsTile};
+ghost use Rattle.constriction_categorical.specs.StoredRowLemmas.{stored-tiles};
+ghost use Rattle.constriction_categorical.specs.SymbolRowLemmas.{paired-tiles};
+
+use crate::contiguous::ContiguousCategoricalEntropyModel;
+use crate::non_contiguous::NonContiguousCategoricalDecoderModel;
+use crate::stored::{cloned_row_at, contiguous_row_at};
+use constriction_buffers::SafeBuf;
+use constriction_model::{Alone, CdfEntry, DecoderModel, EntropyModel, Weight, WithSymbol};
+use constriction_numbers::WholeNumber;
+use std::alloc::AllocError;
+
+/// A model that stores an entry a row, in order, and lends them. A caller's own model may be one.
+pub trait StoresRows<const PRECISION: usize>: EntropyModel<PRECISION> {
+    /// What is stored of a row.
+    type Entry;
+
+    /// How an entry tells where its row begins.
+    type Kind: CdfEntry<Self::Entry, Word = Self::Probability>;
+
+    /// The entries, one a row.
+    fn entries(&self) -> &[Self::Entry]
+        ensures { map Self.Kind.cumulative result.now ≡ map (λ r. r.left) (Self.rows self.now) };
+
+    // The precision is one of the words.
+    ghost precise_law: { (m : Self) → PRECISION ≤ Self.Probability.BITS };
+
+    // The rows tile the quantiles.
+    ghost stored_law: { (m : Self) → RowsTile Self.Probability.BITS PRECISION (Self.rows m) };
+}
+
+/// A model that stores its rows and answers each of them.
+pub trait AnswersRows<const PRECISION: usize>: StoresRows<PRECISION> + DecoderModel<PRECISION> {
+    /// The row at an index, as [`DecoderModel::quantile_function`] answers one.
+    fn row_at(
+        &self,
+        index: usize,
+    ) -> Result<(Self::Symbol, Self::Probability, Weight<Self::Probability>), AllocError>
+        requires { index < length (Self.rows self.now) }
+        ensures row { IfOk result (λ x. (own : Self.Symbol) × Self.stands_for own x.0
+            × (slice_index_or (Self.rows self.now) index
+            (row_of Self.Probability.whole Self.Probability.base (own, x.1, x.2))
+            ≡ row_of Self.Probability.whole Self.Probability.base (own, x.1, x.2))) }
+        ensures within { IfOk result (λ x. LiesWithin PRECISION
+            (row_of Self.Probability.whole Self.Probability.base x)) }
+        ensures refused { IfErr result (λ _. (r : Row Self.Symbol)
+            × (slice_index_or (Self.rows self.now) index r ≡ r) × Self.may_refuse r.symbol) };
+}
+
+impl<Probability: WholeNumber, Cdf: SafeBuf<Probability>, const PRECISION: usize> StoresRows<
+    PRECISION,
+> for ContiguousCategoricalEntropyModel<Probability, Cdf, PRECISION> {
+    type Entry = Probability;
+
+    type Kind = Alone;
+
+    #[inline]
+    fn entries(&self) -> &[Probability] {
+        self.cdf_entries()
+    }
+
+    ghost precise_law = { λ m. m.precise.1 };
+
+    ghost stored_law = { λ m. stored-tiles _ _ _ m.stored.stored };
+}
+
+impl<Probability: WholeNumber, Cdf: SafeBuf<Probability>, const PRECISION: usize> AnswersRows<
+    PRECISION,
+> for ContiguousCategoricalEntropyModel<Probability, Cdf, PRECISION> {
+    #[inline]
+    fn row_at(
+        &self,
+        index: usize,
+    ) -> Result<(usize, Probability, Weight<Probability>), AllocError> {
+        Ok(contiguous_row_at::<Probability, PRECISION>(self.cdf.words(), index))
+    }
+}
+
+impl<
+    Symbol: Eq,
+    Probability: WholeNumber,
+    Cdf: SafeBuf<(Probability, Symbol)>,
+    const PRECISION: usize,
+> StoresRows<PRECISION>
+    for NonContiguousCategoricalDecoderModel<Symbol, Probability, Cdf, PRECISION> {
+    type Entry = (Probability, Symbol);
+
+    type Kind = WithSymbol;
+
+    #[inline]
+    fn entries(&self) -> &[(Probability, Symbol)] {
+        self.cdf_entries()
+    }
+
+    ghost precise_law = { λ m. m.precise.1 };
+
+    ghost stored_law = { λ m. paired-tiles Probability.whole _ _ _ m.stored };
+}
+
+impl<
+    Symbol: Eq + Clone,
+    Probability: WholeNumber,
+    Cdf: SafeBuf<(Probability, Symbol)>,
+    const PRECISION: usize,
+> AnswersRows<PRECISION>
+    for NonContiguousCategoricalDecoderModel<Symbol, Probability, Cdf, PRECISION> {
+    #[inline]
+    fn row_at(
+        &self,
+        index: usize,
+    ) -> Result<(Symbol, Probability, Weight<Probability>), AllocError> {
+        cloned_row_at::<Probability, Symbol, PRECISION>(self.cdf.words(), index)
+    }
+}
+
+/// The searching models of the symbols 0, 1, .., by which a lookup model over one is told from one
+/// over any symbols.
+pub trait OfNumbers<const PRECISION: usize>: EntropyModel<PRECISION> {}
+
+impl<Probability: WholeNumber, Cdf: SafeBuf<Probability>, const PRECISION: usize> OfNumbers<
+    PRECISION,
+> for ContiguousCategoricalEntropyModel<Probability, Cdf, PRECISION> {}
+
+/// The searching models of any symbols.
+pub trait OfAnySymbols<const PRECISION: usize>: EntropyModel<PRECISION> {}
+
+impl<
+    Symbol: Eq,
+    Probability: WholeNumber,
+    Cdf: SafeBuf<(Probability, Symbol)>,
+    const PRECISION: usize,
+> OfAnySymbols<PRECISION>
+    for NonContiguousCategoricalDecoderModel<Symbol, Probability, Cdf, PRECISION> {}

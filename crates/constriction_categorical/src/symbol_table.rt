@@ -1,0 +1,96 @@
+//! The walk through the rows of a contiguous model.
+
+ghost use Rattle.std.specs.Prelude.{◌≡◌, ◌^◌, ◌<◌, ◌≤◌, IfSome, length, map};
+ghost use Rattle.std.specs.Iterator.{UpTo, at_most, size};
+ghost use Rattle.std.specs.Iterator.SizeHint.{IsExactHint, IsWithinCount};
+ghost use Rattle.constriction_categorical.specs.Stored.{IsTable};
+ghost use Rattle.constriction_model.specs.Tables.{YieldsRow, YieldsLastRow};
+ghost use Rattle.constriction_categorical.specs.Stored.{rows_stored};
+
+use crate::stored::row_at;
+use constriction_model::Weight;
+use constriction_numbers::WholeNumber;
+use std::alloc::AllocError;
+
+/// The rows of a [`ContiguousCategoricalEntropyModel`] that are left, walked through from either end.
+///
+/// Each row is given once, whichever end it is taken from, and either end answers `None` exactly
+/// where none is left. Every item is `Ok`, as the walk takes no memory. A step reads two neighbours
+/// of the model's table.
+///
+/// [`ContiguousCategoricalEntropyModel`]: crate::ContiguousCategoricalEntropyModel
+#[derive(Debug, Drop)]
+pub struct ContiguousSymbolTable<'m, Probability: WholeNumber, const PRECISION: usize> {
+    pub(crate) cdf: &'m [Probability],
+    pub(crate) from: usize,
+    pub(crate) to: usize,
+    ghost narrow: { PRECISION ≤ Probability.BITS },
+    ghost stored: { IsTable Probability.BITS PRECISION (map Probability.whole cdf.now) },
+    ghost in_order: { from ≤ to },
+    ghost in_bounds: { to < length cdf.now },
+}
+
+impl<'m, Probability: WholeNumber, const PRECISION: usize> Iterator
+    for ContiguousSymbolTable<'m, Probability, PRECISION> {
+    type Item = Result<(usize, Probability, Weight<Probability>), AllocError>;
+
+    ghost next_gives = { λ t r u. YieldsRow (λ s t. t ≡ s) (λ _. ⊥) Probability.whole Probability.base
+        (rows_stored PRECISION (map Probability.whole t.cdf.now) t.from t.to) r
+        (rows_stored PRECISION (map Probability.whole u.cdf.now) u.from u.to) };
+
+    ghost remaining = { λ t. at_most (length (rows_stored PRECISION (map Probability.whole t.cdf.now) t.from t.to)) };
+
+    #[inline]
+    fn next(&mut self) -> Option<Result<(usize, Probability, Weight<Probability>), AllocError>> {
+        let index = self.from;
+        if index == self.to {
+            return None;
+        }
+        let (left, weight) = row_at::<Probability, PRECISION>(self.cdf, index);
+        self.from = index + 1;
+        Some(Ok((index, left, weight)))
+    }
+
+    /// How many rows are left, exactly.
+    #[inline]
+    fn size_hint(&self) -> (usize, Option<usize>)
+        ensures lower { IsWithinCount result.0
+            (⟦<ContiguousSymbolTable<'m, Probability, PRECISION> as Iterator>⟧.remaining self.now) }
+        ensures upper { IfSome result.1 (UpTo
+            (⟦<ContiguousSymbolTable<'m, Probability, PRECISION> as Iterator>⟧.remaining self.now)) }
+        ensures exact { IsExactHint result
+            (size (⟦<ContiguousSymbolTable<'m, Probability, PRECISION> as Iterator>⟧.remaining self.now)) }
+    {
+        let size = self.len();
+        (size, Some(size))
+    }
+}
+
+impl<'m, Probability: WholeNumber, const PRECISION: usize> DoubleEndedIterator
+    for ContiguousSymbolTable<'m, Probability, PRECISION> {
+    ghost next_back_gives = { λ t r u. YieldsLastRow (λ s t. t ≡ s) (λ _. ⊥) Probability.whole Probability.base
+        (rows_stored PRECISION (map Probability.whole t.cdf.now) t.from t.to) r
+        (rows_stored PRECISION (map Probability.whole u.cdf.now) u.from u.to) };
+
+    #[inline]
+    fn next_back(
+        &mut self,
+    ) -> Option<Result<(usize, Probability, Weight<Probability>), AllocError>> {
+        if self.from == self.to {
+            return None;
+        }
+        let index = self.to - 1;
+        let (left, weight) = row_at::<Probability, PRECISION>(self.cdf, index);
+        self.to = index;
+        Some(Ok((index, left, weight)))
+    }
+}
+
+impl<'m, Probability: WholeNumber, const PRECISION: usize> ExactSizeIterator
+    for ContiguousSymbolTable<'m, Probability, PRECISION> {
+    /// How many rows are left.
+    #[inline]
+    fn len(&self) -> usize {
+        self.to - self.from
+    }
+}

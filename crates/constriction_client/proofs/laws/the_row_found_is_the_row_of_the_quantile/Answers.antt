@@ -1,5 +1,0 @@
-use Rattle.constriction_client.proofs.Finding.{find_iff}
-use Rattle.constriction_client.proofs.laws.the_row_found_is_the_row_of_the_quantile.Goals as goal
-
-pub returns : goal.returns
-returns g c = find_iff

@@ -1,0 +1,97 @@
+//! Items that a model or a sink refuses, and what was written before them.
+
+use crate::checks::{holds, same, same_at};
+use crate::model_checks::small;
+use constriction_backends::{BoundedWriteError, Cursor, FallibleCallbackWriteWords};
+use constriction_client::{QuantileFault, write_quantiles};
+use constriction_fixtures::contiguous::Table;
+use constriction_fixtures::own_model::{Triple, three};
+use constriction_words::{CoderError, Pos};
+use std::alloc::AllocError;
+
+/// What a write answers where its sink refuses a word so.
+type Written<Refusal> = Result<(), CoderError<QuantileFault, Refusal>>;
+
+/// Writes items to a cursor over borrowed words.
+fn write_to_cursor(
+    model: &Table<6>,
+    items: &[(usize, u8)],
+    sink: &mut Cursor<u8, &mut [u8]>,
+) -> Written<BoundedWriteError> {
+    write_quantiles(model, items, sink)
+}
+
+/// What a cursor over these words answers to items, from the first word on, and where it then stands.
+fn written_over(
+    model: &Table<6>,
+    items: &[(usize, u8)],
+    words: &mut [u8],
+) -> (Written<BoundedWriteError>, usize) {
+    let mut sink = Cursor::<u8, &mut [u8]>::new_at_write_beginning(words);
+    let answer = write_to_cursor(model, items, &mut sink);
+    (answer, sink.pos())
+}
+
+#[test]
+fn a_cursor_of_two_words_refuses_the_third_item(rt: HostRuntime) {
+    let model = small(&rt, rt.alloc());
+    let mut words = [0u8; 2];
+    let (answer, pos) = written_over(&model, &[(0, 2), (3, 41), (1, 0)], &mut words);
+    let refused = Err(CoderError::Backend(BoundedWriteError::OutOfSpace));
+    same(&rt, answer, refused);
+    same(&rt, (words, pos), ([2, 63], 2));
+}
+
+/// What a callback that refuses its third word was handed last, how often it was called, and the answer.
+fn handed(model: &Table<6>, items: &[(usize, u8)]) -> (Written<char>, [u8; 3], u8) {
+    let mut last = [0u8; 3];
+    let mut calls = 0u8;
+    let mut sink = FallibleCallbackWriteWords::new(|word: u8| -> Result<(), char> {
+        let [_, second, third] = last;
+        last = [second, third, word];
+        calls = calls.saturating_add(1);
+        if calls == 3 { Err('x') } else { Ok(()) }
+    });
+    let answer = write_quantiles(model, items, &mut sink);
+    (answer, last, calls)
+}
+
+#[test]
+fn a_callback_is_handed_no_word_after_one_that_it_refuses(rt: HostRuntime) {
+    let model = small(&rt, rt.alloc());
+    let (answer, words, calls) = handed(&model, &[(0, 2), (3, 41), (1, 0), (2, 0)]);
+    same(&rt, answer, Err(CoderError::Backend('x')));
+    same(&rt, (words, calls), ([2, 63, 3], 3));
+}
+
+/// Writes items by a model of the caller.
+fn write_letters(model: &Triple, items: &[(char, u8)], words: &mut Vec<u8>) -> Written<AllocError> {
+    write_quantiles(model, items, words)
+}
+
+/// Its first and its third row are of one letter, and the entry of the letter is the third row, of one
+/// quantile.
+#[test]
+fn a_model_of_the_caller_judges_offsets_by_its_last_row(rt: HostRuntime) {
+    let model = three('p', 'q', 'p');
+    let mut words = Vec::new(rt.alloc());
+    for (item, answer) in [
+        (('p', 0), Ok(())),
+        (
+            ('p', 1),
+            Err(CoderError::Frontend(QuantileFault::OffsetTooLarge)),
+        ),
+        (
+            ('r', 0),
+            Err(CoderError::Frontend(QuantileFault::ImpossibleSymbol)),
+        ),
+    ] {
+        same_at(
+            &rt,
+            item.0,
+            write_letters(&model, &[item], &mut words),
+            answer,
+        );
+        holds(&rt, &words, &[7]);
+    }
+}

@@ -1,0 +1,508 @@
+//! Items to words and back, over a worked table and ends that fail.
+
+ghost use Rattle.std.specs.Prelude.{◌≡◌, [], ◌∷◌, nat_eq};
+ghost use Rattle.std.specs.Cmp.{nat_eq_equiv};
+ghost use Rattle.std.proofs.Common.{rules};
+ghost use Rattle.constriction.specs.Rows.{rows_of};
+ghost use Rattle.constriction_backends.specs.Stack.{Pushes};
+ghost use Rattle.constriction_backends.specs.StackLaws.{Pushes-told};
+
+use crate::checks::{end_of_requests, holds, holds_at, prints, same, same_at, vec_of};
+use crate::model_checks::{made, small};
+use constriction::stream::model::{DecoderModel, EncoderModel, EntropyModel, Weight};
+use constriction_backends::{ReadWords, WriteWords};
+use constriction_client::laws::{
+    each_quantile_in_range_has_a_row, reads_back, reads_back_reversed,
+    the_row_found_is_the_row_of_the_quantile, there_and_back,
+};
+use constriction_client::{QuantileFault, ReadFault, read_symbols, write_quantiles};
+use constriction_fixtures::contiguous::{Table, WEIGHTS, table};
+use constriction_words::{BitArray, CoderError, Queue, Stack};
+use std::alloc::{AllocError, Global};
+use std::convert::Infallible;
+use std::process::Abort;
+use std::test::Fail;
+
+type Written = Result<(), CoderError<QuantileFault, AllocError>>;
+
+type Read = Result<usize, CoderError<ReadFault, Infallible>>;
+
+fn write<const PRECISION: usize>(
+    model: &Table<PRECISION>,
+    items: &[(usize, u8)],
+    words: &mut Vec<u8>,
+) -> Written {
+    write_quantiles(model, items, words)
+}
+
+fn read<const PRECISION: usize>(
+    model: &Table<PRECISION>,
+    words: &mut Vec<u8>,
+    count: usize,
+    out: &mut Vec<(usize, u8)>,
+) -> Read {
+    read_symbols::<Stack, _, _, _, _, PRECISION>(model, words, count, out)
+}
+
+type Back = Result<Vec<(usize, u8)>, CoderError<QuantileFault, AllocError>>;
+
+/// The items, as they come back.
+fn back(alloc: Global, model: &Table<6>, items: &[(usize, u8)]) -> Back {
+    there_and_back(alloc, model, items)
+}
+
+/// Items are written as these words.
+fn are_written<const PRECISION: usize>(
+    rt: &impl Abort,
+    model: &Table<PRECISION>,
+    items: &[(usize, u8)],
+    words: &mut Vec<u8>,
+    quantiles: &[u8],
+) {
+    same(rt, write(model, items, words), Ok(()));
+    holds(rt, words, quantiles);
+}
+
+/// These are read back as these pairs, the last one first, and none is left.
+fn are_read<const PRECISION: usize>(
+    rt: &impl Abort,
+    model: &Table<PRECISION>,
+    words: &mut Vec<u8>,
+    out: &mut Vec<(usize, u8)>,
+    (count, pairs): (usize, &[(usize, u8)]),
+) {
+    same(rt, read(model, words, count, out), Ok(pairs.len()));
+    holds(rt, out, pairs);
+    same(rt, words.is_empty(), true);
+}
+
+#[test]
+fn three_items_come_back_from_a_stack_reversed(rt: HostRuntime) {
+    let model = small(&rt, rt.alloc());
+    let mut words = Vec::new(rt.alloc());
+    are_written(
+        &rt,
+        &model,
+        &[(0, 2), (3, 41), (1, 0)],
+        &mut words,
+        &[2, 63, 3],
+    );
+    let mut out = Vec::new(rt.alloc());
+    are_read(
+        &rt,
+        &model,
+        &mut words,
+        &mut out,
+        (3, &[(1, 0), (3, 41), (0, 2)]),
+    );
+}
+
+/// The items come back as these pairs.
+fn come_back(rt: &impl Abort, made: Back, pairs: &[(usize, u8)]) {
+    match made {
+        Ok(back) => holds(rt, &back, pairs),
+        Err(fault) => same(rt, Err(fault), Ok(())),
+    }
+}
+
+#[test]
+fn three_items_go_there_and_back(rt: HostRuntime) {
+    let model = small(&rt, rt.alloc());
+    let made = back(rt.alloc(), &model, &[(0, 2), (3, 41), (1, 0)]);
+    come_back(&rt, made, &[(1, 0), (3, 41), (0, 2)]);
+}
+
+/// The first of these items alone is written, after 7.
+fn stops_after_the_first(
+    rt: &impl Abort,
+    alloc: Global,
+    model: &Table<6>,
+    items: &[(usize, u8)],
+    (name, fault): (&str, QuantileFault),
+) {
+    let mut words = vec_of(rt, alloc, &[7]);
+    let written = write(model, items, &mut words);
+    same_at(rt, name, written, Err(CoderError::Frontend(fault)));
+    holds_at(rt, name, &words, &[7, 2]);
+    same_at(rt, name, back(alloc, model, items).is_err(), true);
+}
+
+#[test]
+fn the_words_before_a_fault_stay_written(rt: HostRuntime) {
+    let model = small(&rt, rt.alloc());
+    stops_after_the_first(
+        &rt,
+        rt.alloc(),
+        &model,
+        &[(0, 2), (2, 1), (9, 0)],
+        ("an offset of the weight", QuantileFault::OffsetTooLarge),
+    );
+    stops_after_the_first(
+        &rt,
+        rt.alloc(),
+        &model,
+        &[(0, 2), (4, 0), (2, 1)],
+        (
+            "a symbol past the last one",
+            QuantileFault::ImpossibleSymbol,
+        ),
+    );
+    stops_after_the_first(
+        &rt,
+        rt.alloc(),
+        &model,
+        &[(0, 2), (usize::MAX, 9), (2, 1)],
+        ("a symbol that is no word", QuantileFault::ImpossibleSymbol),
+    );
+}
+
+/// One pair that was read before.
+fn one_pair(rt: &impl Abort, alloc: Global) -> Vec<(usize, u8)> {
+    let mut pairs = Vec::new(alloc);
+    let Ok(()) = pairs.push((2, 0)) else {
+        panic!(rt; "memory was refused");
+    };
+    pairs
+}
+
+#[test]
+fn a_word_that_is_no_quantile_is_gone(rt: HostRuntime) {
+    let model = small(&rt, rt.alloc());
+    let mut words = vec_of(&rt, rt.alloc(), &[2, 64, 63]);
+    let mut out = one_pair(&rt, rt.alloc());
+    same(
+        &rt,
+        read(&model, &mut words, 3, &mut out),
+        Err(CoderError::Frontend(ReadFault::QuantileTooLarge)),
+    );
+    holds(&rt, &words, &[2]);
+    holds(&rt, &out, &[(2, 0), (3, 41)]);
+}
+
+/// So many reads of 2 and 63 give so many pairs, and leave these words.
+fn are_read_at_most(
+    rt: &impl Abort,
+    alloc: Global,
+    model: &Table<6>,
+    (count, pairs): (usize, &[(usize, u8)]),
+    left: &[u8],
+) {
+    let mut words = vec_of(rt, alloc, &[2, 63]);
+    let mut out = Vec::new(alloc);
+    let answer = read(model, &mut words, count, &mut out);
+    same_at(rt, count, answer, Ok(pairs.len()));
+    holds_at(rt, count, &words, left);
+    holds_at(rt, count, &out, pairs);
+}
+
+#[test]
+fn no_more_words_are_read_than_are_asked_for(rt: HostRuntime) {
+    let model = small(&rt, rt.alloc());
+    let alloc = rt.alloc();
+    are_read_at_most(&rt, alloc, &model, (0, &[]), &[2, 63]);
+    are_read_at_most(&rt, alloc, &model, (1, &[(3, 41)]), &[2]);
+    are_read_at_most(&rt, alloc, &model, (2, &[(3, 41), (0, 2)]), &[]);
+    are_read_at_most(&rt, alloc, &model, (5, &[(3, 41), (0, 2)]), &[]);
+}
+
+#[test]
+fn at_the_full_width_each_word_is_a_quantile(rt: HostRuntime) {
+    let model = made::<8>(&rt, rt.alloc(), &[200], true);
+    let mut words = Vec::new(rt.alloc());
+    are_written(
+        &rt,
+        &model,
+        &[(1, 55), (0, 199), (1, 0)],
+        &mut words,
+        &[255, 199, 200],
+    );
+    let mut out = Vec::new(rt.alloc());
+    are_read(
+        &rt,
+        &model,
+        &mut words,
+        &mut out,
+        (4, &[(1, 0), (0, 199), (1, 55)]),
+    );
+}
+
+/// Six items, their quantiles, and the items from the last to the first.
+const ITEMS: [(usize, u8); 6] = [(0, 2), (3, 41), (1, 0), (2, 0), (0, 0), (3, 0)];
+
+const QUANTILES: [u8; 6] = [2, 63, 3, 21, 0, 22];
+
+const REVERSED: [(usize, u8); 6] = [(3, 0), (0, 0), (2, 0), (1, 0), (3, 41), (0, 2)];
+
+/// All six items are written, or memory was refused.
+fn wrote_all_or_was_refused(rt: &impl Abort, written: Written, words: &[u8]) {
+    let expected = match words.len() {
+        6 => Ok(()),
+        _ => Err(CoderError::Backend(AllocError)),
+    };
+    same(rt, written, expected);
+    same(rt, QUANTILES.starts_with(words), true);
+}
+
+/// An answer, or the refusal of memory and what it leaves, whichever growth is refused.
+#[test]
+fn a_refusal_of_memory_ends_what_is_written(rt: HostRuntime) {
+    let Ok(model) = table::<6>(rt.alloc(), &WEIGHTS, false) else {
+        return;
+    };
+    let mut words = Vec::new(rt.alloc());
+    let written = write(&model, &ITEMS, &mut words);
+    wrote_all_or_was_refused(&rt, written, words.as_slice());
+    end_of_requests(&rt);
+}
+
+/// All six pairs are read, or memory was refused and the word whose pair found no room is gone.
+fn read_all_or_was_refused(rt: &impl Abort, answer: Read, left: usize, out: &[(usize, u8)]) {
+    let (expected, in_all) = match out.len() {
+        6 => (Ok(6), 6),
+        _ => (Err(CoderError::Frontend(ReadFault::OutOfMemory)), 5),
+    };
+    same(rt, answer, expected);
+    same(rt, out.len().checked_add(left), Some(in_all));
+    same(rt, REVERSED.starts_with(out), true);
+}
+
+/// The same of reads: the word whose pair found no room has been read.
+#[test]
+fn a_refusal_of_memory_ends_what_is_read(rt: HostRuntime) {
+    let Ok(model) = table::<6>(rt.alloc(), &WEIGHTS, false) else {
+        return;
+    };
+    let Ok(mut words) = QUANTILES.to_vec(rt.alloc()) else {
+        return;
+    };
+    let mut out = Vec::new(rt.alloc());
+    let answer = read(&model, &mut words, 6, &mut out);
+    read_all_or_was_refused(&rt, answer, words.len(), out.as_slice());
+    end_of_requests(&rt);
+}
+
+/// And of the way there and back.
+#[test]
+fn a_refusal_of_memory_ends_the_way(rt: HostRuntime) {
+    let Ok(model) = table::<6>(rt.alloc(), &WEIGHTS, false) else {
+        return;
+    };
+    match back(rt.alloc(), &model, &ITEMS) {
+        Ok(pairs) => holds(&rt, &pairs, &REVERSED),
+        Err(fault) => same(&rt, fault, CoderError::Backend(AllocError)),
+    }
+    end_of_requests(&rt);
+}
+
+/// Why a sink of at most two words refuses a word.
+#[derive(Debug, PartialEq, Eq, Drop)]
+enum Refusal {
+    Full(u8),
+    OutOfMemory,
+}
+
+/// A sink of at most two words.
+#[derive(Drop)]
+struct TwoWords {
+    words: Vec<u8>,
+}
+
+impl WriteWords<u8> for TwoWords {
+    type WriteError = Refusal;
+
+    ghost write_gives = { λ s word r t. Pushes s.words.items word r t.words.items };
+
+    ghost tells_written = { λ s words. words ≡ s.words.items };
+
+    fn write(&mut self, word: u8) -> Result<(), Refusal> {
+        if self.words.len() >= 2 {
+            return Err(Refusal::Full(word));
+        }
+        match self.words.push(word) {
+            Ok(()) => Ok(()),
+            Err(_) => Err(Refusal::OutOfMemory),
+        }
+    }
+
+    ghost writes_told = { Pushes-told (λ s. s.words.items) };
+
+    ghost room_suffices = { λ s word r t h room. absurd room };
+}
+
+fn write_two(
+    model: &Table<6>,
+    items: &[(usize, u8)],
+    sink: &mut TwoWords,
+) -> Result<(), CoderError<QuantileFault, Refusal>> {
+    write_quantiles(model, items, sink)
+}
+
+#[test]
+fn a_refusal_of_the_sink_is_handed_on(rt: HostRuntime) {
+    let model = small(&rt, rt.alloc());
+    let mut sink = TwoWords {
+        words: Vec::new(rt.alloc()),
+    };
+    let written = write_two(&model, &[(0, 2), (3, 41), (1, 0), (4, 0)], &mut sink);
+    same(&rt, written, Err(CoderError::Backend(Refusal::Full(3))));
+    holds(&rt, &sink.words, &[2, 63]);
+}
+
+/// A source that answers 63, an error, 2, and then that it ended.
+#[derive(Drop)]
+struct Interrupted {
+    reads: u8,
+}
+
+impl ReadWords<u8, Queue> for Interrupted {
+    type ReadError = &'static str;
+
+    ghost read_gives = { λ _ _ _. Unit {0} };
+
+    fn read(&mut self) -> Result<Option<u8>, &'static str> {
+        let turn = self.reads;
+        self.reads = turn.saturating_add(1);
+        match turn {
+            0 => Ok(Some(63)),
+            1 => Err("interrupted"),
+            2 => Ok(Some(2)),
+            _ => Ok(None),
+        }
+    }
+
+    ghost reads_told = { λ s r t gives words told. absurd told };
+}
+
+fn read_interrupted(
+    model: &Table<6>,
+    source: &mut Interrupted,
+    out: &mut Vec<(usize, u8)>,
+) -> Result<usize, CoderError<ReadFault, &'static str>> {
+    read_symbols::<Queue, _, _, _, _, 6>(model, source, 3, out)
+}
+
+#[test]
+fn an_error_of_the_source_is_handed_on(rt: HostRuntime) {
+    let model = small(&rt, rt.alloc());
+    let mut source = Interrupted { reads: 0 };
+    let mut out = Vec::new(rt.alloc());
+    let interrupted = read_interrupted(&model, &mut source, &mut out);
+    same(&rt, interrupted, Err(CoderError::Backend("interrupted")));
+    same(&rt, source.reads, 2);
+    holds(&rt, &out, &[(3, 41)]);
+    same(&rt, read_interrupted(&model, &mut source, &mut out), Ok(1));
+    same(&rt, source.reads, 4);
+    holds(&rt, &out, &[(3, 41), (0, 2)]);
+}
+
+/// A model of the caller that names a letter twice: `a`, `b` and `a` again have the weights 1, 2
+/// and 1.
+pub(crate) struct Letters;
+
+impl EntropyModel<2> for Letters {
+    type Symbol = u8;
+
+    type Probability = u8;
+
+    ghost rows = { λ _. rows_of (97 ∷ 98 ∷ 97 ∷ []) (1 ∷ 2 ∷ 1 ∷ []) };
+}
+
+impl EncoderModel<2> for Letters {
+    ghost symbol_eq = { nat_eq };
+
+    fn left_cumulative_and_probability(&self, symbol: &u8) -> Option<(u8, Weight<u8>)> {
+        match *symbol {
+            b'a' => Some((3, 1u8.into_nonzero_unchecked())),
+            b'b' => Some((1, 2u8.into_nonzero_unchecked())),
+            _ => None,
+        }
+    }
+
+    ghost equality_law = { nat_eq_equiv };
+
+    ghost within_law = { λ _. Prim.search rules };
+}
+
+impl DecoderModel<2> for Letters {
+    ghost stands_for = { λ s t. t ≡ s };
+
+    ghost may_refuse = { λ _. ⊥ };
+
+    fn quantile_function(&self, quantile: u8) -> Result<(u8, u8, Weight<u8>), AllocError> {
+        match quantile {
+            0 => Ok((b'a', 0, 1u8.into_nonzero_unchecked())),
+            1 | 2 => Ok((b'b', 1, 2u8.into_nonzero_unchecked())),
+            _ => Ok((b'a', 3, 1u8.into_nonzero_unchecked())),
+        }
+    }
+
+    ghost tile_law = { λ _. Prim.search rules };
+}
+
+fn letters_back(
+    alloc: Global,
+    items: &[(u8, u8)],
+) -> Result<Vec<(u8, u8)>, CoderError<QuantileFault, AllocError>> {
+    there_and_back(alloc, &Letters, items)
+}
+
+fn write_letters(items: &[(u8, u8)], words: &mut Vec<u8>) -> Written {
+    write_quantiles(&Letters, items, words)
+}
+
+#[test]
+fn a_model_of_the_caller_may_name_a_symbol_twice(rt: HostRuntime) -> Result<(), Fail> {
+    let items = [(b'a', 0u8), (b'b', 1)];
+    let pairs = letters_back(rt.alloc(), &items)?;
+    holds(&rt, &pairs, &[(b'b', 1), (b'a', 0)]);
+    let mut words = Vec::new(rt.alloc());
+    same(&rt, write_letters(&items, &mut words), Ok(()));
+    same(
+        &rt,
+        write_letters(&[(b'c', 0)], &mut words),
+        Err(CoderError::Frontend(QuantileFault::ImpossibleSymbol)),
+    );
+    holds(&rt, &words, &[3, 2]);
+    Ok(())
+}
+
+fn item_faults_are_sentences(rt: &impl Abort, alloc: Global) {
+    prints(
+        rt,
+        alloc,
+        &QuantileFault::ImpossibleSymbol,
+        "The model has no entry of the symbol.",
+    );
+    prints(
+        rt,
+        alloc,
+        &QuantileFault::OffsetTooLarge,
+        "The offset is not below the weight of the symbol.",
+    );
+    prints(
+        rt,
+        alloc,
+        &ReadFault::OutOfMemory,
+        "Memory for a pair was refused.",
+    );
+    prints(
+        rt,
+        alloc,
+        &ReadFault::QuantileTooLarge,
+        "The word is no quantile.",
+    );
+}
+
+#[test]
+fn faults_of_items_are_sentences(rt: HostRuntime) {
+    item_faults_are_sentences(&rt, rt.alloc());
+}
+
+#[test]
+fn laws_of_items_may_be_called(rt: HostRuntime) {
+    let _ = rt;
+    the_row_found_is_the_row_of_the_quantile::<usize>();
+    each_quantile_in_range_has_a_row::<usize>();
+    reads_back::<usize, u8>();
+    reads_back_reversed::<usize, u8>();
+}

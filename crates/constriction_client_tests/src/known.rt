@@ -1,0 +1,187 @@
+//! What contracts alone tell a caller of the client: which words, which items, which replies. No body that
+//! answers otherwise meets them, however a proof of it may be refused.
+
+ghost use Rattle.std.specs.Prelude.{◌≡◌, ◌++◌, ℕ, [], ◌∷◌, Some, IfOk, IfSome, OnOk, IsTrue, map};
+ghost use Rattle.constriction.specs.Rows.{contiguous_rows, entry_of, rows_of};
+ghost use Rattle.constriction_backends.specs.Cursor.{state_of};
+ghost use Rattle.constriction_client.specs.Replies.{in_numbers};
+ghost use Rattle.constriction_client.specs.declared.cursor_calls.CursorReply.TheVariants as reply;
+ghost use Rattle.constriction_client.specs.declared.queries.Reply.TheVariants as answer;
+
+use crate::chains::encoder_of;
+use crate::checks::{holds, same};
+use crate::known_models::decoder_of;
+use constriction::stream::model::{EncodesOver, EntropyModel, ModelError};
+use constriction_backends::{Cursor, Reverse};
+use constriction_client::laws::{answer_after_chain, there_and_back, there_and_back_in_a_cursor};
+use constriction_client::{
+    ChainStep, CursorCall, CursorReply, DecoderForm, QuantileFault, Query, Reply, answer_queries,
+    run_cursor, run_reversed, write_quantiles,
+};
+use constriction_fixtures::contiguous::Table;
+use constriction_fixtures::given::of_four;
+use constriction_words::{CoderError, WholeNumber};
+use std::alloc::{AllocError, Global};
+use std::test::Fail;
+
+/// Whether an item of the second symbol was written, where 3, 18, 1 and 42 are the weights of 0, 1, 2 and 3.
+fn written(model: &Table<6>, sink: &mut Vec<u8>) -> bool
+    requires { ⟦<Table<6> as EntropyModel<6>>⟧.rows model.now ≡ contiguous_rows (3 ∷ 18 ∷ 1 ∷ 42 ∷ []) }
+    ensures { IsTrue result → sink.new.items ≡ sink.old.items ++ 5 ∷ [] }
+{
+    write_quantiles::<_, _, _, _, 6>(model, &[(1, 2)], sink).is_ok()
+}
+
+/// What comes back of an item.
+fn back(
+    alloc: Global,
+    model: &Table<6>,
+) -> Result<Vec<(usize, u8)>, CoderError<QuantileFault, AllocError>>
+    ensures { IfOk result (λ pairs. pairs.items ≡ (1, 2) ∷ []) }
+{
+    there_and_back::<_, 6>(alloc, model, &[(1, 2)])
+}
+
+/// The same through a cursor of two words.
+fn through_a_cursor(
+    alloc: Global,
+    model: &Table<6>,
+    cursor: &mut Cursor<u8, Vec<u8>>,
+) -> Option<Vec<(usize, u8)>>
+    requires rows { ⟦<Table<6> as EntropyModel<6>>⟧.rows model.now ≡ contiguous_rows (3 ∷ 18 ∷ 1 ∷ 42 ∷ []) }
+    requires at { state_of cursor.old ≡ record { before = []; after = 0 ∷ 1 ∷ [] } }
+    ensures items { IfSome result (λ pairs. pairs.items ≡ (1, 2) ∷ []) }
+    ensures words { IfSome result (λ _. state_of cursor.new ≡ record { before = 5 ∷ []; after = 1 ∷ [] }) }
+{
+    match there_and_back_in_a_cursor::<_, _, _, _, _, 6>(alloc, model, model, &[(1, 2)], cursor) {
+        Ok(pairs) => Some(pairs),
+        Err(_) => None,
+    }
+}
+
+/// A cursor over 0 and 1 at its beginning.
+fn at_0(alloc: Global) -> Result<Cursor<u8, Vec<u8>>, AllocError>
+    ensures { IfOk result (λ c. state_of c ≡ record { before = []; after = 0 ∷ 1 ∷ [] }) }
+{
+    Ok(Cursor::new_at_write_beginning(Vec::from_array(alloc, [0u8, 1])?))
+}
+
+/// The replies to three queries.
+fn replies(alloc: Global, model: &Table<6>) -> Result<Vec<Reply<usize, u8>>, AllocError>
+    requires { ⟦<Table<6> as EntropyModel<6>>⟧.rows model.now ≡ contiguous_rows (3 ∷ 18 ∷ 1 ∷ 42 ∷ []) }
+    ensures { IfOk result (λ replies.
+        map (in_numbers ⟦<u8 as WholeNumber>⟧.whole ⟦<u8 as WholeNumber>⟧.base) replies.items
+        ≡ answer.Row 1 3 18 ∷ answer.OutOfRange ∷ answer.Entry (Some (3, 18)) ∷ []) }
+{
+    let queries = [
+        Query::OfQuantile(20),
+        Query::OfQuantile(64),
+        Query::OfSymbol(1),
+    ];
+    answer_queries::<_, _, _, _, 6>(alloc, model, model, &queries)
+}
+
+/// The replies to two queries after two conversions, by any encoder of the same entries.
+fn replies_after<E: EncodesOver<char, u8, 6>>(
+    alloc: Global,
+    form: DecoderForm<char, u8, 6>,
+    encoder: &E,
+) -> Result<Vec<Reply<char, u8>>, ModelError>
+    requires rows { ⟦<DecoderForm<char, u8, 6> as EntropyModel<6>>⟧.rows form
+        ≡ rows_of (97 ∷ 120 ∷ 99 ∷ 121 ∷ []) (3 ∷ 18 ∷ 1 ∷ 42 ∷ []) }
+    requires alike { (s : ℕ) → entry_of E.symbol_eq (E.rows encoder.now) s
+        ≡ entry_of E.symbol_eq (⟦<DecoderForm<char, u8, 6> as EntropyModel<6>>⟧.rows form) s }
+    ensures { IfOk result (λ replies.
+        map (in_numbers ⟦<u8 as WholeNumber>⟧.whole ⟦<u8 as WholeNumber>⟧.base) replies.items
+        ≡ answer.Row 120 3 18 ∷ answer.OutOfRange ∷ []) }
+{
+    let steps = [ChainStep::ToLookup, ChainStep::Rebuild];
+    let queries = [Query::OfQuantile(20), Query::OfQuantile(64)];
+    answer_after_chain(alloc, form, &steps, encoder, &queries)
+}
+
+/// A cursor over 10, 20 and 30 that stands at 1.
+fn at_1(alloc: Global) -> Result<Cursor<u8, Vec<u8>>, AllocError>
+    ensures { IfOk result (λ c. state_of c ≡ record { before = 10 ∷ []; after = 20 ∷ 30 ∷ [] }) }
+{
+    let words = Vec::from_array(alloc, [10u8, 20, 30])?;
+    match Cursor::new_at_pos(words, 1) {
+        Ok(cursor) => Ok(cursor),
+        Err(()) => unreachable!(),
+    }
+}
+
+/// The same turned round.
+fn at_1_turned(alloc: Global) -> Result<Reverse<Cursor<u8, Vec<u8>>>, AllocError>
+    ensures { IfOk result (λ c. state_of c.0 ≡ record { before = 30 ∷ 20 ∷ []; after = 10 ∷ [] }) }
+{
+    Ok(at_1(alloc)?.into_reversed())
+}
+
+/// The replies of such a cursor.
+fn calls(
+    alloc: Global,
+    cursor: &mut Cursor<u8, Vec<u8>>,
+) -> Result<Vec<CursorReply<u8>>, AllocError>
+    requires { state_of cursor.old ≡ record { before = 10 ∷ []; after = 20 ∷ 30 ∷ [] } }
+    ensures replies { IfOk result (λ replies. replies.items ≡ reply.Word (Some 10) ∷ reply.Written ∷ []) }
+    ensures left { OnOk result (state_of cursor.new ≡ record { before = 7 ∷ []; after = 20 ∷ 30 ∷ [] }) }
+{
+    run_cursor(
+        alloc,
+        cursor,
+        &[CursorCall::StackRead, CursorCall::Write(7)],
+    )
+}
+
+/// The replies of the same cursor after it was turned round.
+fn turned_calls(
+    alloc: Global,
+    cursor: &mut Reverse<Cursor<u8, Vec<u8>>>,
+) -> Result<Vec<CursorReply<u8>>, AllocError>
+    requires { state_of cursor.old.0 ≡ record { before = 30 ∷ 20 ∷ []; after = 10 ∷ [] } }
+    ensures replies { IfOk result (λ replies. replies.items ≡ reply.Word (Some 10) ∷ reply.Written ∷ []) }
+    ensures left { OnOk result (state_of cursor.new.0 ≡ record { before = 30 ∷ 20 ∷ []; after = 7 ∷ [] }) }
+{
+    run_reversed(
+        alloc,
+        cursor,
+        &[CursorCall::StackRead, CursorCall::Write(7)],
+    )
+}
+
+#[test]
+fn contracts_leave_one_result(rt: HostRuntime) -> Result<(), Fail> {
+    let model = of_four(rt.alloc(), [3, 18, 1, 42])?;
+    let mut sink = Vec::new(rt.alloc());
+    same(&rt, written(&model, &mut sink), true);
+    holds(&rt, &sink, &[5]);
+    holds(&rt, &back(rt.alloc(), &model)?, &[(1, 2)]);
+    let mut cursor = at_0(rt.alloc())?;
+    same(
+        &rt,
+        through_a_cursor(rt.alloc(), &model, &mut cursor).is_some(),
+        true,
+    );
+    same(&rt, replies(rt.alloc(), &model)?.len(), 3);
+    Ok(())
+}
+
+#[test]
+fn contracts_leave_one_reply_after_a_chain(rt: HostRuntime) -> Result<(), Fail> {
+    let model = decoder_of(rt.alloc(), ['a', 'x', 'c', 'y'], [3, 18, 1, 42])?;
+    let encoder = encoder_of(rt.alloc(), &model)?;
+    let found = replies_after(rt.alloc(), DecoderForm::Search(model), &encoder)?;
+    same(&rt, found.len(), 2);
+    Ok(())
+}
+
+#[test]
+fn contracts_leave_one_run(rt: HostRuntime) -> Result<(), Fail> {
+    let words = [CursorReply::Word(Some(10)), CursorReply::Written];
+    let mut cursor = at_1(rt.alloc())?;
+    holds(&rt, &calls(rt.alloc(), &mut cursor)?, &words);
+    let mut turned = at_1_turned(rt.alloc())?;
+    holds(&rt, &turned_calls(rt.alloc(), &mut turned)?, &words);
+    Ok(())
+}

@@ -1,0 +1,295 @@
+//! What contracts alone tell a caller who knows the rows of a model: which row, which entry, which ends of a
+//! table. No body that answers otherwise meets them, however a proof of it may be refused.
+
+ghost use Rattle.std.specs.Prelude.{◌≡◌, ◌+◌, [], ◌∷◌, Some, Ok, Err, IfOk, true, false, map, nat_eq};
+ghost use Rattle.constriction.specs.Acceptance.{AreAccepted};
+ghost use Rattle.constriction.specs.Entries.{SameEntries};
+ghost use Rattle.constriction.specs.Probe.{IsRowIndexOf};
+ghost use Rattle.constriction.specs.Rows.{contiguous_rows, rows_of};
+
+use crate::chains::encoder_of;
+use crate::checks::same;
+use constriction::stream::model::{
+    DecoderModel, EncoderModel, EntropyModel, IterableEntropyModel, ModelError,
+    NonContiguousCategoricalDecoderModel, NonContiguousCategoricalEncoderModel,
+    NonContiguousLookupDecoderModel, SmallUniformModel, is_quantile, row_of_quantile,
+};
+use constriction_fixtures::contiguous::Table;
+use constriction_fixtures::given::{Lookup, lookup_of_four, of_four};
+use constriction_words::{NonZeroBitArray, WholeNumber};
+use std::alloc::{AllocError, Global};
+use std::test::Fail;
+
+pub type Decoder = NonContiguousCategoricalDecoderModel<char, u8, Vec<(u8, char)>, 6>;
+
+type Encoder = NonContiguousCategoricalEncoderModel<char, u8, 6>;
+
+type Tabled = NonContiguousLookupDecoderModel<char, u8, Vec<(u8, char)>, Vec<u8>, 6>;
+
+/// The row of the quantile 20 of a contiguous model.
+fn row_of_20(model: &Table<6>) -> Result<(usize, u8, u8), AllocError>
+    requires { ⟦<Table<6> as EntropyModel<6>>⟧.rows model.now ≡ contiguous_rows (3 ∷ 18 ∷ 1 ∷ 42 ∷ []) }
+    ensures { result ≡ Ok (1, 3, 18) }
+{
+    match model.quantile_function(20) {
+        Ok((symbol, left, weight)) => Ok((symbol, left, weight.get())),
+        Err(refusal) => Err(refusal),
+    }
+}
+
+/// The same by a table.
+fn looked_up(model: &Lookup) -> Result<(usize, u8, u8), AllocError>
+    requires { ⟦<Lookup as EntropyModel<6>>⟧.rows model.now ≡ contiguous_rows (3 ∷ 18 ∷ 1 ∷ 42 ∷ []) }
+    ensures { result ≡ Ok (1, 3, 18) }
+{
+    match model.quantile_function(20) {
+        Ok((symbol, left, weight)) => Ok((symbol, left, weight.get())),
+        Err(refusal) => Err(refusal),
+    }
+}
+
+/// The same in a view.
+fn looked_up_in_a_view(model: &Lookup) -> Result<(usize, u8, u8), AllocError>
+    requires { ⟦<Lookup as EntropyModel<6>>⟧.rows model.now ≡ contiguous_rows (3 ∷ 18 ∷ 1 ∷ 42 ∷ []) }
+    ensures { result ≡ Ok (1, 3, 18) }
+{
+    match model.as_view().quantile_function(20) {
+        Ok((symbol, left, weight)) => Ok((symbol, left, weight.get())),
+        Err(refusal) => Err(refusal),
+    }
+}
+
+/// The same of a decoder of letters, `x` of which has the second row.
+fn letter_of_20(model: &Decoder) -> Result<(char, u8, u8), AllocError>
+    requires { ⟦<Decoder as EntropyModel<6>>⟧.rows model.now
+        ≡ rows_of (97 ∷ 120 ∷ 99 ∷ 121 ∷ []) (3 ∷ 18 ∷ 1 ∷ 42 ∷ []) }
+    ensures { result ≡ Ok (120, 3, 18) }
+{
+    match model.quantile_function(20) {
+        Ok((symbol, left, weight)) => Ok((symbol, left, weight.get())),
+        Err(refusal) => Err(refusal),
+    }
+}
+
+/// The same by a table.
+fn letter_looked_up(model: &Tabled) -> Result<(char, u8, u8), AllocError>
+    requires { ⟦<Tabled as EntropyModel<6>>⟧.rows model.now
+        ≡ rows_of (97 ∷ 120 ∷ 99 ∷ 121 ∷ []) (3 ∷ 18 ∷ 1 ∷ 42 ∷ []) }
+    ensures { result ≡ Ok (120, 3, 18) }
+{
+    match model.quantile_function(20) {
+        Ok((symbol, left, weight)) => Ok((symbol, left, weight.get())),
+        Err(refusal) => Err(refusal),
+    }
+}
+
+/// The same in a clone.
+fn letter_looked_up_in_a_clone(model: &Tabled) -> Result<(char, u8, u8), AllocError>
+    requires { ⟦<Tabled as EntropyModel<6>>⟧.rows model.now
+        ≡ rows_of (97 ∷ 120 ∷ 99 ∷ 121 ∷ []) (3 ∷ 18 ∷ 1 ∷ 42 ∷ []) }
+    ensures { IfOk result (λ row. row ≡ (120, 3, 18)) }
+{
+    match model.clone()?.quantile_function(20) {
+        Ok((symbol, left, weight)) => Ok((symbol, left, weight.get())),
+        Err(refusal) => Err(refusal),
+    }
+}
+
+/// How many symbols a contiguous model has, and a decoder of letters.
+fn sizes(model: &Table<6>, letters: &Decoder) -> (usize, usize)
+    requires rows { ⟦<Table<6> as EntropyModel<6>>⟧.rows model.now ≡ contiguous_rows (3 ∷ 18 ∷ 1 ∷ 42 ∷ []) }
+    requires letters { ⟦<Decoder as EntropyModel<6>>⟧.rows letters.now
+        ≡ rows_of (97 ∷ 120 ∷ 99 ∷ 121 ∷ []) (3 ∷ 18 ∷ 1 ∷ 42 ∷ []) }
+    ensures { result ≡ (4, 4) }
+{
+    (model.support_size(), letters.support_size())
+}
+
+/// The entry of `x` by an encoder of letters.
+fn entry_of_x(model: &Encoder) -> Option<(u8, u8)>
+    requires { SameEntries nat_eq (⟦<Encoder as EntropyModel<6>>⟧.rows model.now)
+        (rows_of (97 ∷ 120 ∷ 99 ∷ 121 ∷ []) (3 ∷ 18 ∷ 1 ∷ 42 ∷ [])) }
+    ensures { result ≡ Some (3, 18) }
+{
+    let (left, weight) = model.left_cumulative_and_probability(&'x')?;
+    Some((left, weight.get()))
+}
+
+/// A clone of it, which has the same entries.
+fn cloned(model: &Encoder) -> Result<Encoder, AllocError>
+    requires { SameEntries nat_eq (⟦<Encoder as EntropyModel<6>>⟧.rows model.now)
+        (rows_of (97 ∷ 120 ∷ 99 ∷ 121 ∷ []) (3 ∷ 18 ∷ 1 ∷ 42 ∷ [])) }
+    ensures { IfOk result (λ m. SameEntries nat_eq (⟦<Encoder as EntropyModel<6>>⟧.rows m)
+        (rows_of (97 ∷ 120 ∷ 99 ∷ 121 ∷ []) (3 ∷ 18 ∷ 1 ∷ 42 ∷ []))) }
+{
+    model.clone()
+}
+
+/// The entry of the second symbol.
+fn second_entry(model: &Table<6>) -> Option<(u8, u8)>
+    requires { ⟦<Table<6> as EntropyModel<6>>⟧.rows model.now ≡ contiguous_rows (3 ∷ 18 ∷ 1 ∷ 42 ∷ []) }
+    ensures { result ≡ Some (3, 18) }
+{
+    let (left, weight) = model.left_cumulative_and_probability(&1)?;
+    Some((left, weight.get()))
+}
+
+/// The row of a quantile of a uniform model of five symbols.
+fn row_of_819() -> Result<(usize, u16, u16), AllocError>
+    ensures { result ≡ Ok (1, 819, 819) }
+{
+    match SmallUniformModel::new(5).quantile_function(819) {
+        Ok((symbol, left, weight)) => Ok((symbol, left, weight.get())),
+        Err(refusal) => Err(refusal),
+    }
+}
+
+/// The entry of its last symbol.
+fn last_entry() -> Option<(u16, u16)>
+    ensures { result ≡ Some (3276, 820) }
+{
+    let (left, weight) = SmallUniformModel::new(5).left_cumulative_and_probability(&4)?;
+    Some((left, weight.get()))
+}
+
+/// The symbols at both ends of a table, and how many rows are left between them.
+fn ends(model: &Table<6>) -> (Option<usize>, Option<usize>, usize)
+    requires { ⟦<Table<6> as EntropyModel<6>>⟧.rows model.now ≡ contiguous_rows (3 ∷ 18 ∷ 1 ∷ 42 ∷ []) }
+    ensures { result ≡ (Some 0, Some 3, 2) }
+{
+    let mut table = model.symbol_table();
+    let first = match table.next() {
+        Some(Ok((symbol, _, _))) => Some(symbol),
+        _ => None,
+    };
+    let last = match table.next_back() {
+        Some(Ok((symbol, _, _))) => Some(symbol),
+        _ => None,
+    };
+    (first, last, table.len())
+}
+
+/// The same of a uniform model of five symbols.
+fn uniform_ends() -> (Option<usize>, Option<usize>, usize)
+    ensures { result ≡ (Some 0, Some 4, 3) }
+{
+    let mut table = SmallUniformModel::new(5).symbol_table();
+    let first = match table.next() {
+        Some(Ok((symbol, _, _))) => Some(symbol),
+        _ => None,
+    };
+    let last = match table.next_back() {
+        Some(Ok((symbol, _, _))) => Some(symbol),
+        _ => None,
+    };
+    (first, last, table.len())
+}
+
+/// The same of a decoder of letters.
+fn letters_at_the_ends(model: &Decoder) -> (Option<char>, Option<char>, usize)
+    requires { ⟦<Decoder as EntropyModel<6>>⟧.rows model.now
+        ≡ rows_of (97 ∷ 120 ∷ 99 ∷ 121 ∷ []) (3 ∷ 18 ∷ 1 ∷ 42 ∷ []) }
+    ensures { result ≡ (Some 97, Some 121, 2) }
+{
+    let mut table = model.symbol_table();
+    let first = match table.next() {
+        Some(Ok((symbol, _, _))) => Some(symbol),
+        _ => None,
+    };
+    let last = match table.next_back() {
+        Some(Ok((symbol, _, _))) => Some(symbol),
+        _ => None,
+    };
+    (first, last, table.len())
+}
+
+/// Which row the probe of the quantile 20 begins with, and which one the counted search finds from there on.
+fn index_of_20(model: &Table<6>) -> (usize, usize)
+    ensures { IsRowIndexOf (⟦<Table<6> as EntropyModel<6>>⟧.rows model.now) 20 (result.0 + result.1) }
+{
+    let (first, mut rows) = model.quantile_probe(20);
+    (first, row_of_quantile(&mut rows, 20))
+}
+
+/// The same by the search among the rows that meet a slot.
+fn index_looked_up(model: &Tabled) -> (usize, usize)
+    ensures { IsRowIndexOf (⟦<Tabled as EntropyModel<6>>⟧.rows model.now) 20 (result.0 + result.1) }
+{
+    let (first, mut rows) = model.quantile_probe(20);
+    (first, row_of_quantile(&mut rows, 20))
+}
+
+/// Whether 63 and 64 are quantiles at a precision of 6.
+fn are_quantiles() -> (bool, bool)
+    ensures { result ≡ (true, false) }
+{
+    (is_quantile::<u8, 6>(63), is_quantile::<u8, 6>(64))
+}
+
+/// The greatest quantile at a precision of 6.
+fn last_quantile() -> u8
+    ensures { result ≡ 63 }
+{
+    u8::greatest(6)
+}
+
+/// The decoder of four letters: its rows are those of the letters and their weights, which are accepted, and
+/// where there is none but for want of memory, they are not.
+pub fn decoder_of(
+    alloc: Global,
+    symbols: [char; 4],
+    weights: [u8; 4],
+) -> Result<Decoder, ModelError>
+    ensures rows { IfOk result (λ m. ⟦<Decoder as EntropyModel<6>>⟧.rows m
+        ≡ rows_of symbols (map ⟦<u8 as WholeNumber>⟧.whole weights)) }
+    ensures accepted { IfOk result (λ _. AreAccepted ⟦<char as PartialEq>⟧.eq 8 6 symbols (map ⟦<u8 as WholeNumber>⟧.whole weights)) }
+    ensures invalid { result ≡ Err ModelError.InvalidTable
+        → ¬ (AreAccepted ⟦<char as PartialEq>⟧.eq 8 6 symbols (map ⟦<u8 as WholeNumber>⟧.whole weights)) }
+{
+    Decoder::from_symbols_and_nonzero_fixed_point_probabilities(alloc, symbols, weights, false)
+}
+
+/// The same of a lookup model over letters.
+fn lookup_of(alloc: Global, symbols: [char; 4], weights: [u8; 4]) -> Result<Tabled, ModelError>
+    ensures rows { IfOk result (λ m. ⟦<Tabled as EntropyModel<6>>⟧.rows m
+        ≡ rows_of symbols (map ⟦<u8 as WholeNumber>⟧.whole weights)) }
+    ensures invalid { result ≡ Err ModelError.InvalidTable
+        → ¬ (AreAccepted ⟦<char as PartialEq>⟧.eq 8 6 symbols (map ⟦<u8 as WholeNumber>⟧.whole weights)) }
+{
+    Tabled::from_symbols_and_nonzero_fixed_point_probabilities(alloc, symbols, weights, false)
+}
+
+#[test]
+fn contracts_leave_one_answer(rt: HostRuntime) -> Result<(), Fail> {
+    let model = of_four(rt.alloc(), [3, 18, 1, 42])?;
+    same(&rt, row_of_20(&model), Ok((1, 3, 18)));
+    same(&rt, second_entry(&model), Some((3, 18)));
+    same(&rt, ends(&model), (Some(0), Some(3), 2));
+    same(&rt, index_of_20(&model), (0, 1));
+    let tabled = lookup_of_four(rt.alloc(), [3, 18, 1, 42])?;
+    same(&rt, looked_up(&tabled), Ok((1, 3, 18)));
+    same(&rt, looked_up_in_a_view(&tabled), Ok((1, 3, 18)));
+    same(&rt, row_of_819(), Ok((1, 819, 819)));
+    same(&rt, last_entry(), Some((3276, 820)));
+    same(&rt, uniform_ends(), (Some(0), Some(4), 3));
+    same(&rt, are_quantiles(), (true, false));
+    same(&rt, last_quantile(), 63);
+    Ok(())
+}
+
+#[test]
+fn contracts_leave_one_answer_over_letters(rt: HostRuntime) -> Result<(), Fail> {
+    let model = decoder_of(rt.alloc(), ['a', 'x', 'c', 'y'], [3, 18, 1, 42])?;
+    same(&rt, letter_of_20(&model), Ok(('x', 3, 18)));
+    same(&rt, letters_at_the_ends(&model), (Some('a'), Some('y'), 2));
+    let numbers = of_four(rt.alloc(), [3, 18, 1, 42])?;
+    same(&rt, sizes(&numbers, &model), (4, 4));
+    let encoder = encoder_of(rt.alloc(), &model)?;
+    same(&rt, entry_of_x(&encoder), Some((3, 18)));
+    same(&rt, entry_of_x(&cloned(&encoder)?), Some((3, 18)));
+    let tabled = lookup_of(rt.alloc(), ['a', 'x', 'c', 'y'], [3, 18, 1, 42])?;
+    same(&rt, letter_looked_up(&tabled), Ok(('x', 3, 18)));
+    same(&rt, letter_looked_up_in_a_clone(&tabled), Ok(('x', 3, 18)));
+    same(&rt, index_looked_up(&tabled), (1, 0));
+    Ok(())
+}

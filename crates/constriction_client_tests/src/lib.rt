@@ -1,0 +1,34 @@
+//! The tests of items there and back, chains of conversions, queries, and runs of calls on a cursor.
+//!
+//! A library that has tests of its own is proved twice, so none of them has any. Tests use the
+//! public interface alone.
+#![tactic(auto)]
+
+#[cfg(test)]
+mod adapters;
+#[cfg(test)]
+mod chains;
+#[cfg(test)]
+mod checks;
+#[cfg(test)]
+mod cursor_runs;
+#[cfg(test)]
+mod failing_sinks;
+#[cfg(test)]
+mod failing_sources;
+#[cfg(test)]
+mod items;
+#[cfg(test)]
+mod known;
+#[cfg(test)]
+mod known_models;
+#[cfg(test)]
+mod message;
+#[cfg(test)]
+mod model_checks;
+#[cfg(test)]
+mod owned_symbols;
+#[cfg(test)]
+mod queries;
+#[cfg(test)]
+mod two_models;

@@ -1,0 +1,181 @@
+//! Models of any symbols, over worked tables.
+
+ghost use Rattle.std.specs.Prelude.{◌<◌, ◌≤◌};
+
+use constriction::stream::model::{
+    DecoderModel, EncoderModel, IterableEntropyModel, ModelError,
+    NonContiguousCategoricalDecoderModel, NonContiguousCategoricalEncoderModel,
+    NonContiguousSymbolTable, Probe, Weight,
+};
+use constriction_words::NonZeroBitArray;
+use std::alloc::{AllocError, Global};
+use std::process::Abort;
+
+/// A decoder's model of letters.
+pub type Decoder<const PRECISION: usize> = NonContiguousCategoricalDecoderModel<
+    char,
+    u8,
+    Vec<(u8, char)>,
+    PRECISION,
+>;
+
+/// An encoder's model of letters.
+pub type Encoder<const PRECISION: usize> = NonContiguousCategoricalEncoderModel<
+    char,
+    u8,
+    PRECISION,
+>;
+
+/// A row, as tests write it down.
+pub type Row = (char, u8, u8);
+
+pub const SYMBOLS: [char; 4] = ['a', 'x', 'c', 'y'];
+
+pub const WEIGHTS: [u8; 4] = [3, 18, 1, 42];
+
+pub const ROWS: [Row; 4] = [('a', 0, 3), ('x', 3, 18), ('c', 21, 1), ('y', 22, 42)];
+
+/// The decoder's model of these letters and weights.
+pub fn decoder<const PRECISION: usize>(
+    alloc: Global,
+    symbols: &[char],
+    weights: &[u8],
+    infer: bool,
+) -> Result<Decoder<PRECISION>, ModelError>
+    requires positive { 0 < PRECISION }
+    requires fits { PRECISION ≤ 8 }
+{
+    Decoder::from_symbols_and_nonzero_fixed_point_probabilities(
+        alloc,
+        symbols.iter().copied(),
+        weights.iter().copied(),
+        infer,
+    )
+}
+
+/// The encoder's model of these letters and weights.
+pub fn encoder<const PRECISION: usize>(
+    alloc: Global,
+    symbols: &[char],
+    weights: &[u8],
+    infer: bool,
+) -> Result<Encoder<PRECISION>, ModelError>
+    requires positive { 0 < PRECISION }
+    requires fits { PRECISION ≤ 8 }
+{
+    Encoder::from_symbols_and_nonzero_fixed_point_probabilities(
+        alloc,
+        symbols.iter().copied(),
+        weights.iter().copied(),
+        infer,
+    )
+}
+
+/// The row of an answer, with its weight as a plain word.
+pub fn plain<Symbol: Drop>(
+    answer: Result<(Symbol, u8, Weight<u8>), AllocError>,
+) -> Result<(Symbol, u8, u8), AllocError> {
+    let (symbol, left, weight) = answer?;
+    Ok((symbol, left, weight.get()))
+}
+
+/// The entry of an answer, with its weight as a plain word.
+pub fn plain_entry(answer: Option<(u8, Weight<u8>)>) -> Option<(u8, u8)> {
+    let (left, weight) = answer?;
+    Some((left, weight.get()))
+}
+
+/// The left cumulative and the weight of a letter.
+pub fn entry<const PRECISION: usize>(model: &Encoder<PRECISION>, symbol: char) -> Option<(u8, u8)> {
+    plain_entry(model.left_cumulative_and_probability(&symbol))
+}
+
+/// Letters and weights that are not accepted, and whether the last weight is inferred.
+pub const REFUSED: [(&str, &[char], &[u8], bool); 15] = [
+    ("one symbol too few", &['a', 'x', 'c'], &WEIGHTS, false),
+    (
+        "one symbol too many",
+        &['a', 'x', 'c', 'y', 'z'],
+        &WEIGHTS,
+        false,
+    ),
+    (
+        "no symbol for the inferred weight",
+        &['a', 'x', 'c'],
+        &[3, 18, 1],
+        true,
+    ),
+    (
+        "one symbol too many after it",
+        &['a', 'x', 'c', 'y', 'z'],
+        &[3, 18, 1],
+        true,
+    ),
+    ("equal neighbours", &['a', 'a'], &[32, 32], false),
+    (
+        "equal symbols that are no neighbours",
+        &['a', 'b', 'a'],
+        &[16, 16, 32],
+        false,
+    ),
+    (
+        "an equal symbol for the inferred weight",
+        &['a', 'a'],
+        &[32],
+        true,
+    ),
+    ("the sum is one too many", &SYMBOLS, &[3, 18, 1, 43], false),
+    ("the sum is one too few", &SYMBOLS, &[3, 18, 1, 41], false),
+    ("a weight of 0", &['a', 'x', 'c'], &[3, 0, 61], false),
+    ("no symbol", &[], &[], false),
+    ("one weight too few", &SYMBOLS, &[3, 18, 1], false),
+    ("the wrapped sum is 64", &['a', 'x'], &[255, 65], false),
+    ("nothing is left to infer", &['a', 'x'], &[64], true),
+    (
+        "less than nothing is left",
+        &['a', 'x', 'c'],
+        &[60, 5],
+        true,
+    ),
+];
+
+/// The same at the full width.
+pub const FULL_REFUSED: [(&str, &[char], &[u8], bool); 4] = [
+    (
+        "the wrapped sum is 0",
+        &SYMBOLS,
+        &[128, 128, 128, 128],
+        false,
+    ),
+    ("256 is no word", &['a'], &[], true),
+    (
+        "nothing is left to infer",
+        &['a', 'x', 'c'],
+        &[128, 128],
+        true,
+    ),
+    ("equal symbols", &['a', 'a'], &[128, 128], false),
+];
+
+/// Whether a step is from the back, how many rows are left before it, and the row that it gives.
+pub type Step = (bool, usize, Option<Result<Row, AllocError>>);
+
+/// From the back alone, and from both ends.
+pub const STEPS: [[Step; 6]; 2] = [
+    [
+        (true, 4, Some(Ok(('y', 22, 42)))),
+        (true, 3, Some(Ok(('c', 21, 1)))),
+        (true, 2, Some(Ok(('x', 3, 18)))),
+        (true, 1, Some(Ok(('a', 0, 3)))),
+        (true, 0, None),
+        (false, 0, None),
+    ],
+    [
+        (false, 4, Some(Ok(('a', 0, 3)))),
+        (true, 3, Some(Ok(('y', 22, 42)))),
+        (true, 2, Some(Ok(('c', 21, 1)))),
+        (false, 1, Some(Ok(('x', 3, 18)))),
+        (false, 0, None),
+        (true, 0, None),
+    ],
+];

@@ -1,0 +1,32 @@
+//! What a caller knows of a model that it makes of an array of weights.
+
+ghost use Rattle.std.specs.Prelude.{◌≡◌, Err, IfOk, map};
+ghost use Rattle.constriction.specs.Acceptance.{IsAccepted};
+ghost use Rattle.constriction.specs.Rows.{contiguous_rows};
+
+use crate::contiguous::Table;
+use constriction::stream::model::{ContiguousLookupDecoderModel, EntropyModel, ModelError};
+use constriction_words::WholeNumber;
+use std::alloc::Global;
+
+pub type Lookup = ContiguousLookupDecoderModel<u8, Vec<u8>, Vec<u8>, 6>;
+
+/// The model of four weights: its rows are those of the weights, which are accepted, and where there is none
+/// but for want of memory, they are not.
+pub fn of_four(alloc: Global, weights: [u8; 4]) -> Result<Table<6>, ModelError>
+    ensures rows { IfOk result (λ m. ⟦<Table<6> as EntropyModel<6>>⟧.rows m
+        ≡ contiguous_rows (map ⟦<u8 as WholeNumber>⟧.whole weights)) }
+    ensures accepted { IfOk result (λ _. IsAccepted 8 6 (map ⟦<u8 as WholeNumber>⟧.whole weights)) }
+    ensures invalid { result ≡ Err ModelError.InvalidTable → ¬ (IsAccepted 8 6 (map ⟦<u8 as WholeNumber>⟧.whole weights)) }
+{
+    Table::from_nonzero_fixed_point_probabilities(alloc, weights, false)
+}
+
+/// The same of the lookup model of four weights.
+pub fn lookup_of_four(alloc: Global, weights: [u8; 4]) -> Result<Lookup, ModelError>
+    ensures rows { IfOk result (λ m. ⟦<Lookup as EntropyModel<6>>⟧.rows m
+        ≡ contiguous_rows (map ⟦<u8 as WholeNumber>⟧.whole weights)) }
+    ensures invalid { result ≡ Err ModelError.InvalidTable → ¬ (IsAccepted 8 6 (map ⟦<u8 as WholeNumber>⟧.whole weights)) }
+{
+    Lookup::from_nonzero_fixed_point_probabilities(alloc, weights, false)
+}

@@ -1,0 +1,13 @@
+//! The models that tests of several crates ask, with their rows and what is asked of them.
+#![tactic(auto)]
+
+pub mod any_symbols;
+pub mod contiguous;
+pub mod conversions;
+pub mod given;
+pub mod lookup_any_symbols;
+pub mod marked;
+pub mod own_model;
+pub mod symbol_types;
+pub mod tables;
+pub mod widths;

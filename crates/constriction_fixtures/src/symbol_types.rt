@@ -1,0 +1,36 @@
+//! Models of symbols whose type says itself what is equal, or which values may be cloned.
+
+ghost use Rattle.std.specs.Prelude.{◌≡◌, ◌==◌, ◌<◌};
+ghost use Rattle.std.specs.Hash as fed;
+
+use crate::conversions::Decoder;
+use constriction::stream::model::{DecoderModel, EncoderModel, IterableEntropyModel, ModelError};
+use std::alloc::{AllocError, Global};
+use std::hash::{Hash, Hasher};
+
+/// A letter, of which memory for a clone is refused where it is `r`.
+#[derive(Debug, PartialEq, Eq, Hash, Drop)]
+pub struct Letter(pub char);
+
+impl Clone for Letter {
+    ghost is_clone = { λ x y. y ≡ x };
+
+    fn clone(&self) -> Result<Letter, AllocError> {
+        if self.0 == 'r' {
+            return Err(AllocError);
+        }
+        Ok(Letter(self.0))
+    }
+}
+
+pub type LetterDecoder = Decoder<Letter, 6>;
+
+/// The model of `a`, `r` and `c`.
+pub fn letters(alloc: Global) -> Result<LetterDecoder, ModelError> {
+    LetterDecoder::from_symbols_and_nonzero_fixed_point_probabilities(
+        alloc,
+        [Letter('a'), Letter('r'), Letter('c')],
+        [16, 32, 16],
+        false,
+    )
+}

@@ -1,0 +1,20 @@
+//! The tests of models that look up where to search.
+//!
+//! A library that has tests of its own is proved twice, so none of them has any. Tests use the
+//! public interface alone.
+#![tactic(auto)]
+
+#[cfg(test)]
+mod checks;
+#[cfg(test)]
+mod lookup_any_symbols;
+#[cfg(test)]
+mod lookup_contiguous;
+#[cfg(test)]
+mod model_checks;
+#[cfg(test)]
+mod refused_lookup_memory;
+#[cfg(test)]
+mod slot_bits;
+#[cfg(test)]
+mod wide_slots;

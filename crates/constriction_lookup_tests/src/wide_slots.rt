@@ -1,0 +1,270 @@
+//! Lookup models whose slots hold more than one quantile, over each word, and the questions of a search
+//! among the rows that meet a slot.
+
+ghost use Rattle.std.specs.Prelude.{◌^◌, ◌<◌, ◌≤◌};
+
+use crate::checks::{same, same_at};
+use constriction::stream::model::{
+    ContiguousLookupDecoderModel, DecoderModel, ModelError, Probe,
+    SmallContiguousLookupDecoderModel, row_of_quantile,
+};
+use constriction_fixtures::widths::{Model, model_of};
+use constriction_words::{IndexWord, NonZeroBitArray, WholeNumber};
+use std::alloc::Global;
+use std::iter;
+use std::process::Abort;
+use std::test::Fail;
+
+/// A lookup model over words, of which only the word and the precision are named.
+type Lookup<Word, const PRECISION: usize> = ContiguousLookupDecoderModel<
+    Word,
+    Vec<Word>,
+    Vec<Word>,
+    PRECISION,
+>;
+
+/// The lookup model of weights in a slice.
+fn lookup_of<Word: IndexWord, const PRECISION: usize>(
+    alloc: Global,
+    weights: &[Word],
+    infer_last: bool,
+) -> Result<Lookup<Word, PRECISION>, ModelError>
+    requires positive { 0 < PRECISION }
+    requires narrow { PRECISION ≤ 63 }
+    requires fits { PRECISION ≤ Word.BITS }
+{
+    Lookup::<Word, PRECISION>::from_nonzero_fixed_point_probabilities(
+        alloc,
+        weights.iter().copied(),
+        infer_last,
+    )
+}
+
+/// The row of a quantile, with its weight as a plain word.
+fn row_of<Word: IndexWord, const PRECISION: usize>(
+    model: &Lookup<Word, PRECISION>,
+    quantile: Word,
+) -> Option<(usize, Word, Word)>
+    requires { Word.whole quantile < 2 ^ PRECISION }
+{
+    let (symbol, left, weight) = model.quantile_function(quantile).ok()?;
+    Some((symbol, left, Word::from_weight(weight)))
+}
+
+/// What the search finds among the rows that meet the quantile's slot, how many these are, and how often
+/// it asked.
+fn searched<Word: IndexWord, const PRECISION: usize>(
+    model: &Lookup<Word, PRECISION>,
+    quantile: Word,
+) -> (Option<usize>, usize, usize)
+    requires { Word.whole quantile < 2 ^ PRECISION }
+{
+    let (first, mut rows) = model.quantile_probe(quantile);
+    let index = row_of_quantile(&mut rows, quantile);
+    (first.checked_add(index), rows.len(), rows.asked())
+}
+
+type Small = SmallContiguousLookupDecoderModel;
+
+fn small_row(model: &Small, quantile: u16) -> Option<(usize, u16, u16)>
+    requires { quantile < 4096 }
+{
+    row_of(model, quantile)
+}
+
+fn small_searched(model: &Small, quantile: u16) -> (Option<usize>, usize, usize)
+    requires { quantile < 4096 }
+{
+    searched(model, quantile)
+}
+
+#[test]
+fn five_rows_that_share_a_slot_are_searched(rt: HostRuntime) -> Result<(), Fail> {
+    let model: Small = lookup_of::<u16, 12>(rt.alloc(), &[1, 1, 1, 1, 4092], false)?;
+    for (quantile, symbol) in [(3u16, 3usize), (4, 4), (5, 4), (15, 4)] {
+        assert!(rt; quantile < 4096);
+        let (found, size, asked) = small_searched(&model, quantile);
+        same_at(&rt, quantile, (found, size), (Some(symbol), 5));
+        same_at(&rt, quantile, asked <= 3, true);
+    }
+    same(&rt, small_searched(&model, 16), (Some(4), 1, 0));
+    same(&rt, small_row(&model, 16), Some((4, 4, 4092)));
+    Ok(())
+}
+
+/// The row of a quantile of the model that searches all rows.
+fn row_of_all(model: &Model<u16, 12>, quantile: u16) -> Option<(usize, u16, u16)>
+    requires { quantile < 4096 }
+{
+    let (symbol, left, weight) = model.quantile_function(quantile).ok()?;
+    Some((symbol, left, weight.get()))
+}
+
+/// Stops the test where the lookup model of the weights and the searching one have another row for one of
+/// the 4,096 quantiles, or a search of its slot finds another one or asks more than `most` questions.
+fn answer_alike(
+    rt: &impl Abort,
+    alloc: Global,
+    weights: &[u16],
+    most: usize,
+) -> Result<(), ModelError> {
+    let lookup: Small = lookup_of::<u16, 12>(alloc, weights, false)?;
+    let searching = model_of::<u16, 12>(alloc, weights, false)?;
+    for quantile in 0..4096u16 {
+        let row = small_row(&lookup, quantile);
+        same_at(rt, quantile, row, row_of_all(&searching, quantile));
+        let (found, _, asked) = small_searched(&lookup, quantile);
+        same_at(rt, quantile, (found, asked <= most), (symbol_in(row), true));
+    }
+    Ok(())
+}
+
+/// The symbol of a row.
+fn symbol_in(row: Option<(usize, u16, u16)>) -> Option<usize> {
+    let (symbol, _, _) = row?;
+    Some(symbol)
+}
+
+/// A slot has 16 quantiles, so that at most 16 rows meet one.
+#[test]
+fn each_quantile_of_12_bits_has_the_row_that_a_search_of_all_finds(
+    rt: HostRuntime,
+) -> Result<(), Fail> {
+    for (weights, most) in [
+        ([4096u16].as_slice(), 0),
+        (&[2048, 2048], 0),
+        (&[16; 256], 0),
+        (&[1, 4095], 1),
+        (&[4095, 1], 1),
+        (&[2047, 2, 2047], 1),
+        (&[8; 512], 1),
+        (&[15, 17, 4064], 1),
+        (&[1, 1, 1, 1, 4092], 3),
+        (&[3, 1000, 1, 17, 2060, 15, 1000], 2),
+        (&[1; 4096], 4),
+    ] {
+        answer_alike(&rt, rt.alloc(), weights, most)?;
+    }
+    Ok(())
+}
+
+type Full = Lookup<u16, 16>;
+
+fn full_row(model: &Full, quantile: u16) -> Option<(usize, u16, u16)> {
+    row_of(model, quantile)
+}
+
+/// The row of the last quantile of 16 bits.
+fn last_of_16_bits(alloc: Global, weights: &[u16]) -> Result<(usize, u16, u16), ModelError> {
+    let model = lookup_of::<u16, 16>(alloc, weights, false)?;
+    full_row(&model, u16::MAX).ok_or(ModelError::OutOfMemory)
+}
+
+#[test]
+fn each_quantile_of_16_bits_may_have_a_row_of_its_own(rt: HostRuntime) -> Result<(), Fail> {
+    let ones = vec![in rt.alloc(); 1u16; 65_536]?;
+    let model = lookup_of::<u16, 16>(rt.alloc(), &ones, false)?;
+    for quantile in 0..=u16::MAX {
+        let row = full_row(&model, quantile);
+        same_at(&rt, quantile, row, Some((quantile as usize, quantile, 1)));
+    }
+    let last = last_of_16_bits(rt.alloc(), &[65_535, 1]);
+    same(&rt, last, Ok((1, 65_535, 1)));
+    for weights in [[65_535u16, 2].as_slice(), &[32_768; 4]] {
+        let refused = last_of_16_bits(rt.alloc(), weights);
+        same(&rt, refused, Err(ModelError::InvalidTable));
+    }
+    Ok(())
+}
+
+/// Stops the test where a quantile of the lookup model has not this row, or a search among the rows that
+/// meet its slot asks not as often.
+fn has_row<const PRECISION: usize>(
+    rt: &impl Abort,
+    model: &Lookup<usize, PRECISION>,
+    quantile: usize,
+    row: (usize, usize, usize),
+    questions: usize,
+)
+    requires { quantile < 2 ^ PRECISION }
+{
+    same_at(rt, quantile, row_of(model, quantile), Some(row));
+    let (found, _, asked) = searched(model, quantile);
+    same_at(rt, quantile, (found, asked), (Some(row.0), questions));
+}
+
+#[test]
+fn two_rows_of_many_quantiles_may_have_slots_of_their_own(rt: HostRuntime) -> Result<(), Fail> {
+    let half = 1usize << 39;
+    let model = lookup_of::<usize, 40>(rt.alloc(), &[1 << 39, 1 << 39], false)?;
+    has_row::<40>(&rt, &model, (1 << 39) - 1, (0, 0, half), 0);
+    has_row::<40>(&rt, &model, 1 << 39, (1, half, half), 0);
+    Ok(())
+}
+
+#[test]
+fn a_slot_of_63_bits_is_searched_where_two_rows_meet_it(rt: HostRuntime) -> Result<(), Fail> {
+    let most = (1usize << 63) - 1;
+    let model = lookup_of::<usize, 63>(rt.alloc(), &[1, (1 << 63) - 1], false)?;
+    has_row::<63>(&rt, &model, 0, (0, 0, 1), 1);
+    has_row::<63>(&rt, &model, 1, (1, 1, most), 1);
+    has_row::<63>(&rt, &model, 1 << 62, (1, 1, most), 0);
+    has_row::<63>(&rt, &model, (1 << 63) - 1, (1, 1, most), 0);
+    Ok(())
+}
+
+/// The model of 4,194,303 rows of weight 1 in the first slot, and one row of all that is left.
+fn many_rows_in_a_slot(alloc: Global) -> Result<Lookup<usize, 40>, ModelError> {
+    let ones = iter::repeat_n(1usize, 4_194_303);
+    Lookup::<usize, 40>::from_nonzero_fixed_point_probabilities(alloc, ones, true)
+}
+
+/// Whether the quantile's row has its number and the weight 1, and a search finds it by at most 22
+/// questions.
+fn is_found(model: &Lookup<usize, 40>, quantile: usize) -> bool
+    requires { quantile < 2 ^ 40 }
+{
+    let (found, _, asked) = searched(model, quantile);
+    row_of(model, quantile) == Some((quantile, quantile, 1))
+        && found == Some(quantile)
+        && asked <= 22
+}
+
+/// Each quantile of a row of weight 1. No clause says that `quantile_function` does not go over the rows
+/// before it searches; if it did, these 4,194,303 look-ups would not end within a minute.
+#[test]
+fn a_slot_that_4_194_304_rows_meet_is_searched(rt: HostRuntime) -> Result<(), Fail> {
+    let model = many_rows_in_a_slot(rt.alloc())?;
+    for quantile in 0..4_194_303usize {
+        same_at(&rt, quantile, is_found(&model, quantile), true);
+    }
+    Ok(())
+}
+
+/// Why weights are refused, of which the second one is more than there are quantiles.
+fn refused_for_more(alloc: Global, infer_last: bool) -> Option<ModelError> {
+    lookup_of::<usize, 6>(alloc, &[60, 1 << 40], infer_last).err()
+}
+
+/// Why weights are refused that are more than there are quantiles.
+fn refused_for_many(alloc: Global) -> Option<ModelError> {
+    let ones = iter::repeat_n(1usize, 1 << 60);
+    Lookup::<usize, 8>::from_nonzero_fixed_point_probabilities(alloc, ones, false).err()
+}
+
+/// A table of one entry a quantile would ask for terabytes before these are refused.
+#[test]
+fn weights_are_refused_before_a_table_grows(rt: HostRuntime) {
+    for infer_last in [false, true] {
+        same(
+            &rt,
+            refused_for_more(rt.alloc(), infer_last),
+            Some(ModelError::InvalidTable),
+        );
+    }
+    same(
+        &rt,
+        refused_for_many(rt.alloc()),
+        Some(ModelError::InvalidTable),
+    );
+}

@@ -1,0 +1,44 @@
+-- The number of binary digits.
+use Rattle.std.proofs.Common.{◌≡◌, ℕ, suc, zero, ◌+◌, ◌-◌, ◌/◌, ◌^◌, ◌<◌, ◌≤◌, ap, sym, refl, ◌∙◌, arith}
+use Rattle.constriction_model.specs.Probe.{digits, digits_in}
+
+digits_in-zero : (f : ℕ) → digits_in f 0 ≡ 0
+digits_in-zero zero = refl
+digits_in-zero (suc f) = refl
+
+-- any bound that is large enough gives one number
+digits_in-same : (f g n : ℕ) → n ≤ f → n ≤ g → digits_in f n ≡ digits_in g n
+digits_in-same f g zero p q = digits_in-zero f ∙ sym (digits_in-zero g)
+digits_in-same zero g (suc n) p q = absurd (omega arith)
+digits_in-same (suc f) zero (suc n) p q = absurd (omega arith)
+digits_in-same (suc f) (suc g) (suc n) p q = ap (λ k. 1 + k) (digits_in-same f g (suc n / 2) (omega arith) (omega arith))
+
+pub digits-zero : digits 0 ≡ 0
+unfolding digits
+digits-zero = refl
+
+pub digits-half : (n : ℕ) → 0 < n → digits n ≡ 1 + digits (n / 2)
+unfolding digits
+digits-half zero h = absurd (omega arith)
+digits-half (suc n) h = ap (λ k. 1 + k) (digits_in-same n (suc n / 2) (suc n / 2) (omega arith) (omega arith))
+
+-- half of the rows, rounded up, leave one digit fewer
+pub digits_step : (n : ℕ) → 1 < n → digits (n - 1) ≡ 1 + digits ((n - n / 2) - 1)
+digits_step n h =
+    let less : (n - 1) / 2 ≡ (n - n / 2) - 1 = omega arith in
+    digits-half (n - 1) (omega arith) ∙ ap (λ k. 1 + digits k) less
+
+pub digits_some : (n : ℕ) → 0 < n → 0 < digits n
+digits_some n h = omega (arith, digits-half n h)
+
+pub digits_most : (d n : ℕ) → n < 2 ^ d → digits n ≤ d
+digits_most d zero h = omega (arith, digits-zero)
+digits_most zero (suc n) h = absurd (omega arith)
+digits_most (suc d) (suc n) h = omega (arith, digits-half (suc n) (omega arith), digits_most d (suc n / 2) (omega arith))
+
+-- a list that a word can count has at most 64 digits
+pub digits_word : (n : ℕ) → n < 2 ^ 64 → digits (n - 1) ≤ 64
+digits_word n h = digits_most 64 (n - 1) (omega arith)
+
+pub digits_more : (n : ℕ) → 1 < n → 0 < digits (n - 1)
+digits_more n h = digits_some (n - 1) (omega arith)

@@ -1,0 +1,7 @@
+mod AnswerLemmas
+pub mod Differences
+mod Digits
+pub mod Finding
+pub mod Halving
+pub mod StepLemmas
+mod UniformLemmas

@@ -1,0 +1,5 @@
+use Rattle.constriction_model.specs.WalkLemmas.{row-count}
+use Rattle.constriction_model.proofs.laws.uniform_row_count.Goals as goal
+
+pub returns : goal.returns
+returns c = row-count

@@ -1,0 +1,16 @@
+pub mod Acceptance
+pub mod CodingLemmas
+pub mod Entries
+pub mod GivenLemmas
+pub mod Laws
+pub mod Model
+pub mod PairLemmas
+pub mod Probe
+pub mod RowLemmas
+pub mod Rows
+pub mod Scanning
+pub mod Searching
+pub mod StandLemmas
+pub mod Tables
+pub mod UniformRowLemmas
+pub mod WalkLemmas

@@ -1,0 +1,39 @@
+-- Searching a list of cumulatives by questions that are counted, and which rows a model's probe tells.
+use Rattle.std.specs.Prelude.{◌≡◌, ◌↔◌, ℕ, suc, zero, ◌+◌, ◌/◌, ◌<◌, ◌≤◌, List, length, map, take, drop, slice_index, slice_index_or}
+use Rattle.std.specs.List.Sorted.{IsStrictlyIncreasing}
+use Rattle.constriction_model.specs.Rows.{Row, IsRowOf}
+
+-- how many binary digits n has, among the lowest `most`
+abbrev pub digits_in : ℕ → ℕ → ℕ
+digits_in zero n = 0
+digits_in (suc most) zero = 0
+digits_in (suc most) (suc n) = 1 + digits_in most (suc n / 2)
+
+-- how many binary digits n has: none for 0, and for any other number one more than its half has
+unfoldable pub digits : ℕ → ℕ
+digits n = digits_in n n
+
+-- a list that can be searched for q: it is not empty, it increases, and it begins at q or below
+pub record IsSearchable (cumulatives : List ℕ) (q : ℕ) : Type 0 where
+  pub some : 0 < length cumulatives
+  pub increases : IsStrictlyIncreasing cumulatives
+  pub begins : slice_index cumulatives 0 ≤ q
+
+-- the greatest index whose cumulative is at most q
+pub record IsLastAtMost (cumulatives : List ℕ) (q i : ℕ) : Type 0 where
+  pub in_bounds : i < length cumulatives
+  pub at_most : slice_index cumulatives i ≤ q
+  pub last : (j : ℕ) → i < j → j < length cumulatives → q < slice_index cumulatives j
+
+-- the rows in question are those from `first` on that are told, and no other row; what is told are their left cumulatives, in order
+pub record TellsRows {Symbol : Type 0} (rows : List (Row Symbol)) (InQuestion : Row Symbol → Type 0) (first : ℕ)
+    (told : List ℕ) : Type 0 where
+  pub exactly : (i : ℕ) (r : Row Symbol) → i < length rows
+      → InQuestion (slice_index_or rows i r) ↔ ((first ≤ i) × (i < first + length told))
+  pub within : first + length told ≤ length rows
+  pub in_order : told ≡ take (length told) (drop first (map (λ r. r.left) rows))
+
+-- the row of the quantile q stands at that index
+pub record IsRowIndexOf {Symbol : Type 0} (rows : List (Row Symbol)) (q i : ℕ) : Type 0 where
+  pub in_bounds : i < length rows
+  pub row : (r : Row Symbol) → IsRowOf rows q (slice_index_or rows i r)

@@ -1,0 +1,99 @@
+//! Probes of stored rows.
+
+ghost use Rattle.std.specs.Prelude.{◌≡◌, ◌+◌, ◌<◌, ◌≤◌, ℕ, length, map};
+
+use crate::probe::Probe;
+use constriction_numbers::WholeNumber;
+use std::marker::PhantomData;
+
+/// How the entries of a stored table tell their cumulatives.
+pub trait CdfEntry<Entry> {
+    /// The words that cumulatives are.
+    type Word: WholeNumber;
+
+    // The cumulative of an entry.
+    ghost cumulative: { Entry → ℕ };
+
+    /// The cumulative of an entry.
+    fn cumulative_of(entry: &Entry) -> Self::Word
+        ensures { Self.Word.whole result ≡ cumulative entry.now };
+}
+
+/// Entries that are a cumulative alone, as contiguous models store them.
+#[derive(Drop)]
+pub struct Alone;
+
+impl<P: WholeNumber> CdfEntry<P> for Alone {
+    type Word = P;
+
+    ghost cumulative = { P.whole };
+
+    #[inline]
+    fn cumulative_of(entry: &P) -> P {
+        *entry
+    }
+}
+
+/// Entries that are a cumulative and the symbol of its row.
+#[derive(Drop)]
+pub struct WithSymbol;
+
+impl<P: WholeNumber, Symbol> CdfEntry<(P, Symbol)> for WithSymbol {
+    type Word = P;
+
+    ghost cumulative = { λ x. P.whole x.0 };
+
+    #[inline]
+    fn cumulative_of(entry: &(P, Symbol)) -> P {
+        entry.0
+    }
+}
+
+/// A probe of some consecutive rows of a model, lent from where the model stores them.
+#[derive(Drop)]
+pub struct CdfProbe<'c, Entry, Kind: CdfEntry<Entry>> {
+    entries: &'c [Entry],
+    asked: usize,
+    kind: PhantomData<Kind>,
+}
+
+impl<'c, Entry, Kind: CdfEntry<Entry>> CdfProbe<'c, Entry, Kind> {
+    /// A probe of these entries that was asked nothing yet.
+    #[inline]
+    pub fn new(entries: &'c [Entry]) -> Self
+        ensures cumulatives { ⟦<CdfProbe<'c, Entry, Kind> as Probe>⟧.cumulatives result ≡ map Kind.cumulative entries.now }
+        ensures fresh { ⟦<CdfProbe<'c, Entry, Kind> as Probe>⟧.questions result ≡ 0 }
+    {
+        Self {
+            entries,
+            asked: 0,
+            kind: PhantomData,
+        }
+    }
+}
+
+impl<'c, Entry, Kind: CdfEntry<Entry>> Probe for CdfProbe<'c, Entry, Kind> {
+    type Word = Kind::Word;
+
+    ghost number = { Kind.Word.whole };
+
+    ghost cumulatives = { λ p. map Kind.cumulative p.entries.now };
+
+    ghost questions = { λ p. p.asked };
+
+    #[inline]
+    fn len(&self) -> usize {
+        self.entries.len()
+    }
+
+    #[inline]
+    fn asked(&self) -> usize {
+        self.asked
+    }
+
+    #[inline]
+    fn at_most(&mut self, index: usize, q: Kind::Word) -> bool {
+        self.asked += 1;
+        Kind::cumulative_of(&self.entries[index]).is_at_most(q)
+    }
+}

@@ -1,0 +1,21 @@
+//! Which words are quantiles.
+
+ghost use Rattle.std.specs.Prelude.{◌≡◌, ◌↔◌, ◌^◌, ◌<◌, ◌≤◌, IsTrue};
+
+use constriction_numbers::WholeNumber;
+
+/// Whether a word is a quantile: below `2^PRECISION`, which may be more than any word.
+///
+/// This is the condition of
+/// [`quantile_function`](crate::DecoderModel::quantile_function), asked of a word
+/// from outside. At the full width of the word each word is a quantile; a caller whose `PRECISION`
+/// is that width learns the same without a test from the clause `range` of
+/// `BitArray::into_nonzero`.
+#[inline]
+pub fn is_quantile<P: WholeNumber, const PRECISION: usize>(word: P) -> bool
+    requires positive { 0 < PRECISION }
+    requires fits { PRECISION ≤ P.BITS }
+    ensures { IsTrue result ↔ (P.whole word < 2 ^ PRECISION) }
+{
+    word.is_at_most(P::greatest(PRECISION))
+}

@@ -1,0 +1,91 @@
+//! The search for the row of a quantile, by halving.
+
+ghost use Rattle.std.specs.Prelude.{◌≡◌, ◌+◌, ◌-◌, ◌<◌, ◌≤◌, length};
+ghost use Rattle.constriction_model.specs.Searching.{IsNarrowed};
+ghost use Rattle.constriction_model.specs.Probe.{digits, IsSearchable, IsLastAtMost};
+
+use crate::probe::Probe;
+
+/// Half of the rows from `first` on, where there is more than one.
+#[inline]
+#[tactic(auto, using(crate::proofs::Digits::digits_step))]
+fn halve<R: Probe>(rows: &mut R, q: R::Word, first: usize, size: usize) -> (usize, usize)
+    requires searchable { IsSearchable (R.cumulatives rows.old) (R.number q) }
+    requires word { length (R.cumulatives rows.old) ≤ usize.MAX }
+    requires narrowed { IsNarrowed (R.cumulatives rows.old) (R.number q) first size }
+    requires room { R.questions rows.old + digits (size - 1) ≤ usize.MAX }
+    ensures narrowed { IsNarrowed (R.cumulatives rows.old) (R.number q) result.0 result.1 }
+    ensures same { R.cumulatives rows.new ≡ R.cumulatives rows.old }
+    ensures counted { R.questions rows.new + digits (result.1 - 1) ≡ R.questions rows.old + digits (size - 1) }
+    ensures no_more { result.1 ≤ size }
+    ensures fewer { 1 < size → result.1 < size }
+{
+    if size <= 1 {
+        return (first, size);
+    }
+    let half = size / 2;
+    if rows.at_most(first + half, q) {
+        (first + half, size - half)
+    } else {
+        (first, size - half)
+    }
+}
+
+/// A sixteenth of the rows from `first` on.
+#[inline(always)]
+fn halve_four_times<R: Probe>(rows: &mut R, q: R::Word, first: usize, size: usize) -> (usize, usize)
+    requires searchable { IsSearchable (R.cumulatives rows.old) (R.number q) }
+    requires word { length (R.cumulatives rows.old) ≤ usize.MAX }
+    requires narrowed { IsNarrowed (R.cumulatives rows.old) (R.number q) first size }
+    requires room { R.questions rows.old + digits (size - 1) ≤ usize.MAX }
+    ensures narrowed { IsNarrowed (R.cumulatives rows.old) (R.number q) result.0 result.1 }
+    ensures same { R.cumulatives rows.new ≡ R.cumulatives rows.old }
+    ensures counted { R.questions rows.new + digits (result.1 - 1) ≡ R.questions rows.old + digits (size - 1) }
+    ensures fewer { 1 < size → result.1 < size }
+{
+    let (half_first, half) = halve(rows, q, first, size);
+    let (quarter_first, quarter) = halve(rows, q, half_first, half);
+    let (eighth_first, eighth) = halve(rows, q, quarter_first, quarter);
+    halve(rows, q, eighth_first, eighth)
+}
+
+/// [`halve_four_times`], out of line. A loop that has it in it is compiled to jumps that depend on the
+/// answers, and not to moves, which are several times as fast on random quantiles.
+#[inline(never)]
+fn sixteenth<R: Probe>(rows: &mut R, q: R::Word, first: usize, size: usize) -> (usize, usize)
+    requires searchable { IsSearchable (R.cumulatives rows.old) (R.number q) }
+    requires word { length (R.cumulatives rows.old) ≤ usize.MAX }
+    requires narrowed { IsNarrowed (R.cumulatives rows.old) (R.number q) first size }
+    requires room { R.questions rows.old + digits (size - 1) ≤ usize.MAX }
+    ensures narrowed { IsNarrowed (R.cumulatives rows.old) (R.number q) result.0 result.1 }
+    ensures same { R.cumulatives rows.new ≡ R.cumulatives rows.old }
+    ensures counted { R.questions rows.new + digits (result.1 - 1) ≡ R.questions rows.old + digits (size - 1) }
+    ensures fewer { 1 < size → result.1 < size }
+{
+    halve_four_times(rows, q, first, size)
+}
+
+/// The greatest index whose cumulative is at most `q`.
+///
+/// The search halves the rows that are left until one is left, so it asks at most as many
+/// questions as one less than the number of rows has binary digits.
+#[tactic(auto, using(crate::proofs::Digits::digits_word, crate::proofs::Digits::digits_more, crate::proofs::Halving::narrowed_one, crate::proofs::Halving::narrowed_all))]
+#[inline(always)]
+pub fn row_of_quantile<R: Probe>(rows: &mut R, q: R::Word) -> usize
+    requires searchable { IsSearchable (R.cumulatives rows.old) (R.number q) }
+    requires room { R.questions rows.old ≤ usize.MAX - 64 }
+    ensures found { IsLastAtMost (R.cumulatives rows.old) (R.number q) result }
+    ensures same { R.cumulatives rows.new ≡ R.cumulatives rows.old }
+    ensures few { R.questions rows.new ≤ R.questions rows.old + digits (length (R.cumulatives rows.old) - 1) }
+    ensures some { 1 < length (R.cumulatives rows.old) → R.questions rows.old < R.questions rows.new }
+{
+    let all = rows.len();
+    let (near, few) = halve_four_times(rows, q, 0, all);
+    let (mut first, mut size) = halve_four_times(rows, q, near, few);
+    'rows: while size > 1 {
+        let (next, left) = sixteenth(rows, q, first, size);
+        first = next;
+        size = left;
+    }
+    first
+}

@@ -1,0 +1,82 @@
+//! The traits of models: what a model tells, and what it answers in each direction.
+
+ghost use Rattle.std.specs.Prelude.{◌≡◌, ◌^◌, ◌<◌, Bool, List, All, IfOk, IfErr};
+ghost use Rattle.std.specs.Cmp.{IsEquivalence};
+ghost use Rattle.std.specs.Option.{option_map};
+ghost use Rattle.constriction_model.specs.Rows.{Row, RowsTile, entry_of};
+ghost use Rattle.constriction_model.specs.Model.{row_of, entry_in, LiesWithin, AnswersQuantile, RowMayBeRefused};
+
+use constriction_numbers::WholeNumber;
+use std::alloc::AllocError;
+
+/// What weights are in the answers of a model over the words `P`: words that are not 0.
+pub type Weight<P> = <P as WholeNumber>::NonZero;
+
+/// An entropy model in fixed-point arithmetic: a list of rows, each of which gives a symbol an
+/// interval of the quantiles `0..2^PRECISION`.
+///
+/// `PRECISION` is at least 1 and at most the width of the words that quantiles are.
+pub trait EntropyModel<const PRECISION: usize> {
+    /// What is coded.
+    type Symbol;
+
+    /// The words that quantiles, left cumulatives and weights are. Every
+    /// `BitArray` will do.
+    type Probability: WholeNumber;
+
+    // The rows of a model. Where several of the traits below hold of a type, all of them answer from these.
+    ghost rows: { Self → List (Row Self.Symbol) };
+}
+
+/// A model that an encoder asks: it knows the entry of each symbol.
+pub trait EncoderModel<const PRECISION: usize>: EntropyModel<PRECISION> {
+    // Whether two symbols are equal, by their type's own equality.
+    ghost symbol_eq: { Self.Symbol → Self.Symbol → Bool };
+
+    /// The entry of a symbol: its left cumulative and its weight. `None` says that the model has
+    /// no such symbol, so that it cannot be encoded.
+    fn left_cumulative_and_probability(
+        &self,
+        symbol: &Self::Symbol,
+    ) -> Option<(Self::Probability, Weight<Self::Probability>)>
+        ensures { option_map (entry_in Self.Probability.whole Self.Probability.base) result
+            ≡ entry_of symbol_eq (Self.rows self.now) symbol.now };
+
+    // It is reflexive, symmetric and transitive, so that equal symbols are equal to the same others.
+    ghost equality_law: { IsEquivalence symbol_eq };
+
+    // Each row has quantiles, and all of them lie below 2 ^ PRECISION.
+    ghost within_law: { (m : Self) → All (LiesWithin PRECISION) (Self.rows m) };
+}
+
+/// A model that a decoder asks: it knows the row of each quantile.
+pub trait DecoderModel<const PRECISION: usize>: EntropyModel<PRECISION> {
+    // That the second symbol stands for the first one, as an answer's does for that of its row. Of a model that answers clones it is
+    // what the symbols' type says of a clone, and of one that makes none it is equality.
+    ghost stands_for: { Self.Symbol → Self.Symbol → Type 0 };
+
+    // That a row with this symbol may be refused, for want of memory. Of a model that takes none it is ⊥.
+    ghost may_refuse: { Self.Symbol → Type 0 };
+
+    /// The row of a quantile: the symbol whose interval holds it, the left cumulative and the
+    /// weight. Where the model owns its symbols the answer has a clone, which is what the symbols' type says
+    /// of one: of a `String` one of the same text. It fails only where memory for this clone is refused.
+    ///
+    /// A coder that fails with a `CoderError` passes the refusal on
+    /// by `map_err(CoderError::Frontend)` or a `match`: a bare `?` makes it an error of the backend
+    /// where the backend's error is `AllocError` too.
+    fn quantile_function(
+        &self,
+        quantile: Self::Probability,
+    ) -> Result<(Self::Symbol, Self::Probability, Weight<Self::Probability>), AllocError>
+        requires in_range { Self.Probability.whole quantile < 2 ^ PRECISION }
+        ensures row { IfOk result (AnswersQuantile stands_for Self.Probability.whole Self.Probability.base
+            (Self.rows self.now) (Self.Probability.whole quantile)) }
+        ensures within { IfOk result (λ x. LiesWithin PRECISION
+            (row_of Self.Probability.whole Self.Probability.base x)) }
+        ensures refused { IfErr result (λ _. RowMayBeRefused may_refuse (Self.rows self.now)
+            (Self.Probability.whole quantile)) };
+
+    // The rows tile the quantiles, so that each quantile has exactly one row.
+    ghost tile_law: { (m : Self) → RowsTile Self.Probability.BITS PRECISION (Self.rows m) };
+}

@@ -1,0 +1,64 @@
+//! The weights of a uniform model, and the symbol of a quantile, as numbers.
+
+ghost use Rattle.std.specs.Prelude.{◌≡◌, ◌+◌, ◌/◌, ◌^◌, ◌<◌, ◌≤◌};
+ghost use Rattle.constriction_model.specs.Rows.{bin_of, rest_of};
+
+use constriction_numbers::WholeNumber;
+
+/// The weight of each symbol but the last one: the whole part of `2^PRECISION` divided by how many
+/// symbols there are, where the last symbol is given.
+///
+/// At the full width `2^PRECISION` is no word. So each symbol is given one quantile, and what is left
+/// is divided.
+#[inline]
+pub(crate) fn probability_per_bin<Word: WholeNumber, const PRECISION: usize>(
+    last_symbol: Word,
+) -> Word
+    requires positive { 0 < PRECISION }
+    requires fits { PRECISION ≤ Word.BITS }
+    requires some { 0 < Word.whole last_symbol }
+    requires within { Word.whole last_symbol < 2 ^ PRECISION }
+    ensures value { Word.whole result ≡ bin_of PRECISION (Word.whole last_symbol) }
+    ensures positive { 0 < Word.whole result }
+{
+    let one = Word::greatest(1);
+    let greatest = Word::greatest(PRECISION);
+    if !last_symbol.is_below(greatest) {
+        return one;
+    }
+    let range = last_symbol.plus(one);
+    greatest.minus(last_symbol).divided_by(range).plus(one)
+}
+
+/// The weight of the last symbol: what the others leave of `2^PRECISION`.
+#[inline]
+pub(crate) fn last_probability<Word: WholeNumber, const PRECISION: usize>(
+    last_symbol: Word,
+    bin: Word,
+) -> Word
+    requires positive { 0 < PRECISION }
+    requires fits { PRECISION ≤ Word.BITS }
+    requires some { 0 < Word.whole last_symbol }
+    requires within { Word.whole last_symbol < 2 ^ PRECISION }
+    requires bin { Word.whole bin ≡ bin_of PRECISION (Word.whole last_symbol) }
+    ensures value { Word.whole result ≡ rest_of PRECISION (Word.whole last_symbol) }
+    ensures positive { 0 < Word.whole result }
+{
+    Word::wrapping_pow2(PRECISION).wrapping_minus(last_symbol.times(bin))
+}
+
+/// The symbol of a quantile: the quotient by the weight, or the last symbol where that is less.
+#[inline]
+pub(crate) fn symbol_of<Word: WholeNumber>(quantile: Word, bin: Word, last_symbol: Word) -> Word
+    requires { 0 < Word.whole bin }
+    ensures within { Word.whole result ≤ Word.whole last_symbol }
+    ensures before { Word.whole result < Word.whole last_symbol → Word.whole result ≡ Word.whole quantile / Word.whole bin }
+    ensures last { Word.whole result ≡ Word.whole last_symbol → Word.whole last_symbol ≤ Word.whole quantile / Word.whole bin }
+{
+    let symbol = quantile.divided_by(bin);
+    if symbol.is_below(last_symbol) {
+        symbol
+    } else {
+        last_symbol
+    }
+}

@@ -1,0 +1,160 @@
+//! Models of any symbols, over worked tables.
+
+ghost use Rattle.std.specs.Prelude.{◌<◌, ◌≤◌};
+
+use crate::checks::{same, same_at};
+use crate::model_checks::{decodes, walks};
+use constriction::laws::{non_contiguous_symbols_differ, symbols_and_weights_rebuild};
+use constriction::stream::model::{
+    DecoderModel, DefaultNonContiguousCategoricalDecoderModel,
+    DefaultNonContiguousCategoricalEncoderModel, EncoderModel, IterableEntropyModel, ModelError,
+    Probe, SmallNonContiguousCategoricalDecoderModel, SmallNonContiguousCategoricalEncoderModel,
+    row_of_quantile,
+};
+use constriction_fixtures::any_symbols::{
+    Decoder, Encoder, FULL_REFUSED, REFUSED, ROWS, Row, STEPS, SYMBOLS, WEIGHTS, decoder, encoder,
+    entry,
+};
+use constriction_words::NonZeroBitArray;
+use std::alloc::Global;
+use std::process::Abort;
+
+/// Stops the test where the model does not have these letters and no others, each with the entry of its
+/// row.
+pub fn encodes(rt: &impl Abort, model: &Encoder<6>, rows: &[Row]) {
+    for row in rows {
+        let (symbol, left, weight) = *row;
+        same_at(rt, symbol, entry(model, symbol), Some((left, weight)));
+    }
+    same(
+        rt,
+        (model.support_size(), entry(model, 'z')),
+        (rows.len(), None),
+    );
+}
+
+#[test]
+fn letters_have_their_quantiles_and_entries(rt: HostRuntime) {
+    for (weights, infer) in [(WEIGHTS.as_slice(), false), (&[3, 18, 1], true)] {
+        let model = decoder::<6>(rt.alloc(), &SYMBOLS, weights, infer).expect(&rt, "accepted");
+        decodes(&rt, &model, &ROWS);
+        same(&rt, model.support_size(), 4);
+        let model = encoder::<6>(rt.alloc(), &SYMBOLS, weights, infer).expect(&rt, "accepted");
+        encodes(&rt, &model, &ROWS);
+    }
+}
+
+#[test]
+fn the_views_and_clones_of_letters_answer_alike(rt: HostRuntime) {
+    let model = decoder::<6>(rt.alloc(), &SYMBOLS, &WEIGHTS, false).expect(&rt, "accepted");
+    decodes(&rt, &model.as_view().as_view(), &ROWS);
+    same(&rt, model.as_view().support_size(), 4);
+    let clone = model.clone().expect(&rt, "a clone");
+    decodes(&rt, &clone, &ROWS);
+    same(&rt, clone.support_size(), 4);
+    let model = encoder::<6>(rt.alloc(), &SYMBOLS, &WEIGHTS, false).expect(&rt, "accepted");
+    encodes(&rt, &model.clone().expect(&rt, "a clone"), &ROWS);
+}
+
+/// Stops the test where letters and weights are accepted by the decoder's model or the encoder's.
+fn are_refused<const PRECISION: usize>(
+    rt: &impl Abort,
+    alloc: Global,
+    tables: &[(&str, &[char], &[u8], bool)],
+)
+    requires positive { 0 < PRECISION }
+    requires fits { PRECISION ≤ 8 }
+{
+    for each in tables {
+        let (name, symbols, weights, infer) = *each;
+        let decoder = decoder::<PRECISION>(alloc, symbols, weights, infer).err();
+        let encoder = encoder::<PRECISION>(alloc, symbols, weights, infer).err();
+        same_at(rt, name, decoder, Some(ModelError::InvalidTable));
+        same_at(rt, name, encoder, Some(ModelError::InvalidTable));
+    }
+}
+
+#[test]
+fn letters_that_are_not_accepted(rt: HostRuntime) {
+    are_refused::<6>(&rt, rt.alloc(), &REFUSED);
+    are_refused::<8>(&rt, rt.alloc(), &FULL_REFUSED);
+}
+
+#[test]
+fn both_ends_give_each_letter_once(rt: HostRuntime) {
+    let model = decoder::<6>(rt.alloc(), &SYMBOLS, &WEIGHTS, false).expect(&rt, "accepted");
+    for steps in STEPS {
+        walks(&rt, model.symbol_table(), &steps);
+    }
+}
+
+#[test]
+fn default_models_of_letters(rt: HostRuntime) {
+    type Decoder = DefaultNonContiguousCategoricalDecoderModel<char>;
+    type Encoder = DefaultNonContiguousCategoricalEncoderModel<char>;
+    let halves = [1 << 23, 1 << 23];
+    let decoder = Decoder::from_symbols_and_nonzero_fixed_point_probabilities(
+        rt.alloc(),
+        ['a', 'x'],
+        halves,
+        false,
+    );
+    let encoder = Encoder::from_symbols_and_nonzero_fixed_point_probabilities(
+        rt.alloc(),
+        ['a', 'x'],
+        halves,
+        false,
+    );
+    let answered = decoder
+        .expect(&rt, "accepted")
+        .quantile_function((1 << 24) - 1);
+    let (symbol, left, weight) = answered.expect(&rt, "a row");
+    same(&rt, (symbol, left, weight.get()), ('x', 1 << 23, 1 << 23));
+    let entry = encoder
+        .expect(&rt, "accepted")
+        .left_cumulative_and_probability(&'x');
+    same(&rt, entry, Some((left, weight)));
+}
+
+#[test]
+fn small_models_of_letters(rt: HostRuntime) {
+    type Decoder = SmallNonContiguousCategoricalDecoderModel<char>;
+    type Encoder = SmallNonContiguousCategoricalEncoderModel<char>;
+    let decoder = Decoder::from_symbols_and_nonzero_fixed_point_probabilities(
+        rt.alloc(),
+        ['a', 'x'],
+        [4095],
+        true,
+    );
+    let encoder = Encoder::from_symbols_and_nonzero_fixed_point_probabilities(
+        rt.alloc(),
+        ['a', 'x'],
+        [4095],
+        true,
+    );
+    let answered = decoder.expect(&rt, "accepted").quantile_function(4095);
+    let (symbol, left, weight) = answered.expect(&rt, "a row");
+    same(&rt, (symbol, left, weight.get()), ('x', 4095, 1));
+    let entry = encoder
+        .expect(&rt, "accepted")
+        .left_cumulative_and_probability(&'x');
+    same(&rt, entry, Some((left, weight)));
+}
+
+/// Where the search of a probe says that the row of a quantile is, and how often it asked.
+fn searched(model: &Decoder<6>, quantile: u8) -> (usize, usize, usize)
+    requires { quantile < 64 }
+{
+    let (first, mut rows) = model.quantile_probe(quantile);
+    let found = row_of_quantile(&mut rows, quantile);
+    (first, found, rows.asked())
+}
+
+#[test]
+fn a_search_among_letters_asks_two_questions(rt: HostRuntime) {
+    let model = decoder::<6>(rt.alloc(), &SYMBOLS, &WEIGHTS, false).expect(&rt, "accepted");
+    same(&rt, searched(&model, 21), (0, 2, 2));
+    same(&rt, searched(&model, 63), (0, 3, 2));
+    symbols_and_weights_rebuild::<&Decoder<6>, 6>();
+    non_contiguous_symbols_differ::<char, u8, Vec<(u8, char)>, 6>();
+}

@@ -1,0 +1,150 @@
+//! A model of the caller: its rows, what it answers for a symbol, the walk through its rows, and what
+//! the caller knows of the models that are made from it.
+
+ghost use Rattle.std.specs.Prelude.{◌≡◌, ◌<◌, ◌-◌, ◌∷◌, [], drop, IfOk, IsErr};
+ghost use Rattle.std.specs.Iterator.{at_most};
+ghost use Rattle.std.proofs.Common.{refl, rules};
+ghost use Rattle.std.proofs.lemmas.Grind.{common_steps};
+ghost use Rattle.constriction.specs.Rows.{rows_of};
+ghost use Rattle.constriction.specs.Tables.{YieldsRow};
+
+use crate::checks::{same, same_at};
+use crate::conversions::{Made, made};
+use constriction::stream::model::{
+    EncoderModel, EntropyModel, IterableEntropyModel, ModelError, Weight, to_generic_decoder_model,
+};
+use constriction_fixtures::any_symbols::{Row, entry, plain, plain_entry};
+use constriction_fixtures::conversions::Decoder;
+use constriction_fixtures::own_model::{Triple, three};
+use constriction_words::{BitArray, WholeNumber};
+use std::alloc::{AllocError, Global};
+use std::process::Abort;
+
+/// The decoder's model of three letters: it has exactly their rows, and there is none where the first
+/// and the third are the same.
+fn decoder_of(alloc: Global, model: &Triple) -> Result<Decoder<char, 3>, ModelError>
+    ensures ok { IfOk result (λ d. ⟦<Decoder<char, 3> as EntropyModel<3>>⟧.rows d
+        ≡ rows_of (model.now.first ∷ model.now.second ∷ model.now.third ∷ []) (2 ∷ 5 ∷ 1 ∷ [])) }
+    ensures repeated { model.now.first ≡ model.now.third → IsErr result }
+{
+    to_generic_decoder_model::<_, 3>(alloc, model)
+}
+
+/// Stops the test where a decoder's model was made, or the encoder's one has other entries.
+fn is_encoder<const PRECISION: usize>(
+    rt: &impl Abort,
+    made: Made<char, PRECISION>,
+    entries: &[(char, Option<(u8, u8)>)],
+    support_size: usize,
+) {
+    same(rt, made.0.err(), Some(ModelError::InvalidTable));
+    let encoder = made.1.expect(rt, "a model");
+    for (symbol, expected) in entries.iter().copied() {
+        same_at(rt, symbol, entry(&encoder, symbol), expected);
+    }
+    same(rt, encoder.support_size(), support_size);
+}
+
+#[test]
+fn two_rows_of_one_letter_make_an_encoder_and_no_decoder(rt: HostRuntime) {
+    let model = three('p', 'q', 'p');
+    let refused = decoder_of(rt.alloc(), &model).err();
+    same(&rt, refused, Some(ModelError::InvalidTable));
+    let entries = [('p', Some((7, 1))), ('q', Some((2, 5))), ('r', None)];
+    for (symbol, expected) in entries {
+        let own = plain_entry(model.left_cumulative_and_probability(&symbol));
+        same_at(&rt, symbol, own, expected);
+    }
+    let (by_function, by_method) = made::<_, 3>(rt.alloc(), &model);
+    is_encoder(&rt, by_function, &entries, 2);
+    is_encoder(&rt, by_method, &entries, 2);
+}
+
+/// Stops the test where the model has not these rows.
+pub fn has_rows(rt: &impl Abort, model: &Decoder<char, 3>, rows: [Row; 3]) {
+    let mut table = model.symbol_table();
+    for row in rows {
+        same(rt, table.next().map(plain), Some(Ok(row)));
+    }
+    same(rt, table.next().is_none(), true);
+}
+
+#[test]
+fn a_decoder_has_the_rows_of_three_letters_of_the_caller(rt: HostRuntime) {
+    let model = decoder_of(rt.alloc(), &three('p', 'q', 'r')).expect(&rt, "a model");
+    has_rows(&rt, &model, [('p', 0, 2), ('q', 2, 5), ('r', 7, 1)]);
+}
+
+/// A model of one letter, which has two rows of the same weight. It is copied into its table.
+#[derive(Clone, Copy)]
+struct Twice(char);
+
+impl EntropyModel<6> for Twice {
+    type Symbol = char;
+
+    type Probability = u8;
+
+    ghost rows = { λ m. rows_of (m.0 ∷ m.0 ∷ []) (32 ∷ 32 ∷ []) };
+}
+
+/// The walk through these rows, from the one at `next` on.
+#[derive(Drop)]
+struct TwiceTable {
+    symbol: char,
+    next: usize,
+}
+
+impl Iterator for TwiceTable {
+    type Item = Result<(char, u8, Weight<u8>), AllocError>;
+
+    ghost next_gives = { λ t r u. YieldsRow (λ s t. t ≡ s) (λ _. ⊥) ⟦<u8 as WholeNumber>⟧.whole ⟦<u8 as WholeNumber>⟧.base
+        (drop t.next (rows_of (t.symbol ∷ t.symbol ∷ []) (32 ∷ 32 ∷ []))) r
+        (drop u.next (rows_of (u.symbol ∷ u.symbol ∷ []) (32 ∷ 32 ∷ []))) };
+
+    ghost remaining = { λ t. at_most (2 - t.next) };
+
+    fn next(&mut self) -> Option<Result<(char, u8, Weight<u8>), AllocError>> {
+        let left = match self.next {
+            0 => 0,
+            1 => 32,
+            _ => return None,
+        };
+        self.next += 1;
+        Some(Ok((self.symbol, left, 32u8.into_nonzero_unchecked())))
+    }
+}
+
+impl IterableEntropyModel<6> for Twice {
+    type SymbolTable = TwiceTable;
+
+    ghost stands_for = { λ s t. t ≡ s };
+
+    ghost may_refuse = { λ _. ⊥ };
+
+    ghost rows_left = { λ t. drop t.next (rows_of (t.symbol ∷ t.symbol ∷ []) (32 ∷ 32 ∷ [])) };
+
+    fn symbol_table(self) -> TwiceTable {
+        TwiceTable {
+            symbol: self.0,
+            next: 0,
+        }
+    }
+
+    ghost steps_law = { λ t r u step. step };
+
+    ghost tile_law = { λ _. record {
+      accepted = record {
+        tiles = record { positive = Prim.search (rules, common_steps); total = refl };
+        fit = Prim.search (rules, common_steps);
+      };
+      in_order = refl;
+    } };
+}
+
+#[test]
+fn an_encoder_has_the_second_row_of_one_letter(rt: HostRuntime) {
+    let entries = [('a', Some((32, 32))), ('b', None)];
+    let (by_function, by_method) = made::<_, 6>(rt.alloc(), Twice('a'));
+    is_encoder(&rt, by_function, &entries, 1);
+    is_encoder(&rt, by_method, &entries, 1);
+}

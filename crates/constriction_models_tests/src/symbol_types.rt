@@ -1,0 +1,244 @@
+//! Models of symbols whose type says itself what is equal, or which values may be cloned.
+
+ghost use Rattle.std.specs.Prelude.{◌%◌, ◌==◌, ◌<◌};
+ghost use Rattle.std.specs.Cmp.Rules.{comparing, hashing};
+ghost use Rattle.std.specs.Hash as fed;
+ghost use Rattle.std.proofs.Common.{rules};
+
+use crate::checks::{same, same_at};
+use crate::conversions::{Encoder, Made, made};
+use constriction::stream::model::{
+    DecoderModel, EncoderModel, IterableEntropyModel, ModelError, NonContiguousSymbolTable, Weight,
+};
+use constriction_fixtures::any_symbols::{Row, plain, plain_entry};
+use constriction_fixtures::conversions::Decoder;
+use constriction_fixtures::lookup_any_symbols::{Lookup, looked_up};
+use constriction_fixtures::symbol_types::{Letter, letters};
+use std::alloc::{AllocError, Global};
+use std::hash::{Hash, Hasher};
+use std::process::Abort;
+
+/// A tag, which is told by its last digit alone.
+#[derive(Clone, Copy)]
+struct Tag(u32);
+
+impl PartialEq for Tag {
+    ghost eq = { λ a b. a.0 % 10 == b.0 % 10 };
+
+    ghost laws = { Prim.search (comparing, rules) };
+
+    fn eq(&self, other: &Tag) -> bool {
+        self.0 % 10 == other.0 % 10
+    }
+}
+
+impl Eq for Tag {
+    ghost laws = { Prim.search (comparing, rules) };
+}
+
+impl Hash for Tag {
+    ghost hash_input = { λ a. fed.u32 (a.0 % 10) };
+
+    ghost respects_eq = { Prim.search (hashing, rules) };
+
+    fn hash<H: Hasher>(&self, state: &mut H) {
+        state.write_u32(self.0 % 10);
+    }
+}
+
+type TagDecoder = Decoder<Tag, 6>;
+
+type TagEncoder = Encoder<Tag, 6>;
+
+/// The models of these tags, 32 quantiles each.
+fn tagged(
+    alloc: Global,
+    tags: [u32; 2],
+) -> (
+    Result<TagDecoder, ModelError>,
+    Result<TagEncoder, ModelError>,
+) {
+    let [first, second] = tags;
+    let decoder = TagDecoder::from_symbols_and_nonzero_fixed_point_probabilities(
+        alloc,
+        [Tag(first), Tag(second)],
+        [32, 32],
+        false,
+    );
+    let encoder = TagEncoder::from_symbols_and_nonzero_fixed_point_probabilities(
+        alloc,
+        [Tag(first), Tag(second)],
+        [32, 32],
+        false,
+    );
+    (decoder, encoder)
+}
+
+/// The lookup model of these tags.
+fn tagged_lookup(alloc: Global, tags: [u32; 2]) -> Result<Lookup<Tag, 6>, ModelError> {
+    let [first, second] = tags;
+    Lookup::from_symbols_and_nonzero_fixed_point_probabilities(
+        alloc,
+        [Tag(first), Tag(second)],
+        [32, 32],
+        false,
+    )
+}
+
+/// The tag, the left cumulative and the weight of a quantile.
+fn row<M: DecoderModel<6, Symbol = Tag, Probability = u8>>(
+    model: &M,
+    quantile: u8,
+) -> Result<(u32, u8, u8), AllocError>
+    requires in_range { quantile < 64 }
+{
+    let (tag, left, weight) = plain(model.quantile_function(quantile))?;
+    Ok((tag.0, left, weight))
+}
+
+/// The left cumulative and the weight of a tag.
+fn entry(model: &TagEncoder, tag: u32) -> Option<(u8, u8)> {
+    plain_entry(model.left_cumulative_and_probability(&Tag(tag)))
+}
+
+#[test]
+fn tags_are_told_by_their_own_equality(rt: HostRuntime) {
+    let (decoder, encoder) = tagged(rt.alloc(), [12, 3]);
+    let decoder = decoder.expect(&rt, "accepted");
+    let encoder = encoder.expect(&rt, "accepted");
+    same(
+        &rt,
+        (row(&decoder, 31), row(&decoder, 32)),
+        (Ok((12, 0, 32)), Ok((3, 32, 32))),
+    );
+    for (tag, expected) in [(2, Some((0, 32))), (13, Some((32, 32))), (4, None)] {
+        same_at(&rt, tag, entry(&encoder, tag), expected);
+    }
+    let (decoder, encoder) = tagged(rt.alloc(), [12, 2]);
+    same(&rt, decoder.err(), Some(ModelError::InvalidTable));
+    same(&rt, encoder.err(), Some(ModelError::InvalidTable));
+}
+
+#[test]
+fn a_lookup_model_tells_tags_by_their_own_equality(rt: HostRuntime) {
+    let model = tagged_lookup(rt.alloc(), [12, 3]).expect(&rt, "accepted");
+    same(
+        &rt,
+        (row(&model, 31), row(&model, 32)),
+        (Ok((12, 0, 32)), Ok((3, 32, 32))),
+    );
+    let refused = tagged_lookup(rt.alloc(), [12, 2]).err();
+    same(&rt, refused, Some(ModelError::InvalidTable));
+}
+
+/// The lookup model of the same.
+fn lookup_of_letters(alloc: Global) -> Result<Lookup<Letter, 6>, ModelError> {
+    Lookup::from_symbols_and_nonzero_fixed_point_probabilities(
+        alloc,
+        [Letter('a'), Letter('r'), Letter('c')],
+        [16, 32, 16],
+        false,
+    )
+}
+
+/// The row of an answer, with the character of its letter.
+fn letter_row(answer: Result<(Letter, u8, Weight<u8>), AllocError>) -> Result<Row, AllocError> {
+    let (letter, left, weight) = plain(answer)?;
+    Ok((letter.0, left, weight))
+}
+
+/// Whether a step is from the back, and the row that it gives, or the refusal in its place.
+type Step = (bool, Option<Result<Row, AllocError>>);
+
+const STEPS: [[Step; 5]; 2] = [
+    [
+        (false, Some(Ok(('a', 0, 16)))),
+        (false, Some(Err(AllocError))),
+        (false, Some(Ok(('c', 48, 16)))),
+        (false, None),
+        (true, None),
+    ],
+    [
+        (true, Some(Ok(('c', 48, 16)))),
+        (true, Some(Err(AllocError))),
+        (false, Some(Ok(('a', 0, 16)))),
+        (false, None),
+        (true, None),
+    ],
+];
+
+/// Stops the test where the walk does not go in these steps.
+fn walks(rt: &impl Abort, table: NonContiguousSymbolTable<'_, Letter, u8, 6>, steps: [Step; 5]) {
+    let mut table = table;
+    for (from_the_back, expected) in steps {
+        let step = if from_the_back {
+            table.next_back()
+        } else {
+            table.next()
+        };
+        same(rt, step.map(letter_row), expected);
+    }
+}
+
+#[test]
+fn a_refused_clone_stands_in_the_place_of_its_row(rt: HostRuntime) {
+    let model = letters(rt.alloc()).expect(&rt, "accepted");
+    for steps in STEPS {
+        walks(&rt, model.symbol_table(), steps);
+    }
+    same(
+        &rt,
+        letter_row(model.quantile_function(15)),
+        Ok(('a', 0, 16)),
+    );
+    same(
+        &rt,
+        letter_row(model.quantile_function(16)),
+        Err(AllocError),
+    );
+}
+
+#[test]
+fn a_lookup_model_answers_a_refused_clone(rt: HostRuntime) {
+    let model = lookup_of_letters(rt.alloc()).expect(&rt, "accepted");
+    for steps in STEPS {
+        walks(&rt, model.symbol_table(), steps);
+    }
+    same(
+        &rt,
+        letter_row(model.quantile_function(15)),
+        Ok(('a', 0, 16)),
+    );
+    same(
+        &rt,
+        letter_row(model.quantile_function(16)),
+        Err(AllocError),
+    );
+}
+
+/// Stops the test where memory for it was not refused.
+fn are_refused(rt: &impl Abort, made: Made<Letter, 6>) {
+    same(rt, made.0.err(), Some(ModelError::OutOfMemory));
+    same(rt, made.1.err(), Some(ModelError::OutOfMemory));
+}
+
+#[test]
+fn a_refused_clone_is_want_of_memory(rt: HostRuntime) {
+    let model = letters(rt.alloc()).expect(&rt, "accepted");
+    same(&rt, model.clone().err(), Some(AllocError));
+    let (by_function, by_method) = made::<_, 6>(rt.alloc(), &model);
+    are_refused(&rt, by_function);
+    are_refused(&rt, by_method);
+}
+
+#[test]
+fn a_refused_clone_is_want_of_memory_for_a_lookup_model(rt: HostRuntime) {
+    let searching = letters(rt.alloc()).expect(&rt, "accepted");
+    let refused = searching.to_lookup_decoder_model(rt.alloc()).err();
+    same(&rt, refused, Some(ModelError::OutOfMemory));
+    let model = lookup_of_letters(rt.alloc()).expect(&rt, "accepted");
+    same(&rt, model.clone().err(), Some(AllocError));
+    let (by_function, by_method) = looked_up::<_, 6>(rt.alloc(), &model);
+    same(&rt, by_function.err(), Some(ModelError::OutOfMemory));
+    same(&rt, by_method.err(), Some(ModelError::OutOfMemory));
+}

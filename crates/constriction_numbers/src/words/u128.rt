@@ -1,0 +1,112 @@
+//! `u128` as a whole number.
+
+ghost use Rattle.std.specs.Prelude.{ℕ};
+ghost use Rattle.std.specs.Int.NonZero.{non_zero_u128_get};
+ghost use Rattle.std.proofs.Common.{refl};
+ghost use Rattle.constriction_numbers.specs.Word.{same-above-0};
+
+use crate::whole_number::WholeNumber;
+use std::num::NonZeroU128;
+
+impl WholeNumber for u128 {
+    const BITS: usize = 128;
+
+    ghost BITS = { 128 };
+
+    type NonZero = NonZeroU128;
+
+    ghost whole = { λ x. x };
+
+    ghost base = { non_zero_u128_get };
+
+    #[inline]
+    fn greatest_word() -> u128 {
+        u128::MAX
+    }
+
+    #[inline]
+    fn shifted_right(self, places: usize) -> u128 {
+        self >> places as u32
+    }
+
+    #[inline]
+    fn wrapping_pow2(exponent: usize) -> u128 {
+        u128::wrapping_add(u128::greatest(exponent), 1)
+    }
+
+    #[inline]
+    fn is_at_most(self, other: u128) -> bool {
+        self <= other
+    }
+
+    #[inline]
+    fn is_below(self, other: u128) -> bool {
+        self < other
+    }
+
+    #[inline]
+    fn is_least(self) -> bool {
+        self == 0
+    }
+
+    #[inline]
+    fn is_greatest(self) -> bool {
+        self == u128::MAX
+    }
+
+    #[inline]
+    fn plus(self, other: u128) -> u128 {
+        self + other
+    }
+
+    #[inline]
+    fn minus(self, other: u128) -> u128 {
+        self - other
+    }
+
+    #[inline]
+    fn wrapping_minus(self, other: u128) -> u128 {
+        u128::wrapping_sub(self, other)
+    }
+
+    #[inline]
+    fn times(self, other: u128) -> u128 {
+        self * other
+    }
+
+    #[inline]
+    fn divided_by(self, other: u128) -> u128 {
+        self / other
+    }
+
+    #[inline]
+    fn from_number(number: usize) -> u128 {
+        number as u128
+    }
+
+    #[inline]
+    fn to_number(self) -> usize {
+        self as usize
+    }
+
+    #[inline]
+    fn least() -> u128 {
+        0
+    }
+
+    #[inline]
+    fn to_weight(self) -> NonZeroU128 {
+        NonZeroU128::new(self).unwrap()
+    }
+
+    #[inline]
+    fn from_weight(weight: NonZeroU128) -> u128 {
+        NonZeroU128::get(weight)
+    }
+
+    ghost same_law = { λ a b e. e };
+
+    ghost weight_law = { λ x. x.ok };
+
+    ghost same_weight_law = { λ a b e. same-above-0 (λ n h. record { value = n; ok = h }) a.ok b.ok e };
+}

@@ -1,0 +1,125 @@
+//! `u8` as a whole number.
+
+ghost use Rattle.std.specs.Prelude.{ℕ};
+ghost use Rattle.std.specs.Int.NonZero.{non_zero_u8_get};
+ghost use Rattle.std.proofs.Common.{refl};
+ghost use Rattle.constriction_numbers.specs.Word.{same-above-0};
+
+use crate::index_word::IndexWord;
+use crate::whole_number::WholeNumber;
+use std::num::NonZeroU8;
+
+impl WholeNumber for u8 {
+    const BITS: usize = 8;
+
+    ghost BITS = { 8 };
+
+    type NonZero = NonZeroU8;
+
+    ghost whole = { λ x. x };
+
+    ghost base = { non_zero_u8_get };
+
+    #[inline]
+    fn greatest_word() -> u8 {
+        u8::MAX
+    }
+
+    #[inline]
+    fn shifted_right(self, places: usize) -> u8 {
+        self >> places as u32
+    }
+
+    #[inline]
+    fn wrapping_pow2(exponent: usize) -> u8 {
+        u8::wrapping_add(u8::greatest(exponent), 1)
+    }
+
+    #[inline]
+    fn is_at_most(self, other: u8) -> bool {
+        self <= other
+    }
+
+    #[inline]
+    fn is_below(self, other: u8) -> bool {
+        self < other
+    }
+
+    #[inline]
+    fn is_least(self) -> bool {
+        self == 0
+    }
+
+    #[inline]
+    fn is_greatest(self) -> bool {
+        self == u8::MAX
+    }
+
+    #[inline]
+    fn plus(self, other: u8) -> u8 {
+        self + other
+    }
+
+    #[inline]
+    fn minus(self, other: u8) -> u8 {
+        self - other
+    }
+
+    #[inline]
+    fn wrapping_minus(self, other: u8) -> u8 {
+        u8::wrapping_sub(self, other)
+    }
+
+    #[inline]
+    fn times(self, other: u8) -> u8 {
+        self * other
+    }
+
+    #[inline]
+    fn divided_by(self, other: u8) -> u8 {
+        self / other
+    }
+
+    #[inline]
+    fn from_number(number: usize) -> u8 {
+        number as u8
+    }
+
+    #[inline]
+    fn to_number(self) -> usize {
+        usize::from(self)
+    }
+
+    #[inline]
+    fn least() -> u8 {
+        0
+    }
+
+    #[inline]
+    fn to_weight(self) -> NonZeroU8 {
+        NonZeroU8::new(self).unwrap()
+    }
+
+    #[inline]
+    fn from_weight(weight: NonZeroU8) -> u8 {
+        NonZeroU8::get(weight)
+    }
+
+    ghost same_law = { λ a b e. e };
+
+    ghost weight_law = { λ x. x.ok };
+
+    ghost same_weight_law = { λ a b e. same-above-0 (λ n h. record { value = n; ok = h }) a.ok b.ok e };
+}
+
+impl IndexWord for u8 {
+    #[inline]
+    fn to_index(self) -> usize {
+        usize::from(self)
+    }
+
+    #[inline]
+    fn from_index(i: usize) -> u8 {
+        i as u8
+    }
+}

@@ -1,4 +1,0 @@
-mod EvenLemmas
-mod GivenParts
-mod RowLemmas
-mod SliceReading

@@ -1,6 +1,0 @@
-use Rattle.std.proofs.Common.{ℕ}
-use Rattle.constriction_backends.specs.KnownLength.{slice-items-exact}
-use Rattle.constriction_tests.proofs.backends.adapters.two_of_items.Goals as goal
-
-pub two_reads-requires-clause-exact : goal.two_reads-requires-clause-exact
-two_reads-requires-clause-exact c = slice-items-exact ℕ c.new.result.inner

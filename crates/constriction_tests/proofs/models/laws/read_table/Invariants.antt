@@ -1,6 +1,0 @@
-use Rattle.std.proofs.Common.{◌≡◌, map, Ok}
-use Rattle.constriction_tests.proofs.models.laws.read_table.Given as goal
-
--- what came so far are the rows that were kept
-abbrev pub invariant-loop-item : goal.invariant-loop-item
-invariant-loop-item g l = l.yielded ≡ map Ok l.rows.items

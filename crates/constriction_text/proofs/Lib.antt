@@ -1,0 +1,7 @@
+mod Accepting
+mod Cutting
+mod Exactly
+mod LineReading
+mod Numbers
+mod RowTexts
+mod Writing

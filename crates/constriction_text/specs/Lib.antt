@@ -1,0 +1,7 @@
+pub mod Collecting
+pub mod Grammar
+pub mod NumberWords
+pub mod Parts
+pub mod Reading
+pub mod Runs
+pub mod Text

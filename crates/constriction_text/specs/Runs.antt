@@ -1,0 +1,30 @@
+-- What a run over a reader and a writer leaves.
+use Rattle.std.specs.Prelude.{ℕ, ◌≡◌, List, ◌++◌, Option}
+use Rattle.std.specs.Io.KnownBytes.{Appends, Consumes}
+use Rattle.constriction_text.specs.declared.fault.RunFault.{RunFault}
+use Rattle.constriction_text.specs.declared.fault.RunFault.TheVariants.{Read, Write, TooLong, OutOfMemory}
+use Rattle.constriction_text.specs.Text.{answers_of, lines_of}
+
+-- the most bytes of an input
+abbrev pub limit : ℕ
+limit = 1048576
+
+-- the exit status of a program that a fault stops
+abbrev pub status_of : RunFault → ℕ
+status_of Read = 1
+status_of Write = 1
+status_of TooLong = 2
+status_of OutOfMemory = 3
+
+-- some bytes were read, and P holds of them
+abbrev pub HasRead : Option (List ℕ) → Option (List ℕ) → (List ℕ → Type 0) → Type 0
+HasRead old new P = (input : List ℕ) × Consumes old new input × P input
+
+-- a beginning of a text was written, and nothing else
+abbrev pub WritesBeginning : Option (List ℕ) → Option (List ℕ) → List ℕ → Type 0
+WritesBeginning old new text = (written rest : List ℕ) × (written ++ rest ≡ text) × Appends old new written
+
+-- the answers to some first lines of an input were written, each whole, and nothing else
+abbrev pub WritesFirstAnswers : Option (List ℕ) → Option (List ℕ) → List ℕ → Type 0
+WritesFirstAnswers old new input =
+    (first rest : List (List ℕ)) × (first ++ rest ≡ lines_of input) × Appends old new (answers_of first)

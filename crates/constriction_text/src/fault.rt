@@ -1,0 +1,36 @@
+//! What stops a run.
+
+ghost use Rattle.std.specs.Prelude.{◌≡◌};
+ghost use Rattle.constriction_text.specs.Runs.{status_of};
+
+use thiserror::Error;
+
+/// What stops a run before the whole text is written.
+#[derive(Debug, PartialEq, Eq, Drop, Error)]
+pub enum RunFault {
+    /// The reader answered an error, an interruption too. Nothing was written.
+    #[error("The input could not be read.")]
+    Read,
+    /// The writer answered an error, or took no byte. A beginning of the text was written.
+    #[error("The answers could not be written.")]
+    Write,
+    /// The input is longer than 1,048,576 bytes. Nothing was written.
+    #[error("The input is too long.")]
+    TooLong,
+    /// Memory was refused. The answers to some first lines were written, each of them whole.
+    #[error("Memory was refused.")]
+    OutOfMemory,
+}
+
+impl RunFault {
+    /// The exit status of a program that the fault stops: 1, 2 or 3.
+    pub fn status(&self) -> u8
+        ensures { result ≡ status_of self.now }
+    {
+        match self {
+            RunFault::Read | RunFault::Write => 1,
+            RunFault::TooLong => 2,
+            RunFault::OutOfMemory => 3,
+        }
+    }
+}

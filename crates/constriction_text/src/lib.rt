@@ -1,0 +1,22 @@
+//! Whole texts that ask for the rows of models.
+//!
+//! [`run`] reads an input to its end and writes the answer to each of its lines; [`parse`] is the grammar of a
+//! line, [`answer`] the answer to one.
+#![tactic(auto)]
+
+mod answers;
+mod contiguous;
+mod cut;
+mod fault;
+mod form_word;
+pub mod laws;
+mod line;
+mod line_model;
+mod program;
+mod rows;
+mod uniform;
+
+pub use crate::answers::answer;
+pub use crate::fault::RunFault;
+pub use crate::line::{Command, Form, parse};
+pub use crate::program::run;

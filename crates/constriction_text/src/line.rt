@@ -1,0 +1,250 @@
+//! Lines of text, and what they ask for.
+
+ghost use Rattle.std.specs.Prelude.{◌≡◌, ◌∷◌, IfOk, IfSome, IfNone, option_and_then};
+ghost use Rattle.std.specs.Option.{option_copied, option_map};
+ghost use Rattle.constriction_text.specs.Grammar.{Request, Spells, form_of};
+ghost use Rattle.constriction_text.specs.Parts.{parts_of, first_and_others, only_number};
+ghost use Rattle.constriction_text.specs.Reading.{read_form, read_line};
+ghost use Rattle.constriction_text.specs.Reading.{read_number, read_numbers, read_request, view};
+
+use crate::cut::cut;
+use std::alloc::{AllocError, Global};
+
+/// The type of the probabilities of a model, and its precision.
+#[derive(Clone, Copy, Debug, PartialEq, Eq)]
+pub enum Form {
+    /// `u8/6`: probabilities are `u8`, and they sum to `2^6`.
+    U8Precision6,
+    /// `u8/8`: probabilities are `u8`, and they sum to `2^8`.
+    U8Precision8,
+    /// `u16/12`: probabilities are `u16`, and they sum to `2^12`.
+    U16Precision12,
+}
+
+/// What a line asks for.
+#[derive(Debug, Drop)]
+pub enum Command {
+    /// `table FORM W..`: all rows of the weights.
+    Table {
+        form: Form,
+        weights: Vec<u64>,
+    },
+    /// `infer FORM W..`: all rows of the weights and one more, which is what they leave.
+    Infer {
+        form: Form,
+        weights: Vec<u64>,
+    },
+    /// `quantile FORM Q W..`: the row of a quantile.
+    Quantile {
+        form: Form,
+        quantile: u64,
+        weights: Vec<u64>,
+    },
+    /// `symbol FORM S W..`: the row of a symbol.
+    Symbol {
+        form: Form,
+        symbol: u64,
+        weights: Vec<u64>,
+    },
+    /// `uniform FORM N`: all rows of the uniform model of the symbols `0..range`.
+    Uniform {
+        form: Form,
+        range: u64,
+    },
+}
+
+impl Command {
+    /// The form that the line names.
+    pub fn form(&self) -> Form
+        ensures { result ≡ form_of (view self.now) }
+    {
+        match self {
+            Command::Table { form, .. } => *form,
+            Command::Infer { form, .. } => *form,
+            Command::Quantile { form, .. } => *form,
+            Command::Symbol { form, .. } => *form,
+            Command::Uniform { form, .. } => *form,
+        }
+    }
+}
+
+/// The byte between two words of a line.
+const SPACE: u8 = b' ';
+
+/// The most digits of a number.
+const DIGITS: usize = 20;
+
+/// The number that a word spells.
+#[tactic(auto, unfolding(crate::specs::Reading::read_number))]
+fn parse_number(word: &[u8]) -> Option<u64>
+    ensures { result ≡ read_number word.now }
+{
+    if word.is_empty() || word.len() > DIGITS {
+        return None;
+    }
+    let mut value = 0u64;
+    for byte in word {
+        if !byte.is_ascii_digit() {
+            return None;
+        }
+        value = value.checked_mul(10)?.checked_add(u64::from(*byte - b'0'))?;
+    }
+    Some(value)
+}
+
+/// The form that a word names.
+#[tactic(auto, unfolding(crate::specs::Reading::read_form))]
+fn parse_form(word: &[u8]) -> Option<Form>
+    ensures { result ≡ read_form word.now }
+{
+    if word == b"u8/6".as_slice() {
+        return Some(Form::U8Precision6);
+    }
+    if word == b"u8/8".as_slice() {
+        return Some(Form::U8Precision8);
+    }
+    if word == b"u16/12".as_slice() {
+        return Some(Form::U16Precision12);
+    }
+    None
+}
+
+/// The numbers that the words of the rest of a line spell, if each of them spells one.
+fn parse_numbers(alloc: Global, text: Option<&[u8]>) -> Result<Option<Vec<u64>>, AllocError>
+    ensures { IfOk result (λ numbers. option_map (λ list. list.items) numbers
+        ≡ read_numbers (parts_of 32 (option_copied text.entry))) }
+{
+    let mut numbers = Vec::new(alloc);
+    let mut rest = text;
+    while let Some(words) = rest {
+        let (word, after) = cut(words, SPACE);
+        match parse_number(word) {
+            Some(number) => numbers.push(number)?,
+            None => return Ok(None),
+        }
+        rest = after;
+    }
+    Ok(Some(numbers))
+}
+
+/// The first number of the rest of a line, and the others, if there is one and each word spells one.
+#[tactic(auto, unfolding(crate::specs::Reading::read_numbers))]
+fn parse_first_and_others(
+    alloc: Global,
+    text: Option<&[u8]>,
+) -> Result<Option<(u64, Vec<u64>)>, AllocError>
+    ensures { IfOk result (λ found. option_map (λ numbers. (numbers.0, numbers.1.items)) found
+        ≡ option_and_then first_and_others (read_numbers (parts_of 32 (option_copied text.entry)))) }
+{
+    let Some(words) = text else {
+        return Ok(None);
+    };
+    let (word, after) = cut(words, SPACE);
+    let Some(first) = parse_number(word) else {
+        return Ok(None);
+    };
+    match parse_numbers(alloc, after)? {
+        Some(others) => Ok(Some((first, others))),
+        None => Ok(None),
+    }
+}
+
+/// The number of the rest of a line, if one stands there alone.
+#[tactic(auto, unfolding(crate::specs::Reading::read_numbers))]
+fn parse_only_number(text: Option<&[u8]>) -> Option<u64>
+    ensures { result ≡ option_and_then only_number (read_numbers (parts_of 32 (option_copied text.entry))) }
+{
+    let Some(words) = text else {
+        return None;
+    };
+    let (word, after) = cut(words, SPACE);
+    match after {
+        Some(_) => None,
+        None => parse_number(word),
+    }
+}
+
+/// What a keyword asks for with a form and the rest of a line.
+#[tactic(auto, unfolding(crate::specs::Reading::read_request))]
+fn parse_command(
+    alloc: Global,
+    keyword: &[u8],
+    form: Form,
+    text: Option<&[u8]>,
+) -> Result<Option<Command>, AllocError>
+    ensures { IfOk result (λ found. option_map view found
+        ≡ option_and_then (read_request keyword.now form) (read_numbers (parts_of 32 (option_copied text.entry)))) }
+{
+    if keyword == b"table".as_slice() {
+        return match parse_numbers(alloc, text)? {
+            Some(weights) => Ok(Some(Command::Table { form, weights })),
+            None => Ok(None),
+        };
+    }
+    if keyword == b"infer".as_slice() {
+        return match parse_numbers(alloc, text)? {
+            Some(weights) => Ok(Some(Command::Infer { form, weights })),
+            None => Ok(None),
+        };
+    }
+    if keyword == b"quantile".as_slice() {
+        return match parse_first_and_others(alloc, text)? {
+            Some((quantile, weights)) => Ok(Some(Command::Quantile {
+                form,
+                quantile,
+                weights,
+            })),
+            None => Ok(None),
+        };
+    }
+    if keyword == b"symbol".as_slice() {
+        return match parse_first_and_others(alloc, text)? {
+            Some((symbol, weights)) => Ok(Some(Command::Symbol {
+                form,
+                symbol,
+                weights,
+            })),
+            None => Ok(None),
+        };
+    }
+    if keyword == b"uniform".as_slice() {
+        return match parse_only_number(text) {
+            Some(range) => Ok(Some(Command::Uniform { form, range })),
+            None => Ok(None),
+        };
+    }
+    Ok(None)
+}
+
+/// What a line asks for, as a function of the line.
+fn parse_line(alloc: Global, line: &[u8]) -> Result<Option<Command>, AllocError>
+    ensures { IfOk result (λ found. option_map view found ≡ read_line line.now) }
+{
+    let (keyword, after) = cut(line, SPACE);
+    let Some(text) = after else {
+        return Ok(None);
+    };
+    let (word, numbers) = cut(text, SPACE);
+    match parse_form(word) {
+        Some(form) => parse_command(alloc, keyword, form, numbers),
+        None => Ok(None),
+    }
+}
+
+/// What a line asks for: `None` where it asks for nothing.
+///
+/// The line is given without the byte 10 that ends it. A single space stands between two words, and
+/// a number is one to twenty decimal digits with a value below `2^64`; zeros may lead it. The words
+/// are read once, from left to right, and only the numbers take memory.
+pub fn parse(alloc: Global, line: &[u8]) -> Result<Option<Command>, AllocError>
+    // What is found is spelled so.
+    ensures found { IfOk result (λ found. IfSome found (λ command. Spells line.now (view command))) }
+
+    // Nothing is found only where nothing is spelled.
+    ensures none { IfOk result (λ found. IfNone found ((request : Request) → Spells line.now request → ⊥)) }
+
+    // Which it is, as a function of the line.
+    ensures exact { IfOk result (λ found. option_map view found ≡ read_line line.now) }
+{
+    parse_line(alloc, line)
+}

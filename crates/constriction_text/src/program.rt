@@ -1,0 +1,214 @@
+//! A run over a reader and a writer.
+
+ghost use Rattle.std.specs.Prelude.{◌≡◌, ◌≢◌, ◌<◌, ◌≤◌, ◌+◌, ◌++◌, ◌∷◌, ◌⊎◌, Err, length};
+ghost use Rattle.std.specs.Prelude.{IfOk, IfErr, OnOk, OnErr, string_bytes};
+ghost use Rattle.std.specs.Io.KnownBytes.{Appends, Consumes, IsAtEnd, Keeps};
+ghost use Rattle.constriction_text.specs.Runs.{limit, HasRead, WritesBeginning, WritesFirstAnswers};
+ghost use Rattle.constriction_text.specs.Collecting.{WritesFront};
+ghost use Rattle.constriction_text.specs.Text.{answer_to, lines_of, text_of};
+
+use crate::answers::push_answer;
+use crate::cut::cut;
+use crate::fault::RunFault;
+use std::alloc::{AllocError, Global};
+use std::io::{Read, Write};
+
+/// The most bytes of an input.
+const LIMIT: usize = 1_048_576;
+
+/// The most bytes that one turn of the reader takes.
+const CHUNK: usize = 8192;
+
+/// How many bytes of answers are many.
+const MANY: usize = 65_536;
+
+/// One turn of the reader, of at most `room` bytes, which are put at the end of the input. It answers
+/// how many there were.
+fn read_turn<R: Read>(
+    reader: &mut R,
+    room: usize,
+    chunk: &mut [u8],
+    input: &mut Vec<u8>,
+) -> Result<usize, RunFault>
+    requires some { 0 < room }
+    requires place { 0 < length chunk.old }
+    ensures ok { IfOk result (λ count. HasRead (R.remaining reader.old) (R.remaining reader.new) (λ bytes.
+        (input.new.items ≡ input.old.items ++ bytes) × (length bytes ≡ count) × (count ≤ room))) }
+    ensures end { IfOk result (λ count. count ≡ 0 → IsAtEnd (R.remaining reader.new)) }
+    ensures err { OnErr result (HasRead (R.remaining reader.old) (R.remaining reader.new)
+        (λ bytes. length bytes ≤ room)) }
+    ensures faults { IfErr result (λ fault. (fault ≢ RunFault.Write) × (fault ≢ RunFault.TooLong)) }
+{
+    let most = room.min(chunk.len());
+    let part = &mut chunk[..most];
+    let count = match reader.read(part) {
+        Ok(count) => count,
+        Err(_) => return Err(RunFault::Read),
+    };
+    match input.extend_from_slice(&part[..count]) {
+        Ok(()) => Ok(count),
+        Err(_) => Err(RunFault::OutOfMemory),
+    }
+}
+
+/// Reads to the end, and at most one byte past the limit.
+fn read_input<R: Read>(alloc: Global, reader: &mut R) -> Result<Vec<u8>, RunFault>
+    ensures ok { IfOk result (λ input. (length input.items ≤ limit) × IsAtEnd (R.remaining reader.new)
+        × Consumes (R.remaining reader.old) (R.remaining reader.new) input.items) }
+    ensures too_long { result ≡ Err RunFault.TooLong →
+        HasRead (R.remaining reader.old) (R.remaining reader.new) (λ input. limit < length input) }
+    ensures err { OnErr result
+        (HasRead (R.remaining reader.old) (R.remaining reader.new) (λ input. length input ≤ limit + 1)) }
+    ensures faults { IfErr result (λ fault. fault ≢ RunFault.Write) }
+{
+    let mut chunk = [0u8; CHUNK];
+    let mut input = Vec::new(alloc);
+    while input.len() <= LIMIT {
+        let room = LIMIT + 1 - input.len();
+        if read_turn(reader, room, &mut chunk, &mut input)? == 0 {
+            return Ok(input);
+        }
+    }
+    Err(RunFault::TooLong)
+}
+
+/// Writes all of the bytes, in as many turns as the writer needs.
+fn write_whole<W: Write>(writer: &mut W, bytes: &[u8]) -> Result<(), RunFault>
+    ensures ok { OnOk result (Appends (W.contents writer.old) (W.contents writer.new) bytes.now) }
+    ensures err { OnErr result (WritesBeginning (W.contents writer.old) (W.contents writer.new) bytes.now) }
+    ensures fault { OnErr result (result ≡ Err RunFault.Write) }
+{
+    let mut at = 0;
+    while at < bytes.len() {
+        let count = match writer.write(&bytes[at..]) {
+            Ok(count) => count,
+            Err(_) => return Err(RunFault::Write),
+        };
+        if count == 0 {
+            return Err(RunFault::Write);
+        }
+        at += count;
+    }
+    Ok(())
+}
+
+/// The first line of bytes, and what follows the byte 10 that ends it.
+fn first_line(bytes: &[u8]) -> (&[u8], &[u8])
+    requires { 0 < length bytes.now }
+    ensures lines { lines_of bytes.now ≡ result.0.now ∷ lines_of result.1.now }
+    ensures shorter { length result.1.now < length bytes.now }
+{
+    let (line, after) = cut(bytes, b'\n');
+    match after {
+        Some(rest) => (line, rest),
+        None => (line, &[]),
+    }
+}
+
+/// Collects the answer to a line. It is made whole in a text of its own, whose memory is used again,
+/// so that a refusal of memory leaves what was collected before.
+fn collect_answer(
+    alloc: Global,
+    line: &[u8],
+    one: &mut String,
+    text: &mut String,
+) -> Result<(), AllocError>
+    ensures ok { OnOk result (string_bytes text.new ≡ string_bytes text.old ++ answer_to line.now) }
+    ensures err { OnErr result (string_bytes text.new ≡ string_bytes text.old) }
+{
+    one.clear();
+    push_answer(alloc, one, line)?;
+    text.push_str(one.as_str())
+}
+
+/// Writes collected answers, and keeps none of them, where there are many bytes of them.
+fn write_many<W: Write>(writer: &mut W, text: &mut String) -> Result<(), RunFault>
+    ensures ok { OnOk result (WritesFront (W.contents writer.old) (W.contents writer.new)
+        (string_bytes text.old) (string_bytes text.new)) }
+    ensures err { OnErr result (WritesBeginning (W.contents writer.old) (W.contents writer.new)
+        (string_bytes text.old)) }
+    ensures fault { OnErr result (result ≡ Err RunFault.Write) }
+{
+    if text.len() >= MANY {
+        write_whole(writer, text.as_bytes())?;
+        text.clear();
+    }
+    Ok(())
+}
+
+/// Writes the answers that were collected before memory was refused, and answers the fault.
+fn write_last<W: Write>(writer: &mut W, answers: &[u8]) -> RunFault
+    ensures out_of_memory { result ≡ RunFault.OutOfMemory →
+        Appends (W.contents writer.old) (W.contents writer.new) answers.now }
+    ensures write { result ≡ RunFault.Write →
+        WritesBeginning (W.contents writer.old) (W.contents writer.new) answers.now }
+    ensures faults { (result ≢ RunFault.Read) × (result ≢ RunFault.TooLong) }
+{
+    match write_whole(writer, answers) {
+        Ok(()) => RunFault::OutOfMemory,
+        Err(_) => RunFault::Write,
+    }
+}
+
+/// Writes the answers to the lines of an input, each made whole before a byte of it is written.
+///
+/// They are collected, and written once there are many bytes of them, and at the end.
+fn write_answers<W: Write>(alloc: Global, input: &[u8], writer: &mut W) -> Result<(), RunFault>
+    ensures ok { OnOk result (Appends (W.contents writer.old) (W.contents writer.new) (text_of input.now)) }
+    ensures out_of_memory { result ≡ Err RunFault.OutOfMemory →
+        WritesFirstAnswers (W.contents writer.old) (W.contents writer.new) input.now }
+    ensures write { result ≡ Err RunFault.Write →
+        WritesBeginning (W.contents writer.old) (W.contents writer.new) (text_of input.now) }
+    ensures faults { IfErr result (λ fault. (fault ≢ RunFault.Read) × (fault ≢ RunFault.TooLong)) }
+{
+    let mut text = String::new(alloc);
+    let mut one = String::new(alloc);
+    let mut rest = input;
+    while !rest.is_empty() {
+        let (line, after) = first_line(rest);
+        match collect_answer(alloc, line, &mut one, &mut text) {
+            Ok(()) => {}
+            Err(_) => return Err(write_last(writer, text.as_bytes())),
+        }
+        write_many(writer, &mut text)?;
+        rest = after;
+    }
+    write_whole(writer, text.as_bytes())
+}
+
+/// Reads an input to its end, and writes the answers to its lines.
+///
+/// The writer is not flushed: give one that holds nothing back. An input is at most 1,048,576
+/// bytes, and of a longer one no more than one byte past them is read. No turn of the reader or the
+/// writer follows one that answered an error.
+pub fn run<R: Read, W: Write>(alloc: Global, reader: &mut R, writer: &mut W) -> Result<(), RunFault>
+    // What is written is the text of what was read, which is all that the reader had.
+    ensures ok { OnOk result (HasRead (R.remaining reader.old) (R.remaining reader.new) (λ input.
+        IsAtEnd (R.remaining reader.new) × (length input ≤ limit)
+        × Appends (W.contents writer.old) (W.contents writer.new) (text_of input))) }
+
+    ensures too_long { result ≡ Err RunFault.TooLong →
+        HasRead (R.remaining reader.old) (R.remaining reader.new) (λ input. limit < length input) }
+
+    // Nothing is written before the input was read to its end.
+    ensures nothing_written { IfErr result (λ fault. (fault ≡ RunFault.Read) ⊎ (fault ≡ RunFault.TooLong) →
+        Keeps (W.contents writer.old) (W.contents writer.new)) }
+
+    // The answers to some first lines, each whole, of all that the reader had; or nothing.
+    ensures out_of_memory { result ≡ Err RunFault.OutOfMemory →
+        HasRead (R.remaining reader.old) (R.remaining reader.new) (λ input.
+        WritesFirstAnswers (W.contents writer.old) (W.contents writer.new) input
+        × (IsAtEnd (R.remaining reader.new) ⊎ Keeps (W.contents writer.old) (W.contents writer.new))) }
+
+    // A beginning of the text of all that the reader had.
+    ensures write { result ≡ Err RunFault.Write →
+        HasRead (R.remaining reader.old) (R.remaining reader.new) (λ input.
+        IsAtEnd (R.remaining reader.new) × (length input ≤ limit)
+        × WritesBeginning (W.contents writer.old) (W.contents writer.new) (text_of input)) }
+
+    // No turn takes more than one byte past the limit.
+    ensures taken { HasRead (R.remaining reader.old) (R.remaining reader.new) (λ input. length input ≤ limit + 1) }
+{
+    let input = read_input(alloc, reader)?;
+    write_answers(alloc, &input, writer)
+}

@@ -1,0 +1,18 @@
+//! The tests of lines and whole inputs.
+//!
+//! A library that has tests of its own is proved twice, so none of them has any. Tests use the
+//! public interface alone.
+#![tactic(auto)]
+
+#[cfg(test)]
+mod checks;
+#[cfg(test)]
+mod known;
+#[cfg(test)]
+mod lines;
+#[cfg(test)]
+mod refused_lines;
+#[cfg(test)]
+mod runs;
+#[cfg(test)]
+mod tables;

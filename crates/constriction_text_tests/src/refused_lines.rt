@@ -1,0 +1,140 @@
+//! What the calls that parse and answer lines say where memory is refused: what they say else, or that.
+//! `tools/refused-memory` refuses each request in turn.
+
+use crate::checks::{end_of_requests, same};
+use crate::runs::run_into;
+use constriction_text::{Command, RunFault, answer, parse};
+use std::alloc::{AllocError, Global};
+use std::process::Abort;
+
+/// A keyword, the number that stands before the weights or alone, and the weights.
+type Asked<'a> = (&'static str, Option<u64>, &'a [u64]);
+
+/// What a command asks for.
+fn asked(command: &Command) -> Asked<'_> {
+    match command {
+        Command::Table { weights, .. } => ("table", None, weights),
+        Command::Infer { weights, .. } => ("infer", None, weights),
+        Command::Quantile {
+            quantile,
+            weights,
+            ..
+        } => ("quantile", Some(*quantile), weights),
+        Command::Symbol {
+            symbol,
+            weights,
+            ..
+        } => ("symbol", Some(*symbol), weights),
+        Command::Uniform { range, .. } => ("uniform", Some(*range), &[]),
+    }
+}
+
+/// Stops the test where a line is neither found to ask for this, or for nothing, nor refused.
+fn is_parsed(rt: &impl Abort, alloc: Global, line: &[u8], expected: Option<Asked<'_>>) {
+    match parse(alloc, line) {
+        Ok(Some(command)) => same(rt, Some(asked(&command)), expected),
+        Ok(None) => same(rt, None, expected),
+        Err(error) => same(rt, error, AllocError),
+    }
+}
+
+#[test]
+fn a_refusal_of_memory_parses_no_line(rt: HostRuntime) {
+    for (line, expected) in [
+        (
+            b"table u8/6 3 18".as_slice(),
+            Some(("table", None, [3u64, 18].as_slice())),
+        ),
+        (b"infer u8/8 200", Some(("infer", None, &[200]))),
+        (b"quantile u8/6 21 64", Some(("quantile", Some(21), &[64]))),
+        (b"symbol u8/6 1 64", Some(("symbol", Some(1), &[64]))),
+        (b"uniform u8/8 3", Some(("uniform", Some(3), &[]))),
+        (b"table u8/6 3 x", None),
+    ] {
+        is_parsed(&rt, rt.alloc(), line, expected);
+    }
+    end_of_requests(&rt);
+}
+
+/// Stops the test where a line is neither answered by this text nor refused, or where a run over it neither
+/// writes the text nor is refused and writes nothing.
+fn is_answered(rt: &impl Abort, alloc: Global, line: &str, text: &str) {
+    match answer(alloc, line.as_bytes()) {
+        Ok(found) => same(rt, found.as_str(), text),
+        Err(error) => same(rt, error, AllocError),
+    }
+    let mut room = [0u8; 32];
+    let (result, places) = run_into(alloc, line.as_bytes(), &mut room);
+    match result {
+        Ok(()) => same(
+            rt,
+            (
+                room.starts_with(text.as_bytes()),
+                text.len().checked_add(places),
+            ),
+            (true, Some(32)),
+        ),
+        Err(fault) => same(rt, (fault, places), (RunFault::OutOfMemory, 32)),
+    }
+}
+
+#[test]
+fn a_refusal_of_memory_answers_no_table(rt: HostRuntime) {
+    is_answered(
+        &rt,
+        rt.alloc(),
+        "table u8/6 3 18 1 42",
+        "0 0 3\n1 3 18\n2 21 1\n3 22 42\n",
+    );
+    end_of_requests(&rt);
+}
+
+#[test]
+fn a_refusal_of_memory_answers_no_inferred_weight(rt: HostRuntime) {
+    is_answered(&rt, rt.alloc(), "infer u8/8 200", "0 0 200\n1 200 56\n");
+    end_of_requests(&rt);
+}
+
+#[test]
+fn a_refusal_of_memory_answers_no_quantile(rt: HostRuntime) {
+    is_answered(
+        &rt,
+        rt.alloc(),
+        "quantile u16/12 95 96 1000 3000",
+        "0 0 96\n",
+    );
+    end_of_requests(&rt);
+}
+
+#[test]
+fn a_refusal_of_memory_answers_no_symbol(rt: HostRuntime) {
+    is_answered(&rt, rt.alloc(), "symbol u8/6 1 3 18 1 42", "1 3 18\n");
+    end_of_requests(&rt);
+}
+
+#[test]
+fn a_refusal_of_memory_answers_no_uniform_model(rt: HostRuntime) {
+    is_answered(
+        &rt,
+        rt.alloc(),
+        "uniform u8/8 3",
+        "0 0 85\n1 85 85\n2 170 86\n",
+    );
+    end_of_requests(&rt);
+}
+
+/// Weights that do not tile, and a line that asks for nothing.
+#[test]
+fn a_refusal_of_memory_answers_no_faulty_line(rt: HostRuntime) {
+    is_answered(&rt, rt.alloc(), "table u8/6 64 1", "invalid\n");
+    is_answered(&rt, rt.alloc(), "table u8/6 3 x", "bad line\n");
+    end_of_requests(&rt);
+}
+
+/// A quantile out of range, and a symbol that has no row.
+#[test]
+fn a_refusal_of_memory_answers_nothing_without_a_row(rt: HostRuntime) {
+    is_answered(&rt, rt.alloc(), "quantile u8/6 64 64", "range\n");
+    is_answered(&rt, rt.alloc(), "symbol u8/6 1 64", "none\n");
+    end_of_requests(&rt);
+}

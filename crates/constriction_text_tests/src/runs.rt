@@ -1,0 +1,374 @@
+//! Runs over whole inputs, and over readers and writers that give or take little, fail, or end.
+
+use crate::checks::{end_of_requests, holds, holds_at, prints, same, same_at};
+use constriction_text::laws::weights_are_tested_as_models_accept_them;
+use constriction_text::{RunFault, answer, run};
+use std::alloc::Global;
+use std::io::{self, Read, Write};
+use std::process::Abort;
+
+/// The most bytes of an input.
+const LIMIT: usize = 1_048_576;
+
+/// Gives one byte a turn, and fails after so many turns.
+#[derive(Drop)]
+struct SlowReader<'a> {
+    rest: &'a [u8],
+    turns: usize,
+}
+
+impl Read for SlowReader<'_> {
+    fn read(&mut self, buf: &mut [u8]) -> io::Result<usize> {
+        if self.turns == 0 {
+            return Err(io::Error::from(io::ErrorKind::Interrupted));
+        }
+        self.turns -= 1;
+        let Some((first, rest)) = self.rest.split_first() else {
+            return Ok(0);
+        };
+        if buf.is_empty() {
+            return Ok(0);
+        }
+        buf[0] = *first;
+        self.rest = rest;
+        Ok(1)
+    }
+}
+
+/// Takes one byte a turn, and fails after so many turns.
+#[derive(Drop)]
+struct SlowWriter {
+    taken: Vec<u8>,
+    turns: usize,
+}
+
+impl Write for SlowWriter {
+    fn write(&mut self, buf: &[u8]) -> io::Result<usize> {
+        if self.turns == 0 {
+            return Err(io::Error::from(io::ErrorKind::BrokenPipe));
+        }
+        self.turns -= 1;
+        let Some(first) = buf.first() else {
+            return Ok(0);
+        };
+        match self.taken.push(*first) {
+            Ok(()) => Ok(1),
+            Err(_) => Err(io::Error::from(io::ErrorKind::OutOfMemory)),
+        }
+    }
+
+    fn flush(&mut self) -> io::Result<()> {
+        Ok(())
+    }
+}
+
+/// Takes all that it is given, and counts the turns.
+#[derive(Drop)]
+struct CountingWriter {
+    bytes: usize,
+    turns: usize,
+}
+
+impl Write for CountingWriter {
+    fn write(&mut self, buf: &[u8]) -> io::Result<usize> {
+        self.bytes = self.bytes.saturating_add(buf.len());
+        self.turns = self.turns.saturating_add(1);
+        Ok(buf.len())
+    }
+
+    fn flush(&mut self) -> io::Result<()> {
+        Ok(())
+    }
+}
+
+/// Inputs, and what is answered to them.
+const CASES: [(&str, &str); 62] = [
+    ("", ""),
+    ("table u8/6", "invalid\n"),
+    ("table u8/6\n", "invalid\n"),
+    ("table u8/6 064\n", "0 0 64\n"),
+    ("\n", "bad line\n"),
+    ("\n\n", "bad line\nbad line\n"),
+    ("table\n", "bad line\n"),
+    ("quantile u8/6\n", "bad line\n"),
+    ("symbol u8/6\n", "bad line\n"),
+    ("table  u8/6 64\n", "bad line\n"),
+    (" table u8/6 64\n", "bad line\n"),
+    ("table u8/6 64 \n", "bad line\n"),
+    ("table u8/6 64\r\n", "bad line\n"),
+    ("table u8/6 +64\n", "bad line\n"),
+    ("table u8/6 00000000000000000064\n", "0 0 64\n"),
+    ("table u8/6 000000000000000000064\n", "bad line\n"),
+    ("table u8/6 18446744073709551616\n", "bad line\n"),
+    ("table u8/6 18446744073709551615\n", "invalid\n"),
+    ("table u8/6 320\n", "invalid\n"),
+    ("table u8/6 3 18 1 43\n", "invalid\n"),
+    ("table u8/6 3 0 61\n", "invalid\n"),
+    ("table u7/6 1\n", "bad line\n"),
+    ("table u8/6 3 18 1 42\n", "0 0 3\n1 3 18\n2 21 1\n3 22 42\n"),
+    ("table u8/8 128 128\n", "0 0 128\n1 128 128\n"),
+    ("table u8/8 256\n", "invalid\n"),
+    ("table u8/8 0\n", "invalid\n"),
+    ("table u8/8 128 128 128 128\n", "invalid\n"),
+    ("table u16/12 1 4095\n", "0 0 1\n1 1 4095\n"),
+    ("table u16/12 4096\n", "0 0 4096\n"),
+    ("table u16/12 69632\n", "invalid\n"),
+    ("infer u8/6\n", "0 0 64\n"),
+    ("infer u8/6 64\n", "invalid\n"),
+    ("infer u8/6 3 18 1\n", "0 0 3\n1 3 18\n2 21 1\n3 22 42\n"),
+    ("infer u8/8\n", "invalid\n"),
+    ("infer u8/8 200\n", "0 0 200\n1 200 56\n"),
+    ("infer u8/8 255\n", "0 0 255\n1 255 1\n"),
+    ("infer u8/8 256\n", "invalid\n"),
+    ("infer u8/8 128 128\n", "invalid\n"),
+    ("infer u8/8 257\n", "invalid\n"),
+    ("infer u16/12\n", "0 0 4096\n"),
+    ("infer u16/12 65537\n", "invalid\n"),
+    ("quantile u8/6 21 3 18 1 42\n", "2 21 1\n"),
+    ("quantile u8/6 63 3 18 1 42\n", "3 22 42\n"),
+    ("quantile u8/6 64 64\n", "range\n"),
+    ("quantile u8/6 256 64\n", "range\n"),
+    ("quantile u8/6 64 63\n", "invalid\n"),
+    ("quantile u8/6 3\n", "invalid\n"),
+    ("quantile u8/8 255 128 128\n", "1 128 128\n"),
+    ("symbol u8/6 1 3 18 1 42\n", "1 3 18\n"),
+    ("symbol u8/6 4 3 18 1 42\n", "none\n"),
+    ("symbol u8/6 18446744073709551615 64\n", "none\n"),
+    ("symbol u8/6 5 63\n", "invalid\n"),
+    ("uniform u8/6\n", "bad line\n"),
+    ("uniform u8/6 2 3\n", "bad line\n"),
+    ("uniform u8/6 2", "0 0 32\n1 32 32\n"),
+    ("uniform u8/8 1\n", "range\n"),
+    ("uniform u8/8 3\n", "0 0 85\n1 85 85\n2 170 86\n"),
+    ("uniform u8/8 257\n", "range\n"),
+    ("uniform u16/12 0\n", "range\n"),
+    ("uniform u16/12 4097\n", "range\n"),
+    ("uniform u8/6 18446744073709551615\n", "range\n"),
+    (
+        "table u8/6 64\n\nsymbol u8/6 0 64",
+        "0 0 64\nbad line\n0 0 64\n",
+    ),
+];
+
+/// What a run over an input answers, and writes to a `Vec`.
+fn run_at_once(alloc: Global, mut input: &[u8], written: &mut Vec<u8>) -> Result<(), RunFault> {
+    run(alloc, &mut input, written)
+}
+
+/// The same where the input is read byte by byte.
+fn run_slowly(
+    alloc: Global,
+    reader: &mut SlowReader,
+    written: &mut Vec<u8>,
+) -> Result<(), RunFault> {
+    run(alloc, reader, written)
+}
+
+/// An input is answered by this text, read at once, and read byte by byte.
+fn is_answered(rt: &impl Abort, alloc: Global, input: &str, text: &str) {
+    let mut written = Vec::new(alloc);
+    let result = run_at_once(alloc, input.as_bytes(), &mut written);
+    same_at(rt, input, result, Ok(()));
+    holds_at(rt, input, &written, text.as_bytes());
+}
+
+fn is_answered_slowly(rt: &impl Abort, alloc: Global, input: &str, text: &str) {
+    let mut reader = SlowReader {
+        rest: input.as_bytes(),
+        turns: 1000,
+    };
+    let mut written = Vec::new(alloc);
+    let result = run_slowly(alloc, &mut reader, &mut written);
+    same_at(rt, input, result, Ok(()));
+    holds_at(rt, input, &written, text.as_bytes());
+}
+
+fn are_answered(rt: &impl Abort, alloc: Global, cases: &[(&str, &str)]) {
+    for case in cases {
+        let (input, text) = *case;
+        is_answered(rt, alloc, input, text);
+        is_answered_slowly(rt, alloc, input, text);
+    }
+}
+
+#[test]
+fn lines_are_answered(rt: HostRuntime) {
+    are_answered(&rt, rt.alloc(), &CASES);
+}
+
+#[test]
+fn a_reader_that_fails_leaves_nothing_written(rt: HostRuntime) {
+    let mut reader = SlowReader {
+        rest: b"a\nb",
+        turns: 2,
+    };
+    let mut written = Vec::new(rt.alloc());
+    let result = run_slowly(rt.alloc(), &mut reader, &mut written);
+    same(
+        &rt,
+        (result, written.is_empty()),
+        (Err(RunFault::Read), true),
+    );
+}
+
+/// What a run over two bad lines answers, and writes to a slow writer.
+fn run_to_slow(alloc: Global, writer: &mut SlowWriter) -> Result<(), RunFault> {
+    let mut reader = b"a\nb".as_slice();
+    run(alloc, &mut reader, writer)
+}
+
+#[test]
+fn a_writer_that_fails_has_a_beginning(rt: HostRuntime) {
+    let mut writer = SlowWriter {
+        taken: Vec::new(rt.alloc()),
+        turns: 12,
+    };
+    same(
+        &rt,
+        run_to_slow(rt.alloc(), &mut writer),
+        Err(RunFault::Write),
+    );
+    holds(&rt, &writer.taken, b"bad line\nbad");
+}
+
+/// What a run over an input answers, and how much room it leaves.
+pub fn run_into(
+    alloc: Global,
+    mut input: &[u8],
+    mut room: &mut [u8],
+) -> (Result<(), RunFault>, usize) {
+    let result = run(alloc, &mut input, &mut room);
+    (result, room.len())
+}
+
+#[test]
+fn a_writer_that_takes_no_byte_has_a_beginning(rt: HostRuntime) {
+    let mut room = [0u8; 12];
+    let (result, places) = run_into(rt.alloc(), b"a\nb", &mut room);
+    same(&rt, (result, places), (Err(RunFault::Write), 0));
+    same(&rt, room.as_slice(), b"bad line\nbad".as_slice());
+}
+
+/// So many empty lines.
+fn empty_lines(rt: &impl Abort, alloc: Global, count: usize) -> Vec<u8> {
+    let Ok(lines) = vec![in alloc; b'\n'; count] else {
+        panic!(rt; "memory was refused");
+    };
+    lines
+}
+
+/// Each line is this one.
+fn are_lines(rt: &impl Abort, text: &[u8], expected: &[u8; 9]) {
+    for line in text.chunks(9) {
+        same(rt, line, expected.as_slice());
+    }
+}
+
+#[test]
+fn an_input_of_the_limit_is_answered(rt: HostRuntime) {
+    let input = empty_lines(&rt, rt.alloc(), LIMIT);
+    let mut written = Vec::new(rt.alloc());
+    let result = run_at_once(rt.alloc(), &input, &mut written);
+    same(&rt, (result, written.len()), (Ok(()), LIMIT * 9));
+    are_lines(&rt, &written, b"bad line\n");
+}
+
+#[test]
+fn a_longer_input_is_not_answered(rt: HostRuntime) {
+    let input = empty_lines(&rt, rt.alloc(), LIMIT + 1);
+    let mut written = Vec::new(rt.alloc());
+    let result = run_at_once(rt.alloc(), &input, &mut written);
+    same(
+        &rt,
+        (result, written.is_empty()),
+        (Err(RunFault::TooLong), true),
+    );
+}
+
+#[test]
+fn faults_have_their_status(rt: HostRuntime) {
+    same(
+        &rt,
+        [
+            RunFault::Read.status(),
+            RunFault::Write.status(),
+            RunFault::TooLong.status(),
+            RunFault::OutOfMemory.status(),
+        ],
+        [1, 1, 2, 3],
+    );
+}
+
+/// The answer to a line.
+fn answered(rt: &impl Abort, alloc: Global, line: &[u8], text: &str) {
+    let Ok(found) = answer(alloc, line) else {
+        panic!(rt; "memory was refused");
+    };
+    same(rt, found.as_str(), text);
+}
+
+#[test]
+fn laws_and_answers_may_be_called(rt: HostRuntime) {
+    answered(&rt, rt.alloc(), b"table u8/6 1 63", "0 0 1\n1 1 63\n");
+    weights_are_tested_as_models_accept_them();
+}
+
+/// What a run over an input answers, and what it writes in which turns.
+fn run_counted(alloc: Global, mut input: &[u8]) -> (Result<(), RunFault>, usize, usize) {
+    let mut writer = CountingWriter { bytes: 0, turns: 0 };
+    let result = run(alloc, &mut input, &mut writer);
+    (result, writer.bytes, writer.turns)
+}
+
+/// The answers to 20,000 lines, 9 bytes each, are two pieces of 65,538 bytes and what is left.
+#[test]
+fn answers_are_written_in_large_pieces(rt: HostRuntime) {
+    let input = empty_lines(&rt, rt.alloc(), 20_000);
+    same(&rt, run_counted(rt.alloc(), &input), (Ok(()), 180_000, 3));
+}
+
+/// All is written, or the answers before a refusal of memory, each of them whole.
+fn is_whole_or_refused(rt: &impl Abort, answer: Result<(), RunFault>, places: usize) {
+    match answer {
+        Ok(()) => same(rt, places, 0),
+        Err(fault) => {
+            same(rt, fault, RunFault::OutOfMemory);
+            assert!(rt; matches!(places, 29 | 22 | 13));
+        }
+    }
+}
+
+/// The bytes that are written are those of the text, in their places.
+fn is_beginning(rt: &impl Abort, room: &[u8], text: &[u8]) {
+    for (byte, expected) in room.iter().zip(text) {
+        assert!(rt; *byte == *expected || *byte == 0);
+    }
+}
+
+/// The whole text, or where a request is refused the answers before it, each of them whole.
+#[test]
+fn answers_before_a_refusal_of_memory_are_written(rt: HostRuntime) {
+    let mut room = [0u8; 29];
+    let input = b"table u8/6 64\n\ntable u8/6 1 63\n";
+    let (result, places) = run_into(rt.alloc(), input, &mut room);
+    is_whole_or_refused(&rt, result, places);
+    is_beginning(&rt, &room, b"0 0 64\nbad line\n0 0 1\n1 1 63\n");
+    end_of_requests(&rt);
+}
+
+fn run_faults_are_sentences(rt: &impl Abort, alloc: Global) {
+    prints(rt, alloc, &RunFault::Read, "The input could not be read.");
+    prints(
+        rt,
+        alloc,
+        &RunFault::Write,
+        "The answers could not be written.",
+    );
+    prints(rt, alloc, &RunFault::TooLong, "The input is too long.");
+    prints(rt, alloc, &RunFault::OutOfMemory, "Memory was refused.");
+}
+
+#[test]
+fn faults_are_sentences(rt: HostRuntime) {
+    run_faults_are_sentences(&rt, rt.alloc());
+}
