@@ -64,15 +64,6 @@ pub slot-order : (lefts : List ℕ) (width slot first last : ℕ) → IsSlot lef
 slot-order lefts width slot first last s =
     last-order lefts (slot * width) (slot * width + (width - 1)) first last s.from s.to (omega arith)
 
--- a row that alone meets the slot is that of each of its quantiles
-pub slot-only : (lefts : List ℕ) (width slot first last q : ℕ) → IsSlot lefts width slot first last → first ≡ last → slot * width ≤ q
-    → q ≤ slot * width + (width - 1) → IsLastAtMost lefts q first
-slot-only lefts width slot first last q s e low high = record {
-  in_bounds = s.from.in_bounds;
-  at_most = omega (arith, s.from.at_most);
-  last = λ j a b. omega (arith, s.to.last j (omega arith) b);
-}
-
 pub part-whole : {W : Type 0} (whole : W → ℕ) (xs : List W) (first count : ℕ)
     → map whole (take count (drop first xs)) ≡ take count (drop first (map whole xs))
 part-whole whole xs first count = sym (take-map whole count (drop first xs)) ∙ ap (take count) (sym (drop-map whole first xs))

@@ -1,6 +1,6 @@
 //! The table of the rows that meet each slot.
 
-ghost use Rattle.std.specs.Prelude.{◌≡◌, ◌+◌, ◌-◌, ◌*◌, ◌/◌, ◌^◌, ◌<◌, ◌≤◌, ℕ, length, map, take, drop, slice_index, IfOk, IfErr};
+ghost use Rattle.std.specs.Prelude.{◌≡◌, ◌+◌, ◌-◌, ◌*◌, ◌/◌, ◌^◌, ◌<◌, ◌≤◌, ℕ, length, map, take, drop, slice_index, IfOk};
 ghost use Rattle.std.specs.List.Sorted.{IsStrictlyIncreasing};
 ghost use Rattle.constriction_model.specs.Probe.{IsLastAtMost, IsSearchable};
 ghost use Rattle.constriction_categorical.specs.Slots.{slot_count, slot_width};
@@ -161,9 +161,46 @@ pub(crate) fn slot_probe<
     (first, probe_of(entries, first, last))
 }
 
-/// The last row that begins at a quantile or below it, by a search among the rows that meet its slot.
-/// Where one row meets the slot, as where a slot holds one quantile, it is that one, and no search begins.
-#[inline]
+/// One where a row begins above a quantile, and 0 where it begins at it or below. The sum of two of these
+/// has no jump in it, which the processor would have to guess.
+#[inline(always)]
+fn above<Entry, Kind: CdfEntry<Entry>>(entries: &[Entry], row: usize, quantile: Kind::Word) -> usize
+    requires { row < length entries.now }
+    ensures at_most { slice_index (map Kind.cumulative entries.now) row ≤ Kind.Word.whole quantile → result ≡ 0 }
+    ensures above { Kind.Word.whole quantile < slice_index (map Kind.cumulative entries.now) row → result ≡ 1 }
+{
+    if quantile.is_below(Kind::cumulative_of(&entries[row])) {
+        1
+    } else {
+        0
+    }
+}
+
+/// The last row that begins at a quantile or below it, where at most three rows meet its slot: the last of
+/// these, less those of the other two that begin above the quantile. Where fewer meet it, the first row
+/// takes the place of what is missing, and it never begins above.
+#[inline(always)]
+fn row_of_few<Entry, Kind: CdfEntry<Entry>, const PRECISION: usize, const SLOT_BITS: usize>(
+    entries: &[Entry],
+    first: usize,
+    last: usize,
+    quantile: Kind::Word,
+) -> usize
+    requires increases { IsStrictlyIncreasing (map Kind.cumulative entries.now) }
+    requires slot { IsSlot (map Kind.cumulative entries.now) (slot_width PRECISION SLOT_BITS)
+        (Kind.Word.whole quantile / slot_width PRECISION SLOT_BITS) first last }
+    requires few { last ≤ first + 2 }
+    ensures { IsLastAtMost (map Kind.cumulative entries.now) (Kind.Word.whole quantile) result }
+{
+    let middle = first + (last - first) / 2;
+    last - (above::<Entry, Kind>(entries, last, quantile)
+        + above::<Entry, Kind>(entries, middle, quantile))
+}
+
+/// The last row that begins at a quantile or below it, among the rows that meet its slot: the only one
+/// where a slot holds one quantile, else by two comparisons without a jump where at most three rows meet
+/// the slot, and by a search where more do.
+#[inline(always)]
 pub(crate) fn row_in_slot<
     Entry,
     Kind: CdfEntry<Entry>,
@@ -178,13 +215,16 @@ pub(crate) fn row_in_slot<
     ensures { IsLastAtMost (map Kind.cumulative entries.now) (Kind.Word.whole quantile) result }
 {
     let (first, last) = rows_of_slot::<Entry, Kind, PRECISION, SLOT_BITS>(entries, table, quantile);
-    if first == last {
+    if width_of_slots::<PRECISION, SLOT_BITS>() == 1 {
         return first;
+    }
+    if last - first <= 2 {
+        return row_of_few::<Entry, Kind, PRECISION, SLOT_BITS>(entries, first, last, quantile);
     }
     row_among::<Entry, Kind, PRECISION, SLOT_BITS>(entries, first, last, quantile)
 }
 
-/// The same where the first and the last row of the slot are known, by a search. It is out of line, so that a
+/// The same by a search, where the first and the last row of the slot are known. It is out of line, so that a
 /// look-up that needs none is as short as it can be.
 #[inline(never)]
 fn row_among<Entry, Kind: CdfEntry<Entry>, const PRECISION: usize, const SLOT_BITS: usize>(
