@@ -3,7 +3,7 @@
 ghost use Rattle.std.specs.Prelude.{◌≡◌, ◌<◌, ◌≤◌, Bool, List, [], ◌∷◌, map, true, false, IfOk, IfErr};
 ghost use Rattle.std.specs.Iterator.{Drains, IsFinite};
 ghost use Rattle.std.specs.List.{IsDistinct};
-ghost use Rattle.constriction.specs.Acceptance.{AreAccepted};
+ghost use Rattle.constriction.specs.Acceptance.{AreAccepted, GaveBothBad, GaveBothGood, GivesDistinct};
 ghost use Rattle.constriction.specs.Laws.{SymbolsDiffer};
 ghost use Rattle.constriction.specs.Model.{StandForRows, ClonesAreSame, ClonesAreEqual};
 ghost use Rattle.constriction.specs.Rows.{Row, rows_of, symbols_of};
@@ -18,6 +18,7 @@ use constriction::stream::model::{
 };
 use constriction_words::{IndexWord, WholeNumber};
 use std::alloc::{AllocError, Global};
+use std::vec::IntoIter;
 
 /// A conversion of a [`DecoderForm`].
 #[derive(Debug, PartialEq, Eq, Drop)]
@@ -79,8 +80,38 @@ where
     Ok((symbols, weights))
 }
 
+/// The searching model of two lists, as its constructor tells it of the iterators that they become. So what follows
+/// of it for the lists is proved apart, over plain terms.
+fn from_lists<Symbol: Eq + Drop, Probability: WholeNumber, const PRECISION: usize>(
+    alloc: Global,
+    symbols: Vec<Symbol>,
+    weights: Vec<Probability>,
+) -> Result<Searching<Symbol, Probability, PRECISION>, ModelError>
+    requires positive { 0 < PRECISION }
+    requires fits { PRECISION ≤ Probability.BITS }
+    requires distinct { GivesDistinct ⟦<Vec<Symbol> as IntoIterator>⟧.into_iter_gives
+        ⟦<IntoIter<Symbol> as Iterator>⟧.next_gives Symbol.eq symbols }
+    ensures ok { IfOk result (λ m. (it : _) × ⟦<Vec<Symbol> as IntoIterator>⟧.into_iter_gives symbols it
+        × (jt : _) × ⟦<Vec<Probability> as IntoIterator>⟧.into_iter_gives weights jt
+        × GaveBothGood ⟦<IntoIter<Symbol> as Iterator>⟧.next_gives it
+        ⟦<IntoIter<Probability> as Iterator>⟧.next_gives jt (λ ss ws.
+        AreAccepted Symbol.eq Probability.BITS PRECISION ss (map Probability.whole ws)
+        × (⟦<Searching<Symbol, Probability, PRECISION> as EntropyModel<PRECISION>>⟧.rows m
+        ≡ rows_of ss (map Probability.whole ws)))) }
+    ensures invalid { result ≡ Err ModelError.InvalidTable
+        → (it : _) × ⟦<Vec<Symbol> as IntoIterator>⟧.into_iter_gives symbols it
+        × (jt : _) × ⟦<Vec<Probability> as IntoIterator>⟧.into_iter_gives weights jt
+        × GaveBothBad ⟦<IntoIter<Symbol> as Iterator>⟧.next_gives it
+        ⟦<IntoIter<Probability> as Iterator>⟧.next_gives jt (λ ss ws.
+        AreAccepted Symbol.eq Probability.BITS PRECISION ss (map Probability.whole ws)) }
+{
+    Searching::from_distinct_symbols_and_nonzero_fixed_point_probabilities(
+        alloc, symbols, weights, false,
+    )
+}
+
 /// The searching model of symbols and weights that are accepted. The symbols are not compared.
-fn searching_of<Symbol: Eq + Drop, Probability: IndexWord, const PRECISION: usize>(
+fn searching_of<Symbol: Eq + Drop, Probability: WholeNumber, const PRECISION: usize>(
     alloc: Global,
     symbols: Vec<Symbol>,
     weights: Vec<Probability>,
@@ -92,9 +123,25 @@ fn searching_of<Symbol: Eq + Drop, Probability: IndexWord, const PRECISION: usiz
         ≡ rows_of symbols.items (map Probability.whole weights.items)) }
     ensures refused { IfErr result (λ e. e ≡ ModelError.OutOfMemory) }
 {
-    Searching::from_distinct_symbols_and_nonzero_fixed_point_probabilities(
-        alloc, symbols, weights, false,
-    )
+    from_lists(alloc, symbols, weights)
+}
+
+/// The searching model of a form's rows, with clones of its symbols. No symbols are compared.
+fn searched<Symbol: Eq + Clone + Drop, Probability: IndexWord, const PRECISION: usize>(
+    alloc: Global,
+    form: &DecoderForm<Symbol, Probability, PRECISION>,
+) -> Result<Searching<Symbol, Probability, PRECISION>, ModelError>
+    requires positive { 0 < PRECISION }
+    requires fits { PRECISION ≤ Probability.BITS }
+    requires clones { ClonesAreEqual Symbol.eq Symbol.is_clone }
+    requires distinct { IsDistinct Symbol.eq
+        (symbols_of (⟦<DecoderForm<Symbol, Probability, PRECISION> as EntropyModel<PRECISION>>⟧.rows form.now)) }
+    ensures rows { IfOk result (λ m. StandForRows Symbol.is_clone
+        (⟦<Searching<Symbol, Probability, PRECISION> as EntropyModel<PRECISION>>⟧.rows m)
+        (⟦<DecoderForm<Symbol, Probability, PRECISION> as EntropyModel<PRECISION>>⟧.rows form.now)) }
+    ensures refused { IfErr result (λ e. e ≡ ModelError.OutOfMemory) }
+{
+    to_generic_decoder_model_of_distinct::<_, PRECISION>(alloc, form)
 }
 
 /// The form with a table of the same rows.
@@ -169,14 +216,14 @@ impl<Symbol: Eq + Clone + Drop, Probability: IndexWord, const PRECISION: usize> 
         × SymbolsDiffer Symbol.eq ⟦<DecoderForm<Symbol, Probability, PRECISION> as EntropyModel<PRECISION>>⟧.rows };
 
     fn to_search(&self, alloc: Global) -> Result<Self, ModelError> {
-        match to_generic_decoder_model_of_distinct::<_, PRECISION>(alloc, self) {
+        match searched(alloc, self) {
             Ok(model) => Ok(DecoderForm::Search(model)),
             Err(refusal) => Err(refusal),
         }
     }
 
     fn to_lookup(&self, alloc: Global) -> Result<Self, ModelError> {
-        match to_generic_decoder_model_of_distinct::<_, PRECISION>(alloc, self) {
+        match searched(alloc, self) {
             Ok(model) => tabled_of(alloc, model),
             Err(refusal) => Err(refusal),
         }

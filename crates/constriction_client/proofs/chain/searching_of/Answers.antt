@@ -1,25 +1,19 @@
-use Rattle.std.proofs.Common.{◌∙◌, lit<, rules}
+use Rattle.std.proofs.Common.{◌∙◌, lit<}
 use Rattle.std.proofs.lemmas.Iterator.Adapters.{YieldsList-from_vec}
 use Rattle.constriction.specs.GivenLemmas.{distinct-given}
 use Rattle.constriction_client.proofs.Rebuilding.{made-of-them, not-refused}
 use Rattle.constriction_client.proofs.chain.searching_of.Goals as goal
 
-pub from_distinct_symbols_and_nonzero_fixed_point_probabilities-requires : goal.from_distinct_symbols_and_nonzero_fixed_point_probabilities-requires
-from_distinct_symbols_and_nonzero_fixed_point_probabilities-requires g c = (
+pub from_lists-requires : goal.from_lists-requires
+from_lists-requires g c = (
   lit< tt,
   (
     c.requires.positive,
     (
       c.requires.fits,
-      (
-        search rules,
-        (
-          search rules,
-          λ it given came drained.
-              distinct-given _ it c.args.symbols.items (YieldsList-from_vec _ came.0 (came.1 ∙ c.args.symbols.ok.0)) g.Symbol.PartialEq.eq
-              c.requires.accepted.distinct given drained,
-        ),
-      ),
+      λ it given came drained.
+          distinct-given _ it c.args.symbols.items (YieldsList-from_vec _ came.0 (came.1 ∙ c.args.symbols.ok.0)) g.Symbol.PartialEq.eq
+          c.requires.accepted.distinct given drained,
     ),
   ),
 )
@@ -28,14 +22,11 @@ pub returns-clause-rows : goal.returns-clause-rows
 returns-clause-rows g c =
     made-of-them _ _ g.Symbol.PartialEq.eq g.Probability.WholeNumber.whole g.Probability.WholeNumber.BITS g.row.PRECISION
     c.args.symbols.items c.args.weights.items _ (λ it came. YieldsList-from_vec _ came.0 (came.1 ∙ c.args.symbols.ok.0))
-    _ (λ jt came. YieldsList-from_vec _ came.0 (came.1 ∙ c.args.weights.ok.0)) _
-    c.from_distinct_symbols_and_nonzero_fixed_point_probabilities.result
-    c.from_distinct_symbols_and_nonzero_fixed_point_probabilities.ensures.ok
+    _ (λ jt came. YieldsList-from_vec _ came.0 (came.1 ∙ c.args.weights.ok.0)) _ c.from_lists.result c.from_lists.ensures.ok
 
 pub returns-clause-refused : goal.returns-clause-refused
 returns-clause-refused g c =
     not-refused _ _ g.Symbol.PartialEq.eq g.Probability.WholeNumber.whole g.Probability.WholeNumber.BITS g.row.PRECISION
     c.args.symbols.items c.args.weights.items _ (λ it came. YieldsList-from_vec _ came.0 (came.1 ∙ c.args.symbols.ok.0))
-    _ (λ jt came. YieldsList-from_vec _ came.0 (came.1 ∙ c.args.weights.ok.0))
-    c.from_distinct_symbols_and_nonzero_fixed_point_probabilities.result c.requires.accepted
-    c.from_distinct_symbols_and_nonzero_fixed_point_probabilities.ensures.invalid
+    _ (λ jt came. YieldsList-from_vec _ came.0 (came.1 ∙ c.args.weights.ok.0)) c.from_lists.result c.requires.accepted
+    c.from_lists.ensures.invalid

@@ -1,7 +1,3 @@
-use Rattle.std.proofs.Common.{subst, sym}
-use Rattle.constriction.specs.Rows.{entry_of}
-use Rattle.constriction_client.specs.declared.queries.Query.{Query}
-use Rattle.constriction_client.specs.Replies.{reply_to_query, StandsForReply, in_numbers}
 use Rattle.constriction_client.proofs.Replying.{told-reply}
 use Rattle.constriction_client.proofs.queries.answer_query.Goals as goal
 

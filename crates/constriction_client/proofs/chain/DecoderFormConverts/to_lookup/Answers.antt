@@ -2,15 +2,12 @@ use Rattle.std.proofs.Common.{lit<}
 use Rattle.constriction_client.proofs.Rebuilding.{rows-stand}
 use Rattle.constriction_client.proofs.chain.DecoderFormConverts.to_lookup.Goals as goal
 
-pub to_generic_decoder_model_of_distinct-requires : goal.to_generic_decoder_model_of_distinct-requires
-to_generic_decoder_model_of_distinct-requires g c = (lit< tt, (c.requires.0, (c.requires.1, (c.requires.3, c.requires.4 _))))
+pub searched-requires : goal.searched-requires
+searched-requires g c = (lit< tt, (lit< tt, (c.requires.0, (c.requires.1, (c.requires.3, c.requires.4 _)))))
 
 pub returns-in-Ok : goal.returns-in-Ok
 returns-in-Ok g c = record {
-  rows = rows-stand g.Symbol.Clone.is_clone _ _ _ c.tabled_of.result c.tabled_of.ensures.rows c.in-Ok.ensures.ok.0;
+  rows = rows-stand g.Symbol.Clone.is_clone _ _ _ c.tabled_of.result c.tabled_of.ensures.rows c.in-Ok.ensures.rows;
   kind = c.tabled_of.ensures.kind;
   refused = c.tabled_of.ensures.refused;
 }
-
-pub returns-in-Err : goal.returns-in-Err
-returns-in-Err g c = record { rows = tt; kind = tt; refused = c.in-Err.ensures.refused }

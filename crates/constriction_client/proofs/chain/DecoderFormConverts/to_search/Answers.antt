@@ -1,11 +1,8 @@
 use Rattle.std.proofs.Common.{lit<, refl}
 use Rattle.constriction_client.proofs.chain.DecoderFormConverts.to_search.Goals as goal
 
-pub to_generic_decoder_model_of_distinct-requires : goal.to_generic_decoder_model_of_distinct-requires
-to_generic_decoder_model_of_distinct-requires g c = (lit< tt, (c.requires.0, (c.requires.1, (c.requires.3, c.requires.4 _))))
+pub searched-requires : goal.searched-requires
+searched-requires g c = (lit< tt, (lit< tt, (c.requires.0, (c.requires.1, (c.requires.3, c.requires.4 _)))))
 
 pub returns-in-Ok : goal.returns-in-Ok
-returns-in-Ok g c = record { rows = c.in-Ok.ensures.ok.0; kind = refl; refused = tt }
-
-pub returns-in-Err : goal.returns-in-Err
-returns-in-Err g c = record { rows = tt; kind = tt; refused = c.in-Err.ensures.refused }
+returns-in-Ok g c = record { rows = c.in-Ok.ensures.rows; kind = refl; refused = tt }
