@@ -1,23 +1,20 @@
-//! Items to words and back, over a worked table and ends that fail.
+//! Items to words and back, over a worked table.
 
-ghost use Rattle.std.specs.Prelude.{◌≡◌, [], ◌∷◌, nat_eq};
+ghost use Rattle.std.specs.Prelude.{[], ◌∷◌, nat_eq};
 ghost use Rattle.std.specs.Cmp.{nat_eq_equiv};
 ghost use Rattle.std.proofs.Common.{rules};
 ghost use Rattle.constriction.specs.Rows.{rows_of};
-ghost use Rattle.constriction_backends.specs.Stack.{Pushes};
-ghost use Rattle.constriction_backends.specs.StackLaws.{Pushes-told};
 
 use crate::checks::{end_of_requests, holds, holds_at, prints, same, same_at, vec_of};
 use crate::model_checks::{made, small};
 use constriction::stream::model::{DecoderModel, EncoderModel, EntropyModel, Weight};
-use constriction_backends::{ReadWords, WriteWords};
 use constriction_client::laws::{
     each_quantile_in_range_has_a_row, reads_back, reads_back_reversed,
     the_row_found_is_the_row_of_the_quantile, there_and_back,
 };
 use constriction_client::{QuantileFault, ReadFault, read_symbols, write_quantiles};
 use constriction_fixtures::contiguous::{Table, WEIGHTS, table};
-use constriction_words::{BitArray, CoderError, Queue, Stack};
+use constriction_words::{BitArray, CoderError, Stack};
 use std::alloc::{AllocError, Global};
 use std::convert::Infallible;
 use std::process::Abort;
@@ -292,107 +289,6 @@ fn a_refusal_of_memory_ends_the_way(rt: HostRuntime) {
         Err(fault) => same(&rt, fault, CoderError::Backend(AllocError)),
     }
     end_of_requests(&rt);
-}
-
-/// Why a sink of at most two words refuses a word.
-#[derive(Debug, PartialEq, Eq, Drop)]
-enum Refusal {
-    Full(u8),
-    OutOfMemory,
-}
-
-/// A sink of at most two words.
-#[derive(Drop)]
-struct TwoWords {
-    words: Vec<u8>,
-}
-
-impl WriteWords<u8> for TwoWords {
-    type WriteError = Refusal;
-
-    ghost write_gives = { λ s word r t. Pushes s.words.items word r t.words.items };
-
-    ghost tells_written = { λ s words. words ≡ s.words.items };
-
-    fn write(&mut self, word: u8) -> Result<(), Refusal> {
-        if self.words.len() >= 2 {
-            return Err(Refusal::Full(word));
-        }
-        match self.words.push(word) {
-            Ok(()) => Ok(()),
-            Err(_) => Err(Refusal::OutOfMemory),
-        }
-    }
-
-    ghost writes_told = { Pushes-told (λ s. s.words.items) };
-
-    ghost room_suffices = { λ s word r t h room. absurd room };
-}
-
-fn write_two(
-    model: &Table<6>,
-    items: &[(usize, u8)],
-    sink: &mut TwoWords,
-) -> Result<(), CoderError<QuantileFault, Refusal>> {
-    write_quantiles(model, items, sink)
-}
-
-#[test]
-fn a_refusal_of_the_sink_is_handed_on(rt: HostRuntime) {
-    let model = small(&rt, rt.alloc());
-    let mut sink = TwoWords {
-        words: Vec::new(rt.alloc()),
-    };
-    let written = write_two(&model, &[(0, 2), (3, 41), (1, 0), (4, 0)], &mut sink);
-    same(&rt, written, Err(CoderError::Backend(Refusal::Full(3))));
-    holds(&rt, &sink.words, &[2, 63]);
-}
-
-/// A source that answers 63, an error, 2, and then that it ended.
-#[derive(Drop)]
-struct Interrupted {
-    reads: u8,
-}
-
-impl ReadWords<u8, Queue> for Interrupted {
-    type ReadError = &'static str;
-
-    ghost read_gives = { λ _ _ _. Unit {0} };
-
-    fn read(&mut self) -> Result<Option<u8>, &'static str> {
-        let turn = self.reads;
-        self.reads = turn.saturating_add(1);
-        match turn {
-            0 => Ok(Some(63)),
-            1 => Err("interrupted"),
-            2 => Ok(Some(2)),
-            _ => Ok(None),
-        }
-    }
-
-    ghost reads_told = { λ s r t gives words told. absurd told };
-}
-
-fn read_interrupted(
-    model: &Table<6>,
-    source: &mut Interrupted,
-    out: &mut Vec<(usize, u8)>,
-) -> Result<usize, CoderError<ReadFault, &'static str>> {
-    read_symbols::<Queue, _, _, _, _, 6>(model, source, 3, out)
-}
-
-#[test]
-fn an_error_of_the_source_is_handed_on(rt: HostRuntime) {
-    let model = small(&rt, rt.alloc());
-    let mut source = Interrupted { reads: 0 };
-    let mut out = Vec::new(rt.alloc());
-    let interrupted = read_interrupted(&model, &mut source, &mut out);
-    same(&rt, interrupted, Err(CoderError::Backend("interrupted")));
-    same(&rt, source.reads, 2);
-    holds(&rt, &out, &[(3, 41)]);
-    same(&rt, read_interrupted(&model, &mut source, &mut out), Ok(1));
-    same(&rt, source.reads, 4);
-    holds(&rt, &out, &[(3, 41), (0, 2)]);
 }
 
 /// A model of the caller that names a letter twice: `a`, `b` and `a` again have the weights 1, 2

@@ -27,6 +27,8 @@ mod message;
 #[cfg(test)]
 mod model_checks;
 #[cfg(test)]
+mod own_ends;
+#[cfg(test)]
 mod owned_symbols;
 #[cfg(test)]
 mod queries;

@@ -1,0 +1,113 @@
+//! Items to words and back, over ends of the caller that refuse.
+
+ghost use Rattle.std.specs.Prelude.{◌≡◌};
+ghost use Rattle.constriction_backends.specs.Stack.{Pushes};
+ghost use Rattle.constriction_backends.specs.StackLaws.{Pushes-told};
+
+use crate::checks::{holds, same};
+use crate::model_checks::small;
+use constriction_backends::{ReadWords, WriteWords};
+use constriction_client::{QuantileFault, ReadFault, read_symbols, write_quantiles};
+use constriction_fixtures::contiguous::Table;
+use constriction_words::{CoderError, Queue};
+
+/// Why a sink of at most two words refuses a word.
+#[derive(Debug, PartialEq, Eq, Drop)]
+enum Refusal {
+    Full(u8),
+    OutOfMemory,
+}
+
+/// A sink of at most two words.
+#[derive(Drop)]
+struct TwoWords {
+    words: Vec<u8>,
+}
+
+impl WriteWords<u8> for TwoWords {
+    type WriteError = Refusal;
+
+    ghost write_gives = { λ s word r t. Pushes s.words.items word r t.words.items };
+
+    ghost tells_written = { λ s words. words ≡ s.words.items };
+
+    fn write(&mut self, word: u8) -> Result<(), Refusal> {
+        if self.words.len() >= 2 {
+            return Err(Refusal::Full(word));
+        }
+        match self.words.push(word) {
+            Ok(()) => Ok(()),
+            Err(_) => Err(Refusal::OutOfMemory),
+        }
+    }
+
+    ghost writes_told = { Pushes-told (λ s. s.words.items) };
+
+    ghost room_suffices = { λ s word r t h room. absurd room };
+}
+
+fn write_two(
+    model: &Table<6>,
+    items: &[(usize, u8)],
+    sink: &mut TwoWords,
+) -> Result<(), CoderError<QuantileFault, Refusal>> {
+    write_quantiles(model, items, sink)
+}
+
+#[test]
+fn a_refusal_of_the_sink_is_handed_on(rt: HostRuntime) {
+    let model = small(&rt, rt.alloc());
+    let mut sink = TwoWords {
+        words: Vec::new(rt.alloc()),
+    };
+    let written = write_two(&model, &[(0, 2), (3, 41), (1, 0), (4, 0)], &mut sink);
+    same(&rt, written, Err(CoderError::Backend(Refusal::Full(3))));
+    holds(&rt, &sink.words, &[2, 63]);
+}
+
+/// A source that answers 63, an error, 2, and then that it ended.
+#[derive(Drop)]
+struct Interrupted {
+    reads: u8,
+}
+
+impl ReadWords<u8, Queue> for Interrupted {
+    type ReadError = &'static str;
+
+    ghost read_gives = { λ _ _ _. Unit {0} };
+
+    fn read(&mut self) -> Result<Option<u8>, &'static str> {
+        let turn = self.reads;
+        self.reads = turn.saturating_add(1);
+        match turn {
+            0 => Ok(Some(63)),
+            1 => Err("interrupted"),
+            2 => Ok(Some(2)),
+            _ => Ok(None),
+        }
+    }
+
+    ghost reads_told = { λ s r t gives words told. absurd told };
+}
+
+fn read_interrupted(
+    model: &Table<6>,
+    source: &mut Interrupted,
+    out: &mut Vec<(usize, u8)>,
+) -> Result<usize, CoderError<ReadFault, &'static str>> {
+    read_symbols::<Queue, _, _, _, _, 6>(model, source, 3, out)
+}
+
+#[test]
+fn an_error_of_the_source_is_handed_on(rt: HostRuntime) {
+    let model = small(&rt, rt.alloc());
+    let mut source = Interrupted { reads: 0 };
+    let mut out = Vec::new(rt.alloc());
+    let interrupted = read_interrupted(&model, &mut source, &mut out);
+    same(&rt, interrupted, Err(CoderError::Backend("interrupted")));
+    same(&rt, source.reads, 2);
+    holds(&rt, &out, &[(3, 41)]);
+    same(&rt, read_interrupted(&model, &mut source, &mut out), Ok(1));
+    same(&rt, source.reads, 4);
+    holds(&rt, &out, &[(3, 41), (0, 2)]);
+}
