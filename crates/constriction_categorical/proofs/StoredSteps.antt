@@ -1,7 +1,7 @@
 -- Walking through the rows of a stored table, from either end.
 use Rattle.std.proofs.Common.{◌≡◌, ℕ, ◌+◌, ◌-◌, ◌<◌, ◌≤◌, List, [], ◌∷◌, ◌++◌, length, get_or, map, refl, ◌∙◌, arith}
 use Rattle.std.proofs.lemmas.List.{length-map}
-use Rattle.constriction_model.specs.Rows.{Row, contiguous_rows}
+use Rattle.constriction_model.specs.Rows.{contiguous_rows}
 use Rattle.constriction_categorical.specs.Stored.{IsTable, lefts_in, weights_of}
 use Rattle.constriction_categorical.specs.StoredRowLemmas.{stored-at}
 use Rattle.constriction_categorical.specs.Stored.{rows_stored}

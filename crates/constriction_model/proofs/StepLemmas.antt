@@ -1,8 +1,8 @@
 -- Walking through rows, from either end.
 use Rattle.std.specs.Prelude.{take, drop}
-use Rattle.std.proofs.Common.{◌≡◌, ℕ, ◌+◌, ◌-◌, ◌<◌, ◌≤◌, List, [], ◌∷◌, ◌++◌, length, get_or, map, refl, ap, sym, ◌∙◌, arith}
+use Rattle.std.proofs.Common.{◌≡◌, ℕ, ◌+◌, ◌-◌, ◌<◌, ◌≤◌, List, [], ◌∷◌, ◌++◌, length, get_or, ap, sym, ◌∙◌, arith}
 use Rattle.std.proofs.lemmas.List.{length-drop, drop_all, drop_more, length-take-le, take_all, get_or-take, take_more}
-use Rattle.std.proofs.lemmas.List.{drop-append-le, length-append, length-map, length-take}
+use Rattle.std.proofs.lemmas.List.{drop-append-le, length-append, length-take}
 use Rattle.constriction_model.specs.Rows.{Row}
 use Rattle.constriction_model.specs.Tables.{rows_between}
 

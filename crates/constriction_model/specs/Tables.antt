@@ -1,5 +1,5 @@
 -- Symbol tables: what one step of a walk through the rows of a model gives, from either end.
-use Rattle.std.specs.Prelude.{◌≡◌, ℕ, List, [], ◌∷◌, ◌++◌, map, take, drop, Option, Some, None, Result, Ok, Err, IfOk, IfErr}
+use Rattle.std.specs.Prelude.{◌≡◌, ℕ, List, [], ◌∷◌, ◌++◌, take, drop, Option, Some, None, Result, Ok, Err, IfOk, IfErr}
 use Rattle.constriction_model.specs.Rows.{Row}
 use Rattle.constriction_model.specs.Model.{row_of, StandsForRow}
 

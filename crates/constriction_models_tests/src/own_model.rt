@@ -1,5 +1,5 @@
-//! A model of the caller: its rows, what it answers for a symbol, the walk through its rows, and what
-//! the caller knows of the models that are made from it.
+//! A model of the caller, which stands in `constriction_fixtures`: its rows, what it answers for a symbol, the walk
+//! through its rows, and what the caller knows of the models that are made from it.
 
 ghost use Rattle.std.specs.Prelude.{◌≡◌, ◌<◌, ◌-◌, ◌∷◌, [], drop, IfOk, IsErr};
 ghost use Rattle.std.specs.Iterator.{at_most};
