@@ -10,28 +10,28 @@ use constriction_model::ModelError;
 use constriction_numbers::WholeNumber;
 use std::alloc::{AllocError, Global};
 
-/// The table, with room for one word more. It takes the table by value and stands out of line, so that
-/// the loop of [`table_of`] keeps its pointer, length and capacity in registers.
+/// A list, with room for one item more. It takes the list by value and stands out of line, so that a loop
+/// that fills the list keeps its pointer, length and capacity in registers.
 #[cold]
 #[inline(never)]
-fn with_room<P: WholeNumber>(mut table: Vec<P>) -> Result<Vec<P>, AllocError>
-    ensures items { IfOk result (λ v. v.items ≡ table.items) }
+fn with_room<T: Drop>(mut items: Vec<T>) -> Result<Vec<T>, AllocError>
+    ensures items { IfOk result (λ v. v.items ≡ items.items) }
     ensures room { IfOk result (λ v. vec_len v < vec_capacity v) }
 {
-    table.reserve(1)?;
-    Ok(table)
+    items.reserve(1)?;
+    Ok(items)
 }
 
-/// The table and one word more.
-#[inline]
-fn and_word<P: WholeNumber>(mut table: Vec<P>, word: P) -> Result<Vec<P>, AllocError>
-    ensures { IfOk result (λ v. v.items ≡ table.items ++ word ∷ []) }
+/// A list and one item more.
+#[inline(always)]
+pub(crate) fn and_item<T: Drop>(mut items: Vec<T>, item: T) -> Result<Vec<T>, AllocError>
+    ensures { IfOk result (λ v. v.items ≡ items.items ++ item ∷ []) }
 {
-    if table.len() == table.capacity() {
-        table = with_room(table)?;
+    if items.len() == items.capacity() {
+        items = with_room(items)?;
     }
-    table.push_reserved(word);
-    Ok(table)
+    items.push_reserved(item);
+    Ok(items)
 }
 
 /// Whether a row of this weight fills the quantiles, where `last` is the weight less one, modulo
@@ -136,7 +136,7 @@ pub(crate) fn table_of<P: WholeNumber, I: IntoIterator<Item = P>, const PRECISIO
             if let Some(_) = rest.next() {
                 return Err(ModelError::InvalidTable);
             }
-            return Ok(and_word(table, total)?);
+            return Ok(and_item(table, total)?);
         }
         left = left.plus(weight);
         room = room.minus(weight);
@@ -147,5 +147,5 @@ pub(crate) fn table_of<P: WholeNumber, I: IntoIterator<Item = P>, const PRECISIO
     if room.is_greatest() {
         return Err(ModelError::InvalidTable);
     }
-    Ok(and_word(and_word(table, left)?, total)?)
+    Ok(and_item(and_item(table, left)?, total)?)
 }

@@ -8,7 +8,7 @@ ghost use Rattle.constriction_categorical.specs.Filling.{HoldsEntries};
 ghost use Rattle.constriction_model.specs.Model.{row_of};
 ghost use Rattle.constriction_categorical.specs.Walked.{WalkedGood, WalkedBad};
 
-use crate::filling::{room_for, rows_announced};
+use crate::filling::{and_item, room_for, rows_announced};
 use crate::hashed::{Entry, table_for};
 use crate::non_contiguous::has_symbol;
 use constriction_model::ModelError;
@@ -65,7 +65,7 @@ where
     let mut entries = room_for(alloc, rows_announced::<PRECISION>(walk.size_hint().0));
     'rows: while let Some(row) = walk.next() {
         let (symbol, left, _weight) = row?;
-        entries.push((left, symbol))?;
+        entries = and_item(entries, (left, symbol))?;
     }
     Ok(entries)
 }

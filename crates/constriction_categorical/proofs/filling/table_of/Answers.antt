@@ -169,9 +169,9 @@ returns-then-is_at_most-clause-ok g c =
         (_, (_, yields-more g.I.IntoIter.Iterator.next_gives _ inv.2.0 _ w _ inv.2.1 c.in-Some.ensures.steps, c.in_default-next.ensures.steps)),
         rw given (
           good.0,
-          ended whole (c.rows.table.items ++ c.rows.left ∷ []) c.push_reserved.new.self.items c.in_ok-and_word.field-0.items
+          ended whole (c.rows.table.items ++ c.rows.left ∷ []) c.push_reserved.new.self.items c.in_ok-and_item.field-0.items
               c.wrapping_pow2-total.result (2 ^ g.row.PRECISION % 2 ^ g.P.WholeNumber.BITS)
-              (lefts_from 0 (map whole (inv.2.0 ++ w ∷ []))) pushed c.in_ok-and_word.ensures c.wrapping_pow2-total.ensures good.1,
+              (lefts_from 0 (map whole (inv.2.0 ++ w ∷ []))) pushed c.in_ok-and_item.ensures c.wrapping_pow2-total.ensures good.1,
         ),
       ),
     )
@@ -212,9 +212,9 @@ returns-clause-ok g c =
         (_, (_, inv.2.1, c.in_default.ensures.steps)),
         rw infer (
           good.0,
-          ended whole (c.rows.table.items ++ c.rows.left ∷ []) c.in_ok-and_word-2.field-0.items c.in_ok-and_word-3.field-0.items
+          ended whole (c.rows.table.items ++ c.rows.left ∷ []) c.in_ok-and_item-2.field-0.items c.in_ok-and_item-3.field-0.items
               c.wrapping_pow2-total.result (2 ^ g.row.PRECISION % 2 ^ g.P.WholeNumber.BITS)
-              (lefts_from 0 (completed g.row.PRECISION true (map whole inv.2.0))) c.in_ok-and_word-2.ensures c.in_ok-and_word-3.ensures
+              (lefts_from 0 (completed g.row.PRECISION true (map whole inv.2.0))) c.in_ok-and_item-2.ensures c.in_ok-and_item-3.ensures
               c.wrapping_pow2-total.ensures good.1,
         ),
       ),

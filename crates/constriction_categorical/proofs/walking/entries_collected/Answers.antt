@@ -14,9 +14,9 @@ rows-preserved g c =
     let next = c.in-Some.ensures.goes.on c.rows.invariant.1 in (
       next.0,
       next.1,
-      collected-uncompared g.Walk.Iterator.next_gives c.args.walk c.rows.walk c.next.new.self c.rows.entries.items c.push.new.self.items
+      collected-uncompared g.Walk.Iterator.next_gives c.args.walk c.rows.walk c.next.new.self c.rows.entries.items c.in_ok-entries.entries.items
           c.in-Some.row (c.in_ok-symbol.symbol, c.in_ok-symbol.left, c.in_ok-symbol._weight) c.rows.invariant.2 c.in-Some.ensures.steps
-          c.in_ok-symbol.was c.in_ok-push.ensures.items,
+          c.in_ok-symbol.was c.in_ok-entries.ensures,
     )
 
 pub returns : goal.returns
