@@ -36,7 +36,6 @@ exports! {
     slotted_lookup_quantile = kernel_slotted_lookup_quantile(weights: [u16], quantiles: [u16]);
     direct_symbol_lookup_build = kernel_direct_symbol_lookup_build(weights: [u16], symbols: [u32]);
     direct_symbol_lookup_quantile = kernel_direct_symbol_lookup_quantile(weights: [u16], symbols: [u32], quantiles: [u16]);
-    slotted_symbol_lookup_build = kernel_slotted_symbol_lookup_build(weights: [u16], symbols: [u32]);
     slotted_symbol_lookup_quantile = kernel_slotted_symbol_lookup_quantile(weights: [u16], symbols: [u32], quantiles: [u16]);
     to_decoder = kernel_to_decoder(weights: [u32]);
     to_encoder = kernel_to_encoder(weights: [u32]);

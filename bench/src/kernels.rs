@@ -111,7 +111,6 @@ pub fn usual() -> Vec<Kernel> {
     for table in &small[1..3] {
         let (weights, symbols) = (table.weights, table.symbols);
         kernels.push(kernel!("direct lookup of symbols made", "u16/12", table.rows, table.rows, direct_symbol_lookup_build(weights, symbols)));
-        kernels.push(kernel!("256-slot lookup of symbols made", "u16/12", table.rows, table.rows, slotted_symbol_lookup_build(weights, symbols)));
     }
     for table in &tables[1..4] {
         kernels.push(decoder_build(table));

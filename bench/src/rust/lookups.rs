@@ -59,5 +59,4 @@ pub fn direct_symbol_lookup_quantile(weights: &[u16], symbols: &[u32], quantiles
 
 pub use direct_lookup_build as slotted_lookup_build;
 pub use direct_lookup_quantile as slotted_lookup_quantile;
-pub use direct_symbol_lookup_build as slotted_symbol_lookup_build;
 pub use direct_symbol_lookup_quantile as slotted_symbol_lookup_quantile;

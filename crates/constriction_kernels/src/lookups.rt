@@ -172,32 +172,6 @@ pub extern "C" fn kernel_direct_symbol_lookup_quantile(
     sum
 }
 
-/// Makes the model over any symbols with 256 slots, each time anew.
-#[unsafe(no_mangle)]
-pub extern "C" fn kernel_slotted_symbol_lookup_build(
-    alloc: Global,
-    weights: &[u16],
-    symbols: &[u32],
-    repeats: u32,
-) -> u64 {
-    let mut sum = 0u64;
-    for _ in 0..repeats {
-        let Ok(model) = SlottedOfSymbols::from_symbols_and_nonzero_fixed_point_probabilities(
-            alloc,
-            symbols.iter().copied(),
-            weights.iter().copied(),
-            false,
-        ) else {
-            return 1;
-        };
-        let Ok((symbol, left, weight)) = model.quantile_function(0) else {
-            return 1;
-        };
-        sum = mix(sum, row(symbol as usize, left as u64, weight.get() as u64));
-    }
-    sum
-}
-
 /// Finds the row of each quantile in the model over any symbols with 256 slots.
 #[unsafe(no_mangle)]
 pub extern "C" fn kernel_slotted_symbol_lookup_quantile(
