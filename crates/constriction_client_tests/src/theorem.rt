@@ -144,7 +144,11 @@ fn a_model_and_what_is_made_of_it_reply(rt: HostRuntime) {
 
 #[test]
 fn what_is_made_of_a_range_replies(rt: HostRuntime) {
-    let queries = [Query::OfQuantile(255), Query::OfSymbol(2), Query::OfSymbol(3)];
+    let queries = [
+        Query::OfQuantile(255),
+        Query::OfSymbol(2),
+        Query::OfSymbol(3),
+    ];
     let answers = answer_from_range_u8::<8>(rt.alloc(), 3, &STEPS, &queries);
     let answers = answers.expect(&rt, "replies");
     has_table(&rt, &answers.form);

@@ -24,12 +24,7 @@ pub type FormAndReplies<Symbol, Probability, const PRECISION: usize> = (
 ///
 /// A clone has to be equal to its symbol, by the symbols' own equality and by the encoder's. The only refusal
 /// is `OutOfMemory`. The form is then given up. `PRECISION` is at most 63.
-pub fn answer_by_form<
-    Symbol: Eq + Clone + Drop,
-    Probability: IndexWord,
-    E,
-    const PRECISION: usize,
->(
+pub fn answer_by_form<Symbol: Eq + Clone + Drop, Probability: IndexWord, E, const PRECISION: usize>(
     alloc: Global,
     form: DecoderForm<Symbol, Probability, PRECISION>,
     steps: &[ChainStep],

@@ -20,7 +20,7 @@ mod weights;
 
 pub use crate::forms::{FormAndReplies, answer_by_form};
 pub use crate::models::{AnswersOfModel, answer_by_model, answer_by_table};
-pub use crate::ranges::{answer_from_range_u16, answer_from_range_u8, answer_from_range_usize};
+pub use crate::ranges::{answer_from_range_u8, answer_from_range_u16, answer_from_range_usize};
 pub use crate::symbols::answer_from_symbols_and_weights;
 pub use crate::weights::{AnswersOfWeights, RepliesByEncoder, answer_from_weights};
 pub use constriction_client::laws::run_cursor_and_reversal;

@@ -29,8 +29,11 @@ pub(crate) type Searching<Symbol, Probability, const PRECISION: usize> =
     >;
 
 /// The model of the symbols 0, 1, .. that searches.
-pub(crate) type Contiguous<Probability, const PRECISION: usize> =
-    ContiguousCategoricalEntropyModel<Probability, Vec<Probability>, PRECISION>;
+pub(crate) type Contiguous<Probability, const PRECISION: usize> = ContiguousCategoricalEntropyModel<
+    Probability,
+    Vec<Probability>,
+    PRECISION,
+>;
 
 /// The searching decoder of two lists, as its constructor tells it of the iterators that they become.
 fn searching_of_lists<Symbol: Eq + Drop, Probability: WholeNumber, const PRECISION: usize>(

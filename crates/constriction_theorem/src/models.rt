@@ -10,9 +10,7 @@ ghost use Rattle.constriction_client.specs.Replies.{in_numbers, replies_by_scan,
 
 use crate::forms::{FormAndReplies, answer_by_form};
 use crate::made::{both_of, encoder_of};
-use constriction::stream::model::{
-    DecoderModel, EntropyModel, IterableEntropyModel, ModelError,
-};
+use constriction::stream::model::{DecoderModel, EntropyModel, IterableEntropyModel, ModelError};
 use constriction_client::{ChainStep, DecoderForm, Query, Reply, answer_queries};
 use constriction_words::{IndexWord, WholeNumber};
 use std::alloc::Global;
@@ -90,11 +88,7 @@ pub fn answer_by_model<M, const PRECISION: usize>(
     steps: &[ChainStep],
     queries: &[Query<M::Symbol, M::Probability>],
 ) -> Result<
-    AnswersOfModel<
-        M::Symbol,
-        M::Probability,
-        DecoderForm<M::Symbol, M::Probability, PRECISION>,
-    >,
+    AnswersOfModel<M::Symbol, M::Probability, DecoderForm<M::Symbol, M::Probability, PRECISION>>,
     ModelError,
 >
 where

@@ -138,10 +138,18 @@ fn answers_of<Probability: IndexWord, const PRECISION: usize>(
     let tabled = model.to_lookup_decoder_model(alloc)?;
     let direct = model.to_slotted_lookup_decoder_model::<PRECISION>(alloc)?;
     let (form, hashed) = converted_from(alloc, model, steps)?;
-    let by_search = asked_beside_both::<_, _, _, _, PRECISION>(alloc, model, model, &hashed, queries)?;
-    let by_table = asked_beside_both::<_, _, _, _, PRECISION>(alloc, &tabled, model, &hashed, queries)?;
-    let by_slot = asked_beside_both::<_, _, _, _, PRECISION>(alloc, &direct, model, &hashed, queries)?;
-    let by_form = asked_beside_both::<_, _, _, _, PRECISION>(alloc, &form, model, &hashed, queries)?;
+    let by_search = asked_beside_both::<_, _, _, _, PRECISION>(
+        alloc, model, model, &hashed, queries,
+    )?;
+    let by_table = asked_beside_both::<_, _, _, _, PRECISION>(
+        alloc, &tabled, model, &hashed, queries,
+    )?;
+    let by_slot = asked_beside_both::<_, _, _, _, PRECISION>(
+        alloc, &direct, model, &hashed, queries,
+    )?;
+    let by_form = asked_beside_both::<_, _, _, _, PRECISION>(
+        alloc, &form, model, &hashed, queries,
+    )?;
     Ok(AnswersOfWeights {
         searching: by_search,
         tabled: by_table,
