@@ -20,7 +20,9 @@ use constriction_model::{
     CdfProbe, DecoderModel, EntropyModel, ModelError, Probe, Weight, WithSymbol, row_of_quantile,
 };
 use constriction_numbers::WholeNumber;
-use constriction_stored_rows::{cloned_row_at, entries_cloned, room_for, rows_announced, rows_read};
+use constriction_stored_rows::{
+    cloned_row_at, entries_cloned, room_for, rows_announced, rows_read,
+};
 use std::alloc::{AllocError, Global};
 use std::marker::PhantomData;
 

@@ -58,12 +58,10 @@ fn first_word<W: WholeNumber, const PRECISION: usize, const SLOT_BITS: usize>(le
 ///
 /// One pass over the rows, each of which fills the words up to where the next one begins, and one
 /// allocation.
-pub fn slots_of<
-    Entry,
-    Kind: CdfEntry<Entry>,
-    const PRECISION: usize,
-    const SLOT_BITS: usize,
->(alloc: Global, entries: &[Entry]) -> Result<Vec<Kind::Word>, AllocError>
+pub fn slots_of<Entry, Kind: CdfEntry<Entry>, const PRECISION: usize, const SLOT_BITS: usize>(
+    alloc: Global,
+    entries: &[Entry],
+) -> Result<Vec<Kind::Word>, AllocError>
     requires narrow { PRECISION ≤ 63 }
     requires fits { PRECISION ≤ Kind.Word.BITS }
     requires searchable { IsSearchable (map Kind.cumulative entries.now) 0 }
@@ -137,13 +135,7 @@ fn probe_of<'c, Entry, Kind: CdfEntry<Entry>>(
 
 /// A probe of the rows that meet a quantile's slot, and the index of the first of them.
 #[inline]
-pub fn slot_probe<
-    'c,
-    Entry,
-    Kind: CdfEntry<Entry>,
-    const PRECISION: usize,
-    const SLOT_BITS: usize,
->(
+pub fn slot_probe<'c, Entry, Kind: CdfEntry<Entry>, const PRECISION: usize, const SLOT_BITS: usize>(
     entries: &'c [Entry],
     table: &[Kind::Word],
     quantile: Kind::Word,
@@ -201,12 +193,11 @@ fn row_of_few<Entry, Kind: CdfEntry<Entry>, const PRECISION: usize, const SLOT_B
 /// where a slot holds one quantile, else by two comparisons without a jump where at most three rows meet
 /// the slot, and by a search where more do.
 #[inline(always)]
-pub fn row_in_slot<
-    Entry,
-    Kind: CdfEntry<Entry>,
-    const PRECISION: usize,
-    const SLOT_BITS: usize,
->(entries: &[Entry], table: &[Kind::Word], quantile: Kind::Word) -> usize
+pub fn row_in_slot<Entry, Kind: CdfEntry<Entry>, const PRECISION: usize, const SLOT_BITS: usize>(
+    entries: &[Entry],
+    table: &[Kind::Word],
+    quantile: Kind::Word,
+) -> usize
     requires narrow { PRECISION ≤ 63 }
     requires increases { IsStrictlyIncreasing (map Kind.cumulative entries.now) }
     requires slots { HasSlots (slot_width PRECISION SLOT_BITS) (slot_count PRECISION SLOT_BITS)

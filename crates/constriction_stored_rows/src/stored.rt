@@ -31,10 +31,7 @@ fn row_words_at<Entry, Kind: CdfEntry<Entry>, const PRECISION: usize>(
 
 /// Where the row at `index` begins, and its weight as a word that is not 0.
 #[inline]
-pub fn row_at<P: WholeNumber, const PRECISION: usize>(
-    cdf: &[P],
-    index: usize,
-) -> (P, Weight<P>)
+pub fn row_at<P: WholeNumber, const PRECISION: usize>(cdf: &[P], index: usize) -> (P, Weight<P>)
     requires fits { PRECISION ≤ P.BITS }
     requires table { IsTable P.BITS PRECISION (map P.whole cdf.now) }
     requires in_bounds { index + 1 < length cdf.now }
