@@ -1,0 +1,3 @@
+pub mod Stacks
+pub mod States
+pub mod Steps

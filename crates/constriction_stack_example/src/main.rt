@@ -1,0 +1,10 @@
+//! A stack coder over any model and any stack of words, and a message that it codes by a stored table.
+#![tactic(auto)]
+
+mod stack_coder;
+mod state;
+
+fn main(host: HostRuntime) -> Result<(), std::io::Error> {
+    println!(host; "hello")?;
+    Ok(())
+}
