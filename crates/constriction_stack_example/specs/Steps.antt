@@ -1,5 +1,5 @@
 -- What a stack coder holds, and what a step does to it.
-use Rattle.std.specs.Prelude.{◌≡◌, ℕ, ◌+◌, ◌*◌, ◌/◌, ◌%◌, ◌^◌, ◌<◌, ◌≤◌, ◌⊎◌, List, [], ◌∷◌, ◌++◌, Bool, Option, Some, Result, MatchResult, MatchOption, IsTrue}
+use Rattle.std.specs.Prelude.{◌≡◌, ℕ, ◌+◌, ◌*◌, ◌/◌, ◌%◌, ◌^◌, ◌<◌, ◌≤◌, ◌⊎◌, List, [], ◌∷◌, ◌++◌, Option, Some, Result, MatchResult, MatchOption}
 use Rattle.constriction_model.specs.Rows.{Row, IsRowOf}
 use Rattle.constriction_stack_example.specs.States.{taken}
 
@@ -64,7 +64,3 @@ Leads tells R state backend new_state new_backend =
 -- the backend tells the same words after as before
 abbrev pub TellsSame : {Backend : Type 0} → (Backend → List ℕ → Type 0) → Backend → Backend → Type 0
 TellsSame tells backend new_backend = (words : List ℕ) → tells backend words → tells new_backend words
-
--- the answer stands for a symbol that equals the one asked for, by the encoder's own equality
-abbrev pub StandsForEqual : {Symbol : Type 0} → (Symbol → Symbol → Type 0) → (Symbol → Symbol → Bool) → Symbol → Symbol → Type 0
-StandsForEqual {Symbol} Stands eq symbol answer = (own : Symbol) × IsTrue (eq own symbol) × Stands own answer
