@@ -37,8 +37,11 @@ module _ (precision left weight state : ℕ) (some : 0 < weight) (within : left 
 
   -- a state does not become less
   pub put_least : state ≤ put precision left weight state
-  put_least = omega (arith, div-add-mod' state weight,
-      mul-le (state / weight) weight (state / weight) (2 ^ precision) (omega arith) (omega arith))
+  put_least = omega (
+    arith,
+    div-add-mod' state weight,
+    mul-le (state / weight) weight (state / weight) (2 ^ precision) (omega arith) (omega arith),
+  )
 
   module _ (fits : precision ≤ 32) (room : state < weight * 2 ^ (64 - precision)) where
     whole : 2 ^ (64 - precision) * 2 ^ precision ≡ 2 ^ 64
@@ -60,8 +63,11 @@ module _ (precision left weight state : ℕ) (some : 0 < weight) (within : left 
 pub taken_at_most : (precision left weight state : ℕ) → left + weight ≤ 2 ^ precision
     → taken precision left weight state ≤ state
 taken_at_most precision left weight state within =
-    omega (arith, div-add-mod state (2 ^ precision),
-    mul-le weight (state / 2 ^ precision) (2 ^ precision) (state / 2 ^ precision) (omega arith) (omega arith))
+    omega (
+      arith,
+      div-add-mod state (2 ^ precision),
+      mul-le weight (state / 2 ^ precision) (2 ^ precision) (state / 2 ^ precision) (omega arith) (omega arith),
+    )
 
 -- a state that has no room has it once a word left it, and with the symbol on top it is no less than 2 ^ 32
 pub room_after : (precision weight state : ℕ) → precision ≤ 32 → 0 < weight → state < 2 ^ 64 → state / 2 ^ 32 < weight * 2 ^ (64 - precision)

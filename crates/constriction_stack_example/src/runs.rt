@@ -101,3 +101,40 @@ impl<Backend: StackBackend<u32>> StackCoder<Backend> {
         Ok(symbols)
     }
 }
+
+/// Encodes the symbols and decodes as many again: they come back in reverse, with the state and the words as before.
+pub fn there_and_back<Symbol: Drop, Backend, D, E, const PRECISION: usize>(
+    alloc: Global,
+    coder: &mut StackCoder<Backend>,
+    decoder: &D,
+    encoder: &E,
+    symbols: &[Symbol],
+) -> Result<
+    Vec<Symbol>,
+    MessageFault<
+        CoderError<DefaultEncoderFrontendError, Backend::WriteError>,
+        CoderError<DecodingFault, Backend::ReadError>,
+    >,
+>
+where
+    Backend: StackBackend<u32>,
+    D: DecodesOver<Symbol, u32, PRECISION>,
+    E: EncodesOver<Symbol, u32, PRECISION>,
+    requires positive { 0 < PRECISION }
+    requires fits { PRECISION ≤ 32 }
+    requires can_write { Backend.can_write coder.old.words }
+    requires alike { (s : Symbol) → entry_of E.symbol_eq (E.rows encoder.now) s ≡ entry_of E.symbol_eq (D.rows decoder.now) s }
+    ensures back { IfOk result (λ answers. Again Backend.tells_written coder.old.state coder.old.words
+        coder.new.state coder.new.words
+        (AllZip (StandsForEqual D.stands_for E.symbol_eq) (reverse symbols.now) answers.items)) }
+{
+    symbols_come_back::<Symbol, D, E, PRECISION>(decoder, encoder);
+    match coder.encode_symbols::<_, _, PRECISION>(symbols, encoder) {
+        Ok(()) => {}
+        Err(error) => return Err(MessageFault::Encoding(error)),
+    }
+    match coder.decode_symbols::<_, _, PRECISION>(alloc, symbols.len(), decoder) {
+        Ok(answers) => Ok(answers),
+        Err(error) => Err(MessageFault::Decoding(error)),
+    }
+}

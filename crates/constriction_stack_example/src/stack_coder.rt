@@ -63,7 +63,9 @@ fn with_room<Backend: StackBackend<u32>, const PRECISION: usize>(
 
 /// Reads a stack.
 #[inline]
-fn read_told<Backend: StackBackend<u32>>(words: &mut Backend) -> Result<Option<u32>, Backend::ReadError>
+fn read_told<Backend: StackBackend<u32>>(
+    words: &mut Backend,
+) -> Result<Option<u32>, Backend::ReadError>
     requires { Backend.can_read words.old }
     ensures goes_on { Backend.can_read words.new }
     ensures pops { (told : List ℕ) → Backend.tells_written words.old told → PopsTold Backend.tells_written told result words.new }
@@ -164,7 +166,9 @@ impl<Backend: StackBackend<u32> + Drop> StackCoder<Backend> {
     }
 
     /// The coder of such words.
-    pub fn from_compressed(words: Backend) -> Result<Self, CoderError<DecodingFault, Backend::ReadError>>
+    pub fn from_compressed(
+        words: Backend,
+    ) -> Result<Self, CoderError<DecodingFault, Backend::ReadError>>
         requires { Backend.can_read words }
         ensures goes_on { IfOk result (λ coder. Backend.can_read coder.words) }
         ensures ok { IfOk result (λ coder. (told : List ℕ) → Backend.tells_written words told
@@ -210,9 +214,7 @@ impl<Backend: StackBackend<u32>> StackCoder<Backend> {
         ensures words { OnErr result (TellsSame Backend.tells_written self.old.words self.new.words) }
     {
         let Some((left, weight)) = entry_words(model, symbol) else {
-            return Err(CoderError::Frontend(
-                DefaultEncoderFrontendError::ImpossibleSymbol,
-            ));
+            return Err(CoderError::Frontend(DefaultEncoderFrontendError::ImpossibleSymbol));
         };
         match with_room::<Backend, PRECISION>(&mut self.words, self.state, weight) {
             Ok(kept) => {
