@@ -5,8 +5,8 @@ use Rattle.std.proofs.lemmas.List.{reverse-append}
 use Rattle.std.proofs.Math.Bridge.{le_prop}
 use Rattle.constriction_buffers.specs.declared.buf.SafeBuf.{Ghosts}
 use Rattle.constriction_backends.specs.declared.cursor.Cursor.{Cursor}
-use Rattle.constriction_backends.specs.Source.{ReadsTold, CountsRead}
-use Rattle.constriction_backends.specs.Sink.{WritesTold, CountsWrite}
+use Rattle.constriction_sources.specs.Source.{ReadsTold, CountsRead}
+use Rattle.constriction_sources.specs.Sink.{WritesTold, CountsWrite}
 use Rattle.constriction_backends.specs.CursorState.{State, StackReads, QueueReads, Overwrites}
 
 module _ {S W E : Type 0} (view : S → State W) where

@@ -4,7 +4,7 @@ use Rattle.constriction_buffers.specs.declared.buf.SafeBuf.{Ghosts}
 use Rattle.constriction_backends.specs.declared.cursor.Cursor.{Cursor}
 use Rattle.constriction_backends.specs.Cursor.{state_of, SeeksTo, WritesTo, TurnsRound}
 use Rattle.constriction_backends.specs.CursorState.{State, reversal, StackReads, QueueReads}
-use Rattle.constriction_backends.specs.Sink.{Writes}
+use Rattle.constriction_sources.specs.Sink.{Writes}
 
 -- the reversal of the reversal of a state is that state
 abbrev pub ReversalTwice : Type 0 → Type 0

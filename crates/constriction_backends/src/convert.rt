@@ -4,8 +4,8 @@ ghost use Rattle.std.specs.Prelude.{◌≡◌, length};
 ghost use Rattle.constriction_backends.specs.Cursor.{buf_of, pos_of};
 
 use crate::cursor::Cursor;
-use crate::read::ReadWords;
 use constriction_buffers::SafeBuf;
+use constriction_sources::ReadWords;
 use constriction_words::{Queue, Seek, Semantics, Stack};
 
 /// A value that turns into a source of words, which are read in the order of `S`.

@@ -10,6 +10,7 @@ mod position;
 mod read;
 mod reversed;
 mod seek;
+mod stack;
 mod write;
 
 use constriction_buffers::SafeBuf;

@@ -1,6 +1,6 @@
 //! A backend that is read in the other order.
 
-use crate::read::{BoundedReadWords, ReadWords};
+use constriction_sources::{BoundedReadWords, ReadWords};
 use constriction_words::{Pos, PosSeek, Queue, Seek, Stack};
 
 /// A backend whose order of reading is exchanged: a stack is read as a queue, and a queue as a

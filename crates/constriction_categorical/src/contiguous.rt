@@ -7,13 +7,11 @@ ghost use Rattle.std.specs.Cmp.{nat_eq_equiv};
 ghost use Rattle.constriction_model.specs.Model.{row_of, LiesWithin, AnswersQuantile, RowMayBeRefused};
 ghost use Rattle.constriction_model.specs.Probe.{TellsRows, IsRowIndexOf, IsSearchable, IsLastAtMost};
 ghost use Rattle.constriction_model.specs.Rows.{contiguous_rows, IsRowOf};
-ghost use Rattle.constriction_categorical.specs.Stored.{IsTable, lefts_in, weights_of};
-ghost use Rattle.constriction_categorical.specs.StoredRowLemmas.{stored-within, stored-tiles};
-ghost use Rattle.constriction_categorical.specs.Stored.{rows_stored};
+ghost use Rattle.constriction_stored_rows.specs.Stored.{IsTable, lefts_in, weights_of};
+ghost use Rattle.constriction_stored_rows.specs.StoredRowLemmas.{stored-within, stored-tiles};
+ghost use Rattle.constriction_stored_rows.specs.Stored.{rows_stored};
 
-use crate::filling::{copied, table_of};
 use crate::iterable::IterableEntropyModel;
-use crate::stored::{contiguous_row_at, row_at};
 use crate::symbol_table::ContiguousSymbolTable;
 use constriction_buffers::SafeBuf;
 use constriction_model::{
@@ -21,6 +19,7 @@ use constriction_model::{
     row_of_quantile,
 };
 use constriction_numbers::WholeNumber;
+use constriction_stored_rows::{contiguous_row_at, copied, row_at, table_of};
 use std::alloc::{AllocError, Global};
 use std::marker::PhantomData;
 

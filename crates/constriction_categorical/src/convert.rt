@@ -13,9 +13,9 @@ use crate::lookup_non_contiguous::{
     NonContiguousLookupDecoderModel, SlottedNonContiguousLookupDecoderModel,
 };
 use crate::non_contiguous::NonContiguousCategoricalDecoderModel;
-use crate::walking::{entries_walked, table_walked};
 use constriction_model::{EntropyModel, ModelError};
 use constriction_numbers::IndexWord;
+use constriction_stored_rows::{entries_walked, table_walked};
 use std::alloc::Global;
 use std::hash::Hash;
 use std::marker::PhantomData;

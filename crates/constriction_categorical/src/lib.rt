@@ -8,7 +8,6 @@
 mod contiguous;
 mod convert;
 mod distinct;
-mod filling;
 mod hashed;
 mod iterable;
 pub mod laws;
@@ -17,15 +16,10 @@ mod lookup_contiguous;
 mod lookup_non_contiguous;
 mod non_contiguous;
 mod non_contiguous_table;
-mod reading;
 mod reference;
-mod slots;
-mod stored;
 mod stores_rows;
 mod symbol_table;
-mod uncompared;
 mod uniform;
-mod walking;
 
 pub use crate::contiguous::{
     ContiguousCategoricalEntropyModel, DefaultContiguousCategoricalEntropyModel,

@@ -2,13 +2,13 @@
 
 ghost use Rattle.std.specs.Prelude.{◌≡◌, ◌+◌, ◌/◌, ◌^◌, ◌<◌, ◌≤◌, ℕ, map, IfOk};
 ghost use Rattle.constriction_model.specs.Probe.{TellsRows, IsRowIndexOf, IsSearchable, IsLastAtMost};
-ghost use Rattle.constriction_categorical.specs.Slots.{MeetsSlot, slot_count, slot_width};
-ghost use Rattle.constriction_categorical.specs.SlotTable.{HasSlots};
+ghost use Rattle.constriction_stored_rows.specs.Slots.{MeetsSlot, slot_count, slot_width};
+ghost use Rattle.constriction_stored_rows.specs.SlotTable.{HasSlots};
 
-use crate::slots::{row_in_slot, slot_probe, slots_of};
 use crate::stores_rows::{AnswersRows, OfAnySymbols, OfNumbers, StoresRows};
 use constriction_buffers::SafeBuf;
 use constriction_model::{CdfProbe, DecoderModel, EntropyModel, Probe, Weight};
+use constriction_stored_rows::{row_in_slot, slot_probe, slots_of};
 use std::alloc::{AllocError, Global};
 
 /// A searching model with a table, for decoders: the table tells where to search for the row of a

@@ -4,17 +4,17 @@ ghost use Rattle.std.specs.Prelude.{◌≡◌, ◌<◌, ◌≤◌, length, map, 
 ghost use Rattle.std.specs.Iterator.{IsFiniteIterable, UpTo, size};
 ghost use Rattle.constriction_model.specs.Acceptance.{completed, IsAccepted, GaveGood, GaveBad};
 ghost use Rattle.constriction_model.specs.Rows.{contiguous_rows};
-ghost use Rattle.constriction_categorical.specs.StoredRowLemmas.{stored-tiles};
-ghost use Rattle.constriction_categorical.specs.Stored.{rows_stored};
+ghost use Rattle.constriction_stored_rows.specs.StoredRowLemmas.{stored-tiles};
+ghost use Rattle.constriction_stored_rows.specs.Stored.{rows_stored};
 
 use crate::contiguous::ContiguousCategoricalEntropyModel;
-use crate::filling::copied;
 use crate::iterable::IterableEntropyModel;
 use crate::lookup::LookupDecoderModel;
 use crate::symbol_table::ContiguousSymbolTable;
 use constriction_buffers::SafeBuf;
 use constriction_model::{EntropyModel, ModelError};
 use constriction_numbers::IndexWord;
+use constriction_stored_rows::copied;
 use std::alloc::{AllocError, Global};
 
 /// A model of the symbols 0, 1, .., given by their weights, for decoders: a table of

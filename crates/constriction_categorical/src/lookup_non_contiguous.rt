@@ -5,11 +5,10 @@ ghost use Rattle.std.specs.Iterator.{IsFiniteIterable, UpTo, size};
 ghost use Rattle.constriction_model.specs.Acceptance.{completed, AreAccepted, GaveBothGood, GaveBothBad};
 ghost use Rattle.constriction_model.specs.Model.{StandForRows, ClonesAreEqual};
 ghost use Rattle.constriction_model.specs.Rows.{rows_of};
-ghost use Rattle.constriction_categorical.specs.SymbolRowLemmas.{paired-tiles};
-ghost use Rattle.constriction_categorical.specs.Stored.{rows_paired};
+ghost use Rattle.constriction_stored_rows.specs.SymbolRowLemmas.{paired-tiles};
+ghost use Rattle.constriction_stored_rows.specs.Stored.{rows_paired};
 ghost use Rattle.constriction_model.specs.Tables.{rows_between};
 
-use crate::filling::copied;
 use crate::iterable::IterableEntropyModel;
 use crate::lookup::LookupDecoderModel;
 use crate::non_contiguous::NonContiguousCategoricalDecoderModel;
@@ -17,6 +16,7 @@ use crate::non_contiguous_table::NonContiguousSymbolTable;
 use constriction_buffers::SafeBuf;
 use constriction_model::{EntropyModel, ModelError};
 use constriction_numbers::IndexWord;
+use constriction_stored_rows::copied;
 use std::alloc::{AllocError, Global};
 
 /// A model of any symbols, no two of which are equal, for decoders: a table of

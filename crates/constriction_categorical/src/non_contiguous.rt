@@ -2,28 +2,27 @@
 
 ghost use Rattle.std.specs.Prelude.{◌≡◌, ◌+◌, ◌^◌, ◌<◌, ◌≤◌, ℕ, length, map, IfOk, ⊤};
 ghost use Rattle.std.specs.Iterator.{IsFiniteIterable, UpTo, size};
-ghost use Rattle.std.specs.List.{list_any, IsDistinct};
+ghost use Rattle.std.specs.List.{IsDistinct};
 ghost use Rattle.std.proofs.Props.{props};
 ghost use Rattle.constriction_model.specs.Acceptance.{completed, AreAccepted, GaveBothGood, GaveBothBad};
-ghost use Rattle.constriction_categorical.specs.Filling.{HoldsRows, AreEntriesCloned};
 ghost use Rattle.constriction_model.specs.Model.{StandForRows, ClonesAreEqual};
 ghost use Rattle.constriction_model.specs.Probe.{TellsRows, IsRowIndexOf, IsSearchable, IsLastAtMost};
 ghost use Rattle.constriction_model.specs.Rows.{rows_of};
-ghost use Rattle.constriction_categorical.specs.Stored.{IsStored};
-ghost use Rattle.constriction_categorical.specs.SymbolRowLemmas.{paired-tiles};
-ghost use Rattle.constriction_categorical.specs.Stored.{rows_paired};
+ghost use Rattle.constriction_stored_rows.specs.Stored.{IsStored};
+ghost use Rattle.constriction_stored_rows.specs.SymbolRowLemmas.{paired-tiles};
+ghost use Rattle.constriction_stored_rows.specs.Stored.{rows_paired};
 ghost use Rattle.constriction_model.specs.Tables.{rows_between};
 
-use crate::filling::{room_for, rows_announced};
 use crate::iterable::IterableEntropyModel;
 use crate::non_contiguous_table::NonContiguousSymbolTable;
-use crate::reading::{TakesRows, rows_read};
-use crate::stored::cloned_row_at;
 use constriction_buffers::SafeBuf;
 use constriction_model::{
     CdfProbe, DecoderModel, EntropyModel, ModelError, Probe, Weight, WithSymbol, row_of_quantile,
 };
 use constriction_numbers::WholeNumber;
+use constriction_stored_rows::{
+    cloned_row_at, entries_cloned, room_for, rows_announced, rows_read,
+};
 use std::alloc::{AllocError, Global};
 use std::marker::PhantomData;
 
@@ -65,50 +64,6 @@ impl<
     type Probability = Probability;
 
     ghost rows = { λ m. rows_paired Probability.whole PRECISION (Cdf.words_of m.cdf) };
-}
-
-/// Whether one of the entries has an equal symbol.
-#[inline]
-pub(crate) fn has_symbol<Word, Symbol: Eq>(entries: &[(Word, Symbol)], symbol: &Symbol) -> bool
-    ensures { result ≡ list_any (Symbol.eq symbol.now) (map (λ x. x.1) entries.now) }
-{
-    for entry in entries {
-        if *symbol == entry.1 {
-            return true;
-        }
-    }
-    false
-}
-
-/// These entries, each with a clone of its symbol.
-pub(crate) fn entries_cloned<Word: Copy, Symbol: Clone>(
-    alloc: Global,
-    entries: &[(Word, Symbol)],
-) -> Result<Vec<(Word, Symbol)>, AllocError>
-    ensures { IfOk result (λ v. AreEntriesCloned Symbol.is_clone entries.now v.items) }
-{
-    let mut cloned = Vec::with_capacity(alloc, entries.len())?;
-    'entries: for entry in entries {
-        cloned.push((entry.0, entry.1.clone()?))?;
-    }
-    Ok(cloned)
-}
-
-impl<Word: WholeNumber, Symbol: Eq + Drop> TakesRows<Symbol, Word> for Vec<(Word, Symbol)> {
-    ghost symbol_eq = { Symbol.eq };
-
-    ghost holds = { λ v rows. HoldsRows Word.whole v.items rows };
-
-    #[inline]
-    fn take_row(&mut self, symbol: Symbol, left: Word, _weight: Word) -> Result<(), ModelError> {
-        if has_symbol(self, &symbol) {
-            return Err(ModelError::InvalidTable);
-        }
-        self.push((left, symbol))?;
-        Ok(())
-    }
-
-    ghost symmetry_law = { Symbol.Eq.laws.symm };
 }
 
 impl<

@@ -3,15 +3,15 @@
 ghost use Rattle.std.specs.Prelude.{◌≡◌, ◌<◌, ◌≤◌, length, map, slice_index_or, IfOk, IfErr};
 ghost use Rattle.constriction_model.specs.Model.{row_of, LiesWithin};
 ghost use Rattle.constriction_model.specs.Rows.{Row, RowsTile};
-ghost use Rattle.constriction_categorical.specs.StoredRowLemmas.{stored-tiles};
-ghost use Rattle.constriction_categorical.specs.SymbolRowLemmas.{paired-tiles};
+ghost use Rattle.constriction_stored_rows.specs.StoredRowLemmas.{stored-tiles};
+ghost use Rattle.constriction_stored_rows.specs.SymbolRowLemmas.{paired-tiles};
 
 use crate::contiguous::ContiguousCategoricalEntropyModel;
 use crate::non_contiguous::NonContiguousCategoricalDecoderModel;
-use crate::stored::{cloned_row_at, contiguous_row_at};
 use constriction_buffers::SafeBuf;
 use constriction_model::{Alone, CdfEntry, DecoderModel, EntropyModel, Weight, WithSymbol};
 use constriction_numbers::WholeNumber;
+use constriction_stored_rows::{cloned_row_at, contiguous_row_at};
 use std::alloc::AllocError;
 
 /// A model that stores an entry a row, in order, and lends them. A caller's own model may be one.

@@ -3,13 +3,13 @@
 ghost use Rattle.std.specs.Prelude.{◌≡◌, ◌^◌, ◌<◌, ◌≤◌, IfSome, length, map};
 ghost use Rattle.std.specs.Iterator.{UpTo, at_most, size};
 ghost use Rattle.std.specs.Iterator.SizeHint.{IsExactHint, IsWithinCount};
-ghost use Rattle.constriction_categorical.specs.Stored.{IsTable};
+ghost use Rattle.constriction_stored_rows.specs.Stored.{IsTable};
 ghost use Rattle.constriction_model.specs.Tables.{YieldsRow, YieldsLastRow};
-ghost use Rattle.constriction_categorical.specs.Stored.{rows_stored};
+ghost use Rattle.constriction_stored_rows.specs.Stored.{rows_stored};
 
-use crate::stored::row_at;
 use constriction_model::Weight;
 use constriction_numbers::WholeNumber;
+use constriction_stored_rows::row_at;
 use std::alloc::AllocError;
 
 /// The rows of a [`ContiguousCategoricalEntropyModel`] that are left, walked through from either end.

@@ -3,7 +3,7 @@ mod ComingBack
 mod ItemWriting
 mod Places
 mod Rebuilding
-mod Replying
+pub mod Replying
 mod Returning
 mod Stepping
 mod WordNumbers

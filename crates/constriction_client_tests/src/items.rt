@@ -1,6 +1,6 @@
 //! Items to words and back, over a worked table.
 
-ghost use Rattle.std.specs.Prelude.{[], ◌∷◌, nat_eq};
+ghost use Rattle.std.specs.Prelude.{◌≡◌, [], ◌∷◌, nat_eq};
 ghost use Rattle.std.specs.Cmp.{nat_eq_equiv};
 ghost use Rattle.std.proofs.Common.{rules};
 ghost use Rattle.constriction.specs.Rows.{rows_of};

@@ -1,4 +1,5 @@
-//! The tests of items there and back, chains of conversions, queries, and runs of calls on a cursor.
+//! The tests of items there and back, chains of conversions, queries, the laws of the theorem, and runs of calls on a
+//! cursor.
 //!
 //! A library that has tests of its own is proved twice, so none of them has any. Tests use the
 //! public interface alone.
@@ -32,5 +33,7 @@ mod own_ends;
 mod owned_symbols;
 #[cfg(test)]
 mod queries;
+#[cfg(test)]
+mod theorem;
 #[cfg(test)]
 mod two_models;

@@ -1,6 +1,6 @@
 //! Contiguous models of the weights of lines.
 
-ghost use Rattle.constriction_categorical.specs.StoredRowLemmas.{stored-tiles};
+ghost use Rattle.constriction_stored_rows.specs.StoredRowLemmas.{stored-tiles};
 
 use crate::form_word::FormWord;
 use crate::line_model::LineModel;

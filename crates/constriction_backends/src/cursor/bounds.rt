@@ -7,8 +7,8 @@ ghost use Rattle.constriction_backends.specs.Cursor.{state_of};
 ghost use Rattle.constriction_backends.specs.CursorLaws.{StackReads-counts, QueueReads-counts};
 
 use crate::cursor::Cursor;
-use crate::read::BoundedReadWords;
 use constriction_buffers::SafeBuf;
+use constriction_sources::BoundedReadWords;
 use constriction_words::{Queue, Stack};
 
 impl<Word: Copy, Buf: SafeBuf<Word>> BoundedReadWords<Word, Stack> for Cursor<Word, Buf> {

@@ -7,8 +7,8 @@ ghost use Rattle.constriction_backends.specs.CursorState.{StackReads, QueueReads
 ghost use Rattle.constriction_backends.specs.CursorLaws.{StackReads-told, QueueReads-told};
 
 use crate::cursor::Cursor;
-use crate::read::ReadWords;
 use constriction_buffers::SafeBuf;
+use constriction_sources::ReadWords;
 use constriction_words::{Queue, Stack};
 use std::convert::Infallible;
 

@@ -4,13 +4,13 @@ ghost use Rattle.std.specs.Prelude.{◌≡◌, ◌<◌, ◌↔◌, ⊤, true, le
 ghost use Rattle.constriction_backends.specs.Cursor.{buf_of, pos_of, state_of, TurnsRound, WritesBackTo};
 ghost use Rattle.constriction_backends.specs.CursorState.{reversal};
 ghost use Rattle.constriction_backends.specs.CursorLaws.{Overwrites-told, Overwrites-counts};
-ghost use Rattle.constriction_backends.specs.SinkLaws.{free_is_taken};
+ghost use Rattle.constriction_sources.specs.SinkLaws.{free_is_taken};
 
 use crate::cursor::Cursor;
 use crate::error::BoundedWriteError;
 use crate::reverse::Reverse;
-use crate::write::{BoundedWriteWords, WriteWords};
 use constriction_buffers::SafeBufMut;
+use constriction_sources::{BoundedWriteWords, WriteWords};
 
 impl<Word, Buf: SafeBufMut<Word>> Cursor<Word, Buf> {
     /// Reverses the words in place, and moves the position to the same cut: the cursor that results

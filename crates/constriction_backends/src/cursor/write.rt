@@ -3,12 +3,12 @@
 ghost use Rattle.std.specs.Prelude.{◌≡◌, ◌<◌, ◌↔◌, ⊤, true, length, IsOk};
 ghost use Rattle.constriction_backends.specs.Cursor.{buf_of, pos_of, state_of, WritesTo};
 ghost use Rattle.constriction_backends.specs.CursorLaws.{Overwrites-told, Overwrites-counts};
-ghost use Rattle.constriction_backends.specs.SinkLaws.{free_is_taken};
+ghost use Rattle.constriction_sources.specs.SinkLaws.{free_is_taken};
 
 use crate::cursor::Cursor;
 use crate::error::BoundedWriteError;
-use crate::write::{BoundedWriteWords, WriteWords};
 use constriction_buffers::{SafeBuf, SafeBufMut};
+use constriction_sources::{BoundedWriteWords, WriteWords};
 
 impl<Word: Drop, Buf: SafeBufMut<Word>> WriteWords<Word> for Cursor<Word, Buf> {
     type WriteError = BoundedWriteError;

@@ -8,9 +8,9 @@ ghost use Rattle.constriction_model.specs.Rows.{symbols_of};
 use crate::iterable::IterableEntropyModel;
 use crate::lookup_non_contiguous::NonContiguousLookupDecoderModel;
 use crate::non_contiguous::NonContiguousCategoricalDecoderModel;
-use crate::walking::entries_collected;
 use constriction_model::{EntropyModel, ModelError};
 use constriction_numbers::IndexWord;
+use constriction_stored_rows::entries_collected;
 use std::alloc::Global;
 use std::marker::PhantomData;
 

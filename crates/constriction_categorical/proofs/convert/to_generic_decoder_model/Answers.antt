@@ -1,6 +1,6 @@
 use Rattle.std.proofs.Common.{◌≡◌, Err, rules}
 use Rattle.constriction_model.specs.declared.error.ModelError.TheVariants.{InvalidTable}
-use Rattle.constriction_categorical.proofs.CollectLemmas.{walked-stored, walked-distinct, walked-repeat}
+use Rattle.constriction_stored_rows.proofs.CollectLemmas.{walked-stored, walked-distinct, walked-repeat}
 use Rattle.constriction_categorical.proofs.convert.to_generic_decoder_model.Goals as goal
 
 pub invariant_of-result : goal.invariant_of-result

@@ -1,4 +1,4 @@
-use Rattle.constriction_categorical.proofs.PairedLemmas.{paired-symbols_differ}
+use Rattle.constriction_stored_rows.proofs.PairedLemmas.{paired-symbols_differ}
 use Rattle.constriction_categorical.proofs.laws.slotted_non_contiguous_lookup_symbols_differ.Goals as goal
 
 pub returns : goal.returns

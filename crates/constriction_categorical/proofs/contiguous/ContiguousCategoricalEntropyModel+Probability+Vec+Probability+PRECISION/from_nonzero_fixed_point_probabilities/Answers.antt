@@ -1,7 +1,7 @@
 use Rattle.std.proofs.Common.{map, ap}
 use Rattle.constriction_model.specs.Acceptance.{completed}
 use Rattle.constriction_model.specs.Rows.{contiguous_rows}
-use Rattle.constriction_categorical.proofs.TableLemmas.{table-of}
+use Rattle.constriction_stored_rows.proofs.TableLemmas.{table-of}
 use Rattle.constriction_categorical.proofs.contiguous.ContiguousCategoricalEntropyModel+Probability+Vec+Probability+PRECISION.from_nonzero_fixed_point_probabilities.Goals as goal
 
 pub invariant_of-result : goal.invariant_of-result

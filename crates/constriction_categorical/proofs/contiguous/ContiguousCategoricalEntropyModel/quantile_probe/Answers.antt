@@ -1,5 +1,5 @@
 use Rattle.std.proofs.Common.{map}
-use Rattle.constriction_categorical.proofs.TileLemmas.{table-probed}
+use Rattle.constriction_stored_rows.proofs.TileLemmas.{table-probed}
 use Rattle.constriction_categorical.proofs.contiguous.ContiguousCategoricalEntropyModel.quantile_probe.Goals as goal
 
 pub returns : goal.returns

@@ -1,7 +1,7 @@
 use Rattle.std.proofs.Common.{◌≡◌, length, map, ap, arith}
 use Rattle.std.proofs.lemmas.List.{length-map}
-use Rattle.constriction_categorical.proofs.StoredSteps.{lent-table}
-use Rattle.constriction_categorical.proofs.TableLemmas.{table-rows}
+use Rattle.constriction_stored_rows.proofs.StoredSteps.{lent-table}
+use Rattle.constriction_stored_rows.proofs.TableLemmas.{table-rows}
 use Rattle.constriction_categorical.proofs.contiguous.ContiguousCategoricalEntropyModel.support_size.Goals as goal
 
 pub returns : goal.returns

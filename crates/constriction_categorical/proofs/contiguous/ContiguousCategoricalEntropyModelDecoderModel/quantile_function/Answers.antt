@@ -1,7 +1,7 @@
 use Rattle.std.proofs.Common.{true, ◌+◌, ◌<◌, length, map, refl, arith}
 use Rattle.std.proofs.lemmas.List.{length-map}
 use Rattle.constriction_model.specs.Model.{row_of}
-use Rattle.constriction_categorical.proofs.TileLemmas.{table-index, table-probed}
+use Rattle.constriction_stored_rows.proofs.TileLemmas.{table-index, table-probed}
 use Rattle.constriction_categorical.proofs.contiguous.ContiguousCategoricalEntropyModelDecoderModel.quantile_function.Goals as goal
 
 pub row_of_quantile-index-requires-clause-searchable : goal.row_of_quantile-index-requires-clause-searchable

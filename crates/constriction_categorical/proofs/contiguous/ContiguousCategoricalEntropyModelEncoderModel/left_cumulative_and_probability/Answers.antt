@@ -1,9 +1,9 @@
 use Rattle.std.proofs.Common.{◌≡◌, length, map, refl, arith}
 use Rattle.std.proofs.lemmas.List.{length-map}
-use Rattle.constriction_categorical.specs.Stored.{lefts_in}
-use Rattle.constriction_categorical.specs.StoredRowLemmas.{stored-entry, stored-no_entry}
-use Rattle.constriction_categorical.proofs.StoredSteps.{lent-table}
-use Rattle.constriction_categorical.proofs.TableLemmas.{table-long}
+use Rattle.constriction_stored_rows.specs.Stored.{lefts_in}
+use Rattle.constriction_stored_rows.specs.StoredRowLemmas.{stored-entry, stored-no_entry}
+use Rattle.constriction_stored_rows.proofs.StoredSteps.{lent-table}
+use Rattle.constriction_stored_rows.proofs.TableLemmas.{table-long}
 use Rattle.constriction_categorical.proofs.contiguous.ContiguousCategoricalEntropyModelEncoderModel.left_cumulative_and_probability.Goals as goal
 
 pub returns-then-symbol-cdf : goal.returns-then-symbol-cdf

@@ -1,4 +1,4 @@
-use Rattle.constriction_categorical.proofs.StoredSteps.{all-stored, lent-table}
+use Rattle.constriction_stored_rows.proofs.StoredSteps.{all-stored, lent-table}
 use Rattle.constriction_model.proofs.StepLemmas.{same-length, same-most}
 use Rattle.constriction_categorical.proofs.contiguous.RefContiguousCategoricalEntropyModelIterableEntropyModel.symbol_table.Goals as goal
 

@@ -1,4 +1,4 @@
-use Rattle.constriction_categorical.proofs.CollectLemmas.{walked-apart, walked-stored, walked-distinct}
+use Rattle.constriction_stored_rows.proofs.CollectLemmas.{walked-apart, walked-stored, walked-distinct}
 use Rattle.constriction_categorical.proofs.convert.distinct.to_generic_decoder_model_of_distinct.Goals as goal
 
 pub invariant_of-result : goal.invariant_of-result

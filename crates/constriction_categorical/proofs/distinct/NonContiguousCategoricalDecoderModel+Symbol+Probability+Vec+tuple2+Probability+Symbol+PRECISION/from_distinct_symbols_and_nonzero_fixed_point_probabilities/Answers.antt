@@ -1,7 +1,7 @@
 use Rattle.std.proofs.Common.{◌≡◌, false, Err, map, rules}
 use Rattle.constriction_model.specs.declared.error.ModelError.TheVariants.{InvalidTable}
 use Rattle.constriction_model.specs.Acceptance.{AreAccepted, completed}
-use Rattle.constriction_categorical.proofs.ApartLemmas.{apart-accepted, apart-stored, apart-distinct, accepted-uncompared, bad-narrower}
+use Rattle.constriction_stored_rows.proofs.ApartLemmas.{apart-accepted, apart-stored, apart-distinct, accepted-uncompared, bad-narrower}
 use Rattle.constriction_categorical.proofs.distinct.NonContiguousCategoricalDecoderModel+Symbol+Probability+Vec+tuple2+Probability+Symbol+PRECISION.from_distinct_symbols_and_nonzero_fixed_point_probabilities.Goals as goal
 
 pub invariant_of-result : goal.invariant_of-result

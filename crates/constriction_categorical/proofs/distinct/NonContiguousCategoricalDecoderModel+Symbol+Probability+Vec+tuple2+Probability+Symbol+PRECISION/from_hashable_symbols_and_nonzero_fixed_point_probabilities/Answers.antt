@@ -2,7 +2,7 @@ use Rattle.std.proofs.Common.{◌≡◌, true, false, Err, map, sym, subst, ◌�
 use Rattle.std.specs.List.{IsDistinct}
 use Rattle.constriction_model.specs.declared.error.ModelError.TheVariants.{InvalidTable}
 use Rattle.constriction_model.specs.Acceptance.{AreAccepted, completed}
-use Rattle.constriction_categorical.proofs.ApartLemmas.{read-symbols, apart-accepted, apart-stored, apart-distinct, accepted-uncompared, bad-narrower, bad-at_end}
+use Rattle.constriction_stored_rows.proofs.ApartLemmas.{read-symbols, apart-accepted, apart-stored, apart-distinct, accepted-uncompared, bad-narrower, bad-at_end}
 use Rattle.constriction_categorical.proofs.distinct.NonContiguousCategoricalDecoderModel+Symbol+Probability+Vec+tuple2+Probability+Symbol+PRECISION.from_hashable_symbols_and_nonzero_fixed_point_probabilities.Goals as goal
 
 pub invariant_of-result : goal.invariant_of-result

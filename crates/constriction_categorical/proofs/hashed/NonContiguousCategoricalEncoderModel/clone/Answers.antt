@@ -1,5 +1,5 @@
-use Rattle.constriction_categorical.specs.Hashed.{rows_of_table}
-use Rattle.constriction_categorical.proofs.HashLemmas.{table-cloned, within-made}
+use Rattle.constriction_stored_rows.specs.Hashed.{rows_of_table}
+use Rattle.constriction_stored_rows.proofs.HashLemmas.{table-cloned, within-made}
 use Rattle.constriction_categorical.proofs.hashed.NonContiguousCategoricalEncoderModel.clone.Goals as goal
 
 pub invariant_of-result : goal.invariant_of-result

@@ -8,8 +8,8 @@ use Rattle.std.proofs.lemmas.Map.Made.{distinct_count-from_IsDistinct}
 use Rattle.constriction_model.specs.Acceptance.{completed}
 use Rattle.constriction_model.specs.Rows.{rows_of}
 use Rattle.constriction_model.specs.CodingLemmas.{rows-within}
-use Rattle.constriction_categorical.proofs.HashLemmas.{table-rows_within, found-within, table-entry_of, table-count}
-use Rattle.constriction_categorical.proofs.PairedLemmas.{accepted-tile, accepted-symbols}
+use Rattle.constriction_stored_rows.proofs.HashLemmas.{table-rows_within, found-within, table-entry_of, table-count}
+use Rattle.constriction_stored_rows.proofs.PairedLemmas.{accepted-tile, accepted-symbols}
 use Rattle.constriction_categorical.proofs.hashed.NonContiguousCategoricalEncoderModel.from_symbols_and_nonzero_fixed_point_probabilities.Goals as goal
 
 pub invariant_of-result : goal.invariant_of-result

@@ -1,5 +1,5 @@
 use Rattle.std.proofs.Common.{Some, None}
-use Rattle.constriction_categorical.proofs.HashLemmas.{table-answer}
+use Rattle.constriction_stored_rows.proofs.HashLemmas.{table-answer}
 use Rattle.constriction_categorical.proofs.hashed.NonContiguousCategoricalEncoderModelEncoderModel.left_cumulative_and_probability.Goals as goal
 
 pub returns-in-Some : goal.returns-in-Some

@@ -1,5 +1,5 @@
 use Rattle.std.proofs.Common.{map}
-use Rattle.constriction_categorical.proofs.TileLemmas.{tiles-lefts}
+use Rattle.constriction_stored_rows.proofs.TileLemmas.{tiles-lefts}
 use Rattle.constriction_categorical.proofs.lookup.LookupDecoderModel+Model+Vec+Model+Probability+PRECISION+SLOT_BITS.with_table.Goals as goal
 
 pub slots_of-requires-clause-searchable : goal.slots_of-requires-clause-searchable

@@ -1,5 +1,5 @@
 use Rattle.std.proofs.Common.{map}
-use Rattle.constriction_categorical.proofs.SlotLemmas.{slot-probed}
+use Rattle.constriction_stored_rows.proofs.SlotLemmas.{slot-probed}
 use Rattle.constriction_categorical.proofs.lookup.LookupDecoderModel.quantile_probe.Goals as goal
 
 pub slot_probe-requires-clause-slots : goal.slot_probe-requires-clause-slots

@@ -1,6 +1,6 @@
 use Rattle.constriction_model.specs.Model.{row_of}
-use Rattle.constriction_categorical.proofs.PairedLemmas.{found-row, found-refused}
-use Rattle.constriction_categorical.proofs.TileLemmas.{tiles-increase, tiles-found}
+use Rattle.constriction_stored_rows.proofs.PairedLemmas.{found-row, found-refused}
+use Rattle.constriction_stored_rows.proofs.TileLemmas.{tiles-increase, tiles-found}
 use Rattle.constriction_categorical.proofs.lookup.LookupDecoderModelDecoderModel.quantile_function.Goals as goal
 
 pub row_in_slot-index-requires-clause-increases : goal.row_in_slot-index-requires-clause-increases

@@ -2,7 +2,7 @@ use Rattle.std.proofs.Common.{◌≡◌, map, Err, refl, rules}
 use Rattle.constriction_model.specs.declared.error.ModelError.TheVariants.{InvalidTable}
 use Rattle.constriction_model.specs.Acceptance.{completed}
 use Rattle.constriction_model.specs.Rows.{rows_of}
-use Rattle.constriction_categorical.proofs.PairedLemmas.{paired-of_rows, accepted-tile, paired-distinct}
+use Rattle.constriction_stored_rows.proofs.PairedLemmas.{paired-of_rows, accepted-tile, paired-distinct}
 use Rattle.constriction_categorical.proofs.non_contiguous.NonContiguousCategoricalDecoderModel+Symbol+Probability+Vec+tuple2+Probability+Symbol+PRECISION.from_symbols_and_nonzero_fixed_point_probabilities.Goals as goal
 
 pub invariant_of-result : goal.invariant_of-result

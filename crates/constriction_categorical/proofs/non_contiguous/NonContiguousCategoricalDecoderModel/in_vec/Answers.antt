@@ -1,5 +1,5 @@
 use Rattle.constriction_model.specs.StandLemmas.{distinct-clones}
-use Rattle.constriction_categorical.proofs.PairedLemmas.{cloned-words, cloned-symbols, cloned-rows}
+use Rattle.constriction_stored_rows.proofs.PairedLemmas.{cloned-words, cloned-symbols, cloned-rows}
 use Rattle.constriction_categorical.proofs.non_contiguous.NonContiguousCategoricalDecoderModel.in_vec.Goals as goal
 
 pub invariant_of-result : goal.invariant_of-result

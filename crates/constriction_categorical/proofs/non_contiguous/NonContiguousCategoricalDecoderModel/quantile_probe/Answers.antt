@@ -1,4 +1,4 @@
-use Rattle.constriction_categorical.proofs.PairedLemmas.{paired-probed}
+use Rattle.constriction_stored_rows.proofs.PairedLemmas.{paired-probed}
 use Rattle.constriction_categorical.proofs.non_contiguous.NonContiguousCategoricalDecoderModel.quantile_probe.Goals as goal
 
 pub returns : goal.returns

@@ -1,5 +1,5 @@
 use Rattle.std.proofs.Common.{length, ap, sym, ◌∙◌}
-use Rattle.constriction_categorical.proofs.PairedLemmas.{paired-many}
+use Rattle.constriction_stored_rows.proofs.PairedLemmas.{paired-many}
 use Rattle.constriction_categorical.proofs.non_contiguous.NonContiguousCategoricalDecoderModel.support_size.Goals as goal
 
 pub returns : goal.returns

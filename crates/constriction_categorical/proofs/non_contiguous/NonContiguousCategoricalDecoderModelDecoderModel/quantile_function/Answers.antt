@@ -1,5 +1,5 @@
 use Rattle.constriction_model.specs.Model.{row_of}
-use Rattle.constriction_categorical.proofs.PairedLemmas.{paired-probed, paired-index, found-row, found-refused}
+use Rattle.constriction_stored_rows.proofs.PairedLemmas.{paired-probed, paired-index, found-row, found-refused}
 use Rattle.constriction_categorical.proofs.non_contiguous.NonContiguousCategoricalDecoderModelDecoderModel.quantile_function.Goals as goal
 
 pub row_of_quantile-index-requires-clause-searchable : goal.row_of_quantile-index-requires-clause-searchable

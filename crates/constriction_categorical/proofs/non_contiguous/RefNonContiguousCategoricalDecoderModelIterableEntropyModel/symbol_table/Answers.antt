@@ -1,4 +1,4 @@
-use Rattle.constriction_categorical.proofs.PairedLemmas.{paired-lent}
+use Rattle.constriction_stored_rows.proofs.PairedLemmas.{paired-lent}
 use Rattle.constriction_model.proofs.StepLemmas.{same-length, same-most}
 use Rattle.constriction_categorical.proofs.non_contiguous.RefNonContiguousCategoricalDecoderModelIterableEntropyModel.symbol_table.Goals as goal
 

@@ -1,7 +1,7 @@
 use Rattle.std.proofs.Common.{◌<◌, arith}
-use Rattle.constriction_categorical.specs.Stored.{rows_paired}
+use Rattle.constriction_stored_rows.specs.Stored.{rows_paired}
 use Rattle.constriction_model.proofs.StepLemmas.{none-between, fewer-last}
-use Rattle.constriction_categorical.proofs.PairedLemmas.{paired-last}
+use Rattle.constriction_stored_rows.proofs.PairedLemmas.{paired-last}
 use Rattle.constriction_categorical.proofs.non_contiguous_table.NonContiguousSymbolTableDoubleEndedIterator.next_back.Goals as goal
 
 pub returns-then-self : goal.returns-then-self

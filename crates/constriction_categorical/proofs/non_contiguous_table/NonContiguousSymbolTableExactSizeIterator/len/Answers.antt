@@ -1,5 +1,5 @@
 use Rattle.std.proofs.Common.{sym}
-use Rattle.constriction_categorical.proofs.PairedLemmas.{paired-left}
+use Rattle.constriction_stored_rows.proofs.PairedLemmas.{paired-left}
 use Rattle.constriction_categorical.proofs.non_contiguous_table.NonContiguousSymbolTableExactSizeIterator.len.Goals as goal
 
 pub returns-clause-value : goal.returns-clause-value

@@ -1,7 +1,7 @@
 use Rattle.std.proofs.Common.{◌<◌, arith}
-use Rattle.constriction_categorical.specs.Stored.{rows_paired}
+use Rattle.constriction_stored_rows.specs.Stored.{rows_paired}
 use Rattle.constriction_model.proofs.StepLemmas.{none-between, fewer-first}
-use Rattle.constriction_categorical.proofs.PairedLemmas.{paired-first}
+use Rattle.constriction_stored_rows.proofs.PairedLemmas.{paired-first}
 use Rattle.constriction_categorical.proofs.non_contiguous_table.NonContiguousSymbolTableIterator.next.Goals as goal
 
 pub returns-then-index-self : goal.returns-then-index-self

@@ -1,6 +1,6 @@
 use Rattle.std.proofs.Common.{◌+◌, ◌<◌, length, map, refl, arith}
 use Rattle.std.proofs.lemmas.List.{length-map}
-use Rattle.constriction_categorical.proofs.TableLemmas.{table-rows}
+use Rattle.constriction_stored_rows.proofs.TableLemmas.{table-rows}
 use Rattle.constriction_categorical.proofs.stores_rows.ContiguousCategoricalEntropyModelAnswersRows.row_at.Goals as goal
 
 pub contiguous_row_at-requires-clause-table : goal.contiguous_row_at-requires-clause-table

@@ -1,5 +1,5 @@
 use Rattle.std.proofs.Common.{map}
-use Rattle.constriction_categorical.proofs.TileLemmas.{table-lefts}
+use Rattle.constriction_stored_rows.proofs.TileLemmas.{table-lefts}
 use Rattle.constriction_categorical.proofs.stores_rows.ContiguousCategoricalEntropyModelStoresRows.entries.Goals as goal
 
 pub returns : goal.returns

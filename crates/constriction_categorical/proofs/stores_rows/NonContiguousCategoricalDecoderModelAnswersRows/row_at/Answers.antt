@@ -1,4 +1,4 @@
-use Rattle.constriction_categorical.proofs.PairedLemmas.{paired-many}
+use Rattle.constriction_stored_rows.proofs.PairedLemmas.{paired-many}
 use Rattle.constriction_categorical.proofs.stores_rows.NonContiguousCategoricalDecoderModelAnswersRows.row_at.Goals as goal
 
 pub cloned_row_at-requires-clause-stored : goal.cloned_row_at-requires-clause-stored

@@ -1,4 +1,4 @@
-use Rattle.constriction_categorical.proofs.PairedLemmas.{lent-lefts}
+use Rattle.constriction_stored_rows.proofs.PairedLemmas.{lent-lefts}
 use Rattle.constriction_categorical.proofs.stores_rows.NonContiguousCategoricalDecoderModelStoresRows.entries.Goals as goal
 
 pub returns : goal.returns

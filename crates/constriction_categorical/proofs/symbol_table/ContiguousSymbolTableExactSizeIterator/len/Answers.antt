@@ -1,6 +1,6 @@
 use Rattle.std.proofs.Common.{◌<◌, length, map, sym, arith}
 use Rattle.std.proofs.lemmas.List.{length-map}
-use Rattle.constriction_categorical.proofs.StoredSteps.{length-stored}
+use Rattle.constriction_stored_rows.proofs.StoredSteps.{length-stored}
 use Rattle.constriction_categorical.proofs.symbol_table.ContiguousSymbolTableExactSizeIterator.len.Goals as goal
 
 pub returns-clause-value : goal.returns-clause-value

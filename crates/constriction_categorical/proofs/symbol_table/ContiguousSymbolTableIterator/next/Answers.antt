@@ -1,8 +1,8 @@
 use Rattle.std.proofs.Common.{◌<◌, length, map, refl, arith}
 use Rattle.std.proofs.lemmas.List.{length-map}
 use Rattle.constriction_model.specs.Rows.{contiguous_rows}
-use Rattle.constriction_categorical.specs.Stored.{lefts_in, weights_of}
-use Rattle.constriction_categorical.proofs.StoredSteps.{first-stored}
+use Rattle.constriction_stored_rows.specs.Stored.{lefts_in, weights_of}
+use Rattle.constriction_stored_rows.proofs.StoredSteps.{first-stored}
 use Rattle.constriction_model.proofs.StepLemmas.{fewer-first, none-between}
 use Rattle.constriction_categorical.proofs.symbol_table.ContiguousSymbolTableIterator.next.Goals as goal
 

@@ -1,0 +1,223 @@
+//! The kernels of both sides, paired over the same inputs.
+use crate::inputs::{Inputs, SmallTable, Table, MANY};
+use crate::{here, rust};
+use std::hint::black_box;
+
+/// Goes over the input so many times, and answers a checksum.
+pub type Run = Box<dyn FnMut(u32) -> u64>;
+
+pub struct Kernel {
+    pub name: &'static str,
+    /// the words of the model and its precision, or the words that are read and written
+    pub words: &'static str,
+    /// how many rows the model has; 0 where there is none
+    pub rows: usize,
+    /// how many items a pass goes over: quantiles, symbols, words, or weights of a model that is made
+    pub items: usize,
+    pub rust: Run,
+    pub here: Run,
+}
+
+impl Kernel {
+    /// Whether both sides see the same.
+    pub fn agrees(&mut self) -> bool {
+        [0, 1, 2].into_iter().all(|repeats| (self.rust)(repeats) == (self.here)(repeats))
+    }
+}
+
+/// A kernel by the name of its function on both sides. A number among the arguments is hidden: else one side would
+/// be compiled for it.
+macro_rules! kernel {
+    ($name:literal, $words:literal, $rows:expr, $items:expr, $function:ident($($argument:expr),*)) => {
+        Kernel {
+            name: $name,
+            words: $words,
+            rows: $rows,
+            items: $items,
+            rust: Box::new(move |repeats| rust::$function($(black_box($argument),)* repeats)),
+            here: Box::new(move |repeats| here::$function($(black_box($argument),)* repeats)),
+        }
+    };
+}
+
+/// A kernel that writes: each side has a buffer of its own.
+macro_rules! writing {
+    ($name:literal, $function:ident($($argument:expr),*)) => {{
+        let mut buffers = [vec![7u32; MANY], vec![7u32; MANY]];
+        let [mut first, mut second] = std::mem::take(&mut buffers);
+        Kernel {
+            name: $name,
+            words: "u32",
+            rows: 0,
+            items: MANY,
+            rust: Box::new(move |repeats| rust::$function($($argument,)* &mut first, repeats)),
+            here: Box::new(move |repeats| here::$function($($argument,)* &mut second, repeats)),
+        }
+    }};
+}
+
+/// All kernels, at the sizes of the table.
+pub fn usual() -> Vec<Kernel> {
+    let mut inputs = Inputs::new();
+    let tables: Vec<Table> = [2, 16, 256, 4096, 65536].into_iter().map(|rows| inputs.table(rows)).collect();
+    let small: Vec<SmallTable> = [2, 16, 256, 4096].into_iter().map(|rows| inputs.small_table(rows)).collect();
+    let words = inputs.words;
+    let mut kernels = vec![kernel!("nothing but the loop", "u32", 0, MANY, nothing(words))];
+    for rows in [10, 1000] {
+        kernels.push(uniform_quantile(&inputs, rows));
+    }
+    kernels.push(kernel!("uniform left_cumulative_and_probability", "u32/24", 256, MANY, uniform_symbol(256, words_below_256(words))));
+    kernels.push(kernel!("uniform symbol_table", "u32/24", 4096, 4096, uniform_table(4096)));
+    for table in &tables {
+        kernels.push(contiguous_quantile(&inputs, table));
+    }
+    for table in [&tables[2], &tables[4]] {
+        let (weights, indices) = (table.weights, table.indices);
+        kernels.push(kernel!("contiguous left_cumulative_and_probability", "u32/24", table.rows, MANY, contiguous_symbol(weights, indices)));
+    }
+    let weights = tables[3].weights;
+    kernels.push(kernel!("contiguous symbol_table", "u32/24", 4096, 4096, contiguous_table(weights)));
+    for table in &small {
+        kernels.push(direct_lookup_quantile(&inputs, table));
+    }
+    for table in &small {
+        kernels.push(slotted_lookup_quantile(&inputs, table));
+    }
+    for table in &small {
+        let (weights, symbols, quantiles) = (table.weights, table.symbols, inputs.small_quantiles);
+        kernels.push(kernel!("direct lookup of symbols quantile_function", "u16/12", table.rows, MANY, direct_symbol_lookup_quantile(weights, symbols, quantiles)));
+    }
+    for table in &small {
+        let (weights, symbols, quantiles) = (table.weights, table.symbols, inputs.small_quantiles);
+        kernels.push(kernel!("256-slot lookup of symbols quantile_function", "u16/12", table.rows, MANY, slotted_symbol_lookup_quantile(weights, symbols, quantiles)));
+    }
+    for table in &tables[..4] {
+        let (weights, symbols, quantiles) = (table.weights, table.symbols, inputs.quantiles);
+        kernels.push(kernel!("decoder of symbols quantile_function", "u32/24", table.rows, MANY, decoder_quantile(weights, symbols, quantiles)));
+    }
+    let (weights, symbols) = (tables[3].weights, tables[3].symbols);
+    kernels.push(kernel!("decoder of symbols symbol_table", "u32/24", 4096, 4096, decoder_table(weights, symbols)));
+    for table in &tables[2..] {
+        kernels.push(encoder_symbol(table));
+    }
+    for table in &tables[1..] {
+        kernels.push(contiguous_build(table));
+    }
+    for table in &small[2..] {
+        let weights = table.weights;
+        kernels.push(kernel!("direct lookup made", "u16/12", table.rows, table.rows, direct_lookup_build(weights)));
+        kernels.push(kernel!("256-slot lookup made", "u16/12", table.rows, table.rows, slotted_lookup_build(weights)));
+    }
+    for table in &small[1..3] {
+        let (weights, symbols) = (table.weights, table.symbols);
+        kernels.push(kernel!("direct lookup of symbols made", "u16/12", table.rows, table.rows, direct_symbol_lookup_build(weights, symbols)));
+    }
+    for table in &tables[1..4] {
+        kernels.push(decoder_build(table));
+    }
+    for table in &tables[1..4] {
+        kernels.push(decoder_build_hashable(table));
+    }
+    for table in &tables[1..] {
+        kernels.push(encoder_build(table));
+    }
+    for table in &tables[2..4] {
+        let weights = table.weights;
+        kernels.push(kernel!("to_generic_decoder_model", "u32/24", table.rows, table.rows, to_decoder(weights)));
+        kernels.push(kernel!("to_generic_encoder_model", "u32/24", table.rows, table.rows, to_encoder(weights)));
+    }
+    let weights = small[2].weights;
+    kernels.push(kernel!("to_lookup_decoder_model, direct", "u16/12", 256, 256, to_direct_lookup(weights)));
+    for table in &tables[2..4] {
+        let (weights, indices, quantiles) = (table.weights, table.indices, inputs.quantiles);
+        kernels.push(kernel!("write_quantiles to a Vec", "u32/24", table.rows, MANY, write_quantiles(weights, indices)));
+        kernels.push(kernel!("read_symbols of a Cursor", "u32/24", table.rows, MANY, read_symbols(weights, quantiles)));
+    }
+    kernels.push(writing!("Cursor write", cursor_write(words)));
+    kernels.push(kernel!("Cursor read, Queue", "u32", 0, MANY, cursor_queue_read(words)));
+    kernels.push(kernel!("Cursor read, Stack", "u32", 0, MANY, cursor_stack_read(words)));
+    kernels.push(writing!("Reverse<Cursor> write", reverse_write(words)));
+    kernels.push(kernel!("Reverse<Cursor> read, Stack", "u32", 0, MANY, reverse_stack_read(words)));
+    kernels.push(writing!("Cursor into_reversed", into_reversed()));
+    kernels.push(kernel!("Vec write, growing", "u32", 0, MANY, vec_write(words)));
+    kernels.push(kernel!("Vec write and read", "u32", 0, MANY, vec_write_read(words)));
+    kernels.push(kernel!("iterator read", "u32", 0, MANY, iterator_read(words)));
+    kernels.push(kernel!("fallible iterator read", "u32", 0, MANY, fallible_iterator_read(words)));
+    kernels.push(kernel!("callback write", "u32", 0, MANY, callback_write(words)));
+    kernels.push(kernel!("fallible callback write", "u32", 0, MANY, fallible_callback_write(words)));
+    kernels
+}
+
+/// The four kinds of models, and what makes them, at 2^4 to 2^20 rows, as far as each goes.
+pub fn growing() -> Vec<Kernel> {
+    let mut inputs = Inputs::new();
+    let mut kernels = vec![];
+    for bits in [4, 6, 8, 10, 12, 14, 16, 18, 20] {
+        let table = inputs.table(1 << bits);
+        kernels.push(uniform_quantile(&inputs, table.rows));
+        kernels.push(contiguous_quantile(&inputs, &table));
+        kernels.push(encoder_symbol(&table));
+        kernels.push(contiguous_build(&table));
+        kernels.push(encoder_build(&table));
+        kernels.push(decoder_build_hashable(&table));
+        // it compares each symbol with all before it
+        if bits <= 14 {
+            kernels.push(decoder_build(&table));
+        }
+    }
+    for bits in [4, 6, 8, 10, 12] {
+        let table = inputs.small_table(1 << bits);
+        kernels.push(direct_lookup_quantile(&inputs, &table));
+        kernels.push(slotted_lookup_quantile(&inputs, &table));
+    }
+    kernels
+}
+
+fn words_below_256(words: &'static [u32]) -> &'static [u32] {
+    words.iter().map(|word| word % 256).collect::<Vec<u32>>().leak()
+}
+
+fn uniform_quantile(inputs: &Inputs, rows: usize) -> Kernel {
+    let quantiles = inputs.quantiles;
+    kernel!("uniform quantile_function", "u32/24", rows, MANY, uniform_quantile(rows, quantiles))
+}
+
+fn contiguous_quantile(inputs: &Inputs, table: &Table) -> Kernel {
+    let (weights, quantiles) = (table.weights, inputs.quantiles);
+    kernel!("contiguous quantile_function", "u32/24", table.rows, MANY, contiguous_quantile(weights, quantiles))
+}
+
+fn direct_lookup_quantile(inputs: &Inputs, table: &SmallTable) -> Kernel {
+    let (weights, quantiles) = (table.weights, inputs.small_quantiles);
+    kernel!("direct lookup quantile_function", "u16/12", table.rows, MANY, direct_lookup_quantile(weights, quantiles))
+}
+
+fn slotted_lookup_quantile(inputs: &Inputs, table: &SmallTable) -> Kernel {
+    let (weights, quantiles) = (table.weights, inputs.small_quantiles);
+    kernel!("256-slot lookup quantile_function", "u16/12", table.rows, MANY, slotted_lookup_quantile(weights, quantiles))
+}
+
+fn encoder_symbol(table: &Table) -> Kernel {
+    let (weights, symbols, asked) = (table.weights, table.symbols, table.asked);
+    kernel!("hashed encoder left_cumulative_and_probability", "u32/24", table.rows, MANY, encoder_symbol(weights, symbols, asked))
+}
+
+fn contiguous_build(table: &Table) -> Kernel {
+    let weights = table.weights;
+    kernel!("contiguous made", "u32/24", table.rows, table.rows, contiguous_build(weights))
+}
+
+fn decoder_build(table: &Table) -> Kernel {
+    let (weights, symbols) = (table.weights, table.symbols);
+    kernel!("decoder of symbols made, comparing", "u32/24", table.rows, table.rows, decoder_build(weights, symbols))
+}
+
+fn decoder_build_hashable(table: &Table) -> Kernel {
+    let (weights, symbols) = (table.weights, table.symbols);
+    kernel!("decoder of symbols made, hashing", "u32/24", table.rows, table.rows, decoder_build_hashable(weights, symbols))
+}
+
+fn encoder_build(table: &Table) -> Kernel {
+    let (weights, symbols) = (table.weights, table.symbols);
+    kernel!("hashed encoder made", "u32/24", table.rows, table.rows, encoder_build(weights, symbols))
+}

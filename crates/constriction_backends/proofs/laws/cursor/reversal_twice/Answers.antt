@@ -1,5 +1,0 @@
-use Rattle.constriction_backends.proofs.CursorRunLaws.{reversal-twice}
-use Rattle.constriction_backends.proofs.laws.cursor.reversal_twice.Goals as goal
-
-pub returns : goal.returns
-returns g c = reversal-twice

@@ -1,6 +1,0 @@
--- What was taken so far was written.
-use Rattle.constriction_backends.specs.Sink.{Writes}
-use Rattle.constriction_backends.proofs.write.WriteWords.extend_from_iter.Given as goal
-
-abbrev pub invariant-loop-word : goal.invariant-loop-word
-invariant-loop-word g l = g.Self.WriteWords.can_write l.self × Writes g.Self.WriteWords.write_gives l.initial.self l.yielded l.self

@@ -1,7 +1,0 @@
--- the entries so far were cloned
-use Rattle.std.specs.Prelude.{take}
-use Rattle.constriction_categorical.specs.Filling.{AreEntriesCloned}
-use Rattle.constriction_categorical.proofs.non_contiguous.entries_cloned.Given as goal
-
-abbrev pub invariant-entries : goal.invariant-entries
-invariant-entries g l = AreEntriesCloned g.Symbol.Clone.is_clone (take l.entry-index l.entries) l.cloned.items

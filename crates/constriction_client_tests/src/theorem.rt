@@ -1,0 +1,169 @@
+//! The laws that begin with lists, with a range or with a model: what is replied, and which form is left.
+
+ghost use Rattle.std.specs.Prelude.{◌≢◌};
+
+use crate::checks::{end_of_requests, holds, same};
+use crate::model_checks::small;
+use crate::queries::{Asked, QUERIES, replies};
+use constriction::laws::contiguous_symbols_differ;
+use constriction::stream::model::ModelError;
+use constriction_client::{ChainStep, DecoderForm, Query, Reply, SearchOrLookup};
+use constriction_fixtures::any_symbols::{SYMBOLS, WEIGHTS};
+use constriction_fixtures::contiguous::Table;
+use constriction_theorem::{
+    AnswersOfModel, AnswersOfWeights, FormAndReplies, answer_by_model, answer_from_range_u8,
+    answer_from_range_u16, answer_from_range_usize, answer_from_symbols_and_weights,
+    answer_from_weights,
+};
+use constriction_words::BitArray;
+use std::alloc::Global;
+use std::process::Abort;
+
+/// A chain that leaves a table.
+const STEPS: [ChainStep; 2] = [ChainStep::ToLookup, ChainStep::Rebuild];
+
+/// Stops the test where a form has no table.
+fn has_table<S, T>(rt: &impl Abort, form: &SearchOrLookup<S, T>) {
+    let table = match form {
+        SearchOrLookup::Search(_) => false,
+        SearchOrLookup::Lookup(_) => true,
+    };
+    same(rt, table, true);
+}
+
+/// The row of a number.
+fn row(symbol: usize, left: u8, weight: u8) -> Reply<usize, u8>
+    requires { weight ≢ 0 }
+{
+    Reply::Row(symbol, left, weight.into_nonzero_unchecked())
+}
+
+/// The entry of one.
+fn entry(left: u8, weight: u8) -> Reply<usize, u8>
+    requires { weight ≢ 0 }
+{
+    Reply::Entry(Some((left, weight.into_nonzero_unchecked())))
+}
+
+/// Asks what is made of the letters and of some weights.
+fn of_letters(
+    alloc: Global,
+    weights: &[u8],
+    queries: &[Asked],
+) -> Result<FormAndReplies<char, u8, 6>, ModelError> {
+    let symbols = SYMBOLS.to_vec(alloc)?;
+    let weights = weights.to_vec(alloc)?;
+    answer_from_symbols_and_weights::<_, _, 6>(alloc, symbols, weights, false, &STEPS, queries)
+}
+
+#[test]
+fn what_is_made_of_letters_and_weights_replies(rt: HostRuntime) {
+    let made = of_letters(rt.alloc(), &WEIGHTS, &QUERIES);
+    let (form, found) = made.expect(&rt, "accepted");
+    has_table(&rt, &form);
+    holds(&rt, &found, &replies());
+    let refused = of_letters(rt.alloc(), &WEIGHTS[1..], &QUERIES).err();
+    same(&rt, refused, Some(ModelError::InvalidTable));
+}
+
+/// Queries of each kind about numbers.
+const NUMBERS: [Query<usize, u8>; 5] = [
+    Query::OfQuantile(0),
+    Query::OfQuantile(63),
+    Query::OfQuantile(255),
+    Query::OfSymbol(1),
+    Query::OfSymbol(4),
+];
+
+/// The replies of the rows of the weights 3, 18, 1 and 42 to these.
+fn replies_of_numbers() -> [Reply<usize, u8>; 5] {
+    [
+        row(0, 0, 3),
+        row(3, 22, 42),
+        Reply::OutOfRange,
+        entry(3, 18),
+        Reply::Entry(None),
+    ]
+}
+
+/// Asks what is made of some weights and of the inferred one.
+fn of_weights(
+    alloc: Global,
+    weights: &[u8],
+) -> Result<AnswersOfWeights<u8, DecoderForm<usize, u8, 6>>, ModelError> {
+    let weights = weights.to_vec(alloc)?;
+    answer_from_weights::<_, 6>(alloc, weights, true, &STEPS, &NUMBERS)
+}
+
+#[test]
+fn each_model_of_weights_replies(rt: HostRuntime) {
+    let made = of_weights(rt.alloc(), &[3, 18, 1]);
+    let AnswersOfWeights {
+        searching,
+        tabled,
+        direct,
+        form,
+        converted,
+    } = made.expect(&rt, "accepted");
+    has_table(&rt, &form);
+    for of_one in [searching, tabled, direct, converted] {
+        holds(&rt, &of_one.contiguous, &replies_of_numbers());
+        holds(&rt, &of_one.hashed, &replies_of_numbers());
+    }
+    let refused = of_weights(rt.alloc(), &[3, 61]).err();
+    same(&rt, refused, Some(ModelError::InvalidTable));
+}
+
+/// Whichever request for memory is refused, there are no replies then.
+#[test]
+fn a_refusal_of_memory_leaves_no_replies_of_weights(rt: HostRuntime) {
+    match of_weights(rt.alloc(), &[3, 18, 1]) {
+        Ok(made) => holds(&rt, &made.converted.hashed, &replies_of_numbers()),
+        Err(error) => same(&rt, error, ModelError::OutOfMemory),
+    }
+    end_of_requests(&rt);
+}
+
+/// Asks a model of four numbers and what is made of it.
+fn of_table(
+    alloc: Global,
+    model: &Table<6>,
+) -> Result<AnswersOfModel<usize, u8, DecoderForm<usize, u8, 6>>, ModelError> {
+    contiguous_symbols_differ();
+    answer_by_model::<_, 6>(alloc, model, &STEPS, &NUMBERS)
+}
+
+#[test]
+fn a_model_and_what_is_made_of_it_reply(rt: HostRuntime) {
+    let model = small(&rt, rt.alloc());
+    let answers = of_table(rt.alloc(), &model).expect(&rt, "replies");
+    has_table(&rt, &answers.form);
+    holds(&rt, &answers.by_model, &replies_of_numbers());
+    holds(&rt, &answers.converted, &replies_of_numbers());
+}
+
+#[test]
+fn what_is_made_of_a_range_replies(rt: HostRuntime) {
+    let queries = [
+        Query::OfQuantile(255),
+        Query::OfSymbol(2),
+        Query::OfSymbol(3),
+    ];
+    let answers = answer_from_range_u8::<8>(rt.alloc(), 3, &STEPS, &queries);
+    let answers = answers.expect(&rt, "replies");
+    has_table(&rt, &answers.form);
+    let expected = [row(2, 170, 86), entry(170, 86), Reply::Entry(None)];
+    holds(&rt, &answers.by_model, &expected);
+    holds(&rt, &answers.converted, &expected);
+}
+
+#[test]
+fn a_range_of_wider_words_replies(rt: HostRuntime) {
+    let answers = answer_from_range_u16::<12>(rt.alloc(), 5, &[], &[Query::OfQuantile(4095)]);
+    let expected = Reply::Row(4, 3276, 820u16.into_nonzero_unchecked());
+    holds(&rt, &answers.expect(&rt, "replies").converted, &[expected]);
+    let answers = answer_from_range_usize::<24>(rt.alloc(), 2, &[], &[Query::OfSymbol(1)]);
+    let half = 8_388_608usize;
+    let expected = Reply::Entry(Some((half, half.into_nonzero_unchecked())));
+    holds(&rt, &answers.expect(&rt, "replies").by_model, &[expected]);
+}

@@ -1,0 +1,171 @@
+//! Kernels of models over any symbols: decoders, which search, and encoders, which are hashed.
+
+ghost use Rattle.std.specs.Prelude.{◌^◌, ◌<◌, All};
+
+use crate::checksum::{mix, row};
+use constriction::stream::model::{
+    DecoderModel, DefaultNonContiguousCategoricalDecoderModel,
+    DefaultNonContiguousCategoricalEncoderModel, EncoderModel, IterableEntropyModel,
+};
+use std::alloc::Global;
+
+type Decoder = DefaultNonContiguousCategoricalDecoderModel<u32>;
+
+type Encoder = DefaultNonContiguousCategoricalEncoderModel<u32>;
+
+/// Makes the decoder, each time anew, by the constructor that compares each symbol with all before it.
+#[unsafe(no_mangle)]
+pub extern "C" fn kernel_decoder_build(
+    alloc: Global,
+    weights: &[u32],
+    symbols: &[u32],
+    repeats: u32,
+) -> u64 {
+    let mut sum = 0u64;
+    for _ in 0..repeats {
+        let Ok(model) = Decoder::from_symbols_and_nonzero_fixed_point_probabilities(
+            alloc,
+            symbols.iter().copied(),
+            weights.iter().copied(),
+            false,
+        ) else {
+            return 1;
+        };
+        sum = mix(sum, model.support_size() as u64);
+    }
+    sum
+}
+
+/// Makes the decoder, each time anew, by the constructor that finds repeats by a hash.
+#[unsafe(no_mangle)]
+pub extern "C" fn kernel_decoder_build_hashable(
+    alloc: Global,
+    weights: &[u32],
+    symbols: &[u32],
+    repeats: u32,
+) -> u64 {
+    let mut sum = 0u64;
+    for _ in 0..repeats {
+        let Ok(model) = Decoder::from_hashable_symbols_and_nonzero_fixed_point_probabilities(
+            alloc,
+            symbols.iter().copied(),
+            weights.iter().copied(),
+            false,
+        ) else {
+            return 1;
+        };
+        sum = mix(sum, model.support_size() as u64);
+    }
+    sum
+}
+
+/// Finds the row of each quantile.
+#[unsafe(no_mangle)]
+pub extern "C" fn kernel_decoder_quantile(
+    alloc: Global,
+    weights: &[u32],
+    symbols: &[u32],
+    quantiles: &[u32],
+    repeats: u32,
+) -> u64
+    requires { All (λ q. q < 2 ^ 24) quantiles.now }
+{
+    let Ok(model) = Decoder::from_hashable_symbols_and_nonzero_fixed_point_probabilities(
+        alloc,
+        symbols.iter().copied(),
+        weights.iter().copied(),
+        false,
+    ) else {
+        return 1;
+    };
+    let mut sum = 0u64;
+    for _ in 0..repeats {
+        for quantile in quantiles {
+            let Ok((symbol, left, weight)) = model.quantile_function(*quantile) else {
+                return 1;
+            };
+            sum = mix(sum, row(symbol as usize, left as u64, weight.get() as u64));
+        }
+    }
+    sum
+}
+
+/// Walks through all rows of the decoder.
+#[unsafe(no_mangle)]
+pub extern "C" fn kernel_decoder_table(
+    alloc: Global,
+    weights: &[u32],
+    symbols: &[u32],
+    repeats: u32,
+) -> u64 {
+    let Ok(model) = Decoder::from_hashable_symbols_and_nonzero_fixed_point_probabilities(
+        alloc,
+        symbols.iter().copied(),
+        weights.iter().copied(),
+        false,
+    ) else {
+        return 1;
+    };
+    let mut sum = 0u64;
+    for _ in 0..repeats {
+        for item in (&model).symbol_table() {
+            let Ok((symbol, left, weight)) = item else {
+                return 1;
+            };
+            sum = mix(sum, row(symbol as usize, left as u64, weight.get() as u64));
+        }
+    }
+    sum
+}
+
+/// Makes the encoder, each time anew.
+#[unsafe(no_mangle)]
+pub extern "C" fn kernel_encoder_build(
+    alloc: Global,
+    weights: &[u32],
+    symbols: &[u32],
+    repeats: u32,
+) -> u64 {
+    let mut sum = 0u64;
+    for _ in 0..repeats {
+        let Ok(model) = Encoder::from_symbols_and_nonzero_fixed_point_probabilities(
+            alloc,
+            symbols.iter().copied(),
+            weights.iter().copied(),
+            false,
+        ) else {
+            return 1;
+        };
+        sum = mix(sum, model.support_size() as u64);
+    }
+    sum
+}
+
+/// Finds the entry of each symbol that is asked for.
+#[unsafe(no_mangle)]
+pub extern "C" fn kernel_encoder_symbol(
+    alloc: Global,
+    weights: &[u32],
+    symbols: &[u32],
+    asked: &[u32],
+    repeats: u32,
+) -> u64 {
+    let Ok(model) = Encoder::from_symbols_and_nonzero_fixed_point_probabilities(
+        alloc,
+        symbols.iter().copied(),
+        weights.iter().copied(),
+        false,
+    ) else {
+        return 1;
+    };
+    let mut sum = 0u64;
+    for _ in 0..repeats {
+        for symbol in asked {
+            sum = match model.left_cumulative_and_probability(symbol) {
+                Some((left, weight)) => mix(sum, row(0, left as u64, weight.get() as u64)),
+                None => mix(sum, 1),
+            };
+        }
+    }
+    sum
+}

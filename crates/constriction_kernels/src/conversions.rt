@@ -1,0 +1,75 @@
+//! Kernels of conversions of contiguous models.
+
+use crate::checksum::{mix, row};
+use constriction::stream::model::{
+    DecoderModel, DefaultContiguousCategoricalEntropyModel, SmallContiguousCategoricalEntropyModel,
+    to_generic_decoder_model, to_generic_encoder_model,
+};
+use std::alloc::Global;
+
+type Contiguous = DefaultContiguousCategoricalEntropyModel;
+
+type Small = SmallContiguousCategoricalEntropyModel;
+
+/// Makes a decoder over any symbols, each time anew. Each symbol is compared with all before it.
+#[unsafe(no_mangle)]
+pub extern "C" fn kernel_to_decoder(alloc: Global, weights: &[u32], repeats: u32) -> u64 {
+    let Ok(source) = Contiguous::from_nonzero_fixed_point_probabilities(
+        alloc,
+        weights.iter().copied(),
+        false,
+    ) else {
+        return 1;
+    };
+    let mut sum = 0u64;
+    for _ in 0..repeats {
+        let Ok(model) = to_generic_decoder_model::<_, 24>(alloc, &source) else {
+            return 1;
+        };
+        sum = mix(sum, model.support_size() as u64);
+    }
+    sum
+}
+
+/// Makes a hashed encoder, each time anew.
+#[unsafe(no_mangle)]
+pub extern "C" fn kernel_to_encoder(alloc: Global, weights: &[u32], repeats: u32) -> u64 {
+    let Ok(source) = Contiguous::from_nonzero_fixed_point_probabilities(
+        alloc,
+        weights.iter().copied(),
+        false,
+    ) else {
+        return 1;
+    };
+    let mut sum = 0u64;
+    for _ in 0..repeats {
+        let Ok(model) = to_generic_encoder_model::<_, 24>(alloc, &source) else {
+            return 1;
+        };
+        sum = mix(sum, model.support_size() as u64);
+    }
+    sum
+}
+
+/// Makes a lookup model with a slot for each quantile, each time anew.
+#[unsafe(no_mangle)]
+pub extern "C" fn kernel_to_direct_lookup(alloc: Global, weights: &[u16], repeats: u32) -> u64 {
+    let Ok(source) = Small::from_nonzero_fixed_point_probabilities(
+        alloc,
+        weights.iter().copied(),
+        false,
+    ) else {
+        return 1;
+    };
+    let mut sum = 0u64;
+    for _ in 0..repeats {
+        let Ok(model) = source.to_slotted_lookup_decoder_model::<12>(alloc) else {
+            return 1;
+        };
+        let Ok((symbol, left, weight)) = model.quantile_function(0) else {
+            return 1;
+        };
+        sum = mix(sum, row(symbol, left as u64, weight.get() as u64));
+    }
+    sum
+}

@@ -1,0 +1,9 @@
+pub mod ExtendingLaws
+pub mod ItemLaws
+pub mod Items
+pub mod KnownLength
+pub mod Sink
+pub mod SinkLaws
+pub mod Source
+pub mod Stack
+pub mod StackLaws

@@ -1,0 +1,71 @@
+-- The steps of a stack meet the laws of sources and sinks: the impls cite these, and a caller's own may. No public clause cites this
+-- module.
+use Rattle.std.specs.Prelude.{◌≡◌, List, [], ◌∷◌, ◌++◌, ⊤, reverse, length, Option, Some, None, Result, Ok, Err, IfErr}
+use Rattle.std.proofs.Common.{sym, ◌∙◌, ap, subst, refl}
+use Rattle.std.proofs.lemmas.List.{reverse-append, reverse-reverse, length-append, length-reverse}
+use Rattle.constriction_sources.specs.Source.{ReadsTold, CountsRead}
+use Rattle.constriction_sources.specs.Sink.{WritesTold}
+use Rattle.constriction_sources.specs.Stack.{Pops, Pushes}
+
+module _ {S W : Type 0} (items : S → List W) {E : Type 0} where
+  -- a stack gives its words back in reverse
+  pub Pops-told : (s : S) (r : Result (Option W) E) (t : S) → Pops (items s) r (items t)
+      → (words : List W) → words ≡ reverse (items s) → ReadsTold (λ u ws. ws ≡ reverse (items u)) words r t
+  Pops-told s (Ok None) t h words e = (e ∙ ap reverse h.0, sym (ap reverse h.1))
+  Pops-told s (Ok (Some w)) t h words e =
+      (reverse (items t), e ∙ (ap reverse h ∙ reverse-append (items t) (w ∷ [])), λ _. reverse (items t))
+  Pops-told s (Err x) t h words e = absurd h
+
+  -- the words of a stack are those that were written
+  pub Pushes-told : (s : S) (w : W) (r : Result (Unit {0}) E) (t : S) → Pushes (items s) w r (items t)
+      → (words : List W) → words ≡ items s → WritesTold (λ u ws. ws ≡ items u) words w r t
+  Pushes-told s w (Ok x) t h words e = ap (λ ws. ws ++ w ∷ []) e ∙ sym h
+  Pushes-told s w (Err x) t h words e = e ∙ sym h
+
+  -- a stack has as many words left as it holds
+  pub Pops-counted : (s : S) (r : Result (Option W) E) (t : S) → ⊤ → Pops (items s) r (items t)
+      → CountsRead (length (items s)) r (length (items t)) × ⊤
+  Pops-counted s (Ok None) t exact h = ((ap length h.0, ap length h.1), exact)
+  Pops-counted s (Ok (Some w)) t exact h = (ap length h ∙ length-append (items t) (w ∷ []), exact)
+  Pops-counted s (Err x) t exact h = absurd h
+
+-- the words that a stack tells are as many as it holds
+pub tells_all : {S W : Type 0} (items : S → List W) (s : S) → ⊤ → (words : List W) → words ≡ reverse (items s)
+    → length (items s) ≡ length words
+tells_all items s exact words e = sym (ap length e ∙ length-reverse (items s))
+
+-- where each error says that memory was refused, a refusal is for that
+pub any_error : {E : Type 0} (r : Result (Unit {0}) E) → IfErr r (λ _. ⊤)
+any_error (Ok x) = tt
+any_error (Err e) = tt
+
+-- a read of a stack that tells no words answers that there is none, and none are told then
+pub none_to_read : {S W E : Type 0} (upcoming written : S → List W → Type 0)
+    → ((s : S) (words : List W) → upcoming s words → written s (reverse words))
+    → (r : Result (Option W) E) (t : S) → ReadsTold upcoming [] r t → (r ≡ Ok None) × written t []
+none_to_read upcoming written upcoming_is_written (Ok None) t h = (refl, upcoming_is_written t [] h.1)
+none_to_read upcoming written upcoming_is_written (Ok (Some w)) t (rest, e, told) = absurd (let none = e in cc)
+none_to_read upcoming written upcoming_is_written (Err e) t h = absurd (h.0 refl)
+
+last_first : {W : Type 0} (words : List W) (w : W) → reverse (words ++ w ∷ []) ≡ w ∷ reverse words
+last_first words w = reverse-append words (w ∷ [])
+
+module _ {S W : Type 0} (E : Type 0) (upcoming written : S → List W → Type 0)
+    (upcoming_is_written : (s : S) (words : List W) → upcoming s words → written s (reverse words))
+    (words : List W) (w : W) (t : S) where
+  -- a read of a stack where a word was written last answers that word, and the words before it are left
+  pub read_back : (o : Option W) → (let r : Result (Option W) E = Ok o in ReadsTold upcoming (reverse (words ++ w ∷ [])) r t)
+      → (o ≡ Some w) × written t words
+  read_back None h = absurd (let e = h.0 in cc (last_first words w))
+  read_back (Some x) (rest, e, told) =
+      let same : x ≡ w = cc (last_first words w) in
+      let left : rest ≡ reverse words = cc (last_first words w) in
+      let back : reverse rest ≡ words = ap reverse left ∙ reverse-reverse words in
+      (ap Some same, subst (λ (ws : List W). written t ws) back (upcoming_is_written t rest told))
+
+  -- or it fails, and the word is still there
+  pub still_there : (e : E) → (let r : Result (Option W) E = Err e in ReadsTold upcoming (reverse (words ++ w ∷ [])) r t)
+      → written t (words ++ w ∷ [])
+  still_there e h =
+      subst (λ (ws : List W). written t ws) (reverse-reverse (words ++ w ∷ []))
+      (upcoming_is_written t (reverse (words ++ w ∷ [])) h.1)

@@ -1,0 +1,89 @@
+//! What follows from the contracts of sources and sinks, each law the contract of a function.
+
+ghost use Rattle.std.specs.Prelude.{◌≡◌, [], ◌∷◌, ◌++◌, List, Some, Err, IfOk};
+ghost use Rattle.std.specs.Iterator.{IsFinite};
+ghost use Rattle.constriction_sources.specs.Source.{RemainingCounts};
+ghost use Rattle.constriction_sources.specs.Sink.{CountsExtend, ExtendsBy, ExtendingTells};
+ghost use Rattle.constriction_sources.specs.Stack.{PopsWhatWasPushed, ReadsWhatWasWritten, SeeksBack};
+
+mod iterators;
+
+pub use self::iterators::{item_end_is_for_good, word_end_is_for_good};
+use crate::read::BoundedReadWords;
+use crate::stack::StackBackend;
+use crate::write::{BoundedWriteWords, WriteWords};
+use constriction_words::{ReadWriteError, Semantics};
+
+/// A word that was written to a stack is read next, and then the stack has its old words again.
+pub fn pushed_is_popped<Word, WriteError, ReadError>()
+    ensures { PopsWhatWasPushed Word WriteError ReadError }
+{}
+
+/// A word that was written to a stack is told after its old words. In whatever state they are told so,
+/// the word is read next, and then the stack tells the old words again; or the read fails, and the word
+/// still comes after them. So it is of each backend that is a stack, where it tells its words.
+pub fn written_is_read<Word, Backend: StackBackend<Word>>()
+    ensures { ReadsWhatWasWritten Backend.write_gives Backend.read_gives Backend.tells_written }
+{}
+
+/// Writes a word to a stack and reads it back. Where the stack tells its words, the word is read,
+/// and the stack is left with its old words, also where the write is refused; where the read fails,
+/// the word still comes after them.
+pub fn push_then_pop<Word, Backend: StackBackend<Word>>(
+    backend: &mut Backend,
+    word: Word,
+) -> Result<Option<Word>, ReadWriteError<Backend::ReadError, Backend::WriteError>>
+    requires { Backend.can_write backend.old }
+    ensures read { IfOk result (λ read. (words : List Word) → Backend.tells_written backend.old words
+        → (read ≡ Some word) × Backend.tells_written backend.new words) }
+    ensures refused { (error : Backend.WriteError) → result ≡ Err (ReadWriteError.Write error)
+        → (words : List Word) → Backend.tells_written backend.old words → Backend.tells_written backend.new words }
+    ensures failed { (error : Backend.ReadError) → result ≡ Err (ReadWriteError.Read error)
+        → (words : List Word) → Backend.tells_written backend.old words
+        → Backend.tells_written backend.new (words ++ word ∷ []) }
+    ensures goes_on { Backend.can_write backend.new }
+{
+    match backend.write(word) {
+        Ok(()) => {}
+        Err(error) => return Err(ReadWriteError::Write(error)),
+    }
+    match backend.read() {
+        Ok(read) => Ok(read),
+        Err(error) => Err(ReadWriteError::Read(error)),
+    }
+}
+
+/// A position of a stack that was taken earlier is sought back exactly where the stack is no
+/// shorter now, and what was written since is dropped.
+pub fn seek_back<Word>()
+    ensures { SeeksBack Word }
+{}
+
+/// Writes the words of an iterator in order to a sink that counts its free places: they are refused
+/// exactly where there are more of them than places, and otherwise take a place each.
+#[tactic(auto, using(crate::proofs::Places::extending_counted))]
+pub fn extending_counts<Word, Sink: BoundedWriteWords<Word>, Words: Iterator<Item = Word>>(
+    sink: &mut Sink,
+    words: Words,
+) -> Result<(), Sink::WriteError>
+    requires can_write { Sink.can_write sink.old }
+    requires can_next { Words.can_next words }
+    requires ends { IsFinite (Words.remaining words) }
+    ensures goes_on { Sink.can_write sink.new }
+    ensures gives { ExtendsBy Sink.write_gives Words.next_gives sink.old words result sink.new }
+    ensures counted { CountsExtend Words.next_gives
+        (Sink.free_places sink.old) words result (Sink.free_places sink.new) }
+{
+    sink.extend_from_iter(words)
+}
+
+/// Where an iterator's words were all written, they come after those that were written before; and
+/// where one was refused, those before it do.
+pub fn extending_tells<Word, Sink: WriteWords<Word>, Words: Iterator<Item = Word>>()
+    ensures { ExtendingTells Sink.write_gives Sink.tells_written Words.next_gives }
+{}
+
+/// Where the count of a source is right, its reads give so many items, and then answer `Ok(None)`.
+pub fn remaining_counts<Word, S: Semantics, Source: BoundedReadWords<Word, S>>()
+    ensures { RemainingCounts Source.read_gives Source.items_left Source.is_exact }
+{}

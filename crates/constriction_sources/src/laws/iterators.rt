@@ -1,0 +1,24 @@
+//! What follows from the steps of sources over iterators.
+
+ghost use Rattle.constriction_sources.specs.Items.{EndIsForGood};
+
+use crate::iterators::{FallibleIteratorReadWords, InfallibleIteratorReadWords};
+use crate::read::ReadWords;
+use constriction_words::Semantics;
+use std::fmt::Debug;
+
+/// A source over an iterator of words that has answered `Ok(None)` answers so for good, whatever the
+/// iterator would say.
+pub fn word_end_is_for_good<Word, S: Semantics, Iter: Iterator<Item = Word>>()
+    ensures { EndIsForGood ⟦<InfallibleIteratorReadWords<Iter> as ReadWords<Word, S>>⟧.read_gives }
+{}
+
+/// The same of a source over an iterator of words and errors.
+pub fn item_end_is_for_good<
+    Word,
+    ReadError: Debug,
+    S: Semantics,
+    Iter: Iterator<Item = Result<Word, ReadError>>,
+>()
+    ensures { EndIsForGood ⟦<FallibleIteratorReadWords<Iter> as ReadWords<Word, S>>⟧.read_gives }
+{}

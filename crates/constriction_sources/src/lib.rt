@@ -1,0 +1,22 @@
+//! Sources and sinks of words: the traits, stacks that grow, and what reads from iterators and writes to callbacks.
+//!
+//! A sink takes words in one order. A source gives them back in an order of its own: last in,
+//! first out ([`Stack`](constriction_words::Stack)) or first in, first out
+//! ([`Queue`](constriction_words::Queue)).
+#![tactic(auto)]
+
+mod callbacks;
+mod iterators;
+pub mod laws;
+mod read;
+mod small_vec;
+mod stack;
+mod vec;
+mod write;
+
+pub use crate::callbacks::{FallibleCallbackWriteWords, InfallibleCallbackWriteWords};
+pub use crate::iterators::{FallibleIteratorReadWords, FusedWords, InfallibleIteratorReadWords};
+pub use crate::read::{BoundedReadWords, ReadWords};
+pub use crate::stack::StackBackend;
+pub use crate::write::{BoundedWriteWords, WriteWords};
+pub use constriction_words::ReadWriteError;

@@ -1,0 +1,101 @@
+//! Sinks of words.
+
+ghost use Rattle.std.specs.Prelude.{◌≡◌, ◌<◌, ◌↔◌, ℕ, List, ⊤, Result, IsTrue, IfErr};
+ghost use Rattle.std.specs.Bool.{OnFalse};
+ghost use Rattle.std.specs.Iterator.{IsFinite};
+ghost use Rattle.constriction_sources.specs.Sink.{WritesTold, CountsWrite, ExtendsBy};
+
+use std::fmt::Debug;
+
+/// A sink of words.
+///
+/// An implementer says which answers a write may give (`write_gives`), and may tell the words that
+/// were written (`tells_written`): then a write that succeeds appends its word to them, and a
+/// refused one leaves them. It may also say where it surely has room (`has_room`): there a write is
+/// refused for want of memory alone (`lacks_memory`).
+pub trait WriteWords<Word> {
+    /// Why a write may be refused.
+    type WriteError: Debug;
+
+    // A write of the word to the first state may give this answer and leave the second one.
+    ghost write_gives: { Self → Word → Result (Unit {0}) Self.WriteError → Self → Type 0 };
+
+    // The words that were written, the first one first. A sink that tells no list relates to none.
+    ghost tells_written: { Self → List Word → Type 0 } = { λ _ _. ⊥ };
+
+    // The sink surely takes one more word, want of memory aside.
+    ghost has_room: { Self → Type 0 } = { λ _. ⊥ };
+
+    // The error says that memory was refused. No error does, where an implementer says nothing else.
+    ghost lacks_memory: { Self.WriteError → Type 0 } = { λ _. ⊥ };
+
+    // The states in which the sink may be written. A write leads from one to another.
+    ghost can_write: { Self → Type 0 } = { λ _. ⊤ };
+
+    /// Writes a word. A refused word is dropped.
+    fn write(&mut self, word: Word) -> Result<(), Self::WriteError>
+        requires { can_write self.old }
+        ensures gives { write_gives self.old word result self.new }
+        ensures goes_on { can_write self.new };
+
+    /// Writes the words of an iterator in order, and stops at the first one that is refused. The
+    /// words before it stay written.
+    #[tactic(auto, using(crate::specs::SinkLaws::writes_more))]
+    fn extend_from_iter<I: Iterator<Item = Word>>(
+        &mut self,
+        iter: I,
+    ) -> Result<(), Self::WriteError>
+        requires can_write { can_write self.old }
+        requires can_next { I.can_next iter }
+        requires ends { IsFinite (I.remaining iter) }
+        ensures goes_on { can_write self.new }
+        ensures gives { ExtendsBy write_gives I.next_gives self.old iter result self.new }
+    {
+        for word in iter {
+            self.write(word)?;
+        }
+        Ok(())
+    }
+
+    /// Whether the sink may be full. `false` says that there is room; `true` says nothing.
+    fn maybe_full(&self) -> bool
+        ensures { OnFalse result (has_room self.now) }
+    {
+        true
+    }
+
+    // A write goes to the end of the told list.
+    ghost writes_told: { (s : Self) (w : Word) (r : Result (Unit {0}) Self.WriteError) (t : Self)
+        → write_gives s w r t → (words : List Word) → tells_written s words → WritesTold tells_written words w r t };
+
+    // Where there surely is room, a write is refused for want of memory alone.
+    ghost room_suffices: { (s : Self) (w : Word) (r : Result (Unit {0}) Self.WriteError) (t : Self)
+        → write_gives s w r t → has_room s → IfErr r lacks_memory };
+}
+
+/// A sink that knows how many words it still takes.
+///
+/// A write succeeds exactly where a place is free, and takes it. So `extend_from_iter` is refused
+/// exactly where there are more words than free places.
+pub trait BoundedWriteWords<Word>: WriteWords<Word> {
+    // How many places are free.
+    ghost free_places: { Self → ℕ };
+
+    /// How many more words the sink takes.
+    fn space_left(&self) -> usize
+        ensures { result ≡ free_places self.now };
+
+    /// Whether the sink takes no more word.
+    fn is_full(&self) -> bool
+        ensures { IsTrue result ↔ (free_places self.now ≡ 0) }
+    {
+        self.space_left() == 0
+    }
+
+    // A write takes a free place, and is refused exactly where there is none.
+    ghost counts_writes: { (s : Self) (w : Word) (r : Result (Unit {0}) Self.WriteError) (t : Self) → Self.write_gives s w r t
+        → CountsWrite (free_places s) r (free_places t) };
+
+    // Where there surely is room, a place is free.
+    ghost room_counts: { (s : Self) → Self.has_room s → 0 < free_places s };
+}

@@ -1,0 +1,66 @@
+-- Entries that were read without comparing symbols, where no two symbols turn out to be equal, or where two do.
+use Rattle.std.specs.Prelude.{◌≡◌, ℕ, Bool, false, List, [], ◌∷◌, map, Option}
+use Rattle.std.proofs.Common.{refl, subst, ◌∙◌}
+use Rattle.std.specs.Iterator.{Drains}
+use Rattle.std.specs.List.{AllByRecursion, IsDistinct}
+use Rattle.constriction_model.specs.Acceptance.{AreAccepted, GaveBothBad, ToItsEnd}
+use Rattle.constriction_stored_rows.specs.Filling.{HoldsRows}
+use Rattle.constriction_model.specs.Rows.{rows_of}
+use Rattle.constriction_stored_rows.specs.Stored.{IsStored}
+use Rattle.constriction_stored_rows.specs.Stored.{rows_paired}
+use Rattle.constriction_stored_rows.proofs.PairedLemmas.{paired-of_rows, accepted-tile, accepted-symbols, paired-distinct}
+
+-- where symbols are not compared, no two are equal
+all-uncompared : {Symbol : Type 0} (ts : List Symbol) → AllByRecursion (λ t. false ≡ false) ts
+all-uncompared [] = tt
+all-uncompared (t ∷ ts) = (refl, all-uncompared ts)
+
+uncompared-distinct : {Symbol : Type 0} (ss : List Symbol) → IsDistinct (λ _ _. false) ss
+unfolding IsDistinct
+uncompared-distinct [] = tt
+uncompared-distinct (s ∷ ss) = (all-uncompared ss, uncompared-distinct ss)
+
+module _ {Word Symbol : Type 0} (eq : Symbol → Symbol → Bool) (whole : Word → ℕ) (bits precision : ℕ) (entries : List (Word × Symbol))
+    (ss : List Symbol) (ws : List ℕ) (a : AreAccepted (λ _ _. false) bits precision ss ws) (h : HoldsRows whole entries (rows_of ss ws)) where
+  -- the symbols of the entries are those that were read
+  pub read-symbols : map (λ x. x.1) entries ≡ ss
+  read-symbols = h.0 ∙ accepted-symbols (λ _ _. false) bits precision ss ws a
+
+  module _ (d : IsDistinct eq ss) where
+    pub apart-accepted : AreAccepted eq bits precision ss ws
+    apart-accepted = record { tile = a.tile; as_many = a.as_many; distinct = d }
+
+    pub apart-stored : IsStored bits precision (map (λ x. whole x.0) entries) × (rows_paired whole precision entries ≡ rows_of ss ws)
+    apart-stored = paired-of_rows whole bits precision (rows_of ss ws) entries (accepted-tile eq bits precision ss ws apart-accepted) h
+
+    pub apart-distinct : IsDistinct eq (map (λ x. x.1) entries)
+    apart-distinct = paired-distinct eq bits precision ss ws apart-accepted whole entries h
+
+-- ---- what was refused
+
+-- what is accepted where symbols are compared is accepted where they are not
+pub accepted-uncompared : {Symbol : Type 0} (eq : Symbol → Symbol → Bool) (bits precision : ℕ) (ss : List Symbol) (ws : List ℕ)
+    → AreAccepted eq bits precision ss ws → AreAccepted (λ _ _. false) bits precision ss ws
+accepted-uncompared eq bits precision ss ws a = record { tile = a.tile; as_many = a.as_many; distinct = uncompared-distinct ss }
+
+module _ {S T A B : Type 0} (steps : S → Option A → S → Type 0) (it : S) (other_steps : T → Option B → T → Type 0) (jt : T)
+    (Good : List A → List B → Type 0) where
+  -- where what was read is not good, it is not what is good too
+  pub bad-narrower : (Better : List A → List B → Type 0) → ((xs : List A) (ys : List B) → Better xs ys → Good xs ys)
+      → GaveBothBad steps it other_steps jt Good → GaveBothBad steps it other_steps jt Better
+  bad-narrower Better better (xs, ys, read, other_read, was, other_was, never) =
+      (xs, ys, read, other_read, was, other_was, λ all others a b good. never all others a b (better all others good))
+
+  -- what was read to the ends and is not good
+  pub bad-at_end : (xs : List A) (ys : List B) → Drains steps it xs → Drains other_steps jt ys → ¬ (Good xs ys)
+      → GaveBothBad steps it other_steps jt Good
+  bad-at_end xs ys d e not = (
+    xs,
+    ys,
+    ToItsEnd,
+    ToItsEnd,
+    d,
+    e,
+    λ all others a b good.
+        not (subst (λ (zs : List A). Good zs ys) a (subst (λ (zs : List B). Good all zs) b good)),
+  )

@@ -1,0 +1,171 @@
+-- Filling a table row by row.
+use Rattle.std.specs.Prelude.{◌≡◌, ℕ, ◌+◌, ◌-◌, ◌%◌, ◌^◌, ◌<◌, ◌≤◌, ◌⊎◌, Bool, true, false, List, [], ◌∷◌, ◌++◌, length, map, sum, All, Option, Some, None}
+use Rattle.std.proofs.Common.{suc, zero, refl, ap, sym, ◌∙◌, arith, subst, inl, inr}
+use Rattle.std.proofs.Math.Nat.{mod-eq_of_lt, mod-lt}
+use Rattle.std.proofs.lemmas.List.{map-append, length-append, get_or_append_left}
+use Rattle.std.proofs.lemmas.List.Elements.{All-push, All-nil, All-contains, Contains-append_left, Contains-push}
+use Rattle.std.proofs.lemmas.List.Sums.{sum_by-cons, sum_by-append, sum_by_push}
+use Rattle.std.specs.Iterator.{Yields}
+use Rattle.constriction_model.specs.Acceptance.{IsAccepted, completed}
+use Rattle.constriction_stored_rows.specs.Stored.{lefts_from}
+use Rattle.constriction_stored_rows.specs.Filling.{IsRowEnd, IsFilled}
+
+lefts_from-push : (l : ℕ) (ws : List ℕ) (w : ℕ) → lefts_from l (ws ++ w ∷ []) ≡ lefts_from l ws ++ (l + sum ws) ∷ []
+lefts_from-push l [] w = ap (λ x. x ∷ []) (omega arith)
+lefts_from-push l (v ∷ ws) w =
+    ap (λ xs. l ∷ xs)
+    (lefts_from-push (l + v) ws w
+    ∙ ap (λ x. lefts_from (l + v) ws ++ x ∷ []) (omega (arith, sum_by-cons (λ x. x) v ws)))
+
+module _ {W : Type 0} (whole : W → ℕ) (bits precision : ℕ) where
+  pub filled-none : (z : W) → whole z ≡ 0 → 0 < 2 ^ precision → IsFilled whole bits precision [] [] (Some z)
+  filled-none z e up = record {
+    positive = All-nil (λ w. 0 < w);
+    fit = All-nil (λ w. w < 2 ^ bits);
+    lefts = refl;
+    is = e;
+    below = rw e up;
+  }
+
+  pub filled-more : (ws table : List W) (left w : W) (end : Option W) → IsFilled whole bits precision ws table (Some left)
+      → IsRowEnd whole bits precision left w end → IsFilled whole bits precision (ws ++ w ∷ []) (table ++ left ∷ []) end
+  filled-more ws table left w end f r = record {
+    positive = rw map-append (All-push (λ x. 0 < x) (map whole ws) (whole w) f.positive r.positive);
+    fit = rw map-append (All-push (λ x. x < 2 ^ bits) (map whole ws) (whole w) f.fit r.fits);
+    lefts =
+        map-append whole table (left ∷ []) ∙ ap (λ xs. xs ++ whole left ∷ []) f.lefts
+        ∙ ap (λ x. lefts_from 0 (map whole ws) ++ x ∷ []) (let e : whole left ≡ 0 + sum (map whole ws) = omega (arith, f.is) in e)
+        ∙ sym (lefts_from-push 0 (map whole ws) (whole w)) ∙ ap (lefts_from 0) (sym (map-append whole ws (w ∷ [])));
+    is =
+        r.is ∙ (let e : whole left + whole w ≡ sum (map whole ws) + whole w = omega (arith, f.is) in e)
+        ∙ sym (ap sum (map-append whole ws (w ∷ [])) ∙ sum_by_push (λ x. x) (map whole ws) (whole w));
+    below = r.below;
+  }
+
+  -- weights that a model accepts are positive, and leave no less than nothing
+  accepted-positive : (infer : Bool) (xs : List ℕ) → IsAccepted bits precision (completed precision infer xs) → All (λ w. 0 < w) xs
+  accepted-positive false xs a = a.tiles.positive
+  accepted-positive true xs a = λ k d h.
+      let long : k < length (xs ++ (2 ^ precision - sum xs) ∷ []) = simp length-append (omega arith) in
+      rw (← get_or_append_left xs ((2 ^ precision - sum xs) ∷ []) d k h) (a.tiles.positive k d long)
+
+  accepted-sum : (infer : Bool) (xs : List ℕ) → IsAccepted bits precision (completed precision infer xs) → sum xs ≤ 2 ^ precision
+  accepted-sum false xs a = omega (arith, a.tiles.total)
+  accepted-sum true xs a = omega (arith, a.tiles.total, sum_by_push (λ x. x) xs (2 ^ precision - sum xs))
+
+  pub bad-more : (infer : Bool) (ws more : List W) (w : W) → (whole w ≡ 0) ⊎ (2 ^ precision < sum (map whole ws) + whole w)
+      → ¬ (IsAccepted bits precision (completed precision infer (map whole ((ws ++ w ∷ []) ++ more))))
+  bad-more infer ws more w why a =
+      let xs : List ℕ = map whole ((ws ++ w ∷ []) ++ more) in
+      let split : xs ≡ (map whole ws ++ whole w ∷ []) ++ map whole more =
+      map-append whole (ws ++ w ∷ []) more ∙ ap (λ ys. ys ++ map whole more) (map-append whole ws (w ∷ [])) in
+      let total : sum xs ≡ (sum (map whole ws) + whole w) + sum (map whole more) =
+      ap sum split ∙ sum_by-append (λ x. x) (map whole ws ++ whole w ∷ []) (map whole more)
+      ∙ ap (λ n. n + sum (map whole more)) (sum_by_push (λ x. x) (map whole ws) (whole w)) in
+      let positive : All (λ x. 0 < x) ((map whole ws ++ whole w ∷ []) ++ map whole more) =
+      rw (← split) (accepted-positive infer xs a) in
+      let some : 0 < whole w =
+      All-contains (λ x. 0 < x) _ (whole w) positive
+      (Contains-append_left _ (map whole more) (whole w) (Contains-push (map whole ws) (whole w))) in
+      elim why [ inl none ↦ omega arith | inr much ↦ omega (arith, accepted-sum infer xs a) ]
+
+  pub good-given : (ws table : List W) → IsFilled whole bits precision ws table None
+      → IsAccepted bits precision (map whole ws) × (map whole table ≡ lefts_from 0 (map whole ws))
+  good-given ws table f = (record { tiles = record { positive = f.positive; total = sym f.is }; fit = f.fit }, f.lefts)
+
+  pub bad-full : (ws table : List W) → IsFilled whole bits precision ws table None
+      → ¬ (IsAccepted bits precision (completed precision true (map whole ws)))
+  bad-full ws table f a =
+      let last : 0 < 2 ^ precision - sum (map whole ws) =
+      All-contains (λ x. 0 < x) _ _ a.tiles.positive (Contains-push (map whole ws) (2 ^ precision - sum (map whole ws))) in
+      omega (arith, f.is)
+
+  pub bad-wide : (ws table : List W) (left : W) → IsFilled whole bits precision ws table (Some left)
+      → 2 ^ bits + whole left ≤ 2 ^ precision
+      → ¬ (IsAccepted bits precision (completed precision true (map whole ws)))
+  bad-wide ws table left f wide a =
+      let last : 2 ^ precision - sum (map whole ws) < 2 ^ bits =
+      All-contains (λ x. x < 2 ^ bits) _ _ a.fit (Contains-push (map whole ws) (2 ^ precision - sum (map whole ws))) in
+      omega (arith, f.is)
+
+  pub good-inferred : (ws table : List W) (left : W) → IsFilled whole bits precision ws table (Some left)
+      → 2 ^ precision < 2 ^ bits + whole left
+      → IsAccepted bits precision (completed precision true (map whole ws))
+      × (map whole (table ++ left ∷ []) ≡ lefts_from 0 (completed precision true (map whole ws)))
+  good-inferred ws table left f narrow =
+      let xs : List ℕ = map whole ws in
+      let last : ℕ = 2 ^ precision - sum xs in
+      let up : 0 < 2 ^ precision - sum xs = omega (arith, f.is, f.below) in
+      let low : 2 ^ precision - sum xs < 2 ^ bits = omega (arith, f.is, f.below) in (
+        record {
+          tiles =
+              record {
+                positive = All-push (λ x. 0 < x) xs (2 ^ precision - sum xs) f.positive up;
+                total = sum_by_push
+                    (λ x. x) xs (2 ^ precision - sum xs) ∙ omega (arith, f.is, f.below);
+              };
+          fit = All-push (λ x. x < 2 ^ bits) xs (2 ^ precision - sum xs) f.fit low;
+        },
+        map-append whole table (left ∷ []) ∙ ap (λ ys. ys ++ whole left ∷ []) f.lefts
+            ∙ ap (λ x. lefts_from 0 xs ++ x ∷ []) (let e : whole left ≡ 0 + sum xs = omega (arith, f.is) in e)
+            ∙ sym (lefts_from-push 0 xs (2 ^ precision - sum xs)),
+      )
+
+  -- a row whose last quantile, counted from its first one, is below what is left after that one
+  pub row-within : (left w next : W) (room last : ℕ) → whole left + room + 1 ≡ 2 ^ precision → 2 ^ precision ≤ 2 ^ bits
+      → (last + 1) % 2 ^ bits ≡ whole w → last < room → whole next ≡ whole left + whole w
+      → IsRowEnd whole bits precision left w (Some next)
+  row-within left w next room last all narrow wrapped less is =
+      let one : (last + 1) % 2 ^ bits ≡ last + 1 = mod-eq_of_lt (omega arith) in
+      record {
+        positive = omega arith;
+        fits = omega arith;
+        is = is;
+        below = let b : whole next < 2 ^ precision = omega arith in b;
+      }
+
+  -- a row that takes all that is left
+  pub row-last : (left w : W) (room last : ℕ) → whole left + room + 1 ≡ 2 ^ precision
+      → (last + 1) % 2 ^ bits ≡ whole w → 0 < 2 ^ bits → 0 < whole w → whole w ≡ room + 1
+      → IsRowEnd whole bits precision left w None
+  row-last left w room last all wrapped up some is =
+      let range : (last + 1) % 2 ^ bits < 2 ^ bits = mod-lt (last + 1) up in
+      record {
+        positive = some;
+        fits = omega arith;
+        is = let e : 2 ^ precision ≡ whole left + whole w = omega arith in e;
+        below = tt;
+      }
+
+  -- weights that leave nothing, where one more is inferred, whatever follows
+  pub bad-full-more : (ws more : List W) → 2 ^ precision ≤ sum (map whole ws)
+      → ¬ (IsAccepted bits precision (completed precision true (map whole (ws ++ more))))
+  bad-full-more ws more much a =
+      let xs : List ℕ = map whole (ws ++ more) in
+      let total : sum xs ≡ sum (map whole ws) + sum (map whole more) =
+      ap sum (map-append whole ws more) ∙ sum_by-append (λ x. x) (map whole ws) (map whole more) in
+      let last : 0 < 2 ^ precision - sum xs =
+      All-contains (λ x. 0 < x) _ _ a.tiles.positive (Contains-push xs (2 ^ precision - sum xs)) in
+      omega arith
+
+  -- a weight after those that leave nothing
+  pub bad-after : (infer : Bool) (ws more : List W) (w : W) → 2 ^ precision ≤ sum (map whole ws)
+      → ¬ (IsAccepted bits precision (completed precision infer (map whole ((ws ++ w ∷ []) ++ more))))
+  bad-after infer ws more w much = bad-more infer ws more w (zero-or-more (whole w) (sum (map whole ws)) much)
+    where
+      zero-or-more : (n s : ℕ) → 2 ^ precision ≤ s → (n ≡ 0) ⊎ (2 ^ precision < s + n)
+      zero-or-more zero s h = inl refl
+      zero-or-more (suc n) s h = inr (omega arith)
+
+-- a table is ended with the total
+pub ended : {W : Type 0} (whole : W → ℕ) (lefts filled table : List W) (total : W) (is : ℕ) (numbers : List ℕ)
+    → filled ≡ lefts → table ≡ filled ++ total ∷ [] → whole total ≡ is → map whole lefts ≡ numbers
+    → map whole table ≡ numbers ++ is ∷ []
+ended whole lefts filled table total is numbers f t e l =
+    ap (map whole) t ∙ map-append whole filled (total ∷ []) ∙ rw (f, e, l) refl
+
+-- one more call
+pub yields-more : {S A : Type 0} (steps : S → Option A → S → Type 0) (s : S) (xs : List A) (t : S) (x : A) (u : S)
+    → Yields steps s xs t → steps t (Some x) u → Yields steps s (xs ++ x ∷ []) u
+yields-more steps s [] t x u e h = (u, (let P : _ → Type 0 = λ v. steps v (Some x) u in subst P (sym e) h), refl)
+yields-more steps s (y ∷ xs) t x u (j, k, r) h = (j, k, yields-more steps j xs t x u r h)

@@ -1,0 +1,14 @@
+pub mod ApartLemmas
+pub mod CollectLemmas
+pub mod FillLemmas
+pub mod HashLemmas
+pub mod OrderLemmas
+pub mod PairedLemmas
+pub mod ProbeLemmas
+pub mod ReadLemmas
+pub mod SeenLemmas
+pub mod SlotFilling
+pub mod SlotLemmas
+pub mod StoredSteps
+pub mod TableLemmas
+pub mod TileLemmas

@@ -1,0 +1,230 @@
+-- Rows whose left cumulatives are stored beside their symbols, without a total after them.
+use Rattle.std.specs.Prelude.{⊤, Result, Ok, Err, IfOk, IfErr}
+use Rattle.std.specs.List.{AllZip, IsDistinct}
+use Rattle.std.proofs.Common.{Bool, ◌≡◌, ℕ, ◌+◌, ◌-◌, ◌%◌, ◌^◌, ◌<◌, ◌≤◌, List, [], ◌∷◌, ◌++◌, length, get_or, map, refl, ap, sym, subst, ◌∙◌, arith, inl, inr}
+use Rattle.std.proofs.Math.Nat.{mod-eq_of_lt, pow-le-pow_right}
+use Rattle.std.proofs.lemmas.Bool.{cases_lt}
+use Rattle.std.proofs.lemmas.List.{length-map, map-append, get_or-map}
+use Rattle.constriction_model.specs.Acceptance.{AreAccepted}
+use Rattle.constriction_stored_rows.specs.Filling.{HoldsRows, AreEntriesCloned}
+use Rattle.constriction_model.specs.Model.{StandForRows, RowMayBeRefused}
+use Rattle.constriction_model.specs.RowLemmas.{weights-rows_from, symbols-rows_from}
+use Rattle.constriction_model.specs.Rows.{Row, rows_from, rows_of, symbols_of, RowsTile, IsRowOf}
+use Rattle.constriction_stored_rows.specs.Stored.{IsStored, weights_of}
+use Rattle.constriction_stored_rows.specs.StoredLemmas.{IsRowAt, stored-row, stored-of_rows}
+use Rattle.constriction_stored_rows.specs.SymbolRowLemmas.{symbols-many, symbol-rows_many, symbol-is_at, paired-long, paired-tiles}
+use Rattle.constriction_model.specs.Probe.{TellsRows, IsRowIndexOf, IsLastAtMost, IsSearchable}
+use Rattle.constriction_stored_rows.specs.Stored.{rows_paired}
+use Rattle.constriction_model.specs.Tables.{rows_between}
+use Rattle.constriction_stored_rows.proofs.ProbeLemmas.{symbol-lefts}
+use Rattle.constriction_model.proofs.StepLemmas.{all-between, length-between, first-between, last-between}
+use Rattle.constriction_model.proofs.Differences.{difference-mod}
+use Rattle.constriction_stored_rows.proofs.TileLemmas.{tiles-probed, tiles-lefts}
+
+-- the weight of a row is the difference of its two ends, modulo 2 ^ bits, where the last row ends at 2 ^ precision
+pub stored-weight : (bits precision : ℕ) (lefts : List ℕ) (i left end weight : ℕ) → IsStored bits precision lefts → precision ≤ bits
+    → i < length lefts → get_or lefts i 0 ≡ left → (i + 1 < length lefts → get_or lefts (i + 1) 0 ≡ end)
+    → (length lefts ≤ i + 1 → end ≡ 2 ^ precision % 2 ^ bits)
+    → weight < 2 ^ bits → (weight + left) % 2 ^ bits ≡ end → weight ≡ get_or (weights_of precision lefts) i 0
+stored-weight bits precision lefts i left end weight t narrow h l more last small e =
+    let w : ℕ = get_or (weights_of precision lefts) i 0 in
+    let row = stored-row bits precision lefts i t h in
+    let below : 2 ^ precision ≤ 2 ^ bits = pow-le-pow_right {n = 2} (omega arith) narrow in
+    let low : left < 2 ^ bits = omega (arith, l, row.within, row.positive) in
+    let there : end ≡ (w + left) % 2 ^ bits = elim (cases_lt (i + 1) (length lefts)) [
+      | inl within ↦
+          let later = stored-row bits precision lefts (i + 1) t within in
+          let next : get_or lefts (i + 1) 0 ≡ w + left = omega (arith, row.next within, l) in
+          let fits : w + left < 2 ^ bits = omega (arith, later.positive, later.within) in
+          sym (more within) ∙ next ∙ sym (mod-eq_of_lt fits)
+      | inr past ↦
+          let all : 2 ^ precision ≡ w + left = omega (arith, row.last (omega arith), l) in
+          last past ∙ ap (λ n. n % 2 ^ bits) all
+    ] in
+    difference-mod (2 ^ bits) weight w left small row.fits low (e ∙ there)
+
+module _ {Symbol Word : Type 0} (whole : Word → ℕ) (bits precision : ℕ) (entries : List (Word × Symbol))
+    (t : IsStored bits precision (map (λ x. whole x.0) entries)) where
+  -- as many rows as entries
+  pub paired-many : length (rows_paired whole precision entries) ≡ length entries
+  paired-many =
+      symbol-rows_many bits precision (map (λ x. x.1) entries) (map (λ x. whole x.0) entries) t (paired-long whole bits precision entries t)
+      ∙ length-map entries (λ x. whole x.0)
+
+  -- what was lent are the entries
+  module _ (lent : List (Word × Symbol)) (e : lent ≡ entries) where
+    pub lent-lefts : map (λ x. whole x.0) lent ≡ map (λ r. r.left) (rows_paired whole precision entries)
+    lent-lefts =
+        ap (map (λ x. whole x.0)) e
+        ∙ sym (symbol-lefts bits precision (map (λ x. x.1) entries) (map (λ x. whole x.0) entries) t
+        (paired-long whole bits precision entries t))
+
+    pub paired-probed : TellsRows (rows_paired whole precision entries) (λ _. ⊤) 0 (map (λ x. whole x.0) lent)
+        × ((q : ℕ) → IsSearchable (map (λ x. whole x.0) lent) q)
+        × ((q i : ℕ) → q < 2 ^ precision → IsLastAtMost (map (λ x. whole x.0) lent) q i
+        → IsRowIndexOf (rows_paired whole precision entries) q (0 + i))
+    paired-probed =
+        tiles-probed bits precision (rows_paired whole precision entries) (paired-tiles whole bits precision entries t)
+        (map (λ x. whole x.0) lent) lent-lefts
+
+    -- the row of a quantile is one of an entry
+    pub paired-index : (q i : ℕ) → q < 2 ^ precision → IsLastAtMost (map (λ x. whole x.0) lent) q i
+        → IsRowIndexOf (rows_paired whole precision entries) q i × (i < length entries)
+    paired-index q i below f =
+        let same : 0 + i ≡ i = omega arith in
+        let found : IsRowIndexOf (rows_paired whole precision entries) q i = rw same at (paired-probed.2 q i below f) in
+        (found, omega (arith, found.in_bounds, paired-many))
+
+    -- what a table of slots is made from
+    pub paired-search : IsSearchable (map (λ x. whole x.0) lent) 0
+        × ((i : ℕ) → i < length (map (λ x. whole x.0) lent) → get_or (map (λ x. whole x.0) lent) i 0 < 2 ^ precision)
+    paired-search =
+        tiles-lefts bits precision (rows_paired whole precision entries) (paired-tiles whole bits precision entries t)
+        (map (λ x. whole x.0) lent) lent-lefts
+
+  symbol-here : (i : ℕ) (s : Symbol) (x : Word × Symbol) → i < length entries → x ≡ get_or entries i x → s ≡ x.1
+      → s ≡ get_or (map (λ y. y.1) entries) i s
+  symbol-here i s x h is se = se ∙ ap (λ y. y.1) is ∙ sym (get_or-map (λ y. y.1) entries i x s h)
+
+  -- the row of an entry
+  pub paired-at : (i l w : ℕ) (s : Symbol) (x : Word × Symbol) → i < length entries → x ≡ get_or entries i x → s ≡ x.1
+      → l ≡ get_or (map (λ x. whole x.0) entries) i 0 → w ≡ get_or (weights_of precision (map (λ x. whole x.0) entries)) i 0
+      → get_or (rows_paired whole precision entries) i (record { symbol = s; left = l; weight = w })
+      ≡ record { symbol = s; left = l; weight = w }
+  paired-at i l w s x h is se le we =
+      symbol-is_at bits precision (map (λ x. x.1) entries) (map (λ x. whole x.0) entries) t (paired-long whole bits precision entries t)
+      i l w s (omega (arith, h, length-map entries (λ y. whole y.0))) (symbol-here i s x h is se) le we
+
+  -- no two symbols of the rows are equal where no two of the entries are
+  pub paired-symbols_differ : (eq : Symbol → Symbol → Bool) → IsDistinct eq (map (λ x. x.1) entries)
+      → IsDistinct eq (symbols_of (rows_paired whole precision entries))
+  paired-symbols_differ eq d =
+      let same = symbols-many bits precision (map (λ x. x.1) entries) (map (λ x. whole x.0) entries) t
+      (paired-long whole bits precision entries t) in
+      rw (symbols-rows_from 0 (map (λ x. x.1) entries) (weights_of precision (map (λ x. whole x.0) entries)) same) d
+
+  -- what is known of an entry's row
+  pub paired-row : (i : ℕ) → i < length entries
+      → IsRowAt bits precision (map (λ x. whole x.0) entries) i (get_or (weights_of precision (map (λ x. whole x.0) entries)) i 0)
+  paired-row i h = stored-row bits precision (map (λ x. whole x.0) entries) i t (omega (arith, h, length-map entries (λ x. whole x.0)))
+
+  -- walks through the rows
+  pub paired-all : rows_between 0 (length entries) (rows_paired whole precision entries) ≡ rows_paired whole precision entries
+  paired-all = all-between (rows_paired whole precision entries) (length entries) (sym paired-many)
+
+  pub paired-left : (i j : ℕ) → j ≤ length entries → length (rows_between i j (rows_paired whole precision entries)) ≡ j - i
+  paired-left i j h = length-between (rows_paired whole precision entries) i j (omega (arith, paired-many))
+
+  pub paired-first : (i j l w : ℕ) (x : Word × Symbol) → i < j → j ≤ length entries → x ≡ get_or entries i x
+      → l ≡ get_or (map (λ x. whole x.0) entries) i 0 → w ≡ get_or (weights_of precision (map (λ x. whole x.0) entries)) i 0
+      → rows_between i j (rows_paired whole precision entries)
+      ≡ record { symbol = x.1; left = l; weight = w } ∷ rows_between (i + 1) j (rows_paired whole precision entries)
+  paired-first i j l w x h k is le we =
+      first-between (rows_paired whole precision entries) i j _ h (omega (arith, paired-many))
+      (paired-at i l w x.1 x (omega arith) is refl le we)
+
+  pub paired-last : (i j l w : ℕ) (x : Word × Symbol) → i < j → j ≤ length entries → x ≡ get_or entries (j - 1) x
+      → l ≡ get_or (map (λ x. whole x.0) entries) (j - 1) 0
+      → w ≡ get_or (weights_of precision (map (λ x. whole x.0) entries)) (j - 1) 0
+      → rows_between i j (rows_paired whole precision entries)
+      ≡ rows_between i (j - 1) (rows_paired whole precision entries) ++ record { symbol = x.1; left = l; weight = w } ∷ []
+  paired-last i j l w x h k is le we =
+      last-between (rows_paired whole precision entries) i j _ h (omega (arith, paired-many))
+      (paired-at (j - 1) l w x.1 x (omega arith) is refl le we)
+
+-- entries that hold rows which tile
+pub paired-of_rows : {Symbol Word : Type 0} (whole : Word → ℕ) (bits precision : ℕ) (rows : List (Row Symbol))
+    (entries : List (Word × Symbol)) → RowsTile bits precision rows → HoldsRows whole entries rows
+    → IsStored bits precision (map (λ x. whole x.0) entries) × (rows_paired whole precision entries ≡ rows)
+paired-of_rows whole bits precision rows entries t h =
+    let table = stored-of_rows bits precision rows t in
+    (rw h.1 table.0, rw (h.0, h.1) table.1)
+
+-- one row more is held by one entry more
+pub held-more : {Word Symbol : Type 0} (whole : Word → ℕ) (entries : List (Word × Symbol)) (rows : List (Row Symbol)) (r : Row Symbol) (left : Word)
+    → HoldsRows whole entries rows → whole left ≡ r.left → HoldsRows whole (entries ++ (left, r.symbol) ∷ []) (rows ++ r ∷ [])
+held-more whole entries rows r left h e = (
+  map-append (λ x. x.1) entries ((left, r.symbol) ∷ []) ∙ ap (λ ss. ss ++ r.symbol ∷ []) h.0 ∙ sym (map-append (λ x. x.symbol) rows (r ∷ [])),
+  map-append (λ x. whole x.0) entries ((left, r.symbol) ∷ []) ∙ ap (λ ns. ns ++ whole left ∷ []) h.1
+      ∙ ap (λ n. map (λ x. x.left) rows ++ n ∷ []) e ∙ sym (map-append (λ x. x.left) rows (r ∷ [])),
+)
+
+-- the rows of accepted symbols and weights
+module _ {Symbol : Type 0} (eq : Symbol → Symbol → Bool) (bits precision : ℕ) (ss : List Symbol) (ws : List ℕ)
+    (a : AreAccepted eq bits precision ss ws) where
+  pub accepted-tile : RowsTile bits precision (rows_of ss ws)
+  accepted-tile =
+      let weights = weights-rows_from 0 ss ws a.as_many in
+      let symbols = symbols-rows_from 0 ss ws a.as_many in
+      record { accepted = rw weights a.tile; in_order = rw (weights, symbols) refl }
+
+  pub accepted-symbols : symbols_of (rows_of ss ws) ≡ ss
+  accepted-symbols = symbols-rows_from 0 ss ws a.as_many
+
+  pub paired-distinct : {Word : Type 0} (whole : Word → ℕ) (entries : List (Word × Symbol)) → HoldsRows whole entries (rows_of ss ws)
+      → IsDistinct eq (map (λ x. x.1) entries)
+  paired-distinct whole entries h = rw (h.0, accepted-symbols) a.distinct
+
+-- clones of entries
+module _ {Symbol Word : Type 0} (whole : Word → ℕ) (IsClone : Symbol → Symbol → Type 0) where
+  pub cloned-words : (entries cloned : List (Word × Symbol)) → AreEntriesCloned IsClone entries cloned
+      → map (λ x. whole x.0) cloned ≡ map (λ x. whole x.0) entries
+  cloned-words [] [] h = refl
+  cloned-words [] (c ∷ cs) h = absurd h
+  cloned-words (e ∷ es) [] h = absurd h
+  cloned-words (e ∷ es) (c ∷ cs) h =
+      ap (λ w. whole w ∷ map (λ x. whole x.0) cs) h.0.1 ∙ ap (λ ns. whole e.0 ∷ ns) (cloned-words es cs h.1)
+
+  pub cloned-symbols : (entries cloned : List (Word × Symbol)) → AreEntriesCloned IsClone entries cloned
+      → AllZip (λ t s. IsClone s t) (map (λ x. x.1) cloned) (map (λ x. x.1) entries)
+  cloned-symbols [] [] h = tt
+  cloned-symbols [] (c ∷ cs) h = h
+  cloned-symbols (e ∷ es) [] h = h
+  cloned-symbols (e ∷ es) (c ∷ cs) h = (h.0.0, cloned-symbols es cs h.1)
+
+  cloned-from : (l : ℕ) (ts ss : List Symbol) (ws : List ℕ) → AllZip (λ t s. IsClone s t) ts ss
+      → StandForRows IsClone (rows_from l ts ws) (rows_from l ss ws)
+  cloned-from l [] [] ws h = tt
+  cloned-from l [] (s ∷ ss) ws h = absurd h
+  cloned-from l (t ∷ ts) [] ws h = absurd h
+  cloned-from l (t ∷ ts) (s ∷ ss) [] h = tt
+  cloned-from l (t ∷ ts) (s ∷ ss) (w ∷ ws) h = ((h.0, refl, refl), cloned-from (l + w) ts ss ws h.1)
+
+  pub cloned-rows : (precision : ℕ) (entries cloned : List (Word × Symbol)) → AreEntriesCloned IsClone entries cloned
+      → StandForRows IsClone (rows_paired whole precision cloned) (rows_paired whole precision entries)
+  cloned-rows precision entries cloned h =
+      subst (λ (ls : List ℕ). StandForRows IsClone (rows_of (map (λ x. x.1) cloned) (weights_of precision ls)) (rows_paired whole precision entries))
+      (sym (cloned-words entries cloned h))
+      (cloned-from 0 (map (λ x. x.1) cloned) (map (λ x. x.1) entries) (weights_of precision (map (λ x. whole x.0) entries))
+      (cloned-symbols entries cloned h))
+
+-- entries that were lent: their rows are stored, all of them are left at first, and there are so many
+pub paired-lent : {Symbol Word : Type 0} (whole : Word → ℕ) (bits precision : ℕ) (entries lent : List (Word × Symbol))
+    → IsStored bits precision (map (λ x. whole x.0) entries) → lent ≡ entries
+    → IsStored bits precision (map (λ x. whole x.0) lent)
+    × (rows_between 0 (length lent) (rows_paired whole precision lent) ≡ rows_paired whole precision entries)
+    × (0 ≤ length lent) × (length lent ≤ length lent)
+paired-lent whole bits precision entries lent t e =
+    rw e (t, paired-all whole bits precision entries t, omega arith, omega arith)
+
+-- the answer for the row at an index is for that of the quantile, and so is a refusal
+module _ {Symbol A E : Type 0} {rows : List (Row Symbol)} {q i : ℕ} (r : Result A E) (found : IsRowIndexOf rows q i) where
+  pub found-row : (Own : A → Symbol → Type 0) (row : A → Symbol → Row Symbol)
+      → IfOk r (λ x. (own : Symbol) × Own x own × (get_or rows i (row x own) ≡ row x own))
+      → IfOk r (λ x. (own : Symbol) × Own x own × IsRowOf rows q (row x own))
+  found-row Own row h = if-ok r h
+    where
+      if-ok : (o : Result A E) → IfOk o (λ x. (own : Symbol) × Own x own × (get_or rows i (row x own) ≡ row x own))
+          → IfOk o (λ x. (own : Symbol) × Own x own × IsRowOf rows q (row x own))
+      if-ok (Ok x) k = (k.0, k.1, subst (λ (t : Row Symbol). IsRowOf rows q t) k.2 (found.row (row x k.0)))
+      if-ok (Err e) k = tt
+
+  pub found-refused : (MayRefuse : Symbol → Type 0)
+      → IfErr r (λ _. (t : Row Symbol) × (get_or rows i t ≡ t) × MayRefuse t.symbol)
+      → IfErr r (λ _. RowMayBeRefused MayRefuse rows q)
+  found-refused MayRefuse h = if-err r h
+    where
+      if-err : (o : Result A E) → IfErr o (λ _. (t : Row Symbol) × (get_or rows i t ≡ t) × MayRefuse t.symbol)
+          → IfErr o (λ _. RowMayBeRefused MayRefuse rows q)
+      if-err (Ok x) k = tt
+      if-err (Err e) k = (k.0, subst (λ (t : Row Symbol). IsRowOf rows q t) k.1 (found.row k.0), k.2)

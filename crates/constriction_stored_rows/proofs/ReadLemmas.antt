@@ -1,0 +1,355 @@
+-- Reading rows from symbols and weights.
+use Rattle.std.specs.Prelude.{◌≡◌, ℕ, ◌+◌, ◌-◌, ◌%◌, ◌^◌, ◌<◌, ◌≤◌, ◌||◌, Bool, true, false, List, [], ◌∷◌, ◌++◌, length, map, sum, Option, Some, None}
+use Rattle.std.proofs.Common.{refl, ap, sym, ◌∙◌, arith, subst, inl, inr, rules, tests}
+use Rattle.std.specs.Iterator.{Yields}
+use Rattle.std.specs.List.{list_any, AllByRecursion, IsDistinct}
+use Rattle.std.proofs.Math.Nat.{mod-eq_of_lt}
+use Rattle.std.proofs.lemmas.List.{length-map, length-append, length_push, map-append, append_assoc}
+use Rattle.std.proofs.lemmas.List.Sums.{sum_by-cons}
+use Rattle.std.proofs.lemmas.Bool.{cases_Bool}
+use Rattle.std.proofs.lemmas.Map.Keys.{IsDistinct-head, IsDistinct-tail, IsDistinct-cons}
+use Rattle.constriction_model.specs.Acceptance.{IsAccepted, AreAccepted, completed, GaveBothGood, GaveBothBad, ToItsEnd, SoFar}
+use Rattle.constriction_stored_rows.specs.Filling.{IsFilled, IsRowEnd}
+use Rattle.constriction_model.specs.RowLemmas.{symbols-rows_from}
+use Rattle.constriction_model.specs.Rows.{Row, rows_from, rows_of, symbols_of}
+use Rattle.constriction_stored_rows.proofs.FillLemmas.{filled-none, filled-more, good-given, good-inferred, bad-wide, bad-after, yields-more}
+
+-- ---- lists with two equal symbols
+
+holds-mid : {K : Type 0} (P : K → Type 0) (xs ys : List K) (y : K) → AllByRecursion P (xs ++ y ∷ ys) → P y
+holds-mid P [] ys y a = a.0
+holds-mid P (x ∷ xs) ys y a = holds-mid P xs ys y a.1
+
+-- a list in which a symbol is equal to one before it
+pub not-distinct : {K : Type 0} (eq : K → K → Bool) → ((x y : K) → eq x y ≡ eq y x) → (xs ys : List K) (y : K)
+    → list_any (eq y) xs ≡ true → ¬ (IsDistinct eq (xs ++ y ∷ ys))
+not-distinct eq symm [] ys y e d = search (rules, tests)
+not-distinct eq symm (x ∷ xs) ys y e d =
+    let apart : eq y x ≡ false = symm y x ∙ holds-mid (λ w. eq x w ≡ false) xs ys y (IsDistinct-head eq x (xs ++ y ∷ ys) d) in
+    let rest : list_any (eq y) xs ≡ true = ap (λ b. b || list_any (eq y) xs) (sym apart) ∙ e in
+    not-distinct eq symm xs ys y rest (IsDistinct-tail eq x (xs ++ y ∷ ys) d)
+
+pub none-distinct : {K : Type 0} (eq : K → K → Bool) → IsDistinct eq []
+unfolding IsDistinct
+none-distinct eq = tt
+
+-- ---- a list with one symbol more, which is equal to none before it
+
+all-push : {K : Type 0} (P : K → Type 0) (xs : List K) (y : K) → AllByRecursion P xs → P y → AllByRecursion P (xs ++ y ∷ [])
+all-push P [] y a p = (p, tt)
+all-push P (x ∷ xs) y a p = (a.0, all-push P xs y a.1 p)
+
+pub distinct-push : {K : Type 0} (eq : K → K → Bool) → ((x y : K) → eq x y ≡ eq y x) → (xs : List K) (y : K) → IsDistinct eq xs
+    → list_any (eq y) xs ≡ false → IsDistinct eq (xs ++ y ∷ [])
+distinct-push eq symm [] y d absent = IsDistinct-cons eq y [] tt (none-distinct eq)
+distinct-push eq symm (x ∷ xs) y d absent = elim (cases_Bool (eq y x)) [
+  | inl same ↦
+      let bad : true ≡ false = ap (λ b. b || list_any (eq y) xs) (sym same) ∙ absent in
+      cc
+  | inr apart ↦
+      let rest : list_any (eq y) xs ≡ false = ap (λ b. b || list_any (eq y) xs) (sym apart) ∙ absent in
+      IsDistinct-cons eq x (xs ++ y ∷ []) (all-push (λ w. eq x w ≡ false) xs y (IsDistinct-head eq x xs d) (symm x y ∙ apart))
+      (distinct-push eq symm xs y (IsDistinct-tail eq x xs d) rest)
+]
+
+-- where symbols are not compared, none is equal to another
+pub never-any : {K : Type 0} (xs : List K) → list_any (λ _. false) xs ≡ false
+never-any [] = refl
+never-any (x ∷ xs) = never-any xs
+
+-- ---- one row more
+
+pub rows_from-push : {S : Type 0} (l : ℕ) (ss : List S) (ws : List ℕ) (s : S) (w : ℕ) → length ss ≡ length ws
+    → rows_from l (ss ++ s ∷ []) (ws ++ w ∷ []) ≡ rows_from l ss ws ++ record { symbol = s; left = l + sum ws; weight = w } ∷ []
+rows_from-push l [] [] s w e = ap (λ n. record { symbol = s; left = n; weight = w } ∷ []) (let is : l ≡ l + 0 = omega arith in is)
+rows_from-push l [] (v ∷ ws) s w e = absurd (omega arith)
+rows_from-push l (t ∷ ss) [] s w e = absurd (omega arith)
+rows_from-push l (t ∷ ss) (v ∷ ws) s w e =
+    let more : l + v + sum ws ≡ l + sum (v ∷ ws) = omega (arith, sum_by-cons (λ x. x) v ws) in
+    ap (λ rs. record { symbol = t; left = l; weight = v } ∷ rs)
+    (rows_from-push (l + v) ss ws s w (omega arith)
+    ∙ ap (λ n. rows_from (l + v) ss ws ++ record { symbol = s; left = n; weight = w } ∷ []) more)
+
+-- a row that leaves some of the quantiles has some, and its end is a word
+pub row-fits : (bits precision left w room last : ℕ) → left + room + 1 ≡ 2 ^ precision → 2 ^ precision ≤ 2 ^ bits
+    → (last + 1) % 2 ^ bits ≡ w → last < room → (0 < w) × (left + w < 2 ^ bits)
+row-fits bits precision left w room last all narrow wrapped less =
+    let one : (last + 1) % 2 ^ bits ≡ last + 1 = mod-eq_of_lt (omega arith) in
+    (omega arith, omega arith)
+
+-- as many weights as symbols, or one more where it is inferred
+pub length-completed : (precision : ℕ) (infer : Bool) (ws : List ℕ) → length ws ≤ length (completed precision infer ws)
+length-completed precision false ws = omega arith
+length-completed precision true ws = omega (arith, length_push ws (2 ^ precision - sum ws))
+
+module _ {S T Symbol W Stored : Type 0} (steps : S → Option Symbol → S → Type 0) (it : S) (wsteps : T → Option W → T → Type 0) (jt : T)
+    (eq : Symbol → Symbol → Bool) (symm : (s t : Symbol) → eq s t ≡ eq t s) (holds : Stored → List (Row Symbol) → Type 0) (whole : W → ℕ)
+    (bits precision : ℕ) where
+  -- what was read and stored so far: the rows of as many symbols as weights, which leave `room` quantiles after the one at `left`
+  pub record IsRead (stored : Stored) (u : S) (v : T) (left : W) (room : ℕ) : Type 0 where
+    pub symbols : List Symbol
+    pub weights : List W
+    pub table : List W
+    pub from_symbols : Yields steps it symbols u
+    pub from_weights : Yields wsteps jt weights v
+    pub as_many : length symbols ≡ length weights
+    pub distinct : IsDistinct eq symbols
+    pub held : holds stored (rows_of symbols (map whole weights))
+    pub filled : IsFilled whole bits precision weights table (Some left)
+    pub rest : whole left + room + 1 ≡ 2 ^ precision
+
+  pub read-none : (stored : Stored) (left : W) (room : ℕ) → holds stored [] → whole left ≡ 0 → room + 1 ≡ 2 ^ precision
+      → IsRead stored it jt left room
+  read-none stored left room h z r = record {
+    symbols = [];
+    weights = [];
+    table = [];
+    from_symbols = refl;
+    from_weights = refl;
+    as_many = refl;
+    distinct = none-distinct eq;
+    held = h;
+    filled = filled-none whole bits precision left z (omega arith);
+    rest = omega arith;
+  }
+
+  module _ (stored : Stored) (u : S) (v : T) (left : W) (room : ℕ) (r : IsRead stored u v left room) where
+    -- the symbols of the rows are those that were read
+    pub read-symbols : symbols_of (rows_of r.symbols (map whole r.weights)) ≡ r.symbols
+    read-symbols = symbols-rows_from 0 r.symbols (map whole r.weights) (r.as_many ∙ sym (length-map r.weights whole))
+
+    apart-read : (s : Symbol) (b : Bool) → list_any (eq s) (symbols_of (rows_of r.symbols (map whole r.weights))) ≡ b
+        → list_any (eq s) r.symbols ≡ b
+    apart-read s b h = ap (list_any (eq s)) (sym read-symbols) ∙ h
+
+    -- one row more
+    pub rows-push : (s : Symbol) (w n : ℕ) → n ≡ whole left
+        → rows_of r.symbols (map whole r.weights) ++ record { symbol = s; left = n; weight = w } ∷ []
+        ≡ rows_of (r.symbols ++ s ∷ []) (map whole r.weights ++ w ∷ [])
+    rows-push s w n e =
+        let is : n ≡ 0 + sum (map whole r.weights) = e ∙ omega (arith, r.filled.is) in
+        ap (λ l. rows_of r.symbols (map whole r.weights) ++ record { symbol = s; left = l; weight = w } ∷ []) is
+        ∙ sym (rows_from-push 0 r.symbols (map whole r.weights) s w (r.as_many ∙ sym (length-map r.weights whole)))
+
+    pub read-more : (stored' : Stored) (u' : S) (v' : T) (s : Symbol) (w next : W) (room' : ℕ) → wsteps v (Some w) v' → steps u (Some s) u'
+        → holds stored' (rows_of r.symbols (map whole r.weights) ++ record { symbol = s; left = whole left; weight = whole w } ∷ [])
+        → list_any (eq s) (symbols_of (rows_of r.symbols (map whole r.weights))) ≡ false
+        → IsRowEnd whole bits precision left w (Some next) → whole next + room' + 1 ≡ 2 ^ precision
+        → IsRead stored' u' v' next room'
+    read-more stored' u' v' s w next room' sw ss h apart end rest = record {
+      symbols = r.symbols ++ s ∷ [];
+      weights = r.weights ++ w ∷ [];
+      table = r.table ++ left ∷ [];
+      from_symbols = yields-more steps it r.symbols u s u' r.from_symbols ss;
+      from_weights = yields-more wsteps jt r.weights v w v' r.from_weights sw;
+      as_many = omega (arith, r.as_many, length_push r.symbols s, length_push r.weights w);
+      distinct = distinct-push eq symm r.symbols s r.distinct (apart-read s false apart);
+      held = subst (holds stored')
+          (rows-push s (whole w) (whole left) refl ∙ ap (rows_of (r.symbols ++ s ∷ [])) (sym (map-append whole r.weights (w ∷ [])))) h;
+      filled = filled-more whole bits precision r.weights r.table left w (Some next) r.filled end;
+      rest = rest;
+    }
+
+    module _ (infer : Bool) where
+      abbrev pub Bad : Type 0
+      Bad = GaveBothBad steps it wsteps jt (λ ss ws. AreAccepted eq bits precision ss (completed precision infer (map whole ws)))
+
+      -- a weight after which nothing is accepted, whatever follows
+      pub bad-weight : (v' : T) (w : W) → wsteps v (Some w) v'
+          → ((more : List W) → ¬ (IsAccepted bits precision (completed precision infer (map whole ((r.weights ++ w ∷ []) ++ more))))) → Bad
+      bad-weight v' w sw never = (
+        r.symbols,
+        r.weights ++ w ∷ [],
+        SoFar,
+        SoFar,
+        (u, r.from_symbols),
+        (v', yields-more wsteps jt r.weights v w v' r.from_weights sw),
+        λ all others a b good. never b.0 (subst (λ xs. IsAccepted bits precision (completed precision infer (map whole xs))) b.1 good.tile),
+      )
+
+      -- no symbol for a weight
+      pub bad-few : (u' : S) (v' : T) (w : W) → wsteps v (Some w) v' → steps u None u' → Bad
+      bad-few u' v' w sw ss = (
+        r.symbols,
+        r.weights ++ w ∷ [],
+        ToItsEnd,
+        SoFar,
+        (u', (u, r.from_symbols, ss)),
+        (v', yields-more wsteps jt r.weights v w v' r.from_weights sw),
+        λ all others a b good.
+            let long : length (map whole others) ≡ length r.weights + 1 + length b.0 =
+            length-map others whole ∙ ap length b.1 ∙ length-append (r.weights ++ w ∷ []) b.0
+            ∙ ap (λ n. n + length b.0) (length_push r.weights w) in
+            let few : length all ≡ length r.weights = ap length a ∙ r.as_many in
+            omega (arith, long, few, good.as_many, length-completed precision infer (map whole others)),
+      )
+
+      -- a symbol that is equal to one before it
+      pub bad-repeat : (u' : S) (v' : T) (w : W) (s : Symbol) → wsteps v (Some w) v' → steps u (Some s) u'
+          → list_any (eq s) (symbols_of (rows_of r.symbols (map whole r.weights))) ≡ true → Bad
+      bad-repeat u' v' w s sw ss found = (
+        r.symbols ++ s ∷ [],
+        r.weights ++ w ∷ [],
+        SoFar,
+        SoFar,
+        (u', yields-more steps it r.symbols u s u' r.from_symbols ss),
+        (v', yields-more wsteps jt r.weights v w v' r.from_weights sw),
+        λ all others a b good.
+            let is : all ≡ r.symbols ++ s ∷ a.0 = a.1 ∙ append_assoc r.symbols (s ∷ []) a.0 in
+            not-distinct eq symm r.symbols a.0 s (apart-read s true found) (subst (IsDistinct eq) is good.distinct),
+      )
+
+      pub bad-repeat_last : (u' : S) (v' : T) (s : Symbol) → wsteps v None v' → steps u (Some s) u'
+          → list_any (eq s) (symbols_of (rows_of r.symbols (map whole r.weights))) ≡ true → Bad
+      bad-repeat_last u' v' s sw ss found = (
+        r.symbols ++ s ∷ [],
+        r.weights,
+        SoFar,
+        ToItsEnd,
+        (u', yields-more steps it r.symbols u s u' r.from_symbols ss),
+        (v', (v, r.from_weights, sw)),
+        λ all others a b good.
+            let is : all ≡ r.symbols ++ s ∷ a.0 = a.1 ∙ append_assoc r.symbols (s ∷ []) a.0 in
+            not-distinct eq symm r.symbols a.0 s (apart-read s true found) (subst (IsDistinct eq) is good.distinct),
+      )
+
+      -- one weight more than fills the quantiles
+      pub bad-weight_after : (v' v'' : T) (w w' : W) → wsteps v (Some w) v' → wsteps v' (Some w') v''
+          → 2 ^ precision ≤ sum (map whole (r.weights ++ w ∷ [])) → Bad
+      bad-weight_after v' v'' w w' sw sw' much = (
+        r.symbols,
+        (r.weights ++ w ∷ []) ++ w' ∷ [],
+        SoFar,
+        SoFar,
+        (u, r.from_symbols),
+        (v'', yields-more wsteps jt (r.weights ++ w ∷ []) v' w' v'' (yields-more wsteps jt r.weights v w v' r.from_weights sw) sw'),
+        λ all others a b good. bad-after whole bits precision infer (r.weights ++ w ∷ []) b.0 w' much
+            (subst (λ xs. IsAccepted bits precision (completed precision infer (map whole xs))) b.1 good.tile),
+      )
+
+      -- weights that are not accepted, after their end
+      pub bad-weights : (v' : T) → wsteps v None v' → ¬ (IsAccepted bits precision (completed precision infer (map whole r.weights))) → Bad
+      bad-weights v' sw never = (
+        r.symbols,
+        r.weights,
+        SoFar,
+        ToItsEnd,
+        (u, r.from_symbols),
+        (v', (v, r.from_weights, sw)),
+        λ all others a b good. never (subst (λ xs. IsAccepted bits precision (completed precision infer (map whole xs))) b good.tile),
+      )
+
+    -- weights that leave something, where none is inferred
+    pub bad-left_over : (v' : T) → wsteps v None v' → Bad false
+    bad-left_over v' sw = bad-weights false v' sw (λ a. omega (arith, a.tiles.total, r.filled.is, r.rest))
+
+    -- one symbol more than weights
+    pub bad-many : (u' u'' : S) (v' v'' : T) (w : W) (s s' : Symbol) → wsteps v (Some w) v' → wsteps v' None v'' → steps u (Some s) u'
+        → steps u' (Some s') u'' → Bad false
+    bad-many u' u'' v' v'' w s s' sw sw' ss ss' = (
+      (r.symbols ++ s ∷ []) ++ s' ∷ [],
+      r.weights ++ w ∷ [],
+      SoFar,
+      ToItsEnd,
+      (u'', yields-more steps it (r.symbols ++ s ∷ []) u' s' u'' (yields-more steps it r.symbols u s u' r.from_symbols ss) ss'),
+      (v'', (v', yields-more wsteps jt r.weights v w v' r.from_weights sw, sw')),
+      λ all others a b good.
+          let long : length all ≡ length r.symbols + 1 + 1 + length a.0 =
+          ap length a.1 ∙ length-append ((r.symbols ++ s ∷ []) ++ s' ∷ []) a.0
+          ∙ ap (λ n. n + length a.0) (length_push (r.symbols ++ s ∷ []) s' ∙ ap (λ n. n + 1) (length_push r.symbols s)) in
+          let few : length (map whole others) ≡ length r.weights + 1 = length-map others whole ∙ ap length b ∙ length_push r.weights w in
+          omega (arith, long, few, good.as_many, r.as_many),
+    )
+
+    -- the same where the last weight is inferred: no symbol for it, and one more
+    pub bad-few_last : (u' : S) (v' : T) → wsteps v None v' → steps u None u' → Bad true
+    bad-few_last u' v' sw ss = (
+      r.symbols,
+      r.weights,
+      ToItsEnd,
+      ToItsEnd,
+      (u', (u, r.from_symbols, ss)),
+      (v', (v, r.from_weights, sw)),
+      λ all others a b good.
+          let more : length (completed precision true (map whole others)) ≡ length r.weights + 1 =
+          length_push (map whole others) (2 ^ precision - sum (map whole others))
+          ∙ ap (λ n. n + 1) (length-map others whole ∙ ap length b) in
+          let few : length all ≡ length r.weights = ap length a ∙ r.as_many in
+          omega (arith, more, few, good.as_many),
+    )
+
+    pub bad-many_last : (u' u'' : S) (v' : T) (s s' : Symbol) → wsteps v None v' → steps u (Some s) u' → steps u' (Some s') u'' → Bad true
+    bad-many_last u' u'' v' s s' sw ss ss' = (
+      (r.symbols ++ s ∷ []) ++ s' ∷ [],
+      r.weights,
+      SoFar,
+      ToItsEnd,
+      (u'', yields-more steps it (r.symbols ++ s ∷ []) u' s' u'' (yields-more steps it r.symbols u s u' r.from_symbols ss) ss'),
+      (v', (v, r.from_weights, sw)),
+      λ all others a b good.
+          let more : length (completed precision true (map whole others)) ≡ length r.weights + 1 =
+          length_push (map whole others) (2 ^ precision - sum (map whole others))
+          ∙ ap (λ n. n + 1) (length-map others whole ∙ ap length b) in
+          let long : length all ≡ length r.symbols + 1 + 1 + length a.0 =
+          ap length a.1 ∙ length-append ((r.symbols ++ s ∷ []) ++ s' ∷ []) a.0
+          ∙ ap (λ n. n + length a.0) (length_push (r.symbols ++ s ∷ []) s' ∙ ap (λ n. n + 1) (length_push r.symbols s)) in
+          omega (arith, more, long, good.as_many, r.as_many),
+    )
+
+    -- the last row, of a given weight or of the inferred one
+    pub good-last : (stored' : Stored) (u' u'' : S) (v' v'' : T) (s : Symbol) (w : W) → wsteps v (Some w) v' → wsteps v' None v''
+        → steps u (Some s) u' → steps u' None u''
+        → holds stored' (rows_of r.symbols (map whole r.weights) ++ record { symbol = s; left = whole left; weight = whole w } ∷ [])
+        → list_any (eq s) (symbols_of (rows_of r.symbols (map whole r.weights))) ≡ false
+        → IsRowEnd whole bits precision left w None
+        → GaveBothGood steps it wsteps jt (λ ss ws. AreAccepted eq bits precision ss (completed precision false (map whole ws))
+        × holds stored' (rows_of ss (completed precision false (map whole ws))))
+    good-last stored' u' u'' v' v'' s w sw sw' ss ss' h apart end = (
+      r.symbols ++ s ∷ [],
+      r.weights ++ w ∷ [],
+      (u'', (u', yields-more steps it r.symbols u s u' r.from_symbols ss, ss')),
+      (v'', (v', yields-more wsteps jt r.weights v w v' r.from_weights sw, sw')),
+      (
+        record {
+          tile = (good-given whole bits precision (r.weights ++ w ∷ []) (r.table ++ left ∷ [])
+              (filled-more whole bits precision r.weights r.table left w None r.filled end)).0;
+          as_many =
+              length_push r.symbols s ∙ ap (λ n. n + 1) r.as_many ∙ sym (length_push r.weights w) ∙ sym
+              (length-map (r.weights ++ w ∷ []) whole);
+          distinct = distinct-push eq symm r.symbols s r.distinct (apart-read s false apart);
+        },
+        subst (holds stored')
+            (rows-push s (whole w) (whole left) refl ∙ ap (rows_of (r.symbols ++ s ∷ [])) (sym (map-append whole r.weights (w ∷ [])))) h,
+      ),
+    )
+
+    pub good-inferred_last : (stored' : Stored) (u' u'' : S) (v' : T) (s : Symbol) (w : W) → wsteps v None v'
+        → steps u (Some s) u' → steps u' None u''
+        → holds stored' (rows_of r.symbols (map whole r.weights) ++ record { symbol = s; left = whole left; weight = whole w } ∷ [])
+        → list_any (eq s) (symbols_of (rows_of r.symbols (map whole r.weights))) ≡ false
+        → whole w ≡ room + 1 → 2 ^ precision < 2 ^ bits + whole left
+        → GaveBothGood steps it wsteps jt (λ ss ws. AreAccepted eq bits precision ss (completed precision true (map whole ws))
+        × holds stored' (rows_of ss (completed precision true (map whole ws))))
+    good-inferred_last stored' u' u'' v' s w sw ss ss' h apart last narrow =
+        let is : whole w ≡ 2 ^ precision - sum (map whole r.weights) = omega (arith, last, r.rest, r.filled.is) in (
+          r.symbols ++ s ∷ [],
+          r.weights,
+          (u'', (u', yields-more steps it r.symbols u s u' r.from_symbols ss, ss')),
+          (v', (v, r.from_weights, sw)),
+          (
+            record {
+              tile = (good-inferred whole bits precision r.weights r.table left r.filled narrow).0;
+              as_many =
+                  length_push r.symbols s ∙ ap (λ n. n + 1) (r.as_many ∙ sym (length-map r.weights whole))
+                  ∙ sym (length_push (map whole r.weights) (2 ^ precision - sum (map whole r.weights)));
+              distinct = distinct-push eq symm r.symbols s r.distinct (apart-read s false apart);
+            },
+            subst (holds stored')
+                (rows-push s (whole w) (whole left) refl ∙ ap (λ n. rows_of (r.symbols ++ s ∷ []) (map whole r.weights ++ n ∷ [])) is) h,
+          ),
+        )
+
+    -- an inferred weight that is no word
+    pub bad-wide_last : (v' : T) → wsteps v None v' → room + 1 ≡ 2 ^ bits → Bad true
+    bad-wide_last v' sw wide =
+        bad-weights true v' sw (bad-wide whole bits precision r.weights r.table left r.filled (omega (arith, r.rest)))

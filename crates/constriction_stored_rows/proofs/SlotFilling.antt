@@ -1,0 +1,266 @@
+-- Filling the table of slots.
+use Rattle.std.proofs.Common.{◌≡◌, ◌↔◌, ℕ, ◌+◌, ◌-◌, ◌*◌, ◌/◌, ◌^◌, ◌<◌, ◌≤◌, ◌⊎◌, suc, zero, min, List, ◌∷◌, ◌++◌, length, replicate, take, map, get_or, ap, sym, refl, ◌∙◌, arith, inl, inr, add-one}
+use Rattle.std.proofs.Math.Nat.{mul_comm, mul-le-mul_right, le-div_iff_mul-le}
+use Rattle.std.proofs.lemmas.Bool.{cases_lt}
+use Rattle.std.proofs.lemmas.Nat.{pow-add, pow_pos}
+use Rattle.std.proofs.lemmas.List.{length-map, length-append, length-replicate, map-append, get_or_append_left, get_or-append_right, get_or-replicate, take_all}
+use Rattle.std.specs.List.Sorted.{IsStrictlyIncreasing}
+use Rattle.constriction_model.specs.Probe.{IsLastAtMost}
+use Rattle.constriction_stored_rows.specs.Slots.{slot_width, slot_count}
+use Rattle.constriction_stored_rows.specs.SlotTable.{words_a_slot, HasWords, HasSlots, IsFirstWord}
+use Rattle.constriction_model.proofs.Halving.{later}
+
+-- slots
+slot-more : (j w : ℕ) → (j + 1) * w ≡ j * w + w
+slot-more j w = rw add-one (omega arith)
+
+slot-end : (j n w : ℕ) → j < n → j * w + w ≤ n * w
+slot-end j n w h =
+    let more : suc j * w ≤ n * w = mul-le-mul_right w (let g : suc j ≤ n = omega arith in g) in
+    omega arith
+
+-- all slots together hold the quantiles below 2 ^ precision
+slots-all : (precision slot_bits : ℕ) → slot_count precision slot_bits * slot_width precision slot_bits ≡ 2 ^ precision
+slots-all precision slot_bits =
+    let e : min precision slot_bits + (precision - slot_bits) ≡ precision = omega arith in
+    let split : 2 ^ (min precision slot_bits + (precision - slot_bits)) ≡ 2 ^ min precision slot_bits * 2 ^ (precision - slot_bits) = pow-add 2 (min precision slot_bits) (precision - slot_bits) in
+    rw (← split) (ap (λ n. 2 ^ n) e)
+
+pub slot-within : (precision slot_bits j : ℕ) → j < slot_count precision slot_bits → j * slot_width precision slot_bits + slot_width precision slot_bits ≤ 2 ^ precision
+slot-within precision slot_bits j h = rw (← slots-all precision slot_bits) (slot-end j (slot_count precision slot_bits) (slot_width precision slot_bits) h)
+
+-- the last slot ends there
+last-slot : (precision slot_bits : ℕ)
+    → (slot_count precision slot_bits - 1 + 1 ≡ slot_count precision slot_bits)
+    × ((slot_count precision slot_bits - 1) * slot_width precision slot_bits + slot_width precision slot_bits ≡ 2 ^ precision)
+last-slot precision slot_bits =
+    let some : 0 < slot_count precision slot_bits = pow_pos (min precision slot_bits) in
+    let one : slot_count precision slot_bits - 1 + 1 ≡ slot_count precision slot_bits = omega arith in
+    (one, sym (slot-more (slot_count precision slot_bits - 1) (slot_width precision slot_bits)) ∙ ap (λ k. k * slot_width precision slot_bits) one ∙ slots-all precision slot_bits)
+
+-- a slot has one word or two
+pub words-cases : (w : ℕ) → 0 < w → ((w ≡ 1) × (words_a_slot w ≡ 1)) ⊎ ((1 < w) × (words_a_slot w ≡ 2))
+words-cases w some = elim (cases_lt 1 w) [
+  | inl more ↦ inr (more, omega arith)
+  | inr one ↦ inl (omega arith, omega arith)
+]
+
+-- there are no more words than quantiles
+pub words-most : (precision slot_bits : ℕ)
+    → words_a_slot (slot_width precision slot_bits) * slot_count precision slot_bits ≤ 2 ^ precision
+words-most precision slot_bits =
+    let w : ℕ = slot_width precision slot_bits in
+    let n : ℕ = slot_count precision slot_bits in
+    let most : words_a_slot w * n ≤ w * n = mul-le-mul_right n (let g : words_a_slot w ≤ w = omega arith in g) in
+    rw (← slots-all precision slot_bits) (rw (mul_comm w n) at most)
+
+-- the last word of the last slot is the last one
+last-word : (u last count : ℕ) → 0 < u → last + 1 ≡ count → u * last + (u - 1) + 1 ≡ u * count
+last-word u last count some e =
+    let all : (last + 1) * u ≡ last * u + u = slot-more last u in
+    let left : u * last ≡ last * u = mul_comm u last in
+    let right : u * count ≡ (last + 1) * u = mul_comm u count ∙ ap (λ n. n * u) (sym e) in
+    omega (arith, all, left, right)
+
+-- a whole part, by its bounds
+pub whole-part : (w n j : ℕ) → 0 < w → (n / w ≤ j) ↔ (n < j * w + w)
+whole-part w n j some =
+    let more = slot-more j w in
+    let bound : (j + 1 ≤ n / w) ↔ ((j + 1) * w ≤ n) = le-div_iff_mul-le some in (
+      (λ h. elim (cases_lt n (j * w + w)) [
+        | inl less ↦ less
+        | inr not ↦ (let above : j + 1 ≤ n / w = bound.1 (omega (arith, more)) in absurd (omega arith))
+      ]),
+      (λ h. elim (cases_lt j (n / w)) [
+        | inl above ↦ (let most : (j + 1) * w ≤ n = bound.0 (omega arith) in absurd (omega (arith, more)))
+        | inr not ↦ not
+      ]),
+    )
+
+-- the first word for a left cumulative where a slot has two: the whole parts of two quotients by the width, one of them rounded up
+module _ (w left : ℕ) (some : 0 < w) where
+  up-least : left / w ≤ (left + (w - 1)) / w
+  up-least =
+      let up : left + (w - 1) < (left + (w - 1)) / w * w + w = (whole-part w (left + (w - 1)) ((left + (w - 1)) / w) some).0 (omega arith) in
+      (whole-part w left ((left + (w - 1)) / w) some).1 (omega arith)
+
+  pub up-most : (left + (w - 1)) / w ≤ left / w + 1
+  up-most =
+      let down : left < left / w * w + w = (whole-part w left (left / w) some).0 (omega arith) in
+      (whole-part w (left + (w - 1)) (left / w + 1) some).1 (omega (arith, slot-more (left / w) w))
+
+  pub first-word : words_a_slot w ≡ 2 → IsFirstWord w left (left / w + (left + (w - 1)) / w)
+  first-word two = record {
+    first = λ j.
+        let up = whole-part w (left + (w - 1)) j some in
+        rw two (
+          (λ h. let below = up.0 (omega (arith, up-most)) in omega arith),
+          (λ h. let below = up.1 (omega arith) in omega (arith, up-least)),
+        );
+    last = λ j.
+        let down = whole-part w left j some in
+        rw two (
+          (λ h. let below = down.0 (omega (arith, up-least)) in omega arith),
+          (λ h. let below = down.1 (omega arith) in omega (arith, up-most)),
+        );
+  }
+
+-- the same where it has one
+pub first-alone : (left : ℕ) → IsFirstWord 1 left left
+first-alone left = record {
+  first = λ j. ((λ h. omega arith), (λ h. omega arith));
+  last = λ j. ((λ h. omega arith), (λ h. omega arith));
+}
+
+-- every number is even or odd
+parity : (n : ℕ) → ((j : ℕ) × (n ≡ 2 * j)) ⊎ ((j : ℕ) × (n ≡ 2 * j + 1))
+parity zero = inl (0, refl)
+parity (suc n) = elim (parity n) [
+  | inl even ↦ inr (even.0, omega (arith, even.1))
+  | inr odd ↦ inl (odd.0 + 1, omega (arith, odd.1))
+]
+
+-- every word is the first or the last one of a slot
+word-cases : (w n : ℕ) → 0 < w
+    → ((j : ℕ) × (n ≡ words_a_slot w * j)) ⊎ ((j : ℕ) × (n ≡ words_a_slot w * j + (words_a_slot w - 1)))
+word-cases w n some = elim (words-cases w some) [
+  | inl one ↦ inl (n, rw one.1 (omega arith))
+  | inr two ↦ rw two.1 (parity n)
+]
+
+-- a greater left cumulative has no earlier first word
+word-order : (w a b x y : ℕ) → 0 < w → IsFirstWord w a x → IsFirstWord w b y → a ≤ b → x ≤ y
+word-order w a b x y some f g h = elim (word-cases w y some) [
+  | inl even ↦ (
+      let here : y ≤ words_a_slot w * even.0 = rw even.1 (omega arith) in
+      let at : b ≤ even.0 * w = (g.first even.0).0 here in
+      let from : x ≤ words_a_slot w * even.0 = (f.first even.0).1 (omega arith) in
+      rw even.1 from)
+  | inr odd ↦ (
+      let here : y ≤ words_a_slot w * odd.0 + (words_a_slot w - 1) = rw odd.1 (omega arith) in
+      let at : b ≤ odd.0 * w + (w - 1) = (g.last odd.0).0 here in
+      let from : x ≤ words_a_slot w * odd.0 + (words_a_slot w - 1) = (f.last odd.0).1 (omega arith) in
+      rw odd.1 from)
+]
+
+-- a list that increases is nowhere below its indices
+pub index-most : (xs : List ℕ) (i : ℕ) → IsStrictlyIncreasing xs → i < length xs → i ≤ get_or xs i 0
+index-most xs zero up h = omega arith
+index-most xs (suc i) up h =
+    let e : suc i ≡ i + 1 = omega arith in
+    rw e (omega (arith, index-most xs i up (omega arith), up i (omega arith)))
+
+-- the row at i holds q: the next one begins above it, or there is none
+last-before : (xs : List ℕ) (q i : ℕ) → IsStrictlyIncreasing xs → i < length xs → get_or xs i 0 ≤ q
+    → (i + 1 < length xs → q < get_or xs (i + 1) 0) → IsLastAtMost xs q i
+last-before xs q i up h low above = record {
+  in_bounds = h;
+  at_most = low;
+  last = λ j a b. elim (cases_lt (i + 1) j) [
+    | inl more ↦ omega (arith, later xs (i + 1) j up more b, above (omega arith))
+    | inr no_more ↦ (let is : i + 1 ≡ j = omega arith in rw (← is) (above (omega arith)))
+  ];
+}
+
+-- a row fills the words from its own first one to that of the next row
+module _ (w : ℕ) (lefts table : List ℕ) (row n : ℕ) (up : IsStrictlyIncreasing lefts) (in_bounds : row < length lefts) (t : HasWords w lefts table)
+    (from : IsFirstWord w (get_or lefts row 0) (length table))
+    (next : row + 1 < length lefts → (end : ℕ) × IsFirstWord w (get_or lefts (row + 1) 0) end × (length table + n ≤ end)) where
+  long : length (table ++ replicate n row) ≡ length table + n
+  long = length-append table (replicate n row) ∙ ap (λ k. length table + k) (length-replicate n row)
+
+  old-word : (i : ℕ) → i < length table → get_or (table ++ replicate n row) i 0 ≡ get_or table i 0
+  old-word i h = get_or_append_left table (replicate n row) 0 i h
+
+  new-word : (i : ℕ) → length table ≤ i → i < length (table ++ replicate n row) → get_or (table ++ replicate n row) i 0 ≡ row
+  new-word i h b =
+      get_or-append_right table (replicate n row) (length table) i 0 refl h ∙ get_or-replicate n (i - length table) row 0 (omega (arith, long))
+
+  words-more : HasWords w lefts (table ++ replicate n row)
+  words-more = record {
+    first = λ j b. elim (cases_lt (words_a_slot w * j) (length table)) [
+      | inl old ↦ rw (old-word (words_a_slot w * j) old) (t.first j old)
+      | inr new ↦ rw (new-word (words_a_slot w * j) new b) (last-before lefts (j * w) row up in_bounds ((from.first j).0 new) (λ h.
+          let x = next h in
+          elim (cases_lt (j * w) (get_or lefts (row + 1) 0)) [
+            | inl above ↦ above
+            | inr not ↦ (let most : x.0 ≤ words_a_slot w * j = (x.1.first j).1 not in absurd (omega (arith, x.2, long, b)))
+          ]))
+    ];
+    last = λ j b. elim (cases_lt (words_a_slot w * j + (words_a_slot w - 1)) (length table)) [
+      | inl old ↦ rw (old-word (words_a_slot w * j + (words_a_slot w - 1)) old) (t.last j old)
+      | inr new ↦ rw (new-word (words_a_slot w * j + (words_a_slot w - 1)) new b) (last-before lefts (j * w + (w - 1)) row up in_bounds ((from.last j).0 new) (λ h.
+          let x = next h in
+          elim (cases_lt (j * w + (w - 1)) (get_or lefts (row + 1) 0)) [
+            | inl above ↦ above
+            | inr not ↦ (let most : x.0 ≤ words_a_slot w * j + (words_a_slot w - 1) = (x.1.last j).1 not in absurd (omega (arith, x.2, long, b)))
+          ]))
+    ];
+  }
+
+map-replicate : {A B : Type 0} (f : A → B) (n : ℕ) (x : A) → map f (replicate n x) ≡ replicate n (f x)
+map-replicate f zero x = refl
+map-replicate f (suc n) x = ap (λ xs. f x ∷ xs) (map-replicate f n x)
+
+-- what `resize` leaves, as numbers
+resized : {W : Type 0} (whole : W → ℕ) (items new : List W) (n : ℕ) (row : W) → length items ≤ n
+    → new ≡ take n items ++ replicate (n - length items) row → map whole new ≡ map whole items ++ replicate (n - length items) (whole row)
+resized whole items new n row h is =
+    ap (map whole) (is ∙ ap (λ xs. xs ++ replicate (n - length items) row) (take_all n items h)) ∙ map-append whole items (replicate (n - length items) row) ∙
+    ap (λ xs. map whole items ++ xs) (map-replicate whole (n - length items) row)
+
+module _ {W : Type 0} (whole : W → ℕ) (w : ℕ) (some : 0 < w) (lefts : List ℕ) (items new : List W) (row : W) (n : ℕ) (up : IsStrictlyIncreasing lefts)
+    (t : HasWords w lefts (map whole items)) (from : IsFirstWord w (get_or lefts (whole row) 0) (length items)) (in_bounds : whole row < length lefts)
+    (count : ℕ) (counted : count ≡ length items) (new-is : new ≡ take n items ++ replicate (n - count) row) where
+  is : new ≡ take n items ++ replicate (n - length items) row
+  is = rw counted at new-is
+
+  same-long : length (map whole items) ≡ length items
+  same-long = length-map items whole
+
+  filled-long : length items ≤ n → length new ≡ n
+  filled-long order =
+      let long : length (map whole new) ≡ length (map whole items) + (n - length items) =
+      ap length (resized whole items new n row order is) ∙ length-append (map whole items) (replicate (n - length items) (whole row))
+      ∙ ap (λ k. length (map whole items) + k) (length-replicate (n - length items) (whole row)) in
+      omega (arith, long, same-long, length-map new whole)
+
+  filled-more : length items ≤ n
+      → (whole row + 1 < length lefts → (end : ℕ) × IsFirstWord w (get_or lefts (whole row + 1) 0) end × (length (map whole items) + (n - length items) ≤ end))
+      → HasWords w lefts (map whole new)
+  filled-more order next =
+      rw (resized whole items new n row order is)
+      (words-more w lefts (map whole items) (whole row) (n - length items) up in_bounds t (rw same-long from) next)
+
+  -- another row comes, whose first word is n
+  pub row-filled : (next : ℕ) → whole row + 1 ≡ next → next < length lefts → IsFirstWord w (get_or lefts next 0) n
+      → HasWords w lefts (map whole new) × (length new ≡ n)
+  row-filled next e b to =
+      let order : length items ≤ n =
+      word-order w (get_or lefts (whole row) 0) (get_or lefts next 0) (length items) n some from to (omega (arith, later lefts (whole row) next up (omega arith) b)) in
+      (filled-more order (λ h. (n, rw e to, omega (arith, same-long))), filled-long order)
+
+  -- it was the last one, and all words are there
+  pub all-filled : (precision slot_bits : ℕ) → w ≡ slot_width precision slot_bits → n ≡ words_a_slot w * slot_count precision slot_bits
+      → whole row + 1 ≡ length lefts → get_or lefts (whole row) 0 < 2 ^ precision
+      → HasSlots w (slot_count precision slot_bits) lefts (map whole new)
+  all-filled precision slot_bits width count e below =
+      let slot = last-slot precision slot_bits in
+      let last : ℕ = slot_count precision slot_bits - 1 in
+      let total : last * w + w ≡ 2 ^ precision = rw width slot.1 in
+      let most : length items ≤ words_a_slot w * last + (words_a_slot w - 1) = (from.last last).1 (omega (arith, total, below, some)) in
+      let u : 0 < words_a_slot w = omega arith in
+      let end = last-word (words_a_slot w) last (slot_count precision slot_bits) u slot.0 in
+      let order : length items ≤ n = omega (arith, most, count, end) in
+      record {
+        long = length-map new whole ∙ filled-long order ∙ count;
+        words = filled-more order (λ h. absurd (omega arith));
+      }
+
+-- the slot of a quantile
+pub slot-below : (precision slot_bits q : ℕ) → q < 2 ^ precision → q / slot_width precision slot_bits < slot_count precision slot_bits
+slot-below precision slot_bits q h =
+    let slot = last-slot precision slot_bits in
+    let within : q / slot_width precision slot_bits ≤ slot_count precision slot_bits - 1 =
+    (whole-part (slot_width precision slot_bits) q (slot_count precision slot_bits - 1) (pow_pos (precision - slot_bits))).1 (omega (arith, slot.1)) in
+    omega (arith, slot.0)

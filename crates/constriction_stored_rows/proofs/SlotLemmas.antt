@@ -1,0 +1,213 @@
+-- The rows that meet a slot.
+use Rattle.std.proofs.Common.{◌≡◌, ℕ, ◌+◌, ◌-◌, ◌*◌, ◌/◌, ◌^◌, ◌<◌, ◌≤◌, List, length, get_or, map, take, drop, ap, sym, ◌∙◌, arith, inl, inr}
+use Rattle.std.proofs.lemmas.Bool.{cases_lt}
+use Rattle.std.proofs.lemmas.List.{take-map, drop-map, get_or-take, get_or-drop, length-take-le, length-drop}
+use Rattle.std.proofs.Math.Nat.{div-mul-le_self}
+use Rattle.std.proofs.lemmas.Nat.{pow_pos}
+use Rattle.std.specs.List.Sorted.{IsStrictlyIncreasing}
+use Rattle.constriction_model.specs.Rows.{Row, RowsTile}
+use Rattle.constriction_model.specs.Probe.{IsSearchable, IsLastAtMost, TellsRows, IsRowIndexOf}
+use Rattle.constriction_stored_rows.specs.Slots.{MeetsSlot, slot_width, slot_count}
+use Rattle.constriction_stored_rows.specs.SlotTable.{words_a_slot, HasSlots, IsSlot, IsSlotPart}
+use Rattle.constriction_model.proofs.Halving.{later}
+use Rattle.constriction_stored_rows.proofs.SlotFilling.{slot-within, slot-below, whole-part}
+use Rattle.constriction_stored_rows.proofs.TileLemmas.{IsTile, tile-at, tiles-many, tiles-increase, tiles-found}
+
+-- the slot of a quantile holds it
+pub slot-from : (precision slot_bits q : ℕ) → q / slot_width precision slot_bits * slot_width precision slot_bits ≤ q
+slot-from precision slot_bits q = div-mul-le_self q (slot_width precision slot_bits)
+
+pub slot-to : (precision slot_bits q : ℕ) → q ≤ q / slot_width precision slot_bits * slot_width precision slot_bits + (slot_width precision slot_bits - 1)
+slot-to precision slot_bits q =
+    let wide : 0 < slot_width precision slot_bits = pow_pos (precision - slot_bits) in
+    let below = (whole-part (slot_width precision slot_bits) q (q / slot_width precision slot_bits) wide).0 (omega arith) in
+    omega arith
+
+-- the rows of a slot that has one word
+module _ (width count : ℕ) (lefts table : List ℕ) (slot : ℕ) (s : HasSlots width count lefts table) (within : slot < count) where
+  module _ (one : words_a_slot width ≡ 1) where
+    pub alone-within : slot < length table
+    alone-within =
+        let long : length table ≡ 1 * count = rw one at s.long in
+        omega arith
+
+    pub slot-alone : IsSlot lefts width slot (get_or table slot 0) (get_or table slot 0)
+    slot-alone =
+        let same : 1 * slot ≡ slot = omega arith in
+        let same_last : 1 * slot + 0 ≡ slot = omega arith in
+        record {
+          from = rw same at ((rw one at (s.words.first slot)) (omega (arith, alone-within)));
+          to = rw same_last at ((rw one at (s.words.last slot)) (omega (arith, alone-within)));
+        }
+
+  -- and of one that has two
+  module _ (two : words_a_slot width ≡ 2) where
+    pub pair-within : 2 * slot + 1 < length table
+    pair-within =
+        let long : length table ≡ 2 * count = rw two at s.long in
+        omega arith
+
+    pub slot-pair : IsSlot lefts width slot (get_or table (2 * slot) 0) (get_or table (2 * slot + 1) 0)
+    slot-pair = record {
+      from = (rw two at (s.words.first slot)) (omega (arith, pair-within));
+      to = (rw two at (s.words.last slot)) (omega (arith, pair-within));
+    }
+
+-- a greater quantile has no earlier row
+last-order : (lefts : List ℕ) (x y i k : ℕ) → IsLastAtMost lefts x i → IsLastAtMost lefts y k → x ≤ y → i ≤ k
+last-order lefts x y i k a b h = elim (cases_lt k i) [
+  | inl before ↦ absurd (omega (arith, b.last i before a.in_bounds, a.at_most))
+  | inr not ↦ not
+]
+
+pub slot-order : (lefts : List ℕ) (width slot first last : ℕ) → IsSlot lefts width slot first last → first ≤ last
+slot-order lefts width slot first last s =
+    last-order lefts (slot * width) (slot * width + (width - 1)) first last s.from s.to (omega arith)
+
+pub part-whole : {W : Type 0} (whole : W → ℕ) (xs : List W) (first count : ℕ)
+    → map whole (take count (drop first xs)) ≡ take count (drop first (map whole xs))
+part-whole whole xs first count = sym (take-map whole count (drop first xs)) ∙ ap (take count) (sym (drop-map whole first xs))
+
+-- the rows between the two words of a slot
+pub slot-part : (lefts : List ℕ) (width slot first last : ℕ) → IsSlot lefts width slot first last
+    → IsSlotPart lefts width slot first (take (last + 1 - first) (drop first lefts))
+slot-part lefts width slot first last s =
+    let order = slot-order lefts width slot first last s in
+    let long : length (take (last + 1 - first) (drop first lefts)) ≡ last + 1 - first =
+    length-take-le (last + 1 - first) (drop first lefts) (simp length-drop (omega (arith, s.to.in_bounds))) in
+    record {
+      last = last;
+      rows = s;
+      long = omega arith;
+      in_order = ap (λ n. take n (drop first lefts)) (sym long);
+    }
+
+module _ (lefts : List ℕ) (up : IsStrictlyIncreasing lefts) (width slot first : ℕ) (told : List ℕ) (p : IsSlotPart lefts width slot first told) where
+  part-within : first + length told ≤ length lefts
+  part-within = omega (arith, p.long, p.rows.to.in_bounds)
+
+  part-at : (i : ℕ) → i < length told → get_or told i 0 ≡ get_or lefts (first + i) 0
+  part-at i h =
+      ap (λ xs. get_or xs i 0) p.in_order ∙ get_or-take (length told) (drop first lefts) i 0 h ∙ get_or-drop first lefts i 0
+
+  part-some : 0 < length told
+  part-some = omega (arith, p.long, slot-order lefts width slot first p.last p.rows)
+
+  pub part-searchable : (q : ℕ) → slot * width ≤ q → IsSearchable told q
+  part-searchable q low =
+      let e : first + 0 ≡ first = omega arith in
+      record {
+        some = part-some;
+        increases = λ k h.
+            let b : first + k + 1 < length lefts = omega (arith, part-within) in
+            let e : first + (k + 1) ≡ first + k + 1 = omega arith in
+            rw (part-at k (omega arith), part-at (k + 1) h, e) (up (first + k) b);
+        begins = rw (part-at 0 part-some, e) (omega (arith, p.rows.from.at_most));
+      }
+
+  pub part-found : (q i : ℕ) → q ≤ slot * width + (width - 1) → IsLastAtMost told q i → IsLastAtMost lefts q (first + i)
+  part-found q i h f = record {
+    in_bounds = omega (arith, part-within, f.in_bounds);
+    at_most = rw (← part-at i f.in_bounds) f.at_most;
+    last = λ j a b. elim (cases_lt p.last j) [
+      | inl after ↦ omega (arith, p.rows.to.last j after b)
+      | inr inside ↦ (
+          let e : first + (j - first) ≡ j = omega arith in
+          let g : j - first < length told = omega (arith, p.long) in
+          omega (arith, f.last (j - first) (omega arith) g, part-at (j - first) g ∙ ap (λ n. get_or lefts n 0) e))
+    ];
+  }
+
+module _ {S : Type 0} (bits precision slot_bits : ℕ) (rows : List (Row S)) (t : RowsTile bits precision rows) where
+  many : length (map (λ r. r.left) rows) ≡ length rows
+  many = tiles-many bits precision rows t
+
+  up : IsStrictlyIncreasing (map (λ r. r.left) rows)
+  up = tiles-increase bits precision rows t
+
+  module _ (j first : ℕ) (told : List ℕ) (p : IsSlotPart (map (λ r. r.left) rows) (slot_width precision slot_bits) j first told) where
+    meets-in : (i : ℕ) (r : Row S) → i < length rows → IsTile precision rows i r → MeetsSlot (slot_width precision slot_bits) j r
+        → (first ≤ i) × (i < p.last + 1)
+    meets-in i r h tile m =
+        let lefts : List ℕ = map (λ r. r.left) rows in
+        let from = p.rows.from in
+        let to = p.rows.to in
+        let b : i < length lefts = omega (arith, many) in
+        let lower : first ≤ i = elim (cases_lt i first) [
+          | inl before ↦ (
+              let next = tile.next (omega (arith, many, from.in_bounds)) in
+              elim (cases_lt (i + 1) first) [
+                | inl more ↦ absurd (omega (arith, later lefts (i + 1) first up more from.in_bounds, from.at_most, m.in_slot, m.in_row))
+                | inr same ↦ (
+                    let is : i + 1 ≡ first = omega arith in
+                    absurd (omega (arith, ap (λ n. get_or lefts n 0) is, from.at_most, m.in_slot, m.in_row)))
+              ])
+          | inr not ↦ not
+        ] in
+        let upper : i < p.last + 1 = elim (cases_lt p.last i) [
+          | inl after ↦ absurd (omega (arith, to.last i after b, tile.left, m.in_slot, m.in_row, pow_pos (precision - slot_bits)))
+          | inr not ↦ omega arith
+        ] in
+        (lower, upper)
+
+    in-meets : (i : ℕ) (r : Row S) → i < length rows → IsTile precision rows i r → j < slot_count precision slot_bits
+        → first ≤ i → i < p.last + 1 → MeetsSlot (slot_width precision slot_bits) j r
+    in-meets i r h tile jb lower upper =
+        let lefts : List ℕ = map (λ r. r.left) rows in
+        let from = p.rows.from in
+        let to = p.rows.to in
+        let width : 0 < 2 ^ (precision - slot_bits) = pow_pos (precision - slot_bits) in
+        let b : i < length lefts = omega (arith, many) in
+        elim (cases_lt first i) [
+          | inl more ↦ (
+              let low : get_or lefts i 0 ≤ j * slot_width precision slot_bits + (slot_width precision slot_bits - 1) = elim (cases_lt i p.last) [
+                | inl before ↦ omega (arith, later lefts i p.last up before to.in_bounds, to.at_most)
+                | inr same ↦ (let is : p.last ≡ i = omega arith in rw (← is) to.at_most)
+              ] in
+              record {
+                quantile = get_or lefts i 0;
+                in_slot = (omega (arith, from.last i more b), omega arith);
+                in_row = (omega (arith, tile.left), omega (arith, tile.left, tile.positive));
+              })
+          | inr same ↦ (
+              let is : first ≡ i = omega arith in
+              let low : get_or lefts i 0 ≤ j * slot_width precision slot_bits = rw (← is) from.at_most in
+              let high : j * slot_width precision slot_bits < r.left + r.weight = elim (cases_lt (i + 1) (length rows)) [
+                | inl before ↦ omega (arith, tile.next before, from.last (i + 1) (omega arith) (omega (arith, many)))
+                | inr end ↦ omega (arith, tile.last (omega arith), slot-within precision slot_bits j jb)
+              ] in
+              record { quantile = j * slot_width precision slot_bits; in_slot = (omega arith, omega arith); in_row = (omega (arith, tile.left), high) })
+        ]
+
+    -- exactly the rows that meet the slot are told
+    slot-tells : j < slot_count precision slot_bits → TellsRows rows (MeetsSlot (slot_width precision slot_bits) j) first told
+    slot-tells jb = record {
+      exactly = λ i d h.
+          let tile = tile-at bits precision rows t i d h in
+          ((λ m. let c = meets-in i _ h tile m in (c.0, omega (arith, p.long, c.1))), (λ c. in-meets i _ h tile jb c.0 (omega (arith, p.long, c.1))));
+      within = omega (arith, p.long, p.rows.to.in_bounds, many);
+      in_order = p.in_order;
+    }
+
+    slot-searchable : (q : ℕ) → j * slot_width precision slot_bits ≤ q → IsSearchable told q
+    slot-searchable q low =
+        part-searchable (map (λ r. r.left) rows) up (slot_width precision slot_bits) j first told p q low
+
+    slot-found : (q i : ℕ) → q < 2 ^ precision → q ≤ j * slot_width precision slot_bits + (slot_width precision slot_bits - 1) → IsLastAtMost told q i
+        → IsRowIndexOf rows q (first + i)
+    slot-found q i below high f =
+        tiles-found bits precision rows t q (first + i) below
+        (part-found (map (λ r. r.left) rows) up (slot_width precision slot_bits) j first told p q i high f)
+
+  -- a probe of the rows that meet the slot of a quantile
+  pub slot-probed : (q first : ℕ) (lefts told : List ℕ) → lefts ≡ map (λ r. r.left) rows → q < 2 ^ precision
+      → IsSlotPart lefts (slot_width precision slot_bits) (q / slot_width precision slot_bits) first told
+      → TellsRows rows (MeetsSlot (slot_width precision slot_bits) (q / slot_width precision slot_bits)) first told
+      × IsSearchable told q
+      × ((i : ℕ) → IsLastAtMost told q i → IsRowIndexOf rows q (first + i))
+  slot-probed q first lefts told e below part =
+      let p = rw e at part in (
+        slot-tells (q / slot_width precision slot_bits) first told p (slot-below precision slot_bits q below),
+        slot-searchable (q / slot_width precision slot_bits) first told p q (slot-from precision slot_bits q),
+        (λ i f. slot-found (q / slot_width precision slot_bits) first told p q i below (slot-to precision slot_bits q) f),
+      )

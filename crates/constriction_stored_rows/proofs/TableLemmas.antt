@@ -1,0 +1,96 @@
+-- Tables that end with the total, and differences of their neighbours.
+use Rattle.std.proofs.Common.{◌≡◌, ℕ, ◌+◌, ◌-◌, ◌%◌, ◌^◌, ◌<◌, ◌≤◌, List, [], ◌∷◌, ◌++◌, length, get_or, map, refl, ap, sym, ◌∙◌, arith, inl, inr}
+use Rattle.std.specs.Prelude.{take}
+use Rattle.std.proofs.Math.Nat.{mod-eq_of_lt, pow-le-pow_right}
+use Rattle.std.proofs.Math.Seq.{take-append_seam}
+use Rattle.std.proofs.lemmas.Bool.{cases_lt}
+use Rattle.std.proofs.lemmas.List.{length-append, length-map, get_or_append_left, get_or-append_right, take-map}
+use Rattle.constriction_model.specs.Acceptance.{IsAccepted}
+use Rattle.constriction_model.proofs.Differences.{difference-mod}
+use Rattle.constriction_stored_rows.specs.Stored.{IsTable, lefts_in, lefts_from, weights_of}
+use Rattle.constriction_model.specs.Rows.{contiguous_rows}
+use Rattle.constriction_stored_rows.specs.StoredRowLemmas.{rows-many}
+use Rattle.constriction_stored_rows.specs.StoredLemmas.{IsRowAt, stored-row, stored-of}
+
+-- the left cumulatives of a list that ends with one number more
+pub lefts-ended : (lefts table : List ℕ) (total : ℕ) → table ≡ lefts ++ total ∷ [] → lefts_in table ≡ lefts
+lefts-ended lefts table total e =
+    let long : length table - 1 ≡ length lefts = rw e (omega (arith, length-append lefts (total ∷ []))) in
+    rw long (ap (take (length lefts)) e ∙ take-append_seam lefts (total ∷ []))
+
+-- accepted weights, the table that is filled from them, and back
+pub table-of : (bits precision : ℕ) (table ws : List ℕ) → IsAccepted bits precision ws
+    → table ≡ lefts_from 0 ws ++ (2 ^ precision % 2 ^ bits) ∷ []
+    → IsTable bits precision table × (weights_of precision (lefts_in table) ≡ ws)
+table-of bits precision table ws a e =
+    let lefts : lefts_in table ≡ lefts_from 0 ws = lefts-ended (lefts_from 0 ws) table _ e in
+    let stored = stored-of bits precision (lefts_in table) ws lefts a in
+    (record { stored = stored.0; ends = rw lefts e }, stored.1)
+
+module _ (bits precision : ℕ) (table : List ℕ) (t : IsTable bits precision table) where
+  pub table-long : length table ≡ length (lefts_in table) + 1
+  table-long = ap length t.ends ∙ length-append (lefts_in table) ((2 ^ precision % 2 ^ bits) ∷ [])
+
+  pub table-here : (i : ℕ) → i + 1 < length table → get_or table i 0 ≡ get_or (lefts_in table) i 0
+  table-here i h =
+      let within : i < length (lefts_in table) = omega (arith, table-long) in
+      ap (λ xs. get_or xs i 0) t.ends ∙ get_or_append_left (lefts_in table) ((2 ^ precision % 2 ^ bits) ∷ []) 0 i within
+
+  pub table-row : (i : ℕ) → i + 1 < length table
+      → IsRowAt bits precision (lefts_in table) i (get_or (weights_of precision (lefts_in table)) i 0)
+  table-row i h = stored-row bits precision (lefts_in table) i t.stored (omega (arith, table-long))
+
+  -- after a row stands where it ends, modulo 2 ^ bits
+  pub table-next : (i : ℕ) → precision ≤ bits → i + 1 < length table
+      → get_or table (i + 1) 0
+      ≡ (get_or (weights_of precision (lefts_in table)) i 0 + get_or (lefts_in table) i 0) % 2 ^ bits
+  table-next i narrow h =
+      let row = table-row i h in
+      let below : 2 ^ precision ≤ 2 ^ bits = pow-le-pow_right {n = 2} (omega arith) narrow in
+      elim (cases_lt (i + 1 + 1) (length table)) [
+        | inl more ↦
+            let later = table-row (i + 1) more in
+            let next : get_or (lefts_in table) (i + 1) 0
+            ≡ get_or (weights_of precision (lefts_in table)) i 0 + get_or (lefts_in table) i 0 =
+            omega (arith, row.next (omega (arith, table-long))) in
+            let small : get_or (weights_of precision (lefts_in table)) i 0 + get_or (lefts_in table) i 0 < 2 ^ bits =
+            omega (arith, later.positive, later.within) in
+            table-here (i + 1) more ∙ next ∙ sym (mod-eq_of_lt small)
+        | inr last ↦
+            let end : i + 1 ≡ length (lefts_in table) = omega (arith, table-long) in
+            let all : get_or (weights_of precision (lefts_in table)) i 0 + get_or (lefts_in table) i 0 ≡ 2 ^ precision =
+            omega (arith, row.last end) in
+            let at_end : i + 1 - length (lefts_in table) ≡ 0 = omega arith in
+            ap (λ xs. get_or xs (i + 1) 0) t.ends
+            ∙ get_or-append_right (lefts_in table) ((2 ^ precision % 2 ^ bits) ∷ []) (length (lefts_in table)) (i + 1) 0 refl
+            (omega arith)
+            ∙ ap (λ k. get_or ((2 ^ precision % 2 ^ bits) ∷ []) k 0) at_end
+            ∙ ap (λ n. n % 2 ^ bits) (sym all)
+      ]
+
+-- the weight of a row is the difference of its two ends, modulo 2 ^ bits
+pub table-weight : (bits precision : ℕ) (table : List ℕ) (i left next weight : ℕ) → IsTable bits precision table
+    → precision ≤ bits → i + 1 < length table
+    → get_or table i 0 ≡ left → get_or table (i + 1) 0 ≡ next → weight < 2 ^ bits → (weight + left) % 2 ^ bits ≡ next
+    → weight ≡ get_or (weights_of precision (lefts_in table)) i 0
+table-weight bits precision table i left next weight t narrow h l n small e =
+    let row = table-row bits precision table t i h in
+    let below : 2 ^ precision ≤ 2 ^ bits = pow-le-pow_right {n = 2} (omega arith) narrow in
+    let here : get_or (lefts_in table) i 0 ≡ left = sym (table-here bits precision table t i h) ∙ l in
+    let low : left < 2 ^ bits = omega (arith, row.within, row.positive) in
+    difference-mod (2 ^ bits) weight (get_or (weights_of precision (lefts_in table)) i 0) left small row.fits low
+    (e ∙ sym n ∙ table-next bits precision table t i narrow h
+    ∙ ap (λ k. (get_or (weights_of precision (lefts_in table)) i 0 + k) % 2 ^ bits) here)
+
+-- as many rows as words but the last
+pub table-rows : (bits precision : ℕ) (table : List ℕ) → IsTable bits precision table
+    → length (contiguous_rows (weights_of precision (lefts_in table))) + 1 ≡ length table
+table-rows bits precision table t =
+    omega (arith, rows-many precision (lefts_in table), table-long bits precision table t)
+
+-- the left cumulatives of words
+pub lefts-words : {Word : Type 0} (whole : Word → ℕ) (words : List Word)
+    → map whole (take (length words - 1) words) ≡ lefts_in (map whole words)
+lefts-words whole words =
+    let long : length words - 1 ≡ length (map whole words) - 1 = omega (arith, length-map words whole) in
+    sym (take-map whole (length words - 1) words) ∙ ap (λ n. take n (map whole words)) long

@@ -1,0 +1,100 @@
+-- Rows that tile, and the search for one of them.
+use Rattle.std.specs.Prelude.{⊤}
+use Rattle.std.specs.List.Sorted.{IsStrictlyIncreasing}
+use Rattle.std.proofs.Common.{◌≡◌, ℕ, ◌+◌, ◌^◌, ◌<◌, List, length, get_or, map, sym, refl, ◌∙◌, arith}
+use Rattle.std.proofs.lemmas.List.{length-map}
+use Rattle.constriction_model.specs.Probe.{IsSearchable, IsLastAtMost, TellsRows, IsRowIndexOf}
+use Rattle.constriction_model.specs.Rows.{Row, RowsTile, contiguous_rows}
+use Rattle.constriction_stored_rows.specs.Stored.{IsStored, IsTable, lefts_in, weights_of}
+use Rattle.constriction_stored_rows.specs.StoredLemmas.{stored-row, stored-of_rows}
+use Rattle.constriction_stored_rows.specs.StoredRowLemmas.{stored-tiles}
+use Rattle.constriction_stored_rows.specs.SymbolRowLemmas.{symbol-row_at}
+use Rattle.constriction_stored_rows.proofs.ProbeLemmas.{stored-increases, stored-lefts, stored-searchable, symbol-tells, symbol-found}
+use Rattle.constriction_stored_rows.proofs.TableLemmas.{table-rows}
+
+-- rows that tile: the row at an index
+pub record IsTile {S : Type 0} (precision : ℕ) (rows : List (Row S)) (i : ℕ) (r : Row S) : Type 0 where
+  pub left : r.left ≡ get_or (map (λ r. r.left) rows) i 0
+  pub positive : 0 < r.weight
+  pub next : i + 1 < length rows → get_or (map (λ r. r.left) rows) (i + 1) 0 ≡ r.left + r.weight
+  pub last : i + 1 ≡ length rows → r.left + r.weight ≡ 2 ^ precision
+
+module _ {S : Type 0} (bits precision : ℕ) (rows : List (Row S)) (t : RowsTile bits precision rows) where
+  pub tiles-stored : IsStored bits precision (map (λ r. r.left) rows)
+  tiles-stored = (stored-of_rows bits precision rows t).0
+
+  pub tiles-many : length (map (λ r. r.left) rows) ≡ length rows
+  tiles-many = length-map rows (λ r. r.left)
+
+  tiles-long : length (map (λ r. r.symbol) rows) ≡ length (map (λ r. r.left) rows)
+  tiles-long = length-map rows (λ r. r.symbol) ∙ sym tiles-many
+
+  pub tiles-increase : IsStrictlyIncreasing (map (λ r. r.left) rows)
+  tiles-increase = stored-increases bits precision (map (λ r. r.left) rows) tiles-stored
+
+  pub tile-at : (i : ℕ) (d : Row S) → i < length rows → IsTile precision rows i (get_or rows i d)
+  tile-at i d h =
+      let lefts : List ℕ = map (λ r. r.left) rows in
+      let here : i < length lefts = omega (arith, tiles-many) in
+      let row = stored-row bits precision lefts i tiles-stored here in
+      let is = rw ((stored-of_rows bits precision rows t).1) at
+      (symbol-row_at bits precision (map (λ r. r.symbol) rows) lefts tiles-stored tiles-long i d here) in
+      rw is (record {
+        left = refl;
+        positive = row.positive;
+        next = λ g. row.next (omega (arith, tiles-many));
+        last = λ g. row.last (omega (arith, tiles-many));
+      })
+
+  -- the row of a quantile stands where the greatest left cumulative that is at most the quantile does
+  pub tiles-found : (q i : ℕ) → q < 2 ^ precision → IsLastAtMost (map (λ r. r.left) rows) q i → IsRowIndexOf rows q i
+  tiles-found q i below f =
+      rw ((stored-of_rows bits precision rows t).1) at
+      (symbol-found bits precision (map (λ r. r.symbol) rows) (map (λ r. r.left) rows) tiles-stored tiles-long q i below f)
+
+  -- a probe of all rows
+  pub tiles-probed : (told : List ℕ) → told ≡ map (λ r. r.left) rows
+      → TellsRows rows (λ _. ⊤) 0 told
+      × ((q : ℕ) → IsSearchable told q)
+      × ((q i : ℕ) → q < 2 ^ precision → IsLastAtMost told q i → IsRowIndexOf rows q (0 + i))
+  tiles-probed told e = rw e (
+    rw ((stored-of_rows bits precision rows t).1) at
+        (symbol-tells bits precision (map (λ r. r.symbol) rows) (map (λ r. r.left) rows) tiles-stored tiles-long),
+    stored-searchable bits precision (map (λ r. r.left) rows) tiles-stored,
+    (λ q i below f. let same : 0 + i ≡ i = omega arith in rw same (tiles-found q i below f)),
+  )
+
+  -- what a table of slots is made from
+  pub tiles-lefts : (lefts : List ℕ) → lefts ≡ map (λ r. r.left) rows
+      → IsSearchable lefts 0 × ((i : ℕ) → i < length lefts → get_or lefts i 0 < 2 ^ precision)
+  tiles-lefts lefts e = rw e (
+    stored-searchable bits precision (map (λ r. r.left) rows) tiles-stored 0,
+    (λ i h. let row = stored-row bits precision (map (λ r. r.left) rows) i tiles-stored h in omega (arith, row.positive, row.within)),
+  )
+
+-- the same of a stored table: what was lent of it are its left cumulatives
+module _ (bits precision : ℕ) (table lefts : List ℕ) (t : IsTable bits precision table) (e : lefts ≡ lefts_in table) where
+  pub table-lefts : lefts ≡ map (λ r. r.left) (contiguous_rows (weights_of precision (lefts_in table)))
+  table-lefts = e ∙ sym (stored-lefts bits precision (lefts_in table) t.stored)
+
+  pub table-probed : TellsRows (contiguous_rows (weights_of precision (lefts_in table))) (λ _. ⊤) 0 lefts
+      × ((q : ℕ) → IsSearchable lefts q)
+      × ((q i : ℕ) → q < 2 ^ precision → IsLastAtMost lefts q i
+      → IsRowIndexOf (contiguous_rows (weights_of precision (lefts_in table))) q (0 + i))
+  table-probed =
+      tiles-probed bits precision (contiguous_rows (weights_of precision (lefts_in table)))
+      (stored-tiles bits precision (lefts_in table) t.stored) lefts table-lefts
+
+  -- the row of a quantile is one of the table
+  pub table-index : (q i : ℕ) → q < 2 ^ precision → IsLastAtMost lefts q i
+      → IsRowIndexOf (contiguous_rows (weights_of precision (lefts_in table))) q i × (i + 1 < length table)
+  table-index q i below f =
+      let same : 0 + i ≡ i = omega arith in
+      let found : IsRowIndexOf (contiguous_rows (weights_of precision (lefts_in table))) q i = rw same at (table-probed.2 q i below f) in
+      (found, omega (arith, found.in_bounds, table-rows bits precision table t))
+
+  -- what a table of slots is made from
+  pub table-search : IsSearchable lefts 0 × ((i : ℕ) → i < length lefts → get_or lefts i 0 < 2 ^ precision)
+  table-search =
+      tiles-lefts bits precision (contiguous_rows (weights_of precision (lefts_in table)))
+      (stored-tiles bits precision (lefts_in table) t.stored) lefts table-lefts

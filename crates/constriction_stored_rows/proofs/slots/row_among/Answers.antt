@@ -1,0 +1,38 @@
+use Rattle.std.proofs.Common.{ℕ, ◌/◌, map, arith}
+use Rattle.std.proofs.lemmas.List.{length-map}
+use Rattle.constriction_stored_rows.specs.Slots.{slot_width}
+use Rattle.constriction_stored_rows.proofs.SlotLemmas.{slot-from, slot-to, slot-order, slot-part, part-found, part-searchable}
+use Rattle.constriction_stored_rows.proofs.slots.row_among.Goals as goal
+
+pub probe_of-rows-requires-clause-order : goal.probe_of-rows-requires-clause-order
+probe_of-rows-requires-clause-order g c =
+    let lefts = map g.Kind.CdfEntry.cumulative c.args.entries.now in
+    let width : ℕ = slot_width g.row.PRECISION g.row.SLOT_BITS in
+    slot-order lefts width (g.Kind.Word.WholeNumber.whole c.args.quantile / width) _ _ c.requires.slot
+
+pub probe_of-rows-requires-clause-within : goal.probe_of-rows-requires-clause-within
+probe_of-rows-requires-clause-within g c =
+    omega (arith, c.requires.slot.to.in_bounds, length-map c.args.entries.now g.Kind.CdfEntry.cumulative)
+
+pub row_of_quantile-requires : goal.row_of_quantile-requires
+row_of_quantile-requires g c =
+    let lefts = map g.Kind.CdfEntry.cumulative c.args.entries.now in
+    let q : ℕ = g.Kind.Word.WholeNumber.whole c.args.quantile in
+    let width : ℕ = slot_width g.row.PRECISION g.row.SLOT_BITS in
+    let first : ℕ = c.args.first in
+    let part = slot-part lefts width (q / width) first c.args.last c.requires.slot in
+    record {
+      searchable = rw c.probe_of-rows.ensures.cumulatives
+          (part-searchable lefts c.requires.increases width (q / width) first _ part q (slot-from g.row.PRECISION g.row.SLOT_BITS q));
+      room = omega (arith, c.probe_of-rows.ensures.fresh);
+    }
+
+pub returns : goal.returns
+returns g c =
+    let lefts = map g.Kind.CdfEntry.cumulative c.args.entries.now in
+    let q : ℕ = g.Kind.Word.WholeNumber.whole c.args.quantile in
+    let width : ℕ = slot_width g.row.PRECISION g.row.SLOT_BITS in
+    let first : ℕ = c.args.first in
+    let part = slot-part lefts width (q / width) first c.args.last c.requires.slot in
+    part-found lefts c.requires.increases width (q / width) first _ part q c.row_of_quantile.result (slot-to g.row.PRECISION g.row.SLOT_BITS q)
+    (rw c.probe_of-rows.ensures.cumulatives at c.row_of_quantile.ensures.found)

@@ -1,0 +1,41 @@
+-- How far the quantiles below 2 ^ precision are filled. No public clause cites this module.
+use Rattle.std.specs.Prelude.{◌≡◌, ℕ, ◌+◌, ◌^◌, ◌<◌, Bool, List, All, map, sum, Option, Some, None, IfSome}
+use Rattle.std.specs.List.{AllZip}
+use Rattle.std.specs.Option.{option_map}
+use Rattle.constriction_model.specs.Rows.{Row, symbols_of, entry_of}
+use Rattle.constriction_stored_rows.specs.Stored.{lefts_from}
+
+-- where the next row would begin: none where all quantiles are filled
+abbrev pub end_of : {Word : Type 0} → (Word → ℕ) → ℕ → Option Word → ℕ
+end_of whole precision (Some next) = whole next
+end_of whole precision None = 2 ^ precision
+
+-- the quantiles of a row that begins at `left` end there
+pub record IsRowEnd {Word : Type 0} (whole : Word → ℕ) (bits precision : ℕ) (left weight : Word) (end : Option Word) : Type 0 where
+  pub positive : 0 < whole weight
+  pub fits : whole weight < 2 ^ bits
+  pub is : end_of whole precision end ≡ whole left + whole weight
+  pub below : IfSome end (λ next. whole next < 2 ^ precision)
+
+-- the table holds where the rows of these weights begin, and the next one would begin at `end`
+pub record IsFilled {Word : Type 0} (whole : Word → ℕ) (bits precision : ℕ) (weights : List Word) (table : List Word)
+    (end : Option Word) : Type 0 where
+  pub positive : All (λ w. 0 < w) (map whole weights)
+  pub fit : All (λ w. w < 2 ^ bits) (map whole weights)
+  pub lefts : map whole table ≡ lefts_from 0 (map whole weights)
+  pub is : end_of whole precision end ≡ sum (map whole weights)
+  pub below : IfSome end (λ next. whole next < 2 ^ precision)
+
+-- these entries hold these rows: the symbol and the left cumulative of each, in order
+abbrev pub HoldsRows : {Word Symbol : Type 0} → (Word → ℕ) → List (Word × Symbol) → List (Row Symbol) → Type 0
+HoldsRows whole entries rows =
+    (map (λ x. x.1) entries ≡ symbols_of rows) × (map (λ x. whole x.0) entries ≡ map (λ r. r.left) rows)
+
+-- to these entries the others are clones: one for each, in order, with the same word and a clone of the symbol
+abbrev pub AreEntriesCloned : {Word Symbol : Type 0} → (Symbol → Symbol → Type 0) → List (Word × Symbol) → List (Word × Symbol) → Type 0
+AreEntriesCloned IsClone entries cloned = AllZip (λ e c. IsClone e.1 c.1 × (c.0 ≡ e.0)) entries cloned
+
+-- a table finds for each symbol its entry in these rows, and nothing where it has none
+abbrev pub HoldsEntries : {Symbol Entry : Type 0} → (Symbol → Symbol → Bool) → (Entry → ℕ × ℕ) → (Symbol → Option Entry) → List (Row Symbol)
+    → Type 0
+HoldsEntries {Symbol} eq numbers found rows = (s : Symbol) → option_map numbers (found s) ≡ entry_of eq rows s

@@ -1,0 +1,234 @@
+//! The table of the rows that meet each slot.
+
+ghost use Rattle.std.specs.Prelude.{◌≡◌, ◌+◌, ◌-◌, ◌*◌, ◌/◌, ◌^◌, ◌<◌, ◌≤◌, ℕ, length, map, take, drop, slice_index, IfOk};
+ghost use Rattle.std.specs.List.Sorted.{IsStrictlyIncreasing};
+ghost use Rattle.constriction_model.specs.Probe.{IsLastAtMost, IsSearchable};
+ghost use Rattle.constriction_stored_rows.specs.Slots.{slot_count, slot_width};
+ghost use Rattle.constriction_stored_rows.specs.SlotTable.{words_a_slot, HasSlots, IsFirstWord, IsSlot, IsSlotPart};
+
+use constriction_model::{CdfEntry, CdfProbe, Probe, row_of_quantile};
+use constriction_numbers::WholeNumber;
+use std::alloc::{AllocError, Global};
+
+/// How many slots there are.
+#[inline]
+fn number_of_slots<const PRECISION: usize, const SLOT_BITS: usize>() -> usize
+    requires { PRECISION ≤ 63 }
+    ensures { result ≡ slot_count PRECISION SLOT_BITS }
+{
+    1usize << PRECISION.min(SLOT_BITS)
+}
+
+/// How many quantiles a slot holds.
+#[inline]
+fn width_of_slots<const PRECISION: usize, const SLOT_BITS: usize>() -> usize
+    requires { PRECISION ≤ 63 }
+    ensures { result ≡ slot_width PRECISION SLOT_BITS }
+{
+    1usize << PRECISION.saturating_sub(SLOT_BITS)
+}
+
+/// How many words the table has: two a slot, or one where a slot holds one quantile.
+#[inline]
+fn words_of_table<const PRECISION: usize, const SLOT_BITS: usize>() -> usize
+    requires { PRECISION ≤ 63 }
+    ensures { result ≡ words_a_slot (slot_width PRECISION SLOT_BITS) * slot_count PRECISION SLOT_BITS }
+{
+    let words_a_slot = width_of_slots::<PRECISION, SLOT_BITS>().min(2);
+    words_a_slot * number_of_slots::<PRECISION, SLOT_BITS>()
+}
+
+/// The first word of the table whose quantile is not below `left`.
+#[inline]
+fn first_word<W: WholeNumber, const PRECISION: usize, const SLOT_BITS: usize>(left: W) -> usize
+    requires narrow { PRECISION ≤ 63 }
+    requires below { W.whole left < 2 ^ PRECISION }
+    ensures { IsFirstWord (slot_width PRECISION SLOT_BITS) (W.whole left) result }
+{
+    let width = width_of_slots::<PRECISION, SLOT_BITS>();
+    let left = left.to_number();
+    if width == 1 {
+        return left;
+    }
+    left / width + (left + (width - 1)) / width
+}
+
+/// The table of the rows that meet each slot: of each slot the first and the last one, which are one row
+/// where a slot holds one quantile.
+///
+/// One pass over the rows, each of which fills the words up to where the next one begins, and one
+/// allocation.
+pub fn slots_of<Entry, Kind: CdfEntry<Entry>, const PRECISION: usize, const SLOT_BITS: usize>(
+    alloc: Global,
+    entries: &[Entry],
+) -> Result<Vec<Kind::Word>, AllocError>
+    requires narrow { PRECISION ≤ 63 }
+    requires fits { PRECISION ≤ Kind.Word.BITS }
+    requires searchable { IsSearchable (map Kind.cumulative entries.now) 0 }
+    requires below { (i : ℕ) → i < length (map Kind.cumulative entries.now)
+        → slice_index (map Kind.cumulative entries.now) i < 2 ^ PRECISION }
+    ensures { IfOk result (λ table. HasSlots (slot_width PRECISION SLOT_BITS) (slot_count PRECISION SLOT_BITS)
+        (map Kind.cumulative entries.now) (map Kind.Word.whole table.items)) }
+{
+    let words = words_of_table::<PRECISION, SLOT_BITS>();
+    let mut table = Vec::with_capacity(alloc, words)?;
+    let mut row = Kind::Word::least();
+    'rows: for next in 1..entries.len() {
+        let end = first_word::<Kind::Word, PRECISION, SLOT_BITS>(Kind::cumulative_of(
+            &entries[next],
+        ));
+        table.resize(end, row)?;
+        row = Kind::Word::from_number(next);
+    }
+    table.resize(words, row)?;
+    Ok(table)
+}
+
+/// The slot of a quantile.
+#[inline]
+fn slot_of<W: WholeNumber, const PRECISION: usize, const SLOT_BITS: usize>(quantile: W) -> usize
+    requires narrow { PRECISION ≤ 63 }
+    requires below { W.whole quantile < 2 ^ PRECISION }
+    ensures is { result ≡ W.whole quantile / slot_width PRECISION SLOT_BITS }
+    ensures below { result < slot_count PRECISION SLOT_BITS }
+{
+    quantile.to_number() / width_of_slots::<PRECISION, SLOT_BITS>()
+}
+
+/// The first and the last row that meet a quantile's slot.
+#[inline]
+fn rows_of_slot<Entry, Kind: CdfEntry<Entry>, const PRECISION: usize, const SLOT_BITS: usize>(
+    entries: &[Entry],
+    table: &[Kind::Word],
+    quantile: Kind::Word,
+) -> (usize, usize)
+    requires narrow { PRECISION ≤ 63 }
+    requires slots { HasSlots (slot_width PRECISION SLOT_BITS) (slot_count PRECISION SLOT_BITS)
+        (map Kind.cumulative entries.now) (map Kind.Word.whole table.now) }
+    requires below { Kind.Word.whole quantile < 2 ^ PRECISION }
+    ensures { IsSlot (map Kind.cumulative entries.now) (slot_width PRECISION SLOT_BITS)
+        (Kind.Word.whole quantile / slot_width PRECISION SLOT_BITS) result.0 result.1 }
+{
+    let slot = slot_of::<Kind::Word, PRECISION, SLOT_BITS>(quantile);
+    if width_of_slots::<PRECISION, SLOT_BITS>() == 1 {
+        let row = table[slot].to_number();
+        return (row, row);
+    }
+    (table[2 * slot].to_number(), table[2 * slot + 1].to_number())
+}
+
+/// A probe of the entries from `first` to `last`.
+#[inline]
+fn probe_of<'c, Entry, Kind: CdfEntry<Entry>>(
+    entries: &'c [Entry],
+    first: usize,
+    last: usize,
+) -> CdfProbe<'c, Entry, Kind>
+    requires order { first ≤ last }
+    requires within { last < length entries.now }
+    ensures cumulatives { ⟦<CdfProbe<'c, Entry, Kind> as Probe>⟧.cumulatives result
+        ≡ take (last + 1 - first) (drop first (map Kind.cumulative entries.now)) }
+    ensures fresh { ⟦<CdfProbe<'c, Entry, Kind> as Probe>⟧.questions result ≡ 0 }
+{
+    CdfProbe::new(&entries[first..last + 1])
+}
+
+/// A probe of the rows that meet a quantile's slot, and the index of the first of them.
+#[inline]
+pub fn slot_probe<'c, Entry, Kind: CdfEntry<Entry>, const PRECISION: usize, const SLOT_BITS: usize>(
+    entries: &'c [Entry],
+    table: &[Kind::Word],
+    quantile: Kind::Word,
+) -> (usize, CdfProbe<'c, Entry, Kind>)
+    requires narrow { PRECISION ≤ 63 }
+    requires slots { HasSlots (slot_width PRECISION SLOT_BITS) (slot_count PRECISION SLOT_BITS)
+        (map Kind.cumulative entries.now) (map Kind.Word.whole table.now) }
+    requires below { Kind.Word.whole quantile < 2 ^ PRECISION }
+    ensures part { IsSlotPart (map Kind.cumulative entries.now) (slot_width PRECISION SLOT_BITS)
+        (Kind.Word.whole quantile / slot_width PRECISION SLOT_BITS) result.0
+        (⟦<CdfProbe<'c, Entry, Kind> as Probe>⟧.cumulatives result.1) }
+    ensures fresh { ⟦<CdfProbe<'c, Entry, Kind> as Probe>⟧.questions result.1 ≡ 0 }
+{
+    let (first, last) = rows_of_slot::<Entry, Kind, PRECISION, SLOT_BITS>(entries, table, quantile);
+    (first, probe_of(entries, first, last))
+}
+
+/// One where a row begins above a quantile, and 0 where it begins at it or below. The sum of two of these
+/// has no jump in it, which the processor would have to guess.
+#[inline(always)]
+fn above<Entry, Kind: CdfEntry<Entry>>(entries: &[Entry], row: usize, quantile: Kind::Word) -> usize
+    requires { row < length entries.now }
+    ensures at_most { slice_index (map Kind.cumulative entries.now) row ≤ Kind.Word.whole quantile → result ≡ 0 }
+    ensures above { Kind.Word.whole quantile < slice_index (map Kind.cumulative entries.now) row → result ≡ 1 }
+{
+    if quantile.is_below(Kind::cumulative_of(&entries[row])) {
+        1
+    } else {
+        0
+    }
+}
+
+/// The last row that begins at a quantile or below it, where at most three rows meet its slot: the last of
+/// these, less those of the other two that begin above the quantile. Where fewer meet it, the first row
+/// takes the place of what is missing, and it never begins above.
+#[inline(always)]
+fn row_of_few<Entry, Kind: CdfEntry<Entry>, const PRECISION: usize, const SLOT_BITS: usize>(
+    entries: &[Entry],
+    first: usize,
+    last: usize,
+    quantile: Kind::Word,
+) -> usize
+    requires increases { IsStrictlyIncreasing (map Kind.cumulative entries.now) }
+    requires slot { IsSlot (map Kind.cumulative entries.now) (slot_width PRECISION SLOT_BITS)
+        (Kind.Word.whole quantile / slot_width PRECISION SLOT_BITS) first last }
+    requires few { last ≤ first + 2 }
+    ensures { IsLastAtMost (map Kind.cumulative entries.now) (Kind.Word.whole quantile) result }
+{
+    let middle = first + (last - first) / 2;
+    last - (above::<Entry, Kind>(entries, last, quantile)
+        + above::<Entry, Kind>(entries, middle, quantile))
+}
+
+/// The last row that begins at a quantile or below it, among the rows that meet its slot: the only one
+/// where a slot holds one quantile, else by two comparisons without a jump where at most three rows meet
+/// the slot, and by a search where more do.
+#[inline(always)]
+pub fn row_in_slot<Entry, Kind: CdfEntry<Entry>, const PRECISION: usize, const SLOT_BITS: usize>(
+    entries: &[Entry],
+    table: &[Kind::Word],
+    quantile: Kind::Word,
+) -> usize
+    requires narrow { PRECISION ≤ 63 }
+    requires increases { IsStrictlyIncreasing (map Kind.cumulative entries.now) }
+    requires slots { HasSlots (slot_width PRECISION SLOT_BITS) (slot_count PRECISION SLOT_BITS)
+        (map Kind.cumulative entries.now) (map Kind.Word.whole table.now) }
+    requires below { Kind.Word.whole quantile < 2 ^ PRECISION }
+    ensures { IsLastAtMost (map Kind.cumulative entries.now) (Kind.Word.whole quantile) result }
+{
+    let (first, last) = rows_of_slot::<Entry, Kind, PRECISION, SLOT_BITS>(entries, table, quantile);
+    if width_of_slots::<PRECISION, SLOT_BITS>() == 1 {
+        return first;
+    }
+    if last - first <= 2 {
+        return row_of_few::<Entry, Kind, PRECISION, SLOT_BITS>(entries, first, last, quantile);
+    }
+    row_among::<Entry, Kind, PRECISION, SLOT_BITS>(entries, first, last, quantile)
+}
+
+/// The same by a search, where the first and the last row of the slot are known. It is out of line, so that a
+/// look-up that needs none is as short as it can be.
+#[inline(never)]
+fn row_among<Entry, Kind: CdfEntry<Entry>, const PRECISION: usize, const SLOT_BITS: usize>(
+    entries: &[Entry],
+    first: usize,
+    last: usize,
+    quantile: Kind::Word,
+) -> usize
+    requires increases { IsStrictlyIncreasing (map Kind.cumulative entries.now) }
+    requires slot { IsSlot (map Kind.cumulative entries.now) (slot_width PRECISION SLOT_BITS)
+        (Kind.Word.whole quantile / slot_width PRECISION SLOT_BITS) first last }
+    ensures { IsLastAtMost (map Kind.cumulative entries.now) (Kind.Word.whole quantile) result }
+{
+    let mut rows = probe_of::<Entry, Kind>(entries, first, last);
+    first + row_of_quantile(&mut rows, quantile)
+}

@@ -1,0 +1,67 @@
+//! Reading entries from symbols and weights without comparing symbols.
+
+ghost use Rattle.std.specs.Prelude.{◌≡◌, ◌<◌, ◌≤◌, IfOk, false, map, refl};
+ghost use Rattle.std.specs.Iterator.{IsFiniteIterable};
+ghost use Rattle.constriction_model.specs.Acceptance.{completed, AreAccepted, GaveBothGood, GaveBothBad};
+ghost use Rattle.constriction_stored_rows.specs.Filling.{HoldsRows};
+ghost use Rattle.constriction_model.specs.Rows.{rows_of};
+
+use crate::filling::{room_for, rows_announced};
+use crate::reading::{TakesRows, rows_read};
+use constriction_model::ModelError;
+use constriction_numbers::WholeNumber;
+use std::alloc::Global;
+
+/// Left cumulatives and symbols, which are not compared.
+#[derive(Drop)]
+struct Uncompared<Word, Symbol> {
+    entries: Vec<(Word, Symbol)>,
+}
+
+impl<Word: WholeNumber, Symbol: Drop> TakesRows<Symbol, Word> for Uncompared<Word, Symbol> {
+    ghost symbol_eq = { λ _ _. false };
+
+    ghost holds = { λ v rows. HoldsRows Word.whole v.entries.items rows };
+
+    #[inline]
+    fn take_row(&mut self, symbol: Symbol, left: Word, _weight: Word) -> Result<(), ModelError> {
+        self.entries.push((left, symbol))?;
+        Ok(())
+    }
+
+    ghost symmetry_law = { λ s t. refl };
+}
+
+/// The entries of these symbols and weights, the last of which may be inferred. Symbols and weights are
+/// accepted as by a constructor, but that equal symbols are too.
+pub fn entries_read<
+    P: WholeNumber,
+    Symbol: Drop,
+    S: IntoIterator<Item = Symbol>,
+    W: IntoIterator<Item = P>,
+    const PRECISION: usize,
+>(alloc: Global, symbols: S, weights: W, infer_last: bool) -> Result<Vec<(P, Symbol)>, ModelError>
+    requires positive { 0 < PRECISION }
+    requires fits { PRECISION ≤ P.BITS }
+    requires symbols_end { IsFiniteIterable S.into_iter_gives S.IntoIter.can_next S.IntoIter.remaining symbols }
+    requires weights_end { IsFiniteIterable W.into_iter_gives W.IntoIter.can_next W.IntoIter.remaining weights }
+    ensures ok { IfOk result (λ v. (it : S.IntoIter) × S.into_iter_gives symbols it
+        × (jt : W.IntoIter) × W.into_iter_gives weights jt
+        × GaveBothGood S.IntoIter.next_gives it W.IntoIter.next_gives jt (λ ss ws.
+        AreAccepted (λ _ _. false) P.BITS PRECISION ss (completed PRECISION infer_last (map P.whole ws))
+        × HoldsRows P.whole v.items (rows_of ss (completed PRECISION infer_last (map P.whole ws))))) }
+    ensures invalid { result ≡ Err ModelError.InvalidTable → (it : S.IntoIter) × S.into_iter_gives symbols it
+        × (jt : W.IntoIter) × W.into_iter_gives weights jt
+        × GaveBothBad S.IntoIter.next_gives it W.IntoIter.next_gives jt (λ ss ws.
+        AreAccepted (λ _ _. false) P.BITS PRECISION ss (completed PRECISION infer_last (map P.whole ws))) }
+{
+    let symbols = symbols.into_iter();
+    let entries = room_for(alloc, rows_announced::<PRECISION>(symbols.size_hint().0));
+    let read = rows_read::<P, Symbol, Uncompared<P, Symbol>, _, _, PRECISION>(
+        Uncompared { entries },
+        symbols,
+        weights.into_iter(),
+        infer_last,
+    )?;
+    Ok(read.entries)
+}

@@ -1,0 +1,11 @@
+use Rattle.constriction_theorem.proofs.Making.{whatever-ok}
+use Rattle.constriction_theorem.proofs.symbols.answer_from_symbols_and_weights.Goals as goal
+
+pub returns-clause-accepted : goal.returns-clause-accepted
+returns-clause-accepted g c = whatever-ok c.answer_by_form.result c.in_ok-searching.ensures.ok.0
+
+pub returns-clause-rows : goal.returns-clause-rows
+returns-clause-rows g c = rw c.in_ok-searching.ensures.ok.1 at c.answer_by_form.ensures.rows
+
+pub returns-clause-exact : goal.returns-clause-exact
+returns-clause-exact g c = rw c.in_ok-searching.ensures.ok.1 at c.answer_by_form.ensures.exact

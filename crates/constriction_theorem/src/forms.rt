@@ -1,0 +1,61 @@
+//! Forms of a decoder, and what they reply after any conversions.
+
+ghost use Rattle.std.specs.Prelude.{◌≡◌, ◌<◌, ◌≤◌, map, true, false, IfOk, IfErr};
+ghost use Rattle.constriction.specs.Model.{ClonesAreSame, ClonesAreEqual};
+ghost use Rattle.constriction.specs.Rows.{entry_of};
+ghost use Rattle.constriction_client.specs.Chains.{is_lookup_after, ChainLeaves};
+ghost use Rattle.constriction_client.specs.declared.decoder_form.SearchOrLookup.TheVariants as kind;
+ghost use Rattle.constriction_client.specs.Replies.{in_numbers, replies_by_scan, StandForReplies};
+
+use constriction::stream::model::{EncodesOver, EntropyModel, ModelError};
+use constriction_client::{ChainStep, DecoderForm, Query, Reply, answer_queries, convert_chain};
+use constriction_words::IndexWord;
+use std::alloc::Global;
+
+/// A decoder in the form that a chain of conversions left, and what it replied.
+pub type FormAndReplies<Symbol, Probability, const PRECISION: usize> = (
+    DecoderForm<Symbol, Probability, PRECISION>,
+    Vec<Reply<Symbol, Probability>>,
+);
+
+/// Converts a decoder by any steps, and answers queries by the form that they leave and by an encoder of the
+/// same rows. The form has the kind that the steps say and the rows that they leave, and the replies are those
+/// that a scan of its rows gives; where clones of symbols are the same values, a scan of the rows before.
+///
+/// A clone has to be equal to its symbol, by the symbols' own equality and by the encoder's. The only refusal
+/// is `OutOfMemory`. The form is then given up. `PRECISION` is at most 63.
+pub fn answer_by_form<Symbol: Eq + Clone + Drop, Probability: IndexWord, E, const PRECISION: usize>(
+    alloc: Global,
+    form: DecoderForm<Symbol, Probability, PRECISION>,
+    steps: &[ChainStep],
+    encoder: &E,
+    queries: &[Query<Symbol, Probability>],
+) -> Result<FormAndReplies<Symbol, Probability, PRECISION>, ModelError>
+where
+    E: EncodesOver<Symbol, Probability, PRECISION>,
+    requires positive { 0 < PRECISION }
+    requires fits { PRECISION ≤ Probability.BITS }
+    requires narrow { PRECISION ≤ 63 }
+    requires clones { ClonesAreEqual Symbol.eq Symbol.is_clone }
+    requires equal { ClonesAreEqual E.symbol_eq Symbol.is_clone }
+    requires alike { (s : Symbol) → entry_of E.symbol_eq (E.rows encoder.now) s ≡ entry_of E.symbol_eq
+        (⟦<DecoderForm<Symbol, Probability, PRECISION> as EntropyModel<PRECISION>>⟧.rows form) s }
+    ensures kind { IfOk result (λ both. elim both.0 [ kind.Search _ ↦ false | kind.Lookup _ ↦ true ]
+        ≡ is_lookup_after steps.now (elim form [ kind.Search _ ↦ false | kind.Lookup _ ↦ true ])) }
+    ensures rows { IfOk result (λ both. ChainLeaves Symbol.is_clone steps.now
+        (⟦<DecoderForm<Symbol, Probability, PRECISION> as EntropyModel<PRECISION>>⟧.rows form)
+        (⟦<DecoderForm<Symbol, Probability, PRECISION> as EntropyModel<PRECISION>>⟧.rows both.0)) }
+    ensures replies { IfOk result (λ both. StandForReplies Symbol.is_clone
+        (map (in_numbers Probability.whole Probability.base) both.1.items)
+        (replies_by_scan PRECISION Probability.whole E.symbol_eq
+        (⟦<DecoderForm<Symbol, Probability, PRECISION> as EntropyModel<PRECISION>>⟧.rows both.0) queries.now)) }
+    ensures exact { IfOk result (λ both. ClonesAreSame Symbol.is_clone
+        → map (in_numbers Probability.whole Probability.base) both.1.items
+        ≡ replies_by_scan PRECISION Probability.whole E.symbol_eq
+        (⟦<DecoderForm<Symbol, Probability, PRECISION> as EntropyModel<PRECISION>>⟧.rows form) queries.now) }
+    ensures refused { IfErr result (λ e. e ≡ ModelError.OutOfMemory) }
+{
+    let converted = convert_chain(alloc, form, steps)?;
+    let replies = answer_queries::<_, _, _, _, PRECISION>(alloc, &converted, encoder, queries)?;
+    Ok((converted, replies))
+}

@@ -1,0 +1,205 @@
+//! Models that are made of lists and of other models, each by one call, in the terms of the laws.
+
+ghost use Rattle.std.specs.Prelude.{◌≡◌, ◌<◌, ◌≤◌, ℕ, map, nat_eq, IfOk, IfErr};
+ghost use Rattle.std.specs.List.{IsDistinct};
+ghost use Rattle.constriction.specs.Acceptance.{completed, IsAccepted, AreAccepted, GaveGood, GaveBad, GaveBothGood, GaveBothBad};
+ghost use Rattle.constriction.specs.Entries.{HoldsEntriesOf};
+ghost use Rattle.constriction.specs.Model.{StandForRows, ClonesAreEqual};
+ghost use Rattle.constriction.specs.Rows.{contiguous_rows, entry_of, rows_of, symbols_of};
+
+use constriction::laws::contiguous_symbols_differ;
+use constriction::stream::model::{
+    ContiguousCategoricalEntropyModel, EntropyModel, IterableEntropyModel, ModelError,
+    NonContiguousCategoricalDecoderModel, NonContiguousCategoricalEncoderModel,
+    to_generic_encoder_model,
+};
+use constriction_client::laws::{DecoderAndEncoder, decoder_and_encoder};
+use constriction_words::WholeNumber;
+use std::alloc::Global;
+use std::hash::Hash;
+use std::vec::IntoIter;
+
+/// The decoder over any symbols that searches.
+pub(crate) type Searching<Symbol, Probability, const PRECISION: usize> =
+    NonContiguousCategoricalDecoderModel<
+        Symbol,
+        Probability,
+        Vec<(Probability, Symbol)>,
+        PRECISION,
+    >;
+
+/// The model of the symbols 0, 1, .. that searches.
+pub(crate) type Contiguous<Probability, const PRECISION: usize> = ContiguousCategoricalEntropyModel<
+    Probability,
+    Vec<Probability>,
+    PRECISION,
+>;
+
+/// The searching decoder of two lists, as its constructor tells it of the iterators that they become.
+fn searching_of_lists<Symbol: Eq + Drop, Probability: WholeNumber, const PRECISION: usize>(
+    alloc: Global,
+    symbols: Vec<Symbol>,
+    weights: Vec<Probability>,
+    infer_last_probability: bool,
+) -> Result<Searching<Symbol, Probability, PRECISION>, ModelError>
+    requires positive { 0 < PRECISION }
+    requires fits { PRECISION ≤ Probability.BITS }
+    ensures ok { IfOk result (λ m. (it : _) × ⟦<Vec<Symbol> as IntoIterator>⟧.into_iter_gives symbols it
+        × (jt : _) × ⟦<Vec<Probability> as IntoIterator>⟧.into_iter_gives weights jt
+        × GaveBothGood ⟦<IntoIter<Symbol> as Iterator>⟧.next_gives it
+        ⟦<IntoIter<Probability> as Iterator>⟧.next_gives jt (λ ss ws.
+        let weights = completed PRECISION infer_last_probability (map Probability.whole ws) in
+        AreAccepted Symbol.eq Probability.BITS PRECISION ss weights
+        × (⟦<Searching<Symbol, Probability, PRECISION> as EntropyModel<PRECISION>>⟧.rows m ≡ rows_of ss weights))) }
+    ensures invalid { result ≡ Err ModelError.InvalidTable
+        → (it : _) × ⟦<Vec<Symbol> as IntoIterator>⟧.into_iter_gives symbols it
+        × (jt : _) × ⟦<Vec<Probability> as IntoIterator>⟧.into_iter_gives weights jt
+        × GaveBothBad ⟦<IntoIter<Symbol> as Iterator>⟧.next_gives it
+        ⟦<IntoIter<Probability> as Iterator>⟧.next_gives jt (λ ss ws.
+        AreAccepted Symbol.eq Probability.BITS PRECISION ss
+        (completed PRECISION infer_last_probability (map Probability.whole ws))) }
+{
+    Searching::from_symbols_and_nonzero_fixed_point_probabilities(
+        alloc,
+        symbols,
+        weights,
+        infer_last_probability,
+    )
+}
+
+/// The searching decoder of two lists.
+pub(crate) fn searching_from<Symbol: Eq + Drop, Probability: WholeNumber, const PRECISION: usize>(
+    alloc: Global,
+    symbols: Vec<Symbol>,
+    weights: Vec<Probability>,
+    infer_last_probability: bool,
+) -> Result<Searching<Symbol, Probability, PRECISION>, ModelError>
+    requires positive { 0 < PRECISION }
+    requires fits { PRECISION ≤ Probability.BITS }
+    ensures ok { IfOk result (λ m. AreAccepted Symbol.eq Probability.BITS PRECISION symbols.items
+        (completed PRECISION infer_last_probability (map Probability.whole weights.items))
+        × (⟦<Searching<Symbol, Probability, PRECISION> as EntropyModel<PRECISION>>⟧.rows m
+        ≡ rows_of symbols.items (completed PRECISION infer_last_probability (map Probability.whole weights.items)))) }
+    ensures invalid { result ≡ Err ModelError.InvalidTable
+        → ¬ (AreAccepted Symbol.eq Probability.BITS PRECISION symbols.items
+        (completed PRECISION infer_last_probability (map Probability.whole weights.items))) }
+{
+    searching_of_lists(alloc, symbols, weights, infer_last_probability)
+}
+
+/// The model of the symbols 0, 1, .. of a list, as its constructor tells it of the iterator that this becomes.
+fn contiguous_of_list<Probability: WholeNumber, const PRECISION: usize>(
+    alloc: Global,
+    weights: Vec<Probability>,
+    infer_last_probability: bool,
+) -> Result<Contiguous<Probability, PRECISION>, ModelError>
+    requires positive { 0 < PRECISION }
+    requires fits { PRECISION ≤ Probability.BITS }
+    ensures ok { IfOk result (λ m. (it : _) × ⟦<Vec<Probability> as IntoIterator>⟧.into_iter_gives weights it
+        × GaveGood ⟦<IntoIter<Probability> as Iterator>⟧.next_gives it (λ ws.
+        let weights = completed PRECISION infer_last_probability (map Probability.whole ws) in
+        IsAccepted Probability.BITS PRECISION weights
+        × (⟦<Contiguous<Probability, PRECISION> as EntropyModel<PRECISION>>⟧.rows m ≡ contiguous_rows weights))) }
+    ensures invalid { result ≡ Err ModelError.InvalidTable
+        → (it : _) × ⟦<Vec<Probability> as IntoIterator>⟧.into_iter_gives weights it
+        × GaveBad ⟦<IntoIter<Probability> as Iterator>⟧.next_gives it (λ ws.
+        IsAccepted Probability.BITS PRECISION
+        (completed PRECISION infer_last_probability (map Probability.whole ws))) }
+{
+    Contiguous::from_nonzero_fixed_point_probabilities(alloc, weights, infer_last_probability)
+}
+
+/// The model of the symbols 0, 1, .. of a list of weights.
+pub(crate) fn contiguous_from<Probability: WholeNumber, const PRECISION: usize>(
+    alloc: Global,
+    weights: Vec<Probability>,
+    infer_last_probability: bool,
+) -> Result<Contiguous<Probability, PRECISION>, ModelError>
+    requires positive { 0 < PRECISION }
+    requires fits { PRECISION ≤ Probability.BITS }
+    ensures ok { IfOk result (λ m. IsAccepted Probability.BITS PRECISION
+        (completed PRECISION infer_last_probability (map Probability.whole weights.items))
+        × (⟦<Contiguous<Probability, PRECISION> as EntropyModel<PRECISION>>⟧.rows m
+        ≡ contiguous_rows (completed PRECISION infer_last_probability (map Probability.whole weights.items)))) }
+    ensures invalid { result ≡ Err ModelError.InvalidTable → ¬ (IsAccepted Probability.BITS PRECISION
+        (completed PRECISION infer_last_probability (map Probability.whole weights.items))) }
+{
+    contiguous_of_list(alloc, weights, infer_last_probability)
+}
+
+/// The hashed encoder of the rows of a model that can be walked through.
+pub(crate) fn encoder_of<M, const PRECISION: usize>(
+    alloc: Global,
+    model: M,
+) -> Result<NonContiguousCategoricalEncoderModel<M::Symbol, M::Probability, PRECISION>, ModelError>
+where
+    M: IterableEntropyModel<PRECISION>,
+    M::Symbol: Hash + Eq + Drop,
+    ensures entries { IfOk result (λ e. HoldsEntriesOf M.Symbol.eq M.stands_for
+        (⟦<NonContiguousCategoricalEncoderModel<M::Symbol, M::Probability, PRECISION> as EntropyModel<PRECISION>>⟧.rows e)
+        (M.rows model)) }
+    ensures refused { IfErr result (λ e. e ≡ ModelError.OutOfMemory) }
+{
+    to_generic_encoder_model::<M, PRECISION>(alloc, model)
+}
+
+/// The hashed encoder of a searching decoder's rows, whose symbols are cloned.
+pub(crate) fn hashed_of<
+    Symbol: Hash + Eq + Clone + Drop,
+    Probability: WholeNumber,
+    const PRECISION: usize,
+>(
+    alloc: Global,
+    model: &Searching<Symbol, Probability, PRECISION>,
+) -> Result<NonContiguousCategoricalEncoderModel<Symbol, Probability, PRECISION>, ModelError>
+    requires { ClonesAreEqual Symbol.eq Symbol.is_clone }
+    ensures entries { IfOk result (λ e. (s : Symbol) → entry_of Symbol.eq
+        (⟦<NonContiguousCategoricalEncoderModel<Symbol, Probability, PRECISION> as EntropyModel<PRECISION>>⟧.rows e) s
+        ≡ entry_of Symbol.eq (⟦<Searching<Symbol, Probability, PRECISION> as EntropyModel<PRECISION>>⟧.rows model.now) s) }
+    ensures refused { IfErr result (λ e. e ≡ ModelError.OutOfMemory) }
+{
+    encoder_of::<_, PRECISION>(alloc, model)
+}
+
+/// The searching decoder and the hashed encoder of a model's rows, no two symbols of which are equal.
+pub(crate) fn both_of<M, const PRECISION: usize>(
+    alloc: Global,
+    model: M,
+) -> Result<DecoderAndEncoder<M::Symbol, M::Probability, PRECISION>, ModelError>
+where
+    M: IterableEntropyModel<PRECISION> + Copy,
+    M::Symbol: Hash + Eq + Drop,
+    requires positive { 0 < PRECISION }
+    requires fits { PRECISION ≤ M.Probability.BITS }
+    requires clones { ClonesAreEqual M.Symbol.eq M.stands_for }
+    requires distinct { IsDistinct M.Symbol.eq (symbols_of (M.rows model)) }
+    ensures rows { IfOk result (λ both. StandForRows M.stands_for
+        (⟦<NonContiguousCategoricalDecoderModel<M::Symbol, M::Probability, Vec<(M::Probability, M::Symbol)>, PRECISION> as EntropyModel<PRECISION>>⟧.rows both.0)
+        (M.rows model)) }
+    ensures alike { IfOk result (λ both. (s : M.Symbol) → entry_of M.Symbol.eq
+        (⟦<NonContiguousCategoricalEncoderModel<M::Symbol, M::Probability, PRECISION> as EntropyModel<PRECISION>>⟧.rows both.1) s
+        ≡ entry_of M.Symbol.eq
+        (⟦<NonContiguousCategoricalDecoderModel<M::Symbol, M::Probability, Vec<(M::Probability, M::Symbol)>, PRECISION> as EntropyModel<PRECISION>>⟧.rows both.0) s) }
+    ensures refused { IfErr result (λ e. e ≡ ModelError.OutOfMemory) }
+{
+    decoder_and_encoder::<M, PRECISION>(alloc, model)
+}
+
+/// The searching decoder and the hashed encoder over any symbols of the rows of a model of the symbols 0, 1, ...
+pub(crate) fn both_of_contiguous<Probability: WholeNumber, const PRECISION: usize>(
+    alloc: Global,
+    model: &Contiguous<Probability, PRECISION>,
+) -> Result<DecoderAndEncoder<usize, Probability, PRECISION>, ModelError>
+    requires positive { 0 < PRECISION }
+    requires fits { PRECISION ≤ Probability.BITS }
+    ensures rows { IfOk result (λ both. StandForRows (λ s t. t ≡ s)
+        (⟦<Searching<usize, Probability, PRECISION> as EntropyModel<PRECISION>>⟧.rows both.0)
+        (⟦<Contiguous<Probability, PRECISION> as EntropyModel<PRECISION>>⟧.rows model.now)) }
+    ensures alike { IfOk result (λ both. (s : ℕ) → entry_of nat_eq
+        (⟦<NonContiguousCategoricalEncoderModel<usize, Probability, PRECISION> as EntropyModel<PRECISION>>⟧.rows both.1) s
+        ≡ entry_of nat_eq (⟦<Searching<usize, Probability, PRECISION> as EntropyModel<PRECISION>>⟧.rows both.0) s) }
+    ensures refused { IfErr result (λ e. e ≡ ModelError.OutOfMemory) }
+{
+    contiguous_symbols_differ();
+    both_of::<_, PRECISION>(alloc, model)
+}

@@ -1,0 +1,134 @@
+//! Any model whose rows can be walked through, and what it and the form that is made of it reply.
+
+ghost use Rattle.std.specs.Prelude.{◌≡◌, ◌<◌, ◌≤◌, List, map, true, false, IfOk, IfErr};
+ghost use Rattle.std.specs.List.{IsDistinct};
+ghost use Rattle.constriction.specs.Model.{StandForRows, ClonesAreSame, ClonesAreEqual};
+ghost use Rattle.constriction.specs.Rows.{Row, symbols_of};
+ghost use Rattle.constriction_client.specs.Chains.{is_lookup_after, ChainLeaves};
+ghost use Rattle.constriction_client.specs.declared.decoder_form.SearchOrLookup.TheVariants as kind;
+ghost use Rattle.constriction_client.specs.Replies.{in_numbers, replies_by_scan, StandForReplies};
+
+use crate::forms::{FormAndReplies, answer_by_form};
+use crate::made::{both_of, encoder_of};
+use constriction::stream::model::{DecoderModel, EntropyModel, IterableEntropyModel, ModelError};
+use constriction_client::{ChainStep, DecoderForm, Query, Reply, answer_queries};
+use constriction_words::{IndexWord, WholeNumber};
+use std::alloc::Global;
+use std::hash::Hash;
+
+/// Makes the searching decoder and the hashed encoder of the rows of any model that can be walked through,
+/// converts the decoder by any steps, and answers queries by the form that they leave and by the encoder. Where
+/// the symbols of the walk and clones of symbols are the same values, the replies are those that a scan of the
+/// model's rows gives.
+///
+/// No two symbols of the rows are equal. The only refusal is `OutOfMemory`. The form has the kind that the
+/// steps say. `PRECISION` is at most 63.
+pub fn answer_by_table<M, const PRECISION: usize>(
+    alloc: Global,
+    model: M,
+    steps: &[ChainStep],
+    queries: &[Query<M::Symbol, M::Probability>],
+) -> Result<FormAndReplies<M::Symbol, M::Probability, PRECISION>, ModelError>
+where
+    M: IterableEntropyModel<PRECISION> + Copy,
+    M::Symbol: Hash + Eq + Clone + Drop,
+    M::Probability: IndexWord,
+    requires positive { 0 < PRECISION }
+    requires fits { PRECISION ≤ M.Probability.BITS }
+    requires narrow { PRECISION ≤ 63 }
+    requires walked { ClonesAreEqual M.Symbol.eq M.stands_for }
+    requires clones { ClonesAreEqual M.Symbol.eq M.Symbol.is_clone }
+    requires distinct { IsDistinct M.Symbol.eq (symbols_of (M.rows model)) }
+    ensures kind { IfOk result (λ both. elim both.0 [ kind.Search _ ↦ false | kind.Lookup _ ↦ true ]
+        ≡ is_lookup_after steps.now false) }
+    ensures rows { IfOk result (λ both. (walked : List (Row M.Symbol)) × StandForRows M.stands_for walked (M.rows model)
+        × ChainLeaves M.Symbol.is_clone steps.now walked
+        (⟦<DecoderForm<M::Symbol, M::Probability, PRECISION> as EntropyModel<PRECISION>>⟧.rows both.0)) }
+    ensures exact_rows { IfOk result (λ both. ClonesAreSame M.stands_for → ClonesAreSame M.Symbol.is_clone
+        → ⟦<DecoderForm<M::Symbol, M::Probability, PRECISION> as EntropyModel<PRECISION>>⟧.rows both.0 ≡ M.rows model) }
+    ensures replies { IfOk result (λ both. StandForReplies M.Symbol.is_clone
+        (map (in_numbers M.Probability.whole M.Probability.base) both.1.items)
+        (replies_by_scan PRECISION M.Probability.whole M.Symbol.eq
+        (⟦<DecoderForm<M::Symbol, M::Probability, PRECISION> as EntropyModel<PRECISION>>⟧.rows both.0) queries.now)) }
+    ensures exact { IfOk result (λ both. ClonesAreSame M.stands_for → ClonesAreSame M.Symbol.is_clone
+        → map (in_numbers M.Probability.whole M.Probability.base) both.1.items
+        ≡ replies_by_scan PRECISION M.Probability.whole M.Symbol.eq (M.rows model) queries.now) }
+    ensures refused { IfErr result (λ e. e ≡ ModelError.OutOfMemory) }
+{
+    let (decoder, encoder) = both_of::<M, PRECISION>(alloc, model)?;
+    answer_by_form(
+        alloc,
+        DecoderForm::Search(decoder),
+        steps,
+        &encoder,
+        queries,
+    )
+}
+
+/// What a model replied, the form that a chain of conversions made of it, and what that replied.
+#[derive(Drop)]
+pub struct AnswersOfModel<Symbol, Word: WholeNumber, Form> {
+    /// The model's own replies.
+    pub by_model: Vec<Reply<Symbol, Word>>,
+    /// The decoder over any symbols after the steps.
+    pub form: Form,
+    /// The replies of that form.
+    pub converted: Vec<Reply<Symbol, Word>>,
+}
+
+/// Answers queries by a decoder whose rows can be walked through, one of the caller's own too, and by the form
+/// that the steps make of it as in [`answer_by_table`], both with the hashed encoder that is made of it. Where
+/// the symbols of its answers and clones of symbols are the same values, the replies of both are those that a
+/// scan of the model's rows gives. It knows of the model the laws of its traits and nothing else.
+///
+/// No two symbols of the rows are equal. The only refusal is `OutOfMemory`. `PRECISION` is at most 63.
+pub fn answer_by_model<M, const PRECISION: usize>(
+    alloc: Global,
+    model: M,
+    steps: &[ChainStep],
+    queries: &[Query<M::Symbol, M::Probability>],
+) -> Result<
+    AnswersOfModel<M::Symbol, M::Probability, DecoderForm<M::Symbol, M::Probability, PRECISION>>,
+    ModelError,
+>
+where
+    M: DecoderModel<PRECISION> + IterableEntropyModel<PRECISION> + Copy,
+    M::Symbol: Hash + Eq + Clone + Drop,
+    M::Probability: IndexWord,
+    requires positive { 0 < PRECISION }
+    requires fits { PRECISION ≤ M.Probability.BITS }
+    requires narrow { PRECISION ≤ 63 }
+    requires walked { ClonesAreEqual M.Symbol.eq M.IterableEntropyModel.stands_for }
+    requires clones { ClonesAreEqual M.Symbol.eq M.Symbol.is_clone }
+    requires distinct { IsDistinct M.Symbol.eq (symbols_of (M.rows model)) }
+    ensures by_model { IfOk result (λ answers. StandForReplies M.DecoderModel.stands_for
+        (map (in_numbers M.Probability.whole M.Probability.base) answers.by_model.items)
+        (replies_by_scan PRECISION M.Probability.whole M.Symbol.eq (M.rows model) queries.now)) }
+    ensures exact { IfOk result (λ answers. ClonesAreSame M.DecoderModel.stands_for
+        → map (in_numbers M.Probability.whole M.Probability.base) answers.by_model.items
+        ≡ replies_by_scan PRECISION M.Probability.whole M.Symbol.eq (M.rows model) queries.now) }
+    ensures kind { IfOk result (λ answers. elim answers.form [ kind.Search _ ↦ false | kind.Lookup _ ↦ true ]
+        ≡ is_lookup_after steps.now false) }
+    ensures rows { IfOk result (λ answers. (walked : List (Row M.Symbol))
+        × StandForRows M.IterableEntropyModel.stands_for walked (M.rows model)
+        × ChainLeaves M.Symbol.is_clone steps.now walked
+        (⟦<DecoderForm<M::Symbol, M::Probability, PRECISION> as EntropyModel<PRECISION>>⟧.rows answers.form)) }
+    ensures converted { IfOk result (λ answers. StandForReplies M.Symbol.is_clone
+        (map (in_numbers M.Probability.whole M.Probability.base) answers.converted.items)
+        (replies_by_scan PRECISION M.Probability.whole M.Symbol.eq
+        (⟦<DecoderForm<M::Symbol, M::Probability, PRECISION> as EntropyModel<PRECISION>>⟧.rows answers.form) queries.now)) }
+    ensures converted_exact { IfOk result (λ answers. ClonesAreSame M.IterableEntropyModel.stands_for
+        → ClonesAreSame M.Symbol.is_clone
+        → map (in_numbers M.Probability.whole M.Probability.base) answers.converted.items
+        ≡ replies_by_scan PRECISION M.Probability.whole M.Symbol.eq (M.rows model) queries.now) }
+    ensures refused { IfErr result (λ e. e ≡ ModelError.OutOfMemory) }
+{
+    let encoder = encoder_of::<M, PRECISION>(alloc, model)?;
+    let by_model = answer_queries::<_, _, _, _, PRECISION>(alloc, &model, &encoder, queries)?;
+    let (form, converted) = answer_by_table::<M, PRECISION>(alloc, model, steps, queries)?;
+    Ok(AnswersOfModel {
+        by_model,
+        form,
+        converted,
+    })
+}

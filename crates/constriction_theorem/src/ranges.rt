@@ -1,0 +1,117 @@
+//! A range of symbols of equal weight, and what the dividing model replies.
+//!
+//! A law over any word would hold a model of three such words in itself, whose size nothing bounds; so it stands for
+//! each index word.
+
+ghost use Rattle.std.specs.Prelude.{◌≡◌, ◌^◌, ◌<◌, ◌≤◌, map, nat_eq, true, false, IfOk, IfErr};
+ghost use Rattle.constriction.specs.Rows.{uniform_rows};
+ghost use Rattle.constriction_client.specs.Chains.{is_lookup_after};
+ghost use Rattle.constriction_client.specs.declared.decoder_form.SearchOrLookup.TheVariants as kind;
+ghost use Rattle.constriction_client.specs.Replies.{in_numbers, replies_by_scan};
+
+use crate::models::{AnswersOfModel, answer_by_table};
+use constriction::laws::contiguous_symbols_differ;
+use constriction::stream::model::{EntropyModel, ModelError, UniformModel};
+use constriction_client::{ChainStep, DecoderForm, Query, answer_queries};
+use constriction_words::WholeNumber;
+use std::alloc::Global;
+
+/// Makes the dividing model of so many symbols over words of `u8`, converts the decoder over any symbols that is made
+/// of its rows by any steps, and answers queries by the model in both directions, and by the form beside the hashed
+/// encoder: the replies of each are those that a scan of the uniform rows gives.
+///
+/// `range` is at least 2 and at most `2^PRECISION`. The only refusal is `OutOfMemory`.
+pub fn answer_from_range_u8<const PRECISION: usize>(
+    alloc: Global,
+    range: usize,
+    steps: &[ChainStep],
+    queries: &[Query<usize, u8>],
+) -> Result<AnswersOfModel<usize, u8, DecoderForm<usize, u8, PRECISION>>, ModelError>
+    requires positive { 0 < PRECISION }
+    requires fits { PRECISION ≤ 8 }
+    requires some { 2 ≤ range }
+    requires within { range ≤ 2 ^ PRECISION }
+    ensures dividing { IfOk result (λ answers. map (in_numbers (λ w. w) ⟦<u8 as WholeNumber>⟧.base) answers.by_model.items
+        ≡ replies_by_scan PRECISION (λ w. w) nat_eq (uniform_rows PRECISION range) queries.now) }
+    ensures kind { IfOk result (λ answers. elim answers.form [ kind.Search _ ↦ false | kind.Lookup _ ↦ true ]
+        ≡ is_lookup_after steps.now false) }
+    ensures rows { IfOk result (λ answers. ⟦<DecoderForm<usize, u8, PRECISION> as EntropyModel<PRECISION>>⟧.rows answers.form
+        ≡ uniform_rows PRECISION range) }
+    ensures converted { IfOk result (λ answers. map (in_numbers (λ w. w) ⟦<u8 as WholeNumber>⟧.base) answers.converted.items
+        ≡ replies_by_scan PRECISION (λ w. w) nat_eq (uniform_rows PRECISION range) queries.now) }
+    ensures refused { IfErr result (λ e. e ≡ ModelError.OutOfMemory) }
+{
+    contiguous_symbols_differ();
+    let model = UniformModel::<u8, PRECISION>::new(range);
+    let by_model = answer_queries::<_, _, _, _, PRECISION>(alloc, &model, &model, queries)?;
+    let (form, converted) = answer_by_table::<_, PRECISION>(alloc, model, steps, queries)?;
+    Ok(AnswersOfModel {
+        by_model,
+        form,
+        converted,
+    })
+}
+
+/// The same over words of `u16`.
+pub fn answer_from_range_u16<const PRECISION: usize>(
+    alloc: Global,
+    range: usize,
+    steps: &[ChainStep],
+    queries: &[Query<usize, u16>],
+) -> Result<AnswersOfModel<usize, u16, DecoderForm<usize, u16, PRECISION>>, ModelError>
+    requires positive { 0 < PRECISION }
+    requires fits { PRECISION ≤ 16 }
+    requires some { 2 ≤ range }
+    requires within { range ≤ 2 ^ PRECISION }
+    ensures dividing { IfOk result (λ answers. map (in_numbers (λ w. w) ⟦<u16 as WholeNumber>⟧.base) answers.by_model.items
+        ≡ replies_by_scan PRECISION (λ w. w) nat_eq (uniform_rows PRECISION range) queries.now) }
+    ensures kind { IfOk result (λ answers. elim answers.form [ kind.Search _ ↦ false | kind.Lookup _ ↦ true ]
+        ≡ is_lookup_after steps.now false) }
+    ensures rows { IfOk result (λ answers. ⟦<DecoderForm<usize, u16, PRECISION> as EntropyModel<PRECISION>>⟧.rows answers.form
+        ≡ uniform_rows PRECISION range) }
+    ensures converted { IfOk result (λ answers. map (in_numbers (λ w. w) ⟦<u16 as WholeNumber>⟧.base) answers.converted.items
+        ≡ replies_by_scan PRECISION (λ w. w) nat_eq (uniform_rows PRECISION range) queries.now) }
+    ensures refused { IfErr result (λ e. e ≡ ModelError.OutOfMemory) }
+{
+    contiguous_symbols_differ();
+    let model = UniformModel::<u16, PRECISION>::new(range);
+    let by_model = answer_queries::<_, _, _, _, PRECISION>(alloc, &model, &model, queries)?;
+    let (form, converted) = answer_by_table::<_, PRECISION>(alloc, model, steps, queries)?;
+    Ok(AnswersOfModel {
+        by_model,
+        form,
+        converted,
+    })
+}
+
+/// The same over words of `usize`. `PRECISION` is at most 63.
+pub fn answer_from_range_usize<const PRECISION: usize>(
+    alloc: Global,
+    range: usize,
+    steps: &[ChainStep],
+    queries: &[Query<usize, usize>],
+) -> Result<AnswersOfModel<usize, usize, DecoderForm<usize, usize, PRECISION>>, ModelError>
+    requires positive { 0 < PRECISION }
+    requires narrow { PRECISION ≤ 63 }
+    requires some { 2 ≤ range }
+    requires within { range ≤ 2 ^ PRECISION }
+    ensures dividing { IfOk result (λ answers. map (in_numbers (λ w. w) ⟦<usize as WholeNumber>⟧.base) answers.by_model.items
+        ≡ replies_by_scan PRECISION (λ w. w) nat_eq (uniform_rows PRECISION range) queries.now) }
+    ensures kind { IfOk result (λ answers. elim answers.form [ kind.Search _ ↦ false | kind.Lookup _ ↦ true ]
+        ≡ is_lookup_after steps.now false) }
+    ensures rows { IfOk result (λ answers. ⟦<DecoderForm<usize, usize, PRECISION> as EntropyModel<PRECISION>>⟧.rows answers.form
+        ≡ uniform_rows PRECISION range) }
+    ensures converted { IfOk result (λ answers. map (in_numbers (λ w. w) ⟦<usize as WholeNumber>⟧.base) answers.converted.items
+        ≡ replies_by_scan PRECISION (λ w. w) nat_eq (uniform_rows PRECISION range) queries.now) }
+    ensures refused { IfErr result (λ e. e ≡ ModelError.OutOfMemory) }
+{
+    contiguous_symbols_differ();
+    let model = UniformModel::<usize, PRECISION>::new(range);
+    let by_model = answer_queries::<_, _, _, _, PRECISION>(alloc, &model, &model, queries)?;
+    let (form, converted) = answer_by_table::<_, PRECISION>(alloc, model, steps, queries)?;
+    Ok(AnswersOfModel {
+        by_model,
+        form,
+        converted,
+    })
+}

@@ -1,0 +1,76 @@
+//! Symbols and weights, and what the models of them reply.
+
+ghost use Rattle.std.specs.Prelude.{◌≡◌, ◌<◌, ◌≤◌, map, true, false, IfOk};
+ghost use Rattle.constriction.specs.Acceptance.{completed, AreAccepted};
+ghost use Rattle.constriction.specs.Model.{ClonesAreSame, ClonesAreEqual};
+ghost use Rattle.constriction.specs.Rows.{rows_of};
+ghost use Rattle.constriction_client.specs.Chains.{is_lookup_after, ChainLeaves};
+ghost use Rattle.constriction_client.specs.declared.decoder_form.SearchOrLookup.TheVariants as kind;
+ghost use Rattle.constriction_client.specs.Replies.{in_numbers, replies_by_scan, StandForReplies};
+
+use crate::forms::{FormAndReplies, answer_by_form};
+use crate::made::{hashed_of, searching_from};
+use constriction::stream::model::{EntropyModel, ModelError};
+use constriction_client::{ChainStep, DecoderForm, Query};
+use constriction_words::IndexWord;
+use std::alloc::Global;
+use std::hash::Hash;
+
+/// Makes the searching decoder of symbols and weights and the hashed encoder of the same rows, converts the
+/// decoder by any steps, and answers queries by the form that they leave and by the encoder. Where clones of
+/// symbols are the same values, the replies are those that a scan of the rows of the symbols and the weights
+/// gives; where they are equal to their symbols and not the same, as of a `String`, those of a scan of these rows
+/// with clones of the symbols.
+///
+/// `InvalidTable` comes only where the symbols and the weights, the inferred one among them, are not accepted,
+/// `OutOfMemory` where memory is refused. The form has the kind that the steps say. `PRECISION` is at most 63.
+pub fn answer_from_symbols_and_weights<
+    Symbol: Hash + Eq + Clone + Drop,
+    Probability: IndexWord,
+    const PRECISION: usize,
+>(
+    alloc: Global,
+    symbols: Vec<Symbol>,
+    weights: Vec<Probability>,
+    infer_last_probability: bool,
+    steps: &[ChainStep],
+    queries: &[Query<Symbol, Probability>],
+) -> Result<FormAndReplies<Symbol, Probability, PRECISION>, ModelError>
+    requires positive { 0 < PRECISION }
+    requires fits { PRECISION ≤ Probability.BITS }
+    requires narrow { PRECISION ≤ 63 }
+    requires clones { ClonesAreEqual Symbol.eq Symbol.is_clone }
+    ensures accepted { IfOk result (λ _. AreAccepted Symbol.eq Probability.BITS PRECISION symbols.items
+        (completed PRECISION infer_last_probability (map Probability.whole weights.items))) }
+    ensures invalid { result ≡ Err ModelError.InvalidTable
+        → ¬ (AreAccepted Symbol.eq Probability.BITS PRECISION symbols.items
+        (completed PRECISION infer_last_probability (map Probability.whole weights.items))) }
+    ensures kind { IfOk result (λ both. elim both.0 [ kind.Search _ ↦ false | kind.Lookup _ ↦ true ]
+        ≡ is_lookup_after steps.now false) }
+    ensures rows { IfOk result (λ both. ChainLeaves Symbol.is_clone steps.now
+        (rows_of symbols.items (completed PRECISION infer_last_probability (map Probability.whole weights.items)))
+        (⟦<DecoderForm<Symbol, Probability, PRECISION> as EntropyModel<PRECISION>>⟧.rows both.0)) }
+    ensures replies { IfOk result (λ both. StandForReplies Symbol.is_clone
+        (map (in_numbers Probability.whole Probability.base) both.1.items)
+        (replies_by_scan PRECISION Probability.whole Symbol.eq
+        (⟦<DecoderForm<Symbol, Probability, PRECISION> as EntropyModel<PRECISION>>⟧.rows both.0) queries.now)) }
+    ensures exact { IfOk result (λ both. ClonesAreSame Symbol.is_clone
+        → map (in_numbers Probability.whole Probability.base) both.1.items
+        ≡ replies_by_scan PRECISION Probability.whole Symbol.eq
+        (rows_of symbols.items (completed PRECISION infer_last_probability (map Probability.whole weights.items))) queries.now) }
+{
+    let searching = searching_from::<Symbol, Probability, PRECISION>(
+        alloc,
+        symbols,
+        weights,
+        infer_last_probability,
+    )?;
+    let encoder = hashed_of(alloc, &searching)?;
+    answer_by_form(
+        alloc,
+        DecoderForm::Search(searching),
+        steps,
+        &encoder,
+        queries,
+    )
+}

@@ -1,0 +1,208 @@
+//! Weights alone, and what the models of the symbols 0, 1, .. reply.
+
+ghost use Rattle.std.specs.Prelude.{◌≡◌, ◌<◌, ◌≤◌, ℕ, map, nat_eq, true, false, IfOk, IfErr};
+ghost use Rattle.constriction.specs.Acceptance.{completed, IsAccepted};
+ghost use Rattle.constriction.specs.Model.{ClonesAreSame};
+ghost use Rattle.constriction.specs.Rows.{contiguous_rows, entry_of};
+ghost use Rattle.constriction_client.specs.Chains.{is_lookup_after};
+ghost use Rattle.constriction_client.specs.declared.decoder_form.SearchOrLookup.TheVariants as kind;
+ghost use Rattle.constriction_client.specs.Replies.{in_numbers, replies_by_scan};
+
+use crate::made::{Contiguous, both_of_contiguous, contiguous_from};
+use constriction::stream::model::{
+    DecodesOver, EncodesOver, EntropyModel, ModelError, NonContiguousCategoricalEncoderModel,
+};
+use constriction_client::{ChainStep, DecoderForm, Query, Reply, answer_queries, convert_chain};
+use constriction_words::{IndexWord, WholeNumber};
+use std::alloc::{AllocError, Global};
+
+/// What a decoder replied beside each of two encoders.
+#[derive(Drop)]
+pub struct RepliesByEncoder<Word: WholeNumber> {
+    /// Beside the model of the symbols 0, 1, .. that searches.
+    pub contiguous: Vec<Reply<usize, Word>>,
+    /// Beside the hashed encoder.
+    pub hashed: Vec<Reply<usize, Word>>,
+}
+
+/// What the models of one list of weights replied to the same queries.
+#[derive(Drop)]
+pub struct AnswersOfWeights<Word: WholeNumber, Form> {
+    /// The model that searches all rows.
+    pub searching: RepliesByEncoder<Word>,
+    /// The model with a table of 256 slots at most.
+    pub tabled: RepliesByEncoder<Word>,
+    /// The model with a slot for each quantile.
+    pub direct: RepliesByEncoder<Word>,
+    /// The decoder over any symbols after the steps.
+    pub form: Form,
+    /// The replies of that form.
+    pub converted: RepliesByEncoder<Word>,
+}
+
+/// The replies of a decoder beside each of two encoders of its rows.
+fn asked_beside_both<Word, D, E, F, const PRECISION: usize>(
+    alloc: Global,
+    decoder: &D,
+    contiguous: &E,
+    hashed: &F,
+    queries: &[Query<usize, Word>],
+) -> Result<RepliesByEncoder<Word>, AllocError>
+where
+    Word: WholeNumber,
+    D: DecodesOver<usize, Word, PRECISION>,
+    E: EncodesOver<usize, Word, PRECISION>,
+    F: EncodesOver<usize, Word, PRECISION>,
+    requires positive { 0 < PRECISION }
+    requires fits { PRECISION ≤ Word.BITS }
+    requires same { ClonesAreSame D.stands_for }
+    requires contiguous { (s : ℕ) → entry_of E.symbol_eq (E.rows contiguous.now) s ≡ entry_of E.symbol_eq (D.rows decoder.now) s }
+    requires hashed { (s : ℕ) → entry_of F.symbol_eq (F.rows hashed.now) s ≡ entry_of F.symbol_eq (D.rows decoder.now) s }
+    ensures contiguous { IfOk result (λ replies. map (in_numbers Word.whole Word.base) replies.contiguous.items
+        ≡ replies_by_scan PRECISION Word.whole E.symbol_eq (D.rows decoder.now) queries.now) }
+    ensures hashed { IfOk result (λ replies. map (in_numbers Word.whole Word.base) replies.hashed.items
+        ≡ replies_by_scan PRECISION Word.whole F.symbol_eq (D.rows decoder.now) queries.now) }
+{
+    let beside_contiguous = answer_queries::<_, _, _, _, PRECISION>(
+        alloc, decoder, contiguous, queries,
+    )?;
+    let beside_hashed = answer_queries::<_, _, _, _, PRECISION>(alloc, decoder, hashed, queries)?;
+    Ok(RepliesByEncoder {
+        contiguous: beside_contiguous,
+        hashed: beside_hashed,
+    })
+}
+
+/// The form that the steps leave of a model's rows, and the hashed encoder of these.
+fn converted_from<Probability: IndexWord, const PRECISION: usize>(
+    alloc: Global,
+    model: &Contiguous<Probability, PRECISION>,
+    steps: &[ChainStep],
+) -> Result<
+    (
+        DecoderForm<usize, Probability, PRECISION>,
+        NonContiguousCategoricalEncoderModel<usize, Probability, PRECISION>,
+    ),
+    ModelError,
+>
+    requires positive { 0 < PRECISION }
+    requires fits { PRECISION ≤ Probability.BITS }
+    requires narrow { PRECISION ≤ 63 }
+    ensures kind { IfOk result (λ both. elim both.0 [ kind.Search _ ↦ false | kind.Lookup _ ↦ true ]
+        ≡ is_lookup_after steps.now false) }
+    ensures rows { IfOk result (λ both. ⟦<DecoderForm<usize, Probability, PRECISION> as EntropyModel<PRECISION>>⟧.rows both.0
+        ≡ ⟦<Contiguous<Probability, PRECISION> as EntropyModel<PRECISION>>⟧.rows model.now) }
+    ensures entries { IfOk result (λ both. (s : ℕ) → entry_of nat_eq
+        (⟦<NonContiguousCategoricalEncoderModel<usize, Probability, PRECISION> as EntropyModel<PRECISION>>⟧.rows both.1) s
+        ≡ entry_of nat_eq (⟦<Contiguous<Probability, PRECISION> as EntropyModel<PRECISION>>⟧.rows model.now) s) }
+    ensures refused { IfErr result (λ e. e ≡ ModelError.OutOfMemory) }
+{
+    let (decoder, hashed) = both_of_contiguous(alloc, model)?;
+    let form = convert_chain(alloc, DecoderForm::Search(decoder), steps)?;
+    Ok((form, hashed))
+}
+
+/// The replies of all models of a model's rows.
+fn answers_of<Probability: IndexWord, const PRECISION: usize>(
+    alloc: Global,
+    model: &Contiguous<Probability, PRECISION>,
+    steps: &[ChainStep],
+    queries: &[Query<usize, Probability>],
+) -> Result<AnswersOfWeights<Probability, DecoderForm<usize, Probability, PRECISION>>, ModelError>
+    requires positive { 0 < PRECISION }
+    requires fits { PRECISION ≤ Probability.BITS }
+    requires narrow { PRECISION ≤ 63 }
+    ensures searching { IfOk result (λ answers. let scanned = replies_by_scan PRECISION Probability.whole nat_eq
+        (⟦<Contiguous<Probability, PRECISION> as EntropyModel<PRECISION>>⟧.rows model.now) queries.now in
+        (map (in_numbers Probability.whole Probability.base) answers.searching.contiguous.items ≡ scanned)
+        × (map (in_numbers Probability.whole Probability.base) answers.searching.hashed.items ≡ scanned)) }
+    ensures tabled { IfOk result (λ answers. let scanned = replies_by_scan PRECISION Probability.whole nat_eq
+        (⟦<Contiguous<Probability, PRECISION> as EntropyModel<PRECISION>>⟧.rows model.now) queries.now in
+        (map (in_numbers Probability.whole Probability.base) answers.tabled.contiguous.items ≡ scanned)
+        × (map (in_numbers Probability.whole Probability.base) answers.tabled.hashed.items ≡ scanned)) }
+    ensures direct { IfOk result (λ answers. let scanned = replies_by_scan PRECISION Probability.whole nat_eq
+        (⟦<Contiguous<Probability, PRECISION> as EntropyModel<PRECISION>>⟧.rows model.now) queries.now in
+        (map (in_numbers Probability.whole Probability.base) answers.direct.contiguous.items ≡ scanned)
+        × (map (in_numbers Probability.whole Probability.base) answers.direct.hashed.items ≡ scanned)) }
+    ensures kind { IfOk result (λ answers. elim answers.form [ kind.Search _ ↦ false | kind.Lookup _ ↦ true ]
+        ≡ is_lookup_after steps.now false) }
+    ensures rows { IfOk result (λ answers.
+        ⟦<DecoderForm<usize, Probability, PRECISION> as EntropyModel<PRECISION>>⟧.rows answers.form
+        ≡ ⟦<Contiguous<Probability, PRECISION> as EntropyModel<PRECISION>>⟧.rows model.now) }
+    ensures converted { IfOk result (λ answers. let scanned = replies_by_scan PRECISION Probability.whole nat_eq
+        (⟦<Contiguous<Probability, PRECISION> as EntropyModel<PRECISION>>⟧.rows model.now) queries.now in
+        (map (in_numbers Probability.whole Probability.base) answers.converted.contiguous.items ≡ scanned)
+        × (map (in_numbers Probability.whole Probability.base) answers.converted.hashed.items ≡ scanned)) }
+    ensures refused { IfErr result (λ e. e ≡ ModelError.OutOfMemory) }
+{
+    let tabled = model.to_lookup_decoder_model(alloc)?;
+    let direct = model.to_slotted_lookup_decoder_model::<PRECISION>(alloc)?;
+    let (form, hashed) = converted_from(alloc, model, steps)?;
+    let by_search = asked_beside_both::<_, _, _, _, PRECISION>(
+        alloc, model, model, &hashed, queries,
+    )?;
+    let by_table = asked_beside_both::<_, _, _, _, PRECISION>(
+        alloc, &tabled, model, &hashed, queries,
+    )?;
+    let by_slot = asked_beside_both::<_, _, _, _, PRECISION>(
+        alloc, &direct, model, &hashed, queries,
+    )?;
+    let by_form = asked_beside_both::<_, _, _, _, PRECISION>(
+        alloc, &form, model, &hashed, queries,
+    )?;
+    Ok(AnswersOfWeights {
+        searching: by_search,
+        tabled: by_table,
+        direct: by_slot,
+        form,
+        converted: by_form,
+    })
+}
+
+/// Makes the models of a list of weights, one that searches, one with a table of 256 slots at most and one with a
+/// slot for each quantile, converts the decoder over any symbols that is made of their rows by any steps, and
+/// answers the same queries by each of these beside the model that searches and beside the hashed encoder: the
+/// replies of each are those that a scan of the rows of the weights gives.
+///
+/// `InvalidTable` comes only where the weights, the inferred one among them, are not accepted, `OutOfMemory`
+/// where memory is refused: a table with a slot for each quantile takes `2^PRECISION` words. `PRECISION` is at
+/// most 63.
+pub fn answer_from_weights<Probability: IndexWord, const PRECISION: usize>(
+    alloc: Global,
+    weights: Vec<Probability>,
+    infer_last_probability: bool,
+    steps: &[ChainStep],
+    queries: &[Query<usize, Probability>],
+) -> Result<AnswersOfWeights<Probability, DecoderForm<usize, Probability, PRECISION>>, ModelError>
+    requires positive { 0 < PRECISION }
+    requires fits { PRECISION ≤ Probability.BITS }
+    requires narrow { PRECISION ≤ 63 }
+    ensures accepted { IfOk result (λ _. IsAccepted Probability.BITS PRECISION
+        (completed PRECISION infer_last_probability (map Probability.whole weights.items))) }
+    ensures invalid { result ≡ Err ModelError.InvalidTable → ¬ (IsAccepted Probability.BITS PRECISION
+        (completed PRECISION infer_last_probability (map Probability.whole weights.items))) }
+    ensures searching { IfOk result (λ answers. let scanned = replies_by_scan PRECISION Probability.whole nat_eq
+        (contiguous_rows (completed PRECISION infer_last_probability (map Probability.whole weights.items))) queries.now in
+        (map (in_numbers Probability.whole Probability.base) answers.searching.contiguous.items ≡ scanned)
+        × (map (in_numbers Probability.whole Probability.base) answers.searching.hashed.items ≡ scanned)) }
+    ensures tabled { IfOk result (λ answers. let scanned = replies_by_scan PRECISION Probability.whole nat_eq
+        (contiguous_rows (completed PRECISION infer_last_probability (map Probability.whole weights.items))) queries.now in
+        (map (in_numbers Probability.whole Probability.base) answers.tabled.contiguous.items ≡ scanned)
+        × (map (in_numbers Probability.whole Probability.base) answers.tabled.hashed.items ≡ scanned)) }
+    ensures direct { IfOk result (λ answers. let scanned = replies_by_scan PRECISION Probability.whole nat_eq
+        (contiguous_rows (completed PRECISION infer_last_probability (map Probability.whole weights.items))) queries.now in
+        (map (in_numbers Probability.whole Probability.base) answers.direct.contiguous.items ≡ scanned)
+        × (map (in_numbers Probability.whole Probability.base) answers.direct.hashed.items ≡ scanned)) }
+    ensures kind { IfOk result (λ answers. elim answers.form [ kind.Search _ ↦ false | kind.Lookup _ ↦ true ]
+        ≡ is_lookup_after steps.now false) }
+    ensures rows { IfOk result (λ answers.
+        ⟦<DecoderForm<usize, Probability, PRECISION> as EntropyModel<PRECISION>>⟧.rows answers.form
+        ≡ contiguous_rows (completed PRECISION infer_last_probability (map Probability.whole weights.items))) }
+    ensures converted { IfOk result (λ answers. let scanned = replies_by_scan PRECISION Probability.whole nat_eq
+        (contiguous_rows (completed PRECISION infer_last_probability (map Probability.whole weights.items))) queries.now in
+        (map (in_numbers Probability.whole Probability.base) answers.converted.contiguous.items ≡ scanned)
+        × (map (in_numbers Probability.whole Probability.base) answers.converted.hashed.items ≡ scanned)) }
+{
+    let model = contiguous_from::<Probability, PRECISION>(alloc, weights, infer_last_probability)?;
+    answers_of(alloc, &model, steps, queries)
+}

@@ -1,0 +1,202 @@
+"""The figures of tools/bench as text, as tables of Markdown and as plots."""
+import json
+import math
+import os
+
+from drawing import HUES, Drawing
+
+# Why a kernel that is far behind is so.
+WHY = {
+    "decoder of symbols made, comparing": "it compares each symbol with all before it and so refuses repeats, which the Rust crate does not look for",
+    "to_generic_decoder_model": "it compares each symbol with all before it and so refuses repeats, which the Rust crate does not look for",
+}
+# The four kinds of models: how a row is found, the kernel, and its colour.
+KINDS = (
+    ("dividing", "uniform quantile_function", "green"),
+    ("searching", "contiguous quantile_function", "blue"),
+    ("looking up", "direct lookup quantile_function", "orange"),
+    ("hashed", "hashed encoder left_cumulative_and_probability", "violet"),
+)
+
+
+def ratio(it):
+    return it["here"] / it["rust"] if it["rust"] else float("nan")
+
+
+def rows_of(it):
+    return f"{it['rows']:,}" if it["rows"] else "-"
+
+
+def nanoseconds(time):
+    return f"{time:.2f}" if time < 100 else f"{time:,.0f}"
+
+
+def aligned(rows):
+    """Returns rows of words as columns, of which the first two are flush left."""
+    widths = [max(len(row[column]) for row in rows) for column in range(len(rows[0]))]
+    return "\n".join("  ".join(word.ljust(width) if column < 2 else word.rjust(width) for column, (word, width) in enumerate(zip(row, widths))).rstrip() for row in rows)
+
+
+def time_rows(made):
+    return [[it["name"], it["words"], rows_of(it), nanoseconds(it["rust"]), nanoseconds(it["here"]), f"{ratio(it):.2f}"] for it in made]
+
+
+def times_text(made):
+    return aligned([["kernel", "words", "rows", "Rust, ns", "here, ns", "ratio"], *time_rows(made)])
+
+
+def memory_rows(made):
+    return [[it["name"], it["words"], rows_of(it), *(f"{number:,}" for side in ("rust", "here") for number in (it[side][0] + it[side][1], it[side][2]))] for it in made]
+
+
+def memory_text(made):
+    return aligned([["kernel", "words", "rows", "Rust, requests", "bytes", "here, requests", "bytes"], *memory_rows(made)])
+
+
+def markdown(head, rows):
+    rule = ["---", "---", *["--:"] * (len(head) - 2)]
+    return "\n".join("| " + " | ".join(row) + " |" for row in [head, rule, *([f"{name}" for name in row] for row in rows)])
+
+
+def put(file, section, text):
+    """Writes a text between the marks of a section of a file."""
+    with open(file, encoding="utf-8") as it:
+        old = it.read()
+    begin, end = f"<!-- {section}: written by tools/bench --table -->\n", f"<!-- end of {section} -->"
+    if old.count(begin) != 1 or old.count(end) != 1:
+        raise SystemExit(f"tools/bench: {file} has no section {section}")
+    before, rest = old.split(begin)
+    after = rest.split(end)[1]
+    with open(file, "w", encoding="utf-8") as it:
+        it.write(f"{before}{begin}{text}\n{end}{after}")
+
+
+def summary(saved):
+    """Returns the lines of the README: how the ratios lie, and the worst row."""
+    measured = [it for it in saved["kernels"] if it["name"] != "nothing but the loop" and it["rust"]]
+    ratios = sorted(ratio(it) for it in measured)
+    middle = ratios[len(ratios) // 2]
+    behind = sum(it > 1.1 for it in ratios)
+    worst = max(measured, key=ratio)
+    why = WHY.get(worst["name"])
+    lines = [
+        f"Of {len(measured)} rows of the benchmark, half take at most {middle:.2f} times what the Rust crate takes on the same work in the same run,",
+        f"and {len(ratios) - behind} at most 1.1 times. The worst is `{worst['name']}` at {worst['rows']:,} rows, {nanoseconds(ratios[-1])} times{f': {why}' if why else ''}.",
+        "[SPEED](docs/SPEED.md) has all rows, the machine and how to run it: `tools/bench`.",
+    ]
+    return "\n".join(lines)
+
+
+def write_tables(top, file):
+    with open(file, encoding="utf-8") as it:
+        saved = json.load(it)
+    about, page = saved["machine"], f"{top}/docs/SPEED.md"
+    put(page, "machine", f"Measured on {about['date']} at commit {about['commit']}: {about['processor']}; {about['rust']}; {about['kit']}.")
+    put(page, "kernels", markdown(["Kernel", "Words", "Rows", "Rust, ns", "Here, ns", "Ratio"], time_rows(saved["kernels"])))
+    put(page, "growth", growth_table(saved["growth"]))
+    put(page, "memory", markdown(["Kernel", "Words", "Rows", "Rust, requests", "Bytes", "Here, requests", "Bytes"], memory_rows(saved["memory"])))
+    put(f"{top}/README.md", "speed", summary(saved))
+
+
+def growth_table(made):
+    """A row a kernel, a column a size: here, and the ratio to the Rust crate."""
+    sizes = sorted({it["rows"] for it in made})
+    names = list(dict.fromkeys(it["name"] for it in made))
+    at = {(it["name"], it["rows"]): it for it in made}
+    rows = [[name, *(f"{nanoseconds(at[name, size]['here'])} ({ratio(at[name, size]):.2f})" if (name, size) in at else "" for size in sizes)] for name in names]
+    head = ["Kernel", *(f"2^{size.bit_length() - 1}" for size in sizes)]
+    return "\n".join("| " + " | ".join(row) + " |" for row in [head, ["---", *["--:"] * len(sizes)], *rows])
+
+
+def draw_plots(top, file):
+    with open(file, encoding="utf-8") as it:
+        saved = json.load(it)
+    os.makedirs(f"{top}/docs/pictures", exist_ok=True)
+    for name, drawing in (("speed-ratios", draw_ratios(saved)), ("speed-rows", draw_rows(saved))):
+        with open(f"{top}/docs/pictures/{name}.svg", "w", encoding="utf-8") as to:
+            to.write(drawing.written())
+        print(f"drew docs/pictures/{name}.svg")
+
+
+def steps(low, high):
+    """Returns the numbers 1, 2 and 5 times a power of ten that cover a range."""
+    found = [digit * 10.0**power for power in range(-3, 7) for digit in (1, 2, 5)]
+    first = max(it for it in found if it <= low)
+    last = min(it for it in found if it >= high)
+    return [it for it in found if first <= it <= last]
+
+
+def draw_ratios(saved):
+    made = [it for it in saved["kernels"] if it["rust"]]
+    names = list(dict.fromkeys(it["name"] for it in made))
+    ticks = steps(min(ratio(it) for it in made), max(ratio(it) for it in made))
+    left, right, top, step = 352, 800, 100, 22
+    it = Drawing(860, top + step * len(names) + 50, "How many times the Rust crate's time each kernel takes")
+    it.text(24, 32, "The time of each kernel, over the Rust crate's", bold=True, size=14)
+    it.text(24, 52, "A dot for each number of rows. Left of 1 this library is faster; dots to the right of 1.1 are orange.", "faint", 12)
+
+    def x(value):
+        return left + (right - left) * math.log(value / ticks[0]) / math.log(ticks[-1] / ticks[0])
+
+    bottom = top + step * len(names)
+    for tick in ticks:
+        it.line(x(tick), top - 8, x(tick), bottom, "ink" if tick == 1 else "edge", 1.5 if tick == 1 else 1)
+        it.text(x(tick), top - 16, f"{tick:g}", "ink" if tick == 1 else "faint", 12, at="middle", bold=tick == 1)
+        it.text(x(tick), bottom + 18, f"{tick:g}", "ink" if tick == 1 else "faint", 12, at="middle", bold=tick == 1)
+    for index, name in enumerate(names):
+        y = top + step * index + step / 2
+        it.text(left - 16, y + 4, name, size=12, at="end")
+        it.line(left, y, right, y, "edge", 0.6)
+        these = [one for one in made if one["name"] == name]
+        worst = max(these, key=ratio)
+        for one in these:
+            hue = "orange" if ratio(one) > 1.1 else "blue"
+            it.dot(x(ratio(one)), y, 4.5, hue, "page")
+        if ratio(worst) > 2:
+            it.text(x(ratio(worst)) + 8, y + 4, f"{nanoseconds(ratio(worst)).removesuffix('.00')}, {rows_of(worst)} rows" if worst["rows"] else f"{ratio(worst):.2f}", "orange", 11) if x(ratio(worst)) < right - 90 else it.text(
+                x(ratio(worst)) - 8, y + 4, f"{nanoseconds(ratio(worst))}, {rows_of(worst)} rows", "orange", 11, at="end"
+            )
+    return it
+
+
+def draw_rows(saved):
+    lines = []
+    for kind, name, hue in KINDS:
+        made = sorted((it for it in saved["growth"] if it["name"] == name), key=lambda it: it["rows"])
+        if made:
+            lines.append((kind, hue, made))
+    times = [it[side] for _, _, made in lines for it in made for side in ("rust", "here")]
+    ticks = steps(min(times), max(times))
+    bits = sorted({it["rows"].bit_length() - 1 for _, _, made in lines for it in made})
+    left, right, top, bottom = 64, 640, 84, 440
+    it = Drawing(776, 500, "The time of a look-up by the number of rows, for the four kinds of models")
+    it.text(24, 32, "The time of a look-up by the number of rows", bold=True, size=14)
+    it.text(24, 52, "Nanoseconds; full lines are this library, dashed lines the Rust crate.", "faint", 12)
+
+    def x(rows):
+        return left + (right - left) * (math.log2(rows) - bits[0]) / (bits[-1] - bits[0])
+
+    def y(value):
+        return bottom - (bottom - top) * math.log(value / ticks[0]) / math.log(ticks[-1] / ticks[0])
+
+    for tick in ticks:
+        it.line(left, y(tick), right, y(tick), "edge")
+        it.text(left - 10, y(tick) + 4, f"{tick:g}", "faint", 12, at="end")
+    for bit in bits:
+        it.line(x(2**bit), bottom, x(2**bit), bottom + 5, "faint")
+        it.text(x(2**bit), bottom + 22, f"2^{bit}", "faint", 12, at="middle")
+    it.text((left + right) / 2, bottom + 44, "rows", "faint", 12, at="middle")
+    for _, hue, made in lines:
+        for side in ("rust", "here"):
+            points = [(x(one["rows"]), y(one[side])) for one in made]
+            it.path("M" + "L".join(f"{a:.1f} {b:.1f}" for a, b in points), hue, 2 if side == "here" else 1.4, dashed=side == "rust")
+            for a, b in points:
+                it.dot(a, b, 3.2, hue if side == "here" else "page", hue)
+    # a name at the end of each line, kept apart from the others
+    ends = sorted(([y(made[-1]["here"]), x(made[-1]["rows"]), kind, hue] for kind, hue, made in lines), key=lambda it: it[0])
+    for one, next_one in zip(ends, ends[1:]):
+        if abs(next_one[1] - one[1]) < 60:
+            next_one[0] = max(next_one[0], one[0] + 18)
+    for height, at, kind, hue in ends:
+        it.text(at + 10, height + 4, kind, hue, 13, bold=True)
+    return it
