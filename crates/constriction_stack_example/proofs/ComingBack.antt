@@ -4,8 +4,8 @@ use Rattle.std.specs.Prelude.{IsTrue}
 use Rattle.std.specs.List.{AllZip}
 use Rattle.std.proofs.lemmas.List.{reverse-append, reverse-reverse, take_more}
 use Rattle.std.proofs.lemmas.Nat.{div-add-mod'}
-use Rattle.constriction_model.specs.CodingLemmas.{entry-back}
-use Rattle.constriction_model.specs.Rows.{Row, RowsTile, entry_of}
+use Rattle.constriction.specs.CodingLemmas.{entry-back}
+use Rattle.constriction.specs.Rows.{Row, RowsTile, entry_of}
 use Rattle.constriction_stack_example.specs.Laws.{StandsForEqual, SymbolComesBack, SymbolsComeBack}
 use Rattle.constriction_stack_example.specs.Steps.{Content, content, compressed, Refills, IsEncoded, IsDecoded, InTurn, Leads}
 

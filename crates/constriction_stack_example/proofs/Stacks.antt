@@ -1,5 +1,5 @@
 -- What a read of a stack does to the words that were written to it.
-use Rattle.std.proofs.Common.{◌≡◌, List, [], ◌∷◌, ◌++◌, Option, Some, None, Result, Ok, Err, reverse, ap, sym, ◌∙◌, subst}
+use Rattle.std.proofs.Common.{◌≡◌, ◌≢◌, List, [], ◌∷◌, ◌++◌, Option, Some, None, Result, Ok, Err, reverse, ap, sym, ◌∙◌, subst}
 use Rattle.std.proofs.lemmas.List.{reverse-append, reverse-reverse}
 use Rattle.constriction_backends.specs.Source.{ReadsTold}
 use Rattle.constriction_stack_example.specs.Steps.{PopsTold}
@@ -22,4 +22,8 @@ module _ {S W : Type 0} (upcoming written : S → List W → Type 0)
         sym (reverse-reverse words) ∙ ap reverse read.1 ∙ reverse-append (w ∷ []) read.0,
         was t read.0 read.2,
       )
-  pops-written s (Err e) t reads words told = stays t words (reads (reverse words) (to_come s words told)).1
+  pops-written s (Err e) t reads words told =
+      let read = reads (reverse words) (to_come s words told) in (
+        λ none. read.0 (ap reverse none),
+        stays t words read.1,
+      )

@@ -69,6 +69,14 @@ taken_at_most precision left weight state within =
       mul-le weight (state / 2 ^ precision) (2 ^ precision) (state / 2 ^ precision) (omega arith) (omega arith),
     )
 
+-- without the symbol on top, a state that is no less than 2 ^ 32 is not 0
+pub taken_some : (precision left weight state : ℕ) → precision ≤ 32 → 0 < weight → 2 ^ 32 ≤ state
+    → 0 < taken precision left weight state
+taken_some precision left weight state fits some least =
+    let above : 2 ^ precision ≤ state = omega (arith, pow_mono {i = precision} {j = 32} fits) in
+    let high : 1 ≤ state / 2 ^ precision = le-div 1 state (2 ^ precision) (pow_pos precision) (omega (arith, above)) in
+    omega (arith, mul-le 1 1 weight (state / 2 ^ precision) some high)
+
 -- a state that has no room has it once a word left it, and with the symbol on top it is no less than 2 ^ 32
 pub room_after : (precision weight state : ℕ) → precision ≤ 32 → 0 < weight → state < 2 ^ 64 → state / 2 ^ 32 < weight * 2 ^ (64 - precision)
 room_after precision weight state fits some below =

@@ -1,7 +1,7 @@
 -- What was encoded is decoded.
 use Rattle.std.specs.Prelude.{◌≡◌, ℕ, List, length, Bool, Option, IsTrue}
 use Rattle.std.specs.List.{AllZip}
-use Rattle.constriction_model.specs.Rows.{Row}
+use Rattle.constriction.specs.Rows.{Row}
 use Rattle.constriction_stack_example.specs.Steps.{Content, IsEncoded, IsDecoded, InTurn}
 
 -- the answer stands for a symbol that equals the one asked for

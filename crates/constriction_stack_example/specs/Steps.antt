@@ -1,6 +1,6 @@
 -- What a stack coder holds, and what a step does to it.
-use Rattle.std.specs.Prelude.{◌≡◌, ℕ, ◌+◌, ◌*◌, ◌/◌, ◌%◌, ◌^◌, ◌<◌, ◌≤◌, ◌⊎◌, List, [], ◌∷◌, ◌++◌, Option, Some, Result, MatchResult, MatchOption}
-use Rattle.constriction_model.specs.Rows.{Row, IsRowOf}
+use Rattle.std.specs.Prelude.{◌≡◌, ◌≢◌, ℕ, ◌+◌, ◌*◌, ◌/◌, ◌%◌, ◌^◌, ◌<◌, ◌≤◌, ◌⊎◌, List, [], ◌∷◌, ◌++◌, Option, Some, Result, MatchResult, MatchOption}
+use Rattle.constriction.specs.Rows.{Row, IsRowOf}
 use Rattle.constriction_stack_example.specs.States.{taken}
 
 -- the state, and the words under it, the last one on top
@@ -43,23 +43,32 @@ pub record IsDecoded {Symbol : Type 0} (Stands : Symbol → Symbol → Type 0) (
   pub stands : Stands row.symbol symbol
   pub top : IsOnTop precision row.left row.weight full rest
 
+-- without the symbol that these rows have for the quantile of the state, the state is below 2 ^ 32, so that it needs a word
+abbrev pub NeedsWord : {Symbol : Type 0} → List (Row Symbol) → (precision state : ℕ) → Type 0
+NeedsWord {Symbol} rows precision state =
+    (row : Row Symbol) × IsRowOf rows (state % 2 ^ precision) row × (taken precision row.left row.weight state < 2 ^ 32)
+
 -- one symbol after the other is taken off `full`, the first one on top, and `rest` is left
 abbrev pub InTurn : {Symbol : Type 0} → (Symbol → Content → Content → Type 0) → List Symbol → Content → Content → Type 0
 InTurn Step [] full rest = full ≡ rest
 InTurn Step (s ∷ ss) full rest = (under : Content) × Step s full under × InTurn Step ss under rest
 
--- the last word is answered and dropped; or nothing is, as there is none; or the read fails and the words stay
+-- the last word is answered and dropped; or nothing is, as there is none; or there is a word, the read fails, and the words stay
 abbrev pub PopsTold : {S W E : Type 0} → (S → List W → Type 0) → List W → Result (Option W) E → S → Type 0
 PopsTold {W = W} tells words r t =
     MatchResult r
     (λ o. MatchOption o ((words ≡ []) × tells t words) (λ w. (rest : List W) × (words ≡ rest ++ w ∷ []) × tells t rest))
-    (λ _. tells t words)
+    (λ _. (words ≢ []) × tells t words)
 
 -- whatever words the backend tells before, it tells words after, and R holds of what the coder held before and holds after
 abbrev pub Leads : {Backend : Type 0} → (Backend → List ℕ → Type 0) → (Content → Content → Type 0) → ℕ → Backend → ℕ → Backend → Type 0
 Leads tells R state backend new_state new_backend =
     (words : List ℕ) → tells backend words
     → (now : List ℕ) × tells new_backend now × R (content state words) (content new_state now)
+
+-- whatever words the backend tells, it tells none
+abbrev pub TellsNone : {Backend : Type 0} → (Backend → List ℕ → Type 0) → Backend → Type 0
+TellsNone tells backend = (words : List ℕ) → tells backend words → words ≡ []
 
 -- the backend tells the same words after as before
 abbrev pub TellsSame : {Backend : Type 0} → (Backend → List ℕ → Type 0) → Backend → Backend → Type 0

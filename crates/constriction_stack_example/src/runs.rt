@@ -4,13 +4,12 @@ ghost use Rattle.std.specs.Prelude.{◌≡◌, ◌<◌, ◌≤◌, IsTrue, lengt
 ghost use Rattle.std.specs.List.{AllZip};
 ghost use Rattle.constriction_stack_example.specs.Laws.{StandsForEqual, SymbolComesBack, SymbolsComeBack, Again};
 ghost use Rattle.constriction_stack_example.specs.Steps.{Leads, InTurn, IsEncoded, IsDecoded};
-ghost use Rattle.constriction_model.specs.Model.{ClonesAreEqual};
-ghost use Rattle.constriction_model.specs.Rows.{entry_of};
+ghost use Rattle.constriction.specs.Rows.{entry_of};
 
 use crate::stack_coder::{DecodingFault, StackCoder};
-use constriction_backends::StackBackend;
-use constriction_model::{DecodesOver, EncodesOver};
-use constriction_words::{CoderError, DefaultEncoderFrontendError};
+use constriction::backends::StackBackend;
+use constriction::stream::model::{DecodesOver, EncodesOver};
+use constriction::{CoderError, DefaultEncoderFrontendError};
 use std::alloc::Global;
 use thiserror::Error;
 

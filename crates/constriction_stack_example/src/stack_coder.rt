@@ -1,14 +1,15 @@
 //! A stack coder: what was encoded last is decoded first.
 
-ghost use Rattle.std.specs.Prelude.{◌≡◌, ◌+◌, ◌-◌, ◌*◌, ◌^◌, ◌<◌, ◌≤◌, ℕ, List, [], ◌∷◌, ◌++◌, None, Err, IfOk, IfSome, OnErr};
+ghost use Rattle.std.specs.Prelude.{◌≡◌, ◌≢◌, ◌+◌, ◌-◌, ◌*◌, ◌%◌, ◌^◌, ◌<◌, ◌≤◌, ℕ, List, [], ◌∷◌, ◌++◌, None, Err, IfOk, IfSome, OnErr};
 ghost use Rattle.constriction_stack_example.specs.States.{put};
-ghost use Rattle.constriction_stack_example.specs.Steps.{content, compressed, Leads, TellsSame, PopsTold, Refills, IsEncoded, IsDecoded};
-ghost use Rattle.constriction_model.specs.Rows.{entry_of};
+ghost use Rattle.constriction_stack_example.specs.Steps.{content, compressed, Leads, TellsSame, PopsTold, Refills, NeedsWord, TellsNone, IsEncoded, IsDecoded};
+ghost use Rattle.constriction.specs.Model.{RowMayBeRefused};
+ghost use Rattle.constriction.specs.Rows.{entry_of};
 
 use crate::state::{is_full_for, quantile_of, with_entry, without_entry};
-use constriction_backends::StackBackend;
-use constriction_model::{DecodesOver, EncodesOver};
-use constriction_words::{CoderError, DefaultEncoderFrontendError};
+use constriction::backends::StackBackend;
+use constriction::stream::model::{DecodesOver, EncodesOver};
+use constriction::{CoderError, DefaultEncoderFrontendError};
 use std::alloc::Global;
 use thiserror::Error;
 
@@ -68,6 +69,7 @@ fn read_told<Backend: StackBackend<u32>>(
 ) -> Result<Option<u32>, Backend::ReadError>
     requires { Backend.can_read words.old }
     ensures goes_on { Backend.can_read words.new }
+    ensures gives { Backend.read_gives words.old result words.new }
     ensures pops { (told : List ℕ) → Backend.tells_written words.old told → PopsTold Backend.tells_written told result words.new }
 {
     words.read()
@@ -82,8 +84,9 @@ fn popped<Backend: StackBackend<u32>>(
     ensures goes_on { Backend.can_read words.new }
     ensures ok { IfOk result (λ word. (told : List ℕ) → Backend.tells_written words.old told
         → (rest : List ℕ) × (told ≡ rest ++ word ∷ []) × Backend.tells_written words.new rest) }
-    ensures empty { result ≡ Err (CoderError.Frontend DecodingFault.OutOfData)
-        → (told : List ℕ) → Backend.tells_written words.old told → told ≡ [] }
+    ensures empty { result ≡ Err (CoderError.Frontend DecodingFault.OutOfData) → TellsNone Backend.tells_written words.old }
+    ensures memory { result ≢ Err (CoderError.Frontend DecodingFault.OutOfMemory) }
+    ensures failed { (error : _) → result ≡ Err (CoderError.Backend error) → Backend.read_gives words.old (Err error) words.new }
     ensures err { OnErr result (TellsSame Backend.tells_written words.old words.new) }
 {
     match read_told(words) {
@@ -105,6 +108,10 @@ fn refilled<Backend: StackBackend<u32>>(
     ensures least { IfOk result (λ new. 2 ^ 32 ≤ new) }
     ensures ok { IfOk result (λ new. Leads Backend.tells_written (λ old new. Refills old.state old.words new)
         state words.old new words.new) }
+    ensures below { OnErr result (state < 2 ^ 32) }
+    ensures empty { result ≡ Err (CoderError.Frontend DecodingFault.OutOfData) → TellsNone Backend.tells_written words.old }
+    ensures memory { result ≢ Err (CoderError.Frontend DecodingFault.OutOfMemory) }
+    ensures failed { (error : _) → result ≡ Err (CoderError.Backend error) → Backend.read_gives words.old (Err error) words.new }
     ensures err { OnErr result (TellsSame Backend.tells_written words.old words.new) }
 {
     if state >= 1 << 32 {
@@ -226,6 +233,10 @@ impl<Backend: StackBackend<u32>> StackCoder<Backend> {
     }
 
     /// Decodes the symbol that was encoded last.
+    ///
+    /// `OutOfMemory` comes only where the model may refuse the row of the state's quantile, and any other error only where the
+    /// state needs a word: `OutOfData` where the backend has none, and the backend's own error where its read answered that.
+    /// An error leaves the state, and the words that the backend tells.
     pub fn decode_symbol<Symbol: Drop, D, const PRECISION: usize>(
         &mut self,
         model: &D,
@@ -239,6 +250,12 @@ impl<Backend: StackBackend<u32>> StackCoder<Backend> {
         ensures ok { IfOk result (λ symbol. Leads Backend.tells_written
             (λ full rest. IsDecoded D.stands_for (D.rows model.now) PRECISION symbol full rest)
             self.old.state self.old.words self.new.state self.new.words) }
+        ensures memory { result ≡ Err (CoderError.Frontend DecodingFault.OutOfMemory)
+            → RowMayBeRefused D.may_refuse (D.rows model.now) (self.old.state % 2 ^ PRECISION) }
+        ensures empty { result ≡ Err (CoderError.Frontend DecodingFault.OutOfData)
+            → NeedsWord (D.rows model.now) PRECISION self.old.state × TellsNone Backend.tells_written self.old.words }
+        ensures failed { (error : _) → result ≡ Err (CoderError.Backend error)
+            → NeedsWord (D.rows model.now) PRECISION self.old.state × Backend.read_gives self.old.words (Err error) self.new.words }
         ensures state { OnErr result (self.new.state ≡ self.old.state) }
         ensures words { OnErr result (TellsSame Backend.tells_written self.old.words self.new.words) }
     {

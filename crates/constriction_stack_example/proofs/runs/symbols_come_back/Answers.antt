@@ -1,4 +1,4 @@
-use Rattle.constriction_model.specs.Rows.{entry_of}
+use Rattle.constriction.specs.Rows.{entry_of}
 use Rattle.constriction_stack_example.proofs.ComingBack.{symbols-back}
 use Rattle.constriction_stack_example.proofs.runs.symbols_come_back.Goals as goal
 

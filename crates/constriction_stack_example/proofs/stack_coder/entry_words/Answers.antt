@@ -1,4 +1,4 @@
-use Rattle.constriction_model.specs.CodingLemmas.{entry-within}
+use Rattle.constriction.specs.CodingLemmas.{entry-within}
 use Rattle.constriction_stack_example.proofs.stack_coder.entry_words.Goals as goal
 
 pub returns-in-Some-clause-within : goal.returns-in-Some-clause-within

@@ -1,4 +1,4 @@
-use Rattle.constriction_model.specs.Rows.{entry_of}
+use Rattle.constriction.specs.Rows.{entry_of}
 use Rattle.std.proofs.Common.{sym}
 use Rattle.constriction_stack_example.specs.Steps.{content}
 use Rattle.constriction_stack_example.proofs.Steps.{encoded}

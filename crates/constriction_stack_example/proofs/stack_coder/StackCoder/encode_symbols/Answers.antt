@@ -1,4 +1,4 @@
-use Rattle.constriction_model.specs.Rows.{entry_of}
+use Rattle.constriction.specs.Rows.{entry_of}
 use Rattle.constriction_stack_example.specs.Steps.{IsEncoded}
 use Rattle.constriction_stack_example.proofs.ComingBack.{turn-first}
 use Rattle.constriction_stack_example.proofs.stack_coder.StackCoder.encode_symbols.Goals as goal

@@ -1,5 +1,5 @@
 use Rattle.std.proofs.Common.{take, reverse}
-use Rattle.constriction_model.specs.Rows.{entry_of}
+use Rattle.constriction.specs.Rows.{entry_of}
 use Rattle.constriction_stack_example.specs.Steps.{Leads, InTurn, IsEncoded}
 use Rattle.constriction_stack_example.proofs.stack_coder.StackCoder.encode_symbols.Given as goal
 
