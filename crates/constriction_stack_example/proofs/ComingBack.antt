@@ -1,10 +1,12 @@
 -- What was encoded is decoded, symbol by symbol.
 use Rattle.std.proofs.Common.{◌≡◌, ℕ, suc, ◌+◌, ◌*◌, ◌/◌, ◌%◌, ◌^◌, ◌<◌, ◌≤◌, Bool, List, [], ◌∷◌, ◌++◌, Option, Some, length, reverse, take, get_or, refl, ap, sym, ◌∙◌, subst, arith, inl, inr}
+use Rattle.std.specs.Cmp.{IsEquivalence}
 use Rattle.std.specs.Prelude.{IsTrue}
 use Rattle.std.specs.List.{AllZip}
 use Rattle.std.proofs.lemmas.List.{reverse-append, reverse-reverse, take_more}
 use Rattle.std.proofs.lemmas.Nat.{div-add-mod'}
 use Rattle.constriction.specs.CodingLemmas.{entry-back}
+use Rattle.constriction.specs.Model.{ClonesAreEqual}
 use Rattle.constriction.specs.Rows.{Row, RowsTile, entry_of}
 use Rattle.constriction_stack_example.specs.Laws.{StandsForEqual, SymbolComesBack, SymbolsComeBack}
 use Rattle.constriction_stack_example.specs.Steps.{Content, content, compressed, Refills, IsEncoded, IsDecoded, InTurn, Leads}
@@ -61,6 +63,18 @@ module _ {Symbol : Type 0} (Stands : Symbol → Symbol → Type 0) (eq : Symbol 
       let others = symbols-back ss ts e.0 rest under e.2
       (subst (λ (c : Content). InTurn (IsDecoded Stands rows precision) ts c under) first.1 d.2) (omega arith) in
       ((first.0, others.0), others.1)
+
+-- where a clone equals its symbol, what stands for an equal symbol is equal
+pub are-equal : {Symbol : Type 0} (Stands : Symbol → Symbol → Type 0) (eq : Symbol → Symbol → Bool) → IsEquivalence eq → ClonesAreEqual eq Stands
+    → (symbols answers : List Symbol) → AllZip (StandsForEqual Stands eq) symbols answers
+    → AllZip (λ symbol answer. IsTrue (eq answer symbol)) symbols answers
+are-equal Stands eq laws clones [] [] h = tt
+are-equal Stands eq laws clones [] (a ∷ ts) h = absurd h
+are-equal Stands eq laws clones (s ∷ ss) [] h = absurd h
+are-equal Stands eq laws clones (s ∷ ss) (a ∷ ts) h = (
+  sym (laws.congr h.0.0 a s (clones h.0.0 a h.0.2)) ∙ h.0.1,
+  are-equal Stands eq laws clones ss ts h.1,
+)
 
 module _ {Symbol : Type 0} (Step : Symbol → Content → Content → Type 0) where
   -- one symbol more on top

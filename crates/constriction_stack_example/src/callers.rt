@@ -1,6 +1,6 @@
 //! What callers learn from the contracts alone.
 
-ghost use Rattle.std.specs.Prelude.{◌≡◌, ◌<◌, ◌≤◌, nat_eq, reverse, string_bytes, string_eq, IfSome};
+ghost use Rattle.std.specs.Prelude.{◌≡◌, ◌<◌, ◌≤◌, nat_eq, reverse, string_eq, IfSome, IsTrue};
 ghost use Rattle.constriction.specs.Rows.{entry_of};
 ghost use Rattle.std.specs.List.{AllZip};
 ghost use Rattle.constriction_stack_example.specs.Laws.{StandsForEqual};
@@ -49,7 +49,7 @@ pub fn over_a_cursor(
     model: &UniformModel<u32, 24>,
     symbols: &[usize],
 ) -> Option<Vec<usize>>
-    ensures { IfSome result (λ answers. AllZip (StandsForEqual (λ s t. t ≡ s) nat_eq) (reverse symbols.now) answers.items) }
+    ensures { IfSome result (λ answers. AllZip (λ symbol answer. IsTrue (nat_eq answer symbol)) (reverse symbols.now) answers.items) }
 {
     match there_and_back::<_, _, _, _, 24>(alloc, coder, model, model, symbols) {
         Ok(answers) => Some(answers),
@@ -67,7 +67,7 @@ pub fn of_texts(
 ) -> Option<Vec<String>>
     requires { (s : _) → entry_of string_eq (⟦<TableEncoder as EntropyModel<24>>⟧.rows encoder.now) s
         ≡ entry_of string_eq (⟦<Table as EntropyModel<24>>⟧.rows table.now) s }
-    ensures { IfSome result (λ answers. AllZip (StandsForEqual (λ s t. string_bytes t ≡ string_bytes s) string_eq)
+    ensures { IfSome result (λ answers. AllZip (λ symbol answer. IsTrue (string_eq answer symbol))
         (reverse symbols.now) answers.items) }
 {
     match there_and_back::<_, _, _, _, 24>(alloc, coder, table, encoder, symbols) {

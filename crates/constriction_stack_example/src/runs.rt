@@ -1,9 +1,10 @@
 //! Messages of any number of symbols, and what comes back.
 
-ghost use Rattle.std.specs.Prelude.{◌≡◌, ◌<◌, ◌≤◌, IsTrue, length, reverse, IfOk, OnOk};
+ghost use Rattle.std.specs.Prelude.{◌≡◌, ◌<◌, ◌≤◌, ℕ, List, IsTrue, length, reverse, IfOk, OnOk};
 ghost use Rattle.std.specs.List.{AllZip};
 ghost use Rattle.constriction_stack_example.specs.Laws.{StandsForEqual, SymbolComesBack, SymbolsComeBack, Again};
 ghost use Rattle.constriction_stack_example.specs.Steps.{Leads, InTurn, IsEncoded, IsDecoded};
+ghost use Rattle.constriction.specs.Model.{ClonesAreEqual};
 ghost use Rattle.constriction.specs.Rows.{entry_of};
 
 use crate::stack_coder::{DecodingFault, StackCoder};
@@ -102,6 +103,9 @@ impl<Backend: StackBackend<u32>> StackCoder<Backend> {
 }
 
 /// Encodes the symbols and decodes as many again: they come back in reverse, with the state and the words as before.
+///
+/// What comes back stands for equal symbols: where the decoder owns its symbols it is a clone, and where a clone equals its symbol it is
+/// equal to what was encoded.
 pub fn there_and_back<Symbol: Drop, Backend, D, E, const PRECISION: usize>(
     alloc: Global,
     coder: &mut StackCoder<Backend>,
@@ -126,6 +130,9 @@ where
     ensures back { IfOk result (λ answers. Again Backend.tells_written coder.old.state coder.old.words
         coder.new.state coder.new.words
         (AllZip (StandsForEqual D.stands_for E.symbol_eq) (reverse symbols.now) answers.items)) }
+    ensures equal { IfOk result (λ answers. ClonesAreEqual E.symbol_eq D.stands_for
+        → (words : List ℕ) → Backend.tells_written coder.old.words words
+        → AllZip (λ symbol answer. IsTrue (E.symbol_eq answer symbol)) (reverse symbols.now) answers.items) }
 {
     symbols_come_back::<Symbol, D, E, PRECISION>(decoder, encoder);
     match coder.encode_symbols::<_, _, PRECISION>(symbols, encoder) {
