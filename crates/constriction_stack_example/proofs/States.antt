@@ -1,5 +1,5 @@
 -- A symbol that was put on a state is taken from it again.
-use Rattle.std.proofs.Common.{◌≡◌, ℕ, suc, ◌+◌, ◌-◌, ◌*◌, ◌/◌, ◌%◌, ◌^◌, ◌<◌, ◌≤◌, refl, ap, sym, ◌∙◌, subst, arith, lit<, lit≤}
+use Rattle.std.proofs.Common.{◌≡◌, ℕ, ◌+◌, ◌-◌, ◌*◌, ◌/◌, ◌%◌, ◌^◌, ◌<◌, ◌≤◌, ap, sym, ◌∙◌, arith}
 use Rattle.std.proofs.lemmas.Nat.{pow_pos, pow-add, div-mul-add, mod-mul-add, mod_below, mul-le, mul-add-lt, div_below, le-div, div-add-mod', one_shl, shl_whole}
 use Rattle.std.proofs.Math.Nat.{div-add-mod, mul_assoc}
 use Rattle.std.proofs.Math.Pow.{pow_mono}

@@ -1,9 +1,9 @@
 -- The steps of a coder, from those of its state and of its words.
-use Rattle.std.proofs.Common.{◌≡◌, ℕ, ◌+◌, ◌*◌, ◌/◌, ◌%◌, ◌^◌, ◌<◌, ◌≤◌, List, [], ◌∷◌, ◌++◌, Option, Some, refl, ap, sym, ◌∙◌, subst, arith, inl, inr}
+use Rattle.std.proofs.Common.{◌≡◌, ℕ, ◌+◌, ◌/◌, ◌%◌, ◌^◌, ◌<◌, ◌≤◌, List, [], ◌∷◌, ◌++◌, Option, Some, refl, ap, sym, ◌∙◌, subst, arith, inr}
 use Rattle.std.proofs.lemmas.Nat.{mod_below, div-add-mod'}
 use Rattle.constriction.specs.Rows.{Row, IsRowOf}
 use Rattle.constriction_stack_example.specs.States.{put, taken}
-use Rattle.constriction_stack_example.specs.Steps.{Content, content, Refills, IsOnTop, IsEncoded, IsDecoded, NeedsWord}
+use Rattle.constriction_stack_example.specs.Steps.{Content, content, Refills, IsEncoded, IsDecoded, NeedsWord}
 use Rattle.constriction_stack_example.proofs.States.{put_quantile, taken_put}
 
 -- a state that lost a word takes it back

@@ -1,4 +1,4 @@
-use Rattle.std.proofs.Common.{List, ℕ, length, reverse, ap, sym, ◌∙◌, subst}
+use Rattle.std.proofs.Common.{List, ℕ, reverse, ap, sym, ◌∙◌, subst}
 use Rattle.std.proofs.lemmas.List.{length-reverse}
 use Rattle.constriction_stack_example.specs.Steps.{Content, content}
 use Rattle.constriction_stack_example.proofs.ComingBack.{are-equal}
@@ -7,12 +7,12 @@ use Rattle.constriction_stack_example.proofs.runs.there_and_back.Goals as goal
 pub returns-in-Ok-decode_symbols : goal.returns-in-Ok-decode_symbols
 returns-in-Ok-decode_symbols g c =
     let again = λ (words : List ℕ) (told : g.Backend.WriteWords.tells_written c.args.coder.now.words words).
-        let encoded = c.in-Ok.ensures.ok words told in
-        let decoded = c.in-Ok-decode_symbols.ensures.ok encoded.0 encoded.1 in
-        c.symbols_come_back.ensures (reverse c.args.symbols.now) c.in-Ok-decode_symbols.answers.items
-        (content c.encode_symbols.new.self.state encoded.0) (content c.args.coder.now.state words)
-        (content c.decode_symbols.new.self.state decoded.0) encoded.2 decoded.2
-        (c.in-Ok-decode_symbols.ensures.count ∙ sym (length-reverse c.args.symbols.now)) in
+    let encoded = c.in-Ok.ensures.ok words told in
+    let decoded = c.in-Ok-decode_symbols.ensures.ok encoded.0 encoded.1 in
+    c.symbols_come_back.ensures (reverse c.args.symbols.now) c.in-Ok-decode_symbols.answers.items
+    (content c.encode_symbols.new.self.state encoded.0) (content c.args.coder.now.state words)
+    (content c.decode_symbols.new.self.state decoded.0) encoded.2 decoded.2
+    (c.in-Ok-decode_symbols.ensures.count ∙ sym (length-reverse c.args.symbols.now)) in
     record {
       back = λ words told.
           let encoded = c.in-Ok.ensures.ok words told in

@@ -1,4 +1,4 @@
-use Rattle.std.proofs.Common.{◌+◌, ◌-◌, ◌*◌, ◌%◌, ◌^◌, ◌≤◌, [], ◌∷◌, ◌++◌, Ok, Err, arith, rules}
+use Rattle.std.proofs.Common.{◌-◌, ◌*◌, ◌%◌, ◌^◌, ◌≤◌, [], ◌∷◌, ◌++◌, Ok, Err, arith, rules}
 use Rattle.constriction_stack_example.proofs.States.{room_after, least_after}
 use Rattle.constriction_stack_example.proofs.Steps.{refills-back}
 use Rattle.constriction_stack_example.proofs.stack_coder.with_room.Goals as goal
