@@ -65,8 +65,8 @@ module _ {Symbol : Type 0} (Stands : Symbol → Symbol → Type 0) (eq : Symbol 
       ((first.0, others.0), others.1)
 
 -- where a clone equals its symbol, what stands for an equal symbol is equal
-pub are-equal : {Symbol : Type 0} (Stands : Symbol → Symbol → Type 0) (eq : Symbol → Symbol → Bool) → IsEquivalence eq → ClonesAreEqual eq Stands
-    → (symbols answers : List Symbol) → AllZip (StandsForEqual Stands eq) symbols answers
+pub are-equal : {Symbol : Type 0} (Stands : Symbol → Symbol → Type 0) (eq : Symbol → Symbol → Bool)
+    → IsEquivalence eq → ClonesAreEqual eq Stands → (symbols answers : List Symbol) → AllZip (StandsForEqual Stands eq) symbols answers
     → AllZip (λ symbol answer. IsTrue (eq answer symbol)) symbols answers
 are-equal Stands eq laws clones [] [] h = tt
 are-equal Stands eq laws clones [] (a ∷ ts) h = absurd h

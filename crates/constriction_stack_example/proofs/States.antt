@@ -54,7 +54,11 @@ module _ (precision left weight state : ℕ) (some : 0 < weight) (within : left 
 
     -- a state that has room stays below 2 ^ 64
     pub put_below : put precision left weight state < 2 ^ 64
-    put_below = omega (arith, whole, mul-add-lt (state / weight) (2 ^ precision) (left + state % weight) (2 ^ (64 - precision)) quotient place)
+    put_below = omega (
+      arith,
+      whole,
+      mul-add-lt (state / weight) (2 ^ precision) (left + state % weight) (2 ^ (64 - precision)) quotient place,
+    )
 
     pub shifted : (state / weight * 2 ^ precision) % 2 ^ 64 ≡ state / weight * 2 ^ precision
     shifted = shl_whole (state / weight) (64 - precision) precision 64 quotient (omega arith)
@@ -78,7 +82,8 @@ taken_some precision left weight state fits some least =
     omega (arith, mul-le 1 1 weight (state / 2 ^ precision) some high)
 
 -- a state that has no room has it once a word left it, and with the symbol on top it is no less than 2 ^ 32
-pub room_after : (precision weight state : ℕ) → precision ≤ 32 → 0 < weight → state < 2 ^ 64 → state / 2 ^ 32 < weight * 2 ^ (64 - precision)
+pub room_after : (precision weight state : ℕ) → precision ≤ 32 → 0 < weight → state < 2 ^ 64
+    → state / 2 ^ 32 < weight * 2 ^ (64 - precision)
 room_after precision weight state fits some below =
     let wide : 2 ^ 32 ≤ 2 ^ (64 - precision) = pow_mono {i = 32} {j = 64 - precision} (omega arith) in
     omega (arith, wide, mul-le 1 (2 ^ (64 - precision)) weight (2 ^ (64 - precision)) some (omega arith))
@@ -88,9 +93,11 @@ pub least_after : (precision left weight state : ℕ) → precision ≤ 32 → 0
 least_after precision left weight state fits some full =
     let sum : 64 - precision ≡ 32 - precision + 32 = omega arith in
     let split : weight * 2 ^ (64 - precision) ≡ weight * 2 ^ (32 - precision) * 2 ^ 32 =
-    ap (λ n. weight * 2 ^ n) sum ∙ ap (λ n. weight * n) (pow-add 2 (32 - precision) 32) ∙ sym (mul_assoc weight (2 ^ (32 - precision)) (2 ^ 32)) in
+    ap (λ n. weight * 2 ^ n) sum ∙ ap (λ n. weight * n) (pow-add 2 (32 - precision) 32)
+    ∙ sym (mul_assoc weight (2 ^ (32 - precision)) (2 ^ 32)) in
     let high : weight * 2 ^ (32 - precision) ≤ state / 2 ^ 32 = omega (arith, split, full) in
-    let quotient : 2 ^ (32 - precision) ≤ state / 2 ^ 32 / weight = le-div (2 ^ (32 - precision)) (state / 2 ^ 32) weight some (omega (arith, high)) in
+    let quotient : 2 ^ (32 - precision) ≤ state / 2 ^ 32 / weight =
+    le-div (2 ^ (32 - precision)) (state / 2 ^ 32) weight some (omega (arith, high)) in
     let whole : 2 ^ (32 - precision) * 2 ^ precision ≡ 2 ^ 32 =
     let back : 32 - precision + precision ≡ 32 = omega arith in
     sym (pow-add 2 (32 - precision) precision) ∙ ap (λ n. 2 ^ n) back in

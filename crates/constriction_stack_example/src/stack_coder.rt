@@ -2,7 +2,8 @@
 
 ghost use Rattle.std.specs.Prelude.{◌≡◌, ◌≢◌, ◌+◌, ◌-◌, ◌*◌, ◌%◌, ◌^◌, ◌<◌, ◌≤◌, ℕ, List, [], ◌∷◌, ◌++◌, None, Err, IfOk, IfSome, OnErr};
 ghost use Rattle.constriction_stack_example.specs.States.{put};
-ghost use Rattle.constriction_stack_example.specs.Steps.{content, compressed, Leads, TellsSame, PopsTold, Refills, NeedsWord, TellsNone, IsEncoded, IsDecoded};
+ghost use Rattle.constriction_stack_example.specs.Steps.{content, compressed, Leads, TellsSame, TellsNone, PopsTold};
+ghost use Rattle.constriction_stack_example.specs.Steps.{Refills, NeedsWord, IsEncoded, IsDecoded};
 ghost use Rattle.constriction.specs.Model.{RowMayBeRefused};
 ghost use Rattle.constriction.specs.Rows.{entry_of};
 
@@ -216,7 +217,8 @@ impl<Backend: StackBackend<u32>> StackCoder<Backend> {
         ensures ok { IfOk result (λ _. Leads Backend.tells_written
             (λ rest full. IsEncoded (entry_of E.symbol_eq (E.rows model.now)) PRECISION symbol.now full rest)
             self.old.state self.old.words self.new.state self.new.words) }
-        ensures impossible { (fault : _) → result ≡ Err (CoderError.Frontend fault) → entry_of E.symbol_eq (E.rows model.now) symbol.now ≡ None }
+        ensures impossible { (fault : _) → result ≡ Err (CoderError.Frontend fault)
+            → entry_of E.symbol_eq (E.rows model.now) symbol.now ≡ None }
         ensures state { OnErr result (self.new.state ≡ self.old.state) }
         ensures words { OnErr result (TellsSame Backend.tells_written self.old.words self.new.words) }
     {
