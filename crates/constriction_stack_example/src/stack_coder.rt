@@ -52,6 +52,7 @@ fn with_room<Backend: StackBackend<u32>, const PRECISION: usize>(
     ensures least { IfOk result (λ kept. (left : ℕ) → left + weight ≤ 2 ^ PRECISION → 2 ^ 32 ≤ put PRECISION left weight kept) }
     ensures ok { IfOk result (λ kept. Leads Backend.tells_written (λ old new. Refills new.state new.words old)
         state words.old kept words.new) }
+    ensures failed { (error : _) → result ≡ Err error → (word : ℕ) × Backend.write_gives words.old word (Err error) words.new }
     ensures err { OnErr result (TellsSame Backend.tells_written words.old words.new) }
 {
     if !is_full_for::<PRECISION>(state, weight) {
@@ -203,6 +204,9 @@ impl<Backend: StackBackend<u32> + Drop> StackCoder<Backend> {
 
 impl<Backend: StackBackend<u32>> StackCoder<Backend> {
     /// Encodes a symbol.
+    ///
+    /// `ImpossibleSymbol` comes only where the model has no entry for it, and the backend's error only where a write answered that.
+    /// An error leaves the state, and the words that the backend tells.
     pub fn encode_symbol<Symbol, E, const PRECISION: usize>(
         &mut self,
         symbol: &Symbol,
@@ -219,6 +223,8 @@ impl<Backend: StackBackend<u32>> StackCoder<Backend> {
             self.old.state self.old.words self.new.state self.new.words) }
         ensures impossible { (fault : _) → result ≡ Err (CoderError.Frontend fault)
             → entry_of E.symbol_eq (E.rows model.now) symbol.now ≡ None }
+        ensures failed { (error : _) → result ≡ Err (CoderError.Backend error)
+            → (word : ℕ) × Backend.write_gives self.old.words word (Err error) self.new.words }
         ensures state { OnErr result (self.new.state ≡ self.old.state) }
         ensures words { OnErr result (TellsSame Backend.tells_written self.old.words self.new.words) }
     {

@@ -1,4 +1,4 @@
-use Rattle.std.proofs.Common.{◌-◌, ◌*◌, ◌%◌, ◌^◌, ◌≤◌, [], ◌∷◌, ◌++◌, Ok, Err, arith, rules}
+use Rattle.std.proofs.Common.{◌≡◌, ◌-◌, ◌*◌, ◌%◌, ◌^◌, ◌≤◌, [], ◌∷◌, ◌++◌, Ok, Err, arith, rules, subst}
 use Rattle.constriction_stack_example.proofs.States.{room_after, least_after}
 use Rattle.constriction_stack_example.proofs.Steps.{refills-back}
 use Rattle.constriction_stack_example.proofs.stack_coder.with_room.Goals as goal
@@ -22,3 +22,11 @@ returns-in-Ok-clause-ok g c = λ words told. (
 pub returns-in-Err-clause-err : goal.returns-in-Err-clause-err
 returns-in-Err-clause-err g c = λ words told.
     g.met.Backend.WriteWords.writes_told c.args.words.now _ (Err c.in-Err.error) c.write.new.self c.in-Err.ensures.gives words told
+
+pub returns-in-Err-clause-failed : goal.returns-in-Err-clause-failed
+returns-in-Err-clause-failed g c = λ error is.
+    let same : c.in-Err.error ≡ error = cc in (
+      c.args.state % 2 ^ 32,
+      subst (λ (e : _). g.Backend.WriteWords.write_gives c.args.words.now (c.args.state % 2 ^ 32) (Err e) c.write.new.self) same
+          c.in-Err.ensures.gives,
+    )

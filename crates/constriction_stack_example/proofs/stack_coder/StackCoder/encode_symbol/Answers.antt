@@ -1,5 +1,5 @@
 use Rattle.constriction.specs.Rows.{entry_of}
-use Rattle.std.proofs.Common.{sym}
+use Rattle.std.proofs.Common.{◌≡◌, Err, ap, sym}
 use Rattle.constriction_stack_example.specs.Steps.{content}
 use Rattle.constriction_stack_example.proofs.Steps.{encoded}
 use Rattle.constriction_stack_example.proofs.stack_coder.StackCoder.encode_symbol.Goals as goal
@@ -14,3 +14,7 @@ returns-in-Ok-clause-ok g c = λ words told.
           c.args.symbol.now c.in-Some.ensures.some c.in-Some.ensures.within (sym c.in-Some.ensures.entry)
           c.with_entry-self.ensures led.2,
     )
+
+pub returns-in-Err-clause-failed : goal.returns-in-Err-clause-failed
+returns-in-Err-clause-failed g c = λ error is.
+    let same : c.in-Err.error ≡ error = cc in c.in-Err.ensures.failed error (ap Err same)
