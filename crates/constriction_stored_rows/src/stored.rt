@@ -1,6 +1,6 @@
 //! The rows of a stored table.
 
-ghost use Rattle.std.specs.Prelude.{◌≡◌, ◌+◌, ◌%◌, ◌^◌, ◌<◌, ◌≤◌, length, map, slice_index, slice_index_or, IfOk, IfErr};
+ghost use Rattle.std.specs.Prelude.{◌≡◌, ◌+◌, ◌<◌, ◌≤◌, length, map, slice_index, slice_index_or, IfOk, IfErr};
 ghost use Rattle.constriction_model.specs.Model.{row_of, LiesWithin};
 ghost use Rattle.constriction_model.specs.Rows.{Row, contiguous_rows};
 ghost use Rattle.constriction_stored_rows.specs.Stored.{IsStored, IsTable, lefts_in, weights_of};
@@ -43,54 +43,8 @@ pub fn row_at<P: WholeNumber, const PRECISION: usize>(cdf: &[P], index: usize) -
     (left, weight.to_weight())
 }
 
-/// Where the row at `index` ends, of entries after which no total stands: where the next row begins, and of the
-/// last one at `2^PRECISION`, which wraps to 0 where that is no word.
-///
-/// After the last entry comes the first one, which begins at 0, so that one entry is read in any case and what is added to it
-/// is no read. A choice between what was read and a number is compiled to a jump.
-#[inline(always)]
-fn end_among_few<Entry, Kind: CdfEntry<Entry>, const PRECISION: usize>(
-    entries: &[Entry],
-    index: usize,
-) -> Kind::Word
-    requires some { 0 < PRECISION }
-    requires fits { PRECISION ≤ Kind.Word.BITS }
-    requires stored { IsStored Kind.Word.BITS PRECISION (map Kind.cumulative entries.now) }
-    requires in_bounds { index < length entries.now }
-    ensures next { index + 1 < length entries.now
-        → Kind.Word.whole result ≡ slice_index (map Kind.cumulative entries.now) (index + 1) }
-    ensures last { length entries.now ≤ index + 1 → Kind.Word.whole result ≡ 2 ^ PRECISION % 2 ^ Kind.Word.BITS }
-{
-    let (next, more) = if index + 1 < entries.len() {
-        (index + 1, Kind::Word::least())
-    } else {
-        (0, Kind::Word::wrapping_pow2(PRECISION))
-    };
-    Kind::cumulative_of(&entries[next]).plus(more)
-}
-
-/// [`end_among_few`], by a jump where there are many entries: there it is guessed right. Where there are two, it is guessed
-/// wrong at every other quantile.
-#[inline(always)]
-fn end_of_row<Entry, Kind: CdfEntry<Entry>, const PRECISION: usize>(
-    entries: &[Entry],
-    index: usize,
-) -> Kind::Word
-    requires some { 0 < PRECISION }
-    requires fits { PRECISION ≤ Kind.Word.BITS }
-    requires stored { IsStored Kind.Word.BITS PRECISION (map Kind.cumulative entries.now) }
-    requires in_bounds { index < length entries.now }
-    ensures next { index + 1 < length entries.now
-        → Kind.Word.whole result ≡ slice_index (map Kind.cumulative entries.now) (index + 1) }
-    ensures last { length entries.now ≤ index + 1 → Kind.Word.whole result ≡ 2 ^ PRECISION % 2 ^ Kind.Word.BITS }
-{
-    if 32 <= entries.len() && index + 1 < entries.len() {
-        return Kind::cumulative_of(&entries[index + 1]);
-    }
-    end_among_few::<Entry, Kind, PRECISION>(entries, index)
-}
-
-/// Where the row at `index` begins, and its weight, of entries after which no total stands.
+/// Where the row at `index` begins, and its weight, of entries after which no total stands: the last
+/// row ends at `2^PRECISION`, which wraps to 0 where that is no word.
 #[inline]
 fn row_words_among<Entry, Kind: CdfEntry<Entry>, const PRECISION: usize>(
     entries: &[Entry],
@@ -106,7 +60,11 @@ fn row_words_among<Entry, Kind: CdfEntry<Entry>, const PRECISION: usize>(
     ensures positive { 0 < Kind.Word.whole result.1 }
 {
     let left = Kind::cumulative_of(&entries[index]);
-    let end = end_of_row::<Entry, Kind, PRECISION>(entries, index);
+    let end = if index + 1 < entries.len() {
+        Kind::cumulative_of(&entries[index + 1])
+    } else {
+        Kind::Word::wrapping_pow2(PRECISION)
+    };
     (left, end.wrapping_minus(left))
 }
 
