@@ -26,6 +26,7 @@ exports! {
     contiguous_table = kernel_contiguous_table(weights: [u32]);
     decoder_build = kernel_decoder_build(weights: [u32], symbols: [u32]);
     decoder_build_hashable = kernel_decoder_build_hashable(weights: [u32], symbols: [u32]);
+    decoder_build_sorted = kernel_decoder_build_sorted(weights: [u32], symbols: [u32]);
     decoder_quantile = kernel_decoder_quantile(weights: [u32], symbols: [u32], quantiles: [u32]);
     decoder_table = kernel_decoder_table(weights: [u32], symbols: [u32]);
     encoder_build = kernel_encoder_build(weights: [u32], symbols: [u32]);
@@ -38,6 +39,7 @@ exports! {
     direct_symbol_lookup_quantile = kernel_direct_symbol_lookup_quantile(weights: [u16], symbols: [u32], quantiles: [u16]);
     slotted_symbol_lookup_quantile = kernel_slotted_symbol_lookup_quantile(weights: [u16], symbols: [u32], quantiles: [u16]);
     to_decoder = kernel_to_decoder(weights: [u32]);
+    to_decoder_of_distinct = kernel_to_decoder_of_distinct(weights: [u32]);
     to_encoder = kernel_to_encoder(weights: [u32]);
     to_direct_lookup = kernel_to_direct_lookup(weights: [u16]);
     write_quantiles = kernel_write_quantiles(weights: [u32], symbols: [u32]);

@@ -118,12 +118,16 @@ pub fn usual() -> Vec<Kernel> {
     for table in &tables[1..4] {
         kernels.push(decoder_build_hashable(table));
     }
+    for table in &tables[1..4] {
+        kernels.push(decoder_build_sorted(table));
+    }
     for table in &tables[1..] {
         kernels.push(encoder_build(table));
     }
     for table in &tables[2..4] {
         let weights = table.weights;
         kernels.push(kernel!("to_generic_decoder_model", "u32/24", table.rows, table.rows, to_decoder(weights)));
+        kernels.push(kernel!("to_generic_decoder_model_of_distinct", "u32/24", table.rows, table.rows, to_decoder_of_distinct(weights)));
         kernels.push(kernel!("to_generic_encoder_model", "u32/24", table.rows, table.rows, to_encoder(weights)));
     }
     let weights = small[2].weights;
@@ -160,6 +164,7 @@ pub fn growing() -> Vec<Kernel> {
         kernels.push(contiguous_build(&table));
         kernels.push(encoder_build(&table));
         kernels.push(decoder_build_hashable(&table));
+        kernels.push(decoder_build_sorted(&table));
         // it compares each symbol with all before it
         if bits <= 14 {
             kernels.push(decoder_build(&table));
@@ -215,6 +220,13 @@ fn decoder_build(table: &Table) -> Kernel {
 fn decoder_build_hashable(table: &Table) -> Kernel {
     let (weights, symbols) = (table.weights, table.symbols);
     kernel!("decoder of symbols made, hashing", "u32/24", table.rows, table.rows, decoder_build_hashable(weights, symbols))
+}
+
+fn decoder_build_sorted(table: &Table) -> Kernel {
+    let mut sorted = table.symbols.to_vec();
+    sorted.sort_unstable();
+    let (weights, symbols): (_, &'static [u32]) = (table.weights, sorted.leak());
+    kernel!("decoder of symbols made, in order", "u32/24", table.rows, table.rows, decoder_build_sorted(weights, symbols))
 }
 
 fn encoder_build(table: &Table) -> Kernel {

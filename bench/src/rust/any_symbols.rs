@@ -27,6 +27,7 @@ pub fn decoder_build(weights: &[u32], symbols: &[u32], repeats: u32) -> u64 {
 }
 
 pub use decoder_build as decoder_build_hashable;
+pub use decoder_build as decoder_build_sorted;
 
 #[inline(never)]
 pub fn decoder_quantile(weights: &[u32], symbols: &[u32], quantiles: &[u32], repeats: u32) -> u64 {

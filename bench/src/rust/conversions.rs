@@ -17,6 +17,9 @@ pub fn to_decoder(weights: &[u32], repeats: u32) -> u64 {
     sum
 }
 
+/// The Rust crate has one conversion, which looks for no repeats.
+pub use to_decoder as to_decoder_of_distinct;
+
 #[inline(never)]
 pub fn to_encoder(weights: &[u32], repeats: u32) -> u64 {
     let Ok(source) = Contiguous::from_nonzero_fixed_point_probabilities(weights.iter().copied(), false) else { return 1 };

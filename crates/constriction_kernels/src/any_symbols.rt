@@ -59,6 +59,29 @@ pub extern "C" fn kernel_decoder_build_hashable(
     sum
 }
 
+/// Makes the decoder, each time anew, by the constructor that compares each symbol with the one before it.
+#[unsafe(no_mangle)]
+pub extern "C" fn kernel_decoder_build_sorted(
+    alloc: Global,
+    weights: &[u32],
+    symbols: &[u32],
+    repeats: u32,
+) -> u64 {
+    let mut sum = 0u64;
+    for _ in 0..repeats {
+        let Ok(model) = Decoder::from_sorted_symbols_and_nonzero_fixed_point_probabilities(
+            alloc,
+            symbols.iter().copied(),
+            weights.iter().copied(),
+            false,
+        ) else {
+            return 1;
+        };
+        sum = mix(sum, model.support_size() as u64);
+    }
+    sum
+}
+
 /// Finds the row of each quantile.
 #[unsafe(no_mangle)]
 pub extern "C" fn kernel_decoder_quantile(

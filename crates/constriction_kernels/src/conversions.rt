@@ -1,9 +1,10 @@
 //! Kernels of conversions of contiguous models.
 
 use crate::checksum::{mix, row};
+use constriction::laws::contiguous_symbols_differ;
 use constriction::stream::model::{
     DecoderModel, DefaultContiguousCategoricalEntropyModel, SmallContiguousCategoricalEntropyModel,
-    to_generic_decoder_model, to_generic_encoder_model,
+    to_generic_decoder_model, to_generic_decoder_model_of_distinct, to_generic_encoder_model,
 };
 use std::alloc::Global;
 
@@ -24,6 +25,31 @@ pub extern "C" fn kernel_to_decoder(alloc: Global, weights: &[u32], repeats: u32
     let mut sum = 0u64;
     for _ in 0..repeats {
         let Ok(model) = to_generic_decoder_model::<_, 24>(alloc, &source) else {
+            return 1;
+        };
+        sum = mix(sum, model.support_size() as u64);
+    }
+    sum
+}
+
+/// Makes a decoder over any symbols, each time anew, of symbols that are known to differ.
+#[unsafe(no_mangle)]
+pub extern "C" fn kernel_to_decoder_of_distinct(
+    alloc: Global,
+    weights: &[u32],
+    repeats: u32,
+) -> u64 {
+    contiguous_symbols_differ();
+    let Ok(source) = Contiguous::from_nonzero_fixed_point_probabilities(
+        alloc,
+        weights.iter().copied(),
+        false,
+    ) else {
+        return 1;
+    };
+    let mut sum = 0u64;
+    for _ in 0..repeats {
+        let Ok(model) = to_generic_decoder_model_of_distinct::<_, 24>(alloc, &source) else {
             return 1;
         };
         sum = mix(sum, model.support_size() as u64);

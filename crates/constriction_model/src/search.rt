@@ -65,6 +65,25 @@ fn sixteenth<R: Probe>(rows: &mut R, q: R::Word, first: usize, size: usize) -> (
     halve_four_times(rows, q, first, size)
 }
 
+/// The greatest index whose cumulative is at most `q`, of at most two: the answer to one question, as a number. A choice
+/// between two rows is compiled to a jump, which the processor has to guess.
+#[inline(always)]
+#[tactic(auto, using(crate::proofs::Digits::digits_more))]
+fn row_of_two<R: Probe>(rows: &mut R, q: R::Word) -> usize
+    requires searchable { IsSearchable (R.cumulatives rows.old) (R.number q) }
+    requires two { length (R.cumulatives rows.old) ≤ 2 }
+    requires room { R.questions rows.old ≤ usize.MAX - 64 }
+    ensures found { IsLastAtMost (R.cumulatives rows.old) (R.number q) result }
+    ensures same { R.cumulatives rows.new ≡ R.cumulatives rows.old }
+    ensures few { R.questions rows.new ≤ R.questions rows.old + digits (length (R.cumulatives rows.old) - 1) }
+    ensures some { 1 < length (R.cumulatives rows.old) → R.questions rows.old < R.questions rows.new }
+{
+    if rows.len() < 2 {
+        return 0;
+    }
+    usize::from(rows.at_most(1, q))
+}
+
 /// The greatest index whose cumulative is at most `q`.
 ///
 /// The search halves the rows that are left until one is left, so it asks at most as many
@@ -80,6 +99,9 @@ pub fn row_of_quantile<R: Probe>(rows: &mut R, q: R::Word) -> usize
     ensures some { 1 < length (R.cumulatives rows.old) → R.questions rows.old < R.questions rows.new }
 {
     let all = rows.len();
+    if all <= 2 {
+        return row_of_two(rows, q);
+    }
     let (near, few) = halve_four_times(rows, q, 0, all);
     let (mut first, mut size) = halve_four_times(rows, q, near, few);
     'rows: while size > 1 {

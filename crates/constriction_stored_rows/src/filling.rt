@@ -10,25 +10,27 @@ use constriction_model::ModelError;
 use constriction_numbers::WholeNumber;
 use std::alloc::{AllocError, Global};
 
-/// A list, with room for one item more. It takes the list by value and stands out of line, so that a loop
-/// that fills the list keeps its pointer, length and capacity in registers.
+/// Makes room for one item more.
 #[cold]
 #[inline(never)]
-fn with_room<T: Drop>(mut items: Vec<T>) -> Result<Vec<T>, AllocError>
-    ensures items { IfOk result (λ v. v.items ≡ items.items) }
-    ensures room { IfOk result (λ v. vec_len v < vec_capacity v) }
+fn make_room<T: Drop>(items: &mut Vec<T>) -> Result<(), AllocError>
+    ensures same { items.new.items ≡ items.old.items }
+    ensures room { IfOk result (λ _. vec_len items.new < vec_capacity items.new) }
 {
-    items.reserve(1)?;
-    Ok(items)
+    items.reserve(1)
 }
 
-/// A list and one item more.
+/// A list and one item more. A full list is borrowed under another name, so that a loop that fills the list keeps
+/// its pointer, length and capacity in registers; an answer of a list that may be refused would have its
+/// place in memory cleared for each item.
 #[inline(always)]
 pub(crate) fn and_item<T: Drop>(mut items: Vec<T>, item: T) -> Result<Vec<T>, AllocError>
     ensures { IfOk result (λ v. v.items ≡ items.items ++ item ∷ []) }
 {
     if items.len() == items.capacity() {
-        items = with_room(items)?;
+        let mut full = items;
+        make_room(&mut full)?;
+        items = full;
     }
     items.push_reserved(item);
     Ok(items)
@@ -122,7 +124,9 @@ pub fn table_of<P: WholeNumber, I: IntoIterator<Item = P>, const PRECISION: usiz
     let mut room = greatest;
     'rows: while let Some(weight) = rest.next() {
         if table.len() == table.capacity() {
-            table = with_room(table)?;
+            let mut full = table;
+            make_room(&mut full)?;
+            table = full;
         }
         table.push_reserved(left);
         let last = weight.wrapping_minus(one);

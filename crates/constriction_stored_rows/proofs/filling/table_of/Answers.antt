@@ -6,7 +6,7 @@ use Rattle.constriction_model.specs.Acceptance.{completed}
 use Rattle.constriction_stored_rows.specs.Stored.{lefts_from}
 use Rattle.constriction_stored_rows.proofs.FillLemmas.{filled-none, filled-more, row-within, row-last, bad-more, bad-full-more, bad-after, bad-wide, good-given, good-inferred, ended, yields-more}
 use Rattle.constriction_stored_rows.proofs.ReadLemmas.{row-fits}
-use Rattle.constriction_stored_rows.proofs.filling.table_of.Goals.{then-len-capacity+in_ok-table, else-len-capacity}
+use Rattle.constriction_stored_rows.proofs.filling.table_of.Goals.{then-len-capacity+in_ok-make_room, else-len-capacity}
 use Rattle.constriction_stored_rows.proofs.filling.table_of.Goals as goal
 
 pub rows-init : goal.rows-init
@@ -61,7 +61,7 @@ rows-preserved g c =
     subst (λ n. (whole c.wrapping_minus-last.result + n) % 2 ^ g.P.WholeNumber.BITS ≡ whole w) one c.wrapping_minus-last.ensures.difference in
     let same : c.if-len-capacity.table.items ≡ c.rows.table.items =
     elim c.if-len-capacity.branch [
-      | then-len-capacity+in_ok-table w ↦ ap (λ t. t.items) w.table-is ∙ w.in_ok-table.ensures.items
+      | then-len-capacity+in_ok-make_room w ↦ ap (λ t. t.items) w.table-is ∙ w.make_room.ensures.same
       | else-len-capacity w ↦ ap (λ t. t.items) w.table-is
     ] in
     let pushed : c.push_reserved.new.self.items ≡ c.rows.table.items ++ c.rows.left ∷ [] = rw (← same) c.push_reserved.ensures.items in
@@ -156,7 +156,7 @@ returns-then-is_at_most-clause-ok g c =
     let much : 2 ^ g.row.PRECISION ≤ sum (map whole (inv.2.0 ++ w ∷ [])) = omega (arith, full.is) in
     let same : c.if-len-capacity.table.items ≡ c.rows.table.items =
     elim c.if-len-capacity.branch [
-      | then-len-capacity+in_ok-table w ↦ ap (λ t. t.items) w.table-is ∙ w.in_ok-table.ensures.items
+      | then-len-capacity+in_ok-make_room w ↦ ap (λ t. t.items) w.table-is ∙ w.make_room.ensures.same
       | else-len-capacity w ↦ ap (λ t. t.items) w.table-is
     ] in
     let pushed : c.push_reserved.new.self.items ≡ c.rows.table.items ++ c.rows.left ∷ [] = rw (← same) c.push_reserved.ensures.items in
