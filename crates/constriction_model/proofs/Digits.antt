@@ -53,3 +53,9 @@ digits_in-more (suc f) (suc m) (suc n) h = omega (arith, digits_in-more f (suc m
 pub digits_grow : (m n : ℕ) → m ≤ n → digits m ≤ digits n
 unfolding digits
 digits_grow m n h = omega (arith, digits_in-same m n m (omega arith) h, digits_in-more n m n h)
+
+-- up to two, a number has as many digits as it says
+pub digits_few : (n : ℕ) → n ≤ 2 → n ≤ digits n
+digits_few zero h = omega arith
+digits_few (suc zero) h = omega (arith, digits_some 1 (omega arith))
+digits_few (suc (suc n)) h = omega (arith, digits-half (suc (suc n)) (omega arith), digits_some (suc (suc n) / 2) (omega arith))
