@@ -82,15 +82,15 @@ pub trait DecoderModel<const PRECISION: usize>: EntropyModel<PRECISION> {
     ghost tile_law: { (m : Self) → RowsTile Self.Probability.BITS PRECISION (Self.rows m) };
 }
 
-/// A decoder's model that finds the row of a quantile by comparing the quantile with where rows begin, and says how
-/// often it did. What its [`quantile_function`](DecoderModel::quantile_function) answers is the row alone.
+/// A decoder's model that finds the row of a quantile by comparing the quantile with where rows begin, and tells how
+/// many it compared. Its [`quantile_function`](DecoderModel::quantile_function) answers the row alone.
 pub trait SearchingModel<const PRECISION: usize>: DecoderModel<PRECISION> {
     // How many rows are in question for a quantile: all of them, or of a model with a table of slots those that meet the quantile's slot.
     ghost rows_in_question: { Self → ℕ → ℕ };
 
     /// The row of a quantile, as [`quantile_function`](DecoderModel::quantile_function) answers it, and how many of
-    /// the rows in question were compared with the quantile. The first of these begins at the quantile or
-    /// below it whatever the quantile is, so that it is not compared, or in vain, and never counted.
+    /// the rows in question were compared with the quantile. The first of these is never counted: it begins at the
+    /// quantile or below it, whatever the quantile is, so that a comparison with it tells nothing.
     fn counted_quantile_function(
         &self,
         quantile: Self::Probability,
