@@ -15,8 +15,8 @@ use crate::iterable::IterableEntropyModel;
 use crate::symbol_table::ContiguousSymbolTable;
 use constriction_buffers::SafeBuf;
 use constriction_model::{
-    Alone, CdfProbe, DecoderModel, EncoderModel, EntropyModel, ModelError, Probe, Weight,
-    row_of_quantile,
+    Alone, CdfProbe, DecoderModel, EncoderModel, EntropyModel, ModelError, Probe, SearchingModel,
+    Weight, row_of_quantile,
 };
 use constriction_numbers::WholeNumber;
 use constriction_stored_rows::{contiguous_row_at, copied, row_at, table_of};
@@ -232,7 +232,7 @@ impl<Probability: WholeNumber, Cdf: SafeBuf<Probability>, const PRECISION: usize
 
     ghost may_refuse = { λ _. ⊥ };
 
-    /// The row of a quantile, by [`row_of_quantile`]. It takes no memory and always succeeds.
+    /// The row of a quantile, by a search ([`SearchingModel`]). It takes no memory and always succeeds.
     #[inline(always)]
     fn quantile_function(
         &self,
@@ -252,12 +252,31 @@ impl<Probability: WholeNumber, Cdf: SafeBuf<Probability>, const PRECISION: usize
             (Probability.whole quantile)) }
         ensures succeeds { IsOk result }
     {
-        let mut rows = CdfProbe::<Probability, Alone>::new(self.cdf_entries());
-        let index = row_of_quantile(&mut rows, quantile);
-        Ok(contiguous_row_at::<Probability, PRECISION>(self.cdf.words(), index))
+        let (row, _compared) = self.counted_quantile_function(quantile)?;
+        Ok(row)
     }
 
     ghost tile_law = { λ m. stored-tiles _ _ _ m.stored.stored };
+}
+
+impl<Probability: WholeNumber, Cdf: SafeBuf<Probability>, const PRECISION: usize> SearchingModel<
+    PRECISION,
+> for ContiguousCategoricalEntropyModel<Probability, Cdf, PRECISION> {
+    ghost rows_in_question = { λ m q. length
+        (⟦<ContiguousCategoricalEntropyModel<Probability, Cdf, PRECISION> as EntropyModel<PRECISION>>⟧.rows m) };
+
+    /// The row of a quantile, by [`row_of_quantile`], and how many rows that asked for. It takes no memory and
+    /// always succeeds.
+    #[inline(always)]
+    fn counted_quantile_function(
+        &self,
+        quantile: Probability,
+    ) -> Result<((usize, Probability, Weight<Probability>), usize), AllocError> {
+        let mut rows = CdfProbe::<Probability, Alone>::new(self.cdf_entries());
+        let index = row_of_quantile(&mut rows, quantile);
+        let row = contiguous_row_at::<Probability, PRECISION>(self.cdf.words(), index);
+        Ok((row, rows.asked()))
+    }
 }
 
 impl<

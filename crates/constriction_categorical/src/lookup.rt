@@ -1,13 +1,13 @@
 //! Models that look up where to search for the row of a quantile.
 
-ghost use Rattle.std.specs.Prelude.{◌≡◌, ◌+◌, ◌/◌, ◌^◌, ◌<◌, ◌≤◌, ℕ, map, IfOk};
+ghost use Rattle.std.specs.Prelude.{◌≡◌, ◌+◌, ◌/◌, ◌^◌, ◌<◌, ◌≤◌, ℕ, map, count_by, IfOk};
 ghost use Rattle.constriction_model.specs.Probe.{TellsRows, IsRowIndexOf, IsSearchable, IsLastAtMost};
-ghost use Rattle.constriction_stored_rows.specs.Slots.{MeetsSlot, slot_count, slot_width};
+ghost use Rattle.constriction_stored_rows.specs.Slots.{MeetsSlot, meets_slot, slot_count, slot_width};
 ghost use Rattle.constriction_stored_rows.specs.SlotTable.{HasSlots};
 
 use crate::stores_rows::{AnswersRows, OfAnySymbols, OfNumbers, StoresRows};
 use constriction_buffers::SafeBuf;
-use constriction_model::{CdfProbe, DecoderModel, EntropyModel, Probe, Weight};
+use constriction_model::{CdfProbe, DecoderModel, EntropyModel, Probe, SearchingModel, Weight};
 use constriction_stored_rows::{row_in_slot, slot_probe, slots_of};
 use std::alloc::{AllocError, Global};
 
@@ -135,7 +135,7 @@ where
     ghost may_refuse = { Model.may_refuse };
 
     /// The row of a quantile, by the table, and where more than one row meets the quantile's slot by a
-    /// search of those. Where the model owns its symbols the answer has a clone.
+    /// search of those ([`SearchingModel`]). Where the model owns its symbols the answer has a clone.
     #[inline(always)]
     fn quantile_function(
         &self,
@@ -148,15 +148,49 @@ where
         ),
         AllocError,
     > {
-        let index = row_in_slot::<Model::Entry, Model::Kind, PRECISION, SLOT_BITS>(
+        let (row, _compared) = self.counted_quantile_function(quantile)?;
+        Ok(row)
+    }
+
+    ghost tile_law = { λ m. Model.tile_law m.model };
+}
+
+impl<Model, LookupTable, const PRECISION: usize, const SLOT_BITS: usize> SearchingModel<PRECISION>
+    for LookupDecoderModel<Model, LookupTable, PRECISION, SLOT_BITS>
+where
+    Model: AnswersRows<PRECISION>,
+    LookupTable: SafeBuf<Model::Probability>,
+{
+    ghost rows_in_question = { λ m q. count_by
+        (meets_slot (slot_width PRECISION SLOT_BITS) (q / slot_width PRECISION SLOT_BITS)) (Model.rows m.model) };
+
+    /// The row of a quantile, and how many of the rows that meet its slot were compared with it: none where one
+    /// does, one of two, two of three, and of more as many as a search of these asks for.
+    #[inline(always)]
+    fn counted_quantile_function(
+        &self,
+        quantile: Model::Probability,
+    ) -> Result<
+        (
+            (
+                Model::Symbol,
+                Model::Probability,
+                Weight<Model::Probability>,
+            ),
+            usize,
+        ),
+        AllocError,
+    > {
+        let (index, compared) = row_in_slot::<Model::Entry, Model::Kind, PRECISION, SLOT_BITS>(
             self.model.entries(),
             self.lookup_table.words(),
             quantile,
         );
-        self.model.row_at(index)
+        match self.model.row_at(index) {
+            Ok(row) => Ok((row, compared)),
+            Err(refused) => Err(refused),
+        }
     }
-
-    ghost tile_law = { λ m. Model.tile_law m.model };
 }
 
 impl<Model, LookupTable, const PRECISION: usize, const SLOT_BITS: usize> LookupDecoderModel<

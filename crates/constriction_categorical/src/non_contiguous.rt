@@ -17,7 +17,8 @@ use crate::iterable::IterableEntropyModel;
 use crate::non_contiguous_table::NonContiguousSymbolTable;
 use constriction_buffers::SafeBuf;
 use constriction_model::{
-    CdfProbe, DecoderModel, EntropyModel, ModelError, Probe, Weight, WithSymbol, row_of_quantile,
+    CdfProbe, DecoderModel, EntropyModel, ModelError, Probe, SearchingModel, Weight, WithSymbol,
+    row_of_quantile,
 };
 use constriction_numbers::WholeNumber;
 use constriction_stored_rows::{
@@ -262,18 +263,42 @@ impl<
 
     ghost may_refuse = { λ s. ¬ (Symbol.is_infallible s) };
 
-    /// The row of a quantile, by [`row_of_quantile`], with a clone of its symbol.
+    /// The row of a quantile, by a search ([`SearchingModel`]), with a clone of its symbol.
     #[inline(always)]
     fn quantile_function(
         &self,
         quantile: Probability,
     ) -> Result<(Symbol, Probability, Weight<Probability>), AllocError> {
-        let mut rows = CdfProbe::<(Probability, Symbol), WithSymbol>::new(self.cdf_entries());
-        let index = row_of_quantile(&mut rows, quantile);
-        cloned_row_at::<Probability, Symbol, PRECISION>(self.cdf.words(), index)
+        let (row, _compared) = self.counted_quantile_function(quantile)?;
+        Ok(row)
     }
 
     ghost tile_law = { λ m. paired-tiles Probability.whole _ _ _ m.stored };
+}
+
+impl<
+    Symbol: Eq + Clone,
+    Probability: WholeNumber,
+    Cdf: SafeBuf<(Probability, Symbol)>,
+    const PRECISION: usize,
+> SearchingModel<PRECISION>
+    for NonContiguousCategoricalDecoderModel<Symbol, Probability, Cdf, PRECISION> {
+    ghost rows_in_question = { λ m q. length
+        (⟦<NonContiguousCategoricalDecoderModel<Symbol, Probability, Cdf, PRECISION> as EntropyModel<PRECISION>>⟧.rows m) };
+
+    /// The row of a quantile, by [`row_of_quantile`], with a clone of its symbol, and how many rows that asked for.
+    #[inline(always)]
+    fn counted_quantile_function(
+        &self,
+        quantile: Probability,
+    ) -> Result<((Symbol, Probability, Weight<Probability>), usize), AllocError> {
+        let mut rows = CdfProbe::<(Probability, Symbol), WithSymbol>::new(self.cdf_entries());
+        let index = row_of_quantile(&mut rows, quantile);
+        match cloned_row_at::<Probability, Symbol, PRECISION>(self.cdf.words(), index) {
+            Ok(row) => Ok((row, rows.asked())),
+            Err(refused) => Err(refused),
+        }
+    }
 }
 
 impl<

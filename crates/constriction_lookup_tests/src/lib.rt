@@ -7,6 +7,8 @@
 #[cfg(test)]
 mod checks;
 #[cfg(test)]
+mod compared;
+#[cfg(test)]
 mod lookup_any_symbols;
 #[cfg(test)]
 mod lookup_contiguous;

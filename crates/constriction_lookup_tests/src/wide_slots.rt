@@ -230,8 +230,9 @@ fn is_found(model: &Lookup<usize, 40>, quantile: usize) -> bool
         && asked <= 22
 }
 
-/// Each quantile of a row of weight 1. No clause says that `quantile_function` does not go over the rows
-/// before it searches; if it did, these 4,194,303 look-ups would not end within a minute.
+/// Each quantile of a row of weight 1. `counted_quantile_function` says how many rows were compared; that a look-up
+/// counts all that it compares no clause says. If it went over the rows, these 4,194,303 look-ups would not end within
+/// a minute.
 #[test]
 fn a_slot_that_4_194_304_rows_meet_is_searched(rt: HostRuntime) -> Result<(), Fail> {
     let model = many_rows_in_a_slot(rt.alloc())?;

@@ -42,3 +42,20 @@ digits_word n h = digits_most 64 (n - 1) (omega arith)
 
 pub digits_more : (n : ℕ) → 1 < n → 0 < digits (n - 1)
 digits_more n h = digits_some (n - 1) (omega arith)
+
+digits_in-more : (f m n : ℕ) → m ≤ n → digits_in f m ≤ digits_in f n
+digits_in-more zero m n h = omega arith
+digits_in-more (suc f) zero n h = omega arith
+digits_in-more (suc f) (suc m) zero h = absurd (omega arith)
+digits_in-more (suc f) (suc m) (suc n) h = omega (arith, digits_in-more f (suc m / 2) (suc n / 2) (omega arith))
+
+-- a greater number has no fewer digits
+pub digits_grow : (m n : ℕ) → m ≤ n → digits m ≤ digits n
+unfolding digits
+digits_grow m n h = omega (arith, digits_in-same m n m (omega arith) h, digits_in-more n m n h)
+
+-- up to two, a number has as many digits as it says
+pub digits_few : (n : ℕ) → n ≤ 2 → n ≤ digits n
+digits_few zero h = omega arith
+digits_few (suc zero) h = omega (arith, digits_some 1 (omega arith))
+digits_few (suc (suc n)) h = omega (arith, digits-half (suc (suc n)) (omega arith), digits_some (suc (suc n) / 2) (omega arith))

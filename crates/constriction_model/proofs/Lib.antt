@@ -1,6 +1,6 @@
 mod AnswerLemmas
 pub mod Differences
-mod Digits
+pub mod Digits
 pub mod Finding
 pub mod Halving
 pub mod StepLemmas

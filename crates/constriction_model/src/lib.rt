@@ -25,6 +25,6 @@ pub use crate::error::ModelError;
 pub use crate::probe::Probe;
 pub use crate::quantile::is_quantile;
 pub use crate::search::row_of_quantile;
-pub use crate::traits::{DecoderModel, EncoderModel, EntropyModel, Weight};
+pub use crate::traits::{DecoderModel, EncoderModel, EntropyModel, SearchingModel, Weight};
 pub use crate::uniform::symbol_table::UniformSymbolTable;
 pub use crate::uniform::{DefaultUniformModel, SmallUniformModel, UniformModel};

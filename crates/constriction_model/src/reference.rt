@@ -2,7 +2,7 @@
 
 ghost use Rattle.std.specs.Prelude.{◌≡◌, ◌<◌, ◌^◌};
 
-use crate::traits::{DecoderModel, EncoderModel, EntropyModel, Weight};
+use crate::traits::{DecoderModel, EncoderModel, EntropyModel, SearchingModel, Weight};
 use std::alloc::AllocError;
 
 impl<M: EntropyModel<PRECISION>, const PRECISION: usize> EntropyModel<PRECISION> for &M {
@@ -41,4 +41,15 @@ impl<M: DecoderModel<PRECISION>, const PRECISION: usize> DecoderModel<PRECISION>
     }
 
     ghost tile_law = { λ m. M.tile_law m.now };
+}
+
+impl<M: SearchingModel<PRECISION>, const PRECISION: usize> SearchingModel<PRECISION> for &M {
+    ghost rows_in_question = { λ m. M.rows_in_question m.now };
+
+    fn counted_quantile_function(
+        &self,
+        quantile: M::Probability,
+    ) -> Result<((M::Symbol, M::Probability, Weight<M::Probability>), usize), AllocError> {
+        (**self).counted_quantile_function(quantile)
+    }
 }

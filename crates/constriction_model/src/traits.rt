@@ -1,10 +1,11 @@
 //! The traits of models: what a model tells, and what it answers in each direction.
 
-ghost use Rattle.std.specs.Prelude.{◌≡◌, ◌^◌, ◌<◌, Bool, List, All, IfOk, IfErr};
+ghost use Rattle.std.specs.Prelude.{◌≡◌, ◌-◌, ◌^◌, ◌<◌, ◌≤◌, ℕ, Bool, List, length, All, IfOk, IfErr};
 ghost use Rattle.std.specs.Cmp.{IsEquivalence};
 ghost use Rattle.std.specs.Option.{option_map};
 ghost use Rattle.constriction_model.specs.Rows.{Row, RowsTile, entry_of};
 ghost use Rattle.constriction_model.specs.Model.{row_of, entry_in, LiesWithin, AnswersQuantile, RowMayBeRefused};
+ghost use Rattle.constriction_model.specs.Probe.{digits};
 
 use constriction_numbers::WholeNumber;
 use std::alloc::AllocError;
@@ -79,4 +80,37 @@ pub trait DecoderModel<const PRECISION: usize>: EntropyModel<PRECISION> {
 
     // The rows tile the quantiles, so that each quantile has exactly one row.
     ghost tile_law: { (m : Self) → RowsTile Self.Probability.BITS PRECISION (Self.rows m) };
+}
+
+/// A decoder's model that finds the row of a quantile by comparing the quantile with where rows begin, and tells how
+/// many it compared. Its [`quantile_function`](DecoderModel::quantile_function) answers the row alone.
+pub trait SearchingModel<const PRECISION: usize>: DecoderModel<PRECISION> {
+    // How many rows are in question for a quantile: all of them, or of a model with a table of slots those that meet the quantile's slot.
+    ghost rows_in_question: { Self → ℕ → ℕ };
+
+    /// The row of a quantile, as [`quantile_function`](DecoderModel::quantile_function) answers it, and how many of
+    /// the rows in question were compared with the quantile. The first of these is never counted: it begins at the
+    /// quantile or below it, whatever the quantile is, so that a comparison with it tells nothing.
+    fn counted_quantile_function(
+        &self,
+        quantile: Self::Probability,
+    ) -> Result<
+        (
+            (Self::Symbol, Self::Probability, Weight<Self::Probability>),
+            usize,
+        ),
+        AllocError,
+    >
+        requires in_range { Self.Probability.whole quantile < 2 ^ PRECISION }
+        ensures row { IfOk result (λ x. AnswersQuantile Self.stands_for Self.Probability.whole Self.Probability.base
+            (Self.rows self.now) (Self.Probability.whole quantile) x.0) }
+        ensures within { IfOk result (λ x. LiesWithin PRECISION
+            (row_of Self.Probability.whole Self.Probability.base x.0)) }
+        ensures few { IfOk result (λ x. x.1 ≤ digits (length (Self.rows self.now) - 1)) }
+        ensures among { IfOk result (λ x. x.1
+            ≤ digits (rows_in_question self.now (Self.Probability.whole quantile) - 1)) }
+        ensures some { IfOk result (λ x. 1 < rows_in_question self.now (Self.Probability.whole quantile)
+            → 0 < x.1) }
+        ensures refused { IfErr result (λ _. RowMayBeRefused Self.may_refuse (Self.rows self.now)
+            (Self.Probability.whole quantile)) };
 }

@@ -104,8 +104,9 @@ fn is_found(model: &Wide, symbol: usize, left: u32) -> bool
     row_of(model, left + 3) == Some((symbol, left, 4)) && found == symbol && asked <= 22
 }
 
-/// The last quantile of each row. No clause says that `quantile_function` does not go over the rows
-/// before it searches; if it did, these 4,194,304 look-ups would not end within a minute.
+/// The last quantile of each row. `counted_quantile_function` says how many rows were compared; that a look-up counts
+/// all that it compares no clause says. If it went over the rows, these 4,194,304 look-ups would not end within a
+/// minute.
 #[test]
 fn a_look_up_does_not_go_over_all_rows(rt: HostRuntime) -> Result<(), Fail> {
     let model = wide(rt.alloc())?;

@@ -7,6 +7,7 @@ pub mod PairedLemmas
 pub mod ProbeLemmas
 pub mod ReadLemmas
 pub mod SeenLemmas
+pub mod SlotCounting
 pub mod SlotFilling
 pub mod SlotLemmas
 pub mod StoredSteps

@@ -206,25 +206,3 @@ pub paired-lent : {Symbol Word : Type 0} (whole : Word → ℕ) (bits precision 
     × (0 ≤ length lent) × (length lent ≤ length lent)
 paired-lent whole bits precision entries lent t e =
     rw e (t, paired-all whole bits precision entries t, omega arith, omega arith)
-
--- the answer for the row at an index is for that of the quantile, and so is a refusal
-module _ {Symbol A E : Type 0} {rows : List (Row Symbol)} {q i : ℕ} (r : Result A E) (found : IsRowIndexOf rows q i) where
-  pub found-row : (Own : A → Symbol → Type 0) (row : A → Symbol → Row Symbol)
-      → IfOk r (λ x. (own : Symbol) × Own x own × (get_or rows i (row x own) ≡ row x own))
-      → IfOk r (λ x. (own : Symbol) × Own x own × IsRowOf rows q (row x own))
-  found-row Own row h = if-ok r h
-    where
-      if-ok : (o : Result A E) → IfOk o (λ x. (own : Symbol) × Own x own × (get_or rows i (row x own) ≡ row x own))
-          → IfOk o (λ x. (own : Symbol) × Own x own × IsRowOf rows q (row x own))
-      if-ok (Ok x) k = (k.0, k.1, subst (λ (t : Row Symbol). IsRowOf rows q t) k.2 (found.row (row x k.0)))
-      if-ok (Err e) k = tt
-
-  pub found-refused : (MayRefuse : Symbol → Type 0)
-      → IfErr r (λ _. (t : Row Symbol) × (get_or rows i t ≡ t) × MayRefuse t.symbol)
-      → IfErr r (λ _. RowMayBeRefused MayRefuse rows q)
-  found-refused MayRefuse h = if-err r h
-    where
-      if-err : (o : Result A E) → IfErr o (λ _. (t : Row Symbol) × (get_or rows i t ≡ t) × MayRefuse t.symbol)
-          → IfErr o (λ _. RowMayBeRefused MayRefuse rows q)
-      if-err (Ok x) k = tt
-      if-err (Err e) k = (k.0, subst (λ (t : Row Symbol). IsRowOf rows q t) k.1 (found.row k.0), k.2)

@@ -68,13 +68,23 @@ pub part-whole : {W : Type 0} (whole : W → ℕ) (xs : List W) (first count : �
     → map whole (take count (drop first xs)) ≡ take count (drop first (map whole xs))
 part-whole whole xs first count = sym (take-map whole count (drop first xs)) ∙ ap (take count) (sym (drop-map whole first xs))
 
+-- as many rows as stand from the first that meets the slot to the last
+pub slot-long : (lefts : List ℕ) (width slot first last : ℕ) → IsSlot lefts width slot first last
+    → length (take (last + 1 - first) (drop first lefts)) ≡ last - first + 1
+slot-long lefts width slot first last s =
+    let order = slot-order lefts width slot first last s in
+    omega (
+      arith,
+      length-take-le (last + 1 - first) (drop first lefts) (simp length-drop (omega (arith, s.to.in_bounds))),
+    )
+
 -- the rows between the two words of a slot
 pub slot-part : (lefts : List ℕ) (width slot first last : ℕ) → IsSlot lefts width slot first last
     → IsSlotPart lefts width slot first (take (last + 1 - first) (drop first lefts))
 slot-part lefts width slot first last s =
     let order = slot-order lefts width slot first last s in
     let long : length (take (last + 1 - first) (drop first lefts)) ≡ last + 1 - first =
-    length-take-le (last + 1 - first) (drop first lefts) (simp length-drop (omega (arith, s.to.in_bounds))) in
+    omega (arith, slot-long lefts width slot first last s) in
     record {
       last = last;
       rows = s;
@@ -180,7 +190,7 @@ module _ {S : Type 0} (bits precision slot_bits : ℕ) (rows : List (Row S)) (t 
         ]
 
     -- exactly the rows that meet the slot are told
-    slot-tells : j < slot_count precision slot_bits → TellsRows rows (MeetsSlot (slot_width precision slot_bits) j) first told
+    pub slot-tells : j < slot_count precision slot_bits → TellsRows rows (MeetsSlot (slot_width precision slot_bits) j) first told
     slot-tells jb = record {
       exactly = λ i d h.
           let tile = tile-at bits precision rows t i d h in

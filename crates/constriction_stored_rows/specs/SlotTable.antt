@@ -1,6 +1,6 @@
 -- How lookup models store which rows meet a slot. No public clause cites this module, but a ghost field of the model does.
 use Rattle.std.specs.Prelude.{◌≡◌, ◌↔◌, ℕ, ◌+◌, ◌-◌, ◌*◌, ◌<◌, ◌≤◌, min, List, length, take, drop, slice_index}
-use Rattle.constriction_model.specs.Probe.{IsLastAtMost}
+use Rattle.constriction_model.specs.Probe.{IsLastAtMost, digits}
 
 -- the first and the last row that meet the slot: the rows of its first and of its last quantile
 pub record IsSlot (lefts : List ℕ) (width slot first last : ℕ) : Type 0 where
@@ -34,3 +34,12 @@ pub record IsSlotPart (lefts : List ℕ) (width slot first : ℕ) (told : List �
   pub rows : IsSlot lefts width slot first last
   pub long : first + length told ≡ last + 1
   pub in_order : told ≡ take (length told) (drop first lefts)
+
+-- so many of the rows that meet the slot are compared as a search compares: at most as many as the number of those after the first one
+-- has binary digits, and one at least where there are such
+pub record IsSlotSearch (lefts : List ℕ) (width slot compared : ℕ) : Type 0 where
+  pub first : ℕ
+  pub last : ℕ
+  pub rows : IsSlot lefts width slot first last
+  pub few : compared ≤ digits (last - first)
+  pub some : first < last → 0 < compared

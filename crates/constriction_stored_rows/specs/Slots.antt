@@ -1,5 +1,5 @@
 -- The slots of lookup models, and which rows meet one.
-use Rattle.std.specs.Prelude.{ℕ, ◌+◌, ◌-◌, ◌*◌, ◌^◌, ◌<◌, ◌≤◌, min}
+use Rattle.std.specs.Prelude.{ℕ, ◌+◌, ◌-◌, ◌*◌, ◌^◌, ◌<◌, ◌≤◌, min, Bool, ltb, ◌&&◌}
 use Rattle.constriction_model.specs.Rows.{Row}
 
 -- how many slots there are, of a model that divides its quantiles into 2 ^ slot_bits of them, or into as many as there are quantiles
@@ -16,3 +16,7 @@ pub record MeetsSlot {Symbol : Type 0} (width slot : ℕ) (row : Row Symbol) : T
   pub quantile : ℕ
   pub in_slot : (slot * width ≤ quantile) × (quantile < slot * width + width)
   pub in_row : (row.left ≤ quantile) × (quantile < row.left + row.weight)
+
+-- whether a row meets a slot: it begins before the slot ends, and ends after the slot begins
+abbrev pub meets_slot : {Symbol : Type 0} → ℕ → ℕ → Row Symbol → Bool
+meets_slot width slot row = ltb row.left (slot * width + width) && ltb (slot * width) (row.left + row.weight)

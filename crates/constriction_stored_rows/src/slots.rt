@@ -4,7 +4,7 @@ ghost use Rattle.std.specs.Prelude.{◌≡◌, ◌+◌, ◌-◌, ◌*◌, ◌/�
 ghost use Rattle.std.specs.List.Sorted.{IsStrictlyIncreasing};
 ghost use Rattle.constriction_model.specs.Probe.{IsLastAtMost, IsSearchable};
 ghost use Rattle.constriction_stored_rows.specs.Slots.{slot_count, slot_width};
-ghost use Rattle.constriction_stored_rows.specs.SlotTable.{words_a_slot, HasSlots, IsFirstWord, IsSlot, IsSlotPart};
+ghost use Rattle.constriction_stored_rows.specs.SlotTable.{words_a_slot, HasSlots, IsFirstWord, IsSlot, IsSlotPart, IsSlotSearch};
 
 use constriction_model::{CdfEntry, CdfProbe, Probe, row_of_quantile};
 use constriction_numbers::WholeNumber;
@@ -189,28 +189,31 @@ fn row_of_few<Entry, Kind: CdfEntry<Entry>, const PRECISION: usize, const SLOT_B
         + above::<Entry, Kind>(entries, middle, quantile))
 }
 
-/// The last row that begins at a quantile or below it, among the rows that meet its slot: the only one
-/// where a slot holds one quantile, else by two comparisons without a jump where at most three rows meet
-/// the slot, and by a search where more do.
+/// The last row that begins at a quantile or below it, among the rows that meet its slot, and how many of these,
+/// other than the first one, were compared with the quantile: the only row where a slot holds one quantile, else by two
+/// comparisons without a jump where at most three rows meet the slot, and by a search where more do.
 #[inline(always)]
 pub fn row_in_slot<Entry, Kind: CdfEntry<Entry>, const PRECISION: usize, const SLOT_BITS: usize>(
     entries: &[Entry],
     table: &[Kind::Word],
     quantile: Kind::Word,
-) -> usize
+) -> (usize, usize)
     requires narrow { PRECISION ≤ 63 }
     requires increases { IsStrictlyIncreasing (map Kind.cumulative entries.now) }
     requires slots { HasSlots (slot_width PRECISION SLOT_BITS) (slot_count PRECISION SLOT_BITS)
         (map Kind.cumulative entries.now) (map Kind.Word.whole table.now) }
     requires below { Kind.Word.whole quantile < 2 ^ PRECISION }
-    ensures { IsLastAtMost (map Kind.cumulative entries.now) (Kind.Word.whole quantile) result }
+    ensures found { IsLastAtMost (map Kind.cumulative entries.now) (Kind.Word.whole quantile) result.0 }
+    ensures counted { IsSlotSearch (map Kind.cumulative entries.now) (slot_width PRECISION SLOT_BITS)
+        (Kind.Word.whole quantile / slot_width PRECISION SLOT_BITS) result.1 }
 {
     let (first, last) = rows_of_slot::<Entry, Kind, PRECISION, SLOT_BITS>(entries, table, quantile);
     if width_of_slots::<PRECISION, SLOT_BITS>() == 1 {
-        return first;
+        return (first, 0);
     }
     if last - first <= 2 {
-        return row_of_few::<Entry, Kind, PRECISION, SLOT_BITS>(entries, first, last, quantile);
+        let row = row_of_few::<Entry, Kind, PRECISION, SLOT_BITS>(entries, first, last, quantile);
+        return (row, last - first);
     }
     row_among::<Entry, Kind, PRECISION, SLOT_BITS>(entries, first, last, quantile)
 }
@@ -223,12 +226,15 @@ fn row_among<Entry, Kind: CdfEntry<Entry>, const PRECISION: usize, const SLOT_BI
     first: usize,
     last: usize,
     quantile: Kind::Word,
-) -> usize
+) -> (usize, usize)
     requires increases { IsStrictlyIncreasing (map Kind.cumulative entries.now) }
     requires slot { IsSlot (map Kind.cumulative entries.now) (slot_width PRECISION SLOT_BITS)
         (Kind.Word.whole quantile / slot_width PRECISION SLOT_BITS) first last }
-    ensures { IsLastAtMost (map Kind.cumulative entries.now) (Kind.Word.whole quantile) result }
+    ensures found { IsLastAtMost (map Kind.cumulative entries.now) (Kind.Word.whole quantile) result.0 }
+    ensures counted { IsSlotSearch (map Kind.cumulative entries.now) (slot_width PRECISION SLOT_BITS)
+        (Kind.Word.whole quantile / slot_width PRECISION SLOT_BITS) result.1 }
 {
     let mut rows = probe_of::<Entry, Kind>(entries, first, last);
-    first + row_of_quantile(&mut rows, quantile)
+    let row = first + row_of_quantile(&mut rows, quantile);
+    (row, rows.asked())
 }

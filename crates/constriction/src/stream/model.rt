@@ -18,6 +18,6 @@ pub use constriction_categorical::{
 };
 pub use constriction_model::{
     Alone, CdfEntry, CdfProbe, DecoderModel, DecodesOver, DefaultUniformModel, EncoderModel,
-    EncodesOver, EntropyModel, ModelError, Probe, SmallUniformModel, UniformModel,
+    EncodesOver, EntropyModel, ModelError, Probe, SearchingModel, SmallUniformModel, UniformModel,
     UniformSymbolTable, Weight, WithSymbol, is_quantile, row_of_quantile,
 };

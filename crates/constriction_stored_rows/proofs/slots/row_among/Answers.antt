@@ -1,7 +1,8 @@
-use Rattle.std.proofs.Common.{ℕ, ◌/◌, map, arith}
+use Rattle.std.proofs.Common.{◌≡◌, ℕ, ◌+◌, ◌-◌, ◌/◌, length, map, take, drop, ap, arith}
+use Rattle.constriction_model.specs.Probe.{digits}
 use Rattle.std.proofs.lemmas.List.{length-map}
 use Rattle.constriction_stored_rows.specs.Slots.{slot_width}
-use Rattle.constriction_stored_rows.proofs.SlotLemmas.{slot-from, slot-to, slot-order, slot-part, part-found, part-searchable}
+use Rattle.constriction_stored_rows.proofs.SlotLemmas.{slot-from, slot-to, slot-order, slot-long, slot-part, part-found, part-searchable}
 use Rattle.constriction_stored_rows.proofs.slots.row_among.Goals as goal
 
 pub probe_of-rows-requires-clause-order : goal.probe_of-rows-requires-clause-order
@@ -33,6 +34,21 @@ returns g c =
     let q : ℕ = g.Kind.Word.WholeNumber.whole c.args.quantile in
     let width : ℕ = slot_width g.row.PRECISION g.row.SLOT_BITS in
     let first : ℕ = c.args.first in
-    let part = slot-part lefts width (q / width) first c.args.last c.requires.slot in
-    part-found lefts c.requires.increases width (q / width) first _ part q c.row_of_quantile.result (slot-to g.row.PRECISION g.row.SLOT_BITS q)
-    (rw c.probe_of-rows.ensures.cumulatives at c.row_of_quantile.ensures.found)
+    let last : ℕ = c.args.last in
+    let part = slot-part lefts width (q / width) first last c.requires.slot in
+    let told = slot-long lefts width (q / width) first last c.requires.slot in
+    let one-less : digits (length (take (last + 1 - first) (drop first lefts)) - 1) ≡ digits (last - first) =
+    ap digits (omega (arith, told)) in
+    let asked = rw c.probe_of-rows.ensures.cumulatives at c.row_of_quantile.ensures in
+    record {
+      found =
+          part-found lefts c.requires.increases width (q / width) first _ part q c.row_of_quantile.result
+          (slot-to g.row.PRECISION g.row.SLOT_BITS q) asked.found;
+      counted = record {
+        first = first;
+        last = last;
+        rows = c.requires.slot;
+        few = omega (arith, c.asked.ensures, c.probe_of-rows.ensures.fresh, asked.few, one-less);
+        some = λ more. omega (arith, c.asked.ensures, asked.some (omega (arith, told)));
+      };
+    }

@@ -1,8 +1,10 @@
-use Rattle.std.proofs.Common.{true, ◌+◌, ◌<◌, length, map, refl, arith}
+use Rattle.std.proofs.Common.{◌≡◌, ◌+◌, ◌<◌, length, map, ap, refl, ◌∙◌, arith}
 use Rattle.std.proofs.lemmas.List.{length-map}
 use Rattle.constriction_model.specs.Model.{row_of}
-use Rattle.constriction_stored_rows.proofs.TileLemmas.{table-index, table-probed}
-use Rattle.constriction_categorical.proofs.contiguous.ContiguousCategoricalEntropyModelDecoderModel.quantile_function.Goals as goal
+use Rattle.constriction_model.specs.Rows.{contiguous_rows}
+use Rattle.constriction_stored_rows.specs.Stored.{lefts_in, weights_of}
+use Rattle.constriction_stored_rows.proofs.TileLemmas.{table-index, table-lefts, table-probed}
+use Rattle.constriction_categorical.proofs.contiguous.ContiguousCategoricalEntropyModelSearchingModel.counted_quantile_function.Goals as goal
 
 pub row_of_quantile-index-requires-clause-searchable : goal.row_of_quantile-index-requires-clause-searchable
 row_of_quantile-index-requires-clause-searchable g c =
@@ -12,8 +14,8 @@ row_of_quantile-index-requires-clause-searchable g c =
     ((table-probed g.Probability.WholeNumber.BITS g.row.PRECISION table (map whole c.cdf_entries.result.now) c.args.self.now.stored
     c.cdf_entries.ensures).1 (whole c.args.quantile))
 
-pub contiguous_row_at-requires-clause-in_bounds : goal.contiguous_row_at-requires-clause-in_bounds
-contiguous_row_at-requires-clause-in_bounds g c =
+pub contiguous_row_at-row-requires-clause-in_bounds : goal.contiguous_row_at-row-requires-clause-in_bounds
+contiguous_row_at-row-requires-clause-in_bounds g c =
     let whole = g.Probability.WholeNumber.whole in
     let words = g.Cdf.SafeBuf.words_of c.args.self.now.cdf in
     let found = table-index g.Probability.WholeNumber.BITS g.row.PRECISION (map whole words) (map whole c.cdf_entries.result.now)
@@ -29,12 +31,22 @@ returns g c =
     let found = table-index g.Probability.WholeNumber.BITS g.row.PRECISION (map whole words) (map whole c.cdf_entries.result.now)
     c.args.self.now.stored c.cdf_entries.ensures (whole c.args.quantile) c.row_of_quantile-index.result c.requires.in_range
     (rw c.new-rows.ensures.cumulatives at c.row_of_quantile-index.ensures.found) in
-    let answer = row_of whole g.Probability.WholeNumber.base c.contiguous_row_at.result in
-    let held = rw (rw c.words.ensures at c.contiguous_row_at.ensures.row) at (found.0.row answer) in
+    let rows = contiguous_rows (weights_of g.row.PRECISION (lefts_in (map whole words))) in
+    let many : length (map whole c.cdf_entries.result.now) ≡ length rows =
+    ap length (table-lefts g.Probability.WholeNumber.BITS g.row.PRECISION (map whole words) (map whole c.cdf_entries.result.now)
+    c.args.self.now.stored c.cdf_entries.ensures) ∙ length-map rows (λ r. r.left) in
+    let fresh : c.new-rows.result.asked ≡ 0 = c.new-rows.ensures.fresh in
+    let asked = rw (c.new-rows.ensures.cumulatives, many) at c.row_of_quantile-index.ensures in
+    let answer = row_of whole g.Probability.WholeNumber.base c.contiguous_row_at-row.result in
     record {
-      row = (c.contiguous_row_at.result.0, refl, held);
-      exact = held;
-      within = c.contiguous_row_at.ensures.within;
+      row = (
+        c.contiguous_row_at-row.result.0,
+        refl,
+        rw (rw c.words.ensures at c.contiguous_row_at-row.ensures.row) at (found.0.row answer),
+      );
+      within = c.contiguous_row_at-row.ensures.within;
+      few = omega (arith, c.asked.ensures, fresh, asked.few);
+      among = omega (arith, c.asked.ensures, fresh, asked.few);
+      some = λ more. omega (arith, c.asked.ensures, fresh, asked.some more);
       refused = tt;
-      succeeds = refl {a = true};
     }

@@ -1,0 +1,82 @@
+use Rattle.std.proofs.Common.{◌≡◌, length, map, ap, ◌∙◌, arith}
+use Rattle.std.proofs.lemmas.List.{length-map}
+use Rattle.constriction_model.specs.Model.{row_of}
+use Rattle.constriction_stored_rows.specs.Stored.{rows_paired}
+use Rattle.constriction_stored_rows.proofs.PairedLemmas.{paired-probed, paired-index, lent-lefts}
+use Rattle.constriction_categorical.proofs.non_contiguous.NonContiguousCategoricalDecoderModelSearchingModel.counted_quantile_function.Goals as goal
+
+pub row_of_quantile-index-requires-clause-searchable : goal.row_of_quantile-index-requires-clause-searchable
+row_of_quantile-index-requires-clause-searchable g c =
+    let whole = g.Probability.WholeNumber.whole in
+    rw c.new-rows.ensures.cumulatives
+    ((paired-probed whole g.Probability.WholeNumber.BITS g.row.PRECISION (g.Cdf.SafeBuf.words_of c.args.self.now.cdf)
+    c.args.self.now.stored c.cdf_entries.result.now c.cdf_entries.ensures).1 (whole c.args.quantile))
+
+pub cloned_row_at-requires-clause-stored : goal.cloned_row_at-requires-clause-stored
+cloned_row_at-requires-clause-stored g c = rw c.words.ensures c.args.self.now.stored
+
+pub cloned_row_at-requires-clause-in_bounds : goal.cloned_row_at-requires-clause-in_bounds
+cloned_row_at-requires-clause-in_bounds g c =
+    let whole = g.Probability.WholeNumber.whole in
+    let entries = g.Cdf.SafeBuf.words_of c.args.self.now.cdf in
+    let found = paired-index whole g.Probability.WholeNumber.BITS g.row.PRECISION entries c.args.self.now.stored c.cdf_entries.result.now
+    c.cdf_entries.ensures (whole c.args.quantile) c.row_of_quantile-index.result c.requires.in_range
+    (rw c.new-rows.ensures.cumulatives at c.row_of_quantile-index.ensures.found) in
+    rw c.words.ensures found.1
+
+pub returns-in-Ok-clause-row : goal.returns-in-Ok-clause-row
+returns-in-Ok-clause-row g c =
+    let whole = g.Probability.WholeNumber.whole in
+    let entries = g.Cdf.SafeBuf.words_of c.args.self.now.cdf in
+    let found = paired-index whole g.Probability.WholeNumber.BITS g.row.PRECISION entries c.args.self.now.stored c.cdf_entries.result.now
+    c.cdf_entries.ensures (whole c.args.quantile) c.row_of_quantile-index.result c.requires.in_range
+    (rw c.new-rows.ensures.cumulatives at c.row_of_quantile-index.ensures.found) in
+    let at = rw c.words.ensures at c.in-Ok.ensures.row in
+    let answer = row_of whole g.Probability.WholeNumber.base (at.0, c.in-Ok.row.1, c.in-Ok.row.2) in
+    (at.0, at.1, rw at.2 at (found.0.row answer))
+
+pub returns-in-Err-clause-refused : goal.returns-in-Err-clause-refused
+returns-in-Err-clause-refused g c =
+    let whole = g.Probability.WholeNumber.whole in
+    let entries = g.Cdf.SafeBuf.words_of c.args.self.now.cdf in
+    let found = paired-index whole g.Probability.WholeNumber.BITS g.row.PRECISION entries c.args.self.now.stored c.cdf_entries.result.now
+    c.cdf_entries.ensures (whole c.args.quantile) c.row_of_quantile-index.result c.requires.in_range
+    (rw c.new-rows.ensures.cumulatives at c.row_of_quantile-index.ensures.found) in
+    let at = rw c.words.ensures at c.in-Err.ensures.refused in
+    (at.0, rw at.1 at (found.0.row at.0), at.2)
+
+pub returns-in-Ok-clause-few : goal.returns-in-Ok-clause-few
+returns-in-Ok-clause-few g c =
+    let whole = g.Probability.WholeNumber.whole in
+    let entries = g.Cdf.SafeBuf.words_of c.args.self.now.cdf in
+    let rows = rows_paired whole g.row.PRECISION entries in
+    let many : length (map (λ x. whole x.0) c.cdf_entries.result.now) ≡ length rows =
+    ap length (lent-lefts whole g.Probability.WholeNumber.BITS g.row.PRECISION entries c.args.self.now.stored c.cdf_entries.result.now
+    c.cdf_entries.ensures) ∙ length-map rows (λ r. r.left) in
+    let fresh : c.new-rows.result.asked ≡ 0 = c.new-rows.ensures.fresh in
+    let asked = rw (c.new-rows.ensures.cumulatives, many) at c.row_of_quantile-index.ensures in
+    omega (arith, c.asked.ensures, fresh, asked.few)
+
+pub returns-in-Ok-clause-among : goal.returns-in-Ok-clause-among
+returns-in-Ok-clause-among g c =
+    let whole = g.Probability.WholeNumber.whole in
+    let entries = g.Cdf.SafeBuf.words_of c.args.self.now.cdf in
+    let rows = rows_paired whole g.row.PRECISION entries in
+    let many : length (map (λ x. whole x.0) c.cdf_entries.result.now) ≡ length rows =
+    ap length (lent-lefts whole g.Probability.WholeNumber.BITS g.row.PRECISION entries c.args.self.now.stored c.cdf_entries.result.now
+    c.cdf_entries.ensures) ∙ length-map rows (λ r. r.left) in
+    let fresh : c.new-rows.result.asked ≡ 0 = c.new-rows.ensures.fresh in
+    let asked = rw (c.new-rows.ensures.cumulatives, many) at c.row_of_quantile-index.ensures in
+    omega (arith, c.asked.ensures, fresh, asked.few)
+
+pub returns-in-Ok-clause-some : goal.returns-in-Ok-clause-some
+returns-in-Ok-clause-some g c =
+    let whole = g.Probability.WholeNumber.whole in
+    let entries = g.Cdf.SafeBuf.words_of c.args.self.now.cdf in
+    let rows = rows_paired whole g.row.PRECISION entries in
+    let many : length (map (λ x. whole x.0) c.cdf_entries.result.now) ≡ length rows =
+    ap length (lent-lefts whole g.Probability.WholeNumber.BITS g.row.PRECISION entries c.args.self.now.stored c.cdf_entries.result.now
+    c.cdf_entries.ensures) ∙ length-map rows (λ r. r.left) in
+    let fresh : c.new-rows.result.asked ≡ 0 = c.new-rows.ensures.fresh in
+    let asked = rw (c.new-rows.ensures.cumulatives, many) at c.row_of_quantile-index.ensures in
+    (λ more. omega (arith, c.asked.ensures, fresh, asked.some more))
