@@ -2,7 +2,7 @@
 
 ghost use Rattle.std.specs.Prelude.{◌≡◌, ◌<◌, ◌≤◌, ℕ, List, IsTrue, length, reverse, Err, IfOk, IfErr, OnOk};
 ghost use Rattle.std.specs.List.{AllZip};
-ghost use Rattle.constriction_stack_example.specs.Laws.{StandsForEqual, SymbolComesBack, SymbolsComeBack, Again};
+ghost use Rattle.constriction_stack_example.specs.Laws.{StandsForEqual, SymbolComesBack, SymbolsComeBack, WordIsLeft, Again};
 ghost use Rattle.constriction_stack_example.specs.Steps.{Leads, InTurn, IsEncoded, IsDecoded, EncodingStops, DecodingStops};
 ghost use Rattle.constriction.specs.Model.{ClonesAreEqual};
 ghost use Rattle.constriction_backends.specs.Stack.{TellsSame};
@@ -35,13 +35,14 @@ where
     ensures { SymbolComesBack D.stands_for E.symbol_eq (entry_of E.symbol_eq (E.rows encoder.now)) (D.rows decoder.now) PRECISION }
 {}
 
-/// So does each run of symbols.
+/// So does each run of symbols, and on the way no word is wanting.
 pub fn symbols_come_back<Symbol, D, E, const PRECISION: usize>(decoder: &D, encoder: &E)
 where
     D: DecodesOver<Symbol, u32, PRECISION>,
     E: EncodesOver<Symbol, u32, PRECISION>,
     requires { (s : Symbol) → entry_of E.symbol_eq (E.rows encoder.now) s ≡ entry_of E.symbol_eq (D.rows decoder.now) s }
-    ensures { SymbolsComeBack D.stands_for E.symbol_eq (entry_of E.symbol_eq (E.rows encoder.now)) (D.rows decoder.now) PRECISION }
+    ensures back { SymbolsComeBack D.stands_for E.symbol_eq (entry_of E.symbol_eq (E.rows encoder.now)) (D.rows decoder.now) PRECISION }
+    ensures left { WordIsLeft D.stands_for E.symbol_eq (entry_of E.symbol_eq (E.rows encoder.now)) (D.rows decoder.now) PRECISION }
 {}
 
 impl<Backend: StackBackend<u32>> StackCoder<Backend> {
@@ -145,6 +146,8 @@ where
         coder.old.state coder.old.words state words
         × DecodingStops Backend.tells_written D.stands_for D.may_refuse (D.rows decoder.now) Backend.read_gives PRECISION
         (length symbols.now) error state words coder.new.state coder.new.words }
+    ensures whole { result ≡ Err (MessageFault.Decoding (CoderError.Frontend DecodingFault.OutOfData))
+        → (words : List ℕ) → ¬ (Backend.tells_written coder.old.words words) }
 {
     symbols_come_back::<Symbol, D, E, PRECISION>(decoder, encoder);
     match coder.encode_symbols::<_, _, PRECISION>(symbols, encoder) {
