@@ -12,6 +12,7 @@ pub mod Part
 pub use Rattle.constriction_sources.specs.Sink
 pub use Rattle.constriction_sources.specs.SinkLaws
 pub use Rattle.constriction_sources.specs.Source
+pub use Rattle.constriction_sources.specs.SourceLaws
 pub use Rattle.constriction_sources.specs.Stack
 pub use Rattle.constriction_sources.specs.StackLaws
 pub use Rattle.constriction_buffers.specs.VecBuffer

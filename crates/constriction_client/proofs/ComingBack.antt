@@ -6,11 +6,12 @@ use Rattle.std.proofs.lemmas.Slice.Zip.{AllZip-long}
 use Rattle.constriction.specs.Rows.{Row}
 use Rattle.constriction_words.specs.declared.coder_error.CoderError.{CoderError}
 use Rattle.constriction_words.specs.declared.coder_error.CoderError.TheVariants.{Frontend}
+use Rattle.constriction_backends.specs.Source.{Reads}
 use Rattle.constriction_client.specs.declared.quantiles.ReadFault.{ReadFault}
 use Rattle.constriction_client.specs.declared.quantiles.ReadFault.TheVariants.{OutOfMemory, QuantileTooLarge}
 use Rattle.constriction_client.specs.Coming.{ComeNext, QuantilesCome}
-use Rattle.constriction_client.specs.Quantiles.{IsPairOf, ArePairs, Reads, ReadsPairs}
-use Rattle.constriction_client.proofs.WordReading.{reads-more}
+use Rattle.constriction_client.specs.Quantiles.{IsPairOf, ArePairs, ReadsPairs}
+use Rattle.constriction_backends.specs.SourceLaws.{reads_more}
 
 -- two beginnings of one list that are as long as each other
 same-front : {X : Type 0} (a b c d : List X) → a ++ b ≡ c ++ d → length a ≡ length c → a ≡ c
@@ -66,7 +67,7 @@ module _ {Symbol Word Source Error : Type 0} (Stands : Symbol → Symbol → Typ
   some-read error read is =
       let at : ReadsPairs Stands precision rows whole gives tells count s [] (Err (Frontend OutOfMemory)) t new =
       subst (λ e. ReadsPairs Stands precision rows whole gives tells count s [] (Err e) t new) is read in
-      (at.words ++ at.ended.0 ∷ [], reads-more gives s at.words at.reached at.ended.0 t at.read at.ended.3)
+      (at.words ++ at.ended.0 ∷ [], reads_more gives s at.words at.reached at.ended.0 t at.read at.ended.3)
 
   -- of quantiles none is too large
   pub never-too-large : (error : CoderError ReadFault Error)

@@ -8,10 +8,11 @@ use Rattle.constriction_backends.specs.declared.cursor.Cursor.{Cursor}
 use Rattle.constriction_backends.specs.Cursor.{state_of, WritesTo}
 use Rattle.constriction_backends.specs.CursorRuns.{ExtendingOverwrites}
 use Rattle.constriction_backends.specs.CursorState.{QueueReads}
+use Rattle.constriction_backends.specs.Source.{Reads}
 use Rattle.constriction_client.specs.declared.quantiles.QuantileFault.{QuantileFault}
 use Rattle.constriction_client.specs.Coming.{ComeNext, GoesBack}
 use Rattle.constriction_client.specs.Placing.{Placed, PlacesItems, PlacesUpTo}
-use Rattle.constriction_client.specs.Quantiles.{IsQuantileOf, IsFaultOf, WritesItems, StopsAtItem, Reads}
+use Rattle.constriction_client.specs.Quantiles.{IsQuantileOf, IsFaultOf, WritesItems, StopsAtItem}
 
 -- what comes after the same beginning
 same-back : {X : Type 0} (a b c : List X) → a ++ b ≡ a ++ c → b ≡ c

@@ -4,17 +4,11 @@ use Rattle.std.specs.Prelude.{All}
 use Rattle.std.proofs.lemmas.List.Elements.{All-nil, All-push}
 use Rattle.std.proofs.lemmas.Slice.Zip.{all_zipped_more}
 use Rattle.constriction_words.specs.declared.coder_error.CoderError.TheVariants.{Frontend, Backend}
-use Rattle.constriction_backends.specs.Source.{ReadsTold}
+use Rattle.constriction_backends.specs.Source.{ReadsTold, Reads}
+use Rattle.constriction_backends.specs.SourceLaws.{reads_more}
 use Rattle.constriction.specs.Rows.{Row}
 use Rattle.constriction_client.specs.declared.quantiles.ReadFault.{ReadFault}
-use Rattle.constriction_client.specs.Quantiles.{IsPairOf, ArePairs, Reads, IsReadFaultOf, ReadsPairs}
-
-module _ {Word Source Error : Type 0} (gives : Source → Result (Option Word) Error → Source → Type 0) where
-  -- one more read after others
-  pub reads-more : (s : Source) (ws : List Word) (j : Source) (w : Word) (t : Source) → Reads gives s ws j
-      → gives j (Ok (Some w)) t → Reads gives s (ws ++ w ∷ []) t
-  reads-more s [] j w t e h = (t, subst (λ (x : Source). gives x (Ok (Some w)) t) (sym e) h, refl)
-  reads-more s (x ∷ xs) j w t p h = (p.0, p.1, reads-more p.0 xs j w t p.2 h)
+use Rattle.constriction_client.specs.Quantiles.{IsPairOf, ArePairs, IsReadFaultOf, ReadsPairs}
 
 -- the words so far were read, and each gave a pair
 pub record HasRead {Symbol Word Source Error : Type 0} (Stands : Symbol → Symbol → Type 0) (precision : ℕ) (rows : List (Row Symbol)) (whole : Word → ℕ)
@@ -72,7 +66,7 @@ module _ {Symbol Word Source Error : Type 0} (Stands : Symbol → Symbol → Typ
     in_range = All-push (λ w. whole w < 2 ^ precision) so_far.words word so_far.in_range small;
     added = e ∙ ap (λ ps. ps ++ pair ∷ []) so_far.added ∙ append_assoc old so_far.pairs (pair ∷ []);
     many = omega (arith, length-append so_far.pairs (pair ∷ []), so_far.many);
-    read = reads-more gives s so_far.words j word t so_far.read took;
+    read = reads_more gives s so_far.words j word t so_far.read took;
     told = λ upcoming h.
         let now = told-more s so_far.words j word t took so_far.told upcoming h in
         (now.0, now.1 ∙ sym (append_assoc so_far.words (word ∷ []) now.0), now.2);

@@ -5,6 +5,7 @@ use Rattle.std.specs.List.{AllZip}
 use Rattle.constriction_words.specs.declared.coder_error.CoderError.{CoderError}
 use Rattle.constriction_words.specs.declared.coder_error.CoderError.TheVariants.{Frontend, Backend}
 use Rattle.constriction_backends.specs.Sink.{Writes}
+use Rattle.constriction_backends.specs.Source.{Reads}
 use Rattle.constriction.specs.Laws.{IsQuantileAt}
 use Rattle.constriction.specs.Rows.{Row, IsRowOf}
 use Rattle.constriction_client.specs.declared.quantiles.QuantileFault.{QuantileFault}
@@ -79,12 +80,6 @@ pub record StopsAtItem {Symbol Word Sink Error : Type 0} (entry : Symbol → Opt
   pub told : (old : List Word) → tells s old → tells t (old ++ wrote.words)
 
 -- ---- what is read. `gives` and `tells` are those of a source.
-
--- reads in order from s, which answered these words, lead to t
-abbrev pub Reads : {Word Source Error : Type 0} → (Source → Result (Option Word) Error → Source → Type 0)
-    → Source → List Word → Source → Type 0
-Reads gives s [] t = s ≡ t
-Reads {Source = Source} gives s (w ∷ ws) t = (j : Source) × gives s (Ok (Some w)) j × Reads gives j ws t
 
 -- why a word q gave no pair: there was no memory for the pair, or the word is no quantile
 abbrev pub IsReadFaultOf : ℕ → ℕ → ReadFault → Type 0

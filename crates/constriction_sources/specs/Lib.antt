@@ -5,5 +5,6 @@ pub mod KnownLength
 pub mod Sink
 pub mod SinkLaws
 pub mod Source
+pub mod SourceLaws
 pub mod Stack
 pub mod StackLaws

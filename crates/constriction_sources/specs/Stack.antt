@@ -1,5 +1,5 @@
 -- A list as a stack, whose top is its end.
-use Rattle.std.specs.Prelude.{◌≡◌, ◌↔◌, ◌<◌, ◌≤◌, ℕ, List, [], ◌∷◌, ◌++◌, length, Option, Some, Result, Ok, MatchResult, MatchOption, IsOk, OnErr}
+use Rattle.std.specs.Prelude.{◌≡◌, ◌≢◌, ◌↔◌, ◌<◌, ◌≤◌, ℕ, List, [], ◌∷◌, ◌++◌, length, Option, Some, Result, Ok, MatchResult, MatchOption, IsOk, OnErr}
 use Rattle.constriction_words.specs.Rewinding.{Rewinds, Storage}
 
 -- a read answers the last word and drops it, or None on the empty list, and no error
@@ -33,6 +33,22 @@ PopsWhatWasPushed Word WriteError ReadError =
     (old between new : List Word) (w : Word) (r : Result (Option Word) ReadError)
     → (let written : Result (Unit {0}) WriteError = Ok tt in Pushes old w written between) → Pops between r new
     → (r ≡ Ok (Some w)) × (new ≡ old)
+
+-- A read of a stack to which these words were written: the last one is answered and dropped; or nothing is, where there is none; or the
+-- read fails, where there is a word, and they stay.
+abbrev pub PopsTold : {S W E : Type 0} → (S → List W → Type 0) → List W → Result (Option W) E → S → Type 0
+PopsTold {W = W} tells words r t =
+    MatchResult r
+    (λ o. MatchOption o ((words ≡ []) × tells t words) (λ w. (rest : List W) × (words ≡ rest ++ w ∷ []) × tells t rest))
+    (λ _. (words ≢ []) × tells t words)
+
+-- whatever words s tells, t tells them too
+abbrev pub TellsSame : {S W : Type 0} → (S → List W → Type 0) → S → S → Type 0
+TellsSame {W = W} tells s t = (words : List W) → tells s words → tells t words
+
+-- whatever words s tells, they are none
+abbrev pub TellsNone : {S W : Type 0} → (S → List W → Type 0) → S → Type 0
+TellsNone {W = W} tells s = (words : List W) → tells s words → words ≡ []
 
 -- A stack whose writes, reads and told words are these reads what was written to it.
 pub record ReadsWhatWasWritten {S W R E : Type 0} (writes : S → W → Result (Unit {0}) E → S → Type 0)

@@ -5,7 +5,7 @@ use Rattle.std.proofs.Common.{sym, ◌∙◌, ap, subst, refl}
 use Rattle.std.proofs.lemmas.List.{reverse-append, reverse-reverse, length-append, length-reverse}
 use Rattle.constriction_sources.specs.Source.{ReadsTold, CountsRead}
 use Rattle.constriction_sources.specs.Sink.{WritesTold}
-use Rattle.constriction_sources.specs.Stack.{Pops, Pushes}
+use Rattle.constriction_sources.specs.Stack.{Pops, Pushes, PopsTold}
 
 module _ {S W : Type 0} (items : S → List W) {E : Type 0} where
   -- a stack gives its words back in reverse
@@ -69,3 +69,25 @@ module _ {S W : Type 0} (E : Type 0) (upcoming written : S → List W → Type 0
   still_there e h =
       subst (λ (ws : List W). written t ws) (reverse-reverse (words ++ w ∷ []))
       (upcoming_is_written t (reverse (words ++ w ∷ [])) h.1)
+
+-- a read of a stack takes the last of the words that were written to it
+module _ {S W : Type 0} (upcoming written : S → List W → Type 0)
+    (written_is_upcoming : (s : S) (words : List W) → written s words → upcoming s (reverse words))
+    (upcoming_is_written : (s : S) (words : List W) → upcoming s words → written s (reverse words)) where
+  pub pops_written : {E : Type 0} (s : S) (r : Result (Option W) E) (t : S)
+      → ((ws : List W) → upcoming s ws → ReadsTold upcoming ws r t) → (words : List W) → written s words → PopsTold written words r t
+  pops_written s (Ok None) t reads words told =
+      let read = reads (reverse words) (written_is_upcoming s words told) in
+      let none : words ≡ [] = sym (reverse-reverse words) ∙ ap reverse read.0 in
+      (none, subst (λ (ws : List W). written t ws) (sym none) (upcoming_is_written t [] read.1))
+  pops_written s (Ok (Some w)) t reads words told =
+      let read = reads (reverse words) (written_is_upcoming s words told) in (
+        reverse read.0,
+        sym (reverse-reverse words) ∙ ap reverse read.1 ∙ reverse-append (w ∷ []) read.0,
+        upcoming_is_written t read.0 read.2,
+      )
+  pops_written s (Err e) t reads words told =
+      let read = reads (reverse words) (written_is_upcoming s words told) in (
+        λ none. read.0 (ap reverse none),
+        subst (λ (ws : List W). written t ws) (reverse-reverse words) (upcoming_is_written t (reverse words) read.1),
+      )

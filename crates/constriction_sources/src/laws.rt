@@ -4,7 +4,7 @@ ghost use Rattle.std.specs.Prelude.{◌≡◌, [], ◌∷◌, ◌++◌, List, So
 ghost use Rattle.std.specs.Iterator.{IsFinite};
 ghost use Rattle.constriction_sources.specs.Source.{RemainingCounts};
 ghost use Rattle.constriction_sources.specs.Sink.{CountsExtend, ExtendsBy, ExtendingTells};
-ghost use Rattle.constriction_sources.specs.Stack.{PopsWhatWasPushed, ReadsWhatWasWritten, SeeksBack};
+ghost use Rattle.constriction_sources.specs.Stack.{PopsTold, PopsWhatWasPushed, ReadsWhatWasWritten, SeeksBack};
 
 mod iterators;
 
@@ -25,6 +25,20 @@ pub fn pushed_is_popped<Word, WriteError, ReadError>()
 pub fn written_is_read<Word, Backend: StackBackend<Word>>()
     ensures { ReadsWhatWasWritten Backend.write_gives Backend.read_gives Backend.tells_written }
 {}
+
+/// Reads a stack: where it tells its words, the last one is answered and dropped.
+#[inline]
+pub fn read_last<Word, Backend: StackBackend<Word>>(
+    backend: &mut Backend,
+) -> Result<Option<Word>, Backend::ReadError>
+    requires { Backend.can_read backend.old }
+    ensures gives { Backend.read_gives backend.old result backend.new }
+    ensures pops { (words : List Word) → Backend.tells_written backend.old words
+        → PopsTold Backend.tells_written words result backend.new }
+    ensures goes_on { Backend.can_read backend.new }
+{
+    backend.read()
+}
 
 /// Writes a word to a stack and reads it back. Where the stack tells its words, the word is read,
 /// and the stack is left with its old words, also where the write is refused; where the read fails,

@@ -3,21 +3,14 @@ use Rattle.std.proofs.Common.{◌≡◌, ℕ, ◌+◌, ◌/◌, ◌%◌, ◌^◌
 use Rattle.std.specs.Cmp.{IsEquivalence}
 use Rattle.std.specs.Prelude.{IsTrue}
 use Rattle.std.specs.List.{AllZip}
-use Rattle.std.proofs.lemmas.List.{reverse-append, reverse-reverse, take_more}
+use Rattle.std.proofs.lemmas.List.{reverse-append, reverse-reverse, same_from_push, take_more, length_push}
 use Rattle.std.proofs.lemmas.Nat.{div-add-mod'}
 use Rattle.constriction.specs.CodingLemmas.{entry-back}
 use Rattle.constriction.specs.Model.{ClonesAreEqual}
 use Rattle.constriction.specs.Rows.{Row, RowsTile, entry_of}
-use Rattle.constriction_stack_example.specs.Laws.{StandsForEqual, SymbolComesBack, SymbolsComeBack}
-use Rattle.constriction_stack_example.specs.Steps.{Content, content, compressed, Refills, IsDecoded, InTurn}
-
--- two lists with one more element each are equal only where both parts are
-same-parts : {X : Type 0} (xs ys : List X) (x y : X) → xs ++ x ∷ [] ≡ ys ++ y ∷ [] → (xs ≡ ys) × (x ≡ y)
-same-parts xs ys x y e =
-    let turned : x ∷ reverse xs ≡ y ∷ reverse ys = sym (reverse-append xs (x ∷ [])) ∙ ap reverse e ∙ reverse-append ys (y ∷ []) in
-    let others : reverse xs ≡ reverse ys = cc in
-    let first : x ≡ y = cc in
-    (sym (reverse-reverse xs) ∙ ap reverse others ∙ reverse-reverse ys, first)
+use Rattle.constriction_stack_example.specs.Laws.{StandsForEqual, SymbolComesBack, SymbolsComeBack, WordIsLeft}
+use Rattle.constriction_stack_example.specs.States.{taken}
+use Rattle.constriction_stack_example.specs.Steps.{Content, content, compressed, Refills, IsEncoded, IsDecoded, NeedsWord, InTurn}
 
 same-content : (a b : Content) → a.state ≡ b.state → a.words ≡ b.words → a ≡ b
 same-content a b s w = ap (λ n. content n a.words) s ∙ ap (λ ws. content b.state ws) w
@@ -28,7 +21,7 @@ refills-once state words a b (inl p) (inl q) = p.1 ∙ sym q.1
 refills-once state words a b (inl p) (inr q) = absurd (omega arith)
 refills-once state words a b (inr p) (inl q) = absurd (omega arith)
 refills-once state words a b (inr p) (inr q) =
-    let parts = same-parts a.words b.words p.1 q.1 (sym p.2 ∙ q.2) in
+    let parts = same_from_push a.words b.words p.1 q.1 (sym p.2 ∙ q.2) in
     same-content a b (omega (arith, parts.1)) parts.0
 
 -- words are those of one content
@@ -63,6 +56,24 @@ module _ {Symbol : Type 0} (Stands : Symbol → Symbol → Type 0) (eq : Symbol 
       let others = symbols-back ss ts e.0 rest under e.2
       (subst (λ (c : Content). InTurn (IsDecoded Stands rows precision) ts c under) first.1 d.2) (omega arith) in
       ((first.0, others.0), others.1)
+
+  -- while fewer symbols were decoded than encoded, a state that needs a word has one under it
+  pub word-left : WordIsLeft Stands eq entry rows precision
+  word-left [] answers full rest under e d fewer needs none = absurd (omega arith)
+  word-left (s ∷ ss) [] full rest under e d fewer needs none =
+      let first = subst (λ c. IsEncoded entry precision s c e.0) d e.1 in
+      let same = entry-back bits precision eq rows s first.left first.weight (under.state % 2 ^ precision) needs.0 tile
+      (sym (alike s) ∙ first.known) first.top.from first.top.to needs.1 in
+      elim first.top.under [
+        | inl kept ↦
+            let below : taken precision first.left first.weight under.state < 2 ^ 32 = rw (same.1, same.2) at needs.2 in
+            absurd (omega (arith, kept.0, below))
+        | inr took ↦ absurd (omega (arith, ap length (sym took.2 ∙ none), length_push e.0.words took.1))
+      ]
+  word-left (s ∷ ss) (a ∷ ts) full rest under e d fewer needs none =
+      let first = symbol-back s a full e.0 d.0 e.1 d.1 in
+      word-left ss ts e.0 rest under e.2 (subst (λ (c : Content). InTurn (IsDecoded Stands rows precision) ts c under) first.1 d.2)
+      (omega arith) needs none
 
 -- where a clone equals its symbol, what stands for an equal symbol is equal
 pub are-equal : {Symbol : Type 0} (Stands : Symbol → Symbol → Type 0) (eq : Symbol → Symbol → Bool)

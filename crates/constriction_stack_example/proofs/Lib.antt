@@ -1,4 +1,4 @@
 pub mod ComingBack
-pub mod Stacks
 pub mod States
 pub mod Steps
+pub mod Stopping

@@ -1,19 +1,20 @@
-//! A stack coder over any model and any stack of words, and a message that it codes by a table of words.
+//! A stack coder over any model and any stack of words, and a message that it codes by a stored table of words.
 #![tactic(auto)]
 
 mod callers;
 mod runs;
 mod stack_coder;
 mod state;
+mod stored_table;
 
 use crate::stack_coder::StackCoder;
-use constriction::stream::model::{
-    DefaultNonContiguousCategoricalDecoderModel, to_generic_encoder_model,
-};
+use crate::stored_table::{StoredTable, read_table, write_table};
+use constriction::backends::Cursor;
+use constriction::stream::model::to_generic_encoder_model;
 use std::alloc::{AllocError, Global};
 
 /// A table of words over 24 bits of `u32`.
-type Table = DefaultNonContiguousCategoricalDecoderModel<String>;
+type Table = StoredTable<String, 24>;
 
 /// The words of the table.
 const WORDS: [&str; 6] = ["the", "cat", "saw", "a", "dog", "."];
@@ -35,14 +36,24 @@ fn owned(alloc: Global, texts: &[&str]) -> Result<Vec<String>, AllocError> {
     Ok(strings)
 }
 
-fn main(host: HostRuntime) -> anyhow::Result<()> {
-    let alloc = host.alloc();
+/// The words of the table, as a file would have them.
+fn stored(alloc: Global) -> anyhow::Result<Vec<u32>> {
     let table = Table::from_symbols_and_nonzero_fixed_point_probabilities(
         alloc,
         owned(alloc, &WORDS)?,
         WEIGHTS,
         true,
     )?;
+    let mut words = Vec::new(alloc);
+    write_table::<_, _, 24>(alloc, &table, &mut words)?;
+    Ok(words)
+}
+
+fn main(host: HostRuntime) -> anyhow::Result<()> {
+    let alloc = host.alloc();
+    let mut source = Cursor::new_at_write_beginning(stored(alloc)?);
+    let table: Table = read_table(alloc, owned(alloc, &WORDS)?, &mut source)?;
+    println!(host; "a table in {} words", source.buf().len())?;
     let encoder = to_generic_encoder_model::<_, 24>(alloc, &table)?;
     let message = owned(alloc, &MESSAGE)?;
     let mut coder = StackCoder::new(alloc);

@@ -2,13 +2,15 @@
 
 ghost use Rattle.std.specs.Prelude.{◌≡◌, ◌≢◌, ◌+◌, ◌-◌, ◌*◌, ◌%◌, ◌^◌, ◌<◌, ◌≤◌, ℕ, List, [], ◌∷◌, ◌++◌, None, Err, IfOk, IfSome, OnErr};
 ghost use Rattle.constriction_stack_example.specs.States.{put};
-ghost use Rattle.constriction_stack_example.specs.Steps.{content, compressed, Leads, TellsSame, TellsNone, PopsTold};
-ghost use Rattle.constriction_stack_example.specs.Steps.{Refills, NeedsWord, IsEncoded, IsDecoded};
+ghost use Rattle.constriction_stack_example.specs.Steps.{content, compressed, Leads, Refills, NeedsWord, IsEncoded, IsDecoded};
+ghost use Rattle.constriction_stack_example.specs.Tables.{StopsAtWord};
+ghost use Rattle.constriction_backends.specs.Stack.{TellsSame, TellsNone};
 ghost use Rattle.constriction.specs.Model.{RowMayBeRefused};
 ghost use Rattle.constriction.specs.Rows.{entry_of};
 
 use crate::state::{is_full_for, quantile_of, with_entry, without_entry};
 use constriction::backends::StackBackend;
+use constriction::backends::laws::read_last;
 use constriction::stream::model::{DecodesOver, EncodesOver};
 use constriction::{CoderError, DefaultEncoderFrontendError};
 use std::alloc::Global;
@@ -64,19 +66,6 @@ fn with_room<Backend: StackBackend<u32>, const PRECISION: usize>(
     }
 }
 
-/// Reads a stack.
-#[inline]
-fn read_told<Backend: StackBackend<u32>>(
-    words: &mut Backend,
-) -> Result<Option<u32>, Backend::ReadError>
-    requires { Backend.can_read words.old }
-    ensures goes_on { Backend.can_read words.new }
-    ensures gives { Backend.read_gives words.old result words.new }
-    ensures pops { (told : List ℕ) → Backend.tells_written words.old told → PopsTold Backend.tells_written told result words.new }
-{
-    words.read()
-}
-
 /// The word on top.
 #[inline]
 fn popped<Backend: StackBackend<u32>>(
@@ -91,7 +80,7 @@ fn popped<Backend: StackBackend<u32>>(
     ensures failed { (error : _) → result ≡ Err (CoderError.Backend error) → Backend.read_gives words.old (Err error) words.new }
     ensures err { OnErr result (TellsSame Backend.tells_written words.old words.new) }
 {
-    match read_told(words) {
+    match read_last(words) {
         Ok(Some(word)) => Ok(word),
         Ok(None) => Err(CoderError::Frontend(DecodingFault::OutOfData)),
         Err(error) => Err(CoderError::Backend(error)),
@@ -161,6 +150,8 @@ impl<Backend: StackBackend<u32> + Drop> StackCoder<Backend> {
         ensures goes_on { IfOk result Backend.can_write }
         ensures ok { IfOk result (λ words. (told : List ℕ) → Backend.tells_written self.words told
             → Backend.tells_written words (compressed (content self.state told))) }
+        ensures failed { (error : _) → result ≡ Err error → (left : Backend)
+            × StopsAtWord Backend.write_gives self.words (compressed (content self.state [])) error left }
     {
         let state = self.state;
         let mut words = self.words;
@@ -185,6 +176,9 @@ impl<Backend: StackBackend<u32> + Drop> StackCoder<Backend> {
         ensures refused { result ≡ Err (CoderError.Frontend DecodingFault.OutOfData)
             → (told : List ℕ) → Backend.tells_written words told → (state : ℕ) (rest : List ℕ)
             → 2 ^ 32 ≤ state → ¬ (told ≡ compressed (content state rest)) }
+        ensures memory { result ≢ Err (CoderError.Frontend DecodingFault.OutOfMemory) }
+        ensures failed { (error : _) → result ≡ Err (CoderError.Backend error)
+            → (reached left : Backend) × Backend.read_gives reached (Err error) left }
     {
         let mut words = words;
         let high = match popped(&mut words) {

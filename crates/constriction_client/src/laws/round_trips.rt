@@ -7,7 +7,8 @@ ghost use Rattle.constriction.specs.Rows.{entry_of, symbols_of};
 ghost use Rattle.constriction_client.specs.Coming.{ComeNext, QuantilesCome, GoesBack};
 ghost use Rattle.constriction_client.specs.declared.quantiles.QuantileFault.{QuantileFault};
 ghost use Rattle.constriction_client.specs.Placing.{PlacesItems, EndsPlacing};
-ghost use Rattle.constriction_client.specs.Quantiles.{ArePairs, Reads};
+ghost use Rattle.constriction_backends.specs.Source.{Reads};
+ghost use Rattle.constriction_client.specs.Quantiles.{ArePairs};
 ghost use Rattle.constriction_client.specs.ThereAndBack.{AreItems, StandForItems, HasFault};
 
 use crate::quantiles::{QuantileFault, ReadFault, read_symbols, write_quantiles};
