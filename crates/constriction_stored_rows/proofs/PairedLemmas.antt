@@ -1,5 +1,5 @@
 -- Rows whose left cumulatives are stored beside their symbols, without a total after them.
-use Rattle.std.specs.Prelude.{⊤, Result, Ok, Err, IfOk, IfErr}
+use Rattle.std.specs.Prelude.{⊤}
 use Rattle.std.specs.List.{AllZip, IsDistinct}
 use Rattle.std.proofs.Common.{Bool, ◌≡◌, ℕ, ◌+◌, ◌-◌, ◌%◌, ◌^◌, ◌<◌, ◌≤◌, List, [], ◌∷◌, ◌++◌, length, get_or, map, refl, ap, sym, subst, ◌∙◌, arith, inl, inr}
 use Rattle.std.proofs.Math.Nat.{mod-eq_of_lt, pow-le-pow_right}
@@ -7,9 +7,9 @@ use Rattle.std.proofs.lemmas.Bool.{cases_lt}
 use Rattle.std.proofs.lemmas.List.{length-map, map-append, get_or-map}
 use Rattle.constriction_model.specs.Acceptance.{AreAccepted}
 use Rattle.constriction_stored_rows.specs.Filling.{HoldsRows, AreEntriesCloned}
-use Rattle.constriction_model.specs.Model.{StandForRows, RowMayBeRefused}
+use Rattle.constriction_model.specs.Model.{StandForRows}
 use Rattle.constriction_model.specs.RowLemmas.{weights-rows_from, symbols-rows_from}
-use Rattle.constriction_model.specs.Rows.{Row, rows_from, rows_of, symbols_of, RowsTile, IsRowOf}
+use Rattle.constriction_model.specs.Rows.{Row, rows_from, rows_of, symbols_of, RowsTile}
 use Rattle.constriction_stored_rows.specs.Stored.{IsStored, weights_of}
 use Rattle.constriction_stored_rows.specs.StoredLemmas.{IsRowAt, stored-row, stored-of_rows}
 use Rattle.constriction_stored_rows.specs.SymbolRowLemmas.{symbols-many, symbol-rows_many, symbol-is_at, paired-long, paired-tiles}

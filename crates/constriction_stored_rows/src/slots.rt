@@ -193,6 +193,7 @@ fn row_of_few<Entry, Kind: CdfEntry<Entry>, const PRECISION: usize, const SLOT_B
 /// other than the first one, were compared with the quantile: the only row where a slot holds one quantile, else by two
 /// comparisons without a jump where at most three rows meet the slot, and by a search where more do.
 #[inline(always)]
+#[tactic(auto, using(constriction_model::proofs::Digits::digits_few))]
 pub fn row_in_slot<Entry, Kind: CdfEntry<Entry>, const PRECISION: usize, const SLOT_BITS: usize>(
     entries: &[Entry],
     table: &[Kind::Word],
