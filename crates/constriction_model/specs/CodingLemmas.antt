@@ -1,11 +1,12 @@
 -- What the proof of a coder needs of rows and entries: the row of an entry, its quantiles, that a quantile has one row, and that the
 -- row of an entry's quantile has this entry. No public clause cites this module.
 use Rattle.std.proofs.Common.{◌≡◌, ℕ, suc, zero, ◌+◌, ◌-◌, ◌^◌, ◌<◌, ◌≤◌, Bool, true, false, List, [], ◌∷◌, length, get_or, reverse, Option, Some, None, refl, ap, sym, ◌∙◌, subst, arith}
-use Rattle.std.specs.Prelude.{All, Contains, find, sum, map}
+use Rattle.std.specs.Prelude.{All, Contains, find, sum, map, IfSome}
+use Rattle.std.specs.Option.{option_map}
 use Rattle.std.proofs.lemmas.List.{get_or-reverse, length-reverse}
 use Rattle.std.proofs.lemmas.List.Elements.{All-contains}
 use Rattle.std.proofs.lemmas.List.Sums.{sum_by-cons}
-use Rattle.constriction_model.specs.Model.{LiesWithin}
+use Rattle.constriction_model.specs.Model.{LiesWithin, entry_in}
 use Rattle.constriction_model.specs.Rows.{Row, rows_from, rows_of, RowsTile, IsRowOf, entry_of}
 
 none-is-some : {X : Type 0} (x : X) → None ≡ Some x → ⊥
@@ -164,3 +165,10 @@ entry-below precision eq rows s left weight offset e within less =
     let has = entry-row eq rows s left weight e in
     let lies = All-contains (LiesWithin precision) rows has.row within has.among in
     omega (arith, has.left_is, has.weight_is, lies.1)
+
+-- so do those of the words that stand for an entry
+pub words-within : {Symbol Word Weight : Type 0} (precision : ℕ) (eq : Symbol → Symbol → Bool) (rows : List (Row Symbol)) (s : Symbol)
+    (whole : Word → ℕ) (base : Weight → Word) (o : Option (Word × Weight)) → option_map (entry_in whole base) o ≡ entry_of eq rows s
+    → All (LiesWithin precision) rows → IfSome o (λ x. whole x.0 + whole (base x.1) ≤ 2 ^ precision)
+words-within precision eq rows s whole base None e within = tt
+words-within precision eq rows s whole base (Some x) e within = entry-within precision eq rows s (entry_in whole base x) e within

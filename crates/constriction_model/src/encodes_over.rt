@@ -1,6 +1,6 @@
 //! Encoders over given symbols and words: the bound that joins an encoder to a decoder.
 
-ghost use Rattle.std.specs.Prelude.{◌≡◌, ◌^◌, ◌<◌, Bool, List, All};
+ghost use Rattle.std.specs.Prelude.{◌≡◌, ◌+◌, ◌^◌, ◌<◌, ◌≤◌, Bool, List, All, IfSome};
 ghost use Rattle.std.specs.Cmp.{IsEquivalence};
 ghost use Rattle.std.specs.Option.{option_map};
 ghost use Rattle.constriction_model.specs.Model.{entry_in, LiesWithin};
@@ -24,8 +24,9 @@ pub trait EncodesOver<Symbol, Word: WholeNumber, const PRECISION: usize> {
 
     /// The entry of a symbol, as [`EncoderModel::left_cumulative_and_probability`] answers it.
     fn entry(&self, symbol: &Symbol) -> Option<(Word, Weight<Word>)>
-        ensures { option_map (entry_in Word.whole Word.base) result
-            ≡ entry_of symbol_eq (rows self.now) symbol.now };
+        ensures entry { option_map (entry_in Word.whole Word.base) result
+            ≡ entry_of symbol_eq (rows self.now) symbol.now }
+        ensures within { IfSome result (λ x. Word.whole x.0 + Word.whole (Word.base x.1) ≤ 2 ^ PRECISION) };
 
     // It is reflexive, symmetric and transitive, so that equal symbols are equal to the same others.
     ghost equality_law: { IsEquivalence symbol_eq };

@@ -10,7 +10,7 @@ use Rattle.constriction.specs.Model.{ClonesAreEqual}
 use Rattle.constriction.specs.Rows.{Row, RowsTile, entry_of}
 use Rattle.constriction_stack_example.specs.Laws.{StandsForEqual, SymbolComesBack, SymbolsComeBack, WordIsLeft}
 use Rattle.constriction_stack_example.specs.States.{taken}
-use Rattle.constriction_stack_example.specs.Steps.{Content, content, compressed, Refills, IsEncoded, IsDecoded, NeedsWord, InTurn}
+use Rattle.constriction_stack_example.specs.Steps.{Content, content, compressed, Refills, IsEncoded, IsDecoded, InTurn}
 
 same-content : (a b : Content) → a.state ≡ b.state → a.words ≡ b.words → a ≡ b
 same-content a b s w = ap (λ n. content n a.words) s ∙ ap (λ ws. content b.state ws) w

@@ -1,17 +1,17 @@
 -- Where runs of words and of symbols stop.
-use Rattle.std.proofs.Common.{◌≡◌, ℕ, ◌+◌, ◌%◌, ◌^◌, ◌<◌, suc, List, [], ◌∷◌, ◌++◌, append-nil, Option, Some, None, Result, Ok, Err, length, reverse, take, drop, get_or, refl, ap, sym, ◌∙◌, subst, inl, arith, length-append}
+use Rattle.std.proofs.Common.{◌≡◌, ℕ, ◌%◌, ◌^◌, ◌<◌, suc, List, [], ◌∷◌, ◌++◌, append-nil, Option, None, Result, Ok, Err, length, reverse, take, drop, get_or, refl, ap, sym, ◌∙◌, subst, inl, arith, length-append}
 use Rattle.std.proofs.Math.Seq.{split_at}
 use Rattle.constriction.specs.declared.CoderError.{CoderError}
 use Rattle.constriction.specs.declared.CoderError.TheVariants.{Frontend, Backend}
 use Rattle.constriction.specs.Model.{RowMayBeRefused}
 use Rattle.constriction.specs.Rows.{Row}
 use Rattle.constriction_backends.specs.Sink.{Writes}
-use Rattle.constriction_backends.specs.Source.{ReadsTold, Reads}
+use Rattle.constriction_backends.specs.Source.{ReadsTold}
 use Rattle.constriction_backends.specs.SourceLaws.{reads_told_all}
 use Rattle.constriction_backends.specs.Stack.{TellsNone, TellsSame}
 use Rattle.constriction_stack_example.specs.declared.stack_coder.DecodingFault.{DecodingFault}
 use Rattle.constriction_stack_example.specs.declared.stack_coder.DecodingFault.TheVariants.{OutOfData, OutOfMemory}
-use Rattle.constriction_stack_example.specs.Steps.{Content, Leads, InTurn, IsEncoded, IsDecoded, NeedsWord, Stops, IsEncodingFault, EncodingStops, IsDecodingFault, DecodingStops}
+use Rattle.constriction_stack_example.specs.Steps.{Leads, InTurn, IsEncoded, IsDecoded, NeedsWord, IsEncodingFault, EncodingStops, IsDecodingFault, DecodingStops}
 use Rattle.constriction_stack_example.specs.Tables.{table_words, BeginsTable, EndsInTable, StopsAtWord}
 
 -- words were written up to one that was refused

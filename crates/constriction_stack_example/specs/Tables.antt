@@ -1,5 +1,5 @@
 -- Tables of weights as words, and what reading and writing them does to a source and to a sink.
-use Rattle.std.specs.Prelude.{◌≡◌, ℕ, ◌<◌, Bool, List, [], ◌∷◌, ◌++◌, length, Option, Result, Err}
+use Rattle.std.specs.Prelude.{◌≡◌, ℕ, ◌<◌, ◌≤◌, Bool, List, [], ◌∷◌, ◌++◌, length, Option, Result, Err}
 use Rattle.constriction.specs.Acceptance.{AreAccepted}
 use Rattle.constriction.specs.Rows.{Row, rows_of}
 use Rattle.constriction_backends.specs.Sink.{Writes}
@@ -13,6 +13,11 @@ table_words weights = length weights ∷ weights
 abbrev pub BeginsTable : List ℕ → Type 0
 BeginsTable [] = Unit {0}
 BeginsTable (count ∷ weights) = length weights < count
+
+-- words of a table, and none after it: its beginning, or all of it
+abbrev pub StaysInTable : List ℕ → Type 0
+StaysInTable [] = Unit {0}
+StaysInTable (count ∷ weights) = length weights ≤ count
 
 -- reads from s gave the beginning of a table, and then one more gave this answer, which leads to t
 pub record EndsInTable {S E : Type 0} (gives : S → Result (Option ℕ) E → S → Type 0) (s : S) (answer : Result (Option ℕ) E) (t : S)

@@ -34,12 +34,7 @@ where
     requires fits { PRECISION ≤ 32 }
     ensures { IfSome result (λ answers. AllZip (StandsForEqual M.stands_for M.symbol_eq) (reverse symbols.now) answers.items) }
 {
-    match there_and_back::<M::Symbol, Vec<u32>, M, M, PRECISION>(
-        alloc, coder, model, model, symbols,
-    ) {
-        Ok(answers) => Some(answers),
-        Err(_) => None,
-    }
+    there_and_back::<M::Symbol, Vec<u32>, M, M, PRECISION>(alloc, coder, model, model, symbols).ok()
 }
 
 /// A message of numbers over a cursor by a uniform model.
@@ -51,10 +46,7 @@ pub fn over_a_cursor(
 ) -> Option<Vec<usize>>
     ensures { IfSome result (λ answers. AllZip (λ symbol answer. IsTrue (nat_eq answer symbol)) (reverse symbols.now) answers.items) }
 {
-    match there_and_back::<_, _, _, _, 24>(alloc, coder, model, model, symbols) {
-        Ok(answers) => Some(answers),
-        Err(_) => None,
-    }
+    there_and_back::<_, _, _, _, 24>(alloc, coder, model, model, symbols).ok()
 }
 
 /// A message of texts by a table of them and an encoder of its entries.
@@ -70,8 +62,5 @@ pub fn of_texts(
     ensures { IfSome result (λ answers. AllZip (λ symbol answer. IsTrue (string_eq answer symbol))
         (reverse symbols.now) answers.items) }
 {
-    match there_and_back::<_, _, _, _, 24>(alloc, coder, table, encoder, symbols) {
-        Ok(answers) => Some(answers),
-        Err(_) => None,
-    }
+    there_and_back::<_, _, _, _, 24>(alloc, coder, table, encoder, symbols).ok()
 }

@@ -1,6 +1,6 @@
 //! A stack coder: what was encoded last is decoded first.
 
-ghost use Rattle.std.specs.Prelude.{◌≡◌, ◌≢◌, ◌+◌, ◌-◌, ◌*◌, ◌%◌, ◌^◌, ◌<◌, ◌≤◌, ℕ, List, [], ◌∷◌, ◌++◌, None, Err, IfOk, IfSome, OnErr};
+ghost use Rattle.std.specs.Prelude.{◌≡◌, ◌≢◌, ◌+◌, ◌-◌, ◌*◌, ◌%◌, ◌^◌, ◌<◌, ◌≤◌, ℕ, List, [], ◌∷◌, ◌++◌, None, Err, IfOk, OnErr};
 ghost use Rattle.constriction_stack_example.specs.States.{put};
 ghost use Rattle.constriction_stack_example.specs.Steps.{content, compressed, Leads, Refills, NeedsWord, IsEncoded, IsDecoded};
 ghost use Rattle.constriction_stack_example.specs.Tables.{StopsAtWord};
@@ -114,22 +114,6 @@ fn refilled<Backend: StackBackend<u32>>(
     }
 }
 
-/// The left cumulative and the weight of a symbol.
-#[inline]
-fn entry_words<Symbol, E: EncodesOver<Symbol, u32, PRECISION>, const PRECISION: usize>(
-    model: &E,
-    symbol: &Symbol,
-) -> Option<(u32, u32)>
-    ensures entry { result ≡ entry_of E.symbol_eq (E.rows model.now) symbol.now }
-    ensures some { IfSome result (λ entry. 0 < entry.1) }
-    ensures within { IfSome result (λ entry. entry.0 + entry.1 ≤ 2 ^ PRECISION) }
-{
-    match model.entry(symbol) {
-        Some((left, weight)) => Some((left, weight.get())),
-        None => None,
-    }
-}
-
 impl StackCoder<Vec<u32>> {
     /// A coder with nothing in it.
     pub fn new(alloc: Global) -> Self
@@ -222,9 +206,10 @@ impl<Backend: StackBackend<u32>> StackCoder<Backend> {
         ensures state { OnErr result (self.new.state ≡ self.old.state) }
         ensures words { OnErr result (TellsSame Backend.tells_written self.old.words self.new.words) }
     {
-        let Some((left, weight)) = entry_words(model, symbol) else {
+        let Some((left, weight)) = model.entry(symbol) else {
             return Err(CoderError::Frontend(DefaultEncoderFrontendError::ImpossibleSymbol));
         };
+        let weight = weight.get();
         match with_room::<Backend, PRECISION>(&mut self.words, self.state, weight) {
             Ok(kept) => {
                 self.state = with_entry::<PRECISION>(kept, left, weight);

@@ -5,7 +5,8 @@ ghost use Rattle.std.specs.List.{IsDistinct};
 ghost use Rattle.constriction.specs.Acceptance.{AreAccepted};
 ghost use Rattle.constriction.specs.Rows.{rows_of, symbols_of};
 ghost use Rattle.constriction_backends.specs.Sink.{Writes};
-ghost use Rattle.constriction_stack_example.specs.Tables.{table_words, BeginsTable, EndsInTable, ReadsWeights, ReadsTable, StopsAtWord};
+ghost use Rattle.constriction_backends.specs.Source.{Reads};
+ghost use Rattle.constriction_stack_example.specs.Tables.{table_words, BeginsTable, EndsInTable, StaysInTable, ReadsWeights, ReadsTable, StopsAtWord};
 
 use constriction::backends::{Cursor, ReadWords, ReadWriteError, WriteWords};
 use constriction::stream::model::{
@@ -80,6 +81,8 @@ pub fn read_weights<Source: ReadWords<u32, Queue>>(
         → EndsInTable Source.read_gives source.old (Ok None) source.new }
     ensures short { result ≡ Err (CoderError.Frontend TableFault.TooFewWords)
         → (words : List ℕ) → Source.tells_upcoming source.old words → BeginsTable words }
+    ensures memory { result ≡ Err (CoderError.Frontend TableFault.OutOfMemory)
+        → (words : List ℕ) × StaysInTable words × Reads Source.read_gives source.old words source.new }
     ensures accepted { result ≢ Err (CoderError.Frontend TableFault.NotAccepted) }
     ensures failed { (error : _) → result ≡ Err (CoderError.Backend error)
         → EndsInTable Source.read_gives source.old (Err error) source.new }
@@ -164,6 +167,8 @@ pub fn read_table<Symbol: Eq + Drop, Source: ReadWords<u32, Queue>, const PRECIS
         → EndsInTable Source.read_gives source.old (Ok None) source.new }
     ensures short { result ≡ Err (CoderError.Frontend TableFault.TooFewWords)
         → (words : List ℕ) → Source.tells_upcoming source.old words → BeginsTable words }
+    ensures memory { result ≡ Err (CoderError.Frontend TableFault.OutOfMemory)
+        → (words : List ℕ) × StaysInTable words × Reads Source.read_gives source.old words source.new }
     ensures failed { (error : _) → result ≡ Err (CoderError.Backend error)
         → EndsInTable Source.read_gives source.old (Err error) source.new }
 {

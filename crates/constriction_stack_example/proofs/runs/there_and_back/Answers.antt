@@ -2,8 +2,6 @@ use Rattle.std.proofs.Common.{◌≡◌, List, ℕ, reverse, ap, sym, ◌∙◌,
 use Rattle.constriction.specs.declared.CoderError.{CoderError}
 use Rattle.constriction_stack_example.specs.declared.stack_coder.DecodingFault.TheVariants.{OutOfData}
 use Rattle.std.proofs.lemmas.List.{length-reverse}
-use Rattle.constriction_stack_example.specs.Laws.{Again, StandsForEqual}
-use Rattle.std.specs.List.{AllZip}
 use Rattle.constriction_stack_example.specs.Steps.{Content, content}
 use Rattle.constriction_stack_example.proofs.ComingBack.{are-equal}
 use Rattle.constriction_stack_example.proofs.runs.there_and_back.Goals as goal

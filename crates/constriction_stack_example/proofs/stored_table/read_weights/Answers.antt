@@ -1,4 +1,4 @@
-use Rattle.std.proofs.Common.{◌≡◌, ◌<◌, [], ◌∷◌, ◌++◌, List, ℕ, Err, length, length-append, refl, ap, sym, ◌∙◌, subst, arith}
+use Rattle.std.proofs.Common.{◌≡◌, [], ◌∷◌, ◌++◌, List, ℕ, Err, length, length-append, refl, ap, sym, subst, arith}
 use Rattle.std.proofs.lemmas.Result.{err_from_is_err_and}
 use Rattle.constriction.specs.declared.CoderError.{CoderError}
 use Rattle.constriction_backends.specs.Source.{Reads}
@@ -76,3 +76,16 @@ returns-clause-ok g c =
           reads_told_all g.Source.ReadWords.read_gives g.Source.ReadWords.tells_upcoming g.met.Source.ReadWords.reads_told
           c.args.source.now (table_words c.loop-done.weights.items) c.loop-done.source read;
     }
+
+pub returns-in-Err-clause-memory : goal.returns-in-Err-clause-memory
+returns-in-Err-clause-memory g c = λ is. (
+  c.in_ok-count.count ∷ (c.loop-done.weights.items ++ c.in_ok-weight.weight ∷ []),
+  omega (
+    arith,
+    length-append c.loop-done.weights.items (c.in_ok-weight.weight ∷ []),
+    c.loop-done.invariant.counted,
+    c.loop-done-test.true,
+  ),
+  reads_more g.Source.ReadWords.read_gives c.args.source.now (c.in_ok-count.count ∷ c.loop-done.weights.items) c.loop-done.source
+      c.in_ok-weight.weight _ c.loop-done.invariant.so_far c.in_ok-weight.ensures.ok,
+)

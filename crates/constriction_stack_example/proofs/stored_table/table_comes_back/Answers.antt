@@ -1,6 +1,6 @@
-use Rattle.std.proofs.Common.{◌≡◌, ◌<◌, List, ℕ, Err, length, map, drop, ap, sym, ◌∙◌, arith}
+use Rattle.std.proofs.Common.{◌≡◌, ◌<◌, Err, length, map, drop, ap, sym, ◌∙◌, arith}
 use Rattle.constriction.specs.Acceptance.{AreAccepted}
-use Rattle.constriction.specs.Rows.{Row, rows_of, symbols_of}
+use Rattle.constriction.specs.Rows.{Row, rows_of}
 use Rattle.constriction.specs.StandLemmas.{tiling-rebuilds}
 use Rattle.constriction.specs.declared.CoderError.{CoderError}
 use Rattle.constriction_stack_example.specs.Tables.{table_words}

@@ -1,7 +1,6 @@
-use Rattle.std.proofs.Common.{◌≡◌, ◌∙◌, List, ℕ, map, refl, subst}
+use Rattle.std.proofs.Common.{◌∙◌, refl}
 use Rattle.std.proofs.lemmas.Iterator.Adapters.{YieldsList-from_vec}
 use Rattle.std.proofs.lemmas.List.{map-id}
-use Rattle.constriction.specs.Acceptance.{AreAccepted}
 use Rattle.constriction.specs.GivenLemmas.{good-lists, bad-lists}
 use Rattle.constriction_stack_example.proofs.stored_table.table_of.Goals as goal
 

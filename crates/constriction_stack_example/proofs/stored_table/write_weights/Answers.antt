@@ -1,8 +1,7 @@
-use Rattle.std.proofs.Common.{◌≡◌, suc, [], ◌∷◌, ◌++◌, List, ℕ, length, take, drop, get_or, refl, ap, sym, ◌∙◌, subst, arith}
+use Rattle.std.proofs.Common.{◌≡◌, suc, [], ◌∷◌, List, ℕ, length, take, drop, get_or, refl, ap, sym, subst}
 use Rattle.std.proofs.Math.Seq.{split_at}
 use Rattle.std.proofs.lemmas.List.{take_more, take_all}
 use Rattle.std.proofs.lemmas.Result.{err_from_is_err_and}
-use Rattle.constriction.specs.declared.CoderError.{CoderError}
 use Rattle.constriction_backends.specs.Sink.{Writes}
 use Rattle.constriction_backends.specs.SinkLaws.{writes_more, writes_told_all}
 use Rattle.constriction_stack_example.specs.Tables.{table_words}
