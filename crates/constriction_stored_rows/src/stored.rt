@@ -1,6 +1,6 @@
 //! The rows of a stored table.
 
-ghost use Rattle.std.specs.Prelude.{◌≡◌, ◌+◌, ◌<◌, ◌≤◌, length, map, slice_index, slice_index_or, IfOk, IfErr};
+ghost use Rattle.std.specs.Prelude.{◌≡◌, ◌+◌, ◌%◌, ◌^◌, ◌<◌, ◌≤◌, length, map, slice_index, slice_index_or, IfOk, IfErr};
 ghost use Rattle.constriction_model.specs.Model.{row_of, LiesWithin};
 ghost use Rattle.constriction_model.specs.Rows.{Row, contiguous_rows};
 ghost use Rattle.constriction_stored_rows.specs.Stored.{IsStored, IsTable, lefts_in, weights_of};
@@ -43,8 +43,36 @@ pub fn row_at<P: WholeNumber, const PRECISION: usize>(cdf: &[P], index: usize) -
     (left, weight.to_weight())
 }
 
-/// Where the row at `index` begins, and its weight, of entries after which no total stands: the last
-/// row ends at `2^PRECISION`, which wraps to 0 where that is no word.
+/// Where the row at `index` ends, of entries after which no total stands: where the next one begins, and the last
+/// row at `2^PRECISION`, which wraps to 0 where that is no word.
+///
+/// Of two rows it chooses between two words that are the same for each look-up. A loop has these in registers and
+/// takes one of them without a jump, which random quantiles would make the processor guess wrong half of the time.
+#[inline(always)]
+fn end_of_row<Entry, Kind: CdfEntry<Entry>, const PRECISION: usize>(
+    entries: &[Entry],
+    index: usize,
+) -> Kind::Word
+    requires some { 0 < PRECISION }
+    requires fits { PRECISION ≤ Kind.Word.BITS }
+    requires in_bounds { index < length entries.now }
+    ensures next { index + 1 < length entries.now
+        → Kind.Word.whole result ≡ slice_index (map Kind.cumulative entries.now) (index + 1) }
+    ensures last { length entries.now ≤ index + 1 → Kind.Word.whole result ≡ 2 ^ PRECISION % 2 ^ Kind.Word.BITS }
+{
+    let total = Kind::Word::wrapping_pow2(PRECISION);
+    if entries.len() == 2 {
+        let second = Kind::cumulative_of(&entries[1]);
+        return if index == 0 { second } else { total };
+    }
+    if index + 1 < entries.len() {
+        Kind::cumulative_of(&entries[index + 1])
+    } else {
+        total
+    }
+}
+
+/// Where the row at `index` begins, and its weight, of entries after which no total stands.
 #[inline]
 fn row_words_among<Entry, Kind: CdfEntry<Entry>, const PRECISION: usize>(
     entries: &[Entry],
@@ -60,11 +88,7 @@ fn row_words_among<Entry, Kind: CdfEntry<Entry>, const PRECISION: usize>(
     ensures positive { 0 < Kind.Word.whole result.1 }
 {
     let left = Kind::cumulative_of(&entries[index]);
-    let end = if index + 1 < entries.len() {
-        Kind::cumulative_of(&entries[index + 1])
-    } else {
-        Kind::Word::wrapping_pow2(PRECISION)
-    };
+    let end = end_of_row::<Entry, Kind, PRECISION>(entries, index);
     (left, end.wrapping_minus(left))
 }
 

@@ -1,27 +1,36 @@
 //! A walk through the rows of a uniform model.
 
-ghost use Rattle.std.specs.Prelude.{◌≡◌, ◌+◌, ◌<◌, ◌≤◌, IfSome, length};
+ghost use Rattle.std.specs.Prelude.{◌≡◌, ◌+◌, ◌*◌, ◌<◌, ◌≤◌, IfSome, length};
 ghost use Rattle.std.specs.Iterator.{UpTo, at_most, size};
 ghost use Rattle.std.specs.Iterator.SizeHint.{IsExactHint, IsWithinCount};
-ghost use Rattle.constriction_model.specs.Rows.{uniform_rows};
+ghost use Rattle.constriction_model.specs.Rows.{uniform_rows, bin_of};
+ghost use Rattle.constriction_model.specs.UniformRowLemmas.{IsWeight};
 ghost use Rattle.constriction_model.specs.Tables.{YieldsRow, YieldsLastRow, rows_between};
 
 use crate::traits::Weight;
 use crate::uniform::UniformModel;
 use constriction_numbers::WholeNumber;
 use std::alloc::AllocError;
+use std::fmt::Debug;
 
 /// The rows of a [`UniformModel`] that are left, walked through from either end.
 ///
 /// Each row is given once, whichever end it is taken from, and either end answers `None` exactly
 /// where none is left. Every item is `Ok`: the walk takes no memory. A step costs a product.
-#[derive(Debug, Drop)]
+///
+/// The weights stand in it as words that are not 0, so that a step tests none.
+#[derive(Drop)]
+#[derive_where(Debug; Probability: Debug, Weight<Probability>: Debug)]
 pub struct UniformSymbolTable<Probability: WholeNumber, const PRECISION: usize> {
     model: UniformModel<Probability, PRECISION>,
     from: usize,
     to: usize,
+    probability_per_bin: Weight<Probability>,
+    last_probability: Weight<Probability>,
     ghost in_order: { from ≤ to },
     ghost in_bounds: { to ≤ Probability.whole model.last_symbol + 1 },
+    ghost bin: { Probability.base probability_per_bin ≡ model.probability_per_bin },
+    ghost rest: { Probability.base last_probability ≡ model.last_probability },
 }
 
 impl<Probability: WholeNumber, const PRECISION: usize> UniformSymbolTable<Probability, PRECISION> {
@@ -33,7 +42,31 @@ impl<Probability: WholeNumber, const PRECISION: usize> UniformSymbolTable<Probab
         ensures to { result.to ≡ Probability.whole model.last_symbol + 1 }
     {
         let to = model.last_symbol.to_number() + 1;
-        UniformSymbolTable { model, from: 0, to }
+        UniformSymbolTable {
+            model,
+            from: 0,
+            to,
+            probability_per_bin: model.probability_per_bin.to_weight(),
+            last_probability: model.last_probability.to_weight(),
+        }
+    }
+
+    /// Where the row of a symbol begins, and its weight.
+    #[inline]
+    fn row_words_of(&self, symbol: Probability) -> (Probability, Weight<Probability>)
+        requires { Probability.whole symbol ≤ Probability.whole self.now.model.last_symbol }
+        ensures left { Probability.whole result.0
+            ≡ Probability.whole symbol * bin_of PRECISION (Probability.whole self.now.model.last_symbol) }
+        ensures weight { IsWeight PRECISION (Probability.whole self.now.model.last_symbol)
+            (Probability.whole symbol) (Probability.whole (Probability.base result.1)) }
+    {
+        let left = symbol.times(self.model.probability_per_bin);
+        let weight = if symbol.is_below(self.model.last_symbol) {
+            self.probability_per_bin
+        } else {
+            self.last_probability
+        };
+        (left, weight)
     }
 }
 
@@ -53,7 +86,7 @@ impl<Probability: WholeNumber, const PRECISION: usize> Iterator
             return None;
         }
         let symbol = self.from;
-        let (left, weight) = self.model.row_words_of(Probability::from_number(symbol));
+        let (left, weight) = self.row_words_of(Probability::from_number(symbol));
         self.from = symbol + 1;
         Some(Ok((symbol, left, weight)))
     }
@@ -87,7 +120,7 @@ impl<Probability: WholeNumber, const PRECISION: usize> DoubleEndedIterator
             return None;
         }
         let symbol = self.to - 1;
-        let (left, weight) = self.model.row_words_of(Probability::from_number(symbol));
+        let (left, weight) = self.row_words_of(Probability::from_number(symbol));
         self.to = symbol;
         Some(Ok((symbol, left, weight)))
     }

@@ -1,8 +1,7 @@
-use Rattle.std.proofs.Common.{◌+◌, ◌<◌, length, map, sym, ◌∙◌, ap, arith}
+use Rattle.std.proofs.Common.{◌<◌, length, map, sym, ◌∙◌, arith}
 use Rattle.std.proofs.lemmas.List.{length-map}
 use Rattle.constriction_stored_rows.specs.StoredLemmas.{read-whole, stored-row}
 use Rattle.constriction_stored_rows.proofs.PairedLemmas.{stored-weight}
-use Rattle.constriction_stored_rows.proofs.stored.row_words_among.Goals.{then-index-entries, else-index-entries}
 use Rattle.constriction_stored_rows.proofs.stored.row_words_among.Goals as goal
 
 pub returns-clause-weight : goal.returns-clause-weight
@@ -12,24 +11,12 @@ returns-clause-weight g c =
     let entries = c.args.entries.now in
     let long = length-map entries told in
     let here = read-whole told entries c.args.index c.index-entries-index.result c.requires.in_bounds c.index-entries-index.is in
-    elim c.if-index-entries.branch [
-      | then-index-entries w ↦
-          let there = read-whole told entries (c.args.index + 1) w.index-entries-index-then-index-entries.result
-          w.if-index-entries.true w.index-entries-index-then-index-entries.is in
-          stored-weight _ g.row.PRECISION (map told entries) c.args.index (whole c.cumulative_of-left.result)
-          (whole c.if-index-entries.end) _
-          c.requires.stored c.requires.fits (omega (arith, c.requires.in_bounds, long)) (here ∙ sym c.cumulative_of-left.ensures)
-          (λ _. there ∙ sym w.cumulative_of-end.ensures ∙ sym (ap whole w.end-is))
-          (λ h. absurd (omega (arith, h, w.if-index-entries.true, long)))
-          c.wrapping_minus.ensures.range c.wrapping_minus.ensures.difference
-      | else-index-entries w ↦
-          stored-weight _ g.row.PRECISION (map told entries) c.args.index (whole c.cumulative_of-left.result)
-          (whole c.if-index-entries.end) _
-          c.requires.stored c.requires.fits (omega (arith, c.requires.in_bounds, long)) (here ∙ sym c.cumulative_of-left.ensures)
-          (λ h. absurd (omega (arith, h, w.if-index-entries.false, long)))
-          (λ _. ap whole w.end-is ∙ w.wrapping_pow2-end.ensures)
-          c.wrapping_minus.ensures.range c.wrapping_minus.ensures.difference
-    ]
+    stored-weight _ g.row.PRECISION (map told entries) c.args.index (whole c.cumulative_of-left.result)
+    (whole c.end_of_row-end.result) _
+    c.requires.stored c.requires.fits (omega (arith, c.requires.in_bounds, long)) (here ∙ sym c.cumulative_of-left.ensures)
+    (λ more. sym (c.end_of_row-end.ensures.next (omega (arith, more, long))))
+    (λ last. c.end_of_row-end.ensures.last (omega (arith, last, long)))
+    c.wrapping_minus.ensures.range c.wrapping_minus.ensures.difference
 
 pub returns-clause-positive : goal.returns-clause-positive
 returns-clause-positive g c =

@@ -33,4 +33,6 @@ invariant_of-self g c =
     record {
       in_order = omega (arith, t.in_order, c.if-self.false);
       in_bounds = omega (arith, t.in_bounds);
+      bin = t.bin;
+      rest = t.rest;
     }

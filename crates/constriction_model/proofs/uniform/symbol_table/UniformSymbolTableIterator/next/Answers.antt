@@ -29,4 +29,9 @@ returns g c =
 pub invariant_of-self : goal.invariant_of-self
 invariant_of-self g c =
     let t = c.args.self.now in
-    record { in_order = omega (arith, t.in_order, c.if-self.false); in_bounds = t.in_bounds }
+    record {
+      in_order = omega (arith, t.in_order, c.if-self.false);
+      in_bounds = t.in_bounds;
+      bin = t.bin;
+      rest = t.rest;
+    }
