@@ -19,9 +19,7 @@ impl<Word: MadeWith<A> + Drop, const N: usize, A: Allocator + Copy> ReadWords<Wo
     for SmallVec<Word, N, A> {
     type ReadError = Infallible;
 
-    ghost read_gives = { λ s r t. PopsFrom N
-        (record { words = s.items; capacity = s.capacity }) r
-        (record { words = t.items; capacity = t.capacity }) };
+    ghost read_gives = { PopsFrom (λ s. s.items) (λ s. s.capacity) N };
 
     ghost tells_upcoming = { λ s words. words ≡ reverse s.items };
 
@@ -60,9 +58,7 @@ impl<Word: MadeWith<A> + Drop, const N: usize, A: Allocator + Copy> WriteWords<W
     for SmallVec<Word, N, A> {
     type WriteError = AllocError;
 
-    ghost write_gives = { λ s w r t. PushesTo N
-        (record { words = s.items; capacity = s.capacity }) w r
-        (record { words = t.items; capacity = t.capacity }) };
+    ghost write_gives = { PushesTo (λ s. s.items) (λ s. s.capacity) N };
 
     ghost tells_written = { λ s words. words ≡ s.items };
 
