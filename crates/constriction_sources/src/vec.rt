@@ -1,6 +1,6 @@
 //! `Vec` as a stack: a write pushes, and a read pops.
 
-ghost use Rattle.std.specs.Prelude.{◌≡◌, ◌↔◌, ◌<◌, ◌≤◌, [], ⊤, false, reverse, length, IsTrue, IsOk, vec_capacity};
+ghost use Rattle.std.specs.Prelude.{◌≡◌, ◌↔◌, [], ⊤, false, reverse, length, IsTrue, vec_capacity};
 ghost use Rattle.constriction_sources.specs.Stack.{PopsFrom, PushesTo};
 ghost use Rattle.constriction_sources.specs.StackLaws.{Pops-told, Pops-counted, Pushes-told, tells_all, any_error};
 
