@@ -1,5 +1,5 @@
 -- What the contracts of a cursor name: its buffer, its position and its state.
-use Rattle.std.specs.Prelude.{◌≡◌, ◌-◌, ℕ, List, length, reverse, slice_set, ◌<◌, ◌≤◌, ◌⊎◌, Result, MatchResult}
+use Rattle.std.specs.Prelude.{◌≡◌, ◌↔◌, ◌-◌, ℕ, List, length, reverse, slice_set, ◌<◌, ◌≤◌, ◌⊎◌, IsOk, Result, MatchResult}
 use Rattle.std.proofs.Common.{inl, inr}
 use Rattle.std.proofs.lemmas.Bool.{cases_lt}
 use Rattle.constriction_buffers.specs.declared.buf.SafeBuf.{Ghosts}
@@ -34,9 +34,12 @@ module _ {W B : Type 0} {g : Ghosts B W} (c : Cursor W B g) where
   PutsAt with_words p w r t =
       MatchResult r (λ _. (g.words_of t.buf ≡ slice_set (g.words_of c.buf) p w) × (t.buf ≡ with_words c.buf (g.words_of t.buf))) (λ _. t ≡ c)
 
-  -- a write: the step of the state, and the word is put at the position
+  -- a write: the step of the state, the word is put at the position, and it is refused exactly where that is not below the number of words
   abbrev pub WritesTo : {E : Type 0} → (B → List W → B) → W → Result (Unit {0}) E → Cursor W B g → Type 0
-  WritesTo with_words w r t = Overwrites (state_of) w r (state (g.words_of t.buf) t.pos) × PutsAt with_words c.pos w r t
+  WritesTo with_words w r t =
+      Overwrites (state_of) w r (state (g.words_of t.buf) t.pos)
+      × PutsAt with_words c.pos w r t
+      × (IsOk r ↔ (c.pos < length (g.words_of c.buf)))
 
   module _ (b : B) where
     -- the cursor over that buffer, where the position is in its range, and otherwise the cursor as it was

@@ -1,6 +1,6 @@
 //! Turning a cursor round, and writing to one that was turned round.
 
-ghost use Rattle.std.specs.Prelude.{◌≡◌, ◌<◌, true, length};
+ghost use Rattle.std.specs.Prelude.{◌≡◌, ◌<◌, ◌↔◌, true, length, IsOk};
 ghost use Rattle.constriction_backends.specs.Cursor.{pos_of, state_of, PutsAt, TurnsRound};
 ghost use Rattle.constriction_backends.specs.CursorState.{reversal, Overwrites};
 ghost use Rattle.constriction_backends.specs.CursorLaws.{Overwrites-told, Overwrites-counts};
@@ -47,9 +47,9 @@ fn turned<Word, Buf: SafeBufMut<Word>>(mut cursor: Cursor<Word, Buf>) -> Cursor<
 impl<Word: Drop, Buf: SafeBufMut<Word>> WriteWords<Word> for Reverse<Cursor<Word, Buf>> {
     type WriteError = BoundedWriteError;
 
-    // The step of the reversed state, and the word is put at the new position.
+    // The step of the reversed state, the word is put at the new position, and it is refused exactly where the position is 0.
     ghost write_gives = { λ s w r t. Overwrites (reversal (state_of s.0)) w r (reversal (state_of t.0))
-        × PutsAt s.0 Buf.with_words (pos_of t.0) w r t.0 };
+        × PutsAt s.0 Buf.with_words (pos_of t.0) w r t.0 × (IsOk r ↔ (0 < pos_of s.0)) };
 
     ghost tells_written = { λ s words. (reversal (state_of s.0)).before ≡ words };
 
