@@ -32,7 +32,9 @@ module _ {W B : Type 0} {g : Ghosts B W} (c : Cursor W B g) where
   -- `with_words b ws` is the buffer b with the words ws in it; or the word was refused, and nothing changed.
   abbrev pub PutsAt : {E : Type 0} → (B → List W → B) → ℕ → W → Result (Unit {0}) E → Cursor W B g → Type 0
   PutsAt with_words p w r t =
-      MatchResult r (λ _. (g.words_of t.buf ≡ slice_set (g.words_of c.buf) p w) × (t.buf ≡ with_words c.buf (g.words_of t.buf))) (λ _. t ≡ c)
+      MatchResult r
+      (λ _. (g.words_of t.buf ≡ slice_set (g.words_of c.buf) p w) × (t.buf ≡ with_words c.buf (g.words_of t.buf)))
+      (λ _. t ≡ c)
 
   -- a write: the step of the state, the word is put at the position, and it is refused exactly where that is not below the number of words
   abbrev pub WritesTo : {E : Type 0} → (B → List W → B) → W → Result (Unit {0}) E → Cursor W B g → Type 0

@@ -1,5 +1,6 @@
 -- A list as a stack, whose top is its end.
-use Rattle.std.specs.Prelude.{◌≡◌, ◌≢◌, ◌<◌, ◌≤◌, ℕ, List, [], ◌∷◌, ◌++◌, length, Option, Some, Result, Ok, MatchResult, MatchOption, IsOk, OnErr}
+use Rattle.std.specs.Prelude.{◌≡◌, ◌≢◌, ◌<◌, ◌≤◌, ℕ, List, [], ◌∷◌, ◌++◌, length, Option, Some, Result, Ok}
+use Rattle.std.specs.Prelude.{MatchResult, MatchOption, IsOk, OnErr}
 
 -- a read answers the last word and drops it, or None on the empty list, and no error
 abbrev pub Pops : {W E : Type 0} → List W → Result (Option W) E → List W → Type 0

@@ -9,8 +9,7 @@ returns g c =
     let words = g.Buf.SafeBuf.words_of self.buf in
     let to : ℕ = length c.words-len.result.now in
     let end : to ≡ length words = ap length c.words-len.ensures in
-    let value : c.part_mut.result.now ≡ drop self.pos words = cc (c.part_mut.ensures.value, part-end words self.pos to end) in
-    (
+    let value : c.part_mut.result.now ≡ drop self.pos words = cc (c.part_mut.ensures.value, part-end words self.pos to end) in (
       ((cc), λ w. search (over_known self, ap (g.Buf.SafeBufMut.with_words self.buf) (with_part-end words self.pos to w end))),
       record { writes_back = tt; value = value },
     )

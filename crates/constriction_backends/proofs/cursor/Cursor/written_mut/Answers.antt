@@ -9,5 +9,5 @@ returns g c =
     let words = g.Buf.SafeBuf.words_of self.buf in
     let value : c.part_mut.result.now ≡ take self.pos words = cc (c.part_mut.ensures.value, part-begin words self.pos) in (
       ((cc), λ w. search (over_in_range self (g.Buf.SafeBufMut.with_words self.buf (w ++ drop self.pos words)))),
-      record { writes_back = tt; value = value; },
+      record { writes_back = tt; value = value },
     )
