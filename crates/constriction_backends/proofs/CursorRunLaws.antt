@@ -1,15 +1,16 @@
 -- What follows from the steps of a cursor, proved. No public clause cites this module.
 use Rattle.std.proofs.Common.{◌≡◌, ◌<◌, ◌≤◌, suc, List, [], ◌∷◌, ◌++◌, length, drop, reverse, Option, Some, None, Result, Ok, Err}
-use Rattle.std.specs.Prelude.{slice_set}
+use Rattle.std.specs.Prelude.{◌↔◌, IsOk}
+use Rattle.constriction_backends.specs.declared.cursor.Cursor.{Cursor}
 use Rattle.std.proofs.Common.{sym, ◌∙◌, ap, subst, arith, refl, append_assoc, append-nil}
 use Rattle.std.proofs.lemmas.List.{reverse-append, reverse-reverse, length-reverse}
 use Rattle.constriction_buffers.specs.declared.buf.SafeBuf.{Ghosts}
-use Rattle.constriction_backends.specs.Cursor.{state_of}
+use Rattle.constriction_backends.specs.Cursor.{state_of, SeeksTo, TurnsRound}
 use Rattle.constriction_backends.specs.CursorLaws.{same_cursor}
 use Rattle.constriction_backends.specs.CursorState.{State, reversal, StackReads, QueueReads}
-use Rattle.constriction_backends.specs.CursorRuns.{ReversalTwice, ReversalReads, CursorSeeksBack, SeekStays, TurnedTwice, ExtendingOverwrites}
+use Rattle.constriction_backends.specs.CursorRuns.{ExtendingOverwrites}
 
-pub reversal-twice : {W : Type 0} → ReversalTwice W
+pub reversal-twice : {W : Type 0} (s : State W) → reversal (reversal s) ≡ s
 reversal-twice {W = W} s =
     let made = λ (b a : List W). let u : State W = record { before = b; after = a } in u in
     ap (λ b. made b (reverse (reverse s.after))) (reverse-reverse s.before) ∙ ap (made s.before) (reverse-reverse s.after)
@@ -28,7 +29,10 @@ queue-to_stack s (Ok (Some w)) t h =
     (ap reverse h.0 ∙ reverse-append (w ∷ []) t.after, ap reverse h.1 ∙ reverse-append s.before (w ∷ []))
 queue-to_stack s (Err x) t h = absurd h
 
-pub reversal-reads : {W E : Type 0} → ReversalReads W E
+pub reversal-reads : {W E : Type 0} (s : State W)
+    → ((r : Result (Option W) E) (t : State W)
+    → (StackReads s r t ↔ QueueReads (reversal s) r (reversal t)) × (QueueReads s r t ↔ StackReads (reversal s) r (reversal t)))
+    × (s.after ≡ reverse (reversal s).before) × (reverse s.before ≡ (reversal s).after)
 reversal-reads {W} {E} s =
     let back_stack = λ (r : Result (Option W) E) (t : State W) (h : QueueReads (reversal s) r (reversal t)).
     subst (λ (u : State W). StackReads u r t) (reversal-twice s)
@@ -39,14 +43,16 @@ reversal-reads {W} {E} s =
     (λ r t. ((stack-to_queue s r t, back_stack r t), (queue-to_stack s r t, back_queue r t)), sym (reverse-reverse s.after), refl)
 
 module _ {W B : Type 0} {g : Ghosts B W} where
-  pub cursor_seeks_back : CursorSeeksBack W B g
+  pub cursor_seeks_back : (taken later : Cursor W B g) (r : Result (Unit {0}) (Unit {0})) (t : Cursor W B g)
+      → length (g.words_of later.buf) ≡ length (g.words_of taken.buf) → SeeksTo later taken.pos r t
+      → IsOk r × (t.pos ≡ taken.pos) × (t.buf ≡ later.buf)
   cursor_seeks_back taken later (Ok x) t same h = (search, h.2, h.1)
   cursor_seeks_back taken later (Err x) t same h =
       let in_range : taken.pos ≤ length (g.words_of taken.buf) = taken.in_range in
       let past : length (g.words_of later.buf) < taken.pos = h.0 in
       absurd (omega arith)
 
-  pub seek_stays : SeekStays W B g
+  pub seek_stays : (c : Cursor W B g) (r : Result (Unit {0}) (Unit {0})) (t : Cursor W B g) → SeeksTo c c.pos r t → IsOk r × (t ≡ c)
   seek_stays c (Ok x) t h = (search, same_cursor c t h.1 h.2)
   seek_stays c (Err x) t h =
       let in_range : c.pos ≤ length (g.words_of c.buf) = c.in_range in
@@ -76,11 +82,11 @@ module _ {W B : Type 0} {g : Ghosts B W} where
         let others = extending_overwrites E j words d rest in (
           others.0 ∙ (ap (λ l. l ++ words) h.0.0 ∙ append_assoc (state_of c).before (w ∷ []) words),
           others.1 ∙ sym (ap (drop (suc (length words))) h.0.1.1),
-          twice c.buf j.buf d.buf (slice_set (g.words_of c.buf) c.pos w) h.1 others.2,
+          twice c.buf j.buf d.buf (g.words_of j.buf) h.1.1 others.2,
         )
 
     -- a cursor that was turned round and turned back
-    pub turned_twice : TurnedTwice W B g with_words
+    pub turned_twice : (c t d : Cursor W B g) → TurnsRound with_words c t → TurnsRound with_words t d → d ≡ c
     turned_twice c t d once back_again =
         let all = g.words_of c.buf in
         let turned : g.words_of t.buf ≡ reverse all = ap g.words_of once.buf ∙ stand c.buf (reverse all) (length-reverse all) in

@@ -1,5 +1,5 @@
 -- What the contracts of a cursor name: its buffer, its position and its state.
-use Rattle.std.specs.Prelude.{◌≡◌, ◌-◌, ℕ, List, length, reverse, slice_set, ◌<◌, ◌≤◌, ◌⊎◌, Result, MatchResult}
+use Rattle.std.specs.Prelude.{◌≡◌, ◌↔◌, ◌-◌, ℕ, List, length, reverse, slice_set, ◌<◌, ◌≤◌, ◌⊎◌, IsOk, Result, MatchResult}
 use Rattle.std.proofs.Common.{inl, inr}
 use Rattle.std.proofs.lemmas.Bool.{cases_lt}
 use Rattle.constriction_buffers.specs.declared.buf.SafeBuf.{Ghosts}
@@ -13,6 +13,10 @@ module _ {W B : Type 0} {g : Ghosts B W} (c : Cursor W B g) where
   abbrev pub pos_of : ℕ
   pos_of = c.pos
 
+  -- the buffer and the position, which are all that a cursor is
+  abbrev pub parts_of : B × ℕ
+  parts_of = (c.buf, c.pos)
+
   -- the words of the buffer, cut at the position
   abbrev pub state_of : State W
   state_of = state (g.words_of c.buf) c.pos
@@ -24,18 +28,20 @@ module _ {W B : Type 0} {g : Ghosts B W} (c : Cursor W B g) where
       (λ _. (pos ≤ length (g.words_of c.buf)) × (t.buf ≡ c.buf) × (t.pos ≡ pos))
       (λ _. (length (g.words_of c.buf) < pos) × (t ≡ c))
 
-  -- A write of the word w, where `with_words b ws` is the buffer b with the words ws in it: the step of the state, and the buffer has the
-  -- word at the position; or the word is refused, and nothing changes.
+  -- The word w was put at the position p: it stands there among the old words, and the buffer is the old one with other words, where
+  -- `with_words b ws` is the buffer b with the words ws in it; or the word was refused, and nothing changed.
+  abbrev pub PutsAt : {E : Type 0} → (B → List W → B) → ℕ → W → Result (Unit {0}) E → Cursor W B g → Type 0
+  PutsAt with_words p w r t =
+      MatchResult r
+      (λ _. (g.words_of t.buf ≡ slice_set (g.words_of c.buf) p w) × (t.buf ≡ with_words c.buf (g.words_of t.buf)))
+      (λ _. t ≡ c)
+
+  -- a write: the step of the state, the word is put at the position, and it is refused exactly where that is not below the number of words
   abbrev pub WritesTo : {E : Type 0} → (B → List W → B) → W → Result (Unit {0}) E → Cursor W B g → Type 0
   WritesTo with_words w r t =
       Overwrites (state_of) w r (state (g.words_of t.buf) t.pos)
-      × MatchResult r (λ _. t.buf ≡ with_words c.buf (slice_set (g.words_of c.buf) c.pos w)) (λ _. t ≡ c)
-
-  -- The same, where the cursor stands turned round: the step of the reversed state, and the buffer has the word at the new position.
-  abbrev pub WritesBackTo : {E : Type 0} → (B → List W → B) → W → Result (Unit {0}) E → Cursor W B g → Type 0
-  WritesBackTo with_words w r t =
-      Overwrites (reversal (state_of)) w r (reversal (state (g.words_of t.buf) t.pos))
-      × MatchResult r (λ _. t.buf ≡ with_words c.buf (slice_set (g.words_of c.buf) t.pos w)) (λ _. t ≡ c)
+      × PutsAt with_words c.pos w r t
+      × (IsOk r ↔ (c.pos < length (g.words_of c.buf)))
 
   module _ (b : B) where
     -- the cursor over that buffer, where the position is in its range, and otherwise the cursor as it was

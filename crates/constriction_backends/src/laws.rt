@@ -1,9 +1,12 @@
 //! What follows from the steps of a cursor, and, by name, from the contracts of sources and sinks: each law the
 //! contract of a function.
 
-ghost use Rattle.constriction_backends.specs.CursorRuns.{ReversalTwice, ReversalReads, TurnedTwice};
-ghost use Rattle.constriction_backends.specs.CursorRuns.{CursorSeeksBack, SeekStays, ExtendingOverwrites};
+ghost use Rattle.std.specs.Prelude.{◌≡◌, ◌↔◌, length, reverse, Option, Result, IsOk};
+ghost use Rattle.constriction_backends.specs.Cursor.{buf_of, pos_of, SeeksTo, TurnsRound};
+ghost use Rattle.constriction_backends.specs.CursorState.{State, reversal, StackReads, QueueReads};
+ghost use Rattle.constriction_backends.specs.CursorRuns.{ExtendingOverwrites};
 
+use crate::cursor::Cursor;
 use constriction_buffers::{SafeBuf, SafeBufMut};
 pub use constriction_sources::laws::{
     extending_counts, extending_tells, item_end_is_for_good, push_then_pop, pushed_is_popped,
@@ -12,30 +15,37 @@ pub use constriction_sources::laws::{
 
 /// The reversal of the reversal of a cursor's state is that state.
 pub fn reversal_twice<Word>()
-    ensures { ReversalTwice Word }
+    ensures { (s : State Word) → reversal (reversal s) ≡ s }
 {}
 
-/// To read a reversed state as a stack is to read the state as a queue, and the other way round. So
-/// a [`Reverse`](crate::Reverse) of a cursor reads, and tells, as the reversal of its state does.
+/// To read a reversed state as a stack is to read the state as a queue, and the other way round, and
+/// what it tells in one order is what the state tells in the other. So a [`Reverse`](crate::Reverse) of
+/// a cursor reads, and tells, as the reversal of its state does.
 pub fn reversal_reads<Word, ReadError>()
-    ensures { ReversalReads Word ReadError }
+    ensures { (s : State Word)
+        → ((r : Result (Option Word) ReadError) (t : State Word)
+        → (StackReads s r t ↔ QueueReads (reversal s) r (reversal t)) × (QueueReads s r t ↔ StackReads (reversal s) r (reversal t)))
+        × (s.after ≡ reverse (reversal s).before) × (reverse s.before ≡ (reversal s).after) }
 {}
 
 /// A cursor that is turned round and back, as by both `into_reversed`, is as it was: the same
 /// buffer, at the same position.
 pub fn turned_twice<Word, Buf: SafeBufMut<Word>>()
-    ensures { TurnedTwice Word Buf Buf.SafeBuf Buf.with_words }
+    ensures { (c t d : Cursor Word Buf Buf.SafeBuf) → TurnsRound Buf.with_words c t → TurnsRound Buf.with_words t d → d ≡ c }
 {}
 
 /// A seek to the position where a cursor stands succeeds, and leaves the cursor as it was.
 pub fn seek_stays<Word, Buf: SafeBuf<Word>>()
-    ensures { SeekStays Word Buf Buf.SafeBuf }
+    ensures { (c : Cursor Word Buf Buf.SafeBuf) (r : Result (Unit {0}) (Unit {0})) (t : Cursor Word Buf Buf.SafeBuf)
+        → SeeksTo c (pos_of c) r t → IsOk r × (t ≡ c) }
 {}
 
 /// A position that was taken from a cursor is sought back, as long as there are as many words as
 /// there were then. No call of a cursor changes their number, as its clause says of the buffer.
 pub fn seek_back_in_a_cursor<Word, Buf: SafeBuf<Word>>()
-    ensures { CursorSeeksBack Word Buf Buf.SafeBuf }
+    ensures { (taken later : Cursor Word Buf Buf.SafeBuf) (r : Result (Unit {0}) (Unit {0})) (t : Cursor Word Buf Buf.SafeBuf)
+        → length (Buf.words_of (buf_of later)) ≡ length (Buf.words_of (buf_of taken)) → SeeksTo later (pos_of taken) r t
+        → IsOk r × (pos_of t ≡ pos_of taken) × (buf_of t ≡ buf_of later) }
 {}
 
 /// Writes in a row to a cursor, as those of `extend_from_iter`: their words stand after the words

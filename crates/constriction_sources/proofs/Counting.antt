@@ -1,6 +1,6 @@
 -- Reads in a row from a source that counts its items.
 use Rattle.std.proofs.Common.{◌≡◌, ◌≢◌, ◌↔◌, ◌+◌, ◌≤◌, ℕ, zero, suc, List, [], ◌∷◌, Option, Some, None, Result, Ok, Err, arith}
-use Rattle.constriction_sources.specs.Source.{CountsRead, HasItems, RemainingCounts}
+use Rattle.constriction_sources.specs.Source.{CountsRead, GivesAnswers, HasItems}
 
 module _ {W E : Type 0} (m n : ℕ) (rest : List (Result (Option W) E)) (others : HasItems n rest) where
   -- an item stands before the others
@@ -30,7 +30,7 @@ module _ {W E : Type 0} (m n : ℕ) (rest : List (Result (Option W) E)) (others 
 -- the answers of reads in a row have as many items as were left
 pub remaining_counted : {S W E : Type 0} (gives : S → Result (Option W) E → S → Type 0) (left : S → ℕ) (exact : S → Type 0)
     → ((s : S) (r : Result (Option W) E) (t : S) → exact s → gives s r t → CountsRead (left s) r (left t) × exact t)
-    → RemainingCounts gives left exact
+    → (s : S) (answers : List (Result (Option W) E)) (t : S) → exact s → GivesAnswers gives s answers t → HasItems (left s) answers
 remaining_counted gives left exact law s [] t right reads = λ k r e. absurd (cc)
 remaining_counted gives left exact law s (a ∷ rest) t right (j, given, reads) =
     let one : CountsRead (left s) a (left j) × exact j = law s a j right given in

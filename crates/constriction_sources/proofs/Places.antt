@@ -20,9 +20,9 @@ module _ {S W E : Type 0} (gives : S → W → Result (Unit {0}) E → S → Typ
   pub extending_counted : {I : Type 0} (next : I → Option W → I → Type 0) (s : S) (items : I) (r : Result (Unit {0}) E) (t : S)
       → ExtendsBy gives next s items r t → CountsExtend next (places s) items r (places t)
   extending_counted next s items (Ok x) t (ws, drained, written) = (ws, drained, writes_counted s ws t written)
-  extending_counted next s items (Err e) t (ws, w, rest, j, yielded, written, refused) =
+  extending_counted next s items (Err e) t (ws, w, rest, yielded, (j, written, refused)) =
       let full : (places j ≡ 0) × (places t ≡ 0) = law j w (Err e) t refused in
       let none : places j ≡ 0 = full.0 in
       let taken : places s ≡ length ws + places j = writes_counted s ws j written in
       let all : places s ≡ length ws = omega arith in
-      (ws, w, rest, yielded, all, full.1)
+      (ws, w, rest, yielded, (all, full.1))

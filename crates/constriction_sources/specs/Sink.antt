@@ -11,13 +11,19 @@ WritesTold tells ws w r t = MatchResult r (λ _. tells t (ws ++ w ∷ [])) (λ _
 abbrev pub CountsWrite : {E : Type 0} → ℕ → Result (Unit {0}) E → ℕ → Type 0
 CountsWrite m r n = MatchResult r (λ _. m ≡ n + 1) (λ _. (m ≡ 0) × (n ≡ 0))
 
+-- The items of an iterator were taken: all of them, and OfAll is true of them; or those before one that was refused, and OfThose is true
+-- of those, of that one and of the error.
+abbrev pub TakesItems : {I W E : Type 0} → (I → Option W → I → Type 0) → I → Result (Unit {0}) E → (List W → Type 0)
+    → (List W → W → E → Type 0) → Type 0
+TakesItems {I} {W} next items r OfAll OfThose =
+    MatchResult r
+    (λ _. (ws : List W) × Drains next items ws × OfAll ws)
+    (λ e. (ws : List W) × (w : W) × (rest : I) × YieldsThen next items ws (Some w) rest × OfThose ws w e)
+
 -- The items of an iterator were written where m places were free before and n are free after: all of them, each into a free place; or as
 -- many as there were places, and there was one more.
 abbrev pub CountsExtend : {I W E : Type 0} → (I → Option W → I → Type 0) → ℕ → I → Result (Unit {0}) E → ℕ → Type 0
-CountsExtend {I} {W} next m items r n =
-    MatchResult r
-    (λ _. (ws : List W) × Drains next items ws × (m ≡ length ws + n))
-    (λ _. (ws : List W) × (w : W) × (rest : I) × YieldsThen next items ws (Some w) rest × (m ≡ length ws) × (n ≡ 0))
+CountsExtend next m items r n = TakesItems next items r (λ ws. m ≡ length ws + n) (λ ws _ _. (m ≡ length ws) × (n ≡ 0))
 
 module _ {S W E : Type 0} (gives : S → W → Result (Unit {0}) E → S → Type 0) where
   -- writes in order from s, each of which succeeded, lead to t
@@ -27,17 +33,5 @@ module _ {S W E : Type 0} (gives : S → W → Result (Unit {0}) E → S → Typ
 
   -- the items of an iterator were written in order: all of them, or those before the first refused one
   abbrev pub ExtendsBy : {I : Type 0} → (I → Option W → I → Type 0) → S → I → Result (Unit {0}) E → S → Type 0
-  ExtendsBy {I} next s items r t =
-      MatchResult r
-      (λ _. (ws : List W) × Drains next items ws × Writes s ws t)
-      (λ e. (ws : List W) × (w : W) × (rest : I) × (j : S) × YieldsThen next items ws (Some w) rest
-      × Writes s ws j × gives j w (Err e) t)
-
-  -- where an iterator's items were all written, they come after the words that were written before; and where one was refused, those
-  -- before it do
-  abbrev pub ExtendingTells : {I : Type 0} → (S → List W → Type 0) → (I → Option W → I → Type 0) → Type 0
-  ExtendingTells {I} tells next =
-      (s : S) (items : I) (r : Result (Unit {0}) E) (t : S) (old : List W) → ExtendsBy next s items r t → tells s old
-      → MatchResult r
-      (λ _. (ws : List W) × Drains next items ws × tells t (old ++ ws))
-      (λ _. (ws : List W) × (w : W) × (rest : I) × YieldsThen next items ws (Some w) rest × tells t (old ++ ws))
+  ExtendsBy next s items r t =
+      TakesItems next items r (λ ws. Writes s ws t) (λ ws w e. (j : S) × Writes s ws j × gives j w (Err e) t)

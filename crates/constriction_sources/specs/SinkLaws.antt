@@ -2,7 +2,7 @@
 -- this module.
 use Rattle.std.specs.Prelude.{ℕ, ◌<◌, List, [], ◌∷◌, ◌++◌, Option, Result, Ok, Err, IfErr}
 use Rattle.std.proofs.Common.{subst, sym, append_assoc, append-nil, arith}
-use Rattle.constriction_sources.specs.Sink.{WritesTold, CountsWrite, Writes, ExtendingTells}
+use Rattle.constriction_sources.specs.Sink.{WritesTold, CountsWrite, TakesItems, Writes, ExtendsBy}
 
 module _ {S W E : Type 0} (gives : S → W → Result (Unit {0}) E → S → Type 0) where
   -- one more write after others
@@ -26,10 +26,11 @@ module _ {S W E : Type 0} (gives : S → W → Result (Unit {0}) E → S → Typ
   pub extending_tells : {I : Type 0} (tells : S → List W → Type 0) (next : I → Option W → I → Type 0)
       → ((s : S) (w : W) (r : Result (Unit {0}) E) (t : S) → gives s w r t
       → (ws : List W) → tells s ws → WritesTold tells ws w r t)
-      → ExtendingTells gives tells next
+      → (s : S) (items : I) (r : Result (Unit {0}) E) (t : S) (old : List W) → ExtendsBy gives next s items r t → tells s old
+      → TakesItems next items r (λ ws. tells t (old ++ ws)) (λ ws _ _. tells t (old ++ ws))
   extending_tells tells next law s items (Ok x) t old (ws, drained, written) told =
       (ws, drained, writes_told_all tells law s ws t written old told)
-  extending_tells tells next law s items (Err e) t old (ws, w, rest, j, yielded, written, refused) told =
+  extending_tells tells next law s items (Err e) t old (ws, w, rest, yielded, (j, written, refused)) told =
       (ws, w, rest, yielded, law j w (Err e) t refused (old ++ ws) (writes_told_all tells law s ws j written old told))
 
 -- a write that is counted is not refused where a place was free

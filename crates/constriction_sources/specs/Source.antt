@@ -27,8 +27,3 @@ Reads {S} gives s (w ∷ ws) t = (j : S) × gives s (Ok (Some w)) j × Reads giv
 -- exactly the first n of the answers are items: words, or errors in their place
 abbrev pub HasItems : {W E : Type 0} → ℕ → List (Result (Option W) E) → Type 0
 HasItems {W} {E} n answers = (k : ℕ) (r : Result (Option W) E) → slice_get answers k ≡ Some r → (r ≡ Ok None) ↔ (n ≤ k)
-
--- where the count of the items that are left is right, reads in a row give so many items, and then answer that there is none
-abbrev pub RemainingCounts : {S W E : Type 0} → (S → Result (Option W) E → S → Type 0) → (S → ℕ) → (S → Type 0) → Type 0
-RemainingCounts {S} {W} {E} gives left exact =
-    (s : S) (answers : List (Result (Option W) E)) (t : S) → exact s → GivesAnswers gives s answers t → HasItems (left s) answers

@@ -1,6 +1,6 @@
 -- A list as a stack, whose top is its end.
-use Rattle.std.specs.Prelude.{◌≡◌, ◌≢◌, ◌↔◌, ◌<◌, ◌≤◌, ℕ, List, [], ◌∷◌, ◌++◌, length, Option, Some, Result, Ok, MatchResult, MatchOption, IsOk, OnErr}
-use Rattle.constriction_words.specs.Rewinding.{Rewinds, Storage}
+use Rattle.std.specs.Prelude.{◌≡◌, ◌≢◌, ◌<◌, ◌≤◌, ℕ, List, [], ◌∷◌, ◌++◌, length, Option, Some, Result, Ok}
+use Rattle.std.specs.Prelude.{MatchResult, MatchOption, IsOk, OnErr}
 
 -- a read answers the last word and drops it, or None on the empty list, and no error
 abbrev pub Pops : {W E : Type 0} → List W → Result (Option W) E → List W → Type 0
@@ -11,28 +11,22 @@ abbrev pub Pushes : {W E : Type 0} → List W → W → Result (Unit {0}) E → 
 Pushes old w r new = MatchResult r (λ _. new ≡ old ++ w ∷ []) (λ _. new ≡ old)
 
 -- a read pops a word, and the capacity stays, which is never below `least`
-pub record PopsFrom {W E : Type 0} (least : ℕ) (old : Storage W) (r : Result (Option W) E) (new : Storage W) : Type 0 where
-  pub pops : Pops old.words r new.words
-  pub capacity : new.capacity ≡ old.capacity
-  pub at_least : least ≤ old.capacity
+pub record PopsFrom {S W E : Type 0} (words : S → List W) (capacity : S → ℕ) (least : ℕ)
+    (old : S) (r : Result (Option W) E) (new : S) : Type 0 where
+  pub pops : Pops (words old) r (words new)
+  pub keeps : capacity new ≡ capacity old
+  pub at_least : least ≤ capacity old
 
 -- A write pushes the word. With capacity left it succeeds, and the capacity stays. It is refused only where none is left, and then the
 -- capacity stays as well. The capacity, which is never below `least`, does not fall.
-pub record PushesTo {W E : Type 0} (least : ℕ) (old : Storage W) (w : W) (r : Result (Unit {0}) E) (new : Storage W)
-    : Type 0 where
-  pub pushes : Pushes old.words w r new.words
-  pub succeeds : length old.words < old.capacity → IsOk r
-  pub keeps : length old.words < old.capacity → new.capacity ≡ old.capacity
-  pub refused : OnErr r ((old.capacity ≤ length old.words) × (new.capacity ≡ old.capacity))
-  pub capacity : old.capacity ≤ new.capacity
-  pub at_least : least ≤ old.capacity
-
--- what is read after a write that succeeded is the word that was written, and the list is the old one again
-abbrev pub PopsWhatWasPushed : Type 0 → Type 0 → Type 0 → Type 0
-PopsWhatWasPushed Word WriteError ReadError =
-    (old between new : List Word) (w : Word) (r : Result (Option Word) ReadError)
-    → (let written : Result (Unit {0}) WriteError = Ok tt in Pushes old w written between) → Pops between r new
-    → (r ≡ Ok (Some w)) × (new ≡ old)
+pub record PushesTo {S W E : Type 0} (words : S → List W) (capacity : S → ℕ) (least : ℕ)
+    (old : S) (w : W) (r : Result (Unit {0}) E) (new : S) : Type 0 where
+  pub pushes : Pushes (words old) w r (words new)
+  pub succeeds : length (words old) < capacity old → IsOk r
+  pub keeps : length (words old) < capacity old → capacity new ≡ capacity old
+  pub refused : OnErr r ((capacity old ≤ length (words old)) × (capacity new ≡ capacity old))
+  pub grows : capacity old ≤ capacity new
+  pub at_least : least ≤ capacity old
 
 -- A read of a stack to which these words were written: the last one is answered and dropped; or nothing is, where there is none; or the
 -- read fails, where there is a word, and they stay.
@@ -59,10 +53,3 @@ pub record ReadsWhatWasWritten {S W R E : Type 0} (writes : S → W → Result (
   -- word still comes after them.
   pub read : (later new : S) (w : W) (r : Result (Option W) R) (words : List W) → tells later (words ++ w ∷ []) → reads later r new
       → MatchResult r (λ o. (o ≡ Some w) × tells new words) (λ _. tells new (words ++ w ∷ []))
-
--- A position that was taken while the list was `taken` is sought back exactly where the list is no shorter now. And where
--- the words of then still stand, they are what is left.
-abbrev pub SeeksBack : Type 0 → Type 0
-SeeksBack Word =
-    (taken old new : List Word) (r : Result (Unit {0}) (Unit {0})) → Rewinds old (length taken) r new
-    → (IsOk r ↔ (length taken ≤ length old)) × ((later : List Word) → old ≡ taken ++ later → new ≡ taken)

@@ -1,6 +1,8 @@
 -- The steps of a stack meet the laws of sources and sinks: the impls cite these, and a caller's own may. No public clause cites this
 -- module.
-use Rattle.std.specs.Prelude.{◌≡◌, List, [], ◌∷◌, ◌++◌, ⊤, reverse, length, Option, Some, None, Result, Ok, Err, IfErr}
+use Rattle.std.specs.Prelude.{◌≡◌, ◌≢◌, ◌↔◌, List, [], ◌∷◌, ◌++◌, ⊤, reverse, length, Option, Some, None, Result, Ok, Err, IfErr}
+use Rattle.std.specs.Prelude.{Bool, true, false, IsTrue}
+use Rattle.std.specs.Bool.{OnFalse}
 use Rattle.std.proofs.Common.{sym, ◌∙◌, ap, subst, refl}
 use Rattle.std.proofs.lemmas.List.{reverse-append, reverse-reverse, length-append, length-reverse}
 use Rattle.constriction_sources.specs.Source.{ReadsTold, CountsRead}
@@ -69,6 +71,19 @@ module _ {S W : Type 0} (E : Type 0) (upcoming written : S → List W → Type 0
   still_there e h =
       subst (λ (ws : List W). written t ws) (reverse-reverse (words ++ w ∷ []))
       (upcoming_is_written t (reverse (words ++ w ∷ [])) h.1)
+
+-- a stack that is not empty has words to come
+pub tells_end : {W : Type 0} (items : List W) (ended : Bool) → IsTrue ended ↔ (items ≡ [])
+    → OnFalse ended ((words : List W) → words ≡ reverse items → words ≢ [])
+tells_end items true h = tt
+tells_end items false h = λ words told none.
+    let empty : items ≡ [] = sym (reverse-reverse items) ∙ ap reverse (sym told ∙ none) in
+    absurd (let wrong = h.1 empty in cc)
+
+-- a stack that always has room has it whatever it says
+pub always_room : (full : Bool) → OnFalse full ⊤
+always_room true = tt
+always_room false = tt
 
 -- a read of a stack takes the last of the words that were written to it
 module _ {S W : Type 0} (upcoming written : S → List W → Type 0)

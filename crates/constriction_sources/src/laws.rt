@@ -1,10 +1,11 @@
 //! What follows from the contracts of sources and sinks, each law the contract of a function.
 
-ghost use Rattle.std.specs.Prelude.{◌≡◌, [], ◌∷◌, ◌++◌, List, Some, Err, IfOk};
+ghost use Rattle.std.specs.Prelude.{◌≡◌, ◌≤◌, ◌↔◌, [], ◌∷◌, ◌++◌, List, length, Option, Some, Result, Ok, Err, IfOk, IsOk};
 ghost use Rattle.std.specs.Iterator.{IsFinite};
-ghost use Rattle.constriction_sources.specs.Source.{RemainingCounts};
-ghost use Rattle.constriction_sources.specs.Sink.{CountsExtend, ExtendsBy, ExtendingTells};
-ghost use Rattle.constriction_sources.specs.Stack.{PopsTold, PopsWhatWasPushed, ReadsWhatWasWritten, SeeksBack};
+ghost use Rattle.constriction_words.specs.Rewinding.{Rewinds};
+ghost use Rattle.constriction_sources.specs.Source.{GivesAnswers, HasItems};
+ghost use Rattle.constriction_sources.specs.Sink.{TakesItems, CountsExtend, ExtendsBy};
+ghost use Rattle.constriction_sources.specs.Stack.{Pops, Pushes, PopsTold, ReadsWhatWasWritten};
 
 mod iterators;
 
@@ -16,7 +17,9 @@ use constriction_words::{ReadWriteError, Semantics};
 
 /// A word that was written to a stack is read next, and then the stack has its old words again.
 pub fn pushed_is_popped<Word, WriteError, ReadError>()
-    ensures { PopsWhatWasPushed Word WriteError ReadError }
+    ensures { (old between new : List Word) (w : Word) (r : Result (Option Word) ReadError)
+        → (let written : Result (Unit {0}) WriteError = Ok tt in Pushes old w written between) → Pops between r new
+        → (r ≡ Ok (Some w)) × (new ≡ old) }
 {}
 
 /// A word that was written to a stack is told after its old words. In whatever state they are told so,
@@ -67,10 +70,12 @@ pub fn push_then_pop<Word, Backend: StackBackend<Word>>(
     }
 }
 
-/// A position of a stack that was taken earlier is sought back exactly where the stack is no
-/// shorter now, and what was written since is dropped.
+/// A position of a stack that was taken earlier, while its words were `taken`, is sought back exactly
+/// where the stack is no shorter now, and what was written since is dropped: where the words of then
+/// still stand, they are what is left.
 pub fn seek_back<Word>()
-    ensures { SeeksBack Word }
+    ensures { (taken old new : List Word) (r : Result (Unit {0}) (Unit {0})) → Rewinds old (length taken) r new
+        → (IsOk r ↔ (length taken ≤ length old)) × ((later : List Word) → old ≡ taken ++ later → new ≡ taken) }
 {}
 
 /// Writes the words of an iterator in order to a sink that counts its free places: they are refused
@@ -94,10 +99,13 @@ pub fn extending_counts<Word, Sink: BoundedWriteWords<Word>, Words: Iterator<Ite
 /// Where an iterator's words were all written, they come after those that were written before; and
 /// where one was refused, those before it do.
 pub fn extending_tells<Word, Sink: WriteWords<Word>, Words: Iterator<Item = Word>>()
-    ensures { ExtendingTells Sink.write_gives Sink.tells_written Words.next_gives }
+    ensures { (s : Sink) (items : Words) (r : Result (Unit {0}) Sink.WriteError) (t : Sink) (old : List Word)
+        → ExtendsBy Sink.write_gives Words.next_gives s items r t → Sink.tells_written s old
+        → TakesItems Words.next_gives items r (λ ws. Sink.tells_written t (old ++ ws)) (λ ws _ _. Sink.tells_written t (old ++ ws)) }
 {}
 
 /// Where the count of a source is right, its reads give so many items, and then answer `Ok(None)`.
 pub fn remaining_counts<Word, S: Semantics, Source: BoundedReadWords<Word, S>>()
-    ensures { RemainingCounts Source.read_gives Source.items_left Source.is_exact }
+    ensures { (s : Source) (answers : List (Result (Option Word) Source.ReadError)) (t : Source) → Source.is_exact s
+        → GivesAnswers Source.read_gives s answers t → HasItems (Source.items_left s) answers }
 {}

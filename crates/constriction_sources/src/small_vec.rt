@@ -2,8 +2,7 @@
 //!
 //! The first `N` words stand in the value itself, so memory is asked for only beyond them.
 
-ghost use Rattle.std.specs.Prelude.{◌≡◌, ◌≢◌, ◌↔◌, ◌≤◌, List, [], ⊤, false, reverse, length, IsTrue, IsOk};
-ghost use Rattle.std.specs.Bool.{OnFalse};
+ghost use Rattle.std.specs.Prelude.{◌≡◌, ◌↔◌, [], ⊤, false, reverse, length, IsTrue};
 ghost use Rattle.constriction_sources.specs.Stack.{PopsFrom, PushesTo};
 ghost use Rattle.constriction_sources.specs.StackLaws.{Pops-told, Pops-counted, Pushes-told, tells_all, any_error};
 
@@ -19,9 +18,7 @@ impl<Word: MadeWith<A> + Drop, const N: usize, A: Allocator + Copy> ReadWords<Wo
     for SmallVec<Word, N, A> {
     type ReadError = Infallible;
 
-    ghost read_gives = { λ s r t. PopsFrom N
-        (record { words = s.items; capacity = s.capacity }) r
-        (record { words = t.items; capacity = t.capacity }) };
+    ghost read_gives = { PopsFrom (λ s. s.items) (λ s. s.capacity) N };
 
     ghost tells_upcoming = { λ s words. words ≡ reverse s.items };
 
@@ -33,8 +30,7 @@ impl<Word: MadeWith<A> + Drop, const N: usize, A: Allocator + Copy> ReadWords<Wo
 
     #[inline]
     fn maybe_exhausted(&self) -> bool
-        ensures exactly { IsTrue result ↔ (self.now.items ≡ []) }
-        ensures tells { OnFalse result ((words : List Word) → words ≡ reverse self.now.items → words ≢ []) }
+        ensures { IsTrue result ↔ (self.now.items ≡ []) }
     {
         self.is_empty()
     }
@@ -60,9 +56,7 @@ impl<Word: MadeWith<A> + Drop, const N: usize, A: Allocator + Copy> WriteWords<W
     for SmallVec<Word, N, A> {
     type WriteError = AllocError;
 
-    ghost write_gives = { λ s w r t. PushesTo N
-        (record { words = s.items; capacity = s.capacity }) w r
-        (record { words = t.items; capacity = t.capacity }) };
+    ghost write_gives = { PushesTo (λ s. s.items) (λ s. s.capacity) N };
 
     ghost tells_written = { λ s words. words ≡ s.items };
 
@@ -79,8 +73,7 @@ impl<Word: MadeWith<A> + Drop, const N: usize, A: Allocator + Copy> WriteWords<W
 
     #[inline]
     fn maybe_full(&self) -> bool
-        ensures never { result ≡ false }
-        ensures tells { OnFalse result ⊤ }
+        ensures { result ≡ false }
     {
         false
     }

@@ -1,6 +1,6 @@
 //! `Vec` as a stack: a write pushes, and a read pops.
 
-ghost use Rattle.std.specs.Prelude.{◌≡◌, ◌↔◌, ◌<◌, ◌≤◌, [], ⊤, false, reverse, length, IsTrue, IsOk, vec_capacity};
+ghost use Rattle.std.specs.Prelude.{◌≡◌, ◌↔◌, [], ⊤, false, reverse, length, IsTrue, vec_capacity};
 ghost use Rattle.constriction_sources.specs.Stack.{PopsFrom, PushesTo};
 ghost use Rattle.constriction_sources.specs.StackLaws.{Pops-told, Pops-counted, Pushes-told, tells_all, any_error};
 
@@ -13,9 +13,7 @@ use std::convert::Infallible;
 impl<Word> ReadWords<Word, Stack> for Vec<Word> {
     type ReadError = Infallible;
 
-    ghost read_gives = { λ s r t. PopsFrom 0
-        (record { words = s.items; capacity = vec_capacity s }) r
-        (record { words = t.items; capacity = vec_capacity t }) };
+    ghost read_gives = { PopsFrom (λ s. s.items) vec_capacity 0 };
 
     ghost tells_upcoming = { λ s words. words ≡ reverse s.items };
 
@@ -50,9 +48,7 @@ impl<Word> BoundedReadWords<Word, Stack> for Vec<Word> {
 impl<Word: Drop> WriteWords<Word> for Vec<Word> {
     type WriteError = AllocError;
 
-    ghost write_gives = { λ s w r t. PushesTo 0
-        (record { words = s.items; capacity = vec_capacity s }) w r
-        (record { words = t.items; capacity = vec_capacity t }) };
+    ghost write_gives = { PushesTo (λ s. s.items) vec_capacity 0 };
 
     ghost tells_written = { λ s words. words ≡ s.items };
 

@@ -1,17 +1,8 @@
--- The two sides of a coder's error: what a function is applied to, and what is printed.
+-- The two sides of a coder's error: what a function makes of them, and what is printed.
 use Rattle.std.specs.Prelude.{◌≡◌, ℕ, List, Option, Some, codes}
 use Rattle.std.specs.Fmt.{◌++?◌}
 use Rattle.constriction_words.specs.declared.coder_error.CoderError.{CoderError}
 use Rattle.constriction_words.specs.declared.coder_error.CoderError.TheVariants.{Frontend, Backend}
-
-module _ {F B : Type 0} where
-  -- P holds of the coder's own error, if it is one, in the form of a condition
-  abbrev pub ForFrontend : CoderError F B → (F → Type 0) → Type 0
-  ForFrontend e P = (err : F) → e ≡ Frontend err → P err
-
-  -- P holds of the backend's error, if it is one, in the form of a condition
-  abbrev pub ForBackend : CoderError F B → (B → Type 0) → Type 0
-  ForBackend e P = (err : B) → e ≡ Backend err → P err
 
 -- the coder's own error goes to one that R relates it to, and the backend's stays
 abbrev pub MapsFrontend : {F G B : Type 0} → (F → G → Type 0) → CoderError F B → CoderError G B → Type 0

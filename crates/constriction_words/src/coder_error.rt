@@ -1,8 +1,8 @@
 //! What a coder fails with: an error of its own, or one of its backend.
 
 ghost use Rattle.std.specs.Prelude.{◌≡◌, codes, Some};
-ghost use Rattle.constriction_words.specs.declared.coder_error.CoderError.TheVariants.{Backend};
-ghost use Rattle.constriction_words.specs.CoderError.{ForFrontend, MapsFrontend, ForBackend, MapsBackend, coder_error_text};
+ghost use Rattle.constriction_words.specs.declared.coder_error.CoderError.TheVariants.{Frontend, Backend};
+ghost use Rattle.constriction_words.specs.CoderError.{MapsFrontend, MapsBackend, coder_error_text};
 
 use std::error::Error;
 use std::fmt;
@@ -23,7 +23,7 @@ impl<FrontendError, BackendError> CoderError<FrontendError, BackendError> {
         self,
         f: F,
     ) -> CoderError<NewFrontendError, BackendError>
-        requires { ForFrontend self (F.pre f) }
+        requires { (error : FrontendError) → self ≡ Frontend error → F.pre f error }
         ensures { MapsFrontend (F.post f) self result }
     {
         match self {
@@ -38,7 +38,7 @@ impl<FrontendError, BackendError> CoderError<FrontendError, BackendError> {
         self,
         f: F,
     ) -> CoderError<FrontendError, NewBackendError>
-        requires { ForBackend self (F.pre f) }
+        requires { (error : BackendError) → self ≡ Backend error → F.pre f error }
         ensures { MapsBackend (F.post f) self result }
     {
         match self {

@@ -1,6 +1,6 @@
 //! Lending the words of a cursor for writing.
 
-ghost use Rattle.std.specs.Prelude.{◌≡◌, ◌+◌, ◌++◌, length};
+ghost use Rattle.std.specs.Prelude.{◌≡◌, ◌++◌};
 ghost use Rattle.std.specs.Borrow.{Lends, follows, sem, Array};
 ghost use Rattle.constriction_backends.specs.Cursor.{buf_of, pos_of, state_of, over};
 
@@ -30,7 +30,6 @@ impl<Word, Buf: SafeBufMut<Word>> Cursor<Word, Buf> {
         ensures* writes_back { sem 𝓛 (Lends (the_row Word.row Buf.row Buf.SafeBuf) (Array Word.row 0) self.entry result
             (λ ws. over self.old (Buf.with_words (buf_of self.old) (ws ++ (state_of self.old).after)))) }
         ensures value { result.now ≡ (state_of self.old).before }
-        ensures len { length result.now ≡ pos_of self.old }
     {
         let pos = self.pos;
         part_mut(&mut self.buf, 0, pos)
@@ -43,7 +42,6 @@ impl<Word, Buf: SafeBufMut<Word>> Cursor<Word, Buf> {
         ensures* writes_back { sem 𝓛 (Lends (the_row Word.row Buf.row Buf.SafeBuf) (Array Word.row 0) self.entry result
             (λ ws. over self.old (Buf.with_words (buf_of self.old) ((state_of self.old).before ++ ws)))) }
         ensures value { result.now ≡ (state_of self.old).after }
-        ensures len { pos_of self.old + length result.now ≡ length (Buf.words_of (buf_of self.old)) }
     {
         let pos = self.pos;
         let len = self.buf.words().len();

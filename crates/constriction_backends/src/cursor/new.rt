@@ -1,7 +1,7 @@
 //! Making a cursor.
 
 ghost use Rattle.std.specs.Prelude.{◌≡◌, ◌≤◌, ◌↔◌, length, IfOk, IsOk};
-ghost use Rattle.constriction_backends.specs.Cursor.{buf_of, pos_of};
+ghost use Rattle.constriction_backends.specs.Cursor.{buf_of, pos_of, parts_of};
 
 use crate::cursor::Cursor;
 use constriction_buffers::{SafeBuf, SafeBufMut};
@@ -12,8 +12,7 @@ impl<Word, Buf: SafeBuf<Word>> Cursor<Word, Buf> {
     /// A cursor before the first word: nothing was written, and a queue reads from the beginning.
     #[inline]
     pub fn new_at_write_beginning(buf: Buf) -> Self
-        ensures buf { buf_of result ≡ buf }
-        ensures pos { pos_of result ≡ 0 }
+        ensures { parts_of result ≡ (buf, 0) }
     {
         Cursor {
             buf,
@@ -25,8 +24,7 @@ impl<Word, Buf: SafeBuf<Word>> Cursor<Word, Buf> {
     /// A cursor after the last word: everything was written, and a stack reads from the end.
     #[inline]
     pub fn new_at_write_end(buf: Buf) -> Self
-        ensures buf { buf_of result ≡ buf }
-        ensures pos { pos_of result ≡ length (Buf.words_of buf) }
+        ensures { parts_of result ≡ (buf, length (Buf.words_of buf)) }
     {
         let pos = buf.words().len();
         Cursor {
@@ -43,7 +41,7 @@ impl<Word, Buf: SafeBuf<Word>> Cursor<Word, Buf> {
     where
         Buf: Drop,
         ensures in_range { IsOk result ↔ (pos ≤ length (Buf.words_of buf)) }
-        ensures ok { IfOk result (λ cursor. (buf_of cursor ≡ buf) × (pos_of cursor ≡ pos)) }
+        ensures ok { IfOk result (λ cursor. parts_of cursor ≡ (buf, pos)) }
     {
         if pos > buf.words().len() {
             Err(())
@@ -61,8 +59,7 @@ impl<Word, Buf: SafeBufMut<Word>> Cursor<Word, Buf> {
     /// As [`new_at_write_end`](Cursor::new_at_write_end), over a buffer that can be written.
     #[inline]
     pub fn new_at_write_end_mut(buf: Buf) -> Self
-        ensures buf { buf_of result ≡ buf }
-        ensures pos { pos_of result ≡ length (Buf.words_of buf) }
+        ensures { parts_of result ≡ (buf, length (Buf.words_of buf)) }
     {
         Cursor::new_at_write_end(buf)
     }
@@ -73,7 +70,7 @@ impl<Word, Buf: SafeBufMut<Word>> Cursor<Word, Buf> {
     where
         Buf: Drop,
         ensures in_range { IsOk result ↔ (pos ≤ length (Buf.words_of buf)) }
-        ensures ok { IfOk result (λ cursor. (buf_of cursor ≡ buf) × (pos_of cursor ≡ pos)) }
+        ensures ok { IfOk result (λ cursor. parts_of cursor ≡ (buf, pos)) }
     {
         Cursor::new_at_pos(buf, pos)
     }

@@ -1,7 +1,7 @@
 //! Looking at a cursor, and taking it apart.
 
 ghost use Rattle.std.specs.Prelude.{◌≡◌};
-ghost use Rattle.constriction_backends.specs.Cursor.{buf_of, pos_of, state_of};
+ghost use Rattle.constriction_backends.specs.Cursor.{buf_of, pos_of, parts_of, state_of};
 
 use crate::cursor::Cursor;
 use constriction_buffers::SafeBuf;
@@ -48,7 +48,7 @@ impl<Word, Buf: SafeBuf<Word>> Cursor<Word, Buf> {
     /// The buffer and the position.
     #[inline]
     pub fn into_buf_and_pos(self) -> (Buf, usize)
-        ensures { result ≡ (buf_of self, pos_of self) }
+        ensures { result ≡ parts_of self }
     {
         let Cursor {
             buf,

@@ -1,7 +1,6 @@
 //! A cursor as a source: read backwards as a stack, and forwards as a queue.
 
-ghost use Rattle.std.specs.Prelude.{◌≡◌, ◌≢◌, ◌↔◌, List, [], length, reverse, IsTrue};
-ghost use Rattle.std.specs.Bool.{OnFalse};
+ghost use Rattle.std.specs.Prelude.{◌≡◌, ◌↔◌, [], reverse, IsTrue};
 ghost use Rattle.constriction_backends.specs.Cursor.{buf_of, state_of};
 ghost use Rattle.constriction_backends.specs.CursorState.{StackReads, QueueReads};
 ghost use Rattle.constriction_backends.specs.CursorLaws.{StackReads-told, QueueReads-told};
@@ -30,10 +29,8 @@ impl<Word: Copy, Buf: SafeBuf<Word>> ReadWords<Word, Stack> for Cursor<Word, Buf
     }
 
     #[inline]
-    #[tactic(auto, using(crate::proofs::Ends::stack_not_empty))]
     fn maybe_exhausted(&self) -> bool
-        ensures exhausted { IsTrue result ↔ (length (state_of self.now).before ≡ 0) }
-        ensures told { OnFalse result ((words : List Word) → words ≡ reverse (state_of self.now).before → words ≢ []) }
+        ensures { IsTrue result ↔ ((state_of self.now).before ≡ []) }
     {
         self.pos == 0
     }
@@ -58,10 +55,9 @@ impl<Word: Copy, Buf: SafeBuf<Word>> ReadWords<Word, Queue> for Cursor<Word, Buf
     }
 
     #[inline]
-    #[tactic(auto, using(crate::proofs::Ends::queue_not_empty))]
+    #[tactic(auto, using(crate::proofs::Ends::queue_empty))]
     fn maybe_exhausted(&self) -> bool
-        ensures exhausted { IsTrue result ↔ (length (state_of self.now).after ≡ 0) }
-        ensures told { OnFalse result ((words : List Word) → words ≡ (state_of self.now).after → words ≢ []) }
+        ensures { IsTrue result ↔ ((state_of self.now).after ≡ []) }
     {
         self.pos == self.buf.words().len()
     }

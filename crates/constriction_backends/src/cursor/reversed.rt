@@ -1,8 +1,8 @@
 //! Turning a cursor round, and writing to one that was turned round.
 
-ghost use Rattle.std.specs.Prelude.{◌≡◌, ◌<◌, ◌↔◌, ⊤, true, length, IsOk};
-ghost use Rattle.constriction_backends.specs.Cursor.{buf_of, pos_of, state_of, TurnsRound, WritesBackTo};
-ghost use Rattle.constriction_backends.specs.CursorState.{reversal};
+ghost use Rattle.std.specs.Prelude.{◌≡◌, ◌<◌, ◌↔◌, true, length, IsOk};
+ghost use Rattle.constriction_backends.specs.Cursor.{pos_of, state_of, PutsAt, TurnsRound};
+ghost use Rattle.constriction_backends.specs.CursorState.{reversal, Overwrites};
 ghost use Rattle.constriction_backends.specs.CursorLaws.{Overwrites-told, Overwrites-counts};
 ghost use Rattle.constriction_sources.specs.SinkLaws.{free_is_taken};
 
@@ -47,19 +47,16 @@ fn turned<Word, Buf: SafeBufMut<Word>>(mut cursor: Cursor<Word, Buf>) -> Cursor<
 impl<Word: Drop, Buf: SafeBufMut<Word>> WriteWords<Word> for Reverse<Cursor<Word, Buf>> {
     type WriteError = BoundedWriteError;
 
-    ghost write_gives = { λ s w r t. WritesBackTo s.0 Buf.with_words w r t.0 };
+    // The step of the reversed state, the word is put at the new position, and it is refused exactly where the position is 0.
+    ghost write_gives = { λ s w r t. Overwrites (reversal (state_of s.0)) w r (reversal (state_of t.0))
+        × PutsAt s.0 Buf.with_words (pos_of t.0) w r t.0 × (IsOk r ↔ (0 < pos_of s.0)) };
 
     ghost tells_written = { λ s words. (reversal (state_of s.0)).before ≡ words };
 
     ghost has_room = { λ s. 0 < length (reversal (state_of s.0)).after };
 
     #[inline]
-    fn write(&mut self, word: Word) -> Result<(), BoundedWriteError>
-        ensures gives { WritesBackTo self.old.0 Buf.with_words word result self.new.0 }
-        ensures goes_on { ⊤ }
-        ensures room { IsOk result ↔ (0 < pos_of self.old.0) }
-        ensures kept { buf_of self.new.0 ≡ Buf.with_words (buf_of self.old.0) (Buf.words_of (buf_of self.new.0)) }
-    {
+    fn write(&mut self, word: Word) -> Result<(), BoundedWriteError> {
         let cursor = &mut self.0;
         if cursor.pos == 0 {
             return Err(BoundedWriteError::OutOfSpace);

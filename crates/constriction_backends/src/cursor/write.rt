@@ -1,7 +1,7 @@
 //! A cursor as a sink: a write overwrites the word at the position.
 
-ghost use Rattle.std.specs.Prelude.{◌≡◌, ◌<◌, ◌↔◌, ⊤, true, length, IsOk};
-ghost use Rattle.constriction_backends.specs.Cursor.{buf_of, pos_of, state_of, WritesTo};
+ghost use Rattle.std.specs.Prelude.{◌≡◌, ◌<◌, true, length};
+ghost use Rattle.constriction_backends.specs.Cursor.{state_of, WritesTo};
 ghost use Rattle.constriction_backends.specs.CursorLaws.{Overwrites-told, Overwrites-counts};
 ghost use Rattle.constriction_sources.specs.SinkLaws.{free_is_taken};
 
@@ -20,12 +20,7 @@ impl<Word: Drop, Buf: SafeBufMut<Word>> WriteWords<Word> for Cursor<Word, Buf> {
     ghost has_room = { λ s. 0 < length (state_of s).after };
 
     #[inline]
-    fn write(&mut self, word: Word) -> Result<(), BoundedWriteError>
-        ensures gives { WritesTo self.old Buf.with_words word result self.new }
-        ensures goes_on { ⊤ }
-        ensures room { IsOk result ↔ (pos_of self.old < length (Buf.words_of (buf_of self.old))) }
-        ensures kept { buf_of self.new ≡ Buf.with_words (buf_of self.old) (Buf.words_of (buf_of self.new)) }
-    {
+    fn write(&mut self, word: Word) -> Result<(), BoundedWriteError> {
         let pos = self.pos;
         if pos >= self.buf.words().len() {
             return Err(BoundedWriteError::OutOfSpace);

@@ -21,8 +21,7 @@ impl<Word, E, C: FnMut(Word) -> Result<(), E>> FallibleCallbackWriteWords<Word, 
     #[inline]
     pub fn new(write_callback: C) -> Self
         requires { C.IsAlwaysCallable write_callback }
-        ensures callback { result.write_callback ≡ write_callback }
-        ensures callable { C.IsAlwaysCallable result.write_callback }
+        ensures { result.write_callback ≡ write_callback }
     {
         Self {
             write_callback,

@@ -26,9 +26,7 @@ impl<Word, const N: usize, A: Allocator> Pos for SmallVec<Word, N, A> {
 
 /// Going back drops the words from the position on, for good: there is no going forward again.
 impl<Word: MadeWith<A> + Drop, const N: usize, A: Allocator + Copy> Seek for SmallVec<Word, N, A> {
-    ghost seek_gives = { λ s pos r t. RewindsIn N
-        (record { words = s.items; capacity = s.capacity }) pos r
-        (record { words = t.items; capacity = t.capacity }) };
+    ghost seek_gives = { RewindsIn (λ s. s.items) (λ s. s.capacity) N };
 
     #[inline]
     fn seek(&mut self, pos: usize) -> Result<(), ()> {

@@ -23,9 +23,7 @@ impl<Word> Pos for Vec<Word> {
 
 /// Going back drops the words from the position on, for good: there is no going forward again.
 impl<Word: Drop> Seek for Vec<Word> {
-    ghost seek_gives = { λ s pos r t. RewindsIn 0
-        (record { words = s.items; capacity = vec_capacity s }) pos r
-        (record { words = t.items; capacity = vec_capacity t }) };
+    ghost seek_gives = { RewindsIn (λ s. s.items) vec_capacity 0 };
 
     #[inline]
     fn seek(&mut self, pos: usize) -> Result<(), ()> {

@@ -14,7 +14,7 @@ returns-in-Ok-read_table-clause-rows g c =
     let weights = map (λ (r : Row g.row.M-Symbol.Denot). r.weight) rows in
     let source = c.new_at_write_beginning-source in
     let coming : table_words weights ≡ drop source.result.pos source.result.buf.items =
-    rw (source.ensures.pos, source.ensures.buf) (c.in-Ok.ensures.told _ (sym c.new-words.ensures.items)) in
+    rw (ap (λ p. p.1) source.ensures, ap (λ p. p.0) source.ensures) (c.in-Ok.ensures.told _ (sym c.new-words.ensures.items)) in
     let table = c.in-Ok-read_table.ensures.ok in
     let read = table.reads.told (table_words weights) coming in
     let same : table.weights ≡ weights = same-weights weights table.weights read.0 read.1 in
@@ -27,7 +27,7 @@ returns-clause-whole g c = λ is.
     let weights = map (λ (r : Row g.row.M-Symbol.Denot). r.weight) (g.M.EntropyModel.rows c.args.model) in
     let source = c.new_at_write_beginning-source in
     let coming : table_words weights ≡ drop source.result.pos source.result.buf.items =
-    rw (source.ensures.pos, source.ensures.buf) (c.in-Ok.ensures.told _ (sym c.new-words.ensures.items)) in
+    rw (ap (λ p. p.1) source.ensures, ap (λ p. p.0) source.ensures) (c.in-Ok.ensures.told _ (sym c.new-words.ensures.items)) in
     let same : c.in-Err-read_table.error ≡ CoderError.Frontend TooFewWords = cc in
     let short : length weights < length weights = c.in-Err-read_table.ensures.short (ap Err same) (table_words weights) coming in
     absurd (omega arith)
@@ -38,7 +38,7 @@ returns-clause-accepted g c = λ is distinct.
     let weights = map (λ (r : Row g.row.M-Symbol.Denot). r.weight) rows in
     let source = c.new_at_write_beginning-source in
     let coming : table_words weights ≡ drop source.result.pos source.result.buf.items =
-    rw (source.ensures.pos, source.ensures.buf) (c.in-Ok.ensures.told _ (sym c.new-words.ensures.items)) in
+    rw (ap (λ p. p.1) source.ensures, ap (λ p. p.0) source.ensures) (c.in-Ok.ensures.told _ (sym c.new-words.ensures.items)) in
     let same : c.in-Err-read_table.error ≡ CoderError.Frontend NotAccepted = cc in
     let table = c.in-Err-read_table.ensures.not_accepted (ap Err same) in
     let read = table.1.told (table_words weights) coming in

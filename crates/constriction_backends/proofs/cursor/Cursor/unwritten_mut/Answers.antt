@@ -1,5 +1,4 @@
-use Rattle.std.proofs.Common.{ap, ◌≡◌, ◌+◌, ◌-◌, arith, length, drop, ℕ}
-use Rattle.std.proofs.lemmas.List.{length-drop}
+use Rattle.std.proofs.Common.{ap, ◌≡◌, length, drop, ℕ}
 use Rattle.constriction_backends.proofs.Parts.{with_part-end, part-end}
 use Rattle.constriction_backends.proofs.Over.{over_known}
 use Rattle.constriction_backends.proofs.cursor.Cursor.unwritten_mut.Goals as goal
@@ -10,10 +9,7 @@ returns g c =
     let words = g.Buf.SafeBuf.words_of self.buf in
     let to : ℕ = length c.words-len.result.now in
     let end : to ≡ length words = ap length c.words-len.ensures in
-    let value : c.part_mut.result.now ≡ drop self.pos words = cc (c.part_mut.ensures.value, part-end words self.pos to end) in
-    let many : length c.part_mut.result.now ≡ length words - self.pos = rw value (length-drop self.pos words) in
-    let in_range = self.in_range in
-    let len : self.pos + length c.part_mut.result.now ≡ length words = omega arith in (
+    let value : c.part_mut.result.now ≡ drop self.pos words = cc (c.part_mut.ensures.value, part-end words self.pos to end) in (
       ((cc), λ w. search (over_known self, ap (g.Buf.SafeBufMut.with_words self.buf) (with_part-end words self.pos to w end))),
-      record { writes_back = tt; value = value; len = len },
+      record { writes_back = tt; value = value },
     )

@@ -1,5 +1,4 @@
 use Rattle.std.proofs.Common.{◌≡◌, take, drop, ◌++◌}
-use Rattle.std.proofs.lemmas.List.{length-take-le}
 use Rattle.constriction_backends.proofs.Parts.{part-begin}
 use Rattle.constriction_backends.proofs.Over.{over_in_range}
 use Rattle.constriction_backends.proofs.cursor.Cursor.written_mut.Goals as goal
@@ -10,5 +9,5 @@ returns g c =
     let words = g.Buf.SafeBuf.words_of self.buf in
     let value : c.part_mut.result.now ≡ take self.pos words = cc (c.part_mut.ensures.value, part-begin words self.pos) in (
       ((cc), λ w. search (over_in_range self (g.Buf.SafeBufMut.with_words self.buf (w ++ drop self.pos words)))),
-      record { writes_back = tt; value = value; len = rw value (length-take-le self.pos words self.in_range) },
+      record { writes_back = tt; value = value },
     )
