@@ -1,10 +1,8 @@
 //! Models that are made from any model that can be walked through.
 
 ghost use Rattle.std.specs.Prelude.{◌≡◌, ◌<◌, ◌≤◌, IfOk, IfErr, ⊤};
-ghost use Rattle.std.specs.List.{IsDistinct};
 ghost use Rattle.constriction_model.specs.Entries.{HoldsEntriesOf};
-ghost use Rattle.constriction_model.specs.Model.{StandForRows, ClonesRepeat};
-ghost use Rattle.constriction_model.specs.Rows.{symbols_of};
+ghost use Rattle.constriction_model.specs.Model.{StandApart, ClonesRepeat};
 
 use crate::hashed::NonContiguousCategoricalEncoderModel;
 use crate::iterable::IterableEntropyModel;
@@ -63,10 +61,7 @@ where
     M: IterableEntropyModel<PRECISION>,
     M::Symbol: Eq + Drop,
 {
-    ghost tells = { λ m d. StandForRows M.stands_for
-        (⟦<NonContiguousCategoricalDecoderModel<M::Symbol, M::Probability, Vec<(M::Probability, M::Symbol)>, PRECISION> as EntropyModel<PRECISION>>⟧.rows d) (M.rows m)
-        × IsDistinct M.Symbol.eq (symbols_of
-        (⟦<NonContiguousCategoricalDecoderModel<M::Symbol, M::Probability, Vec<(M::Probability, M::Symbol)>, PRECISION> as EntropyModel<PRECISION>>⟧.rows d)) };
+    ghost tells = { λ m d. StandApart M.Symbol.eq M.stands_for (⟦<Self as EntropyModel<PRECISION>>⟧.rows d) (M.rows m) };
 
     ghost refuses = { λ m. ClonesRepeat M.Symbol.eq M.stands_for (M.rows m) };
 
@@ -92,10 +87,7 @@ where
     M::Symbol: Eq + Drop,
     M::Probability: IndexWord,
 {
-    ghost tells = { λ m d. StandForRows M.stands_for
-        (⟦<SlottedNonContiguousLookupDecoderModel<M::Symbol, M::Probability, Vec<(M::Probability, M::Symbol)>, Vec<M::Probability>, PRECISION, SLOT_BITS> as EntropyModel<PRECISION>>⟧.rows d) (M.rows m)
-        × IsDistinct M.Symbol.eq (symbols_of
-        (⟦<SlottedNonContiguousLookupDecoderModel<M::Symbol, M::Probability, Vec<(M::Probability, M::Symbol)>, Vec<M::Probability>, PRECISION, SLOT_BITS> as EntropyModel<PRECISION>>⟧.rows d)) };
+    ghost tells = { λ m d. StandApart M.Symbol.eq M.stands_for (⟦<Self as EntropyModel<PRECISION>>⟧.rows d) (M.rows m) };
 
     ghost refuses = { λ m. ClonesRepeat M.Symbol.eq M.stands_for (M.rows m) };
 
@@ -114,9 +106,7 @@ where
     M: IterableEntropyModel<PRECISION>,
     M::Symbol: Hash + Eq + Drop,
 {
-    ghost tells = { λ m e. HoldsEntriesOf M.Symbol.eq M.stands_for
-        (⟦<NonContiguousCategoricalEncoderModel<M::Symbol, M::Probability, PRECISION> as EntropyModel<PRECISION>>⟧.rows e)
-        (M.rows m) };
+    ghost tells = { λ m e. HoldsEntriesOf M.Symbol.eq M.stands_for (⟦<Self as EntropyModel<PRECISION>>⟧.rows e) (M.rows m) };
 
     ghost refuses = { λ _. ⊥ };
 
@@ -154,10 +144,9 @@ where
     M::Symbol: Eq + Drop,
     requires positive { 0 < PRECISION }
     requires fits { PRECISION ≤ M.Probability.BITS }
-    ensures ok { IfOk result (λ d. StandForRows M.stands_for
-        (⟦<NonContiguousCategoricalDecoderModel<M::Symbol, M::Probability, Vec<(M::Probability, M::Symbol)>, PRECISION> as EntropyModel<PRECISION>>⟧.rows d) (M.rows model)
-        × IsDistinct M.Symbol.eq (symbols_of
-        (⟦<NonContiguousCategoricalDecoderModel<M::Symbol, M::Probability, Vec<(M::Probability, M::Symbol)>, PRECISION> as EntropyModel<PRECISION>>⟧.rows d))) }
+    ensures ok { IfOk result (λ d. StandApart M.Symbol.eq M.stands_for
+        (⟦<NonContiguousCategoricalDecoderModel<M::Symbol, M::Probability, Vec<(M::Probability, M::Symbol)>, PRECISION> as EntropyModel<PRECISION>>⟧.rows d)
+        (M.rows model)) }
     ensures invalid { result ≡ Err ModelError.InvalidTable → ClonesRepeat M.Symbol.eq M.stands_for (M.rows model) }
 {
     let cdf = entries_walked::<_, _, _, _, PRECISION>(alloc, model.symbol_table())?;
@@ -198,10 +187,9 @@ where
     requires positive { 0 < PRECISION }
     requires narrow { PRECISION ≤ 63 }
     requires fits { PRECISION ≤ M.Probability.BITS }
-    ensures ok { IfOk result (λ d. StandForRows M.stands_for
-        (⟦<NonContiguousLookupDecoderModel<M::Symbol, M::Probability, Vec<(M::Probability, M::Symbol)>, Vec<M::Probability>, PRECISION> as EntropyModel<PRECISION>>⟧.rows d) (M.rows model)
-        × IsDistinct M.Symbol.eq (symbols_of
-        (⟦<NonContiguousLookupDecoderModel<M::Symbol, M::Probability, Vec<(M::Probability, M::Symbol)>, Vec<M::Probability>, PRECISION> as EntropyModel<PRECISION>>⟧.rows d))) }
+    ensures ok { IfOk result (λ d. StandApart M.Symbol.eq M.stands_for
+        (⟦<NonContiguousLookupDecoderModel<M::Symbol, M::Probability, Vec<(M::Probability, M::Symbol)>, Vec<M::Probability>, PRECISION> as EntropyModel<PRECISION>>⟧.rows d)
+        (M.rows model)) }
     ensures invalid { result ≡ Err ModelError.InvalidTable → ClonesRepeat M.Symbol.eq M.stands_for (M.rows model) }
 {
     to_generic_slotted_lookup_decoder_model::<M, PRECISION, 8>(alloc, model)
@@ -229,10 +217,9 @@ where
     requires positive { 0 < PRECISION }
     requires narrow { PRECISION ≤ 63 }
     requires fits { PRECISION ≤ M.Probability.BITS }
-    ensures ok { IfOk result (λ d. StandForRows M.stands_for
-        (⟦<SlottedNonContiguousLookupDecoderModel<M::Symbol, M::Probability, Vec<(M::Probability, M::Symbol)>, Vec<M::Probability>, PRECISION, SLOT_BITS> as EntropyModel<PRECISION>>⟧.rows d) (M.rows model)
-        × IsDistinct M.Symbol.eq (symbols_of
-        (⟦<SlottedNonContiguousLookupDecoderModel<M::Symbol, M::Probability, Vec<(M::Probability, M::Symbol)>, Vec<M::Probability>, PRECISION, SLOT_BITS> as EntropyModel<PRECISION>>⟧.rows d))) }
+    ensures ok { IfOk result (λ d. StandApart M.Symbol.eq M.stands_for
+        (⟦<SlottedNonContiguousLookupDecoderModel<M::Symbol, M::Probability, Vec<(M::Probability, M::Symbol)>, Vec<M::Probability>, PRECISION, SLOT_BITS> as EntropyModel<PRECISION>>⟧.rows d)
+        (M.rows model)) }
     ensures invalid { result ≡ Err ModelError.InvalidTable → ClonesRepeat M.Symbol.eq M.stands_for (M.rows model) }
 {
     let searching = to_generic_decoder_model::<M, PRECISION>(alloc, model)?;

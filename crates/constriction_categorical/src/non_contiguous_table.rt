@@ -58,12 +58,9 @@ impl<'m, Symbol: Clone, Probability: WholeNumber, const PRECISION: usize> Iterat
     /// How many rows are left, exactly.
     #[inline]
     fn size_hint(&self) -> (usize, Option<usize>)
-        ensures lower { IsWithinCount result.0
-            (⟦<NonContiguousSymbolTable<'m, Symbol, Probability, PRECISION> as Iterator>⟧.remaining self.now) }
-        ensures upper { IfSome result.1 (UpTo
-            (⟦<NonContiguousSymbolTable<'m, Symbol, Probability, PRECISION> as Iterator>⟧.remaining self.now)) }
-        ensures exact { IsExactHint result
-            (size (⟦<NonContiguousSymbolTable<'m, Symbol, Probability, PRECISION> as Iterator>⟧.remaining self.now)) }
+        ensures lower { IsWithinCount result.0 (⟦<Self as Iterator>⟧.remaining self.now) }
+        ensures upper { IfSome result.1 (UpTo (⟦<Self as Iterator>⟧.remaining self.now)) }
+        ensures exact { IsExactHint result (size (⟦<Self as Iterator>⟧.remaining self.now)) }
     {
         let size = self.len();
         (size, Some(size))

@@ -54,12 +54,9 @@ impl<'m, Probability: WholeNumber, const PRECISION: usize> Iterator
     /// How many rows are left, exactly.
     #[inline]
     fn size_hint(&self) -> (usize, Option<usize>)
-        ensures lower { IsWithinCount result.0
-            (⟦<ContiguousSymbolTable<'m, Probability, PRECISION> as Iterator>⟧.remaining self.now) }
-        ensures upper { IfSome result.1 (UpTo
-            (⟦<ContiguousSymbolTable<'m, Probability, PRECISION> as Iterator>⟧.remaining self.now)) }
-        ensures exact { IsExactHint result
-            (size (⟦<ContiguousSymbolTable<'m, Probability, PRECISION> as Iterator>⟧.remaining self.now)) }
+        ensures lower { IsWithinCount result.0 (⟦<Self as Iterator>⟧.remaining self.now) }
+        ensures upper { IfSome result.1 (UpTo (⟦<Self as Iterator>⟧.remaining self.now)) }
+        ensures exact { IsExactHint result (size (⟦<Self as Iterator>⟧.remaining self.now)) }
     {
         let size = self.len();
         (size, Some(size))

@@ -23,15 +23,7 @@ impl<Probability: WholeNumber, const PRECISION: usize> IterableEntropyModel<PREC
     /// All rows in order, each once: symbol, left cumulative and weight. It takes no memory, and
     /// every item is a row.
     #[inline]
-    fn symbol_table(self) -> UniformSymbolTable<Probability, PRECISION>
-        ensures all { ⟦<UniformModel<Probability, PRECISION> as IterableEntropyModel<PRECISION>>⟧.rows_left result
-            ≡ ⟦<UniformModel<Probability, PRECISION> as EntropyModel<PRECISION>>⟧.rows self }
-        ensures callable { ⟦<UniformSymbolTable<Probability, PRECISION> as Iterator>⟧.can_next result }
-        ensures ends { UpTo (⟦<UniformSymbolTable<Probability, PRECISION> as Iterator>⟧.remaining result)
-            (length (⟦<UniformModel<Probability, PRECISION> as EntropyModel<PRECISION>>⟧.rows self)) }
-        ensures counted { size (⟦<UniformSymbolTable<Probability, PRECISION> as Iterator>⟧.remaining result)
-            ≡ length (⟦<UniformModel<Probability, PRECISION> as EntropyModel<PRECISION>>⟧.rows self) }
-    {
+    fn symbol_table(self) -> UniformSymbolTable<Probability, PRECISION> {
         UniformSymbolTable::new(self)
     }
 

@@ -61,12 +61,9 @@ impl<Probability: WholeNumber, const PRECISION: usize> Iterator
     /// How many rows are left, exactly.
     #[inline]
     fn size_hint(&self) -> (usize, Option<usize>)
-        ensures lower { IsWithinCount result.0
-            (⟦<UniformSymbolTable<Probability, PRECISION> as Iterator>⟧.remaining self.now) }
-        ensures upper { IfSome result.1 (UpTo
-            (⟦<UniformSymbolTable<Probability, PRECISION> as Iterator>⟧.remaining self.now)) }
-        ensures exact { IsExactHint result
-            (size (⟦<UniformSymbolTable<Probability, PRECISION> as Iterator>⟧.remaining self.now)) }
+        ensures lower { IsWithinCount result.0 (⟦<Self as Iterator>⟧.remaining self.now) }
+        ensures upper { IfSome result.1 (UpTo (⟦<Self as Iterator>⟧.remaining self.now)) }
+        ensures exact { IsExactHint result (size (⟦<Self as Iterator>⟧.remaining self.now)) }
     {
         let size = self.len();
         (size, Some(size))
