@@ -75,8 +75,8 @@ impl<Probability: WholeNumber, const PRECISION: usize> ContiguousCategoricalEntr
         requires positive { 0 < PRECISION }
         requires fits { PRECISION ≤ Probability.BITS }
         requires ends { IsFiniteIterable I.into_iter_gives I.IntoIter.can_next I.IntoIter.remaining probabilities }
-        ensures { IsMadeOfWeights (completed PRECISION infer_last_probability) Probability.whole
-            (WasReadOf I.into_iter_gives I.IntoIter.next_gives probabilities) (IsAccepted Probability.BITS PRECISION)
+        ensures { IsMadeOfWeights (IsAccepted Probability.BITS PRECISION) (completed PRECISION infer_last_probability)
+            (WasReadOf I.into_iter_gives I.IntoIter.next_gives probabilities) Probability.whole
             (λ m ws. ⟦<Self as EntropyModel<PRECISION>>⟧.rows m ≡ contiguous_rows ws) result }
     {
         let cdf = table_of::<Probability, I, PRECISION>(
@@ -208,10 +208,6 @@ impl<Probability: WholeNumber, Cdf: SafeBuf<Probability>, const PRECISION: usize
 impl<Probability: WholeNumber, Cdf: SafeBuf<Probability>, const PRECISION: usize> DecoderModel<
     PRECISION,
 > for ContiguousCategoricalEntropyModel<Probability, Cdf, PRECISION> {
-    ghost stands_for = { λ s t. t ≡ s };
-
-    ghost may_refuse = { λ _. ⊥ };
-
     /// The row of a quantile, by a search ([`SearchingModel`]). It takes no memory and always succeeds.
     #[inline(always)]
     fn quantile_function(
@@ -252,10 +248,6 @@ impl<
 > IterableEntropyModel<PRECISION>
     for &'m ContiguousCategoricalEntropyModel<Probability, Cdf, PRECISION> {
     type SymbolTable = ContiguousSymbolTable<'m, Probability, PRECISION>;
-
-    ghost stands_for = { λ s t. t ≡ s };
-
-    ghost may_refuse = { λ _. ⊥ };
 
     ghost rows_left = { λ t. rows_stored PRECISION (map Probability.whole t.cdf.now) t.from t.to };
 

@@ -124,10 +124,9 @@ impl<
         requires fits { PRECISION ≤ Probability.BITS }
         requires symbols_end { IsFiniteIterable S.into_iter_gives S.IntoIter.can_next S.IntoIter.remaining symbols }
         requires probabilities_end { IsFiniteIterable P.into_iter_gives P.IntoIter.can_next P.IntoIter.remaining probabilities }
-        ensures { IsMadeOfBoth (completed PRECISION infer_last_probability) Probability.whole
-            (WasReadOf P.into_iter_gives P.IntoIter.next_gives probabilities)
-            (WasReadOf S.into_iter_gives S.IntoIter.next_gives symbols) (AreAccepted Symbol.eq Probability.BITS PRECISION)
-            (λ m ss ws. SameEntries Symbol.eq (⟦<Self as EntropyModel<PRECISION>>⟧.rows m) (rows_of ss ws)
+        ensures { IsMadeOfBoth (AreAccepted Symbol.eq Probability.BITS PRECISION) (completed PRECISION infer_last_probability)
+            (WasReadOf S.into_iter_gives S.IntoIter.next_gives symbols) (WasReadOf P.into_iter_gives P.IntoIter.next_gives probabilities)
+            Probability.whole (λ m ss ws. SameEntries Symbol.eq (⟦<Self as EntropyModel<PRECISION>>⟧.rows m) (rows_of ss ws)
             × (length (⟦<Self as EntropyModel<PRECISION>>⟧.rows m) ≡ length ss)) result }
     {
         let symbols = symbols.into_iter();

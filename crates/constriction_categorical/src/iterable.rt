@@ -22,11 +22,11 @@ pub trait IterableEntropyModel<const PRECISION: usize>: EntropyModel<PRECISION> 
     >;
 
     // That the second symbol stands for the first one, as an item's does for that of its row. Of a table of clones it is what the
-    // symbols' type says of a clone, and of one that makes none it is equality.
-    ghost stands_for: { Self.Symbol → Self.Symbol → Type 0 };
+    // symbols' type says of a clone. Where an implementer says nothing, it makes none, and this is equality.
+    ghost stands_for: { Self.Symbol → Self.Symbol → Type 0 } = { λ s t. t ≡ s };
 
-    // That a row with this symbol may be refused, for want of memory. Of a table that takes none it is ⊥.
-    ghost may_refuse: { Self.Symbol → Type 0 };
+    // That a row with this symbol may be refused, for want of memory. None may be, where an implementer says nothing else.
+    ghost may_refuse: { Self.Symbol → Type 0 } = { λ _. ⊥ };
 
     // The rows that a table has yet to give.
     ghost rows_left: { Self.SymbolTable → List (Row Self.Symbol) };

@@ -75,8 +75,8 @@ impl<
         requires narrow { PRECISION ≤ 63 }
         requires fits { PRECISION ≤ Probability.BITS }
         requires ends { IsFiniteIterable I.into_iter_gives I.IntoIter.can_next I.IntoIter.remaining probabilities }
-        ensures { IsMadeOfWeights (completed PRECISION infer_last_probability) Probability.whole
-            (WasReadOf I.into_iter_gives I.IntoIter.next_gives probabilities) (IsAccepted Probability.BITS PRECISION)
+        ensures { IsMadeOfWeights (IsAccepted Probability.BITS PRECISION) (completed PRECISION infer_last_probability)
+            (WasReadOf I.into_iter_gives I.IntoIter.next_gives probabilities) Probability.whole
             (λ m ws. ⟦<Self as EntropyModel<PRECISION>>⟧.rows m ≡ contiguous_rows ws) result }
     {
         let model = ContiguousCategoricalEntropyModel::<
@@ -208,10 +208,6 @@ impl<
         SLOT_BITS,
     > {
     type SymbolTable = ContiguousSymbolTable<'m, Probability, PRECISION>;
-
-    ghost stands_for = { λ s t. t ≡ s };
-
-    ghost may_refuse = { λ _. ⊥ };
 
     ghost rows_left = { λ t. rows_stored PRECISION (map Probability.whole t.cdf.now) t.from t.to };
 

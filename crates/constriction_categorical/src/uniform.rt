@@ -14,10 +14,6 @@ impl<Probability: WholeNumber, const PRECISION: usize> IterableEntropyModel<PREC
     for UniformModel<Probability, PRECISION> {
     type SymbolTable = UniformSymbolTable<Probability, PRECISION>;
 
-    ghost stands_for = { λ s t. t ≡ s };
-
-    ghost may_refuse = { λ _. ⊥ };
-
     ghost rows_left = { λ t. rows_between t.from t.to (uniform_rows PRECISION (Probability.whole t.model.last_symbol + 1)) };
 
     /// All rows in order, each once: symbol, left cumulative and weight. It takes no memory, and

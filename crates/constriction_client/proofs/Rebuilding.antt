@@ -33,8 +33,8 @@ module _ {J S K T Symbol Word Model : Type 0} (becomes : J → S → Type 0) (st
     (gives : (it : S) → becomes from it → YieldsList steps (λ y. y) it symbols)
     (other_gives : (jt : T) → other_becomes other jt → YieldsList other_steps (λ y. y) jt weights)
     (rows : Model → List (Row Symbol)) (r : Result Model ModelError)
-    (made : IsMadeOfBoth (completed precision false) whole (WasReadOf other_becomes other_steps other) (WasReadOf becomes steps from)
-    (AreAccepted eq bits precision) (λ m ss ws. rows m ≡ rows_of ss ws) r) where
+    (made : IsMadeOfBoth (AreAccepted eq bits precision) (completed precision false) (WasReadOf becomes steps from)
+    (WasReadOf other_becomes other_steps other) whole (λ m ss ws. rows m ≡ rows_of ss ws) r) where
   -- its model has the rows of these
   pub made-of-them : IfOk r (λ m. rows m ≡ rows_of symbols (map whole weights))
   made-of-them =

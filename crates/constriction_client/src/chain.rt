@@ -91,10 +91,10 @@ fn from_lists<Symbol: Eq + Drop, Probability: WholeNumber, const PRECISION: usiz
     requires fits { PRECISION ≤ Probability.BITS }
     requires distinct { GivesDistinct ⟦<Vec<Symbol> as IntoIterator>⟧.into_iter_gives
         ⟦<IntoIter<Symbol> as Iterator>⟧.next_gives Symbol.eq symbols }
-    ensures { IsMadeOfBoth (completed PRECISION false) Probability.whole
-        (WasReadOf ⟦<Vec<Probability> as IntoIterator>⟧.into_iter_gives ⟦<IntoIter<Probability> as Iterator>⟧.next_gives weights)
+    ensures { IsMadeOfBoth (AreAccepted Symbol.eq Probability.BITS PRECISION) (completed PRECISION false)
         (WasReadOf ⟦<Vec<Symbol> as IntoIterator>⟧.into_iter_gives ⟦<IntoIter<Symbol> as Iterator>⟧.next_gives symbols)
-        (AreAccepted Symbol.eq Probability.BITS PRECISION)
+        (WasReadOf ⟦<Vec<Probability> as IntoIterator>⟧.into_iter_gives ⟦<IntoIter<Probability> as Iterator>⟧.next_gives weights)
+        Probability.whole
         (λ m ss ws. ⟦<Searching<Symbol, Probability, PRECISION> as EntropyModel<PRECISION>>⟧.rows m ≡ rows_of ss ws) result }
 {
     Searching::from_distinct_symbols_and_nonzero_fixed_point_probabilities(

@@ -52,26 +52,27 @@ abbrev pub MayGive : {A : Type 0} → Reading → List A → List A → Type 0
 MayGive ToItsEnd xs all = all ≡ xs
 MayGive {A} SoFar xs all = (ys : List A) × (all ≡ xs ++ ys)
 
--- Of `Read` it is known what was read of weights: of these `completes` makes the numbers that are judged and told.
-module _ {Word Model : Type 0} (completes : List ℕ → List ℕ) (whole : Word → ℕ) (Read : Reading → List Word → Type 0) where
-  -- A model was made of weights that were read to their end: they are accepted, and it tells what `Tells` says of them. They are invalid
-  -- only where they are not accepted, whatever might follow what was read of them.
-  pub record IsMadeOfWeights (Accepted : List ℕ → Type 0) (Tells : Model → List ℕ → Type 0) (result : Result Model ModelError)
-      : Type 0 where
-    pub ok : IfOk result (λ m. (ws : List Word) × Read ToItsEnd ws
-        × Accepted (completes (map whole ws)) × Tells m (completes (map whole ws)))
-    pub invalid : result ≡ Err InvalidTable → (ws : List Word) × (reading : Reading) × Read reading ws
-        × ((all : List Word) → MayGive reading ws all → ¬ (Accepted (completes (map whole all))))
+-- A model was made of weights that were read to their end: they are accepted, and it tells what `Tells` says of them. They are invalid
+-- only where they are not accepted, whatever might follow what was read of them. Of the numbers that are read, `completes` makes those that
+-- are judged and told.
+pub record IsMadeOfWeights {Word Model : Type 0} (Accepted : List ℕ → Type 0) (completes : List ℕ → List ℕ)
+    (Read : Reading → List Word → Type 0) (whole : Word → ℕ) (Tells : Model → List ℕ → Type 0) (result : Result Model ModelError)
+    : Type 0 where
+  pub ok : IfOk result (λ m. (ws : List Word) × Read ToItsEnd ws
+      × Accepted (completes (map whole ws)) × Tells m (completes (map whole ws)))
+  pub invalid : result ≡ Err InvalidTable → (ws : List Word) × (reading : Reading) × Read reading ws
+      × ((all : List Word) → MayGive reading ws all → ¬ (Accepted (completes (map whole all))))
 
-  -- the same of symbols and weights
-  pub record IsMadeOfBoth {Symbol : Type 0} (ReadSymbols : Reading → List Symbol → Type 0) (Accepted : List Symbol → List ℕ → Type 0)
-      (Tells : Model → List Symbol → List ℕ → Type 0) (result : Result Model ModelError) : Type 0 where
-    pub ok : IfOk result (λ m. (ss : List Symbol) × (ws : List Word) × ReadSymbols ToItsEnd ss × Read ToItsEnd ws
-        × Accepted ss (completes (map whole ws)) × Tells m ss (completes (map whole ws)))
-    pub invalid : result ≡ Err InvalidTable
-        → (ss : List Symbol) × (ws : List Word) × (reading other : Reading) × ReadSymbols reading ss × Read other ws
-        × ((all : List Symbol) (weights : List Word) → MayGive reading ss all → MayGive other ws weights
-        → ¬ (Accepted all (completes (map whole weights))))
+-- the same of symbols and weights
+pub record IsMadeOfBoth {Symbol Word Model : Type 0} (Accepted : List Symbol → List ℕ → Type 0) (completes : List ℕ → List ℕ)
+    (ReadSymbols : Reading → List Symbol → Type 0) (Read : Reading → List Word → Type 0) (whole : Word → ℕ)
+    (Tells : Model → List Symbol → List ℕ → Type 0) (result : Result Model ModelError) : Type 0 where
+  pub ok : IfOk result (λ m. (ss : List Symbol) × (ws : List Word) × ReadSymbols ToItsEnd ss × Read ToItsEnd ws
+      × Accepted ss (completes (map whole ws)) × Tells m ss (completes (map whole ws)))
+  pub invalid : result ≡ Err InvalidTable
+      → (ss : List Symbol) × (ws : List Word) × (reading other : Reading) × ReadSymbols reading ss × Read other ws
+      × ((all : List Symbol) (weights : List Word) → MayGive reading ss all → MayGive other ws weights
+      → ¬ (Accepted all (completes (map whole weights))))
 
 -- no two symbols of a list that an iterator gives are equal, whichever iterator the argument becomes
 abbrev pub GivesDistinct : {J S Symbol : Type 0} → (J → S → Type 0) → (S → Option Symbol → S → Type 0) → (Symbol → Symbol → Bool) → J → Type 0

@@ -59,7 +59,7 @@ module _ {J S Word Model : Type 0} (becomes : J → S → Type 0) (steps : S →
     (completes : List ℕ → List ℕ) (whole : Word → ℕ) (Accepted : List ℕ → Type 0) (Tells : Model → List ℕ → Type 0) where
   -- a model is that of the list, which is accepted
   pub made-of-list : (r : Result Model ModelError)
-      → IsMadeOfWeights completes whole (WasReadOf becomes steps from) Accepted Tells r
+      → IsMadeOfWeights Accepted completes (WasReadOf becomes steps from) whole Tells r
       → IfOk r (λ m. Accepted (completes (map whole list)) × Tells m (completes (map whole list)))
   made-of-list (Ok m) made =
       let given = made.ok in
@@ -69,7 +69,7 @@ module _ {J S Word Model : Type 0} (becomes : J → S → Type 0) (steps : S →
 
   -- where it is invalid, the list is not accepted
   pub refused-list : (r : Result Model ModelError)
-      → IsMadeOfWeights completes whole (WasReadOf becomes steps from) Accepted Tells r
+      → IsMadeOfWeights Accepted completes (WasReadOf becomes steps from) whole Tells r
       → r ≡ Err InvalidTable → ¬ (Accepted (completes (map whole list)))
   refused-list r made e =
       let bad = made.invalid e in
@@ -83,7 +83,7 @@ module _ {J S K T Symbol Word Model : Type 0} (becomes : J → S → Type 0) (st
     (Tells : Model → List Symbol → List ℕ → Type 0) where
   -- the same of two lists
   pub made-of-lists : (r : Result Model ModelError)
-      → IsMadeOfBoth completes whole (WasReadOf other_becomes other_steps other) (WasReadOf becomes steps from) Accepted Tells r
+      → IsMadeOfBoth Accepted completes (WasReadOf becomes steps from) (WasReadOf other_becomes other_steps other) whole Tells r
       → IfOk r (λ m. Accepted list (completes (map whole others)) × Tells m list (completes (map whole others)))
   made-of-lists (Ok m) made =
       let given = made.ok in
@@ -94,7 +94,7 @@ module _ {J S K T Symbol Word Model : Type 0} (becomes : J → S → Type 0) (st
   made-of-lists (Err e) made = tt
 
   pub refused-lists : (r : Result Model ModelError)
-      → IsMadeOfBoth completes whole (WasReadOf other_becomes other_steps other) (WasReadOf becomes steps from) Accepted Tells r
+      → IsMadeOfBoth Accepted completes (WasReadOf becomes steps from) (WasReadOf other_becomes other_steps other) whole Tells r
       → r ≡ Err InvalidTable → ¬ (Accepted list (completes (map whole others)))
   refused-lists r made e =
       let bad = made.invalid e in

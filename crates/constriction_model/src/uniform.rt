@@ -133,10 +133,6 @@ impl<Probability: WholeNumber, const PRECISION: usize> EncoderModel<PRECISION>
 
 impl<Probability: WholeNumber, const PRECISION: usize> DecoderModel<PRECISION>
     for UniformModel<Probability, PRECISION> {
-    ghost stands_for = { λ s t. t ≡ s };
-
-    ghost may_refuse = { λ _. ⊥ };
-
     /// The row of a quantile, by one division. It takes no memory and always succeeds.
     #[inline]
     fn quantile_function(

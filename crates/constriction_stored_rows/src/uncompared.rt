@@ -45,9 +45,9 @@ pub fn entries_read<
     requires fits { PRECISION ≤ P.BITS }
     requires symbols_end { IsFiniteIterable S.into_iter_gives S.IntoIter.can_next S.IntoIter.remaining symbols }
     requires weights_end { IsFiniteIterable W.into_iter_gives W.IntoIter.can_next W.IntoIter.remaining weights }
-    ensures { IsMadeOfBoth (completed PRECISION infer_last) P.whole (WasReadOf W.into_iter_gives W.IntoIter.next_gives weights)
-        (WasReadOf S.into_iter_gives S.IntoIter.next_gives symbols) (AreAccepted (λ _ _. false) P.BITS PRECISION)
-        (λ v ss ws. HoldsRows P.whole v.items (rows_of ss ws)) result }
+    ensures { IsMadeOfBoth (AreAccepted (λ _ _. false) P.BITS PRECISION) (completed PRECISION infer_last)
+        (WasReadOf S.into_iter_gives S.IntoIter.next_gives symbols) (WasReadOf W.into_iter_gives W.IntoIter.next_gives weights)
+        P.whole (λ v ss ws. HoldsRows P.whole v.items (rows_of ss ws)) result }
 {
     let symbols = symbols.into_iter();
     let entries = room_for(alloc, rows_announced::<PRECISION>(symbols.size_hint().0));

@@ -44,10 +44,10 @@ fn searching_of_lists<Symbol: Eq + Drop, Probability: WholeNumber, const PRECISI
 ) -> Result<Searching<Symbol, Probability, PRECISION>, ModelError>
     requires positive { 0 < PRECISION }
     requires fits { PRECISION ≤ Probability.BITS }
-    ensures { IsMadeOfBoth (completed PRECISION infer_last_probability) Probability.whole
-        (WasReadOf ⟦<Vec<Probability> as IntoIterator>⟧.into_iter_gives ⟦<IntoIter<Probability> as Iterator>⟧.next_gives weights)
+    ensures { IsMadeOfBoth (AreAccepted Symbol.eq Probability.BITS PRECISION) (completed PRECISION infer_last_probability)
         (WasReadOf ⟦<Vec<Symbol> as IntoIterator>⟧.into_iter_gives ⟦<IntoIter<Symbol> as Iterator>⟧.next_gives symbols)
-        (AreAccepted Symbol.eq Probability.BITS PRECISION)
+        (WasReadOf ⟦<Vec<Probability> as IntoIterator>⟧.into_iter_gives ⟦<IntoIter<Probability> as Iterator>⟧.next_gives weights)
+        Probability.whole
         (λ m ss ws. ⟦<Searching<Symbol, Probability, PRECISION> as EntropyModel<PRECISION>>⟧.rows m ≡ rows_of ss ws) result }
 {
     Searching::from_symbols_and_nonzero_fixed_point_probabilities(
@@ -86,10 +86,9 @@ fn contiguous_of_list<Probability: WholeNumber, const PRECISION: usize>(
 ) -> Result<Contiguous<Probability, PRECISION>, ModelError>
     requires positive { 0 < PRECISION }
     requires fits { PRECISION ≤ Probability.BITS }
-    ensures { IsMadeOfWeights (completed PRECISION infer_last_probability) Probability.whole
+    ensures { IsMadeOfWeights (IsAccepted Probability.BITS PRECISION) (completed PRECISION infer_last_probability)
         (WasReadOf ⟦<Vec<Probability> as IntoIterator>⟧.into_iter_gives ⟦<IntoIter<Probability> as Iterator>⟧.next_gives weights)
-        (IsAccepted Probability.BITS PRECISION)
-        (λ m ws. ⟦<Contiguous<Probability, PRECISION> as EntropyModel<PRECISION>>⟧.rows m ≡ contiguous_rows ws) result }
+        Probability.whole (λ m ws. ⟦<Contiguous<Probability, PRECISION> as EntropyModel<PRECISION>>⟧.rows m ≡ contiguous_rows ws) result }
 {
     Contiguous::from_nonzero_fixed_point_probabilities(alloc, weights, infer_last_probability)
 }
