@@ -3,7 +3,7 @@
 //! [`into_lookup_decoder_model`](NonContiguousCategoricalDecoderModel::into_lookup_decoder_model) makes a lookup
 //! model of what they make.
 
-ghost use Rattle.std.specs.Prelude.{◌≡◌, ◌<◌, ◌≤◌, IfOk, map};
+ghost use Rattle.std.specs.Prelude.{◌≡◌, ◌<◌, ◌≤◌};
 ghost use Rattle.std.specs.Iterator.{IsFiniteIterable};
 ghost use Rattle.std.specs.List.Sorted.{IsStrictlySortedBy};
 ghost use Rattle.constriction_model.specs.Acceptance.{completed, AreAccepted, WasReadOf, IsMadeOfBoth, GivesDistinct};

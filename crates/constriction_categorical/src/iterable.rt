@@ -39,10 +39,8 @@ pub trait IterableEntropyModel<const PRECISION: usize>: EntropyModel<PRECISION> 
         ensures ends { UpTo (Self.SymbolTable.remaining result) (length (Self.rows self)) };
 
     // Each step gives the first of the rows that are left, and nothing exactly where none is left.
-    ghost steps_law: { (t : Self.SymbolTable) (r : _) (u : Self.SymbolTable)
-        → Self.SymbolTable.next_gives t r u
-        → YieldsRow stands_for may_refuse Self.Probability.whole Self.Probability.base
-        (rows_left t) r (rows_left u) };
+    ghost steps_law: { (t : Self.SymbolTable) (r : _) (u : Self.SymbolTable) → Self.SymbolTable.next_gives t r u
+        → YieldsRow stands_for may_refuse Self.Probability.whole Self.Probability.base rows_left t r u };
 
     // The rows tile the quantiles, so that each quantile has exactly one row.
     ghost tile_law: { (m : Self) → RowsTile Self.Probability.BITS PRECISION (Self.rows m) };

@@ -1,6 +1,6 @@
 //! Models that look up where to search for the row of a quantile.
 
-ghost use Rattle.std.specs.Prelude.{◌≡◌, ◌+◌, ◌/◌, ◌^◌, ◌<◌, ◌≤◌, ℕ, map, count_by, IfOk};
+ghost use Rattle.std.specs.Prelude.{◌≡◌, ◌/◌, ◌^◌, ◌<◌, ◌≤◌, map, count_by, IfOk};
 ghost use Rattle.constriction_model.specs.Probe.{IsProbeFor};
 ghost use Rattle.constriction_stored_rows.specs.Slots.{MeetsSlot, meets_slot, slot_count, slot_width};
 ghost use Rattle.constriction_stored_rows.specs.SlotTable.{HasSlots};

@@ -34,9 +34,8 @@ impl<'m, Probability: WholeNumber, const PRECISION: usize> Iterator
     for ContiguousSymbolTable<'m, Probability, PRECISION> {
     type Item = Result<(usize, Probability, Weight<Probability>), AllocError>;
 
-    ghost next_gives = { λ t r u. YieldsRow (λ s t. t ≡ s) (λ _. ⊥) Probability.whole Probability.base
-        (rows_stored PRECISION (map Probability.whole t.cdf.now) t.from t.to) r
-        (rows_stored PRECISION (map Probability.whole u.cdf.now) u.from u.to) };
+    ghost next_gives = { YieldsRow (λ s t. t ≡ s) (λ _. ⊥) Probability.whole Probability.base
+        (λ t. rows_stored PRECISION (map Probability.whole t.cdf.now) t.from t.to) };
 
     ghost remaining = { λ t. at_most (length (rows_stored PRECISION (map Probability.whole t.cdf.now) t.from t.to)) };
 
@@ -65,9 +64,8 @@ impl<'m, Probability: WholeNumber, const PRECISION: usize> Iterator
 
 impl<'m, Probability: WholeNumber, const PRECISION: usize> DoubleEndedIterator
     for ContiguousSymbolTable<'m, Probability, PRECISION> {
-    ghost next_back_gives = { λ t r u. YieldsLastRow (λ s t. t ≡ s) (λ _. ⊥) Probability.whole Probability.base
-        (rows_stored PRECISION (map Probability.whole t.cdf.now) t.from t.to) r
-        (rows_stored PRECISION (map Probability.whole u.cdf.now) u.from u.to) };
+    ghost next_back_gives = { YieldsLastRow (λ s t. t ≡ s) (λ _. ⊥) Probability.whole Probability.base
+        (λ t. rows_stored PRECISION (map Probability.whole t.cdf.now) t.from t.to) };
 
     #[inline]
     fn next_back(

@@ -2,7 +2,7 @@
 -- this list, and where it was refused, the list is not good. No public clause cites this module.
 -- That an iterator gives a list is std's `YieldsList`: by `gives-array` of an array, by `YieldsList-from_vec` of a Vec, by
 -- `YieldsList-from_copied` over `YieldsList-from_slice` of a slice whose words are copied.
-use Rattle.std.proofs.Common.{◌≡◌, ℕ, List, [], ◌∷◌, ◌++◌, Option, None, Result, Ok, Err, length, map, take, drop, refl, ap, sym, subst, ◌∙◌, inl, inr, take-append-drop}
+use Rattle.std.proofs.Common.{◌≡◌, ℕ, List, [], ◌∷◌, ◌++◌, Option, None, Result, Ok, Err, length, map, take, drop, refl, ap, sym, subst, ◌∙◌, take-append-drop}
 use Rattle.std.specs.Prelude.{Bool, IfOk}
 use Rattle.std.specs.Iterator.{Drains}
 use Rattle.std.specs.List.{IsDistinct}

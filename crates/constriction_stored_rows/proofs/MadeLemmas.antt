@@ -1,5 +1,5 @@
 -- What a constructor says of what its readers were given.
-use Rattle.std.specs.Prelude.{◌≡◌, List, ◌++◌, Option, Result, Ok, Err}
+use Rattle.std.specs.Prelude.{◌≡◌, List, ◌++◌, Option, Ok, Err}
 use Rattle.std.proofs.Common.{refl, subst, inl, inr}
 use Rattle.constriction_model.specs.Acceptance.{Reading, ToItsEnd, SoFar, WasReadOf, MayGive}
 use Rattle.constriction_stored_rows.specs.Given.{GaveBad, GaveBothBad}
@@ -37,13 +37,12 @@ module _ {J S A K T B : Type 0} (becomes : J → S → Type 0) (steps : S → Op
   -- what a constructor says of two iterators it says of the values that became them
   pub bad-both : (it : S) × becomes from it × (jt : T) × other_becomes other jt × GaveBothBad steps it other_steps jt Good
       → BothBad (WasReadOf becomes steps from) (WasReadOf other_becomes other_steps other) Good
-  bad-both (it, here, jt, there, (xs, ys, reading, other_reading, was, other_was, never)) =
-      (
-        xs,
-        ys,
-        reading,
-        other_reading,
-        record { iterator = it; became = here; was_read = was },
-        record { iterator = jt; became = there; was_read = other_was },
-        never,
-      )
+  bad-both (it, here, jt, there, (xs, ys, reading, other_reading, was, other_was, never)) = (
+    xs,
+    ys,
+    reading,
+    other_reading,
+    record { iterator = it; became = here; was_read = was },
+    record { iterator = jt; became = there; was_read = other_was },
+    never,
+  )

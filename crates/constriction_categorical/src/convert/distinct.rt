@@ -5,6 +5,7 @@ ghost use Rattle.std.specs.List.{IsDistinct};
 ghost use Rattle.constriction_model.specs.Model.{StandApart, ClonesAreEqual};
 ghost use Rattle.constriction_model.specs.Rows.{symbols_of};
 
+use crate::convert::{DecoderMadeOf, LookupMadeOf};
 use crate::iterable::IterableEntropyModel;
 use crate::lookup_non_contiguous::NonContiguousLookupDecoderModel;
 use crate::non_contiguous::NonContiguousCategoricalDecoderModel;
@@ -25,15 +26,7 @@ use std::marker::PhantomData;
 pub fn to_generic_decoder_model_of_distinct<M, const PRECISION: usize>(
     alloc: Global,
     model: M,
-) -> Result<
-    NonContiguousCategoricalDecoderModel<
-        M::Symbol,
-        M::Probability,
-        Vec<(M::Probability, M::Symbol)>,
-        PRECISION,
-    >,
-    ModelError,
->
+) -> Result<DecoderMadeOf<M, PRECISION>, ModelError>
 where
     M: IterableEntropyModel<PRECISION>,
     M::Symbol: Eq + Drop,
@@ -42,8 +35,7 @@ where
     requires clones { ClonesAreEqual M.Symbol.eq M.stands_for }
     requires distinct { IsDistinct M.Symbol.eq (symbols_of (M.rows model)) }
     ensures ok { IfOk result (λ d. StandApart M.Symbol.eq M.stands_for
-        (⟦<NonContiguousCategoricalDecoderModel<M::Symbol, M::Probability, Vec<(M::Probability, M::Symbol)>, PRECISION> as EntropyModel<PRECISION>>⟧.rows d)
-        (M.rows model)) }
+        (⟦<DecoderMadeOf<M, PRECISION> as EntropyModel<PRECISION>>⟧.rows d) (M.rows model)) }
     ensures refused { IfErr result (λ e. e ≡ ModelError.OutOfMemory) }
 {
     let cdf = entries_collected::<_, _, _, _, PRECISION>(alloc, model.symbol_table())?;
@@ -63,16 +55,7 @@ where
 pub fn to_generic_lookup_decoder_model_of_distinct<M, const PRECISION: usize>(
     alloc: Global,
     model: M,
-) -> Result<
-    NonContiguousLookupDecoderModel<
-        M::Symbol,
-        M::Probability,
-        Vec<(M::Probability, M::Symbol)>,
-        Vec<M::Probability>,
-        PRECISION,
-    >,
-    ModelError,
->
+) -> Result<LookupMadeOf<M, PRECISION, 8>, ModelError>
 where
     M: IterableEntropyModel<PRECISION>,
     M::Symbol: Eq + Drop,
@@ -83,8 +66,7 @@ where
     requires clones { ClonesAreEqual M.Symbol.eq M.stands_for }
     requires distinct { IsDistinct M.Symbol.eq (symbols_of (M.rows model)) }
     ensures ok { IfOk result (λ d. StandApart M.Symbol.eq M.stands_for
-        (⟦<NonContiguousLookupDecoderModel<M::Symbol, M::Probability, Vec<(M::Probability, M::Symbol)>, Vec<M::Probability>, PRECISION> as EntropyModel<PRECISION>>⟧.rows d)
-        (M.rows model)) }
+        (⟦<LookupMadeOf<M, PRECISION, 8> as EntropyModel<PRECISION>>⟧.rows d) (M.rows model)) }
     ensures refused { IfErr result (λ e. e ≡ ModelError.OutOfMemory) }
 {
     let searching = to_generic_decoder_model_of_distinct::<M, PRECISION>(alloc, model)?;

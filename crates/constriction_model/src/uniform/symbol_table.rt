@@ -41,9 +41,8 @@ impl<Probability: WholeNumber, const PRECISION: usize> Iterator
     for UniformSymbolTable<Probability, PRECISION> {
     type Item = Result<(usize, Probability, Weight<Probability>), AllocError>;
 
-    ghost next_gives = { λ t r u. YieldsRow (λ s t. t ≡ s) (λ _. ⊥) Probability.whole Probability.base
-        (rows_between t.from t.to (uniform_rows PRECISION (Probability.whole t.model.last_symbol + 1))) r
-        (rows_between u.from u.to (uniform_rows PRECISION (Probability.whole u.model.last_symbol + 1))) };
+    ghost next_gives = { YieldsRow (λ s t. t ≡ s) (λ _. ⊥) Probability.whole Probability.base
+        (λ t. rows_between t.from t.to (uniform_rows PRECISION (Probability.whole t.model.last_symbol + 1))) };
 
     ghost remaining = { λ t. at_most (length (rows_between t.from t.to (uniform_rows PRECISION (Probability.whole t.model.last_symbol + 1)))) };
 
@@ -72,9 +71,8 @@ impl<Probability: WholeNumber, const PRECISION: usize> Iterator
 
 impl<Probability: WholeNumber, const PRECISION: usize> DoubleEndedIterator
     for UniformSymbolTable<Probability, PRECISION> {
-    ghost next_back_gives = { λ t r u. YieldsLastRow (λ s t. t ≡ s) (λ _. ⊥) Probability.whole Probability.base
-        (rows_between t.from t.to (uniform_rows PRECISION (Probability.whole t.model.last_symbol + 1))) r
-        (rows_between u.from u.to (uniform_rows PRECISION (Probability.whole u.model.last_symbol + 1))) };
+    ghost next_back_gives = { YieldsLastRow (λ s t. t ≡ s) (λ _. ⊥) Probability.whole Probability.base
+        (λ t. rows_between t.from t.to (uniform_rows PRECISION (Probability.whole t.model.last_symbol + 1))) };
 
     #[inline]
     fn next_back(

@@ -29,8 +29,14 @@ returns g c =
     let differ = c.requires.distinct read.2.iterator read.0 read.2.became read.2.was_read in
     let entries = c.in_ok-cdf.cdf.items in
     record {
-      ok = (read.0, read.1, read.2, read.3, apart-accepted eq whole bits g.row.PRECISION entries read.0 weights read.4 read.5 differ,
-          (apart-stored eq whole bits g.row.PRECISION entries read.0 weights read.4 read.5 differ).1);
+      ok = (
+        read.0,
+        read.1,
+        read.2,
+        read.3,
+        apart-accepted eq whole bits g.row.PRECISION entries read.0 weights read.4 read.5 differ,
+        (apart-stored eq whole bits g.row.PRECISION entries read.0 weights read.4 read.5 differ).1,
+      );
       invalid = λ e. absurd (made-unrefused _ _ e);
     }
 

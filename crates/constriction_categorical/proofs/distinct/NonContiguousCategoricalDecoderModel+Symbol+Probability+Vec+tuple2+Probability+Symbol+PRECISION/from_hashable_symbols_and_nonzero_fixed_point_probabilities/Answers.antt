@@ -35,8 +35,14 @@ returns g c =
     let differ : IsDistinct eq read.0 =
     subst (IsDistinct eq) symbols (rw c.deref.ensures.value at (c.in_ok-apart.ensures.0 c.if-not-apart.false)) in
     record {
-      ok = (read.0, read.1, read.2, read.3, apart-accepted eq whole bits g.row.PRECISION entries read.0 weights read.4 read.5 differ,
-          (apart-stored eq whole bits g.row.PRECISION entries read.0 weights read.4 read.5 differ).1);
+      ok = (
+        read.0,
+        read.1,
+        read.2,
+        read.3,
+        apart-accepted eq whole bits g.row.PRECISION entries read.0 weights read.4 read.5 differ,
+        (apart-stored eq whole bits g.row.PRECISION entries read.0 weights read.4 read.5 differ).1,
+      );
       invalid = λ e. absurd (made-unrefused _ _ e);
     }
 
@@ -76,7 +82,7 @@ returns-then-not-apart g c =
           (completed g.row.PRECISION c.args.infer_last_probability (map whole ws)))
           read.0 read.1 read.2 read.3
           (λ good.
-              let found : true ≡ false = sym (c.in_ok-apart.ensures.1 (rw c.deref.ensures.value (subst (IsDistinct eq) (sym symbols) good.distinct)))
-              ∙ c.if-not-apart.true in
-              cc);
+          let found : true ≡ false = sym (c.in_ok-apart.ensures.1 (rw c.deref.ensures.value (subst (IsDistinct eq) (sym symbols) good.distinct)))
+          ∙ c.if-not-apart.true in
+          cc);
     }

@@ -38,8 +38,14 @@ returns g c =
     subst (IsStrictlySortedBy g.Symbol.Ord.cmp) symbols (rw c.deref.ensures.value at (c.are_in_order-in_order.ensures.0 c.if-not-in_order.false)) in
     let differ = sorted-distinct eq g.Symbol.Ord.cmp g.met.Symbol.Ord.matches_eq read.0 order in
     record {
-      ok = (read.0, read.1, read.2, read.3, (apart-accepted eq whole bits g.row.PRECISION entries read.0 weights read.4 read.5 differ, order),
-          (apart-stored eq whole bits g.row.PRECISION entries read.0 weights read.4 read.5 differ).1);
+      ok = (
+        read.0,
+        read.1,
+        read.2,
+        read.3,
+        (apart-accepted eq whole bits g.row.PRECISION entries read.0 weights read.4 read.5 differ, order),
+        (apart-stored eq whole bits g.row.PRECISION entries read.0 weights read.4 read.5 differ).1,
+      );
       invalid = λ e. absurd (made-unrefused _ _ e);
     }
 
@@ -79,7 +85,7 @@ returns-then-not-in_order g c =
           (completed g.row.PRECISION c.args.infer_last_probability (map whole ws)) × IsStrictlySortedBy g.Symbol.Ord.cmp ss)
           read.0 read.1 read.2 read.3
           (λ good.
-              let found : true ≡ false = sym (c.are_in_order-in_order.ensures.1 (rw c.deref.ensures.value (subst (IsStrictlySortedBy g.Symbol.Ord.cmp) (sym symbols) good.1)))
-              ∙ c.if-not-in_order.true in
-              cc);
+          let found : true ≡ false = sym (c.are_in_order-in_order.ensures.1 (rw c.deref.ensures.value (subst (IsStrictlySortedBy g.Symbol.Ord.cmp) (sym symbols) good.1)))
+          ∙ c.if-not-in_order.true in
+          cc);
     }

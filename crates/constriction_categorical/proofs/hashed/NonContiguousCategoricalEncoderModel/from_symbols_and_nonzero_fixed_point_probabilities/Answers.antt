@@ -52,10 +52,12 @@ returns g c =
         },
         record { iterator = c.into_iter.result; became = c.into_iter.ensures.into_iter_gives; was_read = given.3 },
         good.0,
-        ((λ s. table-entry_of eq laws (λ e. (whole e.left, whole (base e.weight))) c.in_ok-table.table.entries s good.1.0 ∙ good.1.1 s),
-        table-count eq laws (λ e. (whole e.left, whole (base e.weight))) c.in_ok-table.table.entries rows good.1.0 good.1.1
-        ∙ ap (distinct_count eq) (accepted-symbols eq g.Probability.WholeNumber.BITS g.row.PRECISION given.0 weights good.0)
-        ∙ distinct_count-from_IsDistinct laws given.0 good.0.distinct),
+        (
+          (λ s. table-entry_of eq laws (λ e. (whole e.left, whole (base e.weight))) c.in_ok-table.table.entries s good.1.0 ∙ good.1.1 s),
+          table-count eq laws (λ e. (whole e.left, whole (base e.weight))) c.in_ok-table.table.entries rows good.1.0 good.1.1
+              ∙ ap (distinct_count eq) (accepted-symbols eq g.Probability.WholeNumber.BITS g.row.PRECISION given.0 weights good.0)
+              ∙ distinct_count-from_IsDistinct laws given.0 good.0.distinct,
+        ),
       );
       invalid = λ e. absurd (made-unrefused _ _ e);
     }
@@ -89,8 +91,7 @@ returns-in_err-table g c = record {
       bad-both g.S.IntoIterator.into_iter_gives g.S.IntoIter.Iterator.next_gives c.args.symbols g.P.IntoIterator.into_iter_gives
       g.P.IntoIter.Iterator.next_gives c.args.probabilities
       (λ ss ws. AreAccepted g.Symbol.PartialEq.eq g.Probability.WholeNumber.BITS g.row.PRECISION ss
-      (completed g.row.PRECISION c.args.infer_last_probability (map g.Probability.WholeNumber.whole ws)))
-      (
+      (completed g.row.PRECISION c.args.infer_last_probability (map g.Probability.WholeNumber.whole ws))) (
         c.into_iter-symbols.result,
         c.into_iter-symbols.ensures.into_iter_gives,
         c.into_iter.result,

@@ -72,8 +72,7 @@ returns-in_err-cdf g c = record {
       bad-both g.S.IntoIterator.into_iter_gives g.S.IntoIter.Iterator.next_gives c.args.symbols g.P.IntoIterator.into_iter_gives
       g.P.IntoIter.Iterator.next_gives c.args.probabilities
       (λ ss ws. AreAccepted g.Symbol.PartialEq.eq g.Probability.WholeNumber.BITS g.row.PRECISION ss
-      (completed g.row.PRECISION c.args.infer_last_probability (map g.Probability.WholeNumber.whole ws)))
-      (
+      (completed g.row.PRECISION c.args.infer_last_probability (map g.Probability.WholeNumber.whole ws))) (
         c.into_iter-symbols.result,
         c.into_iter-symbols.ensures.into_iter_gives,
         c.into_iter.result,
