@@ -15,7 +15,12 @@ module _ {J S A : Type 0} (becomes : J → S → Type 0) (steps : S → Option A
       × ((all : List A) → MayGive reading xs all → ¬ (Good all))
   bad-read (it, here, bad) = elim bad [
     | inl all ↦ (all.0, ToItsEnd, record { iterator = it; became = here; was_read = all.1 }, λ xs is good. all.2 (subst Good is good))
-    | inr some ↦ (some.0, SoFar, record { iterator = it; became = here; was_read = (some.1, some.2) }, λ xs more good. some.3 more.0 (subst Good more.1 good))
+    | inr some ↦ (
+      some.0,
+      SoFar,
+      record { iterator = it; became = here; was_read = (some.1, some.2) },
+      λ xs more good. some.3 more.0 (subst Good more.1 good),
+    )
   ]
 
   -- and the other way round

@@ -5,7 +5,8 @@ use Rattle.constriction_fixtures.proofs.given.lookup_of_four.Goals as goal
 pub returns-clause-rows : goal.returns-clause-rows
 returns-clause-rows c =
     let made = c.from_nonzero_fixed_point_probabilities in
-    second _ _ made.result (made-of-list _ _ _ c.args.weights (λ it came. gives-array c.args.weights came.0) _ _ _ _ made.result made.ensures)
+    second _ _ made.result
+    (made-of-list _ _ _ c.args.weights (λ it came. gives-array c.args.weights came.0) _ _ _ _ made.result made.ensures)
 
 pub returns-clause-invalid : goal.returns-clause-invalid
 returns-clause-invalid c =
