@@ -1,12 +1,11 @@
 //! Models of the symbols 0, 1, .., which find the row of a quantile by a search.
 
-ghost use Rattle.std.specs.Prelude.{◌≡◌, ◌+◌, ◌^◌, ◌<◌, ◌≤◌, ℕ, length, map, nat_eq, IfOk, IfErr, IsOk, ⊤};
-ghost use Rattle.std.specs.Iterator.{IsFiniteIterable, UpTo, size};
-ghost use Rattle.constriction_model.specs.Acceptance.{completed, IsAccepted, GaveGood, GaveBad};
+ghost use Rattle.std.specs.Prelude.{◌≡◌, ◌+◌, ◌^◌, ◌<◌, ◌≤◌, length, map, nat_eq, IfOk, ⊤};
+ghost use Rattle.std.specs.Iterator.{IsFiniteIterable};
+ghost use Rattle.constriction_model.specs.Acceptance.{completed, IsAccepted, WasReadOf, IsMadeOfWeights};
 ghost use Rattle.std.specs.Cmp.{nat_eq_equiv};
-ghost use Rattle.constriction_model.specs.Model.{row_of, LiesWithin, AnswersQuantile, RowMayBeRefused};
-ghost use Rattle.constriction_model.specs.Probe.{TellsRows, IsRowIndexOf, IsSearchable, IsLastAtMost};
-ghost use Rattle.constriction_model.specs.Rows.{contiguous_rows, IsRowOf};
+ghost use Rattle.constriction_model.specs.Probe.{IsProbeFor};
+ghost use Rattle.constriction_model.specs.Rows.{contiguous_rows};
 ghost use Rattle.constriction_stored_rows.specs.Stored.{IsTable, lefts_in, weights_of};
 ghost use Rattle.constriction_stored_rows.specs.StoredRowLemmas.{stored-within, stored-tiles};
 ghost use Rattle.constriction_stored_rows.specs.Stored.{rows_stored};
@@ -74,18 +73,10 @@ impl<Probability: WholeNumber, const PRECISION: usize> ContiguousCategoricalEntr
     ) -> Result<Self, ModelError>
         requires positive { 0 < PRECISION }
         requires fits { PRECISION ≤ Probability.BITS }
-        requires ends { IsFiniteIterable I.into_iter_gives I.IntoIter.can_next I.IntoIter.remaining
-            probabilities }
-        ensures ok { IfOk result (λ m. (it : I.IntoIter) × I.into_iter_gives probabilities it
-            × GaveGood I.IntoIter.next_gives it (λ ws.
-            let weights = completed PRECISION infer_last_probability (map Probability.whole ws) in
-            IsAccepted Probability.BITS PRECISION weights
-            × (⟦<ContiguousCategoricalEntropyModel<Probability, Vec<Probability>, PRECISION> as EntropyModel<PRECISION>>⟧.rows m
-            ≡ contiguous_rows weights))) }
-        ensures invalid { result ≡ Err ModelError.InvalidTable → (it : I.IntoIter)
-            × I.into_iter_gives probabilities it
-            × GaveBad I.IntoIter.next_gives it (λ ws. IsAccepted Probability.BITS PRECISION
-            (completed PRECISION infer_last_probability (map Probability.whole ws))) }
+        requires ends { IsFiniteIterable I.into_iter_gives I.IntoIter.can_next I.IntoIter.remaining probabilities }
+        ensures { IsMadeOfWeights (IsAccepted Probability.BITS PRECISION) (completed PRECISION infer_last_probability)
+            (WasReadOf I.into_iter_gives I.IntoIter.next_gives probabilities) Probability.whole
+            (λ m ws. ⟦<Self as EntropyModel<PRECISION>>⟧.rows m ≡ contiguous_rows ws) result }
     {
         let cdf = table_of::<Probability, I, PRECISION>(
             alloc,
@@ -102,9 +93,7 @@ impl<Probability: WholeNumber, const PRECISION: usize> ContiguousCategoricalEntr
     ///
     /// One allocation and one copy of the table.
     pub fn clone(&self) -> Result<Self, AllocError>
-        ensures { IfOk result (λ m.
-            ⟦<ContiguousCategoricalEntropyModel<Probability, Vec<Probability>, PRECISION> as EntropyModel<PRECISION>>⟧.rows m
-            ≡ ⟦<ContiguousCategoricalEntropyModel<Probability, Vec<Probability>, PRECISION> as EntropyModel<PRECISION>>⟧.rows self.now) }
+        ensures { IfOk result (λ m. ⟦<Self as EntropyModel<PRECISION>>⟧.rows m ≡ ⟦<Self as EntropyModel<PRECISION>>⟧.rows self.now) }
     {
         self.in_vec(*self.cdf.allocator())
     }
@@ -118,8 +107,7 @@ impl<
     /// How many symbols the model has.
     #[inline]
     pub fn support_size(&self) -> usize
-        ensures { result ≡ length
-            (⟦<ContiguousCategoricalEntropyModel<Probability, Cdf, PRECISION> as EntropyModel<PRECISION>>⟧.rows self.now) }
+        ensures { result ≡ length (⟦<Self as EntropyModel<PRECISION>>⟧.rows self.now) }
     {
         self.cdf.words().len() - 1
     }
@@ -143,7 +131,7 @@ impl<
     >
         ensures { IfOk result (λ m.
             ⟦<ContiguousCategoricalEntropyModel<Probability, Vec<Probability>, PRECISION> as EntropyModel<PRECISION>>⟧.rows m
-            ≡ ⟦<ContiguousCategoricalEntropyModel<Probability, Cdf, PRECISION> as EntropyModel<PRECISION>>⟧.rows self.now) }
+            ≡ ⟦<Self as EntropyModel<PRECISION>>⟧.rows self.now) }
     {
         let cdf = copied(alloc, self.cdf.words())?;
         Ok(ContiguousCategoricalEntropyModel {
@@ -158,7 +146,7 @@ impl<
         &'m self,
     ) -> ContiguousCategoricalEntropyModel<Probability, &'m [Probability], PRECISION>
         ensures { ⟦<ContiguousCategoricalEntropyModel<Probability, &'m [Probability], PRECISION> as EntropyModel<PRECISION>>⟧.rows result
-            ≡ ⟦<ContiguousCategoricalEntropyModel<Probability, Cdf, PRECISION> as EntropyModel<PRECISION>>⟧.rows self.now }
+            ≡ ⟦<Self as EntropyModel<PRECISION>>⟧.rows self.now }
     {
         ContiguousCategoricalEntropyModel {
             cdf: self.cdf.words(),
@@ -175,18 +163,9 @@ impl<
         quantile: Probability,
     ) -> (usize, CdfProbe<'m, Probability, Alone>)
         requires { Probability.whole quantile < 2 ^ PRECISION }
-        ensures rows { TellsRows
-            (⟦<ContiguousCategoricalEntropyModel<Probability, Cdf, PRECISION> as EntropyModel<PRECISION>>⟧.rows self.now)
-            (λ _. ⊤) result.0 (⟦<CdfProbe<'m, Probability, Alone> as Probe>⟧.cumulatives result.1) }
-        ensures searchable { IsSearchable (⟦<CdfProbe<'m, Probability, Alone> as Probe>⟧.cumulatives result.1)
-            (Probability.whole quantile) }
-        ensures fresh { ⟦<CdfProbe<'m, Probability, Alone> as Probe>⟧.questions result.1 ≡ 0 }
-        ensures found { (i : ℕ)
-            → IsLastAtMost (⟦<CdfProbe<'m, Probability, Alone> as Probe>⟧.cumulatives result.1)
-            (Probability.whole quantile) i
-            → IsRowIndexOf
-            (⟦<ContiguousCategoricalEntropyModel<Probability, Cdf, PRECISION> as EntropyModel<PRECISION>>⟧.rows self.now)
-            (Probability.whole quantile) (result.0 + i) }
+        ensures { IsProbeFor (⟦<Self as EntropyModel<PRECISION>>⟧.rows self.now) (λ _. ⊤) (Probability.whole quantile) result.0
+            (⟦<CdfProbe<'m, Probability, Alone> as Probe>⟧.cumulatives result.1)
+            (⟦<CdfProbe<'m, Probability, Alone> as Probe>⟧.questions result.1) }
     {
         (0, CdfProbe::new(self.cdf_entries()))
     }
@@ -228,30 +207,12 @@ impl<Probability: WholeNumber, Cdf: SafeBuf<Probability>, const PRECISION: usize
 impl<Probability: WholeNumber, Cdf: SafeBuf<Probability>, const PRECISION: usize> DecoderModel<
     PRECISION,
 > for ContiguousCategoricalEntropyModel<Probability, Cdf, PRECISION> {
-    ghost stands_for = { λ s t. t ≡ s };
-
-    ghost may_refuse = { λ _. ⊥ };
-
     /// The row of a quantile, by a search ([`SearchingModel`]). It takes no memory and always succeeds.
     #[inline(always)]
     fn quantile_function(
         &self,
         quantile: Probability,
-    ) -> Result<(usize, Probability, Weight<Probability>), AllocError>
-        requires in_range { Probability.whole quantile < 2 ^ PRECISION }
-        ensures row { IfOk result (AnswersQuantile (λ s t. t ≡ s) Probability.whole Probability.base
-            (⟦<ContiguousCategoricalEntropyModel<Probability, Cdf, PRECISION> as EntropyModel<PRECISION>>⟧.rows self.now)
-            (Probability.whole quantile)) }
-        ensures exact { IfOk result (λ x. IsRowOf
-            (⟦<ContiguousCategoricalEntropyModel<Probability, Cdf, PRECISION> as EntropyModel<PRECISION>>⟧.rows self.now)
-            (Probability.whole quantile) (row_of Probability.whole Probability.base x)) }
-        ensures within { IfOk result (λ x. LiesWithin PRECISION
-            (row_of Probability.whole Probability.base x)) }
-        ensures refused { IfErr result (λ _. RowMayBeRefused (λ _. ⊥)
-            (⟦<ContiguousCategoricalEntropyModel<Probability, Cdf, PRECISION> as EntropyModel<PRECISION>>⟧.rows self.now)
-            (Probability.whole quantile)) }
-        ensures succeeds { IsOk result }
-    {
+    ) -> Result<(usize, Probability, Weight<Probability>), AllocError> {
         let (row, _compared) = self.counted_quantile_function(quantile)?;
         Ok(row)
     }
@@ -262,8 +223,7 @@ impl<Probability: WholeNumber, Cdf: SafeBuf<Probability>, const PRECISION: usize
 impl<Probability: WholeNumber, Cdf: SafeBuf<Probability>, const PRECISION: usize> SearchingModel<
     PRECISION,
 > for ContiguousCategoricalEntropyModel<Probability, Cdf, PRECISION> {
-    ghost rows_in_question = { λ m q. length
-        (⟦<ContiguousCategoricalEntropyModel<Probability, Cdf, PRECISION> as EntropyModel<PRECISION>>⟧.rows m) };
+    ghost rows_in_question = { λ m q. length (⟦<Self as EntropyModel<PRECISION>>⟧.rows m) };
 
     /// The row of a quantile, by [`row_of_quantile`], and how many rows that asked for. It takes no memory and
     /// always succeeds.
@@ -288,26 +248,12 @@ impl<
     for &'m ContiguousCategoricalEntropyModel<Probability, Cdf, PRECISION> {
     type SymbolTable = ContiguousSymbolTable<'m, Probability, PRECISION>;
 
-    ghost stands_for = { λ s t. t ≡ s };
-
-    ghost may_refuse = { λ _. ⊥ };
-
     ghost rows_left = { λ t. rows_stored PRECISION (map Probability.whole t.cdf.now) t.from t.to };
 
     /// All rows in order, each once: symbol, left cumulative and weight. It takes no memory, and
     /// every item is a row.
     #[inline]
-    fn symbol_table(self) -> ContiguousSymbolTable<'m, Probability, PRECISION>
-        ensures all { ⟦<&'m ContiguousCategoricalEntropyModel<Probability, Cdf, PRECISION> as IterableEntropyModel<PRECISION>>⟧.rows_left result
-            ≡ ⟦<ContiguousCategoricalEntropyModel<Probability, Cdf, PRECISION> as EntropyModel<PRECISION>>⟧.rows self.now }
-        ensures callable { ⟦<ContiguousSymbolTable<'m, Probability, PRECISION> as Iterator>⟧.can_next result }
-        ensures ends { UpTo (⟦<ContiguousSymbolTable<'m, Probability, PRECISION> as Iterator>⟧.remaining result)
-            (length
-            (⟦<ContiguousCategoricalEntropyModel<Probability, Cdf, PRECISION> as EntropyModel<PRECISION>>⟧.rows self.now)) }
-        ensures counted { size (⟦<ContiguousSymbolTable<'m, Probability, PRECISION> as Iterator>⟧.remaining result)
-            ≡ length
-            (⟦<ContiguousCategoricalEntropyModel<Probability, Cdf, PRECISION> as EntropyModel<PRECISION>>⟧.rows self.now) }
-    {
+    fn symbol_table(self) -> ContiguousSymbolTable<'m, Probability, PRECISION> {
         let cdf = self.cdf.words();
         ContiguousSymbolTable {
             cdf,

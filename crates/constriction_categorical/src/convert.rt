@@ -1,17 +1,13 @@
 //! Models that are made from any model that can be walked through.
 
 ghost use Rattle.std.specs.Prelude.{◌≡◌, ◌<◌, ◌≤◌, IfOk, IfErr, ⊤};
-ghost use Rattle.std.specs.List.{IsDistinct};
 ghost use Rattle.constriction_model.specs.Entries.{HoldsEntriesOf};
-ghost use Rattle.constriction_model.specs.Model.{StandForRows, ClonesRepeat};
-ghost use Rattle.constriction_model.specs.Rows.{symbols_of};
+ghost use Rattle.constriction_model.specs.Model.{StandApart, ClonesRepeat};
 
 use crate::hashed::NonContiguousCategoricalEncoderModel;
 use crate::iterable::IterableEntropyModel;
 use crate::lookup::LookupDecoderModel;
-use crate::lookup_non_contiguous::{
-    NonContiguousLookupDecoderModel, SlottedNonContiguousLookupDecoderModel,
-};
+use crate::lookup_non_contiguous::SlottedNonContiguousLookupDecoderModel;
 use crate::non_contiguous::NonContiguousCategoricalDecoderModel;
 use constriction_model::{EntropyModel, ModelError};
 use constriction_numbers::IndexWord;
@@ -21,6 +17,34 @@ use std::hash::Hash;
 use std::marker::PhantomData;
 
 pub mod distinct;
+
+/// The decoder over any symbols that is made of the model `M`, with entries of its own.
+pub type DecoderMadeOf<M, const PRECISION: usize> = NonContiguousCategoricalDecoderModel<
+    <M as EntropyModel<PRECISION>>::Symbol,
+    <M as EntropyModel<PRECISION>>::Probability,
+    Vec<
+        (
+            <M as EntropyModel<PRECISION>>::Probability,
+            <M as EntropyModel<PRECISION>>::Symbol,
+        ),
+    >,
+    PRECISION,
+>;
+
+/// The lookup model over any symbols that is made of the model `M`, with entries and a table of its own.
+pub type LookupMadeOf<M, const PRECISION: usize, const SLOT_BITS: usize> = LookupDecoderModel<
+    DecoderMadeOf<M, PRECISION>,
+    Vec<<M as EntropyModel<PRECISION>>::Probability>,
+    PRECISION,
+    SLOT_BITS,
+>;
+
+/// The hashed encoder that is made of the model `M`.
+pub type EncoderMadeOf<M, const PRECISION: usize> = NonContiguousCategoricalEncoderModel<
+    <M as EntropyModel<PRECISION>>::Symbol,
+    <M as EntropyModel<PRECISION>>::Probability,
+    PRECISION,
+>;
 
 /// A model that is made from any model that can be walked through.
 ///
@@ -63,10 +87,7 @@ where
     M: IterableEntropyModel<PRECISION>,
     M::Symbol: Eq + Drop,
 {
-    ghost tells = { λ m d. StandForRows M.stands_for
-        (⟦<NonContiguousCategoricalDecoderModel<M::Symbol, M::Probability, Vec<(M::Probability, M::Symbol)>, PRECISION> as EntropyModel<PRECISION>>⟧.rows d) (M.rows m)
-        × IsDistinct M.Symbol.eq (symbols_of
-        (⟦<NonContiguousCategoricalDecoderModel<M::Symbol, M::Probability, Vec<(M::Probability, M::Symbol)>, PRECISION> as EntropyModel<PRECISION>>⟧.rows d)) };
+    ghost tells = { λ m d. StandApart M.Symbol.eq M.stands_for (⟦<Self as EntropyModel<PRECISION>>⟧.rows d) (M.rows m) };
 
     ghost refuses = { λ m. ClonesRepeat M.Symbol.eq M.stands_for (M.rows m) };
 
@@ -92,10 +113,7 @@ where
     M::Symbol: Eq + Drop,
     M::Probability: IndexWord,
 {
-    ghost tells = { λ m d. StandForRows M.stands_for
-        (⟦<SlottedNonContiguousLookupDecoderModel<M::Symbol, M::Probability, Vec<(M::Probability, M::Symbol)>, Vec<M::Probability>, PRECISION, SLOT_BITS> as EntropyModel<PRECISION>>⟧.rows d) (M.rows m)
-        × IsDistinct M.Symbol.eq (symbols_of
-        (⟦<SlottedNonContiguousLookupDecoderModel<M::Symbol, M::Probability, Vec<(M::Probability, M::Symbol)>, Vec<M::Probability>, PRECISION, SLOT_BITS> as EntropyModel<PRECISION>>⟧.rows d)) };
+    ghost tells = { λ m d. StandApart M.Symbol.eq M.stands_for (⟦<Self as EntropyModel<PRECISION>>⟧.rows d) (M.rows m) };
 
     ghost refuses = { λ m. ClonesRepeat M.Symbol.eq M.stands_for (M.rows m) };
 
@@ -114,9 +132,7 @@ where
     M: IterableEntropyModel<PRECISION>,
     M::Symbol: Hash + Eq + Drop,
 {
-    ghost tells = { λ m e. HoldsEntriesOf M.Symbol.eq M.stands_for
-        (⟦<NonContiguousCategoricalEncoderModel<M::Symbol, M::Probability, PRECISION> as EntropyModel<PRECISION>>⟧.rows e)
-        (M.rows m) };
+    ghost tells = { λ m e. HoldsEntriesOf M.Symbol.eq M.stands_for (⟦<Self as EntropyModel<PRECISION>>⟧.rows e) (M.rows m) };
 
     ghost refuses = { λ _. ⊥ };
 
@@ -140,24 +156,14 @@ where
 pub fn to_generic_decoder_model<M, const PRECISION: usize>(
     alloc: Global,
     model: M,
-) -> Result<
-    NonContiguousCategoricalDecoderModel<
-        M::Symbol,
-        M::Probability,
-        Vec<(M::Probability, M::Symbol)>,
-        PRECISION,
-    >,
-    ModelError,
->
+) -> Result<DecoderMadeOf<M, PRECISION>, ModelError>
 where
     M: IterableEntropyModel<PRECISION>,
     M::Symbol: Eq + Drop,
     requires positive { 0 < PRECISION }
     requires fits { PRECISION ≤ M.Probability.BITS }
-    ensures ok { IfOk result (λ d. StandForRows M.stands_for
-        (⟦<NonContiguousCategoricalDecoderModel<M::Symbol, M::Probability, Vec<(M::Probability, M::Symbol)>, PRECISION> as EntropyModel<PRECISION>>⟧.rows d) (M.rows model)
-        × IsDistinct M.Symbol.eq (symbols_of
-        (⟦<NonContiguousCategoricalDecoderModel<M::Symbol, M::Probability, Vec<(M::Probability, M::Symbol)>, PRECISION> as EntropyModel<PRECISION>>⟧.rows d))) }
+    ensures ok { IfOk result (λ d. StandApart M.Symbol.eq M.stands_for
+        (⟦<DecoderMadeOf<M, PRECISION> as EntropyModel<PRECISION>>⟧.rows d) (M.rows model)) }
     ensures invalid { result ≡ Err ModelError.InvalidTable → ClonesRepeat M.Symbol.eq M.stands_for (M.rows model) }
 {
     let cdf = entries_walked::<_, _, _, _, PRECISION>(alloc, model.symbol_table())?;
@@ -181,16 +187,7 @@ where
 pub fn to_generic_lookup_decoder_model<M, const PRECISION: usize>(
     alloc: Global,
     model: M,
-) -> Result<
-    NonContiguousLookupDecoderModel<
-        M::Symbol,
-        M::Probability,
-        Vec<(M::Probability, M::Symbol)>,
-        Vec<M::Probability>,
-        PRECISION,
-    >,
-    ModelError,
->
+) -> Result<LookupMadeOf<M, PRECISION, 8>, ModelError>
 where
     M: IterableEntropyModel<PRECISION>,
     M::Symbol: Eq + Drop,
@@ -198,10 +195,8 @@ where
     requires positive { 0 < PRECISION }
     requires narrow { PRECISION ≤ 63 }
     requires fits { PRECISION ≤ M.Probability.BITS }
-    ensures ok { IfOk result (λ d. StandForRows M.stands_for
-        (⟦<NonContiguousLookupDecoderModel<M::Symbol, M::Probability, Vec<(M::Probability, M::Symbol)>, Vec<M::Probability>, PRECISION> as EntropyModel<PRECISION>>⟧.rows d) (M.rows model)
-        × IsDistinct M.Symbol.eq (symbols_of
-        (⟦<NonContiguousLookupDecoderModel<M::Symbol, M::Probability, Vec<(M::Probability, M::Symbol)>, Vec<M::Probability>, PRECISION> as EntropyModel<PRECISION>>⟧.rows d))) }
+    ensures ok { IfOk result (λ d. StandApart M.Symbol.eq M.stands_for
+        (⟦<LookupMadeOf<M, PRECISION, 8> as EntropyModel<PRECISION>>⟧.rows d) (M.rows model)) }
     ensures invalid { result ≡ Err ModelError.InvalidTable → ClonesRepeat M.Symbol.eq M.stands_for (M.rows model) }
 {
     to_generic_slotted_lookup_decoder_model::<M, PRECISION, 8>(alloc, model)
@@ -211,17 +206,7 @@ where
 pub fn to_generic_slotted_lookup_decoder_model<M, const PRECISION: usize, const SLOT_BITS: usize>(
     alloc: Global,
     model: M,
-) -> Result<
-    SlottedNonContiguousLookupDecoderModel<
-        M::Symbol,
-        M::Probability,
-        Vec<(M::Probability, M::Symbol)>,
-        Vec<M::Probability>,
-        PRECISION,
-        SLOT_BITS,
-    >,
-    ModelError,
->
+) -> Result<LookupMadeOf<M, PRECISION, SLOT_BITS>, ModelError>
 where
     M: IterableEntropyModel<PRECISION>,
     M::Symbol: Eq + Drop,
@@ -229,10 +214,8 @@ where
     requires positive { 0 < PRECISION }
     requires narrow { PRECISION ≤ 63 }
     requires fits { PRECISION ≤ M.Probability.BITS }
-    ensures ok { IfOk result (λ d. StandForRows M.stands_for
-        (⟦<SlottedNonContiguousLookupDecoderModel<M::Symbol, M::Probability, Vec<(M::Probability, M::Symbol)>, Vec<M::Probability>, PRECISION, SLOT_BITS> as EntropyModel<PRECISION>>⟧.rows d) (M.rows model)
-        × IsDistinct M.Symbol.eq (symbols_of
-        (⟦<SlottedNonContiguousLookupDecoderModel<M::Symbol, M::Probability, Vec<(M::Probability, M::Symbol)>, Vec<M::Probability>, PRECISION, SLOT_BITS> as EntropyModel<PRECISION>>⟧.rows d))) }
+    ensures ok { IfOk result (λ d. StandApart M.Symbol.eq M.stands_for
+        (⟦<LookupMadeOf<M, PRECISION, SLOT_BITS> as EntropyModel<PRECISION>>⟧.rows d) (M.rows model)) }
     ensures invalid { result ≡ Err ModelError.InvalidTable → ClonesRepeat M.Symbol.eq M.stands_for (M.rows model) }
 {
     let searching = to_generic_decoder_model::<M, PRECISION>(alloc, model)?;
@@ -248,13 +231,12 @@ where
 pub fn to_generic_encoder_model<M, const PRECISION: usize>(
     alloc: Global,
     model: M,
-) -> Result<NonContiguousCategoricalEncoderModel<M::Symbol, M::Probability, PRECISION>, ModelError>
+) -> Result<EncoderMadeOf<M, PRECISION>, ModelError>
 where
     M: IterableEntropyModel<PRECISION>,
     M::Symbol: Hash + Eq + Drop,
     ensures entries { IfOk result (λ e. HoldsEntriesOf M.Symbol.eq M.stands_for
-        (⟦<NonContiguousCategoricalEncoderModel<M::Symbol, M::Probability, PRECISION> as EntropyModel<PRECISION>>⟧.rows e)
-        (M.rows model)) }
+        (⟦<EncoderMadeOf<M, PRECISION> as EntropyModel<PRECISION>>⟧.rows e) (M.rows model)) }
     ensures refused { IfErr result (λ e. e ≡ ModelError.OutOfMemory) }
 {
     let table = table_walked::<_, _, _, _, PRECISION>(alloc, model.symbol_table())?;

@@ -3,10 +3,10 @@
 //! [`into_lookup_decoder_model`](NonContiguousCategoricalDecoderModel::into_lookup_decoder_model) makes a lookup
 //! model of what they make.
 
-ghost use Rattle.std.specs.Prelude.{◌≡◌, ◌<◌, ◌≤◌, IfOk, map};
+ghost use Rattle.std.specs.Prelude.{◌≡◌, ◌<◌, ◌≤◌};
 ghost use Rattle.std.specs.Iterator.{IsFiniteIterable};
 ghost use Rattle.std.specs.List.Sorted.{IsStrictlySortedBy};
-ghost use Rattle.constriction_model.specs.Acceptance.{completed, AreAccepted, GaveBothGood, GaveBothBad, GivesDistinct};
+ghost use Rattle.constriction_model.specs.Acceptance.{completed, AreAccepted, WasReadOf, IsMadeOfBoth, GivesDistinct};
 ghost use Rattle.constriction_model.specs.Rows.{rows_of};
 
 use crate::non_contiguous::NonContiguousCategoricalDecoderModel;
@@ -41,21 +41,11 @@ impl<
         requires positive { 0 < PRECISION }
         requires fits { PRECISION ≤ Probability.BITS }
         requires symbols_end { IsFiniteIterable S.into_iter_gives S.IntoIter.can_next S.IntoIter.remaining symbols }
-        requires probabilities_end { IsFiniteIterable P.into_iter_gives P.IntoIter.can_next P.IntoIter.remaining
-            probabilities }
+        requires probabilities_end { IsFiniteIterable P.into_iter_gives P.IntoIter.can_next P.IntoIter.remaining probabilities }
         requires distinct { GivesDistinct S.into_iter_gives S.IntoIter.next_gives Symbol.eq symbols }
-        ensures ok { IfOk result (λ m. (it : S.IntoIter) × S.into_iter_gives symbols it
-            × (jt : P.IntoIter) × P.into_iter_gives probabilities jt
-            × GaveBothGood S.IntoIter.next_gives it P.IntoIter.next_gives jt (λ ss ws.
-            let weights = completed PRECISION infer_last_probability (map Probability.whole ws) in
-            AreAccepted Symbol.eq Probability.BITS PRECISION ss weights
-            × (⟦<NonContiguousCategoricalDecoderModel<Symbol, Probability, Vec<(Probability, Symbol)>, PRECISION> as EntropyModel<PRECISION>>⟧.rows m
-            ≡ rows_of ss weights))) }
-        ensures invalid { result ≡ Err ModelError.InvalidTable → (it : S.IntoIter) × S.into_iter_gives symbols it
-            × (jt : P.IntoIter) × P.into_iter_gives probabilities jt
-            × GaveBothBad S.IntoIter.next_gives it P.IntoIter.next_gives jt (λ ss ws.
-            AreAccepted Symbol.eq Probability.BITS PRECISION ss
-            (completed PRECISION infer_last_probability (map Probability.whole ws))) }
+        ensures { IsMadeOfBoth (AreAccepted Symbol.eq Probability.BITS PRECISION) (completed PRECISION infer_last_probability)
+            (WasReadOf S.into_iter_gives S.IntoIter.next_gives symbols) (WasReadOf P.into_iter_gives P.IntoIter.next_gives probabilities)
+            Probability.whole (λ m ss ws. ⟦<Self as EntropyModel<PRECISION>>⟧.rows m ≡ rows_of ss ws) result }
     {
         let cdf = entries_read::<Probability, Symbol, S, P, PRECISION>(
             alloc,
@@ -96,20 +86,10 @@ impl<
         requires positive { 0 < PRECISION }
         requires fits { PRECISION ≤ Probability.BITS }
         requires symbols_end { IsFiniteIterable S.into_iter_gives S.IntoIter.can_next S.IntoIter.remaining symbols }
-        requires probabilities_end { IsFiniteIterable P.into_iter_gives P.IntoIter.can_next P.IntoIter.remaining
-            probabilities }
-        ensures ok { IfOk result (λ m. (it : S.IntoIter) × S.into_iter_gives symbols it
-            × (jt : P.IntoIter) × P.into_iter_gives probabilities jt
-            × GaveBothGood S.IntoIter.next_gives it P.IntoIter.next_gives jt (λ ss ws.
-            let weights = completed PRECISION infer_last_probability (map Probability.whole ws) in
-            AreAccepted Symbol.eq Probability.BITS PRECISION ss weights
-            × (⟦<NonContiguousCategoricalDecoderModel<Symbol, Probability, Vec<(Probability, Symbol)>, PRECISION> as EntropyModel<PRECISION>>⟧.rows m
-            ≡ rows_of ss weights))) }
-        ensures invalid { result ≡ Err ModelError.InvalidTable → (it : S.IntoIter) × S.into_iter_gives symbols it
-            × (jt : P.IntoIter) × P.into_iter_gives probabilities jt
-            × GaveBothBad S.IntoIter.next_gives it P.IntoIter.next_gives jt (λ ss ws.
-            AreAccepted Symbol.eq Probability.BITS PRECISION ss
-            (completed PRECISION infer_last_probability (map Probability.whole ws))) }
+        requires probabilities_end { IsFiniteIterable P.into_iter_gives P.IntoIter.can_next P.IntoIter.remaining probabilities }
+        ensures { IsMadeOfBoth (AreAccepted Symbol.eq Probability.BITS PRECISION) (completed PRECISION infer_last_probability)
+            (WasReadOf S.into_iter_gives S.IntoIter.next_gives symbols) (WasReadOf P.into_iter_gives P.IntoIter.next_gives probabilities)
+            Probability.whole (λ m ss ws. ⟦<Self as EntropyModel<PRECISION>>⟧.rows m ≡ rows_of ss ws) result }
     {
         let cdf = entries_read::<Probability, Symbol, S, P, PRECISION>(
             alloc,
@@ -153,20 +133,11 @@ impl<
         requires positive { 0 < PRECISION }
         requires fits { PRECISION ≤ Probability.BITS }
         requires symbols_end { IsFiniteIterable S.into_iter_gives S.IntoIter.can_next S.IntoIter.remaining symbols }
-        requires probabilities_end { IsFiniteIterable P.into_iter_gives P.IntoIter.can_next P.IntoIter.remaining
-            probabilities }
-        ensures ok { IfOk result (λ m. (it : S.IntoIter) × S.into_iter_gives symbols it
-            × (jt : P.IntoIter) × P.into_iter_gives probabilities jt
-            × GaveBothGood S.IntoIter.next_gives it P.IntoIter.next_gives jt (λ ss ws.
-            let weights = completed PRECISION infer_last_probability (map Probability.whole ws) in
-            AreAccepted Symbol.eq Probability.BITS PRECISION ss weights × IsStrictlySortedBy Symbol.cmp ss
-            × (⟦<NonContiguousCategoricalDecoderModel<Symbol, Probability, Vec<(Probability, Symbol)>, PRECISION> as EntropyModel<PRECISION>>⟧.rows m
-            ≡ rows_of ss weights))) }
-        ensures invalid { result ≡ Err ModelError.InvalidTable → (it : S.IntoIter) × S.into_iter_gives symbols it
-            × (jt : P.IntoIter) × P.into_iter_gives probabilities jt
-            × GaveBothBad S.IntoIter.next_gives it P.IntoIter.next_gives jt (λ ss ws.
-            AreAccepted Symbol.eq Probability.BITS PRECISION ss
-            (completed PRECISION infer_last_probability (map Probability.whole ws)) × IsStrictlySortedBy Symbol.cmp ss) }
+        requires probabilities_end { IsFiniteIterable P.into_iter_gives P.IntoIter.can_next P.IntoIter.remaining probabilities }
+        ensures { IsMadeOfBoth (λ ss ws. AreAccepted Symbol.eq Probability.BITS PRECISION ss ws × IsStrictlySortedBy Symbol.cmp ss)
+            (completed PRECISION infer_last_probability)
+            (WasReadOf S.into_iter_gives S.IntoIter.next_gives symbols) (WasReadOf P.into_iter_gives P.IntoIter.next_gives probabilities)
+            Probability.whole (λ m ss ws. ⟦<Self as EntropyModel<PRECISION>>⟧.rows m ≡ rows_of ss ws) result }
     {
         let cdf = entries_read::<Probability, Symbol, S, P, PRECISION>(
             alloc,

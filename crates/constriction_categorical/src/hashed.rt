@@ -1,11 +1,11 @@
 //! Models of any symbols for encoders, which find the entry of a symbol by its hash.
 
-ghost use Rattle.std.specs.Prelude.{◌≡◌, ◌^◌, ◌<◌, ◌≤◌, All, length, map, IfOk};
+ghost use Rattle.std.specs.Prelude.{◌≡◌, ◌^◌, ◌<◌, ◌≤◌, All, length, IfOk};
 ghost use Rattle.std.specs.Iterator.{IsFiniteIterable};
 ghost use Rattle.std.specs.List.{IsDistinct};
 ghost use Rattle.std.specs.Map.{keys_of};
 ghost use Rattle.std.proofs.Props.{props};
-ghost use Rattle.constriction_model.specs.Acceptance.{completed, AreAccepted, GaveBothGood, GaveBothBad};
+ghost use Rattle.constriction_model.specs.Acceptance.{completed, AreAccepted, WasReadOf, IsMadeOfBoth};
 ghost use Rattle.constriction_stored_rows.specs.Hashed.{rows_of_table};
 ghost use Rattle.constriction_model.specs.Entries.{SameEntries};
 ghost use Rattle.constriction_model.specs.Model.{LiesWithin, StandForRows};
@@ -89,8 +89,7 @@ impl<
     /// How many symbols have an entry.
     #[inline]
     pub fn support_size(&self) -> usize
-        ensures { result ≡ length
-            (⟦<NonContiguousCategoricalEncoderModel<Symbol, Probability, PRECISION> as EntropyModel<PRECISION>>⟧.rows self.now) }
+        ensures { result ≡ length (⟦<Self as EntropyModel<PRECISION>>⟧.rows self.now) }
     {
         self.table.len()
     }
@@ -124,20 +123,11 @@ impl<
         requires positive { 0 < PRECISION }
         requires fits { PRECISION ≤ Probability.BITS }
         requires symbols_end { IsFiniteIterable S.into_iter_gives S.IntoIter.can_next S.IntoIter.remaining symbols }
-        requires probabilities_end { IsFiniteIterable P.into_iter_gives P.IntoIter.can_next P.IntoIter.remaining
-            probabilities }
-        ensures ok { IfOk result (λ m. (it : S.IntoIter) × S.into_iter_gives symbols it
-            × (jt : P.IntoIter) × P.into_iter_gives probabilities jt
-            × GaveBothGood S.IntoIter.next_gives it P.IntoIter.next_gives jt (λ ss ws.
-            let weights = completed PRECISION infer_last_probability (map Probability.whole ws) in
-            let rows = ⟦<NonContiguousCategoricalEncoderModel<Symbol, Probability, PRECISION> as EntropyModel<PRECISION>>⟧.rows m in
-            AreAccepted Symbol.eq Probability.BITS PRECISION ss weights
-            × SameEntries Symbol.eq rows (rows_of ss weights) × (length rows ≡ length ss))) }
-        ensures invalid { result ≡ Err ModelError.InvalidTable → (it : S.IntoIter) × S.into_iter_gives symbols it
-            × (jt : P.IntoIter) × P.into_iter_gives probabilities jt
-            × GaveBothBad S.IntoIter.next_gives it P.IntoIter.next_gives jt (λ ss ws.
-            AreAccepted Symbol.eq Probability.BITS PRECISION ss
-            (completed PRECISION infer_last_probability (map Probability.whole ws))) }
+        requires probabilities_end { IsFiniteIterable P.into_iter_gives P.IntoIter.can_next P.IntoIter.remaining probabilities }
+        ensures { IsMadeOfBoth (AreAccepted Symbol.eq Probability.BITS PRECISION) (completed PRECISION infer_last_probability)
+            (WasReadOf S.into_iter_gives S.IntoIter.next_gives symbols) (WasReadOf P.into_iter_gives P.IntoIter.next_gives probabilities)
+            Probability.whole (λ m ss ws. SameEntries Symbol.eq (⟦<Self as EntropyModel<PRECISION>>⟧.rows m) (rows_of ss ws)
+            × (length (⟦<Self as EntropyModel<PRECISION>>⟧.rows m) ≡ length ss)) result }
     {
         let symbols = symbols.into_iter();
         let room = table_for(alloc, rows_announced::<PRECISION>(symbols.size_hint().0));
@@ -168,9 +158,8 @@ impl<
     ///
     /// A copy of the table and a clone of each symbol. It is refused where memory for one of these is.
     pub fn clone(&self) -> Result<Self, AllocError>
-        ensures { IfOk result (λ m. StandForRows Symbol.is_clone
-            (⟦<NonContiguousCategoricalEncoderModel<Symbol, Probability, PRECISION> as EntropyModel<PRECISION>>⟧.rows m)
-            (⟦<NonContiguousCategoricalEncoderModel<Symbol, Probability, PRECISION> as EntropyModel<PRECISION>>⟧.rows self.now)) }
+        ensures { IfOk result (λ m. StandForRows Symbol.is_clone (⟦<Self as EntropyModel<PRECISION>>⟧.rows m)
+            (⟦<Self as EntropyModel<PRECISION>>⟧.rows self.now)) }
     {
         let table = self.table.clone()?;
         // A call on the clone tells that no two of its keys are equal, whatever is known of clones of them.

@@ -22,11 +22,11 @@ pub trait IterableEntropyModel<const PRECISION: usize>: EntropyModel<PRECISION> 
     >;
 
     // That the second symbol stands for the first one, as an item's does for that of its row. Of a table of clones it is what the
-    // symbols' type says of a clone, and of one that makes none it is equality.
-    ghost stands_for: { Self.Symbol → Self.Symbol → Type 0 };
+    // symbols' type says of a clone. Where an implementer says nothing, it makes none, and this is equality.
+    ghost stands_for: { Self.Symbol → Self.Symbol → Type 0 } = { λ s t. t ≡ s };
 
-    // That a row with this symbol may be refused, for want of memory. Of a table that takes none it is ⊥.
-    ghost may_refuse: { Self.Symbol → Type 0 };
+    // That a row with this symbol may be refused, for want of memory. None may be, where an implementer says nothing else.
+    ghost may_refuse: { Self.Symbol → Type 0 } = { λ _. ⊥ };
 
     // The rows that a table has yet to give.
     ghost rows_left: { Self.SymbolTable → List (Row Self.Symbol) };
@@ -39,10 +39,8 @@ pub trait IterableEntropyModel<const PRECISION: usize>: EntropyModel<PRECISION> 
         ensures ends { UpTo (Self.SymbolTable.remaining result) (length (Self.rows self)) };
 
     // Each step gives the first of the rows that are left, and nothing exactly where none is left.
-    ghost steps_law: { (t : Self.SymbolTable) (r : _) (u : Self.SymbolTable)
-        → Self.SymbolTable.next_gives t r u
-        → YieldsRow stands_for may_refuse Self.Probability.whole Self.Probability.base
-        (rows_left t) r (rows_left u) };
+    ghost steps_law: { (t : Self.SymbolTable) (r : _) (u : Self.SymbolTable) → Self.SymbolTable.next_gives t r u
+        → YieldsRow stands_for may_refuse Self.Probability.whole Self.Probability.base rows_left t r u };
 
     // The rows tile the quantiles, so that each quantile has exactly one row.
     ghost tile_law: { (m : Self) → RowsTile Self.Probability.BITS PRECISION (Self.rows m) };

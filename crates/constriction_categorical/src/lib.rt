@@ -29,8 +29,9 @@ pub use crate::convert::distinct::{
     to_generic_decoder_model_of_distinct, to_generic_lookup_decoder_model_of_distinct,
 };
 pub use crate::convert::{
-    FromIterableEntropyModel, to_generic_decoder_model, to_generic_encoder_model,
-    to_generic_lookup_decoder_model, to_generic_slotted_lookup_decoder_model,
+    DecoderMadeOf, EncoderMadeOf, FromIterableEntropyModel, LookupMadeOf, to_generic_decoder_model,
+    to_generic_encoder_model, to_generic_lookup_decoder_model,
+    to_generic_slotted_lookup_decoder_model,
 };
 pub use crate::hashed::{
     DefaultNonContiguousCategoricalEncoderModel, NonContiguousCategoricalEncoderModel,

@@ -1,7 +1,7 @@
 //! Models that look up where to search for the row of a quantile.
 
-ghost use Rattle.std.specs.Prelude.{◌≡◌, ◌+◌, ◌/◌, ◌^◌, ◌<◌, ◌≤◌, ℕ, map, count_by, IfOk};
-ghost use Rattle.constriction_model.specs.Probe.{TellsRows, IsRowIndexOf, IsSearchable, IsLastAtMost};
+ghost use Rattle.std.specs.Prelude.{◌≡◌, ◌/◌, ◌^◌, ◌<◌, ◌≤◌, map, count_by, IfOk};
+ghost use Rattle.constriction_model.specs.Probe.{IsProbeFor};
 ghost use Rattle.constriction_stored_rows.specs.Slots.{MeetsSlot, meets_slot, slot_count, slot_width};
 ghost use Rattle.constriction_stored_rows.specs.SlotTable.{HasSlots};
 
@@ -65,9 +65,7 @@ impl<
     where
         Model: Drop,
         requires narrow { PRECISION ≤ 63 }
-        ensures { IfOk result (λ m.
-            ⟦<LookupDecoderModel<Model, Vec<Model::Probability>, PRECISION, SLOT_BITS> as EntropyModel<PRECISION>>⟧.rows m
-            ≡ Model.rows model) }
+        ensures { IfOk result (λ m. ⟦<Self as EntropyModel<PRECISION>>⟧.rows m ≡ Model.rows model) }
     {
         let lookup_table = slots_of::<Model::Entry, Model::Kind, PRECISION, SLOT_BITS>(
             alloc,
@@ -102,19 +100,11 @@ where
         quantile: Model::Probability,
     ) -> (usize, CdfProbe<'m, Model::Entry, Model::Kind>)
         requires { Model.Probability.whole quantile < 2 ^ PRECISION }
-        ensures rows { TellsRows
-            (⟦<LookupDecoderModel<Model, LookupTable, PRECISION, SLOT_BITS> as EntropyModel<PRECISION>>⟧.rows self.now)
-            (MeetsSlot (slot_width PRECISION SLOT_BITS) (Model.Probability.whole quantile / slot_width PRECISION SLOT_BITS)) result.0
-            (⟦<CdfProbe<'m, Model::Entry, Model::Kind> as Probe>⟧.cumulatives result.1) }
-        ensures searchable { IsSearchable (⟦<CdfProbe<'m, Model::Entry, Model::Kind> as Probe>⟧.cumulatives result.1)
-            (Model.Probability.whole quantile) }
-        ensures fresh { ⟦<CdfProbe<'m, Model::Entry, Model::Kind> as Probe>⟧.questions result.1 ≡ 0 }
-        ensures found { (i : ℕ)
-            → IsLastAtMost (⟦<CdfProbe<'m, Model::Entry, Model::Kind> as Probe>⟧.cumulatives result.1)
-            (Model.Probability.whole quantile) i
-            → IsRowIndexOf
-            (⟦<LookupDecoderModel<Model, LookupTable, PRECISION, SLOT_BITS> as EntropyModel<PRECISION>>⟧.rows self.now)
-            (Model.Probability.whole quantile) (result.0 + i) }
+        ensures { IsProbeFor (⟦<Self as EntropyModel<PRECISION>>⟧.rows self.now)
+            (MeetsSlot (slot_width PRECISION SLOT_BITS) (Model.Probability.whole quantile / slot_width PRECISION SLOT_BITS))
+            (Model.Probability.whole quantile) result.0
+            (⟦<CdfProbe<'m, Model::Entry, Model::Kind> as Probe>⟧.cumulatives result.1)
+            (⟦<CdfProbe<'m, Model::Entry, Model::Kind> as Probe>⟧.questions result.1) }
     {
         slot_probe::<Model::Entry, Model::Kind, PRECISION, SLOT_BITS>(
             self.model.entries(),
@@ -209,8 +199,7 @@ where
     pub fn into_contiguous_categorical(self) -> Model
     where
         LookupTable: Drop,
-        ensures { Model.rows result
-            ≡ ⟦<LookupDecoderModel<Model, LookupTable, PRECISION, SLOT_BITS> as EntropyModel<PRECISION>>⟧.rows self }
+        ensures { Model.rows result ≡ ⟦<Self as EntropyModel<PRECISION>>⟧.rows self }
     {
         let Self {
             model,
@@ -236,8 +225,7 @@ where
     pub fn into_non_contiguous_categorical(self) -> Model
     where
         LookupTable: Drop,
-        ensures { Model.rows result
-            ≡ ⟦<LookupDecoderModel<Model, LookupTable, PRECISION, SLOT_BITS> as EntropyModel<PRECISION>>⟧.rows self }
+        ensures { Model.rows result ≡ ⟦<Self as EntropyModel<PRECISION>>⟧.rows self }
     {
         let Self {
             model,

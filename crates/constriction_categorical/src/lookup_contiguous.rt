@@ -1,8 +1,8 @@
 //! Models of the symbols 0, 1, .., which look up where to search for the row of a quantile.
 
-ghost use Rattle.std.specs.Prelude.{◌≡◌, ◌<◌, ◌≤◌, length, map, IfOk, IfErr};
-ghost use Rattle.std.specs.Iterator.{IsFiniteIterable, UpTo, size};
-ghost use Rattle.constriction_model.specs.Acceptance.{completed, IsAccepted, GaveGood, GaveBad};
+ghost use Rattle.std.specs.Prelude.{◌≡◌, ◌<◌, ◌≤◌, map, IfOk, IfErr};
+ghost use Rattle.std.specs.Iterator.{IsFiniteIterable};
+ghost use Rattle.constriction_model.specs.Acceptance.{completed, IsAccepted, WasReadOf, IsMadeOfWeights};
 ghost use Rattle.constriction_model.specs.Rows.{contiguous_rows};
 ghost use Rattle.constriction_stored_rows.specs.StoredRowLemmas.{stored-tiles};
 ghost use Rattle.constriction_stored_rows.specs.Stored.{rows_stored};
@@ -74,18 +74,10 @@ impl<
         requires positive { 0 < PRECISION }
         requires narrow { PRECISION ≤ 63 }
         requires fits { PRECISION ≤ Probability.BITS }
-        requires ends { IsFiniteIterable I.into_iter_gives I.IntoIter.can_next I.IntoIter.remaining
-            probabilities }
-        ensures ok { IfOk result (λ m. (it : I.IntoIter) × I.into_iter_gives probabilities it
-            × GaveGood I.IntoIter.next_gives it (λ ws.
-            let weights = completed PRECISION infer_last_probability (map Probability.whole ws) in
-            IsAccepted Probability.BITS PRECISION weights
-            × (⟦<SlottedContiguousLookupDecoderModel<Probability, Vec<Probability>, Vec<Probability>, PRECISION, SLOT_BITS> as EntropyModel<PRECISION>>⟧.rows m
-            ≡ contiguous_rows weights))) }
-        ensures invalid { result ≡ Err ModelError.InvalidTable → (it : I.IntoIter)
-            × I.into_iter_gives probabilities it
-            × GaveBad I.IntoIter.next_gives it (λ ws. IsAccepted Probability.BITS PRECISION
-            (completed PRECISION infer_last_probability (map Probability.whole ws))) }
+        requires ends { IsFiniteIterable I.into_iter_gives I.IntoIter.can_next I.IntoIter.remaining probabilities }
+        ensures { IsMadeOfWeights (IsAccepted Probability.BITS PRECISION) (completed PRECISION infer_last_probability)
+            (WasReadOf I.into_iter_gives I.IntoIter.next_gives probabilities) Probability.whole
+            (λ m ws. ⟦<Self as EntropyModel<PRECISION>>⟧.rows m ≡ contiguous_rows ws) result }
     {
         let model = ContiguousCategoricalEntropyModel::<
             Probability,
@@ -99,9 +91,7 @@ impl<
     ///
     /// Two allocations, and one copy of each.
     pub fn clone(&self) -> Result<Self, AllocError>
-        ensures { IfOk result (λ m.
-            ⟦<SlottedContiguousLookupDecoderModel<Probability, Vec<Probability>, Vec<Probability>, PRECISION, SLOT_BITS> as EntropyModel<PRECISION>>⟧.rows m
-            ≡ ⟦<SlottedContiguousLookupDecoderModel<Probability, Vec<Probability>, Vec<Probability>, PRECISION, SLOT_BITS> as EntropyModel<PRECISION>>⟧.rows self.now) }
+        ensures { IfOk result (λ m. ⟦<Self as EntropyModel<PRECISION>>⟧.rows m ≡ ⟦<Self as EntropyModel<PRECISION>>⟧.rows self.now) }
     {
         let model = self.model.clone()?;
         let lookup_table = copied(*self.lookup_table.allocator(), self.lookup_table.as_slice())?;
@@ -131,7 +121,7 @@ impl<
         requires { PRECISION ≤ 63 }
         ensures ok { IfOk result (λ m.
             ⟦<ContiguousLookupDecoderModel<Probability, Vec<Probability>, Vec<Probability>, PRECISION> as EntropyModel<PRECISION>>⟧.rows m
-            ≡ ⟦<ContiguousCategoricalEntropyModel<Probability, Cdf, PRECISION> as EntropyModel<PRECISION>>⟧.rows self.now) }
+            ≡ ⟦<Self as EntropyModel<PRECISION>>⟧.rows self.now) }
         ensures refused { IfErr result (λ e. e ≡ ModelError.OutOfMemory) }
     {
         self.to_slotted_lookup_decoder_model::<8>(alloc)
@@ -154,7 +144,7 @@ impl<
         requires { PRECISION ≤ 63 }
         ensures ok { IfOk result (λ m.
             ⟦<SlottedContiguousLookupDecoderModel<Probability, Vec<Probability>, Vec<Probability>, PRECISION, SLOT_BITS> as EntropyModel<PRECISION>>⟧.rows m
-            ≡ ⟦<ContiguousCategoricalEntropyModel<Probability, Cdf, PRECISION> as EntropyModel<PRECISION>>⟧.rows self.now) }
+            ≡ ⟦<Self as EntropyModel<PRECISION>>⟧.rows self.now) }
         ensures refused { IfErr result (λ e. e ≡ ModelError.OutOfMemory) }
     {
         let model = self.in_vec(alloc)?;
@@ -181,7 +171,7 @@ impl<
         SLOT_BITS,
     >
         ensures { ⟦<SlottedContiguousLookupDecoderModel<Probability, &'m [Probability], &'m [Probability], PRECISION, SLOT_BITS> as EntropyModel<PRECISION>>⟧.rows result
-            ≡ ⟦<SlottedContiguousLookupDecoderModel<Probability, Cdf, LookupTable, PRECISION, SLOT_BITS> as EntropyModel<PRECISION>>⟧.rows self.now }
+            ≡ ⟦<Self as EntropyModel<PRECISION>>⟧.rows self.now }
     {
         LookupDecoderModel {
             model: self.model.as_view(),
@@ -196,7 +186,7 @@ impl<
         &'m self,
     ) -> ContiguousCategoricalEntropyModel<Probability, &'m [Probability], PRECISION>
         ensures { ⟦<ContiguousCategoricalEntropyModel<Probability, &'m [Probability], PRECISION> as EntropyModel<PRECISION>>⟧.rows result
-            ≡ ⟦<SlottedContiguousLookupDecoderModel<Probability, Cdf, LookupTable, PRECISION, SLOT_BITS> as EntropyModel<PRECISION>>⟧.rows self.now }
+            ≡ ⟦<Self as EntropyModel<PRECISION>>⟧.rows self.now }
     {
         self.model.as_view()
     }
@@ -219,26 +209,12 @@ impl<
     > {
     type SymbolTable = ContiguousSymbolTable<'m, Probability, PRECISION>;
 
-    ghost stands_for = { λ s t. t ≡ s };
-
-    ghost may_refuse = { λ _. ⊥ };
-
     ghost rows_left = { λ t. rows_stored PRECISION (map Probability.whole t.cdf.now) t.from t.to };
 
     /// All rows in order, each once: symbol, left cumulative and weight. It takes no memory, and
     /// every item is a row.
     #[inline]
-    fn symbol_table(self) -> ContiguousSymbolTable<'m, Probability, PRECISION>
-        ensures all { ⟦<&'m SlottedContiguousLookupDecoderModel<Probability, Cdf, LookupTable, PRECISION, SLOT_BITS> as IterableEntropyModel<PRECISION>>⟧.rows_left result
-            ≡ ⟦<SlottedContiguousLookupDecoderModel<Probability, Cdf, LookupTable, PRECISION, SLOT_BITS> as EntropyModel<PRECISION>>⟧.rows self.now }
-        ensures callable { ⟦<ContiguousSymbolTable<'m, Probability, PRECISION> as Iterator>⟧.can_next result }
-        ensures ends { UpTo (⟦<ContiguousSymbolTable<'m, Probability, PRECISION> as Iterator>⟧.remaining result)
-            (length
-            (⟦<SlottedContiguousLookupDecoderModel<Probability, Cdf, LookupTable, PRECISION, SLOT_BITS> as EntropyModel<PRECISION>>⟧.rows self.now)) }
-        ensures counted { size (⟦<ContiguousSymbolTable<'m, Probability, PRECISION> as Iterator>⟧.remaining result)
-            ≡ length
-            (⟦<SlottedContiguousLookupDecoderModel<Probability, Cdf, LookupTable, PRECISION, SLOT_BITS> as EntropyModel<PRECISION>>⟧.rows self.now) }
-    {
+    fn symbol_table(self) -> ContiguousSymbolTable<'m, Probability, PRECISION> {
         (&self.model).symbol_table()
     }
 

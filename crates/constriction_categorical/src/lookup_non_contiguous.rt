@@ -1,8 +1,8 @@
 //! Models of any symbols, which look up where to search for the row of a quantile.
 
-ghost use Rattle.std.specs.Prelude.{◌≡◌, ◌<◌, ◌≤◌, length, map, IfOk, IfErr};
-ghost use Rattle.std.specs.Iterator.{IsFiniteIterable, UpTo, size};
-ghost use Rattle.constriction_model.specs.Acceptance.{completed, AreAccepted, GaveBothGood, GaveBothBad};
+ghost use Rattle.std.specs.Prelude.{◌≡◌, ◌<◌, ◌≤◌, IfOk, IfErr};
+ghost use Rattle.std.specs.Iterator.{IsFiniteIterable};
+ghost use Rattle.constriction_model.specs.Acceptance.{completed, AreAccepted, WasReadOf, IsMadeOfBoth};
 ghost use Rattle.constriction_model.specs.Model.{StandForRows, ClonesAreEqual};
 ghost use Rattle.constriction_model.specs.Rows.{rows_of};
 ghost use Rattle.constriction_stored_rows.specs.SymbolRowLemmas.{paired-tiles};
@@ -96,20 +96,10 @@ impl<
         requires narrow { PRECISION ≤ 63 }
         requires fits { PRECISION ≤ Probability.BITS }
         requires symbols_end { IsFiniteIterable S.into_iter_gives S.IntoIter.can_next S.IntoIter.remaining symbols }
-        requires probabilities_end { IsFiniteIterable P.into_iter_gives P.IntoIter.can_next P.IntoIter.remaining
-            probabilities }
-        ensures ok { IfOk result (λ m. (it : S.IntoIter) × S.into_iter_gives symbols it
-            × (jt : P.IntoIter) × P.into_iter_gives probabilities jt
-            × GaveBothGood S.IntoIter.next_gives it P.IntoIter.next_gives jt (λ ss ws.
-            let weights = completed PRECISION infer_last_probability (map Probability.whole ws) in
-            AreAccepted Symbol.eq Probability.BITS PRECISION ss weights
-            × (⟦<SlottedNonContiguousLookupDecoderModel<Symbol, Probability, Vec<(Probability, Symbol)>, Vec<Probability>, PRECISION, SLOT_BITS> as EntropyModel<PRECISION>>⟧.rows m
-            ≡ rows_of ss weights))) }
-        ensures invalid { result ≡ Err ModelError.InvalidTable → (it : S.IntoIter) × S.into_iter_gives symbols it
-            × (jt : P.IntoIter) × P.into_iter_gives probabilities jt
-            × GaveBothBad S.IntoIter.next_gives it P.IntoIter.next_gives jt (λ ss ws.
-            AreAccepted Symbol.eq Probability.BITS PRECISION ss
-            (completed PRECISION infer_last_probability (map Probability.whole ws))) }
+        requires probabilities_end { IsFiniteIterable P.into_iter_gives P.IntoIter.can_next P.IntoIter.remaining probabilities }
+        ensures { IsMadeOfBoth (AreAccepted Symbol.eq Probability.BITS PRECISION) (completed PRECISION infer_last_probability)
+            (WasReadOf S.into_iter_gives S.IntoIter.next_gives symbols) (WasReadOf P.into_iter_gives P.IntoIter.next_gives probabilities)
+            Probability.whole (λ m ss ws. ⟦<Self as EntropyModel<PRECISION>>⟧.rows m ≡ rows_of ss ws) result }
     {
         let model = NonContiguousCategoricalDecoderModel::<
             Symbol,
@@ -145,9 +135,8 @@ impl<
     /// Two allocations and a clone of each symbol. It is refused where memory for one of these is.
     pub fn clone(&self) -> Result<Self, AllocError>
         requires { ClonesAreEqual Symbol.eq Symbol.is_clone }
-        ensures { IfOk result (λ m. StandForRows Symbol.is_clone
-            (⟦<SlottedNonContiguousLookupDecoderModel<Symbol, Probability, Vec<(Probability, Symbol)>, Vec<Probability>, PRECISION, SLOT_BITS> as EntropyModel<PRECISION>>⟧.rows m)
-            (⟦<SlottedNonContiguousLookupDecoderModel<Symbol, Probability, Vec<(Probability, Symbol)>, Vec<Probability>, PRECISION, SLOT_BITS> as EntropyModel<PRECISION>>⟧.rows self.now)) }
+        ensures { IfOk result (λ m. StandForRows Symbol.is_clone (⟦<Self as EntropyModel<PRECISION>>⟧.rows m)
+            (⟦<Self as EntropyModel<PRECISION>>⟧.rows self.now)) }
     {
         let model = self.model.clone()?;
         let lookup_table = copied(*self.lookup_table.allocator(), self.lookup_table.as_slice())?;
@@ -186,7 +175,7 @@ impl<
         requires clones { ClonesAreEqual Symbol.eq Symbol.is_clone }
         ensures ok { IfOk result (λ m. StandForRows Symbol.is_clone
             (⟦<NonContiguousLookupDecoderModel<Symbol, Probability, Vec<(Probability, Symbol)>, Vec<Probability>, PRECISION> as EntropyModel<PRECISION>>⟧.rows m)
-            (⟦<NonContiguousCategoricalDecoderModel<Symbol, Probability, Cdf, PRECISION> as EntropyModel<PRECISION>>⟧.rows self.now)) }
+            (⟦<Self as EntropyModel<PRECISION>>⟧.rows self.now)) }
         ensures refused { IfErr result (λ e. e ≡ ModelError.OutOfMemory) }
     {
         self.to_slotted_lookup_decoder_model::<8>(alloc)
@@ -211,7 +200,7 @@ impl<
         requires clones { ClonesAreEqual Symbol.eq Symbol.is_clone }
         ensures ok { IfOk result (λ m. StandForRows Symbol.is_clone
             (⟦<SlottedNonContiguousLookupDecoderModel<Symbol, Probability, Vec<(Probability, Symbol)>, Vec<Probability>, PRECISION, SLOT_BITS> as EntropyModel<PRECISION>>⟧.rows m)
-            (⟦<NonContiguousCategoricalDecoderModel<Symbol, Probability, Cdf, PRECISION> as EntropyModel<PRECISION>>⟧.rows self.now)) }
+            (⟦<Self as EntropyModel<PRECISION>>⟧.rows self.now)) }
         ensures refused { IfErr result (λ e. e ≡ ModelError.OutOfMemory) }
     {
         let model = self.in_vec(alloc)?;
@@ -247,7 +236,7 @@ impl<
         SLOT_BITS,
     >
         ensures { ⟦<SlottedNonContiguousLookupDecoderModel<Symbol, Probability, &'m [(Probability, Symbol)], &'m [Probability], PRECISION, SLOT_BITS> as EntropyModel<PRECISION>>⟧.rows result
-            ≡ ⟦<SlottedNonContiguousLookupDecoderModel<Symbol, Probability, Cdf, LookupTable, PRECISION, SLOT_BITS> as EntropyModel<PRECISION>>⟧.rows self.now }
+            ≡ ⟦<Self as EntropyModel<PRECISION>>⟧.rows self.now }
     {
         LookupDecoderModel {
             model: self.model.as_view(),
@@ -266,7 +255,7 @@ impl<
         PRECISION,
     >
         ensures { ⟦<NonContiguousCategoricalDecoderModel<Symbol, Probability, &'m [(Probability, Symbol)], PRECISION> as EntropyModel<PRECISION>>⟧.rows result
-            ≡ ⟦<SlottedNonContiguousLookupDecoderModel<Symbol, Probability, Cdf, LookupTable, PRECISION, SLOT_BITS> as EntropyModel<PRECISION>>⟧.rows self.now }
+            ≡ ⟦<Self as EntropyModel<PRECISION>>⟧.rows self.now }
     {
         self.model.as_view()
     }
@@ -300,17 +289,7 @@ impl<
     /// All rows in order, each once: symbol, left cumulative and weight, the symbol by a clone. Where
     /// memory for a clone is refused, the refusal stands in the row's place.
     #[inline]
-    fn symbol_table(self) -> NonContiguousSymbolTable<'m, Symbol, Probability, PRECISION>
-        ensures all { ⟦<&'m SlottedNonContiguousLookupDecoderModel<Symbol, Probability, Cdf, LookupTable, PRECISION, SLOT_BITS> as IterableEntropyModel<PRECISION>>⟧.rows_left result
-            ≡ ⟦<SlottedNonContiguousLookupDecoderModel<Symbol, Probability, Cdf, LookupTable, PRECISION, SLOT_BITS> as EntropyModel<PRECISION>>⟧.rows self.now }
-        ensures callable { ⟦<NonContiguousSymbolTable<'m, Symbol, Probability, PRECISION> as Iterator>⟧.can_next result }
-        ensures ends { UpTo (⟦<NonContiguousSymbolTable<'m, Symbol, Probability, PRECISION> as Iterator>⟧.remaining result)
-            (length
-            (⟦<SlottedNonContiguousLookupDecoderModel<Symbol, Probability, Cdf, LookupTable, PRECISION, SLOT_BITS> as EntropyModel<PRECISION>>⟧.rows self.now)) }
-        ensures counted { size (⟦<NonContiguousSymbolTable<'m, Symbol, Probability, PRECISION> as Iterator>⟧.remaining result)
-            ≡ length
-            (⟦<SlottedNonContiguousLookupDecoderModel<Symbol, Probability, Cdf, LookupTable, PRECISION, SLOT_BITS> as EntropyModel<PRECISION>>⟧.rows self.now) }
-    {
+    fn symbol_table(self) -> NonContiguousSymbolTable<'m, Symbol, Probability, PRECISION> {
         (&self.model).symbol_table()
     }
 

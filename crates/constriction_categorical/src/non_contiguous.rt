@@ -1,12 +1,12 @@
 //! Models of any symbols, which find the row of a quantile by a search.
 
-ghost use Rattle.std.specs.Prelude.{◌≡◌, ◌+◌, ◌^◌, ◌<◌, ◌≤◌, ℕ, length, map, IfOk, ⊤};
-ghost use Rattle.std.specs.Iterator.{IsFiniteIterable, UpTo, size};
+ghost use Rattle.std.specs.Prelude.{◌≡◌, ◌+◌, ◌^◌, ◌<◌, ◌≤◌, length, map, IfOk, ⊤};
+ghost use Rattle.std.specs.Iterator.{IsFiniteIterable};
 ghost use Rattle.std.specs.List.{IsDistinct};
 ghost use Rattle.std.proofs.Props.{props};
-ghost use Rattle.constriction_model.specs.Acceptance.{completed, AreAccepted, GaveBothGood, GaveBothBad};
+ghost use Rattle.constriction_model.specs.Acceptance.{completed, AreAccepted, WasReadOf, IsMadeOfBoth};
 ghost use Rattle.constriction_model.specs.Model.{StandForRows, ClonesAreEqual};
-ghost use Rattle.constriction_model.specs.Probe.{TellsRows, IsRowIndexOf, IsSearchable, IsLastAtMost};
+ghost use Rattle.constriction_model.specs.Probe.{IsProbeFor};
 ghost use Rattle.constriction_model.specs.Rows.{rows_of};
 ghost use Rattle.constriction_stored_rows.specs.Stored.{IsStored};
 ghost use Rattle.constriction_stored_rows.specs.SymbolRowLemmas.{paired-tiles};
@@ -103,20 +103,10 @@ impl<
         requires positive { 0 < PRECISION }
         requires fits { PRECISION ≤ Probability.BITS }
         requires symbols_end { IsFiniteIterable S.into_iter_gives S.IntoIter.can_next S.IntoIter.remaining symbols }
-        requires probabilities_end { IsFiniteIterable P.into_iter_gives P.IntoIter.can_next P.IntoIter.remaining
-            probabilities }
-        ensures ok { IfOk result (λ m. (it : S.IntoIter) × S.into_iter_gives symbols it
-            × (jt : P.IntoIter) × P.into_iter_gives probabilities jt
-            × GaveBothGood S.IntoIter.next_gives it P.IntoIter.next_gives jt (λ ss ws.
-            let weights = completed PRECISION infer_last_probability (map Probability.whole ws) in
-            AreAccepted Symbol.eq Probability.BITS PRECISION ss weights
-            × (⟦<NonContiguousCategoricalDecoderModel<Symbol, Probability, Vec<(Probability, Symbol)>, PRECISION> as EntropyModel<PRECISION>>⟧.rows m
-            ≡ rows_of ss weights))) }
-        ensures invalid { result ≡ Err ModelError.InvalidTable → (it : S.IntoIter) × S.into_iter_gives symbols it
-            × (jt : P.IntoIter) × P.into_iter_gives probabilities jt
-            × GaveBothBad S.IntoIter.next_gives it P.IntoIter.next_gives jt (λ ss ws.
-            AreAccepted Symbol.eq Probability.BITS PRECISION ss
-            (completed PRECISION infer_last_probability (map Probability.whole ws))) }
+        requires probabilities_end { IsFiniteIterable P.into_iter_gives P.IntoIter.can_next P.IntoIter.remaining probabilities }
+        ensures { IsMadeOfBoth (AreAccepted Symbol.eq Probability.BITS PRECISION) (completed PRECISION infer_last_probability)
+            (WasReadOf S.into_iter_gives S.IntoIter.next_gives symbols) (WasReadOf P.into_iter_gives P.IntoIter.next_gives probabilities)
+            Probability.whole (λ m ss ws. ⟦<Self as EntropyModel<PRECISION>>⟧.rows m ≡ rows_of ss ws) result }
     {
         let symbols = symbols.into_iter();
         let room = room_for(alloc, rows_announced::<PRECISION>(symbols.size_hint().0));
@@ -144,9 +134,8 @@ impl<
     /// One allocation and a clone of each symbol. It is refused where memory for one of these is.
     pub fn clone(&self) -> Result<Self, AllocError>
         requires { ClonesAreEqual Symbol.eq Symbol.is_clone }
-        ensures { IfOk result (λ m. StandForRows Symbol.is_clone
-            (⟦<NonContiguousCategoricalDecoderModel<Symbol, Probability, Vec<(Probability, Symbol)>, PRECISION> as EntropyModel<PRECISION>>⟧.rows m)
-            (⟦<NonContiguousCategoricalDecoderModel<Symbol, Probability, Vec<(Probability, Symbol)>, PRECISION> as EntropyModel<PRECISION>>⟧.rows self.now)) }
+        ensures { IfOk result (λ m. StandForRows Symbol.is_clone (⟦<Self as EntropyModel<PRECISION>>⟧.rows m)
+            (⟦<Self as EntropyModel<PRECISION>>⟧.rows self.now)) }
     {
         self.in_vec(*self.cdf.allocator())
     }
@@ -161,8 +150,7 @@ impl<
     /// How many symbols the model has.
     #[inline]
     pub fn support_size(&self) -> usize
-        ensures { result ≡ length
-            (⟦<NonContiguousCategoricalDecoderModel<Symbol, Probability, Cdf, PRECISION> as EntropyModel<PRECISION>>⟧.rows self.now) }
+        ensures { result ≡ length (⟦<Self as EntropyModel<PRECISION>>⟧.rows self.now) }
     {
         self.cdf.words().len()
     }
@@ -186,7 +174,7 @@ impl<
         PRECISION,
     >
         ensures { ⟦<NonContiguousCategoricalDecoderModel<Symbol, Probability, &'m [(Probability, Symbol)], PRECISION> as EntropyModel<PRECISION>>⟧.rows result
-            ≡ ⟦<NonContiguousCategoricalDecoderModel<Symbol, Probability, Cdf, PRECISION> as EntropyModel<PRECISION>>⟧.rows self.now }
+            ≡ ⟦<Self as EntropyModel<PRECISION>>⟧.rows self.now }
     {
         NonContiguousCategoricalDecoderModel {
             cdf: self.cdf.words(),
@@ -203,18 +191,9 @@ impl<
         quantile: Probability,
     ) -> (usize, CdfProbe<'m, (Probability, Symbol), WithSymbol>)
         requires { Probability.whole quantile < 2 ^ PRECISION }
-        ensures rows { TellsRows
-            (⟦<NonContiguousCategoricalDecoderModel<Symbol, Probability, Cdf, PRECISION> as EntropyModel<PRECISION>>⟧.rows self.now)
-            (λ _. ⊤) result.0 (⟦<CdfProbe<'m, (Probability, Symbol), WithSymbol> as Probe>⟧.cumulatives result.1) }
-        ensures searchable { IsSearchable (⟦<CdfProbe<'m, (Probability, Symbol), WithSymbol> as Probe>⟧.cumulatives result.1)
-            (Probability.whole quantile) }
-        ensures fresh { ⟦<CdfProbe<'m, (Probability, Symbol), WithSymbol> as Probe>⟧.questions result.1 ≡ 0 }
-        ensures found { (i : ℕ)
-            → IsLastAtMost (⟦<CdfProbe<'m, (Probability, Symbol), WithSymbol> as Probe>⟧.cumulatives result.1)
-            (Probability.whole quantile) i
-            → IsRowIndexOf
-            (⟦<NonContiguousCategoricalDecoderModel<Symbol, Probability, Cdf, PRECISION> as EntropyModel<PRECISION>>⟧.rows self.now)
-            (Probability.whole quantile) (result.0 + i) }
+        ensures { IsProbeFor (⟦<Self as EntropyModel<PRECISION>>⟧.rows self.now) (λ _. ⊤) (Probability.whole quantile) result.0
+            (⟦<CdfProbe<'m, (Probability, Symbol), WithSymbol> as Probe>⟧.cumulatives result.1)
+            (⟦<CdfProbe<'m, (Probability, Symbol), WithSymbol> as Probe>⟧.questions result.1) }
     {
         (0, CdfProbe::new(self.cdf_entries()))
     }
@@ -242,7 +221,7 @@ impl<
         requires { ClonesAreEqual Symbol.eq Symbol.is_clone }
         ensures { IfOk result (λ m. StandForRows Symbol.is_clone
             (⟦<NonContiguousCategoricalDecoderModel<Symbol, Probability, Vec<(Probability, Symbol)>, PRECISION> as EntropyModel<PRECISION>>⟧.rows m)
-            (⟦<NonContiguousCategoricalDecoderModel<Symbol, Probability, Cdf, PRECISION> as EntropyModel<PRECISION>>⟧.rows self.now)) }
+            (⟦<Self as EntropyModel<PRECISION>>⟧.rows self.now)) }
     {
         let cdf = entries_cloned(alloc, self.cdf.words())?;
         Ok(NonContiguousCategoricalDecoderModel {
@@ -283,8 +262,7 @@ impl<
     const PRECISION: usize,
 > SearchingModel<PRECISION>
     for NonContiguousCategoricalDecoderModel<Symbol, Probability, Cdf, PRECISION> {
-    ghost rows_in_question = { λ m q. length
-        (⟦<NonContiguousCategoricalDecoderModel<Symbol, Probability, Cdf, PRECISION> as EntropyModel<PRECISION>>⟧.rows m) };
+    ghost rows_in_question = { λ m q. length (⟦<Self as EntropyModel<PRECISION>>⟧.rows m) };
 
     /// The row of a quantile, by [`row_of_quantile`], with a clone of its symbol, and how many rows that asked for.
     #[inline(always)]
@@ -320,17 +298,7 @@ impl<
     /// All rows in order, each once: symbol, left cumulative and weight, the symbol by a clone. Where
     /// memory for a clone is refused, the refusal stands in the row's place.
     #[inline]
-    fn symbol_table(self) -> NonContiguousSymbolTable<'m, Symbol, Probability, PRECISION>
-        ensures all { ⟦<&'m NonContiguousCategoricalDecoderModel<Symbol, Probability, Cdf, PRECISION> as IterableEntropyModel<PRECISION>>⟧.rows_left result
-            ≡ ⟦<NonContiguousCategoricalDecoderModel<Symbol, Probability, Cdf, PRECISION> as EntropyModel<PRECISION>>⟧.rows self.now }
-        ensures callable { ⟦<NonContiguousSymbolTable<'m, Symbol, Probability, PRECISION> as Iterator>⟧.can_next result }
-        ensures ends { UpTo (⟦<NonContiguousSymbolTable<'m, Symbol, Probability, PRECISION> as Iterator>⟧.remaining result)
-            (length
-            (⟦<NonContiguousCategoricalDecoderModel<Symbol, Probability, Cdf, PRECISION> as EntropyModel<PRECISION>>⟧.rows self.now)) }
-        ensures counted { size (⟦<NonContiguousSymbolTable<'m, Symbol, Probability, PRECISION> as Iterator>⟧.remaining result)
-            ≡ length
-            (⟦<NonContiguousCategoricalDecoderModel<Symbol, Probability, Cdf, PRECISION> as EntropyModel<PRECISION>>⟧.rows self.now) }
-    {
+    fn symbol_table(self) -> NonContiguousSymbolTable<'m, Symbol, Probability, PRECISION> {
         let cdf = self.cdf.words();
         NonContiguousSymbolTable {
             cdf,

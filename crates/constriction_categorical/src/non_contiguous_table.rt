@@ -35,9 +35,8 @@ impl<'m, Symbol: Clone, Probability: WholeNumber, const PRECISION: usize> Iterat
     for NonContiguousSymbolTable<'m, Symbol, Probability, PRECISION> {
     type Item = Result<(Symbol, Probability, Weight<Probability>), AllocError>;
 
-    ghost next_gives = { λ t r u. YieldsRow Symbol.is_clone (λ s. ¬ (Symbol.is_infallible s)) Probability.whole Probability.base
-        (rows_between t.from t.to (rows_paired Probability.whole PRECISION t.cdf.now)) r
-        (rows_between u.from u.to (rows_paired Probability.whole PRECISION u.cdf.now)) };
+    ghost next_gives = { YieldsRow Symbol.is_clone (λ s. ¬ (Symbol.is_infallible s)) Probability.whole Probability.base
+        (λ t. rows_between t.from t.to (rows_paired Probability.whole PRECISION t.cdf.now)) };
 
     ghost remaining = { λ t. at_most (length (rows_between t.from t.to (rows_paired Probability.whole PRECISION t.cdf.now))) };
 
@@ -58,12 +57,9 @@ impl<'m, Symbol: Clone, Probability: WholeNumber, const PRECISION: usize> Iterat
     /// How many rows are left, exactly.
     #[inline]
     fn size_hint(&self) -> (usize, Option<usize>)
-        ensures lower { IsWithinCount result.0
-            (⟦<NonContiguousSymbolTable<'m, Symbol, Probability, PRECISION> as Iterator>⟧.remaining self.now) }
-        ensures upper { IfSome result.1 (UpTo
-            (⟦<NonContiguousSymbolTable<'m, Symbol, Probability, PRECISION> as Iterator>⟧.remaining self.now)) }
-        ensures exact { IsExactHint result
-            (size (⟦<NonContiguousSymbolTable<'m, Symbol, Probability, PRECISION> as Iterator>⟧.remaining self.now)) }
+        ensures lower { IsWithinCount result.0 (⟦<Self as Iterator>⟧.remaining self.now) }
+        ensures upper { IfSome result.1 (UpTo (⟦<Self as Iterator>⟧.remaining self.now)) }
+        ensures exact { IsExactHint result (size (⟦<Self as Iterator>⟧.remaining self.now)) }
     {
         let size = self.len();
         (size, Some(size))
@@ -72,9 +68,8 @@ impl<'m, Symbol: Clone, Probability: WholeNumber, const PRECISION: usize> Iterat
 
 impl<'m, Symbol: Clone, Probability: WholeNumber, const PRECISION: usize> DoubleEndedIterator
     for NonContiguousSymbolTable<'m, Symbol, Probability, PRECISION> {
-    ghost next_back_gives = { λ t r u. YieldsLastRow Symbol.is_clone (λ s. ¬ (Symbol.is_infallible s)) Probability.whole Probability.base
-        (rows_between t.from t.to (rows_paired Probability.whole PRECISION t.cdf.now)) r
-        (rows_between u.from u.to (rows_paired Probability.whole PRECISION u.cdf.now)) };
+    ghost next_back_gives = { YieldsLastRow Symbol.is_clone (λ s. ¬ (Symbol.is_infallible s)) Probability.whole Probability.base
+        (λ t. rows_between t.from t.to (rows_paired Probability.whole PRECISION t.cdf.now)) };
 
     #[inline]
     fn next_back(

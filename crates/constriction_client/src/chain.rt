@@ -3,7 +3,7 @@
 ghost use Rattle.std.specs.Prelude.{◌≡◌, ◌<◌, ◌≤◌, Bool, List, [], ◌∷◌, map, true, false, IfOk, IfErr};
 ghost use Rattle.std.specs.Iterator.{Drains, IsFinite};
 ghost use Rattle.std.specs.List.{IsDistinct};
-ghost use Rattle.constriction.specs.Acceptance.{AreAccepted, GaveBothBad, GaveBothGood, GivesDistinct};
+ghost use Rattle.constriction.specs.Acceptance.{completed, AreAccepted, WasReadOf, IsMadeOfBoth, GivesDistinct};
 ghost use Rattle.constriction.specs.Laws.{SymbolsDiffer};
 ghost use Rattle.constriction.specs.Model.{StandForRows, ClonesAreSame, ClonesAreEqual};
 ghost use Rattle.constriction.specs.Rows.{Row, rows_of, symbols_of};
@@ -91,19 +91,11 @@ fn from_lists<Symbol: Eq + Drop, Probability: WholeNumber, const PRECISION: usiz
     requires fits { PRECISION ≤ Probability.BITS }
     requires distinct { GivesDistinct ⟦<Vec<Symbol> as IntoIterator>⟧.into_iter_gives
         ⟦<IntoIter<Symbol> as Iterator>⟧.next_gives Symbol.eq symbols }
-    ensures ok { IfOk result (λ m. (it : _) × ⟦<Vec<Symbol> as IntoIterator>⟧.into_iter_gives symbols it
-        × (jt : _) × ⟦<Vec<Probability> as IntoIterator>⟧.into_iter_gives weights jt
-        × GaveBothGood ⟦<IntoIter<Symbol> as Iterator>⟧.next_gives it
-        ⟦<IntoIter<Probability> as Iterator>⟧.next_gives jt (λ ss ws.
-        AreAccepted Symbol.eq Probability.BITS PRECISION ss (map Probability.whole ws)
-        × (⟦<Searching<Symbol, Probability, PRECISION> as EntropyModel<PRECISION>>⟧.rows m
-        ≡ rows_of ss (map Probability.whole ws)))) }
-    ensures invalid { result ≡ Err ModelError.InvalidTable
-        → (it : _) × ⟦<Vec<Symbol> as IntoIterator>⟧.into_iter_gives symbols it
-        × (jt : _) × ⟦<Vec<Probability> as IntoIterator>⟧.into_iter_gives weights jt
-        × GaveBothBad ⟦<IntoIter<Symbol> as Iterator>⟧.next_gives it
-        ⟦<IntoIter<Probability> as Iterator>⟧.next_gives jt (λ ss ws.
-        AreAccepted Symbol.eq Probability.BITS PRECISION ss (map Probability.whole ws)) }
+    ensures { IsMadeOfBoth (AreAccepted Symbol.eq Probability.BITS PRECISION) (completed PRECISION false)
+        (WasReadOf ⟦<Vec<Symbol> as IntoIterator>⟧.into_iter_gives ⟦<IntoIter<Symbol> as Iterator>⟧.next_gives symbols)
+        (WasReadOf ⟦<Vec<Probability> as IntoIterator>⟧.into_iter_gives ⟦<IntoIter<Probability> as Iterator>⟧.next_gives weights)
+        Probability.whole
+        (λ m ss ws. ⟦<Searching<Symbol, Probability, PRECISION> as EntropyModel<PRECISION>>⟧.rows m ≡ rows_of ss ws) result }
 {
     Searching::from_distinct_symbols_and_nonzero_fixed_point_probabilities(
         alloc, symbols, weights, false,

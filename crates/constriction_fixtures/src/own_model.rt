@@ -70,9 +70,8 @@ pub struct TripleTable<'m> {
 impl<'m> Iterator for TripleTable<'m> {
     type Item = Result<(char, u8, Weight<u8>), AllocError>;
 
-    ghost next_gives = { λ t r u. YieldsRow (λ s t. t ≡ s) (λ _. ⊥) ⟦<u8 as WholeNumber>⟧.whole ⟦<u8 as WholeNumber>⟧.base
-        (drop t.next (⟦<Triple as EntropyModel<3>>⟧.rows t.model.now)) r
-        (drop u.next (⟦<Triple as EntropyModel<3>>⟧.rows u.model.now)) };
+    ghost next_gives = { YieldsRow (λ s t. t ≡ s) (λ _. ⊥) ⟦<u8 as WholeNumber>⟧.whole ⟦<u8 as WholeNumber>⟧.base
+        (λ t. drop t.next (⟦<Triple as EntropyModel<3>>⟧.rows t.model.now)) };
 
     ghost remaining = { λ t. at_most (3 - t.next) };
 

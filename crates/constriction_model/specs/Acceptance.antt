@@ -1,7 +1,9 @@
 -- Which weights a model accepts, and what a constructor that reads them from an iterator says of them.
-use Rattle.std.specs.Prelude.{◌≡◌, ℕ, ◌-◌, ◌^◌, ◌<◌, ◌⊎◌, Bool, List, [], ◌∷◌, ◌++◌, length, sum, All, Option, if◌then◌else◌}
+use Rattle.std.specs.Prelude.{◌≡◌, ℕ, ◌-◌, ◌^◌, ◌<◌, Bool, List, [], ◌∷◌, ◌++◌, length, map, sum, All, Option, Result, Err, IfOk, if◌then◌else◌}
 use Rattle.std.specs.List.{IsDistinct}
 use Rattle.std.specs.Iterator.{Drains, Yields}
+use Rattle.constriction_model.specs.declared.error.ModelError.{ModelError}
+use Rattle.constriction_model.specs.declared.error.ModelError.TheVariants.{InvalidTable}
 
 -- weights tile the quantiles below 2 ^ precision: none is 0, and nothing is left over
 pub record Tiles (precision : ℕ) (weights : List ℕ) : Type 0 where
@@ -26,16 +28,7 @@ pub record AreAccepted {Symbol : Type 0} (eq : Symbol → Symbol → Bool) (bits
   pub as_many : length symbols ≡ length weights
   pub distinct : IsDistinct eq symbols
 
-module _ {S A : Type 0} (steps : S → Option A → S → Type 0) (it : S) (Good : List A → Type 0) where
-  -- the iterator was read to its end, and what it gave is good
-  abbrev pub GaveGood : Type 0
-  GaveGood = (xs : List A) × Drains steps it xs × Good xs
-
-  -- what the iterator gave is not good: all of it, or each list that begins with what was read of it
-  abbrev pub GaveBad : Type 0
-  GaveBad =
-      ((xs : List A) × Drains steps it xs × ¬ (Good xs))
-      ⊎ ((xs : List A) × (t : S) × Yields steps it xs t × ((ys : List A) → ¬ (Good (xs ++ ys))))
+-- ---- what was read, and what a constructor makes of it
 
 -- whether an iterator was read to its end, or only so far
 pub data Reading : Type 0 where
@@ -47,22 +40,39 @@ abbrev pub WasRead : {S A : Type 0} → (S → Option A → S → Type 0) → S 
 WasRead steps it ToItsEnd xs = Drains steps it xs
 WasRead {S} steps it SoFar xs = (t : S) × Yields steps it xs t
 
+-- xs was read of a value, by an iterator that it becomes
+pub record WasReadOf {J S A : Type 0} (becomes : J → S → Type 0) (steps : S → Option A → S → Type 0) (from : J) (reading : Reading)
+    (xs : List A) : Type 0 where
+  pub iterator : S
+  pub became : becomes from iterator
+  pub was_read : WasRead steps iterator reading xs
+
 -- a list that the iterator may give after xs was read of it: xs where that was to its end, and otherwise each list that begins with xs
 abbrev pub MayGive : {A : Type 0} → Reading → List A → List A → Type 0
 MayGive ToItsEnd xs all = all ≡ xs
 MayGive {A} SoFar xs all = (ys : List A) × (all ≡ xs ++ ys)
 
-module _ {S T A B : Type 0} (steps : S → Option A → S → Type 0) (it : S) (other_steps : T → Option B → T → Type 0) (other : T)
-    (Good : List A → List B → Type 0) where
-  -- two iterators were read to their ends, and what they gave is good
-  abbrev pub GaveBothGood : Type 0
-  GaveBothGood = (xs : List A) × (ys : List B) × Drains steps it xs × Drains other_steps other ys × Good xs ys
+-- A model was made of weights that were read to their end: they are accepted, and it tells what `Tells` says of them. They are invalid
+-- only where they are not accepted, whatever might follow what was read of them. Of the numbers that are read, `completes` makes those that
+-- are judged and told.
+pub record IsMadeOfWeights {Word Model : Type 0} (Accepted : List ℕ → Type 0) (completes : List ℕ → List ℕ)
+    (Read : Reading → List Word → Type 0) (whole : Word → ℕ) (Tells : Model → List ℕ → Type 0) (result : Result Model ModelError)
+    : Type 0 where
+  pub ok : IfOk result (λ m. (ws : List Word) × Read ToItsEnd ws
+      × Accepted (completes (map whole ws)) × Tells m (completes (map whole ws)))
+  pub invalid : result ≡ Err InvalidTable → (ws : List Word) × (reading : Reading) × Read reading ws
+      × ((all : List Word) → MayGive reading ws all → ¬ (Accepted (completes (map whole all))))
 
-  -- what two iterators gave is not good, whatever they would give after what was read of them
-  abbrev pub GaveBothBad : Type 0
-  GaveBothBad = (xs : List A) × (ys : List B) × (read other_read : Reading)
-      × WasRead steps it read xs × WasRead other_steps other other_read ys
-      × ((all : List A) (others : List B) → MayGive read xs all → MayGive other_read ys others → ¬ (Good all others))
+-- the same of symbols and weights
+pub record IsMadeOfBoth {Symbol Word Model : Type 0} (Accepted : List Symbol → List ℕ → Type 0) (completes : List ℕ → List ℕ)
+    (ReadSymbols : Reading → List Symbol → Type 0) (Read : Reading → List Word → Type 0) (whole : Word → ℕ)
+    (Tells : Model → List Symbol → List ℕ → Type 0) (result : Result Model ModelError) : Type 0 where
+  pub ok : IfOk result (λ m. (ss : List Symbol) × (ws : List Word) × ReadSymbols ToItsEnd ss × Read ToItsEnd ws
+      × Accepted ss (completes (map whole ws)) × Tells m ss (completes (map whole ws)))
+  pub invalid : result ≡ Err InvalidTable
+      → (ss : List Symbol) × (ws : List Word) × (reading other : Reading) × ReadSymbols reading ss × Read other ws
+      × ((all : List Symbol) (weights : List Word) → MayGive reading ss all → MayGive other ws weights
+      → ¬ (Accepted all (completes (map whole weights))))
 
 -- no two symbols of a list that an iterator gives are equal, whichever iterator the argument becomes
 abbrev pub GivesDistinct : {J S Symbol : Type 0} → (J → S → Type 0) → (S → Option Symbol → S → Type 0) → (Symbol → Symbol → Bool) → J → Type 0

@@ -2,14 +2,16 @@
 -- this list, and where it was refused, the list is not good. No public clause cites this module.
 -- That an iterator gives a list is std's `YieldsList`: by `gives-array` of an array, by `YieldsList-from_vec` of a Vec, by
 -- `YieldsList-from_copied` over `YieldsList-from_slice` of a slice whose words are copied.
-use Rattle.std.proofs.Common.{◌≡◌, ℕ, List, [], ◌∷◌, ◌++◌, Option, None, Result, Ok, Err, length, map, take, drop, refl, ap, sym, subst, ◌∙◌, inl, inr, take-append-drop}
+use Rattle.std.proofs.Common.{◌≡◌, ℕ, List, [], ◌∷◌, ◌++◌, Option, None, Result, Ok, Err, length, map, take, drop, refl, ap, sym, subst, ◌∙◌, take-append-drop}
 use Rattle.std.specs.Prelude.{Bool, IfOk}
 use Rattle.std.specs.Iterator.{Drains}
 use Rattle.std.specs.List.{IsDistinct}
 use Rattle.std.proofs.lemmas.Iterator.{YieldsList}
 use Rattle.std.specs.Array.Iter.{array_into_iter_items, array_steps}
 use Rattle.std.proofs.lemmas.Iterator.Consumers.{YieldsList-so_far, YieldsList-end, YieldsList-from_shown}
-use Rattle.constriction_model.specs.Acceptance.{GaveGood, GaveBad, GaveBothGood, GaveBothBad, Reading, ToItsEnd, SoFar, WasRead, MayGive}
+use Rattle.constriction_model.specs.Acceptance.{Reading, ToItsEnd, SoFar, WasRead, WasReadOf, MayGive, IsMadeOfWeights, IsMadeOfBoth}
+use Rattle.constriction_model.specs.declared.error.ModelError.{ModelError}
+use Rattle.constriction_model.specs.declared.error.ModelError.TheVariants.{InvalidTable}
 
 same-map : {A : Type 0} (xs : List A) → map (λ y. y) xs ≡ xs
 same-map [] = refl
@@ -36,64 +38,65 @@ module _ {S A : Type 0} (steps : S → Option A → S → Type 0) (it : S) (list
       let front : xs ≡ take (length xs) list = sym (same-map xs) ∙ YieldsList-so_far gives xs y.0 y.1 in
       (drop (length xs) list, sym (take-append-drop (length xs) list) ∙ ap (λ ys. ys ++ drop (length xs) list) (sym front))
 
-  -- where what it gave is good, the list is
-  pub good-list : (Good : List A → Type 0) → GaveGood steps it Good → Good list
-  good-list Good (xs, d, good) = subst Good (all-given xs d) good
-
-  -- where what it gave is not, the list is not
-  pub bad-list : (Good : List A → Type 0) → GaveBad steps it Good → ¬ (Good list)
-  bad-list Good bad = elim bad [
-    | inl (xs, d, not) ↦ λ good. not (subst Good (sym (all-given xs d)) good)
-    | inr (xs, t, y, never) ↦
-        let more = may-give SoFar xs (t, y) in
-        λ good. never more.0 (subst Good more.1 good)
-  ]
-
   -- where no two symbols of the list are equal, no two are that it gave
   pub distinct-given : (eq : A → A → Bool) → IsDistinct eq list → (xs : List A) → Drains steps it xs → IsDistinct eq xs
   distinct-given eq d xs drained = subst (IsDistinct eq) (sym (all-given xs drained)) d
 
--- ---- two iterators, each of which gives a list
+-- ---- what a constructor answered, as its contract says it, where its arguments give these lists
 
-module _ {S T A B : Type 0} (steps : S → Option A → S → Type 0) (it : S) (list : List A) (gives : YieldsList steps (λ y. y) it list)
-    (other_steps : T → Option B → T → Type 0) (other : T) (others : List B) (other_gives : YieldsList other_steps (λ y. y) other others)
-    (Good : List A → List B → Type 0) where
-  pub good-lists : GaveBothGood steps it other_steps other Good → Good list others
-  good-lists (xs, ys, d, e, good) =
-      subst (λ (zs : List B). Good list zs) (all-given other_steps other others other_gives ys e)
-      (subst (λ (zs : List A). Good zs ys) (all-given steps it list gives xs d) good)
+module _ {J S A : Type 0} (becomes : J → S → Type 0) (steps : S → Option A → S → Type 0) (from : J) (list : List A)
+    (gives : (it : S) → becomes from it → YieldsList steps (λ y. y) it list) where
+  -- what was read of a value to its end is the list
+  pub all-read : (xs : List A) → WasReadOf becomes steps from ToItsEnd xs → xs ≡ list
+  all-read xs read = all-given steps read.iterator list (gives read.iterator read.became) xs read.was_read
 
-  pub bad-lists : GaveBothBad steps it other_steps other Good → ¬ (Good list others)
-  bad-lists (xs, ys, read, other_read, was, other_was, never) =
-      never list others (may-give steps it list gives read xs was) (may-give other_steps other others other_gives other_read ys other_was)
+  -- whatever was read of it, it may give the list
+  pub may-read : (reading : Reading) (xs : List A) → WasReadOf becomes steps from reading xs → MayGive reading xs list
+  may-read reading xs read = may-give steps read.iterator list (gives read.iterator read.became) reading xs read.was_read
 
--- ---- what a constructor answered, as its contract says it: `came` are the iterators that its argument may become
+module _ {J S Word Model : Type 0} (becomes : J → S → Type 0) (steps : S → Option Word → S → Type 0) (from : J) (list : List Word)
+    (gives : (it : S) → becomes from it → YieldsList steps (λ y. y) it list)
+    (completes : List ℕ → List ℕ) (whole : Word → ℕ) (Accepted : List ℕ → Type 0) (Tells : Model → List ℕ → Type 0) where
+  -- a model is that of the list, which is accepted
+  pub made-of-list : (r : Result Model ModelError)
+      → IsMadeOfWeights Accepted completes (WasReadOf becomes steps from) whole Tells r
+      → IfOk r (λ m. Accepted (completes (map whole list)) × Tells m (completes (map whole list)))
+  made-of-list (Ok m) made =
+      let given = made.ok in
+      subst (λ (xs : List Word). Accepted (completes (map whole xs)) × Tells m (completes (map whole xs)))
+      (all-read becomes steps from list gives given.0 given.1) (given.2, given.3)
+  made-of-list (Err e) made = tt
 
-module _ {S A : Type 0} (steps : S → Option A → S → Type 0) (list : List A) (came : S → Type 0)
-    (gives : (it : S) → came it → YieldsList steps (λ y. y) it list) where
-  -- a model is that of the list
-  pub made-of-list : {Model Error : Type 0} (Says : Model → List A → Type 0) (r : Result Model Error)
-      → IfOk r (λ m. (it : S) × came it × GaveGood steps it (Says m)) → IfOk r (λ m. Says m list)
-  made-of-list Says (Ok m) (it, here, gave) = good-list steps it list (gives it here) (Says m) gave
-  made-of-list Says (Err e) h = tt
+  -- where it is invalid, the list is not accepted
+  pub refused-list : (r : Result Model ModelError)
+      → IsMadeOfWeights Accepted completes (WasReadOf becomes steps from) whole Tells r
+      → r ≡ Err InvalidTable → ¬ (Accepted (completes (map whole list)))
+  refused-list r made e =
+      let bad = made.invalid e in
+      bad.3 list (may-read becomes steps from list gives bad.1 bad.0 bad.2)
 
-  -- where it was refused, the list is not good
-  pub refused-list : (Good : List A → Type 0) → (it : S) × came it × GaveBad steps it Good → ¬ (Good list)
-  refused-list Good (it, here, bad) = bad-list steps it list (gives it here) Good bad
+module _ {J S K T Symbol Word Model : Type 0} (becomes : J → S → Type 0) (steps : S → Option Symbol → S → Type 0) (from : J)
+    (list : List Symbol) (gives : (it : S) → becomes from it → YieldsList steps (λ y. y) it list)
+    (other_becomes : K → T → Type 0) (other_steps : T → Option Word → T → Type 0) (other : K) (others : List Word)
+    (other_gives : (jt : T) → other_becomes other jt → YieldsList other_steps (λ y. y) jt others)
+    (completes : List ℕ → List ℕ) (whole : Word → ℕ) (Accepted : List Symbol → List ℕ → Type 0)
+    (Tells : Model → List Symbol → List ℕ → Type 0) where
+  -- the same of two lists
+  pub made-of-lists : (r : Result Model ModelError)
+      → IsMadeOfBoth Accepted completes (WasReadOf becomes steps from) (WasReadOf other_becomes other_steps other) whole Tells r
+      → IfOk r (λ m. Accepted list (completes (map whole others)) × Tells m list (completes (map whole others)))
+  made-of-lists (Ok m) made =
+      let given = made.ok in
+      subst (λ (ys : List Word). Accepted list (completes (map whole ys)) × Tells m list (completes (map whole ys)))
+      (all-read other_becomes other_steps other others other_gives given.1 given.3)
+      (subst (λ (xs : List Symbol). Accepted xs (completes (map whole given.1)) × Tells m xs (completes (map whole given.1)))
+      (all-read becomes steps from list gives given.0 given.2) (given.4, given.5))
+  made-of-lists (Err e) made = tt
 
-module _ {S T A B : Type 0} (steps : S → Option A → S → Type 0) (list : List A) (came : S → Type 0)
-    (gives : (it : S) → came it → YieldsList steps (λ y. y) it list)
-    (other_steps : T → Option B → T → Type 0) (others : List B) (other_came : T → Type 0)
-    (other_gives : (jt : T) → other_came jt → YieldsList other_steps (λ y. y) jt others) where
-  -- the same of two iterators
-  pub made-of-lists : {Model Error : Type 0} (Says : Model → List A → List B → Type 0) (r : Result Model Error)
-      → IfOk r (λ m. (it : S) × came it × (jt : T) × other_came jt × GaveBothGood steps it other_steps jt (Says m))
-      → IfOk r (λ m. Says m list others)
-  made-of-lists Says (Ok m) (it, here, jt, there, gave) =
-      good-lists steps it list (gives it here) other_steps jt others (other_gives jt there) (Says m) gave
-  made-of-lists Says (Err e) h = tt
-
-  pub refused-lists : (Good : List A → List B → Type 0)
-      → (it : S) × came it × (jt : T) × other_came jt × GaveBothBad steps it other_steps jt Good → ¬ (Good list others)
-  refused-lists Good (it, here, jt, there, bad) =
-      bad-lists steps it list (gives it here) other_steps jt others (other_gives jt there) Good bad
+  pub refused-lists : (r : Result Model ModelError)
+      → IsMadeOfBoth Accepted completes (WasReadOf becomes steps from) (WasReadOf other_becomes other_steps other) whole Tells r
+      → r ≡ Err InvalidTable → ¬ (Accepted list (completes (map whole others)))
+  refused-lists r made e =
+      let bad = made.invalid e in
+      bad.6 list others (may-read becomes steps from list gives bad.2 bad.0 bad.4)
+      (may-read other_becomes other_steps other others other_gives bad.3 bad.1 bad.5)

@@ -37,6 +37,11 @@ abbrev pub StandForRows : {Symbol : Type 0} → (Symbol → Symbol → Type 0) �
 StandForRows Stands made rows =
     AllZip (λ m r. Stands r.symbol m.symbol × (m.left ≡ r.left) × (m.weight ≡ r.weight)) made rows
 
+-- These rows were made of others, and no two of their symbols are equal.
+abbrev pub StandApart : {Symbol : Type 0} → (Symbol → Symbol → Bool) → (Symbol → Symbol → Type 0)
+    → List (Row Symbol) → List (Row Symbol) → Type 0
+StandApart eq Stands made rows = StandForRows Stands made rows × IsDistinct eq (symbols_of made)
+
 -- two equal symbols are among those that stand for the symbols of the first of these rows
 abbrev pub ClonesRepeat : {Symbol : Type 0} → (Symbol → Symbol → Bool) → (Symbol → Symbol → Type 0) → List (Row Symbol) → Type 0
 ClonesRepeat {Symbol} eq Stands rows =

@@ -37,3 +37,12 @@ pub record TellsRows {Symbol : Type 0} (rows : List (Row Symbol)) (InQuestion : 
 pub record IsRowIndexOf {Symbol : Type 0} (rows : List (Row Symbol)) (q i : ℕ) : Type 0 where
   pub in_bounds : i < length rows
   pub row : (r : Row Symbol) → IsRowOf rows q (slice_index_or rows i r)
+
+-- A probe that was asked nothing yet tells the rows in question for the quantile q, the first of which stands at the index `first`: the
+-- greatest index whose cumulative is at most q, plus `first`, is the index of the quantile's row.
+pub record IsProbeFor {Symbol : Type 0} (rows : List (Row Symbol)) (InQuestion : Row Symbol → Type 0) (q first : ℕ)
+    (cumulatives : List ℕ) (questions : ℕ) : Type 0 where
+  pub tells : TellsRows rows InQuestion first cumulatives
+  pub searchable : IsSearchable cumulatives q
+  pub fresh : questions ≡ 0
+  pub found : (i : ℕ) → IsLastAtMost cumulatives q i → IsRowIndexOf rows q (first + i)

@@ -10,20 +10,20 @@ module _ {Symbol Word Weight Refusal : Type 0} (Stands : Symbol → Symbol → T
   abbrev pub StandsFor : Result (Symbol × Word × Weight) Refusal → Row Symbol → Type 0
   StandsFor item row = IfOk item (λ x. StandsForRow Stands whole base x row) × IfErr item (λ _. MayRefuse row.symbol)
 
-  -- A step from the front, with the rows that are left before it and after it: it gives the first of them, by an item that stands for it,
-  -- and nothing where none is left.
-  abbrev pub YieldsRow : List (Row Symbol) → Option (Result (Symbol × Word × Weight) Refusal) → List (Row Symbol) → Type 0
-  YieldsRow before None after = (before ≡ []) × (after ≡ [])
-  YieldsRow before (Some (Ok x)) after =
-      (own : Symbol) × Stands own x.0 × (before ≡ row_of whole base (own, x.1, x.2) ∷ after)
-  YieldsRow before (Some (Err e)) after = (row : Row Symbol) × MayRefuse row.symbol × (before ≡ row ∷ after)
+  module _ {T : Type 0} (rows_left : T → List (Row Symbol)) where
+    -- A step from the front of a table, of which `rows_left` tells the rows that it has yet to give: it gives the first of them, by an item
+    -- that stands for it, and nothing where none is left.
+    abbrev pub YieldsRow : T → Option (Result (Symbol × Word × Weight) Refusal) → T → Type 0
+    YieldsRow t None u = (rows_left t ≡ []) × (rows_left u ≡ [])
+    YieldsRow t (Some (Ok x)) u = (own : Symbol) × Stands own x.0 × (rows_left t ≡ row_of whole base (own, x.1, x.2) ∷ rows_left u)
+    YieldsRow t (Some (Err e)) u = (row : Row Symbol) × MayRefuse row.symbol × (rows_left t ≡ row ∷ rows_left u)
 
-  -- a step from the back: it gives the last of the rows that are left
-  abbrev pub YieldsLastRow : List (Row Symbol) → Option (Result (Symbol × Word × Weight) Refusal) → List (Row Symbol) → Type 0
-  YieldsLastRow before None after = (before ≡ []) × (after ≡ [])
-  YieldsLastRow before (Some (Ok x)) after =
-      (own : Symbol) × Stands own x.0 × (before ≡ after ++ row_of whole base (own, x.1, x.2) ∷ [])
-  YieldsLastRow before (Some (Err e)) after = (row : Row Symbol) × MayRefuse row.symbol × (before ≡ after ++ row ∷ [])
+    -- a step from the back: it gives the last of the rows that are left
+    abbrev pub YieldsLastRow : T → Option (Result (Symbol × Word × Weight) Refusal) → T → Type 0
+    YieldsLastRow t None u = (rows_left t ≡ []) × (rows_left u ≡ [])
+    YieldsLastRow t (Some (Ok x)) u =
+        (own : Symbol) × Stands own x.0 × (rows_left t ≡ rows_left u ++ row_of whole base (own, x.1, x.2) ∷ [])
+    YieldsLastRow t (Some (Err e)) u = (row : Row Symbol) × MayRefuse row.symbol × (rows_left t ≡ rows_left u ++ row ∷ [])
 
 -- the rows from one index up to another
 abbrev pub rows_between : {Symbol : Type 0} → ℕ → ℕ → List (Row Symbol) → List (Row Symbol)

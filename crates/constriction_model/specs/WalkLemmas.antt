@@ -71,11 +71,11 @@ module _ {Symbol Word Weight Refusal : Type 0} (Stands : Symbol → Symbol → T
   }
 
   -- a step that gives an item gives the first row, and the item stands for it
-  pub first-given : (before : List (Row Symbol)) (item : Result (Symbol × Word × Weight) Refusal) (after : List (Row Symbol))
-      → YieldsRow Stands MayRefuse whole base before (Some item) after
-      → (row : Row Symbol) × (before ≡ row ∷ after) × StandsFor Stands MayRefuse whole base item row
-  first-given before (Ok x) after h = (row_of whole base (h.0, x.1, x.2), h.2, ((h.0, h.1, refl), tt))
-  first-given before (Err e) after h = (h.0, h.2, (tt, h.1))
+  pub first-given : {T : Type 0} (rows_left : T → List (Row Symbol)) (t : T) (item : Result (Symbol × Word × Weight) Refusal) (u : T)
+      → YieldsRow Stands MayRefuse whole base rows_left t (Some item) u
+      → (row : Row Symbol) × (rows_left t ≡ row ∷ rows_left u) × StandsFor Stands MayRefuse whole base item row
+  first-given rows_left t (Ok x) u h = (row_of whole base (h.0, x.1, x.2), h.2, ((h.0, h.1, refl), tt))
+  first-given rows_left t (Err e) u h = (h.0, h.2, (tt, h.1))
 
   -- where no row may be refused, no item is a refusal
   pub never-refused : ((s : Symbol) → MayRefuse s → ⊥) → (items : List (Result (Symbol × Word × Weight) Refusal))
@@ -99,13 +99,13 @@ module _ {Symbol Word Weight Refusal : Type 0} (Stands : Symbol → Symbol → T
   module _ {T : Type 0} (steps : T → Option (Result (Symbol × Word × Weight) Refusal) → T → Type 0)
       (rows_left : T → List (Row Symbol))
       (law : (t : T) (r : Option (Result (Symbol × Word × Weight) Refusal)) (u : T) → steps t r u
-      → YieldsRow Stands MayRefuse whole base (rows_left t) r (rows_left u)) where
+      → YieldsRow Stands MayRefuse whole base rows_left t r u) where
     stand-for : (t : T) (items : List (Result (Symbol × Word × Weight) Refusal)) (u : T) → Yields steps t items u
         → (rows : List (Row Symbol)) × (rows_left t ≡ rows ++ rows_left u)
         × AllZip (StandsFor Stands MayRefuse whole base) items rows
     stand-for t [] u h = ([], ap rows_left h, tt)
     stand-for t (x ∷ xs) u (j, step, rest) =
-        let one = first-given (rows_left t) x (rows_left j) (law t (Some x) j step) in
+        let one = first-given rows_left t x j (law t (Some x) j step) in
         let more = stand-for j xs u rest in
         (one.0 ∷ more.0, one.1 ∙ ap (λ zs. one.0 ∷ zs) more.1, (one.2, more.2))
 

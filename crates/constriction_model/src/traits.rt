@@ -53,11 +53,11 @@ pub trait EncoderModel<const PRECISION: usize>: EntropyModel<PRECISION> {
 /// A model that a decoder asks: it knows the row of each quantile.
 pub trait DecoderModel<const PRECISION: usize>: EntropyModel<PRECISION> {
     // That the second symbol stands for the first one, as an answer's does for that of its row. Of a model that answers clones it is
-    // what the symbols' type says of a clone, and of one that makes none it is equality.
-    ghost stands_for: { Self.Symbol → Self.Symbol → Type 0 };
+    // what the symbols' type says of a clone. Where an implementer says nothing, it makes none, and this is equality.
+    ghost stands_for: { Self.Symbol → Self.Symbol → Type 0 } = { λ s t. t ≡ s };
 
-    // That a row with this symbol may be refused, for want of memory. Of a model that takes none it is ⊥.
-    ghost may_refuse: { Self.Symbol → Type 0 };
+    // That a row with this symbol may be refused, for want of memory. None may be, where an implementer says nothing else.
+    ghost may_refuse: { Self.Symbol → Type 0 } = { λ _. ⊥ };
 
     /// The row of a quantile: the symbol whose interval holds it, the left cumulative and the
     /// weight. Where the model owns its symbols the answer has a clone, which is what the symbols' type says

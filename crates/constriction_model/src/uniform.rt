@@ -1,9 +1,8 @@
 //! Models whose symbols all have the same weight, but for the last one.
 
-ghost use Rattle.std.specs.Prelude.{◌≡◌, ◌+◌, ◌*◌, ◌/◌, ◌^◌, ◌<◌, ◌≤◌, ℕ, nat_eq, IfOk, IfErr, IsOk, ⊤};
+ghost use Rattle.std.specs.Prelude.{◌≡◌, ◌+◌, ◌*◌, ◌/◌, ◌^◌, ◌<◌, ◌≤◌, ℕ, nat_eq, ⊤};
 ghost use Rattle.std.specs.Cmp.{nat_eq_equiv};
-ghost use Rattle.constriction_model.specs.Model.{row_of, LiesWithin, AnswersQuantile, RowMayBeRefused};
-ghost use Rattle.constriction_model.specs.Rows.{uniform_rows, bin_of, rest_of, IsRowOf};
+ghost use Rattle.constriction_model.specs.Rows.{uniform_rows, bin_of, rest_of};
 ghost use Rattle.constriction_model.specs.UniformRowLemmas.{IsWeight, uniform-within, uniform-tiles};
 
 use crate::traits::{DecoderModel, EncoderModel, EntropyModel, Weight};
@@ -43,8 +42,7 @@ impl<Probability: WholeNumber, const PRECISION: usize> Copy
 
 impl<Probability: WholeNumber, const PRECISION: usize> Clone
     for UniformModel<Probability, PRECISION> {
-    ghost is_clone = { λ x y. ⟦<UniformModel<Probability, PRECISION> as EntropyModel<PRECISION>>⟧.rows y
-        ≡ ⟦<UniformModel<Probability, PRECISION> as EntropyModel<PRECISION>>⟧.rows x };
+    ghost is_clone = { λ x y. ⟦<Self as EntropyModel<PRECISION>>⟧.rows y ≡ ⟦<Self as EntropyModel<PRECISION>>⟧.rows x };
 
     ghost is_infallible = { λ _. ⊤ };
 
@@ -70,8 +68,7 @@ impl<Probability: WholeNumber, const PRECISION: usize> UniformModel<Probability,
         requires narrow { PRECISION ≤ 64 }
         requires some { 2 ≤ range }
         requires within { range ≤ 2 ^ PRECISION }
-        ensures { ⟦<UniformModel<Probability, PRECISION> as EntropyModel<PRECISION>>⟧.rows result
-            ≡ uniform_rows PRECISION range }
+        ensures { ⟦<Self as EntropyModel<PRECISION>>⟧.rows result ≡ uniform_rows PRECISION range }
     {
         let last_symbol = Probability::from_number(range - 1);
         let bin = probability_per_bin::<Probability, PRECISION>(last_symbol);
@@ -136,30 +133,12 @@ impl<Probability: WholeNumber, const PRECISION: usize> EncoderModel<PRECISION>
 
 impl<Probability: WholeNumber, const PRECISION: usize> DecoderModel<PRECISION>
     for UniformModel<Probability, PRECISION> {
-    ghost stands_for = { λ s t. t ≡ s };
-
-    ghost may_refuse = { λ _. ⊥ };
-
     /// The row of a quantile, by one division. It takes no memory and always succeeds.
     #[inline]
     fn quantile_function(
         &self,
         quantile: Probability,
-    ) -> Result<(usize, Probability, Weight<Probability>), AllocError>
-        requires in_range { Probability.whole quantile < 2 ^ PRECISION }
-        ensures row { IfOk result (AnswersQuantile (λ s t. t ≡ s) Probability.whole Probability.base
-            (⟦<UniformModel<Probability, PRECISION> as EntropyModel<PRECISION>>⟧.rows self.now)
-            (Probability.whole quantile)) }
-        ensures exact { IfOk result (λ x. IsRowOf
-            (⟦<UniformModel<Probability, PRECISION> as EntropyModel<PRECISION>>⟧.rows self.now)
-            (Probability.whole quantile) (row_of Probability.whole Probability.base x)) }
-        ensures within { IfOk result (λ x. LiesWithin PRECISION
-            (row_of Probability.whole Probability.base x)) }
-        ensures refused { IfErr result (λ _. RowMayBeRefused (λ _. ⊥)
-            (⟦<UniformModel<Probability, PRECISION> as EntropyModel<PRECISION>>⟧.rows self.now)
-            (Probability.whole quantile)) }
-        ensures succeeds { IsOk result }
-    {
+    ) -> Result<(usize, Probability, Weight<Probability>), AllocError> {
         let symbol = symbol_of(quantile, self.probability_per_bin, self.last_symbol);
         let (left, weight) = self.row_words_of(symbol);
         Ok((symbol.to_number(), left, weight))

@@ -144,9 +144,8 @@ struct ThreeLetterTable {
 impl Iterator for ThreeLetterTable {
     type Item = Result<(u8, u8, Weight<u8>), AllocError>;
 
-    ghost next_gives = { λ t r u. YieldsRow (λ s t. t ≡ s) (λ _. ⊥) ⟦<u8 as WholeNumber>⟧.whole ⟦<u8 as WholeNumber>⟧.base
-        (drop t.next (rows_of (97 ∷ 98 ∷ 99 ∷ []) (1 ∷ 2 ∷ 1 ∷ []))) r
-        (drop u.next (rows_of (97 ∷ 98 ∷ 99 ∷ []) (1 ∷ 2 ∷ 1 ∷ []))) };
+    ghost next_gives = { YieldsRow (λ s t. t ≡ s) (λ _. ⊥) ⟦<u8 as WholeNumber>⟧.whole ⟦<u8 as WholeNumber>⟧.base
+        (λ t. drop t.next (rows_of (97 ∷ 98 ∷ 99 ∷ []) (1 ∷ 2 ∷ 1 ∷ []))) };
 
     ghost remaining = { λ t. at_most (3 - t.next) };
 

@@ -97,9 +97,8 @@ struct TwiceTable {
 impl Iterator for TwiceTable {
     type Item = Result<(char, u8, Weight<u8>), AllocError>;
 
-    ghost next_gives = { λ t r u. YieldsRow (λ s t. t ≡ s) (λ _. ⊥) ⟦<u8 as WholeNumber>⟧.whole ⟦<u8 as WholeNumber>⟧.base
-        (drop t.next (rows_of (t.symbol ∷ t.symbol ∷ []) (32 ∷ 32 ∷ []))) r
-        (drop u.next (rows_of (u.symbol ∷ u.symbol ∷ []) (32 ∷ 32 ∷ []))) };
+    ghost next_gives = { YieldsRow (λ s t. t ≡ s) (λ _. ⊥) ⟦<u8 as WholeNumber>⟧.whole ⟦<u8 as WholeNumber>⟧.base
+        (λ t. drop t.next (rows_of (t.symbol ∷ t.symbol ∷ []) (32 ∷ 32 ∷ []))) };
 
     ghost remaining = { λ t. at_most (2 - t.next) };
 

@@ -1,13 +1,13 @@
 -- Entries that were read without comparing symbols, where no two symbols turn out to be equal, or where two do.
-use Rattle.std.specs.Prelude.{◌≡◌, ℕ, Bool, false, List, [], ◌∷◌, map, Option}
+use Rattle.std.specs.Prelude.{◌≡◌, ℕ, Bool, false, List, [], ◌∷◌, map}
 use Rattle.std.proofs.Common.{refl, subst, ◌∙◌}
-use Rattle.std.specs.Iterator.{Drains}
 use Rattle.std.specs.List.{AllByRecursion, IsDistinct}
-use Rattle.constriction_model.specs.Acceptance.{AreAccepted, GaveBothBad, ToItsEnd}
+use Rattle.constriction_model.specs.Acceptance.{AreAccepted, Reading, ToItsEnd}
 use Rattle.constriction_stored_rows.specs.Filling.{HoldsRows}
 use Rattle.constriction_model.specs.Rows.{rows_of}
 use Rattle.constriction_stored_rows.specs.Stored.{IsStored}
 use Rattle.constriction_stored_rows.specs.Stored.{rows_paired}
+use Rattle.constriction_stored_rows.proofs.MadeLemmas.{BothBad}
 use Rattle.constriction_stored_rows.proofs.PairedLemmas.{paired-of_rows, accepted-tile, accepted-symbols, paired-distinct}
 
 -- where symbols are not compared, no two are equal
@@ -43,24 +43,22 @@ pub accepted-uncompared : {Symbol : Type 0} (eq : Symbol → Symbol → Bool) (b
     → AreAccepted eq bits precision ss ws → AreAccepted (λ _ _. false) bits precision ss ws
 accepted-uncompared eq bits precision ss ws a = record { tile = a.tile; as_many = a.as_many; distinct = uncompared-distinct ss }
 
-module _ {S T A B : Type 0} (steps : S → Option A → S → Type 0) (it : S) (other_steps : T → Option B → T → Type 0) (jt : T)
-    (Good : List A → List B → Type 0) where
+module _ {A B : Type 0} (Read : Reading → List A → Type 0) (OtherRead : Reading → List B → Type 0) (Good : List A → List B → Type 0) where
   -- where what was read is not good, it is not what is good too
   pub bad-narrower : (Better : List A → List B → Type 0) → ((xs : List A) (ys : List B) → Better xs ys → Good xs ys)
-      → GaveBothBad steps it other_steps jt Good → GaveBothBad steps it other_steps jt Better
-  bad-narrower Better better (xs, ys, read, other_read, was, other_was, never) =
-      (xs, ys, read, other_read, was, other_was, λ all others a b good. never all others a b (better all others good))
+      → BothBad Read OtherRead Good → BothBad Read OtherRead Better
+  bad-narrower Better better (xs, ys, reading, other, read, other_read, never) =
+      (xs, ys, reading, other, read, other_read, λ all others a b good. never all others a b (better all others good))
 
   -- what was read to the ends and is not good
-  pub bad-at_end : (xs : List A) (ys : List B) → Drains steps it xs → Drains other_steps jt ys → ¬ (Good xs ys)
-      → GaveBothBad steps it other_steps jt Good
-  bad-at_end xs ys d e not = (
+  pub bad-at_end : (xs : List A) (ys : List B) → Read ToItsEnd xs → OtherRead ToItsEnd ys → ¬ (Good xs ys) → BothBad Read OtherRead Good
+  bad-at_end xs ys read other_read not = (
     xs,
     ys,
     ToItsEnd,
     ToItsEnd,
-    d,
-    e,
+    read,
+    other_read,
     λ all others a b good.
         not (subst (λ (zs : List A). Good zs ys) a (subst (λ (zs : List B). Good all zs) b good)),
   )

@@ -86,7 +86,7 @@ module _ {Symbol Word Weight Refusal T : Type 0} (steps : T → Option (Result (
 module _ {Symbol Word Weight Refusal T : Type 0} (Stands : Symbol → Symbol → Type 0) (MayRefuse : Symbol → Type 0) (whole : Word → ℕ)
     (base : Weight → Word) (steps : T → Option (Result (Symbol × Word × Weight) Refusal) → T → Type 0) (rows_left : T → List (Row Symbol))
     (law : (t : T) (r : Option (Result (Symbol × Word × Weight) Refusal)) (u : T) → steps t r u
-    → YieldsRow Stands MayRefuse whole base (rows_left t) r (rows_left u))
+    → YieldsRow Stands MayRefuse whole base rows_left t r u)
     (rows : List (Row Symbol)) (it : T) (all : rows_left it ≡ rows) where
   -- what a walk to the end gives, where it gives no refusal
   pub walked-all : (xs : List (Symbol × Word × Weight)) → Drains steps it (map Ok xs) → StandForRows Stands (map (row_of whole base) xs) rows

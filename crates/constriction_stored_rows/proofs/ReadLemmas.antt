@@ -8,7 +8,8 @@ use Rattle.std.proofs.lemmas.List.{length-map, length-append, length_push, map-a
 use Rattle.std.proofs.lemmas.List.Sums.{sum_by-cons}
 use Rattle.std.proofs.lemmas.Bool.{cases_Bool}
 use Rattle.std.proofs.lemmas.Map.Keys.{IsDistinct-head, IsDistinct-tail, IsDistinct-cons}
-use Rattle.constriction_model.specs.Acceptance.{IsAccepted, AreAccepted, completed, GaveBothGood, GaveBothBad, ToItsEnd, SoFar}
+use Rattle.constriction_model.specs.Acceptance.{IsAccepted, AreAccepted, completed, ToItsEnd, SoFar}
+use Rattle.constriction_stored_rows.specs.Given.{GaveBothGood, GaveBothBad}
 use Rattle.constriction_stored_rows.specs.Filling.{IsFilled, IsRowEnd}
 use Rattle.constriction_model.specs.RowLemmas.{symbols-rows_from}
 use Rattle.constriction_model.specs.Rows.{Row, rows_from, rows_of, symbols_of}

@@ -1,4 +1,5 @@
 pub mod Filling
+pub mod Given
 pub mod Hashed
 pub mod SlotTable
 pub mod Slots

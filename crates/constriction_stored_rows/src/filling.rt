@@ -3,7 +3,8 @@
 ghost use Rattle.std.specs.Prelude.{◌≡◌, ◌+◌, ◌%◌, ◌^◌, ◌<◌, ◌≤◌, ◌⊎◌, ℕ, List, [], ◌∷◌, ◌++◌, IfOk, IsTrue, false, map};
 ghost use Rattle.std.specs.Vec.{vec_len, vec_capacity};
 ghost use Rattle.std.specs.Iterator.{IsFiniteIterable};
-ghost use Rattle.constriction_model.specs.Acceptance.{completed, IsAccepted, GaveGood, GaveBad};
+ghost use Rattle.constriction_model.specs.Acceptance.{completed, IsAccepted};
+ghost use Rattle.constriction_stored_rows.specs.Given.{GaveGood, GaveBad};
 ghost use Rattle.constriction_stored_rows.specs.Stored.{lefts_from};
 
 use constriction_model::ModelError;

@@ -3,7 +3,8 @@
 ghost use Rattle.std.specs.Prelude.{◌≡◌, ◌+◌, ◌<◌, ◌≤◌, ℕ, List, Bool, [], ◌∷◌, ◌++◌, IfOk, IsOk, true, false, map};
 ghost use Rattle.std.specs.Iterator.{IsFinite};
 ghost use Rattle.std.specs.List.{list_any};
-ghost use Rattle.constriction_model.specs.Acceptance.{completed, AreAccepted, GaveBothGood, GaveBothBad};
+ghost use Rattle.constriction_model.specs.Acceptance.{completed, AreAccepted};
+ghost use Rattle.constriction_stored_rows.specs.Given.{GaveBothGood, GaveBothBad};
 ghost use Rattle.constriction_model.specs.Rows.{Row, rows_of, symbols_of};
 
 use crate::filling::is_filled_by;

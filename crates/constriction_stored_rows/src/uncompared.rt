@@ -1,8 +1,8 @@
 //! Reading entries from symbols and weights without comparing symbols.
 
-ghost use Rattle.std.specs.Prelude.{◌≡◌, ◌<◌, ◌≤◌, IfOk, false, map, refl};
+ghost use Rattle.std.specs.Prelude.{◌<◌, ◌≤◌, false, refl};
 ghost use Rattle.std.specs.Iterator.{IsFiniteIterable};
-ghost use Rattle.constriction_model.specs.Acceptance.{completed, AreAccepted, GaveBothGood, GaveBothBad};
+ghost use Rattle.constriction_model.specs.Acceptance.{completed, AreAccepted, WasReadOf, IsMadeOfBoth};
 ghost use Rattle.constriction_stored_rows.specs.Filling.{HoldsRows};
 ghost use Rattle.constriction_model.specs.Rows.{rows_of};
 
@@ -45,15 +45,9 @@ pub fn entries_read<
     requires fits { PRECISION ≤ P.BITS }
     requires symbols_end { IsFiniteIterable S.into_iter_gives S.IntoIter.can_next S.IntoIter.remaining symbols }
     requires weights_end { IsFiniteIterable W.into_iter_gives W.IntoIter.can_next W.IntoIter.remaining weights }
-    ensures ok { IfOk result (λ v. (it : S.IntoIter) × S.into_iter_gives symbols it
-        × (jt : W.IntoIter) × W.into_iter_gives weights jt
-        × GaveBothGood S.IntoIter.next_gives it W.IntoIter.next_gives jt (λ ss ws.
-        AreAccepted (λ _ _. false) P.BITS PRECISION ss (completed PRECISION infer_last (map P.whole ws))
-        × HoldsRows P.whole v.items (rows_of ss (completed PRECISION infer_last (map P.whole ws))))) }
-    ensures invalid { result ≡ Err ModelError.InvalidTable → (it : S.IntoIter) × S.into_iter_gives symbols it
-        × (jt : W.IntoIter) × W.into_iter_gives weights jt
-        × GaveBothBad S.IntoIter.next_gives it W.IntoIter.next_gives jt (λ ss ws.
-        AreAccepted (λ _ _. false) P.BITS PRECISION ss (completed PRECISION infer_last (map P.whole ws))) }
+    ensures { IsMadeOfBoth (AreAccepted (λ _ _. false) P.BITS PRECISION) (completed PRECISION infer_last)
+        (WasReadOf S.into_iter_gives S.IntoIter.next_gives symbols) (WasReadOf W.into_iter_gives W.IntoIter.next_gives weights)
+        P.whole (λ v ss ws. HoldsRows P.whole v.items (rows_of ss ws)) result }
 {
     let symbols = symbols.into_iter();
     let entries = room_for(alloc, rows_announced::<PRECISION>(symbols.size_hint().0));

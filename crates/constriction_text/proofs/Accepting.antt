@@ -11,7 +11,8 @@ use Rattle.std.proofs.Math.Seq.{take-append_seam}
 use Rattle.std.proofs.lemmas.List.{map-append}
 use Rattle.std.proofs.lemmas.List.Elements.{All-head, All-tail, All-drop, All-take}
 use Rattle.std.proofs.lemmas.List.Sums.{AllPass-from_list_all, list_all-from_AllPass}
-use Rattle.constriction_model.specs.Acceptance.{IsAccepted, GaveGood, GaveBad, completed}
+use Rattle.constriction_model.specs.Acceptance.{IsAccepted, completed}
+use Rattle.constriction_stored_rows.specs.Given.{GaveGood, GaveBad}
 use Rattle.constriction_text.specs.NumberWords.{narrowed_to}
 use Rattle.constriction_text.specs.Text.{are_accepted}
 

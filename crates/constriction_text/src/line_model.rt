@@ -3,7 +3,8 @@
 ghost use Rattle.std.specs.Prelude.{◌≡◌, ◌^◌, ◌<◌, ◌≤◌, ◌++◌, ℕ, List, true, false, nat_eq};
 ghost use Rattle.std.specs.Prelude.{IfOk, IfSome, IfNone, OnOk, map, string_bytes};
 ghost use Rattle.std.specs.Iterator.{IsFiniteIterable};
-ghost use Rattle.constriction_model.specs.Acceptance.{IsAccepted, GaveGood, GaveBad, completed};
+ghost use Rattle.constriction_model.specs.Acceptance.{IsAccepted, completed};
+ghost use Rattle.constriction_stored_rows.specs.Given.{GaveGood, GaveBad};
 ghost use Rattle.constriction_model.specs.Rows.{Row, RowsTile, IsRowOf, contiguous_rows, entry_of};
 ghost use Rattle.constriction_text.specs.Text.{are_accepted, rows_text};
 

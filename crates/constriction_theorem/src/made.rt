@@ -2,7 +2,7 @@
 
 ghost use Rattle.std.specs.Prelude.{◌≡◌, ◌<◌, ◌≤◌, ℕ, map, nat_eq, IfOk, IfErr};
 ghost use Rattle.std.specs.List.{IsDistinct};
-ghost use Rattle.constriction.specs.Acceptance.{completed, IsAccepted, AreAccepted, GaveGood, GaveBad, GaveBothGood, GaveBothBad};
+ghost use Rattle.constriction.specs.Acceptance.{completed, IsAccepted, AreAccepted, WasReadOf, IsMadeOfWeights, IsMadeOfBoth};
 ghost use Rattle.constriction.specs.Entries.{HoldsEntriesOf};
 ghost use Rattle.constriction.specs.Model.{StandForRows, ClonesAreEqual};
 ghost use Rattle.constriction.specs.Rows.{contiguous_rows, entry_of, rows_of, symbols_of};
@@ -44,20 +44,11 @@ fn searching_of_lists<Symbol: Eq + Drop, Probability: WholeNumber, const PRECISI
 ) -> Result<Searching<Symbol, Probability, PRECISION>, ModelError>
     requires positive { 0 < PRECISION }
     requires fits { PRECISION ≤ Probability.BITS }
-    ensures ok { IfOk result (λ m. (it : _) × ⟦<Vec<Symbol> as IntoIterator>⟧.into_iter_gives symbols it
-        × (jt : _) × ⟦<Vec<Probability> as IntoIterator>⟧.into_iter_gives weights jt
-        × GaveBothGood ⟦<IntoIter<Symbol> as Iterator>⟧.next_gives it
-        ⟦<IntoIter<Probability> as Iterator>⟧.next_gives jt (λ ss ws.
-        let weights = completed PRECISION infer_last_probability (map Probability.whole ws) in
-        AreAccepted Symbol.eq Probability.BITS PRECISION ss weights
-        × (⟦<Searching<Symbol, Probability, PRECISION> as EntropyModel<PRECISION>>⟧.rows m ≡ rows_of ss weights))) }
-    ensures invalid { result ≡ Err ModelError.InvalidTable
-        → (it : _) × ⟦<Vec<Symbol> as IntoIterator>⟧.into_iter_gives symbols it
-        × (jt : _) × ⟦<Vec<Probability> as IntoIterator>⟧.into_iter_gives weights jt
-        × GaveBothBad ⟦<IntoIter<Symbol> as Iterator>⟧.next_gives it
-        ⟦<IntoIter<Probability> as Iterator>⟧.next_gives jt (λ ss ws.
-        AreAccepted Symbol.eq Probability.BITS PRECISION ss
-        (completed PRECISION infer_last_probability (map Probability.whole ws))) }
+    ensures { IsMadeOfBoth (AreAccepted Symbol.eq Probability.BITS PRECISION) (completed PRECISION infer_last_probability)
+        (WasReadOf ⟦<Vec<Symbol> as IntoIterator>⟧.into_iter_gives ⟦<IntoIter<Symbol> as Iterator>⟧.next_gives symbols)
+        (WasReadOf ⟦<Vec<Probability> as IntoIterator>⟧.into_iter_gives ⟦<IntoIter<Probability> as Iterator>⟧.next_gives weights)
+        Probability.whole
+        (λ m ss ws. ⟦<Searching<Symbol, Probability, PRECISION> as EntropyModel<PRECISION>>⟧.rows m ≡ rows_of ss ws) result }
 {
     Searching::from_symbols_and_nonzero_fixed_point_probabilities(
         alloc,
@@ -95,16 +86,9 @@ fn contiguous_of_list<Probability: WholeNumber, const PRECISION: usize>(
 ) -> Result<Contiguous<Probability, PRECISION>, ModelError>
     requires positive { 0 < PRECISION }
     requires fits { PRECISION ≤ Probability.BITS }
-    ensures ok { IfOk result (λ m. (it : _) × ⟦<Vec<Probability> as IntoIterator>⟧.into_iter_gives weights it
-        × GaveGood ⟦<IntoIter<Probability> as Iterator>⟧.next_gives it (λ ws.
-        let weights = completed PRECISION infer_last_probability (map Probability.whole ws) in
-        IsAccepted Probability.BITS PRECISION weights
-        × (⟦<Contiguous<Probability, PRECISION> as EntropyModel<PRECISION>>⟧.rows m ≡ contiguous_rows weights))) }
-    ensures invalid { result ≡ Err ModelError.InvalidTable
-        → (it : _) × ⟦<Vec<Probability> as IntoIterator>⟧.into_iter_gives weights it
-        × GaveBad ⟦<IntoIter<Probability> as Iterator>⟧.next_gives it (λ ws.
-        IsAccepted Probability.BITS PRECISION
-        (completed PRECISION infer_last_probability (map Probability.whole ws))) }
+    ensures { IsMadeOfWeights (IsAccepted Probability.BITS PRECISION) (completed PRECISION infer_last_probability)
+        (WasReadOf ⟦<Vec<Probability> as IntoIterator>⟧.into_iter_gives ⟦<IntoIter<Probability> as Iterator>⟧.next_gives weights)
+        Probability.whole (λ m ws. ⟦<Contiguous<Probability, PRECISION> as EntropyModel<PRECISION>>⟧.rows m ≡ contiguous_rows ws) result }
 {
     Contiguous::from_nonzero_fixed_point_probabilities(alloc, weights, infer_last_probability)
 }

@@ -2,10 +2,10 @@
 
 pub use constriction_categorical::{
     AnswersRows, ContiguousCategoricalEntropyModel, ContiguousLookupDecoderModel,
-    ContiguousSymbolTable, DefaultContiguousCategoricalEntropyModel,
+    ContiguousSymbolTable, DecoderMadeOf, DefaultContiguousCategoricalEntropyModel,
     DefaultNonContiguousCategoricalDecoderModel, DefaultNonContiguousCategoricalEncoderModel,
-    FromIterableEntropyModel, IterableEntropyModel, LookupDecoderModel,
-    NonContiguousCategoricalDecoderModel, NonContiguousCategoricalEncoderModel,
+    EncoderMadeOf, FromIterableEntropyModel, IterableEntropyModel, LookupDecoderModel,
+    LookupMadeOf, NonContiguousCategoricalDecoderModel, NonContiguousCategoricalEncoderModel,
     NonContiguousLookupDecoderModel, NonContiguousSymbolTable, OfAnySymbols, OfNumbers,
     SlottedContiguousLookupDecoderModel, SlottedNonContiguousLookupDecoderModel,
     SmallContiguousCategoricalEntropyModel, SmallContiguousDirectLookupDecoderModel,

@@ -2,9 +2,10 @@
 
 ghost use Rattle.std.specs.Prelude.{◌≡◌, ◌<◌, ◌≤◌, IfOk, IfErr};
 ghost use Rattle.std.specs.List.{IsDistinct};
-ghost use Rattle.constriction_model.specs.Model.{StandForRows, ClonesAreEqual};
+ghost use Rattle.constriction_model.specs.Model.{StandApart, ClonesAreEqual};
 ghost use Rattle.constriction_model.specs.Rows.{symbols_of};
 
+use crate::convert::{DecoderMadeOf, LookupMadeOf};
 use crate::iterable::IterableEntropyModel;
 use crate::lookup_non_contiguous::NonContiguousLookupDecoderModel;
 use crate::non_contiguous::NonContiguousCategoricalDecoderModel;
@@ -25,15 +26,7 @@ use std::marker::PhantomData;
 pub fn to_generic_decoder_model_of_distinct<M, const PRECISION: usize>(
     alloc: Global,
     model: M,
-) -> Result<
-    NonContiguousCategoricalDecoderModel<
-        M::Symbol,
-        M::Probability,
-        Vec<(M::Probability, M::Symbol)>,
-        PRECISION,
-    >,
-    ModelError,
->
+) -> Result<DecoderMadeOf<M, PRECISION>, ModelError>
 where
     M: IterableEntropyModel<PRECISION>,
     M::Symbol: Eq + Drop,
@@ -41,10 +34,8 @@ where
     requires fits { PRECISION ≤ M.Probability.BITS }
     requires clones { ClonesAreEqual M.Symbol.eq M.stands_for }
     requires distinct { IsDistinct M.Symbol.eq (symbols_of (M.rows model)) }
-    ensures ok { IfOk result (λ d. StandForRows M.stands_for
-        (⟦<NonContiguousCategoricalDecoderModel<M::Symbol, M::Probability, Vec<(M::Probability, M::Symbol)>, PRECISION> as EntropyModel<PRECISION>>⟧.rows d) (M.rows model)
-        × IsDistinct M.Symbol.eq (symbols_of
-        (⟦<NonContiguousCategoricalDecoderModel<M::Symbol, M::Probability, Vec<(M::Probability, M::Symbol)>, PRECISION> as EntropyModel<PRECISION>>⟧.rows d))) }
+    ensures ok { IfOk result (λ d. StandApart M.Symbol.eq M.stands_for
+        (⟦<DecoderMadeOf<M, PRECISION> as EntropyModel<PRECISION>>⟧.rows d) (M.rows model)) }
     ensures refused { IfErr result (λ e. e ≡ ModelError.OutOfMemory) }
 {
     let cdf = entries_collected::<_, _, _, _, PRECISION>(alloc, model.symbol_table())?;
@@ -64,16 +55,7 @@ where
 pub fn to_generic_lookup_decoder_model_of_distinct<M, const PRECISION: usize>(
     alloc: Global,
     model: M,
-) -> Result<
-    NonContiguousLookupDecoderModel<
-        M::Symbol,
-        M::Probability,
-        Vec<(M::Probability, M::Symbol)>,
-        Vec<M::Probability>,
-        PRECISION,
-    >,
-    ModelError,
->
+) -> Result<LookupMadeOf<M, PRECISION, 8>, ModelError>
 where
     M: IterableEntropyModel<PRECISION>,
     M::Symbol: Eq + Drop,
@@ -83,10 +65,8 @@ where
     requires fits { PRECISION ≤ M.Probability.BITS }
     requires clones { ClonesAreEqual M.Symbol.eq M.stands_for }
     requires distinct { IsDistinct M.Symbol.eq (symbols_of (M.rows model)) }
-    ensures ok { IfOk result (λ d. StandForRows M.stands_for
-        (⟦<NonContiguousLookupDecoderModel<M::Symbol, M::Probability, Vec<(M::Probability, M::Symbol)>, Vec<M::Probability>, PRECISION> as EntropyModel<PRECISION>>⟧.rows d) (M.rows model)
-        × IsDistinct M.Symbol.eq (symbols_of
-        (⟦<NonContiguousLookupDecoderModel<M::Symbol, M::Probability, Vec<(M::Probability, M::Symbol)>, Vec<M::Probability>, PRECISION> as EntropyModel<PRECISION>>⟧.rows d))) }
+    ensures ok { IfOk result (λ d. StandApart M.Symbol.eq M.stands_for
+        (⟦<LookupMadeOf<M, PRECISION, 8> as EntropyModel<PRECISION>>⟧.rows d) (M.rows model)) }
     ensures refused { IfErr result (λ e. e ≡ ModelError.OutOfMemory) }
 {
     let searching = to_generic_decoder_model_of_distinct::<M, PRECISION>(alloc, model)?;
@@ -119,7 +99,7 @@ impl<
         requires { PRECISION ≤ 63 }
         ensures ok { IfOk result (λ m.
             ⟦<NonContiguousLookupDecoderModel<Symbol, Probability, Vec<(Probability, Symbol)>, Vec<Probability>, PRECISION> as EntropyModel<PRECISION>>⟧.rows m
-            ≡ ⟦<NonContiguousCategoricalDecoderModel<Symbol, Probability, Vec<(Probability, Symbol)>, PRECISION> as EntropyModel<PRECISION>>⟧.rows self) }
+            ≡ ⟦<Self as EntropyModel<PRECISION>>⟧.rows self) }
         ensures refused { IfErr result (λ e. e ≡ ModelError.OutOfMemory) }
     {
         Ok(NonContiguousLookupDecoderModel::with_table(alloc, self)?)

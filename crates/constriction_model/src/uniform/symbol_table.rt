@@ -74,9 +74,8 @@ impl<Probability: WholeNumber, const PRECISION: usize> Iterator
     for UniformSymbolTable<Probability, PRECISION> {
     type Item = Result<(usize, Probability, Weight<Probability>), AllocError>;
 
-    ghost next_gives = { λ t r u. YieldsRow (λ s t. t ≡ s) (λ _. ⊥) Probability.whole Probability.base
-        (rows_between t.from t.to (uniform_rows PRECISION (Probability.whole t.model.last_symbol + 1))) r
-        (rows_between u.from u.to (uniform_rows PRECISION (Probability.whole u.model.last_symbol + 1))) };
+    ghost next_gives = { YieldsRow (λ s t. t ≡ s) (λ _. ⊥) Probability.whole Probability.base
+        (λ t. rows_between t.from t.to (uniform_rows PRECISION (Probability.whole t.model.last_symbol + 1))) };
 
     ghost remaining = { λ t. at_most (length (rows_between t.from t.to (uniform_rows PRECISION (Probability.whole t.model.last_symbol + 1)))) };
 
@@ -94,12 +93,9 @@ impl<Probability: WholeNumber, const PRECISION: usize> Iterator
     /// How many rows are left, exactly.
     #[inline]
     fn size_hint(&self) -> (usize, Option<usize>)
-        ensures lower { IsWithinCount result.0
-            (⟦<UniformSymbolTable<Probability, PRECISION> as Iterator>⟧.remaining self.now) }
-        ensures upper { IfSome result.1 (UpTo
-            (⟦<UniformSymbolTable<Probability, PRECISION> as Iterator>⟧.remaining self.now)) }
-        ensures exact { IsExactHint result
-            (size (⟦<UniformSymbolTable<Probability, PRECISION> as Iterator>⟧.remaining self.now)) }
+        ensures lower { IsWithinCount result.0 (⟦<Self as Iterator>⟧.remaining self.now) }
+        ensures upper { IfSome result.1 (UpTo (⟦<Self as Iterator>⟧.remaining self.now)) }
+        ensures exact { IsExactHint result (size (⟦<Self as Iterator>⟧.remaining self.now)) }
     {
         let size = self.len();
         (size, Some(size))
@@ -108,9 +104,8 @@ impl<Probability: WholeNumber, const PRECISION: usize> Iterator
 
 impl<Probability: WholeNumber, const PRECISION: usize> DoubleEndedIterator
     for UniformSymbolTable<Probability, PRECISION> {
-    ghost next_back_gives = { λ t r u. YieldsLastRow (λ s t. t ≡ s) (λ _. ⊥) Probability.whole Probability.base
-        (rows_between t.from t.to (uniform_rows PRECISION (Probability.whole t.model.last_symbol + 1))) r
-        (rows_between u.from u.to (uniform_rows PRECISION (Probability.whole u.model.last_symbol + 1))) };
+    ghost next_back_gives = { YieldsLastRow (λ s t. t ≡ s) (λ _. ⊥) Probability.whole Probability.base
+        (λ t. rows_between t.from t.to (uniform_rows PRECISION (Probability.whole t.model.last_symbol + 1))) };
 
     #[inline]
     fn next_back(

@@ -20,13 +20,12 @@ from_lists-requires g c = (
 
 pub returns-clause-rows : goal.returns-clause-rows
 returns-clause-rows g c =
-    made-of-them _ _ g.Symbol.PartialEq.eq g.Probability.WholeNumber.whole g.Probability.WholeNumber.BITS g.row.PRECISION
-    c.args.symbols.items c.args.weights.items _ (λ it came. YieldsList-from_vec _ came.0 (came.1 ∙ c.args.symbols.ok.0))
-    _ (λ jt came. YieldsList-from_vec _ came.0 (came.1 ∙ c.args.weights.ok.0)) _ c.from_lists.result c.from_lists.ensures.ok
+    made-of-them _ _ _ _ _ _ g.Symbol.PartialEq.eq g.Probability.WholeNumber.whole g.Probability.WholeNumber.BITS g.row.PRECISION
+    c.args.symbols.items c.args.weights.items (λ it came. YieldsList-from_vec _ came.0 (came.1 ∙ c.args.symbols.ok.0))
+    (λ jt came. YieldsList-from_vec _ came.0 (came.1 ∙ c.args.weights.ok.0)) _ c.from_lists.result c.from_lists.ensures
 
 pub returns-clause-refused : goal.returns-clause-refused
 returns-clause-refused g c =
-    not-refused _ _ g.Symbol.PartialEq.eq g.Probability.WholeNumber.whole g.Probability.WholeNumber.BITS g.row.PRECISION
-    c.args.symbols.items c.args.weights.items _ (λ it came. YieldsList-from_vec _ came.0 (came.1 ∙ c.args.symbols.ok.0))
-    _ (λ jt came. YieldsList-from_vec _ came.0 (came.1 ∙ c.args.weights.ok.0)) c.from_lists.result c.requires.accepted
-    c.from_lists.ensures.invalid
+    not-refused _ _ _ _ _ _ g.Symbol.PartialEq.eq g.Probability.WholeNumber.whole g.Probability.WholeNumber.BITS g.row.PRECISION
+    c.args.symbols.items c.args.weights.items (λ it came. YieldsList-from_vec _ came.0 (came.1 ∙ c.args.symbols.ok.0))
+    (λ jt came. YieldsList-from_vec _ came.0 (came.1 ∙ c.args.weights.ok.0)) _ c.from_lists.result c.from_lists.ensures c.requires.accepted

@@ -6,11 +6,11 @@ pub returns-clause-rows : goal.returns-clause-rows
 returns-clause-rows c =
     let made = c.from_symbols_and_nonzero_fixed_point_probabilities in
     second _ _ made.result
-    (made-of-lists _ c.args.symbols _ (λ it came. gives-array c.args.symbols came.0)
-    _ c.args.weights _ (λ jt came. gives-array c.args.weights came.0) _ made.result made.ensures.ok)
+    (made-of-lists _ _ _ c.args.symbols (λ it came. gives-array c.args.symbols came.0)
+    _ _ _ c.args.weights (λ jt came. gives-array c.args.weights came.0) _ _ _ _ made.result made.ensures)
 
 pub returns-clause-invalid : goal.returns-clause-invalid
-returns-clause-invalid c = λ e.
-    refused-lists _ c.args.symbols _ (λ it came. gives-array c.args.symbols came.0)
-    _ c.args.weights _ (λ jt came. gives-array c.args.weights came.0)
-    _ (c.from_symbols_and_nonzero_fixed_point_probabilities.ensures.invalid e)
+returns-clause-invalid c =
+    let made = c.from_symbols_and_nonzero_fixed_point_probabilities in
+    refused-lists _ _ _ c.args.symbols (λ it came. gives-array c.args.symbols came.0)
+    _ _ _ c.args.weights (λ jt came. gives-array c.args.weights came.0) _ _ _ _ made.result made.ensures

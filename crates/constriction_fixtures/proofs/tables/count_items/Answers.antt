@@ -15,8 +15,7 @@ rows-init g c =
 pub overflow_add-count : goal.overflow_add-count
 overflow_add-count g c =
     let step = first-given g.M.IterableEntropyModel.stands_for g.M.IterableEntropyModel.may_refuse g.M.Probability.WholeNumber.whole
-    g.M.Probability.WholeNumber.base (g.M.IterableEntropyModel.rows_left c.rows._row-iterator) _
-    (g.M.IterableEntropyModel.rows_left c.next.new.self)
+    g.M.Probability.WholeNumber.base g.M.IterableEntropyModel.rows_left c.rows._row-iterator _ c.next.new.self
     (g.met.M.IterableEntropyModel.steps_law c.rows._row-iterator _ c.next.new.self c.in-Some.ensures.steps) in
     let fewer = one-fewer (g.M.IterableEntropyModel.rows_left c.rows._row-iterator)
     (g.M.IterableEntropyModel.rows_left c.next.new.self) step.1 in
@@ -26,8 +25,7 @@ overflow_add-count g c =
 pub rows-preserved : goal.rows-preserved
 rows-preserved g c =
     let step = first-given g.M.IterableEntropyModel.stands_for g.M.IterableEntropyModel.may_refuse g.M.Probability.WholeNumber.whole
-    g.M.Probability.WholeNumber.base (g.M.IterableEntropyModel.rows_left c.rows._row-iterator) _
-    (g.M.IterableEntropyModel.rows_left c.next.new.self)
+    g.M.Probability.WholeNumber.base g.M.IterableEntropyModel.rows_left c.rows._row-iterator _ c.next.new.self
     (g.met.M.IterableEntropyModel.steps_law c.rows._row-iterator _ c.next.new.self c.in-Some.ensures.steps) in
     let fewer = one-fewer (g.M.IterableEntropyModel.rows_left c.rows._row-iterator)
     (g.M.IterableEntropyModel.rows_left c.next.new.self) step.1 in

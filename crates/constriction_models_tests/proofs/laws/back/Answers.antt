@@ -1,9 +1,16 @@
-use Rattle.std.proofs.Common.{◌≡◌, ℕ, List, Some, None, refl, ap, arith}
+use Rattle.std.proofs.Common.{◌≡◌, ℕ, List, Some, None, refl, ap, sym, subst, arith}
 use Rattle.std.specs.Prelude.{nat_eq}
 use Rattle.std.specs.List.{IsDistinct}
 use Rattle.constriction.specs.Rows.{Row, IsRowOf, entry_of, symbols_of}
 use Rattle.constriction.specs.Laws.{PairsAreQuantiles}
 use Rattle.constriction_models_tests.proofs.laws.back.Goals as goal
+
+-- the answer of a model that clones nothing is the row itself
+the-row : (rows : List (Row ℕ)) (q own symbol left weight : ℕ) → symbol ≡ own
+    → IsRowOf rows q (record { symbol = own; left = left; weight = weight })
+    → IsRowOf rows q (record { symbol = symbol; left = left; weight = weight })
+the-row rows q own symbol left weight is h =
+    subst (λ s. IsRowOf rows q (record { symbol = s; left = left; weight = weight })) (sym is) h
 
 module _ {Model : Type 0} (precision : ℕ) (rows : Model → List (Row ℕ)) (m : Model) (q : ℕ) (r : Row ℕ)
     (law : PairsAreQuantiles nat_eq precision rows rows) (differ : IsDistinct nat_eq (symbols_of (rows m)))
@@ -25,15 +32,15 @@ module _ {Model : Type 0} (precision : ℕ) (rows : Model → List (Row ℕ)) (m
 pub unreachable-requires-in-None : goal.unreachable-requires-in-None
 unreachable-requires-in-None c =
     no-entry 6 _ c.args.model.now c.args.quantile _ c.pairs_are_quantiles.ensures (c.contiguous_symbols_differ.ensures _)
-    c.in-Ok.ensures.exact c.in-None.ensures
+    (the-row _ _ _ _ _ _ c.in-Ok.ensures.row.1 c.in-Ok.ensures.row.2) c.in-None.ensures
 
 pub returns : goal.returns
 returns c =
     omega (
       arith,
-      c.in-Ok.ensures.exact.from,
+      c.in-Ok.ensures.row.2.from,
       same-left 6 _ c.args.model.now c.args.quantile _ c.pairs_are_quantiles.ensures (c.contiguous_symbols_differ.ensures _)
-          c.in-Ok.ensures.exact _ _ c.in-Some.ensures,
+          (the-row _ _ _ _ _ _ c.in-Ok.ensures.row.1 c.in-Ok.ensures.row.2) _ _ c.in-Some.ensures,
     )
 
 pub overflow_add-result : goal.overflow_add-result
@@ -41,7 +48,7 @@ overflow_add-result c =
     omega (
       arith,
       c.ranges.quantile,
-      c.in-Ok.ensures.exact.from,
+      c.in-Ok.ensures.row.2.from,
       same-left 6 _ c.args.model.now c.args.quantile _ c.pairs_are_quantiles.ensures (c.contiguous_symbols_differ.ensures _)
-          c.in-Ok.ensures.exact _ _ c.in-Some.ensures,
+          (the-row _ _ _ _ _ _ c.in-Ok.ensures.row.1 c.in-Ok.ensures.row.2) _ _ c.in-Some.ensures,
     )

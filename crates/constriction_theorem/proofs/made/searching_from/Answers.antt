@@ -1,20 +1,16 @@
 use Rattle.std.proofs.Common.{◌∙◌}
-use Rattle.std.specs.Prelude.{map}
 use Rattle.std.proofs.lemmas.Iterator.Adapters.{YieldsList-from_vec}
-use Rattle.constriction.specs.Acceptance.{completed}
-use Rattle.constriction_theorem.proofs.Making.{made-of-them, not-accepted}
+use Rattle.constriction.specs.GivenLemmas.{made-of-lists, refused-lists}
 use Rattle.constriction_theorem.proofs.made.searching_from.Goals as goal
 
 pub returns-clause-ok : goal.returns-clause-ok
 returns-clause-ok g c =
-    made-of-them _ _ g.Symbol.PartialEq.eq (λ ws. completed g.row.PRECISION c.args.infer_last_probability (map g.Probability.WholeNumber.whole ws))
-    g.Probability.WholeNumber.BITS g.row.PRECISION c.args.symbols.items c.args.weights.items
-    _ (λ it came. YieldsList-from_vec _ came.0 (came.1 ∙ c.args.symbols.ok.0))
-    _ (λ jt came. YieldsList-from_vec _ came.0 (came.1 ∙ c.args.weights.ok.0)) _ c.searching_of_lists.result c.searching_of_lists.ensures.ok
+    made-of-lists _ _ _ c.args.symbols.items (λ it came. YieldsList-from_vec _ came.0 (came.1 ∙ c.args.symbols.ok.0))
+    _ _ _ c.args.weights.items (λ jt came. YieldsList-from_vec _ came.0 (came.1 ∙ c.args.weights.ok.0)) _ _ _ _ c.searching_of_lists.result
+    c.searching_of_lists.ensures
 
 pub returns-clause-invalid : goal.returns-clause-invalid
-returns-clause-invalid g c = λ invalid.
-    not-accepted _ _ g.Symbol.PartialEq.eq (λ ws. completed g.row.PRECISION c.args.infer_last_probability (map g.Probability.WholeNumber.whole ws))
-    g.Probability.WholeNumber.BITS g.row.PRECISION c.args.symbols.items c.args.weights.items
-    _ (λ it came. YieldsList-from_vec _ came.0 (came.1 ∙ c.args.symbols.ok.0))
-    _ (λ jt came. YieldsList-from_vec _ came.0 (came.1 ∙ c.args.weights.ok.0)) (c.searching_of_lists.ensures.invalid invalid)
+returns-clause-invalid g c =
+    refused-lists _ _ _ c.args.symbols.items (λ it came. YieldsList-from_vec _ came.0 (came.1 ∙ c.args.symbols.ok.0))
+    _ _ _ c.args.weights.items (λ jt came. YieldsList-from_vec _ came.0 (came.1 ∙ c.args.weights.ok.0)) _ _ _ _ c.searching_of_lists.result
+    c.searching_of_lists.ensures

@@ -1,6 +1,8 @@
-use Rattle.std.proofs.Common.{map, ap}
-use Rattle.constriction_model.specs.Acceptance.{completed}
+use Rattle.std.proofs.Common.{◌≡◌, map, ap, Err, rules}
+use Rattle.constriction_model.specs.declared.error.ModelError.TheVariants.{InvalidTable}
+use Rattle.constriction_model.specs.Acceptance.{completed, IsAccepted}
 use Rattle.constriction_model.specs.Rows.{contiguous_rows}
+use Rattle.constriction_stored_rows.proofs.MadeLemmas.{made-unrefused, bad-read}
 use Rattle.constriction_stored_rows.proofs.TableLemmas.{table-of}
 use Rattle.constriction_categorical.proofs.contiguous.ContiguousCategoricalEntropyModel+Probability+Vec+Probability+PRECISION.from_nonzero_fixed_point_probabilities.Goals as goal
 
@@ -15,11 +17,26 @@ invariant_of-result g c =
       stored = (table-of g.Probability.WholeNumber.BITS g.row.PRECISION (map whole c.in_ok-cdf.cdf.items) weights good.0 good.1).0;
     }
 
-pub returns-clause-ok : goal.returns-clause-ok
-returns-clause-ok g c =
+pub returns : goal.returns
+returns g c =
     let whole = g.Probability.WholeNumber.whole in
     let given = c.in_ok-cdf.ensures.ok in
     let good = given.2.2 in
     let weights = completed g.row.PRECISION c.args.infer_last_probability (map whole given.2.0) in
     let table = table-of g.Probability.WholeNumber.BITS g.row.PRECISION (map whole c.in_ok-cdf.cdf.items) weights good.0 good.1 in
-    (given.0, given.1, (given.2.0, given.2.1, (good.0, ap contiguous_rows table.1)))
+    record {
+      ok = (given.2.0, record { iterator = given.0; became = given.1; was_read = given.2.1 }, good.0, ap contiguous_rows table.1);
+      invalid = λ e. absurd (made-unrefused _ _ e);
+    }
+
+pub returns-in_err-cdf : goal.returns-in_err-cdf
+returns-in_err-cdf g c =
+    let whole = g.Probability.WholeNumber.whole in
+    record {
+      ok = search rules;
+      invalid = λ h.
+          let e : c.table_of.result ≡ Err InvalidTable = search rules in
+          bad-read g.I.IntoIterator.into_iter_gives g.I.IntoIter.Iterator.next_gives c.args.probabilities
+          (λ ws. IsAccepted g.Probability.WholeNumber.BITS g.row.PRECISION
+          (completed g.row.PRECISION c.args.infer_last_probability (map whole ws))) (c.table_of.ensures.invalid e);
+    }

@@ -9,7 +9,7 @@ returns g c =
     let probed = table-probed g.Probability.WholeNumber.BITS g.row.PRECISION table (map whole c.cdf_entries.result.now)
     c.args.self.now.stored c.cdf_entries.ensures in
     record {
-      rows = rw c.new.ensures.cumulatives probed.0;
+      tells = rw c.new.ensures.cumulatives probed.0;
       searchable = rw c.new.ensures.cumulatives (probed.1 (whole c.args.quantile));
       fresh = c.new.ensures.fresh;
       found = rw c.new.ensures.cumulatives (λ i f. probed.2 (whole c.args.quantile) i c.requires f);

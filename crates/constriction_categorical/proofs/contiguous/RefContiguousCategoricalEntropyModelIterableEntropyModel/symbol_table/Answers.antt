@@ -1,11 +1,11 @@
 use Rattle.constriction_stored_rows.proofs.StoredSteps.{all-stored, lent-table}
-use Rattle.constriction_model.proofs.StepLemmas.{same-length, same-most}
+use Rattle.constriction_model.proofs.StepLemmas.{same-most}
 use Rattle.constriction_categorical.proofs.contiguous.RefContiguousCategoricalEntropyModelIterableEntropyModel.symbol_table.Goals as goal
 
 pub returns : goal.returns
 returns g c =
     let all = all-stored g.Probability.WholeNumber.whole _ g.row.PRECISION _ _ c.args.self.now.stored c.words-cdf.ensures in
-    record { all = all; callable = tt; ends = (tt, same-most _ _ all); counted = same-length _ _ all }
+    record { all = all; callable = tt; ends = (tt, same-most _ _ all) }
 
 pub overflow_sub-result : goal.overflow_sub-result
 overflow_sub-result g c = (lent-table g.Probability.WholeNumber.whole _ g.row.PRECISION _ _ c.args.self.now.stored c.words-cdf.ensures).3

@@ -1,9 +1,10 @@
 use Rattle.std.proofs.Common.{◌≡◌, true, false, Err, map, sym, subst, ◌∙◌, rules}
 use Rattle.std.specs.List.Sorted.{IsStrictlySortedBy}
 use Rattle.constriction_model.specs.declared.error.ModelError.TheVariants.{InvalidTable}
-use Rattle.constriction_model.specs.Acceptance.{AreAccepted, completed}
+use Rattle.constriction_model.specs.Acceptance.{AreAccepted, WasReadOf, completed}
 use Rattle.constriction_stored_rows.proofs.ApartLemmas.{read-symbols, apart-accepted, apart-stored, apart-distinct, accepted-uncompared, bad-narrower, bad-at_end}
 use Rattle.constriction_stored_rows.proofs.OrderLemmas.{sorted-distinct}
+use Rattle.constriction_stored_rows.proofs.MadeLemmas.{made-unrefused}
 use Rattle.constriction_categorical.proofs.distinct.NonContiguousCategoricalDecoderModel+Symbol+Probability+Vec+tuple2+Probability+Symbol+PRECISION.from_sorted_symbols_and_nonzero_fixed_point_probabilities.Goals as goal
 
 pub invariant_of-result : goal.invariant_of-result
@@ -11,84 +12,80 @@ invariant_of-result g c =
     let whole = g.Probability.WholeNumber.whole in
     let eq = g.Symbol.PartialEq.eq in
     let bits = g.Probability.WholeNumber.BITS in
-    let given = c.in_ok-cdf.ensures.ok in
-    let read = given.4 in
+    let read = c.in_ok-cdf.ensures.ok in
     let weights = completed g.row.PRECISION c.args.infer_last_probability (map whole read.1) in
     let entries = c.in_ok-cdf.cdf.items in
-    let symbols = read-symbols eq whole bits g.row.PRECISION entries read.0 weights read.4.0 read.4.1 in
+    let symbols = read-symbols eq whole bits g.row.PRECISION entries read.0 weights read.4 read.5 in
     let order : IsStrictlySortedBy g.Symbol.Ord.cmp read.0 =
     subst (IsStrictlySortedBy g.Symbol.Ord.cmp) symbols (rw c.deref.ensures.value at (c.are_in_order-in_order.ensures.0 c.if-not-in_order.false)) in
     let differ = sorted-distinct eq g.Symbol.Ord.cmp g.met.Symbol.Ord.matches_eq read.0 order in
     record {
       precise = (c.requires.positive, c.requires.fits);
-      stored = (apart-stored eq whole bits g.row.PRECISION entries read.0 weights read.4.0 read.4.1 differ).0;
-      distinct = apart-distinct eq whole bits g.row.PRECISION entries read.0 weights read.4.0 read.4.1 differ;
+      stored = (apart-stored eq whole bits g.row.PRECISION entries read.0 weights read.4 read.5 differ).0;
+      distinct = apart-distinct eq whole bits g.row.PRECISION entries read.0 weights read.4 read.5 differ;
     }
 
-pub returns-clause-ok : goal.returns-clause-ok
-returns-clause-ok g c =
+pub returns : goal.returns
+returns g c =
     let whole = g.Probability.WholeNumber.whole in
     let eq = g.Symbol.PartialEq.eq in
     let bits = g.Probability.WholeNumber.BITS in
-    let given = c.in_ok-cdf.ensures.ok in
-    let read = given.4 in
+    let read = c.in_ok-cdf.ensures.ok in
     let weights = completed g.row.PRECISION c.args.infer_last_probability (map whole read.1) in
     let entries = c.in_ok-cdf.cdf.items in
-    let symbols = read-symbols eq whole bits g.row.PRECISION entries read.0 weights read.4.0 read.4.1 in
+    let symbols = read-symbols eq whole bits g.row.PRECISION entries read.0 weights read.4 read.5 in
     let order : IsStrictlySortedBy g.Symbol.Ord.cmp read.0 =
     subst (IsStrictlySortedBy g.Symbol.Ord.cmp) symbols (rw c.deref.ensures.value at (c.are_in_order-in_order.ensures.0 c.if-not-in_order.false)) in
-    let differ = sorted-distinct eq g.Symbol.Ord.cmp g.met.Symbol.Ord.matches_eq read.0 order in (
-      given.0,
-      given.1,
-      given.2,
-      given.3,
-      (
+    let differ = sorted-distinct eq g.Symbol.Ord.cmp g.met.Symbol.Ord.matches_eq read.0 order in
+    record {
+      ok = (
         read.0,
         read.1,
         read.2,
         read.3,
-        (apart-accepted eq whole bits g.row.PRECISION entries read.0 weights read.4.0 read.4.1 differ, order, (apart-stored eq whole bits g.row.PRECISION entries read.0 weights read.4.0 read.4.1 differ).1),
-      ),
-    )
+        (apart-accepted eq whole bits g.row.PRECISION entries read.0 weights read.4 read.5 differ, order),
+        (apart-stored eq whole bits g.row.PRECISION entries read.0 weights read.4 read.5 differ).1,
+      );
+      invalid = λ e. absurd (made-unrefused _ _ e);
+    }
 
-pub returns-in_err-cdf-clause-invalid : goal.returns-in_err-cdf-clause-invalid
-returns-in_err-cdf-clause-invalid g c = λ h.
+pub returns-in_err-cdf : goal.returns-in_err-cdf
+returns-in_err-cdf g c =
     let whole = g.Probability.WholeNumber.whole in
-    let eq = g.Symbol.PartialEq.eq in
     let bits = g.Probability.WholeNumber.BITS in
-    let e : c.entries_read.result ≡ Err InvalidTable = search rules in
-    let bad = c.entries_read.ensures.invalid e in (
-      bad.0,
-      bad.1,
-      bad.2,
-      bad.3,
-      bad-narrower g.S.IntoIter.Iterator.next_gives bad.0 g.P.IntoIter.Iterator.next_gives bad.2
+    record {
+      ok = search rules;
+      invalid = λ h.
+          let e : c.entries_read.result ≡ Err InvalidTable = search rules in
+          bad-narrower (WasReadOf g.S.IntoIterator.into_iter_gives g.S.IntoIter.Iterator.next_gives c.args.symbols)
+          (WasReadOf g.P.IntoIterator.into_iter_gives g.P.IntoIter.Iterator.next_gives c.args.probabilities)
           (λ ss ws. AreAccepted (λ _ _. false) bits g.row.PRECISION ss
           (completed g.row.PRECISION c.args.infer_last_probability (map whole ws)))
-          (λ ss ws. AreAccepted eq bits g.row.PRECISION ss (completed g.row.PRECISION c.args.infer_last_probability (map whole ws)) × IsStrictlySortedBy g.Symbol.Ord.cmp ss)
-          (λ ss ws good. accepted-uncompared eq bits g.row.PRECISION ss
-          (completed g.row.PRECISION c.args.infer_last_probability (map whole ws)) good.0) bad.4,
-    )
+          (λ ss ws. AreAccepted g.Symbol.PartialEq.eq bits g.row.PRECISION ss
+          (completed g.row.PRECISION c.args.infer_last_probability (map whole ws)) × IsStrictlySortedBy g.Symbol.Ord.cmp ss)
+          (λ ss ws good. accepted-uncompared g.Symbol.PartialEq.eq bits g.row.PRECISION ss
+          (completed g.row.PRECISION c.args.infer_last_probability (map whole ws)) good.0) (c.entries_read.ensures.invalid e);
+    }
 
-pub returns-then-not-in_order-clause-invalid : goal.returns-then-not-in_order-clause-invalid
-returns-then-not-in_order-clause-invalid g c = λ _.
+pub returns-then-not-in_order : goal.returns-then-not-in_order
+returns-then-not-in_order g c =
     let whole = g.Probability.WholeNumber.whole in
     let eq = g.Symbol.PartialEq.eq in
     let bits = g.Probability.WholeNumber.BITS in
-    let given = c.in_ok-cdf.ensures.ok in
-    let read = given.4 in
+    let read = c.in_ok-cdf.ensures.ok in
     let weights = completed g.row.PRECISION c.args.infer_last_probability (map whole read.1) in
     let entries = c.in_ok-cdf.cdf.items in
-    let symbols = read-symbols eq whole bits g.row.PRECISION entries read.0 weights read.4.0 read.4.1 in (
-      given.0,
-      given.1,
-      given.2,
-      given.3,
-      bad-at_end g.S.IntoIter.Iterator.next_gives given.0 g.P.IntoIter.Iterator.next_gives given.2
-          (λ ss ws. AreAccepted eq bits g.row.PRECISION ss (completed g.row.PRECISION c.args.infer_last_probability (map whole ws)) × IsStrictlySortedBy g.Symbol.Ord.cmp ss)
+    let symbols = read-symbols eq whole bits g.row.PRECISION entries read.0 weights read.4 read.5 in
+    record {
+      ok = tt;
+      invalid = λ _.
+          bad-at_end (WasReadOf g.S.IntoIterator.into_iter_gives g.S.IntoIter.Iterator.next_gives c.args.symbols)
+          (WasReadOf g.P.IntoIterator.into_iter_gives g.P.IntoIter.Iterator.next_gives c.args.probabilities)
+          (λ ss ws. AreAccepted g.Symbol.PartialEq.eq bits g.row.PRECISION ss
+          (completed g.row.PRECISION c.args.infer_last_probability (map whole ws)) × IsStrictlySortedBy g.Symbol.Ord.cmp ss)
           read.0 read.1 read.2 read.3
           (λ good.
           let found : true ≡ false = sym (c.are_in_order-in_order.ensures.1 (rw c.deref.ensures.value (subst (IsStrictlySortedBy g.Symbol.Ord.cmp) (sym symbols) good.1)))
           ∙ c.if-not-in_order.true in
-          cc),
-    )
+          cc);
+    }

@@ -5,10 +5,11 @@ use Rattle.std.specs.Map.{lookup}
 use Rattle.std.specs.HashMap.{get}
 use Rattle.std.specs.Set.{distinct_count}
 use Rattle.std.proofs.lemmas.Map.Made.{distinct_count-from_IsDistinct}
-use Rattle.constriction_model.specs.Acceptance.{completed}
+use Rattle.constriction_model.specs.Acceptance.{AreAccepted, completed}
 use Rattle.constriction_model.specs.Rows.{rows_of}
 use Rattle.constriction_model.specs.CodingLemmas.{rows-within}
 use Rattle.constriction_stored_rows.proofs.HashLemmas.{table-rows_within, found-within, table-entry_of, table-count}
+use Rattle.constriction_stored_rows.proofs.MadeLemmas.{made-unrefused, bad-both}
 use Rattle.constriction_stored_rows.proofs.PairedLemmas.{accepted-tile, accepted-symbols}
 use Rattle.constriction_categorical.proofs.hashed.NonContiguousCategoricalEncoderModel.from_symbols_and_nonzero_fixed_point_probabilities.Goals as goal
 
@@ -30,8 +31,8 @@ invariant_of-result g c =
           (rows-within g.Probability.WholeNumber.BITS g.row.PRECISION rows tile) good.1.1);
     }
 
-pub returns-clause-ok : goal.returns-clause-ok
-returns-clause-ok g c =
+pub returns : goal.returns
+returns g c =
     let whole = g.Probability.WholeNumber.whole in
     let base = g.Probability.WholeNumber.base in
     let eq = g.Symbol.PartialEq.eq in
@@ -39,25 +40,27 @@ returns-clause-ok g c =
     let given = c.in_ok-table.ensures.ok in
     let weights = completed g.row.PRECISION c.args.infer_last_probability (map whole given.1) in
     let good = given.4 in
-    let rows = rows_of given.0 weights in (
-      c.into_iter-symbols.result,
-      c.into_iter-symbols.ensures.into_iter_gives,
-      c.into_iter.result,
-      c.into_iter.ensures.into_iter_gives,
-      (
+    let rows = rows_of given.0 weights in
+    record {
+      ok = (
         given.0,
         given.1,
-        given.2,
-        given.3,
+        record {
+          iterator = c.into_iter-symbols.result;
+          became = c.into_iter-symbols.ensures.into_iter_gives;
+          was_read = given.2;
+        },
+        record { iterator = c.into_iter.result; became = c.into_iter.ensures.into_iter_gives; was_read = given.3 },
+        good.0,
         (
-          good.0,
           (λ s. table-entry_of eq laws (λ e. (whole e.left, whole (base e.weight))) c.in_ok-table.table.entries s good.1.0 ∙ good.1.1 s),
           table-count eq laws (λ e. (whole e.left, whole (base e.weight))) c.in_ok-table.table.entries rows good.1.0 good.1.1
               ∙ ap (distinct_count eq) (accepted-symbols eq g.Probability.WholeNumber.BITS g.row.PRECISION given.0 weights good.0)
               ∙ distinct_count-from_IsDistinct laws given.0 good.0.distinct,
         ),
-      ),
-    )
+      );
+      invalid = λ e. absurd (made-unrefused _ _ e);
+    }
 
 pub rows_read-requires-clause-none : goal.rows_read-requires-clause-none
 rows_read-requires-clause-none g c = (
@@ -80,12 +83,19 @@ rows_read-requires-clause-weights_go g c = (c.requires.probabilities_end c.into_
 pub rows_read-requires-clause-weights_end : goal.rows_read-requires-clause-weights_end
 rows_read-requires-clause-weights_end g c = (c.requires.probabilities_end c.into_iter.result c.into_iter.ensures.into_iter_gives).1
 
-pub returns-in_err-table-clause-invalid : goal.returns-in_err-table-clause-invalid
-returns-in_err-table-clause-invalid g c = λ h.
-    let e : c.rows_read.result ≡ Err InvalidTable = search rules in (
-      c.into_iter-symbols.result,
-      c.into_iter-symbols.ensures.into_iter_gives,
-      c.into_iter.result,
-      c.into_iter.ensures.into_iter_gives,
-      c.rows_read.ensures.invalid e,
-    )
+pub returns-in_err-table : goal.returns-in_err-table
+returns-in_err-table g c = record {
+  ok = search rules;
+  invalid = λ h.
+      let e : c.rows_read.result ≡ Err InvalidTable = search rules in
+      bad-both g.S.IntoIterator.into_iter_gives g.S.IntoIter.Iterator.next_gives c.args.symbols g.P.IntoIterator.into_iter_gives
+      g.P.IntoIter.Iterator.next_gives c.args.probabilities
+      (λ ss ws. AreAccepted g.Symbol.PartialEq.eq g.Probability.WholeNumber.BITS g.row.PRECISION ss
+      (completed g.row.PRECISION c.args.infer_last_probability (map g.Probability.WholeNumber.whole ws))) (
+        c.into_iter-symbols.result,
+        c.into_iter-symbols.ensures.into_iter_gives,
+        c.into_iter.result,
+        c.into_iter.ensures.into_iter_gives,
+        c.rows_read.ensures.invalid e,
+      );
+}

@@ -12,4 +12,4 @@ returns g c =
     (map g.Model.Kind.CdfEntry.cumulative c.entries.result.now)
     (map g.Model.Kind.CdfEntry.cumulative c.slot_probe.result.1.entries.now) c.entries.ensures
     c.requires c.slot_probe.ensures.part in
-    record { rows = probed.0; searchable = probed.1; fresh = c.slot_probe.ensures.fresh; found = probed.2 }
+    record { tells = probed.0; searchable = probed.1; fresh = c.slot_probe.ensures.fresh; found = probed.2 }

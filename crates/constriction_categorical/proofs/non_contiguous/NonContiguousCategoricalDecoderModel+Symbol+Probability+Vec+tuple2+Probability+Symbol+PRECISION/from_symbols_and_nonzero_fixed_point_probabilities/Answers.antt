@@ -1,7 +1,8 @@
 use Rattle.std.proofs.Common.{◌≡◌, map, Err, refl, rules}
 use Rattle.constriction_model.specs.declared.error.ModelError.TheVariants.{InvalidTable}
-use Rattle.constriction_model.specs.Acceptance.{completed}
+use Rattle.constriction_model.specs.Acceptance.{AreAccepted, completed}
 use Rattle.constriction_model.specs.Rows.{rows_of}
+use Rattle.constriction_stored_rows.proofs.MadeLemmas.{made-unrefused, bad-both}
 use Rattle.constriction_stored_rows.proofs.PairedLemmas.{paired-of_rows, accepted-tile, paired-distinct}
 use Rattle.constriction_categorical.proofs.non_contiguous.NonContiguousCategoricalDecoderModel+Symbol+Probability+Vec+tuple2+Probability+Symbol+PRECISION.from_symbols_and_nonzero_fixed_point_probabilities.Goals as goal
 
@@ -20,8 +21,8 @@ invariant_of-result g c =
       distinct = paired-distinct eq g.Probability.WholeNumber.BITS g.row.PRECISION given.0 weights good.0 whole c.in_ok-cdf.cdf.items good.1;
     }
 
-pub returns-clause-ok : goal.returns-clause-ok
-returns-clause-ok g c =
+pub returns : goal.returns
+returns g c =
     let whole = g.Probability.WholeNumber.whole in
     let eq = g.Symbol.PartialEq.eq in
     let given = c.in_ok-cdf.ensures.ok in
@@ -29,13 +30,22 @@ returns-clause-ok g c =
     let good = given.4 in
     let tile = accepted-tile eq g.Probability.WholeNumber.BITS g.row.PRECISION given.0 weights good.0 in
     let rows = paired-of_rows whole g.Probability.WholeNumber.BITS g.row.PRECISION (rows_of given.0 weights) c.in_ok-cdf.cdf.items tile
-    good.1 in (
-      c.into_iter-symbols.result,
-      c.into_iter-symbols.ensures.into_iter_gives,
-      c.into_iter.result,
-      c.into_iter.ensures.into_iter_gives,
-      (given.0, given.1, given.2, given.3, (good.0, rows.1)),
-    )
+    good.1 in
+    record {
+      ok = (
+        given.0,
+        given.1,
+        record {
+          iterator = c.into_iter-symbols.result;
+          became = c.into_iter-symbols.ensures.into_iter_gives;
+          was_read = given.2;
+        },
+        record { iterator = c.into_iter.result; became = c.into_iter.ensures.into_iter_gives; was_read = given.3 },
+        good.0,
+        rows.1,
+      );
+      invalid = λ e. absurd (made-unrefused _ _ e);
+    }
 
 pub rows_read-requires-clause-none : goal.rows_read-requires-clause-none
 rows_read-requires-clause-none g c = rw c.room_for-room.ensures (refl, refl)
@@ -54,12 +64,19 @@ rows_read-requires-clause-weights_go g c = (c.requires.probabilities_end c.into_
 pub rows_read-requires-clause-weights_end : goal.rows_read-requires-clause-weights_end
 rows_read-requires-clause-weights_end g c = (c.requires.probabilities_end c.into_iter.result c.into_iter.ensures.into_iter_gives).1
 
-pub returns-in_err-cdf-clause-invalid : goal.returns-in_err-cdf-clause-invalid
-returns-in_err-cdf-clause-invalid g c = λ h.
-    let e : c.rows_read.result ≡ Err InvalidTable = search rules in (
-      c.into_iter-symbols.result,
-      c.into_iter-symbols.ensures.into_iter_gives,
-      c.into_iter.result,
-      c.into_iter.ensures.into_iter_gives,
-      c.rows_read.ensures.invalid e,
-    )
+pub returns-in_err-cdf : goal.returns-in_err-cdf
+returns-in_err-cdf g c = record {
+  ok = search rules;
+  invalid = λ h.
+      let e : c.rows_read.result ≡ Err InvalidTable = search rules in
+      bad-both g.S.IntoIterator.into_iter_gives g.S.IntoIter.Iterator.next_gives c.args.symbols g.P.IntoIterator.into_iter_gives
+      g.P.IntoIter.Iterator.next_gives c.args.probabilities
+      (λ ss ws. AreAccepted g.Symbol.PartialEq.eq g.Probability.WholeNumber.BITS g.row.PRECISION ss
+      (completed g.row.PRECISION c.args.infer_last_probability (map g.Probability.WholeNumber.whole ws))) (
+        c.into_iter-symbols.result,
+        c.into_iter-symbols.ensures.into_iter_gives,
+        c.into_iter.result,
+        c.into_iter.ensures.into_iter_gives,
+        c.rows_read.ensures.invalid e,
+      );
+}

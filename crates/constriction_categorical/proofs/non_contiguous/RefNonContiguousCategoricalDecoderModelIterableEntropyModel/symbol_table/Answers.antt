@@ -1,11 +1,11 @@
 use Rattle.constriction_stored_rows.proofs.PairedLemmas.{paired-lent}
-use Rattle.constriction_model.proofs.StepLemmas.{same-length, same-most}
+use Rattle.constriction_model.proofs.StepLemmas.{same-most}
 use Rattle.constriction_categorical.proofs.non_contiguous.RefNonContiguousCategoricalDecoderModelIterableEntropyModel.symbol_table.Goals as goal
 
 pub returns : goal.returns
 returns g c =
     let all = (paired-lent g.Probability.WholeNumber.whole _ g.row.PRECISION _ _ c.args.self.now.stored c.words-cdf.ensures).1 in
-    record { all = all; callable = tt; ends = (tt, same-most _ _ all); counted = same-length _ _ all }
+    record { all = all; callable = tt; ends = (tt, same-most _ _ all) }
 
 pub invariant_of-result : goal.invariant_of-result
 invariant_of-result g c =

@@ -2,7 +2,7 @@ use Rattle.std.proofs.Common.{◌+◌, ◌≡◌, sym}
 use Rattle.constriction_model.specs.Rows.{uniform_rows}
 use Rattle.constriction_model.specs.Tables.{rows_between}
 use Rattle.constriction_model.specs.UniformRowLemmas.{length-uniform_rows}
-use Rattle.constriction_model.proofs.StepLemmas.{all-between, same-length, same-most}
+use Rattle.constriction_model.proofs.StepLemmas.{all-between, same-most}
 use Rattle.constriction_categorical.proofs.uniform.UniformModelIterableEntropyModel.symbol_table.Goals as goal
 
 pub returns : goal.returns
@@ -14,4 +14,4 @@ returns g c =
     let all : rows_between t.from t.to (uniform_rows g.row.PRECISION (whole t.model.last_symbol + 1)) ≡ rows =
     rw (c.new.ensures.model, c.new.ensures.from, c.new.ensures.to)
     (all-between rows (last + 1) (sym (length-uniform_rows g.row.PRECISION last))) in
-    record { all = all; callable = tt; ends = (tt, same-most _ _ all); counted = same-length _ _ all }
+    record { all = all; callable = tt; ends = (tt, same-most _ _ all) }

@@ -1,4 +1,4 @@
-use Rattle.std.proofs.Common.{true, refl}
+use Rattle.std.proofs.Common.{refl}
 use Rattle.constriction_model.specs.CodingLemmas.{row-within}
 use Rattle.constriction_model.specs.Model.{row_of}
 use Rattle.constriction_model.specs.UniformRowLemmas.{uniform-found, uniform-tiles}
@@ -17,11 +17,9 @@ returns g c =
     _ _ c.requires.in_range m.bin found.before found.last in
     record {
       row = (c.to_number.result, refl, held);
-      exact = held;
       within =
           row-within g.Probability.WholeNumber.BITS g.row.PRECISION _ _
           (row_of whole base (c.to_number.result, answered.0, answered.1))
           (uniform-tiles g.row.PRECISION _ m.within _ m.fits m.some) held;
       refused = tt;
-      succeeds = refl {a = true};
     }
