@@ -46,19 +46,13 @@ reply_of call.Full s = reply.Flag (length s.after == 0)
 reply_of call.Position s = reply.Count (length s.before)
 reply_of (call.Seek position) s = if nat_le position (length (words s)) then reply.Moved else reply.NotMoved
 
--- the state that a call leaves
+-- the state that a call leaves: only reads, writes and seeks move the cursor
 abbrev pub moved_by : {W : Type 0} → CursorCall W → State W → State W
 moved_by call.StackRead s = stack_read (reverse s.before) s
 moved_by call.QueueRead s = queue_read s.after s
 moved_by (call.Write word) s = overwrite word s.after s
-moved_by call.StackRemaining s = s
-moved_by call.QueueRemaining s = s
-moved_by call.SpaceLeft s = s
-moved_by call.StackExhausted s = s
-moved_by call.QueueExhausted s = s
-moved_by call.Full s = s
-moved_by call.Position s = s
 moved_by (call.Seek position) s = if nat_le position (length (words s)) then state (words s) position else s
+moved_by _ s = s
 
 -- the replies to calls, in order
 abbrev pub replies_of : {W : Type 0} → List (CursorCall W) → State W → List (CursorReply W)

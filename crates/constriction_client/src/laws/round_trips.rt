@@ -2,6 +2,7 @@
 
 ghost use Rattle.std.specs.Prelude.{◌≡◌, ◌<◌, ◌≤◌, List, length, reverse, Err, IfOk, IfErr, OnOk, OnErr};
 ghost use Rattle.std.specs.List.{IsDistinct};
+ghost use Rattle.constriction.specs.Entries.{SameEntries};
 ghost use Rattle.constriction.specs.Model.{StandForRows, ClonesAreEqual};
 ghost use Rattle.constriction.specs.Rows.{entry_of, symbols_of};
 ghost use Rattle.constriction_client.specs.Coming.{ComeNext, QuantilesCome, GoesBack};
@@ -87,8 +88,7 @@ where
     E: EncodesOver<Symbol, Word, PRECISION>,
     requires positive { 0 < PRECISION }
     requires fits { PRECISION ≤ Word.BITS }
-    requires alike { (s : Symbol) → entry_of E.symbol_eq (E.rows encoder.now) s
-        ≡ entry_of E.symbol_eq (D.rows decoder.now) s }
+    requires alike { SameEntries E.symbol_eq (E.rows encoder.now) (D.rows decoder.now) }
     ensures ok { IfOk result (λ pairs. StandForItems D.stands_for E.symbol_eq (reverse items.now) pairs.items) }
     ensures equal { IfOk result (λ pairs. ClonesAreEqual E.symbol_eq D.stands_for
         → AreItems E.symbol_eq (reverse items.now) pairs.items) }
@@ -145,10 +145,9 @@ where
     ensures rows { IfOk result (λ both. StandForRows M.stands_for
         (⟦<NonContiguousCategoricalDecoderModel<M::Symbol, M::Probability, Vec<(M::Probability, M::Symbol)>, PRECISION> as EntropyModel<PRECISION>>⟧.rows both.0)
         (M.rows model)) }
-    ensures alike { IfOk result (λ both. (s : M.Symbol) → entry_of M.Symbol.eq
-        (⟦<NonContiguousCategoricalEncoderModel<M::Symbol, M::Probability, PRECISION> as EntropyModel<PRECISION>>⟧.rows both.1) s
-        ≡ entry_of M.Symbol.eq
-        (⟦<NonContiguousCategoricalDecoderModel<M::Symbol, M::Probability, Vec<(M::Probability, M::Symbol)>, PRECISION> as EntropyModel<PRECISION>>⟧.rows both.0) s) }
+    ensures alike { IfOk result (λ both. SameEntries M.Symbol.eq
+        (⟦<NonContiguousCategoricalEncoderModel<M::Symbol, M::Probability, PRECISION> as EntropyModel<PRECISION>>⟧.rows both.1)
+        (⟦<NonContiguousCategoricalDecoderModel<M::Symbol, M::Probability, Vec<(M::Probability, M::Symbol)>, PRECISION> as EntropyModel<PRECISION>>⟧.rows both.0)) }
     ensures invalid { result ≡ Err ModelError.InvalidTable → ¬ (IsDistinct M.Symbol.eq (symbols_of (M.rows model))) }
 {
     let decoder = to_generic_decoder_model::<M, PRECISION>(alloc, model)?;
@@ -210,8 +209,7 @@ where
     Buf: SafeBufMut<Word>,
     requires positive { 0 < PRECISION }
     requires fits { PRECISION ≤ Word.BITS }
-    requires alike { (s : Symbol) → entry_of E.symbol_eq (E.rows encoder.now) s
-        ≡ entry_of E.symbol_eq (D.rows decoder.now) s }
+    requires alike { SameEntries E.symbol_eq (E.rows encoder.now) (D.rows decoder.now) }
     ensures ok { IfOk result (λ pairs. StandForItems D.stands_for E.symbol_eq items.now pairs.items) }
     ensures equal { IfOk result (λ pairs. ClonesAreEqual E.symbol_eq D.stands_for
         → AreItems E.symbol_eq items.now pairs.items) }

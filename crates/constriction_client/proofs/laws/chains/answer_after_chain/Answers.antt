@@ -10,6 +10,6 @@ convert_chain-requires g c =
 
 pub returns-clause-ok : goal.returns-clause-ok
 returns-clause-ok g c =
-    c.in_ok-answer_queries.ensures.exact c.requires.clones
+    c.in_ok-answer_queries.ensures.ok.exact c.requires.clones
     ∙ scan-of-rows g.row.PRECISION g.Probability.WholeNumber.whole g.E.EncodesOver.symbol_eq _ _ _ c.args.queries.now
     (c.in_ok-converted.ensures.exact c.requires.clones) c.requires.alike
