@@ -95,9 +95,9 @@ LeavesWords count (Err (Backend e)) rest = rest ≢ []
 
 -- Words were read in order, and their pairs were put after the old ones. Where s tells the words to come, t tells
 -- those that are left.
-pub record ReadsPairs {Symbol Word Source Error : Type 0} (Stands : Symbol → Symbol → Type 0) (precision : ℕ) (rows : List (Row Symbol)) (whole : Word → ℕ)
-    (gives : Source → Result (Option Word) Error → Source → Type 0) (tells : Source → List Word → Type 0) (count : ℕ)
-    (s : Source) (old : List (Symbol × Word)) (result : Result ℕ (CoderError ReadFault Error))
+pub record ReadsPairs {Symbol Word Source Error : Type 0} (Stands : Symbol → Symbol → Type 0) (precision : ℕ) (rows : List (Row Symbol))
+    (whole : Word → ℕ) (gives : Source → Result (Option Word) Error → Source → Type 0) (tells : Source → List Word → Type 0)
+    (count : ℕ) (s : Source) (old : List (Symbol × Word)) (result : Result ℕ (CoderError ReadFault Error))
     (t : Source) (new : List (Symbol × Word)) : Type 0 where
   pub words : List Word
   pub pairs : List (Symbol × Word)

@@ -7,6 +7,7 @@ ghost use Rattle.constriction.specs.Acceptance.{AreAccepted, GaveBothBad, GaveBo
 ghost use Rattle.constriction.specs.Laws.{SymbolsDiffer};
 ghost use Rattle.constriction.specs.Model.{StandForRows, ClonesAreSame, ClonesAreEqual};
 ghost use Rattle.constriction.specs.Rows.{Row, rows_of, symbols_of};
+ghost use Rattle.constriction_client.specs.Precision.{IsPrecision};
 ghost use Rattle.constriction_client.specs.Chains.{is_lookup, is_lookup_after, StepLeaves, ChainLeaves};
 
 use crate::decoder_form::{DecoderForm, Searching};
@@ -299,8 +300,7 @@ pub fn convert_chain<Symbol: Eq + Clone + Drop, Probability: IndexWord, const PR
     form: DecoderForm<Symbol, Probability, PRECISION>,
     steps: &[ChainStep],
 ) -> Result<DecoderForm<Symbol, Probability, PRECISION>, ModelError>
-    requires positive { 0 < PRECISION }
-    requires fits { PRECISION ≤ Probability.BITS }
+    requires precision { IsPrecision Probability.BITS PRECISION }
     requires narrow { PRECISION ≤ 63 }
     requires clones { ClonesAreEqual Symbol.eq Symbol.is_clone }
     ensures rows { IfOk result (λ made. ChainLeaves Symbol.is_clone steps.now

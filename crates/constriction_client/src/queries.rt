@@ -3,6 +3,7 @@
 ghost use Rattle.std.specs.Prelude.{◌≡◌, ◌<◌, ◌≤◌, IfOk, map};
 ghost use Rattle.constriction.specs.Entries.{SameEntries};
 ghost use Rattle.constriction.specs.Rows.{entry_of};
+ghost use Rattle.constriction_client.specs.Precision.{IsPrecision};
 ghost use Rattle.constriction_client.specs.Replies.{in_numbers, reply_to_query, replies_of_two, replies_by_scan};
 ghost use Rattle.constriction_client.specs.Replies.{StandsForReply, AreRepliesOf};
 
@@ -81,8 +82,7 @@ where
     Word: WholeNumber,
     D: DecodesOver<Symbol, Word, PRECISION>,
     E: EncodesOver<Symbol, Word, PRECISION>,
-    requires positive { 0 < PRECISION }
-    requires fits { PRECISION ≤ Word.BITS }
+    requires precision { IsPrecision Word.BITS PRECISION }
     ensures ok { IfOk result (λ replies. AreRepliesOf D.stands_for
         (replies_of_two PRECISION Word.whole (D.rows form.now) (entry_of E.symbol_eq (E.rows encoder.now)) queries.now)
         (map (in_numbers Word.whole Word.base) replies.items)) }

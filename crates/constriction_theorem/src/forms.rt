@@ -3,6 +3,7 @@
 ghost use Rattle.std.specs.Prelude.{◌≡◌, ◌<◌, ◌≤◌, map, IfOk, IfErr};
 ghost use Rattle.constriction.specs.Entries.{SameEntries};
 ghost use Rattle.constriction.specs.Model.{ClonesAreEqual};
+ghost use Rattle.constriction_client.specs.Precision.{IsPrecision};
 ghost use Rattle.constriction_client.specs.Chains.{is_lookup};
 ghost use Rattle.constriction_client.specs.Replies.{in_numbers, replies_by_scan};
 ghost use Rattle.constriction_theorem.specs.Answers.{AnswersAfter};
@@ -33,17 +34,16 @@ pub fn answer_by_form<Symbol: Eq + Clone + Drop, Probability: IndexWord, E, cons
 ) -> Result<FormAndReplies<Symbol, Probability, PRECISION>, ModelError>
 where
     E: EncodesOver<Symbol, Probability, PRECISION>,
-    requires positive { 0 < PRECISION }
-    requires fits { PRECISION ≤ Probability.BITS }
+    requires precision { IsPrecision Probability.BITS PRECISION }
     requires narrow { PRECISION ≤ 63 }
     requires clones { ClonesAreEqual Symbol.eq Symbol.is_clone }
     requires equal { ClonesAreEqual E.symbol_eq Symbol.is_clone }
     requires alike { SameEntries E.symbol_eq (E.rows encoder.now)
         (⟦<DecoderForm<Symbol, Probability, PRECISION> as EntropyModel<PRECISION>>⟧.rows form) }
-    ensures answers { IfOk result (λ both. AnswersAfter Symbol.is_clone (replies_by_scan PRECISION Probability.whole E.symbol_eq queries.now)
+    ensures answers { IfOk result (λ x. AnswersAfter Symbol.is_clone (replies_by_scan PRECISION Probability.whole E.symbol_eq queries.now)
         steps.now (is_lookup form) (⟦<DecoderForm<Symbol, Probability, PRECISION> as EntropyModel<PRECISION>>⟧.rows form)
-        (is_lookup both.0) (⟦<DecoderForm<Symbol, Probability, PRECISION> as EntropyModel<PRECISION>>⟧.rows both.0)
-        (map (in_numbers Probability.whole Probability.base) both.1.items)) }
+        (is_lookup x.0) (⟦<DecoderForm<Symbol, Probability, PRECISION> as EntropyModel<PRECISION>>⟧.rows x.0)
+        (map (in_numbers Probability.whole Probability.base) x.1.items)) }
     ensures refused { IfErr result (λ e. e ≡ ModelError.OutOfMemory) }
 {
     let converted = convert_chain(alloc, form, steps)?;

@@ -4,6 +4,7 @@ ghost use Rattle.std.specs.Prelude.{◌≡◌, ◌<◌, ◌≤◌, List, map, fa
 ghost use Rattle.std.specs.List.{IsDistinct};
 ghost use Rattle.constriction.specs.Model.{StandForRows, ClonesAreSame, ClonesAreEqual};
 ghost use Rattle.constriction.specs.Rows.{Row, symbols_of};
+ghost use Rattle.constriction_client.specs.Precision.{IsPrecision};
 ghost use Rattle.constriction_client.specs.Chains.{is_lookup};
 ghost use Rattle.constriction_client.specs.Replies.{in_numbers, replies_by_scan, AreRepliesOf};
 ghost use Rattle.constriction_theorem.specs.Answers.{AnswersAfter};
@@ -33,8 +34,7 @@ where
     M: IterableEntropyModel<PRECISION> + Copy,
     M::Symbol: Hash + Eq + Clone + Drop,
     M::Probability: IndexWord,
-    requires positive { 0 < PRECISION }
-    requires fits { PRECISION ≤ M.Probability.BITS }
+    requires precision { IsPrecision M.Probability.BITS PRECISION }
     requires narrow { PRECISION ≤ 63 }
     requires walked { ClonesAreEqual M.Symbol.eq M.stands_for }
     requires clones { ClonesAreEqual M.Symbol.eq M.Symbol.is_clone }
@@ -89,8 +89,7 @@ where
     M: DecoderModel<PRECISION> + IterableEntropyModel<PRECISION> + Copy,
     M::Symbol: Hash + Eq + Clone + Drop,
     M::Probability: IndexWord,
-    requires positive { 0 < PRECISION }
-    requires fits { PRECISION ≤ M.Probability.BITS }
+    requires precision { IsPrecision M.Probability.BITS PRECISION }
     requires narrow { PRECISION ≤ 63 }
     requires walked { ClonesAreEqual M.Symbol.eq M.IterableEntropyModel.stands_for }
     requires clones { ClonesAreEqual M.Symbol.eq M.Symbol.is_clone }

@@ -4,6 +4,7 @@
 //! each index word.
 
 ghost use Rattle.std.specs.Prelude.{◌≡◌, ◌^◌, ◌<◌, ◌≤◌, IfOk, IfErr};
+ghost use Rattle.constriction_client.specs.Precision.{IsPrecision};
 ghost use Rattle.constriction_theorem.specs.Answers.{AnswersOfRange};
 
 use crate::models::{AnswersOfModel, answer_by_table};
@@ -24,8 +25,7 @@ pub fn answer_from_range_u8<const PRECISION: usize>(
     steps: &[ChainStep],
     queries: &[Query<usize, u8>],
 ) -> Result<AnswersOfModel<usize, u8, DecoderForm<usize, u8, PRECISION>>, ModelError>
-    requires positive { 0 < PRECISION }
-    requires fits { PRECISION ≤ 8 }
+    requires precision { IsPrecision 8 PRECISION }
     requires some { 2 ≤ range }
     requires within { range ≤ 2 ^ PRECISION }
     ensures answers { IfOk result (AnswersOfRange PRECISION range steps.now queries.now ⟦<u8 as WholeNumber>⟧.base
@@ -50,8 +50,7 @@ pub fn answer_from_range_u16<const PRECISION: usize>(
     steps: &[ChainStep],
     queries: &[Query<usize, u16>],
 ) -> Result<AnswersOfModel<usize, u16, DecoderForm<usize, u16, PRECISION>>, ModelError>
-    requires positive { 0 < PRECISION }
-    requires fits { PRECISION ≤ 16 }
+    requires precision { IsPrecision 16 PRECISION }
     requires some { 2 ≤ range }
     requires within { range ≤ 2 ^ PRECISION }
     ensures answers { IfOk result (AnswersOfRange PRECISION range steps.now queries.now ⟦<u16 as WholeNumber>⟧.base

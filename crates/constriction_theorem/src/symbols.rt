@@ -4,6 +4,7 @@ ghost use Rattle.std.specs.Prelude.{◌≡◌, ◌<◌, ◌≤◌, map, false, I
 ghost use Rattle.constriction.specs.Acceptance.{completed, AreAccepted};
 ghost use Rattle.constriction.specs.Model.{ClonesAreEqual};
 ghost use Rattle.constriction.specs.Rows.{rows_of};
+ghost use Rattle.constriction_client.specs.Precision.{IsPrecision};
 ghost use Rattle.constriction_client.specs.Chains.{is_lookup};
 ghost use Rattle.constriction_client.specs.Replies.{in_numbers, replies_by_scan};
 ghost use Rattle.constriction_theorem.specs.Answers.{AnswersAfter};
@@ -36,8 +37,7 @@ pub fn answer_from_symbols_and_weights<
     steps: &[ChainStep],
     queries: &[Query<Symbol, Probability>],
 ) -> Result<FormAndReplies<Symbol, Probability, PRECISION>, ModelError>
-    requires positive { 0 < PRECISION }
-    requires fits { PRECISION ≤ Probability.BITS }
+    requires precision { IsPrecision Probability.BITS PRECISION }
     requires narrow { PRECISION ≤ 63 }
     requires clones { ClonesAreEqual Symbol.eq Symbol.is_clone }
     ensures accepted { IfOk result (λ _. AreAccepted Symbol.eq Probability.BITS PRECISION symbols.items

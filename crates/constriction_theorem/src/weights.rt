@@ -4,6 +4,7 @@ ghost use Rattle.std.specs.Prelude.{◌≡◌, ◌<◌, ◌≤◌, ℕ, fold, ma
 ghost use Rattle.constriction.specs.Acceptance.{completed, IsAccepted};
 ghost use Rattle.constriction.specs.Model.{ClonesAreSame};
 ghost use Rattle.constriction.specs.Rows.{contiguous_rows, entry_of};
+ghost use Rattle.constriction_client.specs.Precision.{IsPrecision};
 ghost use Rattle.constriction_client.specs.Chains.{is_lookup, is_lookup_after};
 ghost use Rattle.constriction_client.specs.Replies.{in_numbers, replies_by_scan};
 ghost use Rattle.constriction_theorem.specs.Answers.{ReplyAsScan};
@@ -160,8 +161,7 @@ pub fn answer_from_weights<Probability: IndexWord, const PRECISION: usize>(
     steps: &[ChainStep],
     queries: &[Query<usize, Probability>],
 ) -> Result<AnswersOfWeights<Probability, DecoderForm<usize, Probability, PRECISION>>, ModelError>
-    requires positive { 0 < PRECISION }
-    requires fits { PRECISION ≤ Probability.BITS }
+    requires precision { IsPrecision Probability.BITS PRECISION }
     requires narrow { PRECISION ≤ 63 }
     ensures accepted { IfOk result (λ _. IsAccepted Probability.BITS PRECISION
         (completed PRECISION infer_last_probability (map Probability.whole weights.items))) }

@@ -4,6 +4,7 @@ ghost use Rattle.std.specs.Prelude.{◌≡◌, ◌<◌, ◌≤◌, map, IfOk, If
 ghost use Rattle.constriction.specs.Entries.{SameEntries};
 ghost use Rattle.constriction.specs.Laws.{SymbolsDiffer};
 ghost use Rattle.constriction.specs.Model.{ClonesAreSame};
+ghost use Rattle.constriction_client.specs.Precision.{IsPrecision};
 ghost use Rattle.constriction_client.specs.Replies.{in_numbers, replies_by_scan};
 
 use crate::chain::{ChainStep, convert_chain};
@@ -48,8 +49,7 @@ pub fn answer_after_chain<
 ) -> Result<Vec<Reply<Symbol, Probability>>, ModelError>
 where
     E: EncodesOver<Symbol, Probability, PRECISION>,
-    requires positive { 0 < PRECISION }
-    requires fits { PRECISION ≤ Probability.BITS }
+    requires precision { IsPrecision Probability.BITS PRECISION }
     requires narrow { PRECISION ≤ 63 }
     requires clones { ClonesAreSame Symbol.is_clone }
     requires alike { SameEntries E.symbol_eq (E.rows encoder.now)
