@@ -9,8 +9,12 @@ use Rattle.constriction.specs.Rows.{Row, RowsTile, entry_of}
 use Rattle.constriction_client.specs.declared.queries.Query.{Query}
 use Rattle.constriction_client.specs.declared.queries.Reply.{Reply}
 use Rattle.constriction_client.specs.declared.queries.Reply.TheVariants as reply
-use Rattle.constriction_client.specs.Replies.{reply_to_quantile, replies_of_two, replies_by_scan, StandsForReply, StandForReplies, AreRepliesOf}
+use Rattle.constriction_client.specs.Replies.{reply_to_quantile, replies_of_two, replies_by_scan, StandsForReply, AreRepliesOf}
 use Rattle.constriction_model.proofs.Finding.{find_row}
+
+-- replies stand for those of a scan, one by one
+abbrev pub StandForReplies : {S : Type 0} → (S → S → Type 0) → List (Reply S ℕ ℕ) → List (Reply S ℕ ℕ) → Type 0
+StandForReplies Stands replies scanned = AllZip (StandsForReply Stands) replies scanned
 
 -- an answer to the quantile stands for the reply of a scan
 pub told-reply : {S Word Weight : Type 0} (Stands : S → S → Type 0) (whole : Word → ℕ) (base : Weight → Word) (bits precision : ℕ)

@@ -50,11 +50,7 @@ StandsForReply {Symbol} Stands (reply.Row symbol left weight) scanned =
     (own : Symbol) × Stands own symbol × (scanned ≡ reply.Row own left weight)
 StandsForReply Stands given scanned = scanned ≡ given
 
--- replies stand for those of a scan, one by one
-abbrev pub StandForReplies : {Symbol : Type 0} → (Symbol → Symbol → Type 0) → List (Reply Symbol ℕ ℕ) → List (Reply Symbol ℕ ℕ) → Type 0
-StandForReplies Stands replies scanned = AllZip (StandsForReply Stands) replies scanned
-
--- The replies stand for those of a scan, and are these where what stands for a symbol is that symbol.
+-- The replies stand for those of a scan, one by one, and are these where what stands for a symbol is that symbol.
 pub record AreRepliesOf {Symbol : Type 0} (Stands : Symbol → Symbol → Type 0) (scanned replies : List (Reply Symbol ℕ ℕ)) : Type 0 where
-  pub stand : StandForReplies Stands replies scanned
+  pub stand : AllZip (StandsForReply Stands) replies scanned
   pub exact : ClonesAreSame Stands → replies ≡ scanned
