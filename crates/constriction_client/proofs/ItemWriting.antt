@@ -53,10 +53,7 @@ module _ {Symbol Word Sink Error : Type 0} (entry : Symbol → Option (ℕ × �
     item = item;
     after = drop (suc i) items;
     split = section_at items i item h e;
-    reached = t;
-    wrote = so_far;
-    refused = (is, refl);
-    told = so_far.told;
+    is_such = (t, so_far, (is, refl), so_far.told);
   }
 
   -- an item whose quantile the sink refuses
@@ -69,10 +66,12 @@ module _ {Symbol Word Sink Error : Type 0} (entry : Symbol → Option (ℕ × �
     item = item;
     after = drop (suc i) items;
     split = section_at items i item h e;
-    reached = j;
-    wrote = so_far;
-    refused = (word, quantile, refused);
-    told = λ old known. law j word (Err error) t refused (old ++ so_far.words) (so_far.told old known);
+    is_such = (
+      j,
+      so_far,
+      (word, quantile, refused),
+      λ old known. law j word (Err error) t refused (old ++ so_far.words) (so_far.told old known),
+    );
   }
 
   -- all items

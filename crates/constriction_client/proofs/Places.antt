@@ -11,8 +11,8 @@ use Rattle.constriction_backends.specs.CursorState.{QueueReads}
 use Rattle.constriction_backends.specs.Source.{Reads}
 use Rattle.constriction_client.specs.declared.quantiles.QuantileFault.{QuantileFault}
 use Rattle.constriction_client.specs.Coming.{ComeNext, GoesBack}
-use Rattle.constriction_client.specs.Placing.{Placed, PlacesItems, PlacesUpTo}
-use Rattle.constriction_client.specs.Quantiles.{IsQuantileOf, IsFaultOf, WritesItems, StopsAtItem}
+use Rattle.constriction_client.specs.Placing.{Placed, PlacesItems}
+use Rattle.constriction_client.specs.Quantiles.{IsQuantileOf, IsFaultOf, WritesItems, StopsAt, StopsAtItem}
 
 -- what comes after the same beginning
 same-back : {X : Type 0} (a b c : List X) → a ++ b ≡ a ++ c → b ≡ c
@@ -39,35 +39,39 @@ module _ {Word Buf Error : Type 0} {g : Ghosts Buf Word} (with_words : Buf → L
 
     pub fault-placed : (items : List (Symbol × Word)) (t : Cursor Word Buf g) (fault : QuantileFault)
         → StopsAtItem entry whole gives_write tells items c (Frontend fault) t
-        → PlacesUpTo entry whole with_words c items (λ item. IsFaultOf entry whole item fault) t
+        → StopsAt items (λ before item. PlacesItems entry whole with_words c before t × IsFaultOf entry whole item fault)
     fault-placed items t fault at = record {
       before = at.before;
       item = at.item;
       after = at.after;
       split = at.split;
-      placed =
-          subst (λ (x : Cursor Word Buf g). PlacesItems entry whole with_words c at.before x) (sym at.refused.1)
-          (items-placed at.before at.reached at.wrote);
-      is_such = at.refused.0;
+      is_such = (
+        subst (λ (x : Cursor Word Buf g). PlacesItems entry whole with_words c at.before x) (sym at.is_such.2.1)
+            (items-placed at.before at.is_such.0 at.is_such.1),
+        at.is_such.2.0,
+      );
     }
 
     pub full-placed : (items : List (Symbol × Word)) (t : Cursor Word Buf g) (error : Error)
         → StopsAtItem entry whole gives_write tells items c (Backend error) t
-        → PlacesUpTo entry whole with_words c items (λ item. (q : ℕ) × IsQuantileOf entry whole item q) t
+        → StopsAt items (λ before item. PlacesItems entry whole with_words c before t × (q : ℕ) × IsQuantileOf entry whole item q)
         × ((state_of t).after ≡ [])
     full-placed items t error at =
-        let stays : t ≡ at.reached = at.refused.2.1 in (
+        let refused = at.is_such.2 in
+        let stays : t ≡ at.is_such.0 = refused.2.1 in (
           record {
             before = at.before;
             item = at.item;
             after = at.after;
             split = at.split;
-            placed =
-                subst (λ (x : Cursor Word Buf g). PlacesItems entry whole with_words c at.before x) (sym stays)
-                (items-placed at.before at.reached at.wrote);
-            is_such = (whole at.refused.0, at.refused.1);
+            is_such = (
+              subst (λ (x : Cursor Word Buf g). PlacesItems entry whole with_words c at.before x) (sym stays)
+                  (items-placed at.before at.is_such.0 at.is_such.1),
+              whole refused.0,
+              refused.1,
+            );
           },
-          ap (λ (x : Cursor Word Buf g). (state_of x).after) stays ∙ at.refused.2.0.0,
+          ap (λ (x : Cursor Word Buf g). (state_of x).after) stays ∙ refused.2.0.0,
         )
 
 -- ---- going back, and what is read

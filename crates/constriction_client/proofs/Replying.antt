@@ -9,8 +9,12 @@ use Rattle.constriction.specs.Rows.{Row, RowsTile, entry_of}
 use Rattle.constriction_client.specs.declared.queries.Query.{Query}
 use Rattle.constriction_client.specs.declared.queries.Reply.{Reply}
 use Rattle.constriction_client.specs.declared.queries.Reply.TheVariants as reply
-use Rattle.constriction_client.specs.Replies.{reply_to_quantile, replies_of_two, replies_by_scan, StandsForReply, StandForReplies}
+use Rattle.constriction_client.specs.Replies.{reply_to_quantile, replies_of_two, replies_by_scan, StandsForReply, AreRepliesOf}
 use Rattle.constriction_model.proofs.Finding.{find_row}
+
+-- replies stand for those of a scan, one by one
+abbrev pub StandForReplies : {S : Type 0} → (S → S → Type 0) → List (Reply S ℕ ℕ) → List (Reply S ℕ ℕ) → Type 0
+StandForReplies Stands replies scanned = AllZip (StandsForReply Stands) replies scanned
 
 -- an answer to the quantile stands for the reply of a scan
 pub told-reply : {S Word Weight : Type 0} (Stands : S → S → Type 0) (whole : Word → ℕ) (base : Weight → Word) (bits precision : ℕ)
@@ -24,14 +28,14 @@ told-reply Stands whole base bits precision rows q x below tile answer = (
 )
 
 -- where clones are the same values, what stands for the replies of a scan are these
-pub same-reply : {S : Type 0} (Stands : S → S → Type 0) → ClonesAreSame Stands → (given scanned : Reply S ℕ ℕ)
+same-reply : {S : Type 0} (Stands : S → S → Type 0) → ClonesAreSame Stands → (given scanned : Reply S ℕ ℕ)
     → StandsForReply Stands given scanned → given ≡ scanned
 same-reply Stands same (reply.Row symbol left weight) scanned h =
     ap (λ s. reply.Row s left weight) (same h.0 symbol h.1) ∙ sym h.2
 same-reply Stands same reply.OutOfRange scanned h = sym h
 same-reply Stands same (reply.Entry entry) scanned h = sym h
 
-pub same-replies : {S : Type 0} (Stands : S → S → Type 0) → ClonesAreSame Stands → (given scanned : List (Reply S ℕ ℕ))
+same-replies : {S : Type 0} (Stands : S → S → Type 0) → ClonesAreSame Stands → (given scanned : List (Reply S ℕ ℕ))
     → StandForReplies Stands given scanned → given ≡ scanned
 same-replies Stands same [] [] h = refl
 same-replies Stands same [] (t ∷ ts) h = absurd h
@@ -39,13 +43,17 @@ same-replies Stands same (g ∷ gs) [] h = absurd h
 same-replies Stands same (g ∷ gs) (t ∷ ts) h =
     ap (λ x. x ∷ gs) (same-reply Stands same g t h.0) ∙ ap (λ xs. t ∷ xs) (same-replies Stands same gs ts h.1)
 
+pub replies-of : {S : Type 0} (Stands : S → S → Type 0) (given scanned : List (Reply S ℕ ℕ)) → StandForReplies Stands given scanned
+    → AreRepliesOf Stands scanned given
+replies-of Stands given scanned h = record { stand = h; exact = λ same. same-replies Stands same given scanned h }
+
 -- replies by rows that are those of before, and by entries that are these rows', are a scan's of the rows of before
 pub scan-of-rows : {S Word : Type 0} (precision : ℕ) (whole : Word → ℕ) (eq : S → S → Bool) (entry : S → Option (ℕ × ℕ))
     (rows before : List (Row S)) (queries : List (Query S Word))
     → rows ≡ before → ((s : S) → entry s ≡ entry_of eq before s)
-    → replies_of_two precision whole rows entry queries ≡ replies_by_scan precision whole eq before queries
+    → replies_of_two precision whole rows entry queries ≡ replies_by_scan precision whole eq queries before
 scan-of-rows {S = S} precision whole eq entry rows before queries same alike =
-    let by_entries : replies_of_two precision whole before entry queries ≡ replies_by_scan precision whole eq before queries =
+    let by_entries : replies_of_two precision whole before entry queries ≡ replies_by_scan precision whole eq queries before =
     λ i. replies_of_two precision whole before (λ (s : S). alike s i) queries in
     ap (λ (rs : List (Row S)). replies_of_two precision whole rs entry queries) same ∙ by_entries
 

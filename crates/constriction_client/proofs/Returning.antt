@@ -12,7 +12,7 @@ use Rattle.constriction_words.specs.declared.coder_error.CoderError.{CoderError}
 use Rattle.constriction_words.specs.declared.coder_error.CoderError.TheVariants.{Frontend}
 use Rattle.constriction_client.specs.declared.quantiles.QuantileFault.{QuantileFault}
 use Rattle.constriction_client.specs.Quantiles.{IsQuantileOf, AreQuantiles, IsPairOf, ArePairs, StopsAtItem}
-use Rattle.constriction_client.specs.ThereAndBack.{AreItems, StandForItems, ReadsBack, ReadsBackReversed, HasFault}
+use Rattle.constriction_client.specs.ThereAndBack.{AreItems, StandForItems, ReadsBack, HasFault}
 use Rattle.constriction.specs.CodingLemmas.{entry-row, entry-below, one-row}
 
 -- one item
@@ -68,7 +68,7 @@ pub are-items : {Symbol Word : Type 0} (Stands : Symbol → Symbol → Type 0) (
 are-items Stands eq laws items pairs h equal =
     are-these Stands eq (λ s t u stands same. sym (laws.congr s t u (equal s t stands)) ∙ same) items pairs h
 
-pub reads-back : (Symbol Word : Type 0) → ReadsBack Symbol Word
+pub reads-back : (Symbol Word : Type 0) → ReadsBack Symbol Word (λ words. words) (λ items. items)
 reads-back Symbol Word eq entry whole bits precision rows items pairs words tile one_word agree h k =
     are-these (λ s t. t ≡ s) eq (λ s t u is same. ap (λ x. eq x u) is ∙ same) items pairs
     (stand-back (λ s t. t ≡ s) eq entry whole bits precision rows items pairs words tile one_word agree h k)
@@ -94,7 +94,7 @@ stand-back-reversed Stands eq entry whole bits precision rows items pairs words 
     stand-back Stands eq entry whole bits precision rows (reverse items) pairs (reverse words) tile one_word agree
     (AllZip-reverse (λ item word. IsQuantileOf entry whole item (whole word)) items words h) k
 
-pub reads-back-reversed : (Symbol Word : Type 0) → ReadsBackReversed Symbol Word
+pub reads-back-reversed : (Symbol Word : Type 0) → ReadsBack Symbol Word reverse reverse
 reads-back-reversed Symbol Word eq entry whole bits precision rows items pairs words tile one_word agree h k =
     reads-back Symbol Word eq entry whole bits precision rows (reverse items) pairs (reverse words) tile one_word agree
     (AllZip-reverse (λ item word. IsQuantileOf entry whole item (whole word)) items words h) k
@@ -131,7 +131,5 @@ first-fault entry whole gives tells items s error t fault stopped is =
       item = at.item;
       after = at.after;
       split = at.split;
-      words = at.wrote.words;
-      quantiles = at.wrote.quantiles;
-      at_fault = at.refused.0;
+      is_such = (at.is_such.1.words, at.is_such.1.quantiles, at.is_such.2.0);
     }

@@ -1,6 +1,6 @@
 -- What a cursor replies to a call, and the state that the call leaves; and runs of calls.
 -- A state is the words before the position and those from it on, and a call moves words from one list to the other.
-use Rattle.std.specs.Prelude.{◌≡◌, ◌==◌, nat_le, List, [], ◌∷◌, ◌++◌, length, reverse, None, if◌then◌else◌}
+use Rattle.std.specs.Prelude.{◌≡◌, ◌+◌, ◌-◌, ◌==◌, nat_le, List, [], ◌∷◌, ◌++◌, length, None, if◌then◌else◌}
 use Rattle.std.specs.List.{last_or, slice_get}
 use Rattle.constriction_backends.specs.CursorState.{State, state, reversal}
 use Rattle.constriction_client.specs.declared.cursor_calls.CursorCall.{CursorCall}
@@ -11,16 +11,6 @@ use Rattle.constriction_client.specs.declared.cursor_calls.CursorReply.TheVarian
 -- all words
 abbrev pub words : {W : Type 0} → State W → List W
 words s = s.before ++ s.after
-
--- where the words before the position are these from the last to the first: the last one goes to the front of those after it
-abbrev pub stack_read : {W : Type 0} → List W → State W → State W
-stack_read [] s = s
-stack_read (w ∷ earlier) s = record { before = reverse earlier; after = w ∷ s.after }
-
--- where the words from the position on are these: the first one goes to the end of those before it
-abbrev pub queue_read : {W : Type 0} → List W → State W → State W
-queue_read [] s = s
-queue_read (w ∷ later) s = record { before = s.before ++ w ∷ []; after = later }
 
 -- where the words from the position on are these: a word is put at the end of those before it, and the first of these is dropped
 abbrev pub overwrite : {W : Type 0} → W → List W → State W → State W
@@ -46,19 +36,14 @@ reply_of call.Full s = reply.Flag (length s.after == 0)
 reply_of call.Position s = reply.Count (length s.before)
 reply_of (call.Seek position) s = if nat_le position (length (words s)) then reply.Moved else reply.NotMoved
 
--- the state that a call leaves
+-- The state that a call leaves: only reads, writes and seeks move the cursor. At position 0 one less is 0, and past the last word `state`
+-- stands at the end.
 abbrev pub moved_by : {W : Type 0} → CursorCall W → State W → State W
-moved_by call.StackRead s = stack_read (reverse s.before) s
-moved_by call.QueueRead s = queue_read s.after s
+moved_by call.StackRead s = state (words s) (length s.before - 1)
+moved_by call.QueueRead s = state (words s) (length s.before + 1)
 moved_by (call.Write word) s = overwrite word s.after s
-moved_by call.StackRemaining s = s
-moved_by call.QueueRemaining s = s
-moved_by call.SpaceLeft s = s
-moved_by call.StackExhausted s = s
-moved_by call.QueueExhausted s = s
-moved_by call.Full s = s
-moved_by call.Position s = s
 moved_by (call.Seek position) s = if nat_le position (length (words s)) then state (words s) position else s
+moved_by _ s = s
 
 -- the replies to calls, in order
 abbrev pub replies_of : {W : Type 0} → List (CursorCall W) → State W → List (CursorReply W)

@@ -3,6 +3,7 @@ pub mod Chains
 pub mod Coming
 pub mod CursorCalls
 pub mod Placing
+pub mod Precision
 pub mod Quantiles
 pub mod Replies
 pub mod ThereAndBack

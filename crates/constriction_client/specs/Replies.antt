@@ -3,7 +3,7 @@ use Rattle.std.specs.Prelude.{◌≡◌, ℕ, ◌^◌, Bool, nat_lt, List, map, 
 use Rattle.std.specs.List.{AllZip}
 use Rattle.std.specs.Option.{option_map, option_map_or}
 use Rattle.constriction.specs.Rows.{Row, entry_of}
-use Rattle.constriction.specs.Model.{entry_in}
+use Rattle.constriction.specs.Model.{entry_in, ClonesAreSame}
 use Rattle.constriction_client.specs.declared.queries.Query.{Query}
 use Rattle.constriction_client.specs.declared.queries.Query.TheVariants.{OfQuantile, OfSymbol}
 use Rattle.constriction_client.specs.declared.queries.Reply.{Reply}
@@ -39,18 +39,18 @@ abbrev pub replies_of_two : {Symbol Word : Type 0} → ℕ → (Word → ℕ) �
 replies_of_two precision whole rows entry queries = map (reply_to_query precision whole rows entry) queries
 
 -- the replies of one row list to queries, by a scan: the entries are those of its rows
-abbrev pub replies_by_scan : {Symbol Word : Type 0} → ℕ → (Word → ℕ) → (Symbol → Symbol → Bool) → List (Row Symbol)
-    → List (Query Symbol Word) → List (Reply Symbol ℕ ℕ)
-replies_by_scan precision whole eq rows queries = replies_of_two precision whole rows (entry_of eq rows) queries
+abbrev pub replies_by_scan : {Symbol Word : Type 0} → ℕ → (Word → ℕ) → (Symbol → Symbol → Bool) → List (Query Symbol Word)
+    → List (Row Symbol) → List (Reply Symbol ℕ ℕ)
+replies_by_scan precision whole eq queries rows = replies_of_two precision whole rows (entry_of eq rows) queries
 
 -- A reply stands for that of a scan: it is the same, but that a row may have a symbol that stands for the row's. `Stands` says what the
 -- symbols of a decoder's answers are of those of its rows.
 abbrev pub StandsForReply : {Symbol : Type 0} → (Symbol → Symbol → Type 0) → Reply Symbol ℕ ℕ → Reply Symbol ℕ ℕ → Type 0
 StandsForReply {Symbol} Stands (reply.Row symbol left weight) scanned =
     (own : Symbol) × Stands own symbol × (scanned ≡ reply.Row own left weight)
-StandsForReply Stands reply.OutOfRange scanned = scanned ≡ reply.OutOfRange
-StandsForReply Stands (reply.Entry entry) scanned = scanned ≡ reply.Entry entry
+StandsForReply Stands given scanned = scanned ≡ given
 
--- replies stand for those of a scan, one by one
-abbrev pub StandForReplies : {Symbol : Type 0} → (Symbol → Symbol → Type 0) → List (Reply Symbol ℕ ℕ) → List (Reply Symbol ℕ ℕ) → Type 0
-StandForReplies Stands replies scanned = AllZip (StandsForReply Stands) replies scanned
+-- The replies stand for those of a scan, one by one, and are these where what stands for a symbol is that symbol.
+pub record AreRepliesOf {Symbol : Type 0} (Stands : Symbol → Symbol → Type 0) (scanned replies : List (Reply Symbol ℕ ℕ)) : Type 0 where
+  pub stand : AllZip (StandsForReply Stands) replies scanned
+  pub exact : ClonesAreSame Stands → replies ≡ scanned

@@ -1,9 +1,9 @@
 -- There and back: the words of items, read by the model whose rows gave them, are these items.
-use Rattle.std.specs.Prelude.{◌≡◌, ℕ, Bool, List, ◌∷◌, ◌++◌, reverse, Option, IsTrue}
+use Rattle.std.specs.Prelude.{◌≡◌, ℕ, Bool, List, Option, IsTrue}
 use Rattle.std.specs.List.{AllZip}
 use Rattle.constriction.specs.Rows.{Row, RowsTile, entry_of}
 use Rattle.constriction_client.specs.declared.quantiles.QuantileFault.{QuantileFault}
-use Rattle.constriction_client.specs.Quantiles.{AreQuantiles, ArePairs, IsFaultOf}
+use Rattle.constriction_client.specs.Quantiles.{AreQuantiles, ArePairs, IsFaultOf, StopsAt}
 
 -- the pairs are the items, one by one: their symbols are equal, and their offsets the same
 abbrev pub AreItems : {Symbol Word : Type 0} → (Symbol → Symbol → Bool) → List (Symbol × Word) → List (Symbol × Word)
@@ -16,34 +16,20 @@ abbrev pub StandForItems : {Symbol Word : Type 0} → (Symbol → Symbol → Typ
 StandForItems {Symbol} Stands eq items pairs =
     AllZip (λ item pair. ((own : Symbol) × IsTrue (eq own item.0) × Stands own pair.0) × (pair.1 ≡ item.1)) items pairs
 
--- In rows that tile, the pairs of the words of items are the items, where the symbols of the pairs are those of rows. The items' entries may be those of another model, as long
--- as they are the entries of these rows. Two words of one number are one word, and that is all that is asked of words;
+-- In rows that tile, the pairs of the words of items are the items, where the symbols of the pairs are those of rows. The words may be
+-- read in another order, as the last one first, and then the items come in that order. The items' entries may be those of another model,
+-- as long as they are the entries of these rows. Two words of one number are one word, and that is all that is asked of words;
 -- nothing is asked of the equality of symbols, and rows may repeat a symbol.
-abbrev pub ReadsBack : Type 0 → Type 0 → Type 0
-ReadsBack Symbol Word =
+abbrev pub ReadsBack : (Symbol Word : Type 0) → (List Word → List Word) → (List (Symbol × Word) → List (Symbol × Word)) → Type 0
+ReadsBack Symbol Word words_in_order items_in_order =
     (eq : Symbol → Symbol → Bool) (entry : Symbol → Option (ℕ × ℕ)) (whole : Word → ℕ) (bits precision : ℕ)
     (rows : List (Row Symbol)) (items pairs : List (Symbol × Word)) (words : List Word)
     → RowsTile bits precision rows → ((a b : Word) → whole a ≡ whole b → a ≡ b)
     → ((s : Symbol) → entry s ≡ entry_of eq rows s)
-    → AreQuantiles entry whole items words → ArePairs (λ s t. t ≡ s) rows whole words pairs → AreItems eq items pairs
-
--- From the last word to the first one they are the items from the last to the first.
-abbrev pub ReadsBackReversed : Type 0 → Type 0 → Type 0
-ReadsBackReversed Symbol Word =
-    (eq : Symbol → Symbol → Bool) (entry : Symbol → Option (ℕ × ℕ)) (whole : Word → ℕ) (bits precision : ℕ)
-    (rows : List (Row Symbol)) (items pairs : List (Symbol × Word)) (words : List Word)
-    → RowsTile bits precision rows → ((a b : Word) → whole a ≡ whole b → a ≡ b)
-    → ((s : Symbol) → entry s ≡ entry_of eq rows s)
-    → AreQuantiles entry whole items words → ArePairs (λ s t. t ≡ s) rows whole (reverse words) pairs
-    → AreItems eq (reverse items) pairs
+    → AreQuantiles entry whole items words → ArePairs (λ s t. t ≡ s) rows whole (words_in_order words) pairs
+    → AreItems eq (items_in_order items) pairs
 
 -- an item has no quantile for this reason, and those before it have one
-pub record HasFault {Symbol Word : Type 0} (entry : Symbol → Option (ℕ × ℕ)) (whole : Word → ℕ)
-    (items : List (Symbol × Word)) (fault : QuantileFault) : Type 0 where
-  pub before : List (Symbol × Word)
-  pub item : Symbol × Word
-  pub after : List (Symbol × Word)
-  pub split : items ≡ before ++ item ∷ after
-  pub words : List Word
-  pub quantiles : AreQuantiles entry whole before words
-  pub at_fault : IsFaultOf entry whole item fault
+abbrev pub HasFault : {Symbol Word : Type 0} → (Symbol → Option (ℕ × ℕ)) → (Word → ℕ) → List (Symbol × Word) → QuantileFault → Type 0
+HasFault {Word = Word} entry whole items fault =
+    StopsAt items (λ before item. (words : List Word) × AreQuantiles entry whole before words × IsFaultOf entry whole item fault)

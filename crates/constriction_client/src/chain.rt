@@ -1,14 +1,14 @@
 //! Chains of conversions between the forms of a decoder.
 
-ghost use Rattle.std.specs.Prelude.{◌≡◌, ◌<◌, ◌≤◌, Bool, List, [], ◌∷◌, map, true, false, IfOk, IfErr};
+ghost use Rattle.std.specs.Prelude.{◌≡◌, ◌<◌, ◌≤◌, Bool, List, fold, map, true, false, IfOk, IfErr};
 ghost use Rattle.std.specs.Iterator.{Drains, IsFinite};
 ghost use Rattle.std.specs.List.{IsDistinct};
 ghost use Rattle.constriction.specs.Acceptance.{completed, AreAccepted, WasReadOf, IsMadeOfBoth, GivesDistinct};
 ghost use Rattle.constriction.specs.Laws.{SymbolsDiffer};
 ghost use Rattle.constriction.specs.Model.{StandForRows, ClonesAreSame, ClonesAreEqual};
 ghost use Rattle.constriction.specs.Rows.{Row, rows_of, symbols_of};
-ghost use Rattle.constriction_client.specs.Chains.{is_lookup_after, StepLeaves, ChainLeaves};
-ghost use Rattle.constriction_client.specs.declared.decoder_form.SearchOrLookup.TheVariants as kind;
+ghost use Rattle.constriction_client.specs.Precision.{IsPrecision};
+ghost use Rattle.constriction_client.specs.Chains.{is_lookup, is_lookup_after, StepLeaves, ChainLeaves};
 
 use crate::decoder_form::{DecoderForm, Searching};
 use crate::laws::form_symbols_differ;
@@ -144,7 +144,7 @@ fn tabled_of<Symbol: Eq + Drop, Probability: IndexWord, const PRECISION: usize>(
     requires { PRECISION ≤ 63 }
     ensures rows { IfOk result (λ m. ⟦<DecoderForm<Symbol, Probability, PRECISION> as EntropyModel<PRECISION>>⟧.rows m
         ≡ ⟦<Searching<Symbol, Probability, PRECISION> as EntropyModel<PRECISION>>⟧.rows model) }
-    ensures kind { IfOk result (λ m. elim m [ kind.Search _ ↦ false | kind.Lookup _ ↦ true ] ≡ true) }
+    ensures kind { IfOk result (λ m. is_lookup m ≡ true) }
     ensures refused { IfErr result (λ e. e ≡ ModelError.OutOfMemory) }
 {
     match model.into_lookup_decoder_model(alloc) {
@@ -201,7 +201,7 @@ impl<Symbol: Eq + Clone + Drop, Probability: IndexWord, const PRECISION: usize> 
 
     ghost clone_of = { Symbol.is_clone };
 
-    ghost looks_up = { λ f. elim f [ kind.Search _ ↦ false | kind.Lookup _ ↦ true ] };
+    ghost looks_up = { is_lookup };
 
     ghost may_convert = { (0 < PRECISION) × (PRECISION ≤ Probability.BITS) × (PRECISION ≤ 63)
         × ClonesAreEqual Symbol.eq Symbol.is_clone
@@ -248,8 +248,7 @@ fn convert<Symbol, Form: Converts<Symbol> + Drop>(
 ) -> Result<Form, ModelError>
     requires { Form.may_convert }
     ensures rows { IfOk result (λ made. StepLeaves Form.clone_of step.now (Form.told form) (Form.told made)) }
-    ensures kind { IfOk result (λ made. Form.looks_up made
-        ≡ is_lookup_after (step.now ∷ []) (Form.looks_up form)) }
+    ensures kind { IfOk result (λ made. Form.looks_up made ≡ is_lookup_after (Form.looks_up form) step.now) }
     ensures refused { IfErr result (λ e. e ≡ ModelError.OutOfMemory) }
 {
     match step {
@@ -268,8 +267,7 @@ fn convert_by<Symbol, Form: Converts<Symbol> + Drop>(
 ) -> Result<Form, ModelError>
     requires { Form.may_convert }
     ensures rows { IfOk result (λ made. ChainLeaves Form.clone_of steps.now (Form.told form) (Form.told made)) }
-    ensures kind { IfOk result (λ made. Form.looks_up made
-        ≡ is_lookup_after steps.now (Form.looks_up form)) }
+    ensures kind { IfOk result (λ made. Form.looks_up made ≡ fold is_lookup_after (Form.looks_up form) steps.now) }
     ensures refused { IfErr result (λ e. e ≡ ModelError.OutOfMemory) }
 {
     let mut form = form;
@@ -294,8 +292,7 @@ pub fn convert_chain<Symbol: Eq + Clone + Drop, Probability: IndexWord, const PR
     form: DecoderForm<Symbol, Probability, PRECISION>,
     steps: &[ChainStep],
 ) -> Result<DecoderForm<Symbol, Probability, PRECISION>, ModelError>
-    requires positive { 0 < PRECISION }
-    requires fits { PRECISION ≤ Probability.BITS }
+    requires precision { IsPrecision Probability.BITS PRECISION }
     requires narrow { PRECISION ≤ 63 }
     requires clones { ClonesAreEqual Symbol.eq Symbol.is_clone }
     ensures rows { IfOk result (λ made. ChainLeaves Symbol.is_clone steps.now
@@ -304,8 +301,7 @@ pub fn convert_chain<Symbol: Eq + Clone + Drop, Probability: IndexWord, const PR
     ensures exact { IfOk result (λ made. ClonesAreSame Symbol.is_clone
         → ⟦<DecoderForm<Symbol, Probability, PRECISION> as EntropyModel<PRECISION>>⟧.rows made
         ≡ ⟦<DecoderForm<Symbol, Probability, PRECISION> as EntropyModel<PRECISION>>⟧.rows form) }
-    ensures kind { IfOk result (λ made. elim made [ kind.Search _ ↦ false | kind.Lookup _ ↦ true ]
-        ≡ is_lookup_after steps.now (elim form [ kind.Search _ ↦ false | kind.Lookup _ ↦ true ])) }
+    ensures kind { IfOk result (λ made. is_lookup made ≡ fold is_lookup_after (is_lookup form) steps.now) }
     ensures refused { IfErr result (λ e. e ≡ ModelError.OutOfMemory) }
 {
     form_symbols_differ::<Symbol, Probability, PRECISION>();

@@ -1,7 +1,8 @@
 //! What follows from the definitions that the contracts cite, each law the contract of a function.
 
+ghost use Rattle.std.specs.Prelude.{reverse};
 ghost use Rattle.constriction_client.specs.CursorCalls.{RunsAlike};
-ghost use Rattle.constriction_client.specs.ThereAndBack.{ReadsBack, ReadsBackReversed};
+ghost use Rattle.constriction_client.specs.ThereAndBack.{ReadsBack};
 
 mod chains;
 mod cursor_runs;
@@ -19,13 +20,13 @@ pub use constriction::laws::{
 
 /// What was written for items is read back as these items, in the order of a queue.
 pub fn reads_back<Symbol, Word>()
-    ensures { ReadsBack Symbol Word }
+    ensures { ReadsBack Symbol Word (λ words. words) (λ items. items) }
 {}
 
 /// What was written for items is read back as these items from the last to the first, in the order
 /// of a stack.
 pub fn reads_back_reversed<Symbol, Word>()
-    ensures { ReadsBackReversed Symbol Word }
+    ensures { ReadsBack Symbol Word reverse reverse }
 {}
 
 /// A run of calls in a state and a run of the same calls in its reversal have the same replies, and

@@ -3,6 +3,7 @@
 ghost use Rattle.std.specs.Prelude.{◌≡◌, ◌↔◌, ◌+◌, ◌^◌, ◌<◌, ◌≤◌, ℕ, length, IsTrue, IfOk, IfErr, OnOk};
 ghost use Rattle.std.specs.Prelude.{Option, Some};
 ghost use Rattle.constriction.specs.Rows.{entry_of};
+ghost use Rattle.constriction_client.specs.Precision.{IsPrecision};
 ghost use Rattle.constriction_client.specs.Quantiles.{IsQuantileOf, IsFaultOf, WritesItems, StopsAtItem};
 ghost use Rattle.constriction_client.specs.Quantiles.{IsPairOf, IsReadFaultOf, ReadsPairs};
 
@@ -154,8 +155,7 @@ where
     Word: WholeNumber,
     M: DecodesOver<Symbol, Word, PRECISION>,
     R: ReadWords<Word, S>,
-    requires positive { 0 < PRECISION }
-    requires fits { PRECISION ≤ Word.BITS }
+    requires precision { IsPrecision Word.BITS PRECISION }
     requires can_read { R.can_read source.old }
     ensures pairs { ReadsPairs M.stands_for PRECISION (M.rows model.now) Word.whole R.read_gives R.tells_upcoming
         count source.old out.old.items result source.new out.new.items }

@@ -1,10 +1,11 @@
 //! Questions to two models, and the replies to them.
 
 ghost use Rattle.std.specs.Prelude.{◌≡◌, ◌<◌, ◌≤◌, IfOk, map};
-ghost use Rattle.constriction.specs.Model.{ClonesAreSame};
+ghost use Rattle.constriction.specs.Entries.{SameEntries};
 ghost use Rattle.constriction.specs.Rows.{entry_of};
+ghost use Rattle.constriction_client.specs.Precision.{IsPrecision};
 ghost use Rattle.constriction_client.specs.Replies.{in_numbers, reply_to_query, replies_of_two, replies_by_scan};
-ghost use Rattle.constriction_client.specs.Replies.{StandsForReply, StandForReplies};
+ghost use Rattle.constriction_client.specs.Replies.{StandsForReply, AreRepliesOf};
 
 use constriction::stream::model::{DecodesOver, EncodesOver, Weight, is_quantile};
 use constriction_words::WholeNumber;
@@ -81,20 +82,13 @@ where
     Word: WholeNumber,
     D: DecodesOver<Symbol, Word, PRECISION>,
     E: EncodesOver<Symbol, Word, PRECISION>,
-    requires positive { 0 < PRECISION }
-    requires fits { PRECISION ≤ Word.BITS }
-    ensures ok { IfOk result (λ replies. StandForReplies D.stands_for
-        (map (in_numbers Word.whole Word.base) replies.items)
-        (replies_of_two PRECISION Word.whole (D.rows form.now)
-        (entry_of E.symbol_eq (E.rows encoder.now)) queries.now)) }
-    ensures of_one { IfOk result (λ replies.
-        ((s : Symbol) → entry_of E.symbol_eq (E.rows encoder.now) s ≡ entry_of E.symbol_eq (D.rows form.now) s)
-        → StandForReplies D.stands_for (map (in_numbers Word.whole Word.base) replies.items)
-        (replies_by_scan PRECISION Word.whole E.symbol_eq (D.rows form.now) queries.now)) }
-    ensures exact { IfOk result (λ replies. ClonesAreSame D.stands_for
-        → map (in_numbers Word.whole Word.base) replies.items
-        ≡ replies_of_two PRECISION Word.whole (D.rows form.now)
-        (entry_of E.symbol_eq (E.rows encoder.now)) queries.now) }
+    requires precision { IsPrecision Word.BITS PRECISION }
+    ensures ok { IfOk result (λ replies. AreRepliesOf D.stands_for
+        (replies_of_two PRECISION Word.whole (D.rows form.now) (entry_of E.symbol_eq (E.rows encoder.now)) queries.now)
+        (map (in_numbers Word.whole Word.base) replies.items)) }
+    ensures of_one { IfOk result (λ replies. SameEntries E.symbol_eq (E.rows encoder.now) (D.rows form.now)
+        → AreRepliesOf D.stands_for (replies_by_scan PRECISION Word.whole E.symbol_eq queries.now (D.rows form.now))
+        (map (in_numbers Word.whole Word.base) replies.items)) }
 {
     let mut replies = Vec::with_capacity(alloc, queries.len())?;
     for query in queries {

@@ -1,11 +1,12 @@
 //! Forms of a decoder, and what they reply after any conversions.
 
-ghost use Rattle.std.specs.Prelude.{◌≡◌, ◌<◌, ◌≤◌, map, true, false, IfOk, IfErr};
-ghost use Rattle.constriction.specs.Model.{ClonesAreSame, ClonesAreEqual};
-ghost use Rattle.constriction.specs.Rows.{entry_of};
-ghost use Rattle.constriction_client.specs.Chains.{is_lookup_after, ChainLeaves};
-ghost use Rattle.constriction_client.specs.declared.decoder_form.SearchOrLookup.TheVariants as kind;
-ghost use Rattle.constriction_client.specs.Replies.{in_numbers, replies_by_scan, StandForReplies};
+ghost use Rattle.std.specs.Prelude.{◌≡◌, ◌<◌, ◌≤◌, map, IfOk, IfErr};
+ghost use Rattle.constriction.specs.Entries.{SameEntries};
+ghost use Rattle.constriction.specs.Model.{ClonesAreEqual};
+ghost use Rattle.constriction_client.specs.Precision.{IsPrecision};
+ghost use Rattle.constriction_client.specs.Chains.{is_lookup};
+ghost use Rattle.constriction_client.specs.Replies.{in_numbers, replies_by_scan};
+ghost use Rattle.constriction_theorem.specs.Answers.{AnswersAfter};
 
 use constriction::stream::model::{EncodesOver, EntropyModel, ModelError};
 use constriction_client::{ChainStep, DecoderForm, Query, Reply, answer_queries, convert_chain};
@@ -33,26 +34,16 @@ pub fn answer_by_form<Symbol: Eq + Clone + Drop, Probability: IndexWord, E, cons
 ) -> Result<FormAndReplies<Symbol, Probability, PRECISION>, ModelError>
 where
     E: EncodesOver<Symbol, Probability, PRECISION>,
-    requires positive { 0 < PRECISION }
-    requires fits { PRECISION ≤ Probability.BITS }
+    requires precision { IsPrecision Probability.BITS PRECISION }
     requires narrow { PRECISION ≤ 63 }
     requires clones { ClonesAreEqual Symbol.eq Symbol.is_clone }
     requires equal { ClonesAreEqual E.symbol_eq Symbol.is_clone }
-    requires alike { (s : Symbol) → entry_of E.symbol_eq (E.rows encoder.now) s ≡ entry_of E.symbol_eq
-        (⟦<DecoderForm<Symbol, Probability, PRECISION> as EntropyModel<PRECISION>>⟧.rows form) s }
-    ensures kind { IfOk result (λ both. elim both.0 [ kind.Search _ ↦ false | kind.Lookup _ ↦ true ]
-        ≡ is_lookup_after steps.now (elim form [ kind.Search _ ↦ false | kind.Lookup _ ↦ true ])) }
-    ensures rows { IfOk result (λ both. ChainLeaves Symbol.is_clone steps.now
-        (⟦<DecoderForm<Symbol, Probability, PRECISION> as EntropyModel<PRECISION>>⟧.rows form)
-        (⟦<DecoderForm<Symbol, Probability, PRECISION> as EntropyModel<PRECISION>>⟧.rows both.0)) }
-    ensures replies { IfOk result (λ both. StandForReplies Symbol.is_clone
-        (map (in_numbers Probability.whole Probability.base) both.1.items)
-        (replies_by_scan PRECISION Probability.whole E.symbol_eq
-        (⟦<DecoderForm<Symbol, Probability, PRECISION> as EntropyModel<PRECISION>>⟧.rows both.0) queries.now)) }
-    ensures exact { IfOk result (λ both. ClonesAreSame Symbol.is_clone
-        → map (in_numbers Probability.whole Probability.base) both.1.items
-        ≡ replies_by_scan PRECISION Probability.whole E.symbol_eq
-        (⟦<DecoderForm<Symbol, Probability, PRECISION> as EntropyModel<PRECISION>>⟧.rows form) queries.now) }
+    requires alike { SameEntries E.symbol_eq (E.rows encoder.now)
+        (⟦<DecoderForm<Symbol, Probability, PRECISION> as EntropyModel<PRECISION>>⟧.rows form) }
+    ensures answers { IfOk result (λ x. AnswersAfter Symbol.is_clone (replies_by_scan PRECISION Probability.whole E.symbol_eq queries.now)
+        steps.now (is_lookup form) (⟦<DecoderForm<Symbol, Probability, PRECISION> as EntropyModel<PRECISION>>⟧.rows form)
+        (is_lookup x.0) (⟦<DecoderForm<Symbol, Probability, PRECISION> as EntropyModel<PRECISION>>⟧.rows x.0)
+        (map (in_numbers Probability.whole Probability.base) x.1.items)) }
     ensures refused { IfErr result (λ e. e ≡ ModelError.OutOfMemory) }
 {
     let converted = convert_chain(alloc, form, steps)?;

@@ -1,12 +1,13 @@
 //! Any model whose rows can be walked through, and what it and the form that is made of it reply.
 
-ghost use Rattle.std.specs.Prelude.{◌≡◌, ◌<◌, ◌≤◌, List, map, true, false, IfOk, IfErr};
+ghost use Rattle.std.specs.Prelude.{◌≡◌, ◌<◌, ◌≤◌, List, map, false, IfOk, IfErr};
 ghost use Rattle.std.specs.List.{IsDistinct};
 ghost use Rattle.constriction.specs.Model.{StandForRows, ClonesAreSame, ClonesAreEqual};
 ghost use Rattle.constriction.specs.Rows.{Row, symbols_of};
-ghost use Rattle.constriction_client.specs.Chains.{is_lookup_after, ChainLeaves};
-ghost use Rattle.constriction_client.specs.declared.decoder_form.SearchOrLookup.TheVariants as kind;
-ghost use Rattle.constriction_client.specs.Replies.{in_numbers, replies_by_scan, StandForReplies};
+ghost use Rattle.constriction_client.specs.Precision.{IsPrecision};
+ghost use Rattle.constriction_client.specs.Chains.{is_lookup};
+ghost use Rattle.constriction_client.specs.Replies.{in_numbers, replies_by_scan, AreRepliesOf};
+ghost use Rattle.constriction_theorem.specs.Answers.{AnswersAfter};
 
 use crate::forms::{FormAndReplies, answer_by_form};
 use crate::made::{both_of, encoder_of};
@@ -33,26 +34,19 @@ where
     M: IterableEntropyModel<PRECISION> + Copy,
     M::Symbol: Hash + Eq + Clone + Drop,
     M::Probability: IndexWord,
-    requires positive { 0 < PRECISION }
-    requires fits { PRECISION ≤ M.Probability.BITS }
+    requires precision { IsPrecision M.Probability.BITS PRECISION }
     requires narrow { PRECISION ≤ 63 }
     requires walked { ClonesAreEqual M.Symbol.eq M.stands_for }
     requires clones { ClonesAreEqual M.Symbol.eq M.Symbol.is_clone }
     requires distinct { IsDistinct M.Symbol.eq (symbols_of (M.rows model)) }
-    ensures kind { IfOk result (λ both. elim both.0 [ kind.Search _ ↦ false | kind.Lookup _ ↦ true ]
-        ≡ is_lookup_after steps.now false) }
-    ensures rows { IfOk result (λ both. (walked : List (Row M.Symbol)) × StandForRows M.stands_for walked (M.rows model)
-        × ChainLeaves M.Symbol.is_clone steps.now walked
-        (⟦<DecoderForm<M::Symbol, M::Probability, PRECISION> as EntropyModel<PRECISION>>⟧.rows both.0)) }
-    ensures exact_rows { IfOk result (λ both. ClonesAreSame M.stands_for → ClonesAreSame M.Symbol.is_clone
-        → ⟦<DecoderForm<M::Symbol, M::Probability, PRECISION> as EntropyModel<PRECISION>>⟧.rows both.0 ≡ M.rows model) }
-    ensures replies { IfOk result (λ both. StandForReplies M.Symbol.is_clone
-        (map (in_numbers M.Probability.whole M.Probability.base) both.1.items)
-        (replies_by_scan PRECISION M.Probability.whole M.Symbol.eq
-        (⟦<DecoderForm<M::Symbol, M::Probability, PRECISION> as EntropyModel<PRECISION>>⟧.rows both.0) queries.now)) }
+    ensures answers { IfOk result (λ both. (walked : List (Row M.Symbol)) × StandForRows M.stands_for walked (M.rows model)
+        × AnswersAfter M.Symbol.is_clone (replies_by_scan PRECISION M.Probability.whole M.Symbol.eq queries.now) steps.now false walked
+        (is_lookup both.0) (⟦<DecoderForm<M::Symbol, M::Probability, PRECISION> as EntropyModel<PRECISION>>⟧.rows both.0)
+        (map (in_numbers M.Probability.whole M.Probability.base) both.1.items)) }
     ensures exact { IfOk result (λ both. ClonesAreSame M.stands_for → ClonesAreSame M.Symbol.is_clone
-        → map (in_numbers M.Probability.whole M.Probability.base) both.1.items
-        ≡ replies_by_scan PRECISION M.Probability.whole M.Symbol.eq (M.rows model) queries.now) }
+        → (⟦<DecoderForm<M::Symbol, M::Probability, PRECISION> as EntropyModel<PRECISION>>⟧.rows both.0 ≡ M.rows model)
+        × (map (in_numbers M.Probability.whole M.Probability.base) both.1.items
+        ≡ replies_by_scan PRECISION M.Probability.whole M.Symbol.eq queries.now (M.rows model))) }
     ensures refused { IfErr result (λ e. e ≡ ModelError.OutOfMemory) }
 {
     let (decoder, encoder) = both_of::<M, PRECISION>(alloc, model)?;
@@ -95,32 +89,23 @@ where
     M: DecoderModel<PRECISION> + IterableEntropyModel<PRECISION> + Copy,
     M::Symbol: Hash + Eq + Clone + Drop,
     M::Probability: IndexWord,
-    requires positive { 0 < PRECISION }
-    requires fits { PRECISION ≤ M.Probability.BITS }
+    requires precision { IsPrecision M.Probability.BITS PRECISION }
     requires narrow { PRECISION ≤ 63 }
     requires walked { ClonesAreEqual M.Symbol.eq M.IterableEntropyModel.stands_for }
     requires clones { ClonesAreEqual M.Symbol.eq M.Symbol.is_clone }
     requires distinct { IsDistinct M.Symbol.eq (symbols_of (M.rows model)) }
-    ensures by_model { IfOk result (λ answers. StandForReplies M.DecoderModel.stands_for
-        (map (in_numbers M.Probability.whole M.Probability.base) answers.by_model.items)
-        (replies_by_scan PRECISION M.Probability.whole M.Symbol.eq (M.rows model) queries.now)) }
-    ensures exact { IfOk result (λ answers. ClonesAreSame M.DecoderModel.stands_for
-        → map (in_numbers M.Probability.whole M.Probability.base) answers.by_model.items
-        ≡ replies_by_scan PRECISION M.Probability.whole M.Symbol.eq (M.rows model) queries.now) }
-    ensures kind { IfOk result (λ answers. elim answers.form [ kind.Search _ ↦ false | kind.Lookup _ ↦ true ]
-        ≡ is_lookup_after steps.now false) }
-    ensures rows { IfOk result (λ answers. (walked : List (Row M.Symbol))
+    ensures by_model { IfOk result (λ answers. AreRepliesOf M.DecoderModel.stands_for
+        (replies_by_scan PRECISION M.Probability.whole M.Symbol.eq queries.now (M.rows model))
+        (map (in_numbers M.Probability.whole M.Probability.base) answers.by_model.items)) }
+    ensures converted { IfOk result (λ answers. (walked : List (Row M.Symbol))
         × StandForRows M.IterableEntropyModel.stands_for walked (M.rows model)
-        × ChainLeaves M.Symbol.is_clone steps.now walked
-        (⟦<DecoderForm<M::Symbol, M::Probability, PRECISION> as EntropyModel<PRECISION>>⟧.rows answers.form)) }
-    ensures converted { IfOk result (λ answers. StandForReplies M.Symbol.is_clone
-        (map (in_numbers M.Probability.whole M.Probability.base) answers.converted.items)
-        (replies_by_scan PRECISION M.Probability.whole M.Symbol.eq
-        (⟦<DecoderForm<M::Symbol, M::Probability, PRECISION> as EntropyModel<PRECISION>>⟧.rows answers.form) queries.now)) }
-    ensures converted_exact { IfOk result (λ answers. ClonesAreSame M.IterableEntropyModel.stands_for
-        → ClonesAreSame M.Symbol.is_clone
-        → map (in_numbers M.Probability.whole M.Probability.base) answers.converted.items
-        ≡ replies_by_scan PRECISION M.Probability.whole M.Symbol.eq (M.rows model) queries.now) }
+        × AnswersAfter M.Symbol.is_clone (replies_by_scan PRECISION M.Probability.whole M.Symbol.eq queries.now) steps.now false walked
+        (is_lookup answers.form) (⟦<DecoderForm<M::Symbol, M::Probability, PRECISION> as EntropyModel<PRECISION>>⟧.rows answers.form)
+        (map (in_numbers M.Probability.whole M.Probability.base) answers.converted.items)) }
+    ensures exact { IfOk result (λ answers. ClonesAreSame M.IterableEntropyModel.stands_for → ClonesAreSame M.Symbol.is_clone
+        → (⟦<DecoderForm<M::Symbol, M::Probability, PRECISION> as EntropyModel<PRECISION>>⟧.rows answers.form ≡ M.rows model)
+        × (map (in_numbers M.Probability.whole M.Probability.base) answers.converted.items
+        ≡ replies_by_scan PRECISION M.Probability.whole M.Symbol.eq queries.now (M.rows model))) }
     ensures refused { IfErr result (λ e. e ≡ ModelError.OutOfMemory) }
 {
     let encoder = encoder_of::<M, PRECISION>(alloc, model)?;

@@ -3,11 +3,9 @@
 //! A law over any word would hold a model of three such words in itself, whose size nothing bounds; so it stands for
 //! each index word.
 
-ghost use Rattle.std.specs.Prelude.{◌≡◌, ◌^◌, ◌<◌, ◌≤◌, map, nat_eq, true, false, IfOk, IfErr};
-ghost use Rattle.constriction.specs.Rows.{uniform_rows};
-ghost use Rattle.constriction_client.specs.Chains.{is_lookup_after};
-ghost use Rattle.constriction_client.specs.declared.decoder_form.SearchOrLookup.TheVariants as kind;
-ghost use Rattle.constriction_client.specs.Replies.{in_numbers, replies_by_scan};
+ghost use Rattle.std.specs.Prelude.{◌≡◌, ◌^◌, ◌<◌, ◌≤◌, IfOk, IfErr};
+ghost use Rattle.constriction_client.specs.Precision.{IsPrecision};
+ghost use Rattle.constriction_theorem.specs.Answers.{AnswersOfRange};
 
 use crate::models::{AnswersOfModel, answer_by_table};
 use constriction::laws::contiguous_symbols_differ;
@@ -27,18 +25,11 @@ pub fn answer_from_range_u8<const PRECISION: usize>(
     steps: &[ChainStep],
     queries: &[Query<usize, u8>],
 ) -> Result<AnswersOfModel<usize, u8, DecoderForm<usize, u8, PRECISION>>, ModelError>
-    requires positive { 0 < PRECISION }
-    requires fits { PRECISION ≤ 8 }
+    requires precision { IsPrecision 8 PRECISION }
     requires some { 2 ≤ range }
     requires within { range ≤ 2 ^ PRECISION }
-    ensures dividing { IfOk result (λ answers. map (in_numbers (λ w. w) ⟦<u8 as WholeNumber>⟧.base) answers.by_model.items
-        ≡ replies_by_scan PRECISION (λ w. w) nat_eq (uniform_rows PRECISION range) queries.now) }
-    ensures kind { IfOk result (λ answers. elim answers.form [ kind.Search _ ↦ false | kind.Lookup _ ↦ true ]
-        ≡ is_lookup_after steps.now false) }
-    ensures rows { IfOk result (λ answers. ⟦<DecoderForm<usize, u8, PRECISION> as EntropyModel<PRECISION>>⟧.rows answers.form
-        ≡ uniform_rows PRECISION range) }
-    ensures converted { IfOk result (λ answers. map (in_numbers (λ w. w) ⟦<u8 as WholeNumber>⟧.base) answers.converted.items
-        ≡ replies_by_scan PRECISION (λ w. w) nat_eq (uniform_rows PRECISION range) queries.now) }
+    ensures answers { IfOk result (AnswersOfRange PRECISION range steps.now queries.now ⟦<u8 as WholeNumber>⟧.base
+        ⟦<DecoderForm<usize, u8, PRECISION> as EntropyModel<PRECISION>>⟧.rows) }
     ensures refused { IfErr result (λ e. e ≡ ModelError.OutOfMemory) }
 {
     contiguous_symbols_differ();
@@ -59,18 +50,11 @@ pub fn answer_from_range_u16<const PRECISION: usize>(
     steps: &[ChainStep],
     queries: &[Query<usize, u16>],
 ) -> Result<AnswersOfModel<usize, u16, DecoderForm<usize, u16, PRECISION>>, ModelError>
-    requires positive { 0 < PRECISION }
-    requires fits { PRECISION ≤ 16 }
+    requires precision { IsPrecision 16 PRECISION }
     requires some { 2 ≤ range }
     requires within { range ≤ 2 ^ PRECISION }
-    ensures dividing { IfOk result (λ answers. map (in_numbers (λ w. w) ⟦<u16 as WholeNumber>⟧.base) answers.by_model.items
-        ≡ replies_by_scan PRECISION (λ w. w) nat_eq (uniform_rows PRECISION range) queries.now) }
-    ensures kind { IfOk result (λ answers. elim answers.form [ kind.Search _ ↦ false | kind.Lookup _ ↦ true ]
-        ≡ is_lookup_after steps.now false) }
-    ensures rows { IfOk result (λ answers. ⟦<DecoderForm<usize, u16, PRECISION> as EntropyModel<PRECISION>>⟧.rows answers.form
-        ≡ uniform_rows PRECISION range) }
-    ensures converted { IfOk result (λ answers. map (in_numbers (λ w. w) ⟦<u16 as WholeNumber>⟧.base) answers.converted.items
-        ≡ replies_by_scan PRECISION (λ w. w) nat_eq (uniform_rows PRECISION range) queries.now) }
+    ensures answers { IfOk result (AnswersOfRange PRECISION range steps.now queries.now ⟦<u16 as WholeNumber>⟧.base
+        ⟦<DecoderForm<usize, u16, PRECISION> as EntropyModel<PRECISION>>⟧.rows) }
     ensures refused { IfErr result (λ e. e ≡ ModelError.OutOfMemory) }
 {
     contiguous_symbols_differ();
@@ -95,14 +79,8 @@ pub fn answer_from_range_usize<const PRECISION: usize>(
     requires narrow { PRECISION ≤ 63 }
     requires some { 2 ≤ range }
     requires within { range ≤ 2 ^ PRECISION }
-    ensures dividing { IfOk result (λ answers. map (in_numbers (λ w. w) ⟦<usize as WholeNumber>⟧.base) answers.by_model.items
-        ≡ replies_by_scan PRECISION (λ w. w) nat_eq (uniform_rows PRECISION range) queries.now) }
-    ensures kind { IfOk result (λ answers. elim answers.form [ kind.Search _ ↦ false | kind.Lookup _ ↦ true ]
-        ≡ is_lookup_after steps.now false) }
-    ensures rows { IfOk result (λ answers. ⟦<DecoderForm<usize, usize, PRECISION> as EntropyModel<PRECISION>>⟧.rows answers.form
-        ≡ uniform_rows PRECISION range) }
-    ensures converted { IfOk result (λ answers. map (in_numbers (λ w. w) ⟦<usize as WholeNumber>⟧.base) answers.converted.items
-        ≡ replies_by_scan PRECISION (λ w. w) nat_eq (uniform_rows PRECISION range) queries.now) }
+    ensures answers { IfOk result (AnswersOfRange PRECISION range steps.now queries.now ⟦<usize as WholeNumber>⟧.base
+        ⟦<DecoderForm<usize, usize, PRECISION> as EntropyModel<PRECISION>>⟧.rows) }
     ensures refused { IfErr result (λ e. e ≡ ModelError.OutOfMemory) }
 {
     contiguous_symbols_differ();

@@ -1,12 +1,13 @@
 //! Symbols and weights, and what the models of them reply.
 
-ghost use Rattle.std.specs.Prelude.{◌≡◌, ◌<◌, ◌≤◌, map, true, false, IfOk};
+ghost use Rattle.std.specs.Prelude.{◌≡◌, ◌<◌, ◌≤◌, map, false, IfOk};
 ghost use Rattle.constriction.specs.Acceptance.{completed, AreAccepted};
-ghost use Rattle.constriction.specs.Model.{ClonesAreSame, ClonesAreEqual};
+ghost use Rattle.constriction.specs.Model.{ClonesAreEqual};
 ghost use Rattle.constriction.specs.Rows.{rows_of};
-ghost use Rattle.constriction_client.specs.Chains.{is_lookup_after, ChainLeaves};
-ghost use Rattle.constriction_client.specs.declared.decoder_form.SearchOrLookup.TheVariants as kind;
-ghost use Rattle.constriction_client.specs.Replies.{in_numbers, replies_by_scan, StandForReplies};
+ghost use Rattle.constriction_client.specs.Precision.{IsPrecision};
+ghost use Rattle.constriction_client.specs.Chains.{is_lookup};
+ghost use Rattle.constriction_client.specs.Replies.{in_numbers, replies_by_scan};
+ghost use Rattle.constriction_theorem.specs.Answers.{AnswersAfter};
 
 use crate::forms::{FormAndReplies, answer_by_form};
 use crate::made::{hashed_of, searching_from};
@@ -36,8 +37,7 @@ pub fn answer_from_symbols_and_weights<
     steps: &[ChainStep],
     queries: &[Query<Symbol, Probability>],
 ) -> Result<FormAndReplies<Symbol, Probability, PRECISION>, ModelError>
-    requires positive { 0 < PRECISION }
-    requires fits { PRECISION ≤ Probability.BITS }
+    requires precision { IsPrecision Probability.BITS PRECISION }
     requires narrow { PRECISION ≤ 63 }
     requires clones { ClonesAreEqual Symbol.eq Symbol.is_clone }
     ensures accepted { IfOk result (λ _. AreAccepted Symbol.eq Probability.BITS PRECISION symbols.items
@@ -45,19 +45,10 @@ pub fn answer_from_symbols_and_weights<
     ensures invalid { result ≡ Err ModelError.InvalidTable
         → ¬ (AreAccepted Symbol.eq Probability.BITS PRECISION symbols.items
         (completed PRECISION infer_last_probability (map Probability.whole weights.items))) }
-    ensures kind { IfOk result (λ both. elim both.0 [ kind.Search _ ↦ false | kind.Lookup _ ↦ true ]
-        ≡ is_lookup_after steps.now false) }
-    ensures rows { IfOk result (λ both. ChainLeaves Symbol.is_clone steps.now
-        (rows_of symbols.items (completed PRECISION infer_last_probability (map Probability.whole weights.items)))
-        (⟦<DecoderForm<Symbol, Probability, PRECISION> as EntropyModel<PRECISION>>⟧.rows both.0)) }
-    ensures replies { IfOk result (λ both. StandForReplies Symbol.is_clone
-        (map (in_numbers Probability.whole Probability.base) both.1.items)
-        (replies_by_scan PRECISION Probability.whole Symbol.eq
-        (⟦<DecoderForm<Symbol, Probability, PRECISION> as EntropyModel<PRECISION>>⟧.rows both.0) queries.now)) }
-    ensures exact { IfOk result (λ both. ClonesAreSame Symbol.is_clone
-        → map (in_numbers Probability.whole Probability.base) both.1.items
-        ≡ replies_by_scan PRECISION Probability.whole Symbol.eq
-        (rows_of symbols.items (completed PRECISION infer_last_probability (map Probability.whole weights.items))) queries.now) }
+    ensures answers { IfOk result (λ both. AnswersAfter Symbol.is_clone (replies_by_scan PRECISION Probability.whole Symbol.eq queries.now)
+        steps.now false (rows_of symbols.items (completed PRECISION infer_last_probability (map Probability.whole weights.items)))
+        (is_lookup both.0) (⟦<DecoderForm<Symbol, Probability, PRECISION> as EntropyModel<PRECISION>>⟧.rows both.0)
+        (map (in_numbers Probability.whole Probability.base) both.1.items)) }
 {
     let searching = searching_from::<Symbol, Probability, PRECISION>(
         alloc,

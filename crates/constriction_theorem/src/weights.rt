@@ -1,12 +1,13 @@
 //! Weights alone, and what the models of the symbols 0, 1, .. reply.
 
-ghost use Rattle.std.specs.Prelude.{◌≡◌, ◌<◌, ◌≤◌, ℕ, map, nat_eq, true, false, IfOk, IfErr};
+ghost use Rattle.std.specs.Prelude.{◌≡◌, ◌<◌, ◌≤◌, ℕ, fold, map, nat_eq, false, IfOk, IfErr};
 ghost use Rattle.constriction.specs.Acceptance.{completed, IsAccepted};
 ghost use Rattle.constriction.specs.Model.{ClonesAreSame};
 ghost use Rattle.constriction.specs.Rows.{contiguous_rows, entry_of};
-ghost use Rattle.constriction_client.specs.Chains.{is_lookup_after};
-ghost use Rattle.constriction_client.specs.declared.decoder_form.SearchOrLookup.TheVariants as kind;
+ghost use Rattle.constriction_client.specs.Precision.{IsPrecision};
+ghost use Rattle.constriction_client.specs.Chains.{is_lookup, is_lookup_after};
 ghost use Rattle.constriction_client.specs.Replies.{in_numbers, replies_by_scan};
+ghost use Rattle.constriction_theorem.specs.Answers.{ReplyAsScan};
 
 use crate::made::{Contiguous, both_of_contiguous, contiguous_from};
 use constriction::stream::model::{
@@ -59,9 +60,9 @@ where
     requires contiguous { (s : ℕ) → entry_of E.symbol_eq (E.rows contiguous.now) s ≡ entry_of E.symbol_eq (D.rows decoder.now) s }
     requires hashed { (s : ℕ) → entry_of F.symbol_eq (F.rows hashed.now) s ≡ entry_of F.symbol_eq (D.rows decoder.now) s }
     ensures contiguous { IfOk result (λ replies. map (in_numbers Word.whole Word.base) replies.contiguous.items
-        ≡ replies_by_scan PRECISION Word.whole E.symbol_eq (D.rows decoder.now) queries.now) }
+        ≡ replies_by_scan PRECISION Word.whole E.symbol_eq queries.now (D.rows decoder.now)) }
     ensures hashed { IfOk result (λ replies. map (in_numbers Word.whole Word.base) replies.hashed.items
-        ≡ replies_by_scan PRECISION Word.whole F.symbol_eq (D.rows decoder.now) queries.now) }
+        ≡ replies_by_scan PRECISION Word.whole F.symbol_eq queries.now (D.rows decoder.now)) }
 {
     let beside_contiguous = answer_queries::<_, _, _, _, PRECISION>(
         alloc, decoder, contiguous, queries,
@@ -88,8 +89,7 @@ fn converted_from<Probability: IndexWord, const PRECISION: usize>(
     requires positive { 0 < PRECISION }
     requires fits { PRECISION ≤ Probability.BITS }
     requires narrow { PRECISION ≤ 63 }
-    ensures kind { IfOk result (λ both. elim both.0 [ kind.Search _ ↦ false | kind.Lookup _ ↦ true ]
-        ≡ is_lookup_after steps.now false) }
+    ensures kind { IfOk result (λ both. is_lookup both.0 ≡ fold is_lookup_after false steps.now) }
     ensures rows { IfOk result (λ both. ⟦<DecoderForm<usize, Probability, PRECISION> as EntropyModel<PRECISION>>⟧.rows both.0
         ≡ ⟦<Contiguous<Probability, PRECISION> as EntropyModel<PRECISION>>⟧.rows model.now) }
     ensures entries { IfOk result (λ both. (s : ℕ) → entry_of nat_eq
@@ -112,27 +112,14 @@ fn answers_of<Probability: IndexWord, const PRECISION: usize>(
     requires positive { 0 < PRECISION }
     requires fits { PRECISION ≤ Probability.BITS }
     requires narrow { PRECISION ≤ 63 }
-    ensures searching { IfOk result (λ answers. let scanned = replies_by_scan PRECISION Probability.whole nat_eq
-        (⟦<Contiguous<Probability, PRECISION> as EntropyModel<PRECISION>>⟧.rows model.now) queries.now in
-        (map (in_numbers Probability.whole Probability.base) answers.searching.contiguous.items ≡ scanned)
-        × (map (in_numbers Probability.whole Probability.base) answers.searching.hashed.items ≡ scanned)) }
-    ensures tabled { IfOk result (λ answers. let scanned = replies_by_scan PRECISION Probability.whole nat_eq
-        (⟦<Contiguous<Probability, PRECISION> as EntropyModel<PRECISION>>⟧.rows model.now) queries.now in
-        (map (in_numbers Probability.whole Probability.base) answers.tabled.contiguous.items ≡ scanned)
-        × (map (in_numbers Probability.whole Probability.base) answers.tabled.hashed.items ≡ scanned)) }
-    ensures direct { IfOk result (λ answers. let scanned = replies_by_scan PRECISION Probability.whole nat_eq
-        (⟦<Contiguous<Probability, PRECISION> as EntropyModel<PRECISION>>⟧.rows model.now) queries.now in
-        (map (in_numbers Probability.whole Probability.base) answers.direct.contiguous.items ≡ scanned)
-        × (map (in_numbers Probability.whole Probability.base) answers.direct.hashed.items ≡ scanned)) }
-    ensures kind { IfOk result (λ answers. elim answers.form [ kind.Search _ ↦ false | kind.Lookup _ ↦ true ]
-        ≡ is_lookup_after steps.now false) }
+    ensures replies { IfOk result (λ answers. let AsScan = ReplyAsScan (in_numbers Probability.whole Probability.base)
+        (replies_by_scan PRECISION Probability.whole nat_eq queries.now
+        (⟦<Contiguous<Probability, PRECISION> as EntropyModel<PRECISION>>⟧.rows model.now)) in
+        AsScan answers.searching × AsScan answers.tabled × AsScan answers.direct × AsScan answers.converted) }
+    ensures kind { IfOk result (λ answers. is_lookup answers.form ≡ fold is_lookup_after false steps.now) }
     ensures rows { IfOk result (λ answers.
         ⟦<DecoderForm<usize, Probability, PRECISION> as EntropyModel<PRECISION>>⟧.rows answers.form
         ≡ ⟦<Contiguous<Probability, PRECISION> as EntropyModel<PRECISION>>⟧.rows model.now) }
-    ensures converted { IfOk result (λ answers. let scanned = replies_by_scan PRECISION Probability.whole nat_eq
-        (⟦<Contiguous<Probability, PRECISION> as EntropyModel<PRECISION>>⟧.rows model.now) queries.now in
-        (map (in_numbers Probability.whole Probability.base) answers.converted.contiguous.items ≡ scanned)
-        × (map (in_numbers Probability.whole Probability.base) answers.converted.hashed.items ≡ scanned)) }
     ensures refused { IfErr result (λ e. e ≡ ModelError.OutOfMemory) }
 {
     let tabled = model.to_lookup_decoder_model(alloc)?;
@@ -174,34 +161,20 @@ pub fn answer_from_weights<Probability: IndexWord, const PRECISION: usize>(
     steps: &[ChainStep],
     queries: &[Query<usize, Probability>],
 ) -> Result<AnswersOfWeights<Probability, DecoderForm<usize, Probability, PRECISION>>, ModelError>
-    requires positive { 0 < PRECISION }
-    requires fits { PRECISION ≤ Probability.BITS }
+    requires precision { IsPrecision Probability.BITS PRECISION }
     requires narrow { PRECISION ≤ 63 }
     ensures accepted { IfOk result (λ _. IsAccepted Probability.BITS PRECISION
         (completed PRECISION infer_last_probability (map Probability.whole weights.items))) }
     ensures invalid { result ≡ Err ModelError.InvalidTable → ¬ (IsAccepted Probability.BITS PRECISION
         (completed PRECISION infer_last_probability (map Probability.whole weights.items))) }
-    ensures searching { IfOk result (λ answers. let scanned = replies_by_scan PRECISION Probability.whole nat_eq
-        (contiguous_rows (completed PRECISION infer_last_probability (map Probability.whole weights.items))) queries.now in
-        (map (in_numbers Probability.whole Probability.base) answers.searching.contiguous.items ≡ scanned)
-        × (map (in_numbers Probability.whole Probability.base) answers.searching.hashed.items ≡ scanned)) }
-    ensures tabled { IfOk result (λ answers. let scanned = replies_by_scan PRECISION Probability.whole nat_eq
-        (contiguous_rows (completed PRECISION infer_last_probability (map Probability.whole weights.items))) queries.now in
-        (map (in_numbers Probability.whole Probability.base) answers.tabled.contiguous.items ≡ scanned)
-        × (map (in_numbers Probability.whole Probability.base) answers.tabled.hashed.items ≡ scanned)) }
-    ensures direct { IfOk result (λ answers. let scanned = replies_by_scan PRECISION Probability.whole nat_eq
-        (contiguous_rows (completed PRECISION infer_last_probability (map Probability.whole weights.items))) queries.now in
-        (map (in_numbers Probability.whole Probability.base) answers.direct.contiguous.items ≡ scanned)
-        × (map (in_numbers Probability.whole Probability.base) answers.direct.hashed.items ≡ scanned)) }
-    ensures kind { IfOk result (λ answers. elim answers.form [ kind.Search _ ↦ false | kind.Lookup _ ↦ true ]
-        ≡ is_lookup_after steps.now false) }
+    ensures replies { IfOk result (λ answers. let AsScan = ReplyAsScan (in_numbers Probability.whole Probability.base)
+        (replies_by_scan PRECISION Probability.whole nat_eq queries.now
+        (contiguous_rows (completed PRECISION infer_last_probability (map Probability.whole weights.items)))) in
+        AsScan answers.searching × AsScan answers.tabled × AsScan answers.direct × AsScan answers.converted) }
+    ensures kind { IfOk result (λ answers. is_lookup answers.form ≡ fold is_lookup_after false steps.now) }
     ensures rows { IfOk result (λ answers.
         ⟦<DecoderForm<usize, Probability, PRECISION> as EntropyModel<PRECISION>>⟧.rows answers.form
         ≡ contiguous_rows (completed PRECISION infer_last_probability (map Probability.whole weights.items))) }
-    ensures converted { IfOk result (λ answers. let scanned = replies_by_scan PRECISION Probability.whole nat_eq
-        (contiguous_rows (completed PRECISION infer_last_probability (map Probability.whole weights.items))) queries.now in
-        (map (in_numbers Probability.whole Probability.base) answers.converted.contiguous.items ≡ scanned)
-        × (map (in_numbers Probability.whole Probability.base) answers.converted.hashed.items ≡ scanned)) }
 {
     let model = contiguous_from::<Probability, PRECISION>(alloc, weights, infer_last_probability)?;
     answers_of(alloc, &model, steps, queries)

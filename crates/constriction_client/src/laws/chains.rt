@@ -1,9 +1,10 @@
 //! Forms of a decoder, and what they answer after any conversions.
 
 ghost use Rattle.std.specs.Prelude.{◌≡◌, ◌<◌, ◌≤◌, map, IfOk, IfErr};
+ghost use Rattle.constriction.specs.Entries.{SameEntries};
 ghost use Rattle.constriction.specs.Laws.{SymbolsDiffer};
 ghost use Rattle.constriction.specs.Model.{ClonesAreSame};
-ghost use Rattle.constriction.specs.Rows.{entry_of};
+ghost use Rattle.constriction_client.specs.Precision.{IsPrecision};
 ghost use Rattle.constriction_client.specs.Replies.{in_numbers, replies_by_scan};
 
 use crate::chain::{ChainStep, convert_chain};
@@ -48,15 +49,14 @@ pub fn answer_after_chain<
 ) -> Result<Vec<Reply<Symbol, Probability>>, ModelError>
 where
     E: EncodesOver<Symbol, Probability, PRECISION>,
-    requires positive { 0 < PRECISION }
-    requires fits { PRECISION ≤ Probability.BITS }
+    requires precision { IsPrecision Probability.BITS PRECISION }
     requires narrow { PRECISION ≤ 63 }
     requires clones { ClonesAreSame Symbol.is_clone }
-    requires alike { (s : Symbol) → entry_of E.symbol_eq (E.rows encoder.now) s ≡ entry_of E.symbol_eq
-        (⟦<DecoderForm<Symbol, Probability, PRECISION> as EntropyModel<PRECISION>>⟧.rows form) s }
+    requires alike { SameEntries E.symbol_eq (E.rows encoder.now)
+        (⟦<DecoderForm<Symbol, Probability, PRECISION> as EntropyModel<PRECISION>>⟧.rows form) }
     ensures ok { IfOk result (λ replies. map (in_numbers Probability.whole Probability.base) replies.items
-        ≡ replies_by_scan PRECISION Probability.whole E.symbol_eq
-        (⟦<DecoderForm<Symbol, Probability, PRECISION> as EntropyModel<PRECISION>>⟧.rows form) queries.now) }
+        ≡ replies_by_scan PRECISION Probability.whole E.symbol_eq queries.now
+        (⟦<DecoderForm<Symbol, Probability, PRECISION> as EntropyModel<PRECISION>>⟧.rows form)) }
     ensures refused { IfErr result (λ e. e ≡ ModelError.OutOfMemory) }
 {
     let converted = convert_chain(alloc, form, steps)?;

@@ -2,8 +2,10 @@
 
 ghost use Rattle.std.specs.Prelude.{◌≡◌, ◌<◌, ◌≤◌, List, length, reverse, Err, IfOk, IfErr, OnOk, OnErr};
 ghost use Rattle.std.specs.List.{IsDistinct};
+ghost use Rattle.constriction.specs.Entries.{SameEntries};
 ghost use Rattle.constriction.specs.Model.{StandForRows, ClonesAreEqual};
 ghost use Rattle.constriction.specs.Rows.{entry_of, symbols_of};
+ghost use Rattle.constriction_client.specs.Precision.{IsPrecision};
 ghost use Rattle.constriction_client.specs.Coming.{ComeNext, QuantilesCome, GoesBack};
 ghost use Rattle.constriction_client.specs.declared.quantiles.QuantileFault.{QuantileFault};
 ghost use Rattle.constriction_client.specs.Placing.{PlacesItems, EndsPlacing};
@@ -11,11 +13,12 @@ ghost use Rattle.constriction_backends.specs.Source.{Reads};
 ghost use Rattle.constriction_client.specs.Quantiles.{ArePairs};
 ghost use Rattle.constriction_client.specs.ThereAndBack.{AreItems, StandForItems, HasFault};
 
+use crate::decoder_form::Searching;
 use crate::quantiles::{QuantileFault, ReadFault, read_symbols, write_quantiles};
 use constriction::stream::model::{
     DecoderModel, DecodesOver, EncoderModel, EncodesOver, EntropyModel, IterableEntropyModel,
-    ModelError, NonContiguousCategoricalDecoderModel, NonContiguousCategoricalEncoderModel,
-    to_generic_decoder_model, to_generic_encoder_model,
+    ModelError, NonContiguousCategoricalEncoderModel, to_generic_decoder_model,
+    to_generic_encoder_model,
 };
 use constriction_backends::laws::extending_overwrites;
 use constriction_backends::{BoundedWriteError, Cursor, ReadWords, SafeBufMut};
@@ -32,12 +35,7 @@ pub type CursorFault = CoderError<QuantileFault, ReadWriteError<AllocError, Boun
 
 /// A decoder model of some rows, and the encoder model of their entries.
 pub type DecoderAndEncoder<Symbol, Probability, const PRECISION: usize> = (
-    NonContiguousCategoricalDecoderModel<
-        Symbol,
-        Probability,
-        Vec<(Probability, Symbol)>,
-        PRECISION,
-    >,
+    Searching<Symbol, Probability, PRECISION>,
     NonContiguousCategoricalEncoderModel<Symbol, Probability, PRECISION>,
 );
 
@@ -85,10 +83,8 @@ where
     Word: WholeNumber,
     D: DecodesOver<Symbol, Word, PRECISION>,
     E: EncodesOver<Symbol, Word, PRECISION>,
-    requires positive { 0 < PRECISION }
-    requires fits { PRECISION ≤ Word.BITS }
-    requires alike { (s : Symbol) → entry_of E.symbol_eq (E.rows encoder.now) s
-        ≡ entry_of E.symbol_eq (D.rows decoder.now) s }
+    requires precision { IsPrecision Word.BITS PRECISION }
+    requires alike { SameEntries E.symbol_eq (E.rows encoder.now) (D.rows decoder.now) }
     ensures ok { IfOk result (λ pairs. StandForItems D.stands_for E.symbol_eq (reverse items.now) pairs.items) }
     ensures equal { IfOk result (λ pairs. ClonesAreEqual E.symbol_eq D.stands_for
         → AreItems E.symbol_eq (reverse items.now) pairs.items) }
@@ -115,8 +111,7 @@ pub fn there_and_back<M, const PRECISION: usize>(
 where
     M: EncoderModel<PRECISION> + DecoderModel<PRECISION>,
     M::Symbol: Drop,
-    requires positive { 0 < PRECISION }
-    requires fits { PRECISION ≤ M.Probability.BITS }
+    requires precision { IsPrecision M.Probability.BITS PRECISION }
     ensures ok { IfOk result (λ pairs. StandForItems M.stands_for M.symbol_eq (reverse items.now) pairs.items) }
     ensures equal { IfOk result (λ pairs. ClonesAreEqual M.symbol_eq M.stands_for
         → AreItems M.symbol_eq (reverse items.now) pairs.items) }
@@ -127,7 +122,8 @@ where
 }
 
 /// The decoder model of the rows of any model that can be walked through, and the hashed encoder model
-/// of its entries. Where that model owns its symbols, both have clones of them, which have to be equal to them. They agree, so that what the one writes the other reads: they are the two models that
+/// of its entries. Where that model owns its symbols, both have clones of them, which have to be equal to
+/// them. They agree, so that what the one writes the other reads: they are the two models that
 /// [`there_and_back_of_two`] and [`there_and_back_in_a_cursor`] take.
 ///
 /// `InvalidTable` comes exactly where two symbols of the rows are equal, `OutOfMemory` where memory is
@@ -139,16 +135,13 @@ pub fn decoder_and_encoder<M, const PRECISION: usize>(
 where
     M: IterableEntropyModel<PRECISION> + Copy,
     M::Symbol: Hash + Eq + Drop,
-    requires positive { 0 < PRECISION }
-    requires fits { PRECISION ≤ M.Probability.BITS }
+    requires precision { IsPrecision M.Probability.BITS PRECISION }
     requires clones { ClonesAreEqual M.Symbol.eq M.stands_for }
     ensures rows { IfOk result (λ both. StandForRows M.stands_for
-        (⟦<NonContiguousCategoricalDecoderModel<M::Symbol, M::Probability, Vec<(M::Probability, M::Symbol)>, PRECISION> as EntropyModel<PRECISION>>⟧.rows both.0)
-        (M.rows model)) }
-    ensures alike { IfOk result (λ both. (s : M.Symbol) → entry_of M.Symbol.eq
-        (⟦<NonContiguousCategoricalEncoderModel<M::Symbol, M::Probability, PRECISION> as EntropyModel<PRECISION>>⟧.rows both.1) s
-        ≡ entry_of M.Symbol.eq
-        (⟦<NonContiguousCategoricalDecoderModel<M::Symbol, M::Probability, Vec<(M::Probability, M::Symbol)>, PRECISION> as EntropyModel<PRECISION>>⟧.rows both.0) s) }
+        (⟦<Searching<M::Symbol, M::Probability, PRECISION> as EntropyModel<PRECISION>>⟧.rows both.0) (M.rows model)) }
+    ensures alike { IfOk result (λ both. SameEntries M.Symbol.eq
+        (⟦<NonContiguousCategoricalEncoderModel<M::Symbol, M::Probability, PRECISION> as EntropyModel<PRECISION>>⟧.rows both.1)
+        (⟦<Searching<M::Symbol, M::Probability, PRECISION> as EntropyModel<PRECISION>>⟧.rows both.0)) }
     ensures invalid { result ≡ Err ModelError.InvalidTable → ¬ (IsDistinct M.Symbol.eq (symbols_of (M.rows model))) }
 {
     let decoder = to_generic_decoder_model::<M, PRECISION>(alloc, model)?;
@@ -208,10 +201,8 @@ where
     D: DecodesOver<Symbol, Word, PRECISION>,
     E: EncodesOver<Symbol, Word, PRECISION>,
     Buf: SafeBufMut<Word>,
-    requires positive { 0 < PRECISION }
-    requires fits { PRECISION ≤ Word.BITS }
-    requires alike { (s : Symbol) → entry_of E.symbol_eq (E.rows encoder.now) s
-        ≡ entry_of E.symbol_eq (D.rows decoder.now) s }
+    requires precision { IsPrecision Word.BITS PRECISION }
+    requires alike { SameEntries E.symbol_eq (E.rows encoder.now) (D.rows decoder.now) }
     ensures ok { IfOk result (λ pairs. StandForItems D.stands_for E.symbol_eq items.now pairs.items) }
     ensures equal { IfOk result (λ pairs. ClonesAreEqual E.symbol_eq D.stands_for
         → AreItems E.symbol_eq items.now pairs.items) }

@@ -1,4 +1,4 @@
-use Rattle.std.proofs.Common.{◌≡◌, take}
+use Rattle.std.proofs.Common.{◌≡◌, fold, take}
 use Rattle.constriction_client.specs.Chains.{is_lookup_after, ChainLeaves}
 use Rattle.constriction_client.proofs.chain.convert_by.Given as goal
 
@@ -6,5 +6,5 @@ use Rattle.constriction_client.proofs.chain.convert_by.Given as goal
 abbrev pub invariant-loop-step : goal.invariant-loop-step
 invariant-loop-step g l = record {
   rows : ChainLeaves g.Form.Converts.clone_of (take l.step-index l.steps) (g.Form.Converts.told l.fn.form) (g.Form.Converts.told l.form);
-  kind : g.Form.Converts.looks_up l.form ≡ is_lookup_after (take l.step-index l.steps) (g.Form.Converts.looks_up l.fn.form);
+  kind : g.Form.Converts.looks_up l.form ≡ fold is_lookup_after (g.Form.Converts.looks_up l.fn.form) (take l.step-index l.steps);
 }

@@ -1,7 +1,7 @@
 use Rattle.std.proofs.Common.{map, refl, subst}
 use Rattle.constriction.specs.Rows.{entry_of}
-use Rattle.constriction_client.specs.Replies.{in_numbers, reply_to_query, replies_of_two, StandsForReply, StandForReplies}
-use Rattle.constriction_client.proofs.Replying.{all-told, one-more-told, same-replies, scan-of-rows}
+use Rattle.constriction_client.specs.Replies.{in_numbers, reply_to_query, replies_of_two, StandsForReply, AreRepliesOf}
+use Rattle.constriction_client.proofs.Replying.{all-told, one-more-told, replies-of, scan-of-rows}
 use Rattle.constriction_client.proofs.queries.answer_queries.Goals as goal
 
 pub loop-query-preserved : goal.loop-query-preserved
@@ -23,10 +23,10 @@ returns g c =
     let given = map (in_numbers whole g.Word.WholeNumber.base) c.loop-query.replies.items in
     let stand = all-told g.D.DecodesOver.stands_for g.row.PRECISION whole rows entry queries c.loop-query.query-index given
     c.loop-query-test.false c.loop-query.invariant in
+    let are = replies-of g.D.DecodesOver.stands_for given (replies_of_two g.row.PRECISION whole rows entry queries) stand in
     record {
-      ok = stand;
+      ok = are;
       of_one = λ alike.
-          subst (StandForReplies g.D.DecodesOver.stands_for given)
-          (scan-of-rows g.row.PRECISION whole g.E.EncodesOver.symbol_eq entry rows rows queries refl alike) stand;
-      exact = λ same. same-replies g.D.DecodesOver.stands_for same given (replies_of_two g.row.PRECISION whole rows entry queries) stand;
+          subst (λ scanned. AreRepliesOf g.D.DecodesOver.stands_for scanned given)
+          (scan-of-rows g.row.PRECISION whole g.E.EncodesOver.symbol_eq entry rows rows queries refl alike) are;
     }

@@ -4,8 +4,5 @@ use Rattle.constriction_theorem.proofs.symbols.answer_from_symbols_and_weights.G
 pub returns-clause-accepted : goal.returns-clause-accepted
 returns-clause-accepted g c = whatever-ok c.answer_by_form.result c.in_ok-searching.ensures.ok.0
 
-pub returns-clause-rows : goal.returns-clause-rows
-returns-clause-rows g c = rw c.in_ok-searching.ensures.ok.1 at c.answer_by_form.ensures.rows
-
-pub returns-clause-exact : goal.returns-clause-exact
-returns-clause-exact g c = rw c.in_ok-searching.ensures.ok.1 at c.answer_by_form.ensures.exact
+pub returns-clause-answers : goal.returns-clause-answers
+returns-clause-answers g c = rw c.in_ok-searching.ensures.ok.1 at c.answer_by_form.ensures.answers

@@ -15,20 +15,19 @@ pub asked_beside_both-requires-4-clause-hashed : goal.asked_beside_both-requires
 asked_beside_both-requires-4-clause-hashed g c = λ s.
     c.in_ok-form.ensures.entries s ∙ ap (λ rows. entry_of nat_eq rows s) (sym c.in_ok-form.ensures.rows)
 
-pub returns-clause-tabled : goal.returns-clause-tabled
-returns-clause-tabled g c = (
-  rw c.in_ok-tabled.ensures.ok at c.in_ok-by_table.ensures.contiguous,
-  rw c.in_ok-tabled.ensures.ok at c.in_ok-by_table.ensures.hashed,
-)
-
-pub returns-clause-direct : goal.returns-clause-direct
-returns-clause-direct g c = (
-  rw c.in_ok-direct.ensures.ok at c.in_ok-by_slot.ensures.contiguous,
-  rw c.in_ok-direct.ensures.ok at c.in_ok-by_slot.ensures.hashed,
-)
-
-pub returns-clause-converted : goal.returns-clause-converted
-returns-clause-converted g c = (
-  rw c.in_ok-form.ensures.rows at c.in_ok-by_form.ensures.contiguous,
-  rw c.in_ok-form.ensures.rows at c.in_ok-by_form.ensures.hashed,
+pub returns-clause-replies : goal.returns-clause-replies
+returns-clause-replies g c = (
+  (c.in_ok-by_search.ensures.contiguous, c.in_ok-by_search.ensures.hashed),
+  (
+    rw c.in_ok-tabled.ensures.ok at c.in_ok-by_table.ensures.contiguous,
+    rw c.in_ok-tabled.ensures.ok at c.in_ok-by_table.ensures.hashed,
+  ),
+  (
+    rw c.in_ok-direct.ensures.ok at c.in_ok-by_slot.ensures.contiguous,
+    rw c.in_ok-direct.ensures.ok at c.in_ok-by_slot.ensures.hashed,
+  ),
+  (
+    rw c.in_ok-form.ensures.rows at c.in_ok-by_form.ensures.contiguous,
+    rw c.in_ok-form.ensures.rows at c.in_ok-by_form.ensures.hashed,
+  ),
 )

@@ -1,6 +1,6 @@
 use Rattle.std.proofs.Common.{ap, ◌∙◌}
-use Rattle.std.specs.Prelude.{List, nat_eq}
-use Rattle.constriction.specs.Rows.{Row, entry_of}
+use Rattle.std.specs.Prelude.{nat_eq}
+use Rattle.constriction.specs.Rows.{entry_of}
 use Rattle.constriction.specs.StandLemmas.{same-rows}
 use Rattle.constriction_theorem.proofs.weights.converted_from.Goals as goal
 

@@ -1,0 +1,7 @@
+-- Which precisions models over words have.
+use Rattle.std.specs.Prelude.{ℕ, ◌<◌, ◌≤◌}
+
+-- at least 1, and at most the bits of a word
+pub record IsPrecision (bits precision : ℕ) : Type 0 where
+  pub positive : 0 < precision
+  pub fits : precision ≤ bits

@@ -1,0 +1,47 @@
+-- What a form replies after steps, and what the models of one row list do. In replies numbers stand for words.
+use Rattle.std.specs.Prelude.{◌≡◌, ℕ, Bool, false, nat_eq, List, fold, map}
+use Rattle.constriction.specs.Model.{ClonesAreSame}
+use Rattle.constriction.specs.Rows.{Row, uniform_rows}
+use Rattle.constriction_client.specs.Chains.{is_lookup, is_lookup_after, ChainLeaves}
+use Rattle.constriction_client.specs.declared.chain.ChainStep.{ChainStep}
+use Rattle.constriction_client.specs.declared.decoder_form.SearchOrLookup.{SearchOrLookup}
+use Rattle.constriction_client.specs.declared.queries.Query.{Query}
+use Rattle.constriction_client.specs.declared.queries.Reply.{Reply}
+use Rattle.constriction_client.specs.Replies.{in_numbers, replies_by_scan, AreRepliesOf}
+use Rattle.constriction_theorem.specs.declared.models.AnswersOfModel.{AnswersOfModel}
+use Rattle.constriction_theorem.specs.declared.weights.RepliesByEncoder.{RepliesByEncoder}
+
+-- The form that steps leave of one with the rows `first`, which was a lookup form or not, and what it replies beside an encoder of these
+-- rows. `scan` gives the replies of a row list.
+pub record AnswersAfter {Symbol : Type 0} (IsClone : Symbol → Symbol → Type 0) (scan : List (Row Symbol) → List (Reply Symbol ℕ ℕ))
+    (steps : List ChainStep) (was_lookup : Bool) (first : List (Row Symbol))
+    (now_lookup : Bool) (made : List (Row Symbol)) (given : List (Reply Symbol ℕ ℕ)) : Type 0 where
+  -- the form is of the kind that the steps say
+  pub kind : now_lookup ≡ fold is_lookup_after was_lookup steps
+  -- its rows are those that the steps leave
+  pub rows : ChainLeaves IsClone steps first made
+  -- it replies as a scan of its rows does
+  pub replies : AreRepliesOf IsClone (scan made) given
+  -- and where clones of symbols are the same values, as a scan of the first rows
+  pub exact : ClonesAreSame IsClone → given ≡ scan first
+
+-- what a decoder replied beside each of two encoders is what a scan gives
+abbrev pub ReplyAsScan : {Word Weight : Type 0} → (Reply ℕ Word Weight → Reply ℕ ℕ ℕ) → List (Reply ℕ ℕ ℕ) → RepliesByEncoder Word Weight
+    → Type 0
+ReplyAsScan in_numbers scanned given =
+    (map in_numbers given.contiguous.items ≡ scanned) × (map in_numbers given.hashed.items ≡ scanned)
+
+-- The form that steps leave of the rows of a range, and what it and the dividing model reply.
+pub record AnswersOfRange {Weight Searching Tabled : Type 0} (precision range : ℕ) (steps : List ChainStep) (queries : List (Query ℕ ℕ))
+    (base : Weight → ℕ) (rows_of_form : SearchOrLookup Searching Tabled → List (Row ℕ))
+    (answers : AnswersOfModel ℕ ℕ (SearchOrLookup Searching Tabled) Weight) : Type 0 where
+  -- the dividing model replies as a scan of the uniform rows does
+  pub dividing : map (in_numbers (λ w. w) base) answers.by_model.items
+      ≡ replies_by_scan precision (λ w. w) nat_eq queries (uniform_rows precision range)
+  -- the form is of the kind that the steps say
+  pub kind : is_lookup answers.form ≡ fold is_lookup_after false steps
+  -- it has the uniform rows
+  pub rows : rows_of_form answers.form ≡ uniform_rows precision range
+  -- and replies as a scan of them does
+  pub converted : map (in_numbers (λ w. w) base) answers.converted.items
+      ≡ replies_by_scan precision (λ w. w) nat_eq queries (uniform_rows precision range)
