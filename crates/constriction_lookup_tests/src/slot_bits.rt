@@ -13,7 +13,7 @@ use constriction::stream::model::{
 };
 use constriction_fixtures::tables;
 use constriction_fixtures::widths::{Model, model_of};
-use constriction_words::{BitArray, IndexWord, NonZeroBitArray};
+use constriction_words::{IndexWord, NonZeroBitArray};
 use std::alloc::{AllocError, Global};
 use std::fmt::{Debug, Display};
 use std::process::Abort;
