@@ -14,10 +14,9 @@ use constriction_fixtures::any_symbols::{Decoder, SYMBOLS, WEIGHTS, decoder};
 use constriction_fixtures::contiguous::Table;
 use constriction_fixtures::given::of_four;
 use constriction_words::WholeNumber;
-use std::alloc::AllocError;
+use std::alloc::{AllocError, Global};
 use std::fmt::Debug;
 use std::process::Abort;
-use std::test::Fail;
 
 /// A lookup model with four slots of 16 quantiles each.
 type Tabled = SlottedContiguousLookupDecoderModel<u8, Vec<u8>, Vec<u8>, 6, 2>;
@@ -85,16 +84,24 @@ fn by_a_table_of_letters(model: &TabledLetters) -> Result<usize, AllocError>
 }
 
 #[test]
-fn contracts_bound_what_is_compared(rt: HostRuntime) -> Result<(), Fail> {
-    let model = of_four(rt.alloc(), [3, 18, 1, 42])?;
+fn contracts_bound_what_is_compared(rt: HostRuntime) {
+    let model = of_four(rt.alloc(), [3, 18, 1, 42]).expect(&rt, "accepted");
     same(&rt, by_a_search(&model), Ok(2));
-    let tabled: Tabled = LookupDecoderModel::with_table(rt.alloc(), model)?;
+    let tabled: Tabled = LookupDecoderModel::with_table(rt.alloc(), model).expect(&rt, "a table");
     same(&rt, by_a_table(&tabled), Ok((1, 0)));
-    let letters: Decoder<6> = decoder(rt.alloc(), &SYMBOLS, &WEIGHTS, false)?;
+}
+
+#[test]
+fn contracts_bound_what_is_compared_among_letters(rt: HostRuntime) {
+    let letters = decoder::<6>(rt.alloc(), &SYMBOLS, &WEIGHTS, false).expect(&rt, "accepted");
     same(&rt, among_letters(&letters), Ok(2));
-    let tabled: TabledLetters = LookupDecoderModel::with_table(rt.alloc(), letters)?;
+    let tabled = letters_with_table(&rt, rt.alloc(), letters);
     same(&rt, by_a_table_of_letters(&tabled), Ok(2));
-    Ok(())
+}
+
+/// The model of letters with a table. It stops the test where memory is refused.
+fn letters_with_table(rt: &impl Abort, alloc: Global, letters: Decoder<6>) -> TabledLetters {
+    LookupDecoderModel::with_table(alloc, letters).expect(rt, "a table")
 }
 
 /// The symbol of a quantile, by any model that searches, and how many rows were compared.
@@ -110,50 +117,47 @@ fn found<M: SearchingModel<PRECISION> + Copy, const PRECISION: usize>(
     }
 }
 
-/// Stops the test where a model finds another symbol for a quantile, or compares another number of rows.
-fn finds<M>(rt: &impl Abort, model: M, quantile: u8, expected: (M::Symbol, usize))
+/// Stops the test where a model finds another symbol for one of eight quantiles, or compares another number of rows.
+fn finds<M>(rt: &impl Abort, model: M, symbols: &[M::Symbol; 8], compared: &[usize; 8])
 where
     M: SearchingModel<6, Probability = u8> + Copy,
-    M::Symbol: PartialEq + Debug + Drop,
-    requires { quantile < 64 }
+    M::Symbol: Copy + PartialEq + Debug + Drop,
 {
-    same_at(rt, quantile, found::<M, 6>(model, quantile), Some(expected));
+    for at in 0..8usize {
+        let quantile = QUANTILES[at];
+        assert!(rt; quantile < 64);
+        let found = found::<M, 6>(model, quantile);
+        same_at(rt, quantile, found, Some((symbols[at], compared[at])));
+    }
 }
 
-/// Quantiles of the weights 3, 18, 1 and 42, the index of the row, its letter, and how many rows of four slots are
-/// compared: two rows meet the first slot, three the second one, and the last row alone meets the others.
-const CASES: [(u8, usize, char, usize); 8] = [
-    (0, 0, 'a', 1),
-    (3, 1, 'x', 1),
-    (16, 1, 'x', 2),
-    (20, 1, 'x', 2),
-    (21, 2, 'c', 2),
-    (31, 3, 'y', 2),
-    (32, 3, 'y', 0),
-    (63, 3, 'y', 0),
-];
+/// Quantiles of the weights 3, 18, 1 and 42.
+const QUANTILES: [u8; 8] = [0, 3, 16, 20, 21, 31, 32, 63];
+
+/// The indices of their rows.
+const INDICES: [usize; 8] = [0, 1, 1, 1, 2, 3, 3, 3];
+
+/// The letters of their rows.
+const LETTERS: [char; 8] = ['a', 'x', 'x', 'x', 'c', 'y', 'y', 'y'];
+
+/// How many rows of four slots are compared: two rows meet the first slot, three the second one, and the last row alone
+/// meets the others.
+const COMPARED: [usize; 8] = [1, 1, 2, 2, 2, 2, 0, 0];
 
 #[test]
-fn a_search_of_four_rows_compares_two(rt: HostRuntime) -> Result<(), Fail> {
-    let model = of_four(rt.alloc(), WEIGHTS)?;
-    let letters: Decoder<6> = decoder(rt.alloc(), &SYMBOLS, &WEIGHTS, false)?;
-    for (quantile, row, letter, _) in CASES {
-        assert!(rt; quantile < 64);
-        finds(&rt, &model, quantile, (row, 2));
-        finds(&rt, &letters, quantile, (letter, 2));
-    }
-    Ok(())
+fn a_search_of_four_rows_compares_two(rt: HostRuntime) {
+    let model = of_four(rt.alloc(), WEIGHTS).expect(&rt, "accepted");
+    finds(&rt, &model, &INDICES, &[2; 8]);
+    let letters = decoder::<6>(rt.alloc(), &SYMBOLS, &WEIGHTS, false).expect(&rt, "accepted");
+    finds(&rt, &letters, &LETTERS, &[2; 8]);
 }
 
 #[test]
-fn a_table_compares_the_rows_of_a_slot(rt: HostRuntime) -> Result<(), Fail> {
-    let model: Tabled = LookupDecoderModel::with_table(rt.alloc(), of_four(rt.alloc(), WEIGHTS)?)?;
-    let letters: Decoder<6> = decoder(rt.alloc(), &SYMBOLS, &WEIGHTS, false)?;
-    let letters: TabledLetters = LookupDecoderModel::with_table(rt.alloc(), letters)?;
-    for (quantile, row, letter, compared) in CASES {
-        assert!(rt; quantile < 64);
-        finds(&rt, &model, quantile, (row, compared));
-        finds(&rt, &letters, quantile, (letter, compared));
-    }
-    Ok(())
+fn a_table_compares_the_rows_of_a_slot(rt: HostRuntime) {
+    let model = of_four(rt.alloc(), WEIGHTS).expect(&rt, "accepted");
+    let tabled: Tabled = LookupDecoderModel::with_table(rt.alloc(), model).expect(&rt, "a table");
+    finds(&rt, &tabled, &INDICES, &COMPARED);
+    let letters = decoder::<6>(rt.alloc(), &SYMBOLS, &WEIGHTS, false).expect(&rt, "accepted");
+    let tabled = letters_with_table(&rt, rt.alloc(), letters);
+    finds(&rt, &tabled, &LETTERS, &COMPARED);
 }

@@ -2,7 +2,7 @@
 
 ghost use Rattle.std.specs.Prelude.{◌<◌, ◌≤◌};
 
-use crate::checks::{same, same_at};
+use crate::checks::{same, same_at, shows};
 use crate::lookup_contiguous;
 use crate::model_checks::{answers_as_a_scan, decodes, letters, small, tile, walks};
 use constriction::laws::{non_contiguous_lookup_symbols_differ, symbols_and_weights_rebuild};
@@ -61,10 +61,13 @@ fn the_views_and_clones_of_letters_answer_alike(rt: HostRuntime) {
 #[test]
 fn a_lookup_model_of_letters_is_made_of_a_searching_one(rt: HostRuntime) {
     let searching = decoder::<6>(rt.alloc(), &SYMBOLS, &WEIGHTS, false).expect(&rt, "accepted");
-    let made = searching.to_lookup_decoder_model(rt.alloc());
-    decodes(&rt, &made.expect(&rt, "a model"), &ROWS);
-    let made = searching.as_view().to_lookup_decoder_model(rt.alloc());
-    decodes(&rt, &made.expect(&rt, "a model"), &ROWS);
+    has_letters(&rt, searching.to_lookup_decoder_model(rt.alloc()));
+    has_letters(&rt, searching.as_view().to_lookup_decoder_model(rt.alloc()));
+}
+
+/// Stops the test where no model was made, or it has other rows than the worked table.
+fn has_letters(rt: &impl Abort, made: Result<Lookup<char, 6>, ModelError>) {
+    decodes(rt, &made.expect(rt, "a model"), &ROWS);
 }
 
 #[test]
@@ -79,8 +82,8 @@ fn a_lookup_model_of_letters_gives_the_searching_one_of_its_rows(rt: HostRuntime
 #[test]
 fn both_ends_of_a_lookup_model_give_each_letter_once(rt: HostRuntime) {
     let model = letters(&rt, rt.alloc());
-    for steps in STEPS {
-        walks(&rt, model.symbol_table(), &steps);
+    for steps in &STEPS {
+        walks(&rt, model.symbol_table(), steps);
     }
 }
 
@@ -143,8 +146,8 @@ fn letters_that_share_a_slot_are_searched(rt: HostRuntime) {
     ] {
         assert!(rt; quantile < 4096);
         let (found, size, asked) = small_row(&model, quantile);
-        same_at(&rt, quantile, (found, size), (Some(row), 5));
-        same_at(&rt, quantile, asked <= 3, true);
+        let wanted = (Some(row), 5, true);
+        same_at(&rt, quantile, (found, size, asked <= 3), wanted);
     }
     for quantile in 16..4096u16 {
         let found = small_row(&model, quantile);
@@ -155,11 +158,15 @@ fn letters_that_share_a_slot_are_searched(rt: HostRuntime) {
 /// Stops the test where what was made answers otherwise than by the rows of these weights, or its rows do
 /// not tile.
 fn answer_as_a_scan(rt: &impl Abort, made: Made<usize, 6>, weights: &[u8]) {
-    for model in [made.0, made.1] {
-        let model = model.expect(rt, "a model");
-        answers_as_a_scan::<_, 6>(rt, &model, weights);
-        tile::<_, 6>(rt, &model);
-    }
+    has_weights(rt, made.0, weights);
+    has_weights(rt, made.1, weights);
+}
+
+/// The same of one model.
+fn has_weights(rt: &impl Abort, made: Result<Lookup<usize, 6>, ModelError>, weights: &[u8]) {
+    let model = made.expect(rt, "a model");
+    answers_as_a_scan::<_, 6>(rt, &model, weights);
+    tile::<_, 6>(rt, &model);
 }
 
 #[test]
@@ -176,8 +183,8 @@ fn lookup_models_are_made_of_models_of_numbers(rt: HostRuntime) {
 
 /// Stops the test where what was made has other rows than the worked table.
 fn have_rows(rt: &impl Abort, made: Made<char, 6>) {
-    decodes(rt, &made.0.expect(rt, "a model"), &ROWS);
-    decodes(rt, &made.1.expect(rt, "a model"), &ROWS);
+    has_letters(rt, made.0);
+    has_letters(rt, made.1);
 }
 
 #[test]
@@ -189,11 +196,14 @@ fn lookup_models_are_made_of_models_of_letters(rt: HostRuntime) {
     have_rows(&rt, looked_up::<_, 6>(rt.alloc(), &model.as_view()));
 }
 
-/// Stops the test where the model has not these rows.
-pub fn has_rows(rt: &impl Abort, model: &Lookup<char, 3>, rows: [Row; 3]) {
+/// The rows of the caller's model of `p`, `q` and `r`.
+const THREE: [Row; 3] = [('p', 0, 2), ('q', 2, 5), ('r', 7, 1)];
+
+/// Stops the test where the model has not the rows of the caller's.
+pub fn has_rows(rt: &impl Abort, model: &Lookup<char, 3>) {
     let mut table = model.symbol_table();
-    for row in rows {
-        same(rt, table.next().map(plain), Some(Ok(row)));
+    for row in &THREE {
+        same(rt, table.next().map(plain), Some(Ok(*row)));
     }
     same(rt, table.next().is_none(), true);
 }
@@ -201,22 +211,16 @@ pub fn has_rows(rt: &impl Abort, model: &Lookup<char, 3>, rows: [Row; 3]) {
 #[test]
 fn a_lookup_model_is_made_of_a_model_of_the_caller(rt: HostRuntime) {
     let (by_function, by_method) = looked_up::<_, 3>(rt.alloc(), &three('p', 'q', 'r'));
-    for made in [by_function, by_method] {
-        let model = made.expect(&rt, "a model");
-        has_rows(&rt, &model, [('p', 0, 2), ('q', 2, 5), ('r', 7, 1)]);
-    }
+    has_rows(&rt, &by_function.expect(&rt, "a model"));
+    has_rows(&rt, &by_method.expect(&rt, "a model"));
     let (by_function, by_method) = looked_up::<_, 3>(rt.alloc(), &three('p', 'q', 'p'));
-    for made in [by_function, by_method] {
-        same(&rt, made.err(), Some(ModelError::InvalidTable));
-    }
+    same(&rt, by_function.err(), Some(ModelError::InvalidTable));
+    same(&rt, by_method.err(), Some(ModelError::InvalidTable));
 }
 
 #[test]
 fn a_lookup_model_shows_its_entries_and_its_table(rt: HostRuntime) {
     let model = lookup::<1>(rt.alloc(), &['a', 'b'], &[1, 1], false).expect(&rt, "accepted");
-    let Ok(text) = format!(in rt.alloc(); "{model:?}") else {
-        panic!(rt; "memory was refused");
-    };
-    same(&rt, text.contains("[(0, 'a'), (1, 'b')]"), true);
-    same(&rt, text.contains("[0, 1]"), true);
+    shows(&rt, rt.alloc(), &model, "[(0, 'a'), (1, 'b')]");
+    shows(&rt, rt.alloc(), &model, "[0, 1]");
 }

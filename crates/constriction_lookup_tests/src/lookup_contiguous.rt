@@ -2,7 +2,7 @@
 
 ghost use Rattle.std.specs.Prelude.{◌^◌, ◌<◌, ◌≤◌};
 
-use crate::checks::{same, same_at};
+use crate::checks::{same, same_at, shows};
 use crate::model_checks::{answers_as_a_scan, is_accepted, small, tile, tile_and_are_answered};
 use constriction::stream::model::{
     ContiguousLookupDecoderModel, DecoderModel, IterableEntropyModel, ModelError, Probe,
@@ -14,7 +14,6 @@ use constriction_fixtures::contiguous::{
 use constriction_fixtures::tables::{STEPS, Walk, left, step};
 use std::alloc::Global;
 use std::process::Abort;
-use std::test::Fail;
 
 /// A lookup model whose words are `u8`.
 pub type Lookup<const PRECISION: usize> = ContiguousLookupDecoderModel<
@@ -141,10 +140,13 @@ fn the_views_and_clones_of_a_lookup_model_answer_alike(rt: HostRuntime) {
 #[test]
 fn a_lookup_model_is_made_of_a_searching_one(rt: HostRuntime) {
     let searching = small(&rt, rt.alloc());
-    let made = searching.to_lookup_decoder_model(rt.alloc());
-    answers_as_a_scan::<_, 6>(&rt, &made.expect(&rt, "a model"), &WEIGHTS);
-    let made = searching.as_view().to_lookup_decoder_model(rt.alloc());
-    answers_as_a_scan::<_, 6>(&rt, &made.expect(&rt, "a model"), &WEIGHTS);
+    is_small_lookup(&rt, searching.to_lookup_decoder_model(rt.alloc()));
+    is_small_lookup(&rt, searching.as_view().to_lookup_decoder_model(rt.alloc()));
+}
+
+/// Stops the test where no model was made, or it has other rows than the worked table.
+fn is_small_lookup(rt: &impl Abort, made: Result<Lookup<6>, ModelError>) {
+    answers_as_a_scan::<_, 6>(rt, &made.expect(rt, "a model"), &WEIGHTS);
 }
 
 /// Stops the test where the model has not the four rows of the worked table.
@@ -220,11 +222,8 @@ fn symbol_by_scan(weights: &[u8], quantile: u8) -> Option<usize> {
 #[test]
 fn a_lookup_model_shows_its_rows_and_its_table(rt: HostRuntime) {
     let model = made::<1>(&rt, rt.alloc(), &[1, 1], false);
-    let Ok(text) = format!(in rt.alloc(); "{model:?}") else {
-        panic!(rt; "memory was refused");
-    };
-    same(&rt, text.contains("[0, 1, 2]"), true);
-    same(&rt, text.contains("[0, 1]"), true);
+    shows(&rt, rt.alloc(), &model, "[0, 1, 2]");
+    shows(&rt, rt.alloc(), &model, "[0, 1]");
 }
 
 /// The lookup model of the weights 60 and 4 over indices.
@@ -236,12 +235,10 @@ fn lookup_of_indices(
 
 /// One word for each of 64 quantiles.
 #[test]
-fn a_lookup_model_of_64_quantiles_has_a_table_of_64_words(rt: HostRuntime) -> Result<(), Fail> {
-    let model = lookup_of_indices(rt.alloc())?;
+fn a_lookup_model_of_64_quantiles_has_a_table_of_64_words(rt: HostRuntime) {
     let mut table = [0usize; 64];
     table[60..].fill(1);
-    let text = format!(in rt.alloc(); "{model:?}")?;
-    let expected = format!(in rt.alloc(); "{table:?}")?;
-    same(&rt, text.contains(expected.as_str()), true);
-    Ok(())
+    let words = format!(in rt.alloc(); "{table:?}").expect(&rt, "memory");
+    let model = lookup_of_indices(rt.alloc()).expect(&rt, "accepted");
+    shows(&rt, rt.alloc(), &model, words.as_str());
 }

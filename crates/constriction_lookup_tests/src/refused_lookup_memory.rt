@@ -18,6 +18,8 @@ type Contiguous = lookup_contiguous::Lookup<6>;
 
 type Letters = lookup_any_symbols::Lookup<char, 6>;
 
+type Three = lookup_any_symbols::Lookup<char, 3>;
+
 /// Stops the test where the answer is neither a model of the rows nor a refusal of memory.
 fn is_contiguous(rt: &impl Abort, made: &Result<Contiguous, ModelError>) {
     match made {
@@ -87,6 +89,11 @@ fn a_refusal_of_memory_leaves_the_searching_model(rt: HostRuntime) {
     };
     is_contiguous(&rt, &model.to_lookup_decoder_model(rt.alloc()));
     answers_as_a_scan::<_, 6>(&rt, &model, &WEIGHTS);
+    end_of_requests(&rt);
+}
+
+#[test]
+fn a_refusal_of_memory_leaves_the_searching_model_of_letters(rt: HostRuntime) {
     let Ok(model) = decoder::<6>(rt.alloc(), &SYMBOLS, &WEIGHTS, false) else {
         return;
     };
@@ -102,11 +109,15 @@ fn a_refusal_of_memory_leaves_the_searching_model(rt: HostRuntime) {
 #[test]
 fn a_refusal_of_memory_leaves_a_model_of_the_caller(rt: HostRuntime) {
     let (by_function, by_method) = looked_up::<_, 3>(rt.alloc(), &three('p', 'q', 'r'));
-    for made in [by_function, by_method] {
-        match made {
-            Ok(model) => has_rows(&rt, &model, [('p', 0, 2), ('q', 2, 5), ('r', 7, 1)]),
-            Err(error) => same(&rt, error, ModelError::OutOfMemory),
-        }
-    }
+    is_of_three(&rt, &by_function);
+    is_of_three(&rt, &by_method);
     end_of_requests(&rt);
+}
+
+/// The same of the caller's three letters.
+fn is_of_three(rt: &impl Abort, made: &Result<Three, ModelError>) {
+    match made {
+        Ok(model) => has_rows(rt, model),
+        Err(error) => same(rt, error, &ModelError::OutOfMemory),
+    }
 }

@@ -13,7 +13,6 @@ use constriction_words::{IndexWord, NonZeroBitArray, WholeNumber};
 use std::alloc::Global;
 use std::iter;
 use std::process::Abort;
-use std::test::Fail;
 
 /// A lookup model over words, of which only the word and the precision are named.
 type Lookup<Word, const PRECISION: usize> = ContiguousLookupDecoderModel<
@@ -79,17 +78,18 @@ fn small_searched(model: &Small, quantile: u16) -> (Option<usize>, usize, usize)
 }
 
 #[test]
-fn five_rows_that_share_a_slot_are_searched(rt: HostRuntime) -> Result<(), Fail> {
-    let model: Small = lookup_of::<u16, 12>(rt.alloc(), &[1, 1, 1, 1, 4092], false)?;
+fn five_rows_that_share_a_slot_are_searched(rt: HostRuntime) {
+    let model: Small = lookup_of::<u16, 12>(rt.alloc(), &[1, 1, 1, 1, 4092], false).expect(
+        &rt, "accepted",
+    );
     for (quantile, symbol) in [(3u16, 3usize), (4, 4), (5, 4), (15, 4)] {
         assert!(rt; quantile < 4096);
         let (found, size, asked) = small_searched(&model, quantile);
-        same_at(&rt, quantile, (found, size), (Some(symbol), 5));
-        same_at(&rt, quantile, asked <= 3, true);
+        let wanted = (Some(symbol), 5, true);
+        same_at(&rt, quantile, (found, size, asked <= 3), wanted);
     }
     same(&rt, small_searched(&model, 16), (Some(4), 1, 0));
     same(&rt, small_row(&model, 16), Some((4, 4, 4092)));
-    Ok(())
 }
 
 /// The row of a quantile of the model that searches all rows.
@@ -102,21 +102,15 @@ fn row_of_all(model: &Model<u16, 12>, quantile: u16) -> Option<(usize, u16, u16)
 
 /// Stops the test where the lookup model of the weights and the searching one have another row for one of
 /// the 4,096 quantiles, or a search of its slot finds another one or asks more than `most` questions.
-fn answer_alike(
-    rt: &impl Abort,
-    alloc: Global,
-    weights: &[u16],
-    most: usize,
-) -> Result<(), ModelError> {
-    let lookup: Small = lookup_of::<u16, 12>(alloc, weights, false)?;
-    let searching = model_of::<u16, 12>(alloc, weights, false)?;
+fn answer_alike(rt: &impl Abort, alloc: Global, weights: &[u16], most: usize) {
+    let lookup: Small = lookup_of::<u16, 12>(alloc, weights, false).expect(rt, "accepted");
+    let searching = model_of::<u16, 12>(alloc, weights, false).expect(rt, "accepted");
     for quantile in 0..4096u16 {
         let row = small_row(&lookup, quantile);
         same_at(rt, quantile, row, row_of_all(&searching, quantile));
         let (found, _, asked) = small_searched(&lookup, quantile);
         same_at(rt, quantile, (found, asked <= most), (symbol_in(row), true));
     }
-    Ok(())
 }
 
 /// The symbol of a row.
@@ -127,9 +121,7 @@ fn symbol_in(row: Option<(usize, u16, u16)>) -> Option<usize> {
 
 /// A slot has 16 quantiles, so that at most 16 rows meet one.
 #[test]
-fn each_quantile_of_12_bits_has_the_row_that_a_search_of_all_finds(
-    rt: HostRuntime,
-) -> Result<(), Fail> {
+fn each_quantile_of_12_bits_has_the_row_that_a_search_of_all_finds(rt: HostRuntime) {
     for (weights, most) in [
         ([4096u16].as_slice(), 0),
         (&[2048, 2048], 0),
@@ -143,9 +135,8 @@ fn each_quantile_of_12_bits_has_the_row_that_a_search_of_all_finds(
         (&[3, 1000, 1, 17, 2060, 15, 1000], 2),
         (&[1; 4096], 4),
     ] {
-        answer_alike(&rt, rt.alloc(), weights, most)?;
+        answer_alike(&rt, rt.alloc(), weights, most);
     }
-    Ok(())
 }
 
 type Full = Lookup<u16, 16>;
@@ -161,20 +152,24 @@ fn last_of_16_bits(alloc: Global, weights: &[u16]) -> Result<(usize, u16, u16), 
 }
 
 #[test]
-fn each_quantile_of_16_bits_may_have_a_row_of_its_own(rt: HostRuntime) -> Result<(), Fail> {
-    let ones = vec![in rt.alloc(); 1u16; 65_536]?;
-    let model = lookup_of::<u16, 16>(rt.alloc(), &ones, false)?;
+fn each_quantile_of_16_bits_may_have_a_row_of_its_own(rt: HostRuntime) {
+    let ones = vec![in rt.alloc(); 1u16; 65_536].expect(&rt, "memory");
+    let model = lookup_of::<u16, 16>(rt.alloc(), &ones, false).expect(&rt, "accepted");
     for quantile in 0..=u16::MAX {
         let row = full_row(&model, quantile);
         same_at(&rt, quantile, row, Some((quantile as usize, quantile, 1)));
     }
-    let last = last_of_16_bits(rt.alloc(), &[65_535, 1]);
-    same(&rt, last, Ok((1, 65_535, 1)));
-    for weights in [[65_535u16, 2].as_slice(), &[32_768; 4]] {
-        let refused = last_of_16_bits(rt.alloc(), weights);
-        same(&rt, refused, Err(ModelError::InvalidTable));
+}
+
+#[test]
+fn the_last_quantile_of_16_bits_has_the_last_row(rt: HostRuntime) {
+    for (weights, expected) in [
+        ([65_535u16, 1].as_slice(), Ok((1, 65_535, 1))),
+        (&[65_535, 2], Err(ModelError::InvalidTable)),
+        (&[32_768; 4], Err(ModelError::InvalidTable)),
+    ] {
+        same(&rt, last_of_16_bits(rt.alloc(), weights), expected);
     }
-    Ok(())
 }
 
 /// Stops the test where a quantile of the lookup model has not this row, or a search among the rows that
@@ -194,23 +189,25 @@ fn has_row<const PRECISION: usize>(
 }
 
 #[test]
-fn two_rows_of_many_quantiles_may_have_slots_of_their_own(rt: HostRuntime) -> Result<(), Fail> {
+fn two_rows_of_many_quantiles_may_have_slots_of_their_own(rt: HostRuntime) {
     let half = 1usize << 39;
-    let model = lookup_of::<usize, 40>(rt.alloc(), &[1 << 39, 1 << 39], false)?;
+    let model = lookup_of::<usize, 40>(rt.alloc(), &[1 << 39, 1 << 39], false).expect(
+        &rt, "accepted",
+    );
     has_row::<40>(&rt, &model, (1 << 39) - 1, (0, 0, half), 0);
     has_row::<40>(&rt, &model, 1 << 39, (1, half, half), 0);
-    Ok(())
 }
 
 #[test]
-fn a_slot_of_63_bits_is_searched_where_two_rows_meet_it(rt: HostRuntime) -> Result<(), Fail> {
+fn a_slot_of_63_bits_is_searched_where_two_rows_meet_it(rt: HostRuntime) {
     let most = (1usize << 63) - 1;
-    let model = lookup_of::<usize, 63>(rt.alloc(), &[1, (1 << 63) - 1], false)?;
+    let model = lookup_of::<usize, 63>(rt.alloc(), &[1, (1 << 63) - 1], false).expect(
+        &rt, "accepted",
+    );
     has_row::<63>(&rt, &model, 0, (0, 0, 1), 1);
     has_row::<63>(&rt, &model, 1, (1, 1, most), 1);
     has_row::<63>(&rt, &model, 1 << 62, (1, 1, most), 0);
     has_row::<63>(&rt, &model, (1 << 63) - 1, (1, 1, most), 0);
-    Ok(())
 }
 
 /// The model of 4,194,303 rows of weight 1 in the first slot, and one row of all that is left.
@@ -234,12 +231,11 @@ fn is_found(model: &Lookup<usize, 40>, quantile: usize) -> bool
 /// counts all that it compares no clause says. If it went over the rows, these 4,194,303 look-ups would not end within
 /// a minute.
 #[test]
-fn a_slot_that_4_194_304_rows_meet_is_searched(rt: HostRuntime) -> Result<(), Fail> {
-    let model = many_rows_in_a_slot(rt.alloc())?;
+fn a_slot_that_4_194_304_rows_meet_is_searched(rt: HostRuntime) {
+    let model = many_rows_in_a_slot(rt.alloc()).expect(&rt, "accepted");
     for quantile in 0..4_194_303usize {
         same_at(&rt, quantile, is_found(&model, quantile), true);
     }
-    Ok(())
 }
 
 /// Why weights are refused, of which the second one is more than there are quantiles.

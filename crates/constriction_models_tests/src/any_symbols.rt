@@ -83,8 +83,8 @@ fn letters_that_are_not_accepted(rt: HostRuntime) {
 #[test]
 fn both_ends_give_each_letter_once(rt: HostRuntime) {
     let model = decoder::<6>(rt.alloc(), &SYMBOLS, &WEIGHTS, false).expect(&rt, "accepted");
-    for steps in STEPS {
-        walks(&rt, model.symbol_table(), &steps);
+    for steps in &STEPS {
+        walks(&rt, model.symbol_table(), steps);
     }
 }
 

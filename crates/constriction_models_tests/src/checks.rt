@@ -8,7 +8,7 @@ use std::process::Abort;
 
 /// Stops the test where the two differ, and shows both.
 pub fn same<T: PartialEq + Debug + Drop>(rt: &impl Abort, found: T, expected: T) {
-    assert_eq!(rt; found, expected);
+    same_at(rt, "found, beside expected", found, expected);
 }
 
 /// The same of one case among several, whose name is shown too.
@@ -42,12 +42,10 @@ pub fn prints<T: Display>(rt: &impl Abort, alloc: Global, value: &T, text: &str)
     same(rt, printed.as_str(), text);
 }
 
-/// Stops the test where the value is not shown to a programmer as this text.
-pub fn shows<T: Debug>(rt: &impl Abort, alloc: Global, value: &T, text: &str) {
-    let Ok(shown) = format!(in alloc; "{value:?}") else {
-        panic!(rt; "memory was refused");
-    };
-    same(rt, shown.as_str(), text);
+/// Stops the test where the text that shows the value to a programmer has no such part.
+pub fn shows<T: Debug>(rt: &impl Abort, alloc: Global, value: &T, part: &str) {
+    let text = format!(in alloc; "{value:?}").expect(rt, "memory");
+    same_at(rt, part, text.contains(part), true);
 }
 
 /// More requests for memory than any test makes.

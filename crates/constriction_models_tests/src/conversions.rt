@@ -4,7 +4,6 @@ ghost use Rattle.std.specs.Prelude.{◌^◌, ◌<◌, ◌≤◌};
 
 use crate::any_symbols::encodes;
 use crate::checks::same_at;
-use crate::contiguous::row_of;
 use crate::model_checks::{decodes, tile};
 use constriction::stream::model::{
     DecoderModel, EncoderModel, FromIterableEntropyModel, IterableEntropyModel, ModelError,
@@ -12,11 +11,12 @@ use constriction::stream::model::{
     to_generic_encoder_model,
 };
 use constriction_fixtures::any_symbols;
-use constriction_fixtures::any_symbols::{ROWS, SYMBOLS, WEIGHTS, plain_entry};
-use constriction_fixtures::contiguous::{Table, entry_of, table};
+use constriction_fixtures::any_symbols::{ROWS, SYMBOLS, WEIGHTS};
+use constriction_fixtures::contiguous::table;
 use constriction_fixtures::conversions::Decoder;
+use constriction_fixtures::tables::{entry, look_up};
 use constriction_words::NonZeroBitArray;
-use std::alloc::{AllocError, Global};
+use std::alloc::Global;
 use std::hash::Hash;
 use std::process::Abort;
 
@@ -56,32 +56,35 @@ where
     )
 }
 
-/// The row of a quantile.
-fn row(model: &Decoder<usize, 6>, quantile: u8) -> Option<(usize, u8, u8)>
-    requires { quantile < 64 }
+/// Stops the test where what was made answers otherwise than this model does.
+fn answer_as<M>(rt: &impl Abort, model: &M, made: Made<usize, 6>)
+where
+    M: DecoderModel<6, Symbol = usize, Probability = u8> + EncoderModel<6>,
 {
-    any_symbols::plain(model.quantile_function(quantile)).ok()
+    looks_up_as(rt, model, &made.0.expect(rt, "a model"));
+    has_entries_of(rt, model, &made.1.expect(rt, "a model"));
 }
 
-/// The left cumulative and the weight of a symbol.
-fn entry(model: &Encoder<usize, 6>, symbol: usize) -> Option<(u8, u8)> {
-    plain_entry(model.left_cumulative_and_probability(&symbol))
-}
-
-/// Stops the test where what was made answers otherwise than the contiguous model does.
-fn answer_as_contiguous(rt: &impl Abort, model: &Table<6>, made: Made<usize, 6>) {
-    let decoder = made.0.expect(rt, "a model");
+/// Stops the test where the decoder's model has another row for a quantile, or its rows do not tile.
+fn looks_up_as<M>(rt: &impl Abort, model: &M, decoder: &Decoder<usize, 6>)
+where
+    M: DecoderModel<6, Symbol = usize, Probability = u8>,
+{
     for quantile in 0..64u8 {
-        same_at(
-            rt,
-            quantile,
-            row(&decoder, quantile),
-            row_of(model, quantile),
-        );
+        let found = look_up::<_, 6>(decoder, quantile);
+        same_at(rt, quantile, found, look_up::<M, 6>(model, quantile));
     }
-    let encoder = made.1.expect(rt, "a model");
+    tile::<_, 6>(rt, decoder);
+}
+
+/// Stops the test where the encoder's model has another entry for a symbol.
+fn has_entries_of<M>(rt: &impl Abort, model: &M, encoder: &Encoder<usize, 6>)
+where
+    M: EncoderModel<6, Symbol = usize, Probability = u8>,
+{
     for symbol in 0..=64 {
-        same_at(rt, symbol, entry(&encoder, symbol), entry_of(model, symbol));
+        let found = entry::<_, 6>(encoder, symbol);
+        same_at(rt, symbol, found, entry::<M, 6>(model, symbol));
     }
 }
 
@@ -89,50 +92,11 @@ fn answer_as_contiguous(rt: &impl Abort, model: &Table<6>, made: Made<usize, 6>)
 fn models_that_are_made_from_a_contiguous_one_answer_as_it_does(rt: HostRuntime) {
     let model = table::<6>(rt.alloc(), &WEIGHTS, false).expect(&rt, "accepted");
     let (by_function, by_method) = made::<_, 6>(rt.alloc(), &model);
-    answer_as_contiguous(&rt, &model, by_function);
-    answer_as_contiguous(&rt, &model, by_method);
+    answer_as(&rt, &model, by_function);
+    answer_as(&rt, &model, by_method);
     let (by_function, by_method) = made::<_, 6>(rt.alloc(), &model.as_view());
-    answer_as_contiguous(&rt, &model, by_function);
-    answer_as_contiguous(&rt, &model, by_method);
-}
-
-/// The row of a quantile of a uniform model, with its weight as a plain word.
-fn uniform_row(model: UniformModel<u8, 6>, quantile: u8) -> Option<(usize, u8, u8)>
-    requires { quantile < 2 ^ 6 }
-{
-    match model.quantile_function(quantile) {
-        Ok((symbol, left, weight)) => Some((symbol, left, weight.get())),
-        Err(_) => None,
-    }
-}
-
-/// The entry of a symbol of a uniform model, with its weight as a plain word.
-fn uniform_entry(model: UniformModel<u8, 6>, symbol: usize) -> Option<(u8, u8)> {
-    let (left, weight) = model.left_cumulative_and_probability(&symbol)?;
-    Some((left, weight.get()))
-}
-
-/// Stops the test where what was made answers otherwise than the uniform model does.
-fn answer_as_uniform(rt: &impl Abort, model: UniformModel<u8, 6>, made: Made<usize, 6>) {
-    let decoder = made.0.expect(rt, "a model");
-    for quantile in 0..64u8 {
-        same_at(
-            rt,
-            quantile,
-            row(&decoder, quantile),
-            uniform_row(model, quantile),
-        );
-    }
-    tile::<_, 6>(rt, &decoder);
-    let encoder = made.1.expect(rt, "a model");
-    for symbol in 0..=64 {
-        same_at(
-            rt,
-            symbol,
-            entry(&encoder, symbol),
-            uniform_entry(model, symbol),
-        );
-    }
+    answer_as(&rt, &model, by_function);
+    answer_as(&rt, &model, by_method);
 }
 
 #[test]
@@ -140,8 +104,8 @@ fn models_that_are_made_from_a_uniform_one_answer_as_it_does(rt: HostRuntime) {
     for range in [2, 5, 64] {
         let model = UniformModel::<u8, 6>::new(range);
         let (by_function, by_method) = made::<_, 6>(rt.alloc(), model);
-        answer_as_uniform(&rt, model, by_function);
-        answer_as_uniform(&rt, model, by_method);
+        answer_as(&rt, &model, by_function);
+        answer_as(&rt, &model, by_method);
     }
 }
 
@@ -160,26 +124,27 @@ fn models_that_are_made_from_a_decoder_answer_as_it_does(rt: HostRuntime) {
     have_rows(&rt, by_method);
 }
 
-/// The letters and the weights of a model, as its table gives them.
+/// The letters and the weights of a model, as its table gives them. It stops the test where memory is refused.
 fn columns(
+    rt: &impl Abort,
     alloc: Global,
     model: &any_symbols::Decoder<6>,
-) -> Result<(Vec<char>, Vec<u8>), AllocError> {
+) -> (Vec<char>, Vec<u8>) {
     let mut symbols = Vec::new(alloc);
     let mut weights = Vec::new(alloc);
     for item in model.symbol_table() {
-        let (symbol, _, weight) = item?;
-        symbols.push(symbol)?;
-        weights.push(weight.get())?;
+        let (symbol, _, weight) = item.expect(rt, "a row");
+        symbols.push(symbol).expect(rt, "memory");
+        weights.push(weight.get()).expect(rt, "memory");
     }
-    Ok((symbols, weights))
+    (symbols, weights)
 }
 
 #[test]
 fn the_columns_of_a_table_are_accepted_again(rt: HostRuntime) {
     let model = any_symbols::decoder::<6>(rt.alloc(), &SYMBOLS, &WEIGHTS, false);
     let model = model.expect(&rt, "accepted");
-    let (symbols, weights) = columns(rt.alloc(), &model).expect(&rt, "columns");
+    let (symbols, weights) = columns(&rt, rt.alloc(), &model);
     let decoder = any_symbols::decoder::<6>(rt.alloc(), &symbols, &weights, false);
     let encoder = any_symbols::encoder::<6>(rt.alloc(), &symbols, &weights, false);
     have_rows(&rt, (decoder, encoder));

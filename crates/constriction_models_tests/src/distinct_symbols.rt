@@ -13,9 +13,8 @@ use constriction::stream::model::{
 };
 use constriction_fixtures::any_symbols::{Decoder, ROWS, Row, SYMBOLS, WEIGHTS, plain};
 use constriction_fixtures::contiguous::table;
-use std::alloc::{AllocError, Global};
+use std::alloc::Global;
 use std::process::Abort;
-use std::test::Fail;
 
 /// A symbol that the compiler compares, orders and hashes.
 #[derive(Clone, Copy, Debug, PartialEq, Eq, PartialOrd, Ord, Hash)]
@@ -196,52 +195,54 @@ fn an_enum_is_hashed_and_ordered(rt: HostRuntime) {
     );
 }
 
-/// Texts, each in memory of its own.
-fn owned(alloc: Global, texts: &[&str]) -> Result<Vec<String>, AllocError> {
+/// Texts, each in memory of its own. It stops the test where memory is refused.
+fn owned(rt: &impl Abort, alloc: Global, texts: &[&str]) -> Vec<String> {
     let mut made = Vec::new(alloc);
     for text in texts {
-        made.push(String::from_str(alloc, text)?)?;
+        let text = String::from_str(alloc, text).expect(rt, "memory");
+        made.push(text).expect(rt, "memory");
     }
-    Ok(made)
+    made
 }
 
 /// Stops the test where the quantile has not this text.
 fn has_text(rt: &impl Abort, model: &Texts, quantile: u8, text: &str)
     requires { quantile < 64 }
 {
-    let Ok((found, _left, _weight)) = model.quantile_function(quantile) else {
-        panic!(rt; "memory was refused");
-    };
+    let (found, _left, _weight) = model.quantile_function(quantile).expect(rt, "memory");
     same_at(rt, quantile, found.as_str(), text);
 }
 
-#[test]
-fn texts_are_hashed_and_ordered(rt: HostRuntime) -> Result<(), Fail> {
-    let alloc = rt.alloc();
-    let hashed = Texts::from_hashable_symbols_and_nonzero_fixed_point_probabilities(
+/// The model of texts, by one hash of each.
+fn texts_by_hash(rt: &impl Abort, alloc: Global, texts: &[&str]) -> Result<Texts, ModelError> {
+    Texts::from_hashable_symbols_and_nonzero_fixed_point_probabilities(
         alloc,
-        owned(alloc, &["b", "", "ab"])?,
+        owned(rt, alloc, texts),
         [3, 18, 43],
         false,
-    )?;
+    )
+}
+
+/// The model of texts in order.
+fn texts_by_order(rt: &impl Abort, alloc: Global, texts: &[&str]) -> Result<Texts, ModelError> {
+    Texts::from_sorted_symbols_and_nonzero_fixed_point_probabilities(
+        alloc,
+        owned(rt, alloc, texts),
+        [3, 18, 43],
+        false,
+    )
+}
+
+#[test]
+fn texts_are_hashed_and_ordered(rt: HostRuntime) {
+    let hashed = texts_by_hash(&rt, rt.alloc(), &["b", "", "ab"]).expect(&rt, "a model");
     has_text(&rt, &hashed, 2, "b");
     has_text(&rt, &hashed, 21, "ab");
-    let repeat = Texts::from_hashable_symbols_and_nonzero_fixed_point_probabilities(
-        alloc,
-        owned(alloc, &["b", "", "b"])?,
-        [3, 18, 43],
-        false,
-    );
+    let repeat = texts_by_hash(&rt, rt.alloc(), &["b", "", "b"]);
     same(&rt, repeat.err(), Some(ModelError::InvalidTable));
-    let sorted = Texts::from_sorted_symbols_and_nonzero_fixed_point_probabilities(
-        alloc,
-        owned(alloc, &["", "ab", "b"])?,
-        [3, 18, 43],
-        false,
-    )?;
+    let sorted = texts_by_order(&rt, rt.alloc(), &["", "ab", "b"]).expect(&rt, "a model");
     has_text(&rt, &sorted, 3, "ab");
     has_text(&rt, &sorted, 63, "b");
-    Ok(())
 }
 
 /// The model of four numbers of which the caller knows that they differ.
@@ -290,9 +291,11 @@ fn again(alloc: Global, model: &Decoder<6>) -> Result<Decoder<6>, ModelError> {
     to_generic_decoder_model_of_distinct::<_, 6>(alloc, model)
 }
 
-#[test]
-fn models_whose_symbols_differ_are_converted_without_comparing(rt: HostRuntime) {
-    let (searching, looks_up) = of_contiguous(rt.alloc()).expect(&rt, "models");
+/// Stops the test where the model has not the rows of the contiguous one.
+fn has_numbers<M>(rt: &impl Abort, model: &M)
+where
+    M: DecoderModel<6, Symbol = usize, Probability = u8>,
+{
     for (quantile, row) in [
         (2, (0, 0, 3)),
         (20, (1, 3, 18)),
@@ -300,9 +303,15 @@ fn models_whose_symbols_differ_are_converted_without_comparing(rt: HostRuntime) 
         (63, (3, 22, 42)),
     ] {
         assert!(rt; quantile < 64);
-        same_at(&rt, quantile, number_of(&searching, quantile), Some(row));
-        same_at(&rt, quantile, number_of(&looks_up, quantile), Some(row));
+        same_at(rt, quantile, number_of(model, quantile), Some(row));
     }
+}
+
+#[test]
+fn models_whose_symbols_differ_are_converted_without_comparing(rt: HostRuntime) {
+    let (searching, looks_up) = of_contiguous(rt.alloc()).expect(&rt, "models");
+    has_numbers(&rt, &searching);
+    has_numbers(&rt, &looks_up);
     let model = by_hash(rt.alloc(), &SYMBOLS, &WEIGHTS, false).expect(&rt, "a model");
     let made = again(rt.alloc(), &model).expect(&rt, "a model");
     decodes(&rt, &made, &ROWS);

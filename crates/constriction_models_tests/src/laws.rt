@@ -21,7 +21,6 @@ use constriction::stream::model::{
 use constriction_fixtures::contiguous::Table;
 use constriction_words::{BitArray, WholeNumber};
 use std::alloc::{AllocError, Global};
-use std::test::Fail;
 
 /// Decodes a quantile to a symbol and an offset, and encodes these: it comes back.
 fn back(model: &Table<6>, quantile: u8) -> u8
@@ -206,17 +205,16 @@ fn read_letters_twice(
 }
 
 #[test]
-fn a_table_of_the_caller_is_read(rt: HostRuntime) -> Result<(), Fail> {
+fn a_table_of_the_caller_is_read(rt: HostRuntime) {
     same(&rt, count_letters(), 3);
     let one = 1u8.into_nonzero_unchecked();
     let two = 2u8.into_nonzero_unchecked();
-    let rows = read_letters(rt.alloc())?;
+    let rows = read_letters(rt.alloc()).expect(&rt, "memory");
     holds(
         &rt,
         &rows,
         &[(b'a', 0, one), (b'b', 1, two), (b'c', 3, one)],
     );
-    let (rows, others) = read_letters_twice(rt.alloc())?;
+    let (rows, others) = read_letters_twice(rt.alloc()).expect(&rt, "memory");
     holds(&rt, &rows, &others);
-    Ok(())
 }

@@ -39,7 +39,8 @@ fn is_encoder<const PRECISION: usize>(
 ) {
     same(rt, made.0.err(), Some(ModelError::InvalidTable));
     let encoder = made.1.expect(rt, "a model");
-    for (symbol, expected) in entries.iter().copied() {
+    for each in entries {
+        let (symbol, expected) = *each;
         same_at(rt, symbol, entry(&encoder, symbol), expected);
     }
     same(rt, encoder.support_size(), support_size);
@@ -50,21 +51,36 @@ fn two_rows_of_one_letter_make_an_encoder_and_no_decoder(rt: HostRuntime) {
     let model = three('p', 'q', 'p');
     let refused = decoder_of(rt.alloc(), &model).err();
     same(&rt, refused, Some(ModelError::InvalidTable));
-    let entries = [('p', Some((7, 1))), ('q', Some((2, 5))), ('r', None)];
-    for (symbol, expected) in entries {
-        let own = plain_entry(model.left_cumulative_and_probability(&symbol));
-        same_at(&rt, symbol, own, expected);
-    }
+    has_own_entries(&rt, &model);
     let (by_function, by_method) = made::<_, 3>(rt.alloc(), &model);
-    is_encoder(&rt, by_function, &entries, 2);
-    is_encoder(&rt, by_method, &entries, 2);
+    is_encoder(&rt, by_function, &ENTRIES, 2);
+    is_encoder(&rt, by_method, &ENTRIES, 2);
 }
 
-/// Stops the test where the model has not these rows.
-pub fn has_rows(rt: &impl Abort, model: &Decoder<char, 3>, rows: [Row; 3]) {
+/// The entries of a model of `p`, `q` and `p`.
+const ENTRIES: [(char, Option<(u8, u8)>); 3] = [
+    ('p', Some((7, 1))),
+    ('q', Some((2, 5))),
+    ('r', None),
+];
+
+/// Stops the test where the caller's model has other ones.
+fn has_own_entries(rt: &impl Abort, model: &Triple) {
+    for each in &ENTRIES {
+        let (symbol, expected) = *each;
+        let own = plain_entry(model.left_cumulative_and_probability(&symbol));
+        same_at(rt, symbol, own, expected);
+    }
+}
+
+/// The rows of the caller's model of `p`, `q` and `r`.
+const THREE: [Row; 3] = [('p', 0, 2), ('q', 2, 5), ('r', 7, 1)];
+
+/// Stops the test where the model has not the rows of the caller's.
+pub fn has_rows(rt: &impl Abort, model: &Decoder<char, 3>) {
     let mut table = model.symbol_table();
-    for row in rows {
-        same(rt, table.next().map(plain), Some(Ok(row)));
+    for row in &THREE {
+        same(rt, table.next().map(plain), Some(Ok(*row)));
     }
     same(rt, table.next().is_none(), true);
 }
@@ -72,7 +88,7 @@ pub fn has_rows(rt: &impl Abort, model: &Decoder<char, 3>, rows: [Row; 3]) {
 #[test]
 fn a_decoder_has_the_rows_of_three_letters_of_the_caller(rt: HostRuntime) {
     let model = decoder_of(rt.alloc(), &three('p', 'q', 'r')).expect(&rt, "a model");
-    has_rows(&rt, &model, [('p', 0, 2), ('q', 2, 5), ('r', 7, 1)]);
+    has_rows(&rt, &model);
 }
 
 /// A model of one letter, which has two rows of the same weight. It is copied into its table.

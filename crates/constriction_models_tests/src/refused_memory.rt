@@ -3,7 +3,7 @@
 
 use crate::any_symbols::encodes;
 use crate::checks::{end_of_requests, same};
-use crate::conversions::made;
+use crate::conversions::{Made, made};
 use crate::model_checks::{answers_as_a_scan, decodes};
 use crate::own_model::has_rows;
 use constriction::stream::model::ModelError;
@@ -126,17 +126,19 @@ fn a_refusal_of_memory_leaves_the_model_that_others_are_made_from(rt: HostRuntim
 #[test]
 fn a_refusal_of_memory_leaves_a_model_of_the_caller(rt: HostRuntime) {
     let (by_function, by_method) = made::<_, 3>(rt.alloc(), &three('p', 'q', 'r'));
-    for made in [by_function.0, by_method.0] {
-        match made {
-            Ok(model) => has_rows(&rt, &model, [('p', 0, 2), ('q', 2, 5), ('r', 7, 1)]),
-            Err(error) => same(&rt, error, ModelError::OutOfMemory),
-        }
-    }
-    for made in [by_function.1, by_method.1] {
-        match made {
-            Ok(model) => same(&rt, model.support_size(), 3),
-            Err(error) => same(&rt, error, ModelError::OutOfMemory),
-        }
-    }
+    are_three(&rt, &by_function);
+    are_three(&rt, &by_method);
     end_of_requests(&rt);
+}
+
+/// Stops the test where an answer is neither a model of the caller's three letters nor a refusal of memory.
+fn are_three(rt: &impl Abort, made: &Made<char, 3>) {
+    match &made.0 {
+        Ok(model) => has_rows(rt, model),
+        Err(error) => same(rt, error, &ModelError::OutOfMemory),
+    }
+    match &made.1 {
+        Ok(model) => same(rt, model.support_size(), 3),
+        Err(error) => same(rt, error, &ModelError::OutOfMemory),
+    }
 }

@@ -96,6 +96,15 @@ fn row<M: DecoderModel<6, Symbol = Tag, Probability = u8>>(
     Ok((tag.0, left, weight))
 }
 
+/// Stops the test where the model has not the tags 12 and 3 as they were given.
+fn has_tags<M: DecoderModel<6, Symbol = Tag, Probability = u8>>(rt: &impl Abort, model: &M) {
+    same(
+        rt,
+        (row(model, 31), row(model, 32)),
+        (Ok((12, 0, 32)), Ok((3, 32, 32))),
+    );
+}
+
 /// The left cumulative and the weight of a tag.
 fn entry(model: &TagEncoder, tag: u32) -> Option<(u8, u8)> {
     plain_entry(model.left_cumulative_and_probability(&Tag(tag)))
@@ -106,11 +115,7 @@ fn tags_are_told_by_their_own_equality(rt: HostRuntime) {
     let (decoder, encoder) = tagged(rt.alloc(), [12, 3]);
     let decoder = decoder.expect(&rt, "accepted");
     let encoder = encoder.expect(&rt, "accepted");
-    same(
-        &rt,
-        (row(&decoder, 31), row(&decoder, 32)),
-        (Ok((12, 0, 32)), Ok((3, 32, 32))),
-    );
+    has_tags(&rt, &decoder);
     for (tag, expected) in [(2, Some((0, 32))), (13, Some((32, 32))), (4, None)] {
         same_at(&rt, tag, entry(&encoder, tag), expected);
     }
@@ -121,11 +126,9 @@ fn tags_are_told_by_their_own_equality(rt: HostRuntime) {
 
 #[test]
 fn a_lookup_model_tells_tags_by_their_own_equality(rt: HostRuntime) {
-    let model = tagged_lookup(rt.alloc(), [12, 3]).expect(&rt, "accepted");
-    same(
+    has_tags(
         &rt,
-        (row(&model, 31), row(&model, 32)),
-        (Ok((12, 0, 32)), Ok((3, 32, 32))),
+        &tagged_lookup(rt.alloc(), [12, 3]).expect(&rt, "accepted"),
     );
     let refused = tagged_lookup(rt.alloc(), [12, 2]).err();
     same(&rt, refused, Some(ModelError::InvalidTable));
@@ -168,9 +171,10 @@ const STEPS: [[Step; 5]; 2] = [
 ];
 
 /// Stops the test where the walk does not go in these steps.
-fn walks(rt: &impl Abort, table: NonContiguousSymbolTable<'_, Letter, u8, 6>, steps: [Step; 5]) {
+fn walks(rt: &impl Abort, table: NonContiguousSymbolTable<'_, Letter, u8, 6>, steps: &[Step]) {
     let mut table = table;
-    for (from_the_back, expected) in steps {
+    for each in steps {
+        let (from_the_back, expected) = *each;
         let step = if from_the_back {
             table.next_back()
         } else {
@@ -183,37 +187,30 @@ fn walks(rt: &impl Abort, table: NonContiguousSymbolTable<'_, Letter, u8, 6>, st
 #[test]
 fn a_refused_clone_stands_in_the_place_of_its_row(rt: HostRuntime) {
     let model = letters(rt.alloc()).expect(&rt, "accepted");
-    for steps in STEPS {
+    for steps in &STEPS {
         walks(&rt, model.symbol_table(), steps);
     }
-    same(
-        &rt,
-        letter_row(model.quantile_function(15)),
-        Ok(('a', 0, 16)),
-    );
-    same(
-        &rt,
-        letter_row(model.quantile_function(16)),
-        Err(AllocError),
-    );
+    answers_a_refusal(&rt, &model);
+}
+
+/// Stops the test where the model does not answer the first letter, and a refusal for the second one.
+fn answers_a_refusal<M>(rt: &impl Abort, model: &M)
+where
+    M: DecoderModel<6, Symbol = Letter, Probability = u8>,
+{
+    let found = letter_row(model.quantile_function(15));
+    same(rt, found, Ok(('a', 0, 16)));
+    let refused = letter_row(model.quantile_function(16));
+    same(rt, refused, Err(AllocError));
 }
 
 #[test]
 fn a_lookup_model_answers_a_refused_clone(rt: HostRuntime) {
     let model = lookup_of_letters(rt.alloc()).expect(&rt, "accepted");
-    for steps in STEPS {
+    for steps in &STEPS {
         walks(&rt, model.symbol_table(), steps);
     }
-    same(
-        &rt,
-        letter_row(model.quantile_function(15)),
-        Ok(('a', 0, 16)),
-    );
-    same(
-        &rt,
-        letter_row(model.quantile_function(16)),
-        Err(AllocError),
-    );
+    answers_a_refusal(&rt, &model);
 }
 
 /// Stops the test where memory for it was not refused.
@@ -234,11 +231,15 @@ fn a_refused_clone_is_want_of_memory(rt: HostRuntime) {
 #[test]
 fn a_refused_clone_is_want_of_memory_for_a_lookup_model(rt: HostRuntime) {
     let searching = letters(rt.alloc()).expect(&rt, "accepted");
-    let refused = searching.to_lookup_decoder_model(rt.alloc()).err();
-    same(&rt, refused, Some(ModelError::OutOfMemory));
+    is_refused(&rt, searching.to_lookup_decoder_model(rt.alloc()));
     let model = lookup_of_letters(rt.alloc()).expect(&rt, "accepted");
     same(&rt, model.clone().err(), Some(AllocError));
     let (by_function, by_method) = looked_up::<_, 6>(rt.alloc(), &model);
-    same(&rt, by_function.err(), Some(ModelError::OutOfMemory));
-    same(&rt, by_method.err(), Some(ModelError::OutOfMemory));
+    is_refused(&rt, by_function);
+    is_refused(&rt, by_method);
+}
+
+/// Stops the test where memory for a lookup model was not refused.
+fn is_refused(rt: &impl Abort, made: Result<Lookup<Letter, 6>, ModelError>) {
+    same(rt, made.err(), Some(ModelError::OutOfMemory));
 }

@@ -2,7 +2,7 @@
 
 ghost use Rattle.std.specs.Prelude.{◌^◌, ◌<◌, ◌≤◌};
 
-use crate::checks::{same, same_at};
+use crate::checks::{same, same_at, shows};
 use crate::contiguous::row_of as row_of_table;
 use constriction::stream::model::{
     Alone, CdfEntry, ContiguousCategoricalEntropyModel, DecoderModel, EncoderModel, ModelError,
@@ -14,7 +14,6 @@ use constriction_words::{NonZeroBitArray, WholeNumber};
 use std::alloc::{AllocError, Global};
 use std::iter;
 use std::process::Abort;
-use std::test::Fail;
 
 /// Counts of 37 symbols, whose sum is 2^32.
 const COUNTS: [u32; 37] = [
@@ -61,8 +60,8 @@ fn entry_of_counts(model: &Model<u32, 32>, symbol: usize) -> Option<(u32, u32)> 
 }
 
 #[test]
-fn counts_of_37_symbols_at_the_full_width_of_u32(rt: HostRuntime) -> Result<(), Fail> {
-    let model = model_of::<u32, 32>(rt.alloc(), &COUNTS, false)?;
+fn counts_of_37_symbols_at_the_full_width_of_u32(rt: HostRuntime) {
+    let model = model_of::<u32, 32>(rt.alloc(), &COUNTS, false).expect(&rt, "accepted");
     same(&rt, model.support_size(), 37);
     for (symbol, left, weight) in [
         (15, 2290362110, 234666240),
@@ -79,7 +78,6 @@ fn counts_of_37_symbols_at_the_full_width_of_u32(rt: HostRuntime) -> Result<(), 
     let last = row_of_counts(&model, u32::MAX);
     same(&rt, last, Some((36, 4281074432, 13892864)));
     same(&rt, searched(&model, u32::MAX), (36, true));
-    Ok(())
 }
 
 /// The entry of the second symbol, where the first one has all quantiles but one.
@@ -254,22 +252,13 @@ fn three_symbols(alloc: Global) -> Result<Small, ModelError> {
     Small::from_nonzero_fixed_point_probabilities(alloc, weights.iter().copied(), false)
 }
 
-/// A view shows its table to a programmer.
-fn shows_its_table(rt: &impl Abort, alloc: Global, view: &View) {
-    let Ok(text) = format!(in alloc; "{view:?}") else {
-        panic!(rt; "memory was refused");
-    };
-    same(rt, text.contains("[0, 96, 1096, 4096]"), true);
-}
-
 #[test]
-fn the_views_and_clones_of_a_model_answer_as_it_does(rt: HostRuntime) -> Result<(), Fail> {
-    let model = three_symbols(rt.alloc())?;
-    let clone = model.clone()?;
+fn the_views_and_clones_of_a_model_answer_as_it_does(rt: HostRuntime) {
+    let model = three_symbols(rt.alloc()).expect(&rt, "accepted");
+    let clone = model.clone().expect(&rt, "a clone");
     let view = model.as_view();
     view_answers(&rt, &clone, &view, &view.as_view());
-    shows_its_table(&rt, rt.alloc(), &view);
-    Ok(())
+    shows(&rt, rt.alloc(), &view, "[0, 96, 1096, 4096]");
 }
 
 #[test]
