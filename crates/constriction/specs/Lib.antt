@@ -3,7 +3,7 @@ pub use Rattle.constriction_model.specs.CodingLemmas
 pub use Rattle.constriction_model.specs.Entries
 pub use Rattle.constriction_stored_rows.specs.Filling
 pub use Rattle.constriction_model.specs.GivenLemmas
-pub use Rattle.constriction_stored_rows.specs.Hashed
+pub use Rattle.constriction_conversions.specs.Hashed
 pub use Rattle.constriction_model.specs.Laws
 pub use Rattle.constriction_model.specs.Model
 pub use Rattle.constriction_model.specs.PairLemmas
@@ -22,4 +22,4 @@ pub use Rattle.constriction_stored_rows.specs.SymbolRowLemmas
 pub use Rattle.constriction_model.specs.Tables
 pub use Rattle.constriction_model.specs.UniformRowLemmas
 pub use Rattle.constriction_model.specs.WalkLemmas
-pub use Rattle.constriction_stored_rows.specs.Walked
+pub use Rattle.constriction_conversions.specs.Walked

@@ -1,7 +1,7 @@
 //! What follows from the contracts of models, each law the contract of a function. They hold of
 //! each model that meets the traits, those of the caller too.
 
-pub use constriction_categorical::laws::{
+pub use constriction_conversions::laws::{
     answers_are_in_table, non_contiguous_lookup_symbols_differ, non_contiguous_symbols_differ,
     slotted_non_contiguous_lookup_symbols_differ, symbols_and_weights_rebuild,
     table_gives_all_rows, table_length, table_walks_rows,

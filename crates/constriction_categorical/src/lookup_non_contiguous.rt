@@ -209,6 +209,39 @@ impl<
 }
 
 impl<
+    Symbol: Eq + Drop,
+    Probability: IndexWord,
+    const PRECISION: usize,
+> NonContiguousCategoricalDecoderModel<Symbol, Probability, Vec<(Probability, Symbol)>, PRECISION> {
+    /// The model of the same rows, with the entries of this one, that looks up where to search. So each
+    /// constructor of this type is one of a lookup model too. Its only refusal is `OutOfMemory`, where memory
+    /// for the table is refused, and then the model is given up.
+    ///
+    /// One allocation and one pass over the rows. No symbol is cloned or compared.
+    pub fn into_lookup_decoder_model(
+        self,
+        alloc: Global,
+    ) -> Result<
+        NonContiguousLookupDecoderModel<
+            Symbol,
+            Probability,
+            Vec<(Probability, Symbol)>,
+            Vec<Probability>,
+            PRECISION,
+        >,
+        ModelError,
+    >
+        requires { PRECISION ≤ 63 }
+        ensures ok { IfOk result (λ m.
+            ⟦<NonContiguousLookupDecoderModel<Symbol, Probability, Vec<(Probability, Symbol)>, Vec<Probability>, PRECISION> as EntropyModel<PRECISION>>⟧.rows m
+            ≡ ⟦<Self as EntropyModel<PRECISION>>⟧.rows self) }
+        ensures refused { IfErr result (λ e. e ≡ ModelError.OutOfMemory) }
+    {
+        Ok(NonContiguousLookupDecoderModel::with_table(alloc, self)?)
+    }
+}
+
+impl<
     Symbol: Eq,
     Probability: IndexWord,
     Cdf: SafeBuf<(Probability, Symbol)>,

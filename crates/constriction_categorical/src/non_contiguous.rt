@@ -123,6 +123,30 @@ impl<
     }
 }
 
+/// The model over these entries, for crates above that have collected some: a model's left cumulatives, each with a
+/// symbol, no two of which are equal.
+#[inline]
+pub fn decoder_over<Symbol: Eq, Probability: WholeNumber, const PRECISION: usize>(
+    cdf: Vec<(Probability, Symbol)>,
+) -> NonContiguousCategoricalDecoderModel<
+    Symbol,
+    Probability,
+    Vec<(Probability, Symbol)>,
+    PRECISION,
+>
+    requires positive { 0 < PRECISION }
+    requires fits { PRECISION ≤ Probability.BITS }
+    requires stored { IsStored Probability.BITS PRECISION (map (λ x. Probability.whole x.0) cdf.items) }
+    requires distinct { IsDistinct Symbol.eq (map (λ x. x.1) cdf.items) }
+    ensures { ⟦<NonContiguousCategoricalDecoderModel<Symbol, Probability, Vec<(Probability, Symbol)>, PRECISION> as EntropyModel<PRECISION>>⟧.rows result
+        ≡ rows_paired Probability.whole PRECISION cdf.items }
+{
+    NonContiguousCategoricalDecoderModel {
+        cdf,
+        entries: PhantomData,
+    }
+}
+
 impl<
     Symbol: Eq + Clone,
     Probability: WholeNumber,

@@ -1,7 +1,5 @@
 pub mod ApartLemmas
-pub mod CollectLemmas
 pub mod FillLemmas
-pub mod HashLemmas
 pub mod MadeLemmas
 pub mod OrderLemmas
 pub mod PairedLemmas

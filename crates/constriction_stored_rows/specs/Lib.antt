@@ -1,10 +1,8 @@
 pub mod Filling
 pub mod Given
-pub mod Hashed
 pub mod SlotTable
 pub mod Slots
 pub mod Stored
 pub mod StoredLemmas
 pub mod StoredRowLemmas
 pub mod SymbolRowLemmas
-pub mod Walked

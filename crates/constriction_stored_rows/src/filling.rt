@@ -25,7 +25,7 @@ fn make_room<T: Drop>(items: &mut Vec<T>) -> Result<(), AllocError>
 /// its pointer, length and capacity in registers; an answer of a list that may be refused would have its
 /// place in memory cleared for each item.
 #[inline(always)]
-pub(crate) fn and_item<T: Drop>(mut items: Vec<T>, item: T) -> Result<Vec<T>, AllocError>
+pub fn and_item<T: Drop>(mut items: Vec<T>, item: T) -> Result<Vec<T>, AllocError>
     ensures { IfOk result (λ v. v.items ≡ items.items ++ item ∷ []) }
 {
     if items.len() == items.capacity() {

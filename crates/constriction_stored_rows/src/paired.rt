@@ -11,7 +11,7 @@ use std::alloc::{AllocError, Global};
 
 /// Whether one of the entries has an equal symbol.
 #[inline]
-pub(crate) fn has_symbol<Word, Symbol: Eq>(entries: &[(Word, Symbol)], symbol: &Symbol) -> bool
+pub fn has_symbol<Word, Symbol: Eq>(entries: &[(Word, Symbol)], symbol: &Symbol) -> bool
     ensures { result ≡ list_any (Symbol.eq symbol.now) (map (λ x. x.1) entries.now) }
 {
     for entry in entries {

@@ -1,8 +1,0 @@
-use Rattle.constriction_model.specs.WalkLemmas.{gives-as-many}
-use Rattle.constriction_categorical.proofs.laws.table_length.Goals as goal
-
-pub returns : goal.returns
-returns g c =
-    gives-as-many g.M.IterableEntropyModel.stands_for g.M.IterableEntropyModel.may_refuse g.M.Probability.WholeNumber.whole
-    g.M.Probability.WholeNumber.base g.M.SymbolTable.Iterator.next_gives g.M.IterableEntropyModel.rows_left
-    g.met.M.IterableEntropyModel.steps_law

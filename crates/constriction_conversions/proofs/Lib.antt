@@ -1,0 +1,2 @@
+mod CollectLemmas
+mod HashLemmas

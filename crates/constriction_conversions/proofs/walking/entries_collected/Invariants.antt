@@ -1,0 +1,11 @@
+-- The rows that were taken from the walk are in the entries.
+use Rattle.std.proofs.Common.{false, refl}
+use Rattle.std.specs.Iterator.{IsFinite}
+use Rattle.constriction_conversions.proofs.CollectLemmas.{IsCollected}
+use Rattle.constriction_conversions.proofs.walking.entries_collected.Given as goal
+
+abbrev pub invariant-rows : goal.invariant-rows
+invariant-rows g l =
+    g.Walk.Iterator.can_next l.walk
+    × IsFinite (g.Walk.Iterator.remaining l.walk)
+    × IsCollected g.Walk.Iterator.next_gives l.fn.walk (λ _ _. false) (λ _ _. refl) l.walk l.entries.items

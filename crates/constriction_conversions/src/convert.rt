@@ -1,0 +1,240 @@
+//! Models that are made from any model that can be walked through.
+
+ghost use Rattle.std.specs.Prelude.{◌≡◌, ◌<◌, ◌≤◌, IfOk, IfErr, ⊤};
+ghost use Rattle.constriction_model.specs.Entries.{HoldsEntriesOf};
+ghost use Rattle.constriction_model.specs.Model.{StandApart, ClonesRepeat};
+
+use crate::hashed::NonContiguousCategoricalEncoderModel;
+use crate::walking::{entries_walked, table_walked};
+use constriction_categorical::{
+    IterableEntropyModel, LookupDecoderModel, NonContiguousCategoricalDecoderModel,
+    SlottedNonContiguousLookupDecoderModel, decoder_over,
+};
+use constriction_model::{EntropyModel, ModelError};
+use constriction_numbers::IndexWord;
+use std::alloc::Global;
+use std::hash::Hash;
+
+pub mod distinct;
+
+/// The decoder over any symbols that is made of the model `M`, with entries of its own.
+pub type DecoderMadeOf<M, const PRECISION: usize> = NonContiguousCategoricalDecoderModel<
+    <M as EntropyModel<PRECISION>>::Symbol,
+    <M as EntropyModel<PRECISION>>::Probability,
+    Vec<
+        (
+            <M as EntropyModel<PRECISION>>::Probability,
+            <M as EntropyModel<PRECISION>>::Symbol,
+        ),
+    >,
+    PRECISION,
+>;
+
+/// The lookup model over any symbols that is made of the model `M`, with entries and a table of its own.
+pub type LookupMadeOf<M, const PRECISION: usize, const SLOT_BITS: usize> = LookupDecoderModel<
+    DecoderMadeOf<M, PRECISION>,
+    Vec<<M as EntropyModel<PRECISION>>::Probability>,
+    PRECISION,
+    SLOT_BITS,
+>;
+
+/// The hashed encoder that is made of the model `M`.
+pub type EncoderMadeOf<M, const PRECISION: usize> = NonContiguousCategoricalEncoderModel<
+    <M as EntropyModel<PRECISION>>::Symbol,
+    <M as EntropyModel<PRECISION>>::Probability,
+    PRECISION,
+>;
+
+/// A model that is made from any model that can be walked through.
+///
+/// The trait takes that model `M`, so that its words and symbols are those of the result. It has to be in
+/// scope where `from_iterable_entropy_model` is called.
+pub trait FromIterableEntropyModel<
+    M: IterableEntropyModel<PRECISION>,
+    const PRECISION: usize,
+>: Sized {
+    // What the result tells of the model that it is made from.
+    ghost tells: { M → Self → Type 0 };
+
+    // Where none is made of a model, want of memory aside. Of a type that refuses no model it is ⊥.
+    ghost refuses: { M → Type 0 };
+
+    // What the type asks of PRECISION beside that it is from 1 to the width of the words.
+    ghost precise: { Type 0 };
+
+    /// The model of the same rows. `OutOfMemory` comes where memory for it, or for a clone of a symbol, is
+    /// refused, `InvalidTable` where the type says so.
+    fn from_iterable_entropy_model(alloc: Global, model: M) -> Result<Self, ModelError>
+        requires positive { 0 < PRECISION }
+        requires fits { PRECISION ≤ M.Probability.BITS }
+        requires precise { precise }
+        ensures ok { IfOk result (tells model) }
+        ensures invalid { result ≡ Err ModelError.InvalidTable → refuses model };
+}
+
+/// It tells the rows of its source, with the symbols that the walk gave, no two of which are equal, and
+/// refuses a source whose walk gives two equal symbols. Where symbols are cloned and a clone is equal to its
+/// symbol, that is where two symbols of the source are equal.
+impl<M, const PRECISION: usize> FromIterableEntropyModel<M, PRECISION>
+    for NonContiguousCategoricalDecoderModel<
+        M::Symbol,
+        M::Probability,
+        Vec<(M::Probability, M::Symbol)>,
+        PRECISION,
+    >
+where
+    M: IterableEntropyModel<PRECISION>,
+    M::Symbol: Eq + Drop,
+{
+    ghost tells = { λ m d. StandApart M.Symbol.eq M.stands_for (⟦<Self as EntropyModel<PRECISION>>⟧.rows d) (M.rows m) };
+
+    ghost refuses = { λ m. ClonesRepeat M.Symbol.eq M.stands_for (M.rows m) };
+
+    ghost precise = { ⊤ };
+
+    fn from_iterable_entropy_model(alloc: Global, model: M) -> Result<Self, ModelError> {
+        to_generic_decoder_model::<M, PRECISION>(alloc, model)
+    }
+}
+
+/// It tells and refuses what a [`NonContiguousCategoricalDecoderModel`] does. `PRECISION` is at most 63.
+impl<M, const PRECISION: usize, const SLOT_BITS: usize> FromIterableEntropyModel<M, PRECISION>
+    for SlottedNonContiguousLookupDecoderModel<
+        M::Symbol,
+        M::Probability,
+        Vec<(M::Probability, M::Symbol)>,
+        Vec<M::Probability>,
+        PRECISION,
+        SLOT_BITS,
+    >
+where
+    M: IterableEntropyModel<PRECISION>,
+    M::Symbol: Eq + Drop,
+    M::Probability: IndexWord,
+{
+    ghost tells = { λ m d. StandApart M.Symbol.eq M.stands_for (⟦<Self as EntropyModel<PRECISION>>⟧.rows d) (M.rows m) };
+
+    ghost refuses = { λ m. ClonesRepeat M.Symbol.eq M.stands_for (M.rows m) };
+
+    ghost precise = { PRECISION ≤ 63 };
+
+    fn from_iterable_entropy_model(alloc: Global, model: M) -> Result<Self, ModelError> {
+        to_generic_slotted_lookup_decoder_model::<M, PRECISION, SLOT_BITS>(alloc, model)
+    }
+}
+
+/// It has the entries of its source, of each symbol that the walk gave that of the last row, and refuses no
+/// source.
+impl<M, const PRECISION: usize> FromIterableEntropyModel<M, PRECISION>
+    for NonContiguousCategoricalEncoderModel<M::Symbol, M::Probability, PRECISION>
+where
+    M: IterableEntropyModel<PRECISION>,
+    M::Symbol: Hash + Eq + Drop,
+{
+    ghost tells = { λ m e. HoldsEntriesOf M.Symbol.eq M.stands_for (⟦<Self as EntropyModel<PRECISION>>⟧.rows e) (M.rows m) };
+
+    ghost refuses = { λ _. ⊥ };
+
+    ghost precise = { ⊤ };
+
+    fn from_iterable_entropy_model(alloc: Global, model: M) -> Result<Self, ModelError> {
+        to_generic_encoder_model::<M, PRECISION>(alloc, model)
+    }
+}
+
+/// The decoder model of the same rows as any model that can be walked through.
+///
+/// Its symbols are those that the walk gave: clones, where the model owns its symbols. `InvalidTable` comes
+/// only where two of them are equal, so where a clone is equal to its symbol exactly where two symbols of the
+/// rows are. `OutOfMemory` comes where memory for the entries, or for a clone of a symbol, is refused.
+///
+/// One walk, and each symbol is compared with those before it: `n * (n - 1) / 2` comparisons for `n` rows.
+/// Where symbols are known to differ, [`to_generic_decoder_model_of_distinct`] compares none.
+///
+/// [`to_generic_decoder_model_of_distinct`]: crate::to_generic_decoder_model_of_distinct
+pub fn to_generic_decoder_model<M, const PRECISION: usize>(
+    alloc: Global,
+    model: M,
+) -> Result<DecoderMadeOf<M, PRECISION>, ModelError>
+where
+    M: IterableEntropyModel<PRECISION>,
+    M::Symbol: Eq + Drop,
+    requires positive { 0 < PRECISION }
+    requires fits { PRECISION ≤ M.Probability.BITS }
+    ensures ok { IfOk result (λ d. StandApart M.Symbol.eq M.stands_for
+        (⟦<DecoderMadeOf<M, PRECISION> as EntropyModel<PRECISION>>⟧.rows d) (M.rows model)) }
+    ensures invalid { result ≡ Err ModelError.InvalidTable → ClonesRepeat M.Symbol.eq M.stands_for (M.rows model) }
+{
+    let cdf = entries_walked::<_, _, _, _, PRECISION>(alloc, model.symbol_table())?;
+    Ok(decoder_over(cdf))
+}
+
+/// The lookup model of the same rows as any model that can be walked through.
+///
+/// Its symbols are those that the walk gave: clones, where the model owns its symbols. `InvalidTable` comes
+/// only where two of them are equal, so where a clone is equal to its symbol exactly where two symbols of the
+/// rows are. `OutOfMemory` comes where memory for the entries, for a clone of a symbol, or for the table is
+/// refused.
+///
+/// One walk, in which each symbol is compared with those before it, and one pass over the rows.
+/// Where symbols are known to differ, [`to_generic_lookup_decoder_model_of_distinct`] compares none.
+///
+/// [`to_generic_lookup_decoder_model_of_distinct`]: crate::to_generic_lookup_decoder_model_of_distinct
+pub fn to_generic_lookup_decoder_model<M, const PRECISION: usize>(
+    alloc: Global,
+    model: M,
+) -> Result<LookupMadeOf<M, PRECISION, 8>, ModelError>
+where
+    M: IterableEntropyModel<PRECISION>,
+    M::Symbol: Eq + Drop,
+    M::Probability: IndexWord,
+    requires positive { 0 < PRECISION }
+    requires narrow { PRECISION ≤ 63 }
+    requires fits { PRECISION ≤ M.Probability.BITS }
+    ensures ok { IfOk result (λ d. StandApart M.Symbol.eq M.stands_for
+        (⟦<LookupMadeOf<M, PRECISION, 8> as EntropyModel<PRECISION>>⟧.rows d) (M.rows model)) }
+    ensures invalid { result ≡ Err ModelError.InvalidTable → ClonesRepeat M.Symbol.eq M.stands_for (M.rows model) }
+{
+    to_generic_slotted_lookup_decoder_model::<M, PRECISION, 8>(alloc, model)
+}
+
+/// The same with `2^min(PRECISION, SLOT_BITS)` slots.
+pub fn to_generic_slotted_lookup_decoder_model<M, const PRECISION: usize, const SLOT_BITS: usize>(
+    alloc: Global,
+    model: M,
+) -> Result<LookupMadeOf<M, PRECISION, SLOT_BITS>, ModelError>
+where
+    M: IterableEntropyModel<PRECISION>,
+    M::Symbol: Eq + Drop,
+    M::Probability: IndexWord,
+    requires positive { 0 < PRECISION }
+    requires narrow { PRECISION ≤ 63 }
+    requires fits { PRECISION ≤ M.Probability.BITS }
+    ensures ok { IfOk result (λ d. StandApart M.Symbol.eq M.stands_for
+        (⟦<LookupMadeOf<M, PRECISION, SLOT_BITS> as EntropyModel<PRECISION>>⟧.rows d) (M.rows model)) }
+    ensures invalid { result ≡ Err ModelError.InvalidTable → ClonesRepeat M.Symbol.eq M.stands_for (M.rows model) }
+{
+    let searching = to_generic_decoder_model::<M, PRECISION>(alloc, model)?;
+    Ok(LookupDecoderModel::with_table(alloc, searching)?)
+}
+
+/// The encoder model of the same entries as any model that can be walked through: of each symbol that the
+/// walk gave it has the last row.
+///
+/// The only refusal is `OutOfMemory`, where memory for the table, or for a clone of a symbol, is refused.
+///
+/// One walk, and one hash a row.
+pub fn to_generic_encoder_model<M, const PRECISION: usize>(
+    alloc: Global,
+    model: M,
+) -> Result<EncoderMadeOf<M, PRECISION>, ModelError>
+where
+    M: IterableEntropyModel<PRECISION>,
+    M::Symbol: Hash + Eq + Drop,
+    ensures entries { IfOk result (λ e. HoldsEntriesOf M.Symbol.eq M.stands_for
+        (⟦<EncoderMadeOf<M, PRECISION> as EntropyModel<PRECISION>>⟧.rows e) (M.rows model)) }
+    ensures refused { IfErr result (λ e. e ≡ ModelError.OutOfMemory) }
+{
+    let table = table_walked::<_, _, _, _, PRECISION>(alloc, model.symbol_table())?;
+    Ok(NonContiguousCategoricalEncoderModel { table })
+}

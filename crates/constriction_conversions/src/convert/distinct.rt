@@ -1,0 +1,68 @@
+//! Models that are made, without comparing symbols, from models whose symbols are known to differ.
+
+ghost use Rattle.std.specs.Prelude.{◌≡◌, ◌<◌, ◌≤◌, IfOk, IfErr};
+ghost use Rattle.std.specs.List.{IsDistinct};
+ghost use Rattle.constriction_model.specs.Model.{StandApart, ClonesAreEqual};
+ghost use Rattle.constriction_model.specs.Rows.{symbols_of};
+
+use crate::convert::{DecoderMadeOf, LookupMadeOf};
+use crate::walking::entries_collected;
+use constriction_categorical::{IterableEntropyModel, decoder_over};
+use constriction_model::{EntropyModel, ModelError};
+use constriction_numbers::IndexWord;
+use std::alloc::Global;
+
+/// The decoder model of the same rows as a model that can be walked through and no two symbols of which are
+/// equal, as the functions of [`laws`](crate::laws) say of each contiguous or uniform model and of each
+/// decoder over any symbols. Where the walk clones symbols, a clone has to be equal to its symbol.
+///
+/// Its symbols are those that the walk gave. The only refusal is `OutOfMemory`, where memory for the entries,
+/// or for a clone of a symbol, is refused.
+///
+/// One walk, and one allocation where the walk announces how many rows there are. No symbols are compared.
+pub fn to_generic_decoder_model_of_distinct<M, const PRECISION: usize>(
+    alloc: Global,
+    model: M,
+) -> Result<DecoderMadeOf<M, PRECISION>, ModelError>
+where
+    M: IterableEntropyModel<PRECISION>,
+    M::Symbol: Eq + Drop,
+    requires positive { 0 < PRECISION }
+    requires fits { PRECISION ≤ M.Probability.BITS }
+    requires clones { ClonesAreEqual M.Symbol.eq M.stands_for }
+    requires distinct { IsDistinct M.Symbol.eq (symbols_of (M.rows model)) }
+    ensures ok { IfOk result (λ d. StandApart M.Symbol.eq M.stands_for
+        (⟦<DecoderMadeOf<M, PRECISION> as EntropyModel<PRECISION>>⟧.rows d) (M.rows model)) }
+    ensures refused { IfErr result (λ e. e ≡ ModelError.OutOfMemory) }
+{
+    let cdf = entries_collected::<_, _, _, _, PRECISION>(alloc, model.symbol_table())?;
+    Ok(decoder_over(cdf))
+}
+
+/// The lookup model of the same rows as a model that can be walked through and no two symbols of which are
+/// equal. It asks what [`to_generic_decoder_model_of_distinct`] does, and `PRECISION` is at most 63.
+///
+/// The only refusal is `OutOfMemory`, where memory for the entries, for a clone of a symbol, or for the table
+/// is refused.
+///
+/// One walk, and one pass over the rows. No symbols are compared.
+pub fn to_generic_lookup_decoder_model_of_distinct<M, const PRECISION: usize>(
+    alloc: Global,
+    model: M,
+) -> Result<LookupMadeOf<M, PRECISION, 8>, ModelError>
+where
+    M: IterableEntropyModel<PRECISION>,
+    M::Symbol: Eq + Drop,
+    M::Probability: IndexWord,
+    requires positive { 0 < PRECISION }
+    requires narrow { PRECISION ≤ 63 }
+    requires fits { PRECISION ≤ M.Probability.BITS }
+    requires clones { ClonesAreEqual M.Symbol.eq M.stands_for }
+    requires distinct { IsDistinct M.Symbol.eq (symbols_of (M.rows model)) }
+    ensures ok { IfOk result (λ d. StandApart M.Symbol.eq M.stands_for
+        (⟦<LookupMadeOf<M, PRECISION, 8> as EntropyModel<PRECISION>>⟧.rows d) (M.rows model)) }
+    ensures refused { IfErr result (λ e. e ≡ ModelError.OutOfMemory) }
+{
+    let searching = to_generic_decoder_model_of_distinct::<M, PRECISION>(alloc, model)?;
+    searching.into_lookup_decoder_model(alloc)
+}

@@ -1,0 +1,170 @@
+//! Models of any symbols for encoders, which find the entry of a symbol by its hash.
+
+ghost use Rattle.std.specs.Prelude.{◌≡◌, ◌^◌, ◌<◌, ◌≤◌, All, length, IfOk};
+ghost use Rattle.std.specs.Iterator.{IsFiniteIterable};
+ghost use Rattle.std.specs.List.{IsDistinct};
+ghost use Rattle.std.specs.Map.{keys_of};
+ghost use Rattle.std.proofs.Props.{props};
+ghost use Rattle.constriction_model.specs.Acceptance.{completed, AreAccepted, WasReadOf, IsMadeOfBoth};
+ghost use Rattle.constriction_conversions.specs.Hashed.{rows_of_table};
+ghost use Rattle.constriction_model.specs.Entries.{SameEntries};
+ghost use Rattle.constriction_model.specs.Model.{LiesWithin, StandForRows};
+ghost use Rattle.constriction_model.specs.Rows.{rows_of};
+
+use crate::hash_table::{Entry, HashedRows, table_for};
+use constriction_model::{EncoderModel, EntropyModel, ModelError, Weight};
+use constriction_numbers::WholeNumber;
+use constriction_stored_rows::{rows_announced, rows_read};
+use std::alloc::{AllocError, Global};
+use std::collections::HashMap;
+use std::fmt::Debug;
+use std::hash::Hash;
+
+/// A model of any symbols for encoders: it finds the entry of a symbol by its hash.
+///
+/// It stores the entry of each symbol in a hash table. Its rows are these entries, in no order that
+/// means anything.
+#[derive(Drop)]
+#[derive_where(Debug; Symbol: Debug, Probability: Debug, Weight<Probability>: Debug)]
+pub struct NonContiguousCategoricalEncoderModel<
+    Symbol: Hash + Eq,
+    Probability: WholeNumber,
+    const PRECISION: usize,
+> {
+    pub(crate) table: HashMap<Symbol, Entry<Probability, Weight<Probability>>>,
+    ghost distinct: { IsDistinct Symbol.eq (keys_of table.entries) } by { Prim.hlevel props },
+    ghost within: { All (LiesWithin PRECISION) (rows_of_table
+        (λ e. (Probability.whole e.left, Probability.whole (Probability.base e.weight))) table.entries) },
+}
+
+/// The model over 24 bits of `u32`, which suits most uses.
+pub type DefaultNonContiguousCategoricalEncoderModel<Symbol> = NonContiguousCategoricalEncoderModel<
+    Symbol,
+    u32,
+    24,
+>;
+
+/// The model over 12 bits of `u16`, for small tables of symbols.
+pub type SmallNonContiguousCategoricalEncoderModel<Symbol> = NonContiguousCategoricalEncoderModel<
+    Symbol,
+    u16,
+    12,
+>;
+
+impl<Symbol: Hash + Eq, Probability: WholeNumber, const PRECISION: usize> EntropyModel<PRECISION>
+    for NonContiguousCategoricalEncoderModel<Symbol, Probability, PRECISION> {
+    type Symbol = Symbol;
+
+    type Probability = Probability;
+
+    ghost rows = { λ m. rows_of_table
+        (λ e. (Probability.whole e.left, Probability.whole (Probability.base e.weight))) m.table.entries };
+}
+
+impl<Symbol: Hash + Eq, Probability: WholeNumber, const PRECISION: usize> EncoderModel<PRECISION>
+    for NonContiguousCategoricalEncoderModel<Symbol, Probability, PRECISION> {
+    ghost symbol_eq = { Symbol.eq };
+
+    /// The entry of a symbol, by one hash. It takes no memory.
+    #[inline]
+    fn left_cumulative_and_probability(
+        &self,
+        symbol: &Symbol,
+    ) -> Option<(Probability, Weight<Probability>)> {
+        match self.table.get(symbol) {
+            Some(entry) => Some((entry.left, entry.weight)),
+            None => None,
+        }
+    }
+
+    ghost equality_law = { Symbol.Eq.laws };
+
+    ghost within_law = { λ m. m.within };
+}
+
+impl<
+    Symbol: Hash + Eq,
+    Probability: WholeNumber,
+    const PRECISION: usize,
+> NonContiguousCategoricalEncoderModel<Symbol, Probability, PRECISION> {
+    /// How many symbols have an entry.
+    #[inline]
+    pub fn support_size(&self) -> usize
+        ensures { result ≡ length (⟦<Self as EntropyModel<PRECISION>>⟧.rows self.now) }
+    {
+        self.table.len()
+    }
+}
+
+impl<
+    Symbol: Hash + Eq + Drop,
+    Probability: WholeNumber,
+    const PRECISION: usize,
+> NonContiguousCategoricalEncoderModel<Symbol, Probability, PRECISION> {
+    /// The model of these symbols and weights, one weight a symbol. Where the last weight is inferred,
+    /// it is what the given ones leave of `2^PRECISION`, and there is one symbol more than given weights.
+    ///
+    /// They are accepted exactly where the weights are all positive, the inferred one included, their
+    /// sum is `2^PRECISION`, each of them is a word, there is exactly one symbol for each weight, and no
+    /// two symbols are equal. `InvalidTable` comes where they are not accepted, whether both iterators
+    /// were read to their ends or only so far that no lists that begin so are accepted. `OutOfMemory`
+    /// comes where memory for the table is refused.
+    ///
+    /// One pass over both, and one hash a symbol. Where the symbols' iterator announces how many there
+    /// are, memory is asked for before the first one and not again: the hash table has four allocations.
+    pub fn from_symbols_and_nonzero_fixed_point_probabilities<
+        S: IntoIterator<Item = Symbol>,
+        P: IntoIterator<Item = Probability>,
+    >(
+        alloc: Global,
+        symbols: S,
+        probabilities: P,
+        infer_last_probability: bool,
+    ) -> Result<Self, ModelError>
+        requires positive { 0 < PRECISION }
+        requires fits { PRECISION ≤ Probability.BITS }
+        requires symbols_end { IsFiniteIterable S.into_iter_gives S.IntoIter.can_next S.IntoIter.remaining symbols }
+        requires probabilities_end { IsFiniteIterable P.into_iter_gives P.IntoIter.can_next P.IntoIter.remaining probabilities }
+        ensures { IsMadeOfBoth (AreAccepted Symbol.eq Probability.BITS PRECISION) (completed PRECISION infer_last_probability)
+            (WasReadOf S.into_iter_gives S.IntoIter.next_gives symbols) (WasReadOf P.into_iter_gives P.IntoIter.next_gives probabilities)
+            Probability.whole (λ m ss ws. SameEntries Symbol.eq (⟦<Self as EntropyModel<PRECISION>>⟧.rows m) (rows_of ss ws)
+            × (length (⟦<Self as EntropyModel<PRECISION>>⟧.rows m) ≡ length ss)) result }
+    {
+        let symbols = symbols.into_iter();
+        let table = table_for(alloc, rows_announced::<PRECISION>(symbols.size_hint().0));
+        let read = rows_read::<
+            Probability,
+            Symbol,
+            HashedRows<Symbol, Probability>,
+            _,
+            _,
+            PRECISION,
+        >(
+            HashedRows { table },
+            symbols,
+            probabilities.into_iter(),
+            infer_last_probability,
+        )?;
+        Ok(Self { table: read.table })
+    }
+}
+
+impl<
+    Symbol: Hash + Eq + Clone,
+    Probability: WholeNumber,
+    const PRECISION: usize,
+> NonContiguousCategoricalEncoderModel<Symbol, Probability, PRECISION> {
+    /// A model of the same entries, for clones of the symbols, with a table of its own from the allocator of
+    /// this one's.
+    ///
+    /// A copy of the table and a clone of each symbol. It is refused where memory for one of these is.
+    pub fn clone(&self) -> Result<Self, AllocError>
+        ensures { IfOk result (λ m. StandForRows Symbol.is_clone (⟦<Self as EntropyModel<PRECISION>>⟧.rows m)
+            (⟦<Self as EntropyModel<PRECISION>>⟧.rows self.now)) }
+    {
+        let table = self.table.clone()?;
+        // A call on the clone tells that no two of its keys are equal, whatever is known of clones of them.
+        let _len = table.len();
+        Ok(Self { table })
+    }
+}

@@ -1,0 +1,105 @@
+//! What follows of symbol tables and of models over any symbols, each law the contract of a function. Those of
+//! tables hold of each model that meets the trait, those of the caller too.
+
+ghost use Rattle.constriction_model.specs.Laws.{WalksRows, GivesAllRows, GivesAsMany, AnswersAreInTable, Rebuilds, SymbolsDiffer};
+
+use constriction_buffers::SafeBuf;
+use constriction_categorical::{
+    IterableEntropyModel, NonContiguousCategoricalDecoderModel, NonContiguousLookupDecoderModel,
+    SlottedNonContiguousLookupDecoderModel,
+};
+use constriction_model::{DecoderModel, EntropyModel};
+use constriction_numbers::{IndexWord, WholeNumber};
+
+/// Steps of a symbol table give the first of the rows that it has yet to give, in order and with clones of
+/// their symbols where the model owns these, and leave the others. Where memory for a clone of a symbol is
+/// refused, the refusal stands in the row's place.
+pub fn table_walks_rows<M: IterableEntropyModel<PRECISION>, const PRECISION: usize>()
+    ensures { WalksRows M.stands_for M.may_refuse M.Probability.whole M.Probability.base
+        M.SymbolTable.next_gives M.rows_left }
+{}
+
+/// A symbol table that is walked to its end gives all rows that were left, in order and each once:
+/// where it is fresh, those of its model. So a reader of tables has from it the model's rows, and
+/// where no item is a refusal nothing else: the very rows where clones are the same values, and otherwise
+/// rows whose symbols are clones.
+pub fn table_gives_all_rows<M: IterableEntropyModel<PRECISION>, const PRECISION: usize>()
+    ensures { GivesAllRows M.stands_for M.may_refuse M.Probability.whole M.Probability.base
+        M.SymbolTable.next_gives M.rows_left }
+{}
+
+/// A symbol table that is walked to its end gives as many items as rows were left, refusals counted.
+/// Where a model tells the number of its symbols, as by `support_size`, a fresh table of it has so
+/// many items.
+pub fn table_length<M: IterableEntropyModel<PRECISION>, const PRECISION: usize>()
+    ensures { GivesAsMany M.SymbolTable.next_gives M.rows_left }
+{}
+
+/// The row of a quantile, for which [`DecoderModel::quantile_function`] answers, is in the model's symbol
+/// table, walked to its end: an item stands for it, or a refusal in its place, and no item that holds the
+/// quantile stands for another row. So a decoder may look quantiles up in a table that was read before: where
+/// clones are the same values it finds the answer itself.
+pub fn answers_are_in_table<M, const PRECISION: usize>()
+where
+    M: DecoderModel<PRECISION> + IterableEntropyModel<PRECISION>,
+    ensures { AnswersAreInTable M.IterableEntropyModel.stands_for M.IterableEntropyModel.may_refuse
+        M.Probability.whole M.Probability.base M.SymbolTable.next_gives M.rows_left M.rows }
+{}
+
+/// Where no two symbols of a model are equal, the symbols and the weights of its table are accepted by the
+/// constructors from symbols and weights, without inference, and give its rows again. So a table that is
+/// stored as its symbols and weights is read back by
+/// `from_symbols_and_nonzero_fixed_point_probabilities` of a decoder, which then answers `OutOfMemory` or a
+/// model of the same rows.
+pub fn symbols_and_weights_rebuild<M, const PRECISION: usize>()
+where
+    M: IterableEntropyModel<PRECISION>,
+    M::Symbol: Eq,
+    ensures { Rebuilds M.Symbol.eq M.Probability.BITS PRECISION M.rows }
+{}
+
+/// No two symbols of a decoder over any symbols are equal, however it was made. So a hashed encoder that
+/// is made from it has the entry of each of its rows, and [`pairs_are_quantiles`](constriction_model::laws::pairs_are_quantiles) speaks of both.
+pub fn non_contiguous_symbols_differ<Symbol, Probability, Cdf, const PRECISION: usize>()
+where
+    Symbol: Eq,
+    Probability: WholeNumber,
+    Cdf: SafeBuf<(Probability, Symbol)>,
+    ensures { SymbolsDiffer Symbol.eq
+        ⟦<NonContiguousCategoricalDecoderModel<Symbol, Probability, Cdf, PRECISION> as EntropyModel<PRECISION>>⟧.rows }
+{}
+
+/// The same of a lookup model over any symbols.
+pub fn non_contiguous_lookup_symbols_differ<
+    Symbol,
+    Probability,
+    Cdf,
+    LookupTable,
+    const PRECISION: usize,
+>()
+where
+    Symbol: Eq,
+    Probability: IndexWord,
+    Cdf: SafeBuf<(Probability, Symbol)>,
+    LookupTable: SafeBuf<Probability>,
+    ensures { SymbolsDiffer Symbol.eq
+        ⟦<NonContiguousLookupDecoderModel<Symbol, Probability, Cdf, LookupTable, PRECISION> as EntropyModel<PRECISION>>⟧.rows }
+{}
+
+/// And of one with whatever number of slots.
+pub fn slotted_non_contiguous_lookup_symbols_differ<
+    Symbol,
+    Probability,
+    Cdf,
+    LookupTable,
+    const PRECISION: usize,
+    const SLOT_BITS: usize,
+>()
+where
+    Symbol: Eq,
+    Probability: IndexWord,
+    Cdf: SafeBuf<(Probability, Symbol)>,
+    LookupTable: SafeBuf<Probability>,
+    ensures { SymbolsDiffer Symbol.eq
+        ⟦<SlottedNonContiguousLookupDecoderModel<Symbol, Probability, Cdf, LookupTable, PRECISION, SLOT_BITS> as EntropyModel<PRECISION>>⟧.rows }
+{}

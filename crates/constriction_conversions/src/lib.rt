@@ -1,0 +1,25 @@
+//! Encoders that hash, and models that are made of other models.
+//!
+//! The encoder of any symbols, which finds the entry of a symbol by its hash; and of any model that can be walked
+//! through the decoder, the lookup model and this encoder, as functions and by a trait. The laws of symbol tables say what a
+//! walk gives.
+#![tactic(auto)]
+
+mod convert;
+mod hash_table;
+mod hashed;
+pub mod laws;
+mod walking;
+
+pub use crate::convert::distinct::{
+    to_generic_decoder_model_of_distinct, to_generic_lookup_decoder_model_of_distinct,
+};
+pub use crate::convert::{
+    DecoderMadeOf, EncoderMadeOf, FromIterableEntropyModel, LookupMadeOf, to_generic_decoder_model,
+    to_generic_encoder_model, to_generic_lookup_decoder_model,
+    to_generic_slotted_lookup_decoder_model,
+};
+pub use crate::hashed::{
+    DefaultNonContiguousCategoricalEncoderModel, NonContiguousCategoricalEncoderModel,
+    SmallNonContiguousCategoricalEncoderModel,
+};

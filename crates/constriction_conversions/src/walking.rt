@@ -1,0 +1,96 @@
+//! Storing the rows that a walk gives, for models that are made from other ones.
+
+ghost use Rattle.std.specs.Prelude.{◌≡◌, ℕ, IfOk, map};
+ghost use Rattle.std.specs.HashMap.{get, IsUnique};
+ghost use Rattle.std.specs.Iterator.{IsFinite};
+ghost use Rattle.std.specs.List.{IsDistinct};
+ghost use Rattle.constriction_stored_rows.specs.Filling.{HoldsEntries};
+ghost use Rattle.constriction_model.specs.Model.{row_of};
+ghost use Rattle.constriction_conversions.specs.Walked.{WalkedGood, WalkedBad};
+
+use crate::hash_table::{Entry, table_for};
+use constriction_model::ModelError;
+use constriction_stored_rows::{and_item, has_symbol, room_for, rows_announced};
+use std::alloc::{AllocError, Global};
+use std::collections::HashMap;
+use std::hash::Hash;
+
+/// The entries of the rows that a walk gives, no two symbols of which are equal.
+///
+/// A row is judged before the next one is asked for.
+#[inline]
+pub fn entries_walked<Symbol, Word, Positive, Walk, const PRECISION: usize>(
+    alloc: Global,
+    mut walk: Walk,
+) -> Result<Vec<(Word, Symbol)>, ModelError>
+where
+    Symbol: Eq + Drop,
+    Word: Copy,
+    Positive: Copy,
+    Walk: Iterator<Item = Result<(Symbol, Word, Positive), AllocError>>,
+    requires goes { Walk.can_next walk }
+    requires ends { IsFinite (Walk.remaining walk) }
+    ensures ok { IfOk result (λ v. WalkedGood Walk.next_gives walk (λ xs.
+        (v.items ≡ map (λ x. (x.1, x.0)) xs) × IsDistinct Symbol.eq (map (λ x. x.0) xs))) }
+    ensures invalid { result ≡ Err ModelError.InvalidTable
+        → WalkedBad Walk.next_gives walk (λ xs. IsDistinct Symbol.eq (map (λ x. x.0) xs)) }
+{
+    let mut cdf = room_for(alloc, rows_announced::<PRECISION>(walk.size_hint().0));
+    'rows: while let Some(row) = walk.next() {
+        let (symbol, left, _weight) = row?;
+        if has_symbol(&cdf, &symbol) {
+            return Err(ModelError::InvalidTable);
+        }
+        cdf.push((left, symbol))?;
+    }
+    Ok(cdf)
+}
+
+/// The entries of the rows that a walk gives, whose symbols are not compared.
+#[inline]
+pub fn entries_collected<Symbol, Word, Positive, Walk, const PRECISION: usize>(
+    alloc: Global,
+    mut walk: Walk,
+) -> Result<Vec<(Word, Symbol)>, AllocError>
+where
+    Symbol: Drop,
+    Word: Copy,
+    Positive: Copy,
+    Walk: Iterator<Item = Result<(Symbol, Word, Positive), AllocError>>,
+    requires goes { Walk.can_next walk }
+    requires ends { IsFinite (Walk.remaining walk) }
+    ensures { IfOk result (λ v. WalkedGood Walk.next_gives walk (λ xs. v.items ≡ map (λ x. (x.1, x.0)) xs)) }
+{
+    let mut entries = room_for(alloc, rows_announced::<PRECISION>(walk.size_hint().0));
+    'rows: while let Some(row) = walk.next() {
+        let (symbol, left, _weight) = row?;
+        entries = and_item(entries, (left, symbol))?;
+    }
+    Ok(entries)
+}
+
+/// A table of the entries of the rows that a walk gives, of each symbol that of the last row.
+#[inline]
+pub fn table_walked<Symbol, Word, Positive, Walk, const PRECISION: usize>(
+    alloc: Global,
+    mut walk: Walk,
+) -> Result<HashMap<Symbol, Entry<Word, Positive>>, AllocError>
+where
+    Symbol: Hash + Eq + Drop,
+    Word: Copy,
+    Positive: Copy,
+    Walk: Iterator<Item = Result<(Symbol, Word, Positive), AllocError>>,
+    requires goes { Walk.can_next walk }
+    requires ends { IsFinite (Walk.remaining walk) }
+    ensures unique { IfOk result (λ t. IsUnique Symbol.eq t) }
+    ensures found { IfOk result (λ t. WalkedGood Walk.next_gives walk (λ xs.
+        (whole : Word → ℕ) (base : Positive → Word) → HoldsEntries Symbol.eq
+        (λ e. (whole e.left, whole (base e.weight))) (get Symbol.eq t) (map (row_of whole base) xs))) }
+{
+    let mut table = table_for(alloc, rows_announced::<PRECISION>(walk.size_hint().0));
+    'rows: while let Some(row) = walk.next() {
+        let (symbol, left, weight) = row?;
+        table.insert(symbol, Entry { left, weight })?;
+    }
+    Ok(table)
+}
