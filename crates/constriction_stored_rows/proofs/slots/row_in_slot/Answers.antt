@@ -1,0 +1,33 @@
+use Rattle.std.proofs.Common.{◌≡◌, ℕ, ◌+◌, ◌-◌, ◌*◌, ◌/◌, map, arith, subst, sym, ◌∙◌}
+use Rattle.std.proofs.Math.Nat.{div-one}
+use Rattle.constriction_model.specs.Probe.{IsLastAtMost}
+use Rattle.constriction_stored_rows.specs.Slots.{slot_width}
+use Rattle.constriction_stored_rows.proofs.slots.row_in_slot.Goals as goal
+
+pub returns-then-width_of_slots-eq1-clause-found : goal.returns-then-width_of_slots-eq1-clause-found
+returns-then-width_of_slots-eq1-clause-found g c =
+    let lefts = map g.Kind.CdfEntry.cumulative c.args.entries.now in
+    let q : ℕ = g.Kind.Word.WholeNumber.whole c.args.quantile in
+    let width : ℕ = slot_width g.row.PRECISION g.row.SLOT_BITS in
+    let one : width ≡ 1 = sym c.width_of_slots.ensures ∙ c.if-width_of_slots-eq1.true in
+    let same : q / width * width ≡ q = rw one (omega (arith, div-one q)) in
+    subst (λ n. IsLastAtMost lefts n c.rows_of_slot-first.result.0) same c.rows_of_slot-first.ensures.from
+
+pub returns-then-width_of_slots-eq1-clause-counted : goal.returns-then-width_of_slots-eq1-clause-counted
+returns-then-width_of_slots-eq1-clause-counted g c =
+    let lefts = map g.Kind.CdfEntry.cumulative c.args.entries.now in
+    let width : ℕ = slot_width g.row.PRECISION g.row.SLOT_BITS in
+    let slot : ℕ = g.Kind.Word.WholeNumber.whole c.args.quantile / width in
+    let one : width ≡ 1 = sym c.width_of_slots.ensures ∙ c.if-width_of_slots-eq1.true in
+    let ends : slot * width ≡ slot * width + (width - 1) = omega (arith, one) in
+    let first : ℕ = c.rows_of_slot-first.result.0 in
+    record {
+      first = first;
+      last = first;
+      rows = record {
+        from = c.rows_of_slot-first.ensures.from;
+        to = subst (λ n. IsLastAtMost lefts n first) ends c.rows_of_slot-first.ensures.from;
+      };
+      few = omega arith;
+      some = λ h. absurd (omega (arith, h));
+    }
