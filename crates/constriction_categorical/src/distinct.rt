@@ -9,24 +9,23 @@ ghost use Rattle.std.specs.List.Sorted.{IsStrictlySortedBy};
 ghost use Rattle.constriction_model.specs.Acceptance.{completed, AreAccepted, WasReadOf, IsMadeOfBoth, GivesDistinct};
 ghost use Rattle.constriction_model.specs.Rows.{rows_of};
 
-use crate::non_contiguous::NonContiguousCategoricalDecoderModel;
+use crate::non_contiguous::{NonContiguousCategoricalDecoderModel, decoder_over};
 use constriction_model::{EntropyModel, ModelError};
 use constriction_numbers::WholeNumber;
 use constriction_stored_rows::{are_apart, are_in_order, entries_read};
 use std::alloc::Global;
 use std::hash::Hash;
-use std::marker::PhantomData;
 
 impl<
-    Symbol: Eq + Drop,
+    Symbol: Eq + Clone,
     Probability: WholeNumber,
     const PRECISION: usize,
 > NonContiguousCategoricalDecoderModel<Symbol, Probability, Vec<(Probability, Symbol)>, PRECISION> {
     /// The model of these symbols and weights, for a caller who knows that no two of the symbols are equal. It
     /// accepts and refuses what [`from_symbols_and_nonzero_fixed_point_probabilities`] does.
     ///
-    /// One pass over both, one entry a symbol, and one allocation where the symbols' iterator announces
-    /// how many there are. No symbols are compared.
+    /// One pass over both, one entry a symbol and one more, one allocation where the symbols' iterator
+    /// announces how many there are, and one clone, of the last symbol. No symbols are compared.
     ///
     /// [`from_symbols_and_nonzero_fixed_point_probabilities`]: Self::from_symbols_and_nonzero_fixed_point_probabilities
     pub fn from_distinct_symbols_and_nonzero_fixed_point_probabilities<
@@ -47,31 +46,28 @@ impl<
             (WasReadOf S.into_iter_gives S.IntoIter.next_gives symbols) (WasReadOf P.into_iter_gives P.IntoIter.next_gives probabilities)
             Probability.whole (λ m ss ws. ⟦<Self as EntropyModel<PRECISION>>⟧.rows m ≡ rows_of ss ws) result }
     {
-        let cdf = entries_read::<Probability, Symbol, S, P, PRECISION>(
+        let entries = entries_read::<Probability, Symbol, S, P, PRECISION>(
             alloc,
             symbols,
             probabilities,
             infer_last_probability,
         )?;
-        Ok(Self {
-            cdf,
-            entries: PhantomData,
-        })
+        Ok(decoder_over(entries)?)
     }
 }
 
 impl<
-    Symbol: Hash + Eq + Drop,
+    Symbol: Hash + Eq + Clone,
     Probability: WholeNumber,
     const PRECISION: usize,
 > NonContiguousCategoricalDecoderModel<Symbol, Probability, Vec<(Probability, Symbol)>, PRECISION> {
     /// The model of these symbols and weights, for symbols that have a hash. It accepts and refuses what
     /// [`from_symbols_and_nonzero_fixed_point_probabilities`] does. Two equal symbols are found once both
-    /// iterators were read to their ends. `OutOfMemory` comes where memory for the entries, or for a set of
-    /// references to the symbols, is refused.
+    /// iterators were read to their ends. `OutOfMemory` comes where memory for the entries, for a set of
+    /// references to the symbols, or for a clone of the last symbol, is refused.
     ///
-    /// One pass over both, and one hash a symbol after it. The set has as many places as there are symbols, and
-    /// is let go before the call answers.
+    /// One pass over both, one hash a symbol after it, and one clone, of the last symbol. The set has as many
+    /// places as there are symbols, and is let go before the call answers.
     ///
     /// [`from_symbols_and_nonzero_fixed_point_probabilities`]: Self::from_symbols_and_nonzero_fixed_point_probabilities
     pub fn from_hashable_symbols_and_nonzero_fixed_point_probabilities<
@@ -91,25 +87,22 @@ impl<
             (WasReadOf S.into_iter_gives S.IntoIter.next_gives symbols) (WasReadOf P.into_iter_gives P.IntoIter.next_gives probabilities)
             Probability.whole (λ m ss ws. ⟦<Self as EntropyModel<PRECISION>>⟧.rows m ≡ rows_of ss ws) result }
     {
-        let cdf = entries_read::<Probability, Symbol, S, P, PRECISION>(
+        let entries = entries_read::<Probability, Symbol, S, P, PRECISION>(
             alloc,
             symbols,
             probabilities,
             infer_last_probability,
         )?;
-        let apart = are_apart(alloc, &cdf)?;
+        let apart = are_apart(alloc, &entries)?;
         if !apart {
             return Err(ModelError::InvalidTable);
         }
-        Ok(Self {
-            cdf,
-            entries: PhantomData,
-        })
+        Ok(decoder_over(entries)?)
     }
 }
 
 impl<
-    Symbol: Ord + Drop,
+    Symbol: Ord + Clone,
     Probability: WholeNumber,
     const PRECISION: usize,
 > NonContiguousCategoricalDecoderModel<Symbol, Probability, Vec<(Probability, Symbol)>, PRECISION> {
@@ -118,7 +111,8 @@ impl<
     /// than the next one, they are refused: `InvalidTable` then says that the list is invalid or not in order,
     /// and another constructor may accept it.
     ///
-    /// One pass over both, one entry a symbol, and one comparison of neighbours for each symbol after it.
+    /// One pass over both, one entry a symbol and one more, one comparison of neighbours for each symbol after
+    /// it, and one clone, of the last symbol.
     ///
     /// [`from_symbols_and_nonzero_fixed_point_probabilities`]: Self::from_symbols_and_nonzero_fixed_point_probabilities
     pub fn from_sorted_symbols_and_nonzero_fixed_point_probabilities<
@@ -139,19 +133,16 @@ impl<
             (WasReadOf S.into_iter_gives S.IntoIter.next_gives symbols) (WasReadOf P.into_iter_gives P.IntoIter.next_gives probabilities)
             Probability.whole (λ m ss ws. ⟦<Self as EntropyModel<PRECISION>>⟧.rows m ≡ rows_of ss ws) result }
     {
-        let cdf = entries_read::<Probability, Symbol, S, P, PRECISION>(
+        let entries = entries_read::<Probability, Symbol, S, P, PRECISION>(
             alloc,
             symbols,
             probabilities,
             infer_last_probability,
         )?;
-        let in_order = are_in_order(&cdf);
+        let in_order = are_in_order(&entries);
         if !in_order {
             return Err(ModelError::InvalidTable);
         }
-        Ok(Self {
-            cdf,
-            entries: PhantomData,
-        })
+        Ok(decoder_over(entries)?)
     }
 }

@@ -5,8 +5,8 @@ ghost use Rattle.std.specs.Iterator.{IsFiniteIterable};
 ghost use Rattle.constriction_model.specs.Acceptance.{completed, AreAccepted, WasReadOf, IsMadeOfBoth};
 ghost use Rattle.constriction_model.specs.Model.{StandForRows, ClonesAreEqual};
 ghost use Rattle.constriction_model.specs.Rows.{rows_of};
-ghost use Rattle.constriction_stored_rows.specs.SymbolRowLemmas.{paired-tiles};
-ghost use Rattle.constriction_stored_rows.specs.Stored.{rows_paired};
+ghost use Rattle.constriction_stored_rows.specs.SymbolRowLemmas.{entries-tile};
+ghost use Rattle.constriction_stored_rows.specs.Stored.{entries_in, rows_paired};
 ghost use Rattle.constriction_model.specs.Tables.{rows_between};
 
 use crate::iterable::IterableEntropyModel;
@@ -23,7 +23,7 @@ use std::alloc::{AllocError, Global};
 /// `2^min(PRECISION, SLOT_BITS)` slots tells where to search for the row of a quantile.
 ///
 /// Beside the table of a [`LookupDecoderModel`] stands what a [`NonContiguousCategoricalDecoderModel`]
-/// stores, one entry a symbol.
+/// stores, one entry a symbol and one more.
 pub type SlottedNonContiguousLookupDecoderModel<
     Symbol,
     Probability,
@@ -63,7 +63,7 @@ pub type SmallNonContiguousDirectLookupDecoderModel<
 > = SlottedNonContiguousLookupDecoderModel<Symbol, u16, Cdf, LookupTable, 12, 12>;
 
 impl<
-    Symbol: Eq + Drop,
+    Symbol: Eq + Clone,
     Probability: IndexWord,
     const PRECISION: usize,
     const SLOT_BITS: usize,
@@ -78,8 +78,8 @@ impl<
     /// The model of these symbols and weights. It accepts what
     /// [`NonContiguousCategoricalDecoderModel::from_symbols_and_nonzero_fixed_point_probabilities`]
     /// accepts, so distinct symbols alone, and refuses the others with `InvalidTable` as soon as that is
-    /// known, before there is a table of slots. `OutOfMemory` comes where memory for the rows or for the
-    /// table is refused.
+    /// known, before there is a table of slots. `OutOfMemory` comes where memory for the rows, for a clone of
+    /// the last symbol, or for the table is refused.
     ///
     /// One pass over both, in which each symbol is compared with those before it, and one over the rows.
     /// Beside the rows it takes one allocation for the table, with 8 `SLOT_BITS` of 512 words at most.
@@ -132,7 +132,8 @@ impl<
     /// A model of the same rows with clones of the symbols, and with rows and a table of its own from the
     /// allocators of this one's. A clone has to be equal to its symbol, so that no two are equal.
     ///
-    /// Two allocations and a clone of each symbol. It is refused where memory for one of these is.
+    /// Two allocations, a clone of each symbol and one more of the last one. It is refused where memory for one
+    /// of these is.
     pub fn clone(&self) -> Result<Self, AllocError>
         requires { ClonesAreEqual Symbol.eq Symbol.is_clone }
         ensures { IfOk result (λ m. StandForRows Symbol.is_clone (⟦<Self as EntropyModel<PRECISION>>⟧.rows m)
@@ -157,7 +158,8 @@ impl<
     /// equal to its symbol, so that no two are equal. Its only refusal is `OutOfMemory`, where memory for the
     /// rows, for a clone of a symbol, or for the table is refused.
     ///
-    /// Two allocations, a clone of each symbol and one pass over the rows. No symbols are compared.
+    /// Two allocations, a clone of each symbol and one more of the last one, and one pass over the rows. No
+    /// symbols are compared.
     pub fn to_lookup_decoder_model(
         &self,
         alloc: Global,
@@ -317,7 +319,7 @@ impl<
 
     ghost may_refuse = { λ s. ¬ (Symbol.is_infallible s) };
 
-    ghost rows_left = { λ t. rows_between t.from t.to (rows_paired Probability.whole PRECISION t.cdf.now) };
+    ghost rows_left = { λ t. rows_between t.from t.to (rows_paired Probability.whole PRECISION (entries_in t.cdf.now)) };
 
     /// All rows in order, each once: symbol, left cumulative and weight, the symbol by a clone. Where
     /// memory for a clone is refused, the refusal stands in the row's place.
@@ -328,5 +330,5 @@ impl<
 
     ghost steps_law = { λ t r u step. step };
 
-    ghost tile_law = { λ m. paired-tiles Probability.whole _ _ _ m.now.model.stored };
+    ghost tile_law = { λ m. entries-tile Probability.whole _ _ _ m.now.model.stored };
 }

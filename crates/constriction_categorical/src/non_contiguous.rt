@@ -8,8 +8,8 @@ ghost use Rattle.constriction_model.specs.Acceptance.{completed, AreAccepted, Wa
 ghost use Rattle.constriction_model.specs.Model.{StandForRows, ClonesAreEqual};
 ghost use Rattle.constriction_model.specs.Probe.{IsProbeFor};
 ghost use Rattle.constriction_model.specs.Rows.{rows_of};
-ghost use Rattle.constriction_stored_rows.specs.Stored.{IsStored};
-ghost use Rattle.constriction_stored_rows.specs.SymbolRowLemmas.{paired-tiles};
+ghost use Rattle.constriction_stored_rows.specs.Stored.{IsStored, IsTable, entries_in};
+ghost use Rattle.constriction_stored_rows.specs.SymbolRowLemmas.{entries-tile};
 ghost use Rattle.constriction_stored_rows.specs.Stored.{rows_paired};
 ghost use Rattle.constriction_model.specs.Tables.{rows_between};
 
@@ -22,15 +22,15 @@ use constriction_model::{
 };
 use constriction_numbers::WholeNumber;
 use constriction_stored_rows::{
-    cloned_row_at, entries_cloned, room_for, rows_announced, rows_read,
+    cloned_row_at, entries_announced, entries_cloned, room_for, rows_read, with_total,
 };
 use std::alloc::{AllocError, Global};
 use std::marker::PhantomData;
 
 /// A model of any symbols, no two of which are equal, for decoders: it finds the row of a quantile.
 ///
-/// It stores one entry a symbol, the left cumulative and the symbol, in a buffer of the caller's
-/// choice.
+/// It stores one entry a symbol, the left cumulative and the symbol, and one entry more, the total and
+/// a clone of the last symbol, in a buffer of the caller's choice.
 #[derive(Debug, Drop)]
 pub struct NonContiguousCategoricalDecoderModel<
     Symbol: Eq,
@@ -41,8 +41,8 @@ pub struct NonContiguousCategoricalDecoderModel<
     pub(crate) cdf: Cdf,
     pub(crate) entries: PhantomData<(Probability, Symbol)>,
     ghost precise: { (0 < PRECISION) × (PRECISION ≤ Probability.BITS) },
-    ghost stored: { IsStored Probability.BITS PRECISION (map (λ x. Probability.whole x.0) (Cdf.words_of cdf)) },
-    ghost distinct: { IsDistinct Symbol.eq (map (λ x. x.1) (Cdf.words_of cdf)) } by { Prim.hlevel props },
+    ghost stored: { IsTable Probability.BITS PRECISION (map (λ x. Probability.whole x.0) (Cdf.words_of cdf)) },
+    ghost distinct: { IsDistinct Symbol.eq (map (λ x. x.1) (entries_in (Cdf.words_of cdf))) } by { Prim.hlevel props },
 }
 
 /// The model over 24 bits of `u32`, which suits most uses.
@@ -64,11 +64,40 @@ impl<
 
     type Probability = Probability;
 
-    ghost rows = { λ m. rows_paired Probability.whole PRECISION (Cdf.words_of m.cdf) };
+    ghost rows = { λ m. rows_paired Probability.whole PRECISION (entries_in (Cdf.words_of m.cdf)) };
+}
+
+/// The model over these entries: a model's left cumulatives, each with a symbol, no two of which are equal. The
+/// total and a clone of the last symbol are put after them, and want of memory, for the clone or for one entry
+/// more, is the only refusal. Crates above call it that have collected entries.
+pub fn decoder_over<Symbol: Eq + Clone, Probability: WholeNumber, const PRECISION: usize>(
+    entries: Vec<(Probability, Symbol)>,
+) -> Result<
+    NonContiguousCategoricalDecoderModel<
+        Symbol,
+        Probability,
+        Vec<(Probability, Symbol)>,
+        PRECISION,
+    >,
+    AllocError,
+>
+    requires positive { 0 < PRECISION }
+    requires fits { PRECISION ≤ Probability.BITS }
+    requires stored { IsStored Probability.BITS PRECISION (map (λ x. Probability.whole x.0) entries.items) }
+    requires distinct { IsDistinct Symbol.eq (map (λ x. x.1) entries.items) }
+    ensures { IfOk result (λ m.
+        ⟦<NonContiguousCategoricalDecoderModel<Symbol, Probability, Vec<(Probability, Symbol)>, PRECISION> as EntropyModel<PRECISION>>⟧.rows m
+        ≡ rows_paired Probability.whole PRECISION entries.items) }
+{
+    let cdf = with_total::<Probability, Symbol, PRECISION>(entries)?;
+    Ok(NonContiguousCategoricalDecoderModel {
+        cdf,
+        entries: PhantomData,
+    })
 }
 
 impl<
-    Symbol: Eq + Drop,
+    Symbol: Eq + Clone,
     Probability: WholeNumber,
     const PRECISION: usize,
 > NonContiguousCategoricalDecoderModel<Symbol, Probability, Vec<(Probability, Symbol)>, PRECISION> {
@@ -79,11 +108,12 @@ impl<
     /// sum is `2^PRECISION`, each of them is a word, there is exactly one symbol for each weight, and no
     /// two symbols are equal. `InvalidTable` comes where they are not accepted, whether both iterators
     /// were read to their ends or only so far that no lists that begin so are accepted. `OutOfMemory`
-    /// comes where memory for the entries is refused.
+    /// comes where memory for the entries, or for a clone of the last symbol, is refused.
     ///
-    /// One pass over both, one entry a symbol, and one allocation where the symbols' iterator announces
-    /// how many there are. Each symbol is compared with those before it, which takes no memory and
-    /// `n * (n - 1) / 2` comparisons for `n` symbols. Where that is too much, take
+    /// One pass over both, one entry a symbol and one more, one allocation where the symbols' iterator
+    /// announces how many there are, and one clone, of the last symbol. Each symbol is compared with those
+    /// before it, which takes no memory and `n * (n - 1) / 2` comparisons for `n` symbols. Where that is too
+    /// much, take
     /// [`from_hashable_symbols_and_nonzero_fixed_point_probabilities`],
     /// [`from_sorted_symbols_and_nonzero_fixed_point_probabilities`], or, where symbols are known to differ,
     /// [`from_distinct_symbols_and_nonzero_fixed_point_probabilities`].
@@ -109,53 +139,21 @@ impl<
             Probability.whole (λ m ss ws. ⟦<Self as EntropyModel<PRECISION>>⟧.rows m ≡ rows_of ss ws) result }
     {
         let symbols = symbols.into_iter();
-        let room = room_for(alloc, rows_announced::<PRECISION>(symbols.size_hint().0));
-        let cdf = rows_read::<Probability, Symbol, Vec<(Probability, Symbol)>, _, _, PRECISION>(
+        let room = room_for(alloc, entries_announced::<PRECISION>(symbols.size_hint().0));
+        let entries = rows_read::<Probability, Symbol, Vec<(Probability, Symbol)>, _, _, PRECISION>(
             room,
             symbols,
             probabilities.into_iter(),
             infer_last_probability,
         )?;
-        Ok(Self {
-            cdf,
-            entries: PhantomData,
-        })
+        Ok(decoder_over(entries)?)
     }
-}
 
-/// The model over these entries, for crates above that have collected some: a model's left cumulatives, each with a
-/// symbol, no two of which are equal.
-#[inline]
-pub fn decoder_over<Symbol: Eq, Probability: WholeNumber, const PRECISION: usize>(
-    cdf: Vec<(Probability, Symbol)>,
-) -> NonContiguousCategoricalDecoderModel<
-    Symbol,
-    Probability,
-    Vec<(Probability, Symbol)>,
-    PRECISION,
->
-    requires positive { 0 < PRECISION }
-    requires fits { PRECISION ≤ Probability.BITS }
-    requires stored { IsStored Probability.BITS PRECISION (map (λ x. Probability.whole x.0) cdf.items) }
-    requires distinct { IsDistinct Symbol.eq (map (λ x. x.1) cdf.items) }
-    ensures { ⟦<NonContiguousCategoricalDecoderModel<Symbol, Probability, Vec<(Probability, Symbol)>, PRECISION> as EntropyModel<PRECISION>>⟧.rows result
-        ≡ rows_paired Probability.whole PRECISION cdf.items }
-{
-    NonContiguousCategoricalDecoderModel {
-        cdf,
-        entries: PhantomData,
-    }
-}
-
-impl<
-    Symbol: Eq + Clone,
-    Probability: WholeNumber,
-    const PRECISION: usize,
-> NonContiguousCategoricalDecoderModel<Symbol, Probability, Vec<(Probability, Symbol)>, PRECISION> {
     /// A model of the same rows with clones of the symbols, and with entries of its own from the allocator of
     /// this one's. A clone has to be equal to its symbol, so that no two are equal.
     ///
-    /// One allocation and a clone of each symbol. It is refused where memory for one of these is.
+    /// One allocation, a clone of each symbol and one more of the last one. It is refused where memory for one
+    /// of these is.
     pub fn clone(&self) -> Result<Self, AllocError>
         requires { ClonesAreEqual Symbol.eq Symbol.is_clone }
         ensures { IfOk result (λ m. StandForRows Symbol.is_clone (⟦<Self as EntropyModel<PRECISION>>⟧.rows m)
@@ -176,15 +174,16 @@ impl<
     pub fn support_size(&self) -> usize
         ensures { result ≡ length (⟦<Self as EntropyModel<PRECISION>>⟧.rows self.now) }
     {
-        self.cdf.words().len()
+        self.cdf.words().len() - 1
     }
 
     /// The entries: left cumulative and symbol of each row.
     #[inline]
     pub(crate) fn cdf_entries<'m>(&'m self) -> &'m [(Probability, Symbol)]
-        ensures { result.now ≡ Cdf.words_of self.now.cdf }
+        ensures { result.now ≡ entries_in (Cdf.words_of self.now.cdf) }
     {
-        self.cdf.words()
+        let cdf = self.cdf.words();
+        &cdf[..cdf.len() - 1]
     }
 
     /// The same model over the entries of this one.
@@ -247,11 +246,8 @@ impl<
             (⟦<NonContiguousCategoricalDecoderModel<Symbol, Probability, Vec<(Probability, Symbol)>, PRECISION> as EntropyModel<PRECISION>>⟧.rows m)
             (⟦<Self as EntropyModel<PRECISION>>⟧.rows self.now)) }
     {
-        let cdf = entries_cloned(alloc, self.cdf.words())?;
-        Ok(NonContiguousCategoricalDecoderModel {
-            cdf,
-            entries: PhantomData,
-        })
+        let entries = entries_cloned(alloc, self.cdf_entries())?;
+        decoder_over(entries)
     }
 }
 
@@ -276,7 +272,7 @@ impl<
         Ok(row)
     }
 
-    ghost tile_law = { λ m. paired-tiles Probability.whole _ _ _ m.stored };
+    ghost tile_law = { λ m. entries-tile Probability.whole _ _ _ m.stored };
 }
 
 impl<
@@ -317,7 +313,7 @@ impl<
 
     ghost may_refuse = { λ s. ¬ (Symbol.is_infallible s) };
 
-    ghost rows_left = { λ t. rows_between t.from t.to (rows_paired Probability.whole PRECISION t.cdf.now) };
+    ghost rows_left = { λ t. rows_between t.from t.to (rows_paired Probability.whole PRECISION (entries_in t.cdf.now)) };
 
     /// All rows in order, each once: symbol, left cumulative and weight, the symbol by a clone. Where
     /// memory for a clone is refused, the refusal stands in the row's place.
@@ -327,11 +323,11 @@ impl<
         NonContiguousSymbolTable {
             cdf,
             from: 0,
-            to: cdf.len(),
+            to: cdf.len() - 1,
         }
     }
 
     ghost steps_law = { λ t r u step. step };
 
-    ghost tile_law = { λ m. paired-tiles Probability.whole _ _ _ m.now.stored };
+    ghost tile_law = { λ m. entries-tile Probability.whole _ _ _ m.now.stored };
 }

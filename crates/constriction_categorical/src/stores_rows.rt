@@ -4,7 +4,7 @@ ghost use Rattle.std.specs.Prelude.{◌≡◌, ◌<◌, ◌≤◌, length, map, 
 ghost use Rattle.constriction_model.specs.Model.{row_of, LiesWithin};
 ghost use Rattle.constriction_model.specs.Rows.{Row, RowsTile};
 ghost use Rattle.constriction_stored_rows.specs.StoredRowLemmas.{stored-tiles};
-ghost use Rattle.constriction_stored_rows.specs.SymbolRowLemmas.{paired-tiles};
+ghost use Rattle.constriction_stored_rows.specs.SymbolRowLemmas.{entries-tile};
 
 use crate::contiguous::ContiguousCategoricalEntropyModel;
 use crate::non_contiguous::NonContiguousCategoricalDecoderModel;
@@ -98,7 +98,7 @@ impl<
 
     ghost precise_law = { λ m. m.precise.1 };
 
-    ghost stored_law = { λ m. paired-tiles Probability.whole _ _ _ m.stored };
+    ghost stored_law = { λ m. entries-tile Probability.whole _ _ _ m.stored };
 }
 
 impl<

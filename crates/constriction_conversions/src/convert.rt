@@ -84,7 +84,7 @@ impl<M, const PRECISION: usize> FromIterableEntropyModel<M, PRECISION>
     >
 where
     M: IterableEntropyModel<PRECISION>,
-    M::Symbol: Eq + Drop,
+    M::Symbol: Eq + Clone,
 {
     ghost tells = { λ m d. StandApart M.Symbol.eq M.stands_for (⟦<Self as EntropyModel<PRECISION>>⟧.rows d) (M.rows m) };
 
@@ -109,7 +109,7 @@ impl<M, const PRECISION: usize, const SLOT_BITS: usize> FromIterableEntropyModel
     >
 where
     M: IterableEntropyModel<PRECISION>,
-    M::Symbol: Eq + Drop,
+    M::Symbol: Eq + Clone,
     M::Probability: IndexWord,
 {
     ghost tells = { λ m d. StandApart M.Symbol.eq M.stands_for (⟦<Self as EntropyModel<PRECISION>>⟧.rows d) (M.rows m) };
@@ -148,8 +148,9 @@ where
 /// only where two of them are equal, so where a clone is equal to its symbol exactly where two symbols of the
 /// rows are. `OutOfMemory` comes where memory for the entries, or for a clone of a symbol, is refused.
 ///
-/// One walk, and each symbol is compared with those before it: `n * (n - 1) / 2` comparisons for `n` rows.
-/// Where symbols are known to differ, [`to_generic_decoder_model_of_distinct`] compares none.
+/// One walk, and each symbol is compared with those before it: `n * (n - 1) / 2` comparisons for `n` rows. The
+/// last symbol is cloned once more. Where symbols are known to differ,
+/// [`to_generic_decoder_model_of_distinct`] compares none.
 ///
 /// [`to_generic_decoder_model_of_distinct`]: crate::to_generic_decoder_model_of_distinct
 pub fn to_generic_decoder_model<M, const PRECISION: usize>(
@@ -158,7 +159,7 @@ pub fn to_generic_decoder_model<M, const PRECISION: usize>(
 ) -> Result<DecoderMadeOf<M, PRECISION>, ModelError>
 where
     M: IterableEntropyModel<PRECISION>,
-    M::Symbol: Eq + Drop,
+    M::Symbol: Eq + Clone,
     requires positive { 0 < PRECISION }
     requires fits { PRECISION ≤ M.Probability.BITS }
     ensures ok { IfOk result (λ d. StandApart M.Symbol.eq M.stands_for
@@ -166,7 +167,7 @@ where
     ensures invalid { result ≡ Err ModelError.InvalidTable → ClonesRepeat M.Symbol.eq M.stands_for (M.rows model) }
 {
     let cdf = entries_walked::<_, _, _, _, PRECISION>(alloc, model.symbol_table())?;
-    Ok(decoder_over(cdf))
+    Ok(decoder_over(cdf)?)
 }
 
 /// The lookup model of the same rows as any model that can be walked through.
@@ -176,8 +177,8 @@ where
 /// rows are. `OutOfMemory` comes where memory for the entries, for a clone of a symbol, or for the table is
 /// refused.
 ///
-/// One walk, in which each symbol is compared with those before it, and one pass over the rows.
-/// Where symbols are known to differ, [`to_generic_lookup_decoder_model_of_distinct`] compares none.
+/// One walk, in which each symbol is compared with those before it, one clone of the last symbol, and one pass
+/// over the rows. Where symbols are known to differ, [`to_generic_lookup_decoder_model_of_distinct`] compares none.
 ///
 /// [`to_generic_lookup_decoder_model_of_distinct`]: crate::to_generic_lookup_decoder_model_of_distinct
 pub fn to_generic_lookup_decoder_model<M, const PRECISION: usize>(
@@ -186,7 +187,7 @@ pub fn to_generic_lookup_decoder_model<M, const PRECISION: usize>(
 ) -> Result<LookupMadeOf<M, PRECISION, 8>, ModelError>
 where
     M: IterableEntropyModel<PRECISION>,
-    M::Symbol: Eq + Drop,
+    M::Symbol: Eq + Clone,
     M::Probability: IndexWord,
     requires positive { 0 < PRECISION }
     requires narrow { PRECISION ≤ 63 }
@@ -205,7 +206,7 @@ pub fn to_generic_slotted_lookup_decoder_model<M, const PRECISION: usize, const 
 ) -> Result<LookupMadeOf<M, PRECISION, SLOT_BITS>, ModelError>
 where
     M: IterableEntropyModel<PRECISION>,
-    M::Symbol: Eq + Drop,
+    M::Symbol: Eq + Clone,
     M::Probability: IndexWord,
     requires positive { 0 < PRECISION }
     requires narrow { PRECISION ≤ 63 }

@@ -10,7 +10,7 @@ ghost use Rattle.constriction_conversions.specs.Walked.{WalkedGood, WalkedBad};
 
 use crate::hash_table::{Entry, table_for};
 use constriction_model::ModelError;
-use constriction_stored_rows::{and_item, has_symbol, room_for, rows_announced};
+use constriction_stored_rows::{and_item, entries_announced, has_symbol, room_for, rows_announced};
 use std::alloc::{AllocError, Global};
 use std::collections::HashMap;
 use std::hash::Hash;
@@ -35,7 +35,7 @@ where
     ensures invalid { result ≡ Err ModelError.InvalidTable
         → WalkedBad Walk.next_gives walk (λ xs. IsDistinct Symbol.eq (map (λ x. x.0) xs)) }
 {
-    let mut cdf = room_for(alloc, rows_announced::<PRECISION>(walk.size_hint().0));
+    let mut cdf = room_for(alloc, entries_announced::<PRECISION>(walk.size_hint().0));
     'rows: while let Some(row) = walk.next() {
         let (symbol, left, _weight) = row?;
         if has_symbol(&cdf, &symbol) {
@@ -61,7 +61,7 @@ where
     requires ends { IsFinite (Walk.remaining walk) }
     ensures { IfOk result (λ v. WalkedGood Walk.next_gives walk (λ xs. v.items ≡ map (λ x. (x.1, x.0)) xs)) }
 {
-    let mut entries = room_for(alloc, rows_announced::<PRECISION>(walk.size_hint().0));
+    let mut entries = room_for(alloc, entries_announced::<PRECISION>(walk.size_hint().0));
     'rows: while let Some(row) = walk.next() {
         let (symbol, left, _weight) = row?;
         entries = and_item(entries, (left, symbol))?;

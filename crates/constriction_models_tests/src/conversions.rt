@@ -40,7 +40,7 @@ pub fn made<M, const PRECISION: usize>(
 ) -> (Made<M::Symbol, PRECISION>, Made<M::Symbol, PRECISION>)
 where
     M: IterableEntropyModel<PRECISION, Probability = u8> + Copy,
-    M::Symbol: Hash + Eq + Drop,
+    M::Symbol: Hash + Eq + Clone,
     requires positive { 0 < PRECISION }
     requires fits { PRECISION ≤ 8 }
 {

@@ -6,12 +6,14 @@ use crate::checks::{end_of_requests, same};
 use crate::conversions::{Made, made};
 use crate::model_checks::{answers_as_a_scan, decodes};
 use crate::own_model::has_rows;
-use constriction::stream::model::ModelError;
+use constriction::stream::model::{ModelError, NonContiguousCategoricalDecoderModel};
 use constriction_fixtures::any_symbols::{Decoder, Encoder, ROWS, SYMBOLS, WEIGHTS, decoder};
 use constriction_fixtures::contiguous::Table;
 use constriction_fixtures::own_model::three;
 use std::alloc::{AllocError, Global};
 use std::process::Abort;
+
+type Texts = NonContiguousCategoricalDecoderModel<String, u8, Vec<(u8, String)>, 6>;
 
 /// Stops the test where the answer is neither a model of the rows nor a refusal of memory.
 fn is_contiguous(rt: &impl Abort, made: &Result<Table<6>, ModelError>) {
@@ -141,4 +143,22 @@ fn are_three(rt: &impl Abort, made: &Made<char, 3>) {
         Ok(model) => same(rt, model.support_size(), 3),
         Err(error) => same(rt, error, &ModelError::OutOfMemory),
     }
+}
+
+/// The model of two texts, each in memory of its own.
+fn of_texts(alloc: Global) -> Result<Texts, ModelError> {
+    let mut texts = Vec::new(alloc);
+    texts.push(String::from_str(alloc, "left")?)?;
+    texts.push(String::from_str(alloc, "right")?)?;
+    Texts::from_symbols_and_nonzero_fixed_point_probabilities(alloc, texts, [22, 42], false)
+}
+
+/// The constructor clones the last text, to stand beside the total.
+#[test]
+fn a_refusal_of_memory_leaves_no_model_of_texts(rt: HostRuntime) {
+    match of_texts(rt.alloc()) {
+        Ok(model) => same(&rt, model.support_size(), 2),
+        Err(error) => same(&rt, error, ModelError::OutOfMemory),
+    }
+    end_of_requests(&rt);
 }

@@ -1,10 +1,10 @@
 -- Tables that end with the total, and differences of their neighbours.
-use Rattle.std.proofs.Common.{◌≡◌, ℕ, ◌+◌, ◌-◌, ◌%◌, ◌^◌, ◌<◌, ◌≤◌, List, [], ◌∷◌, ◌++◌, length, get_or, map, refl, ap, sym, ◌∙◌, arith, inl, inr}
+use Rattle.std.proofs.Common.{◌≡◌, ℕ, ◌+◌, ◌-◌, ◌%◌, ◌^◌, ◌<◌, ◌≤◌, List, [], ◌∷◌, ◌++◌, length, get_or, refl, ap, sym, ◌∙◌, arith, inl, inr}
 use Rattle.std.specs.Prelude.{take}
 use Rattle.std.proofs.Math.Nat.{mod-eq_of_lt, pow-le-pow_right}
 use Rattle.std.proofs.Math.Seq.{take-append_seam}
 use Rattle.std.proofs.lemmas.Bool.{cases_lt}
-use Rattle.std.proofs.lemmas.List.{length-append, length-map, get_or_append_left, get_or-append_right, take-map}
+use Rattle.std.proofs.lemmas.List.{length-append, get_or_append_left, get_or-append_right}
 use Rattle.constriction_model.specs.Acceptance.{IsAccepted}
 use Rattle.constriction_model.proofs.Differences.{difference-mod}
 use Rattle.constriction_stored_rows.specs.Stored.{IsTable, lefts_in, lefts_from, weights_of}
@@ -12,18 +12,18 @@ use Rattle.constriction_model.specs.Rows.{contiguous_rows}
 use Rattle.constriction_stored_rows.specs.StoredRowLemmas.{rows-many}
 use Rattle.constriction_stored_rows.specs.StoredLemmas.{IsRowAt, stored-row, stored-of}
 
--- the left cumulatives of a list that ends with one number more
-pub lefts-ended : (lefts table : List ℕ) (total : ℕ) → table ≡ lefts ++ total ∷ [] → lefts_in table ≡ lefts
-lefts-ended lefts table total e =
-    let long : length table - 1 ≡ length lefts = rw e (omega (arith, length-append lefts (total ∷ []))) in
-    rw long (ap (take (length lefts)) e ∙ take-append_seam lefts (total ∷ []))
+-- all of a list but its last item
+pub all-but_last : {A : Type 0} (items all : List A) (last : A) → all ≡ items ++ last ∷ [] → take (length all - 1) all ≡ items
+all-but_last items all last e =
+    let long : length all - 1 ≡ length items = rw e (omega (arith, length-append items (last ∷ []))) in
+    rw long (ap (take (length items)) e ∙ take-append_seam items (last ∷ []))
 
 -- accepted weights, the table that is filled from them, and back
 pub table-of : (bits precision : ℕ) (table ws : List ℕ) → IsAccepted bits precision ws
     → table ≡ lefts_from 0 ws ++ (2 ^ precision % 2 ^ bits) ∷ []
     → IsTable bits precision table × (weights_of precision (lefts_in table) ≡ ws)
 table-of bits precision table ws a e =
-    let lefts : lefts_in table ≡ lefts_from 0 ws = lefts-ended (lefts_from 0 ws) table _ e in
+    let lefts : lefts_in table ≡ lefts_from 0 ws = all-but_last (lefts_from 0 ws) table _ e in
     let stored = stored-of bits precision (lefts_in table) ws lefts a in
     (record { stored = stored.0; ends = rw lefts e }, stored.1)
 
@@ -87,10 +87,3 @@ pub table-rows : (bits precision : ℕ) (table : List ℕ) → IsTable bits prec
     → length (contiguous_rows (weights_of precision (lefts_in table))) + 1 ≡ length table
 table-rows bits precision table t =
     omega (arith, rows-many precision (lefts_in table), table-long bits precision table t)
-
--- the left cumulatives of words
-pub lefts-words : {Word : Type 0} (whole : Word → ℕ) (words : List Word)
-    → map whole (take (length words - 1) words) ≡ lefts_in (map whole words)
-lefts-words whole words =
-    let long : length words - 1 ≡ length (map whole words) - 1 = omega (arith, length-map words whole) in
-    sym (take-map whole (length words - 1) words) ∙ ap (λ n. take n (map whole words)) long

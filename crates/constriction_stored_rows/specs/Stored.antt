@@ -1,5 +1,5 @@
--- How models store their rows: by the left cumulatives, and in contiguous models the total after them. No public clause cites this
--- module, but the member `rows` of these models and ghost fields of models and of symbol tables do.
+-- How models store their rows: by the left cumulatives, and the total after them. No public clause cites this module, but the member
+-- `rows` of these models and ghost fields of models and of symbol tables do.
 use Rattle.std.specs.Prelude.{◌≡◌, ℕ, ◌+◌, ◌-◌, ◌%◌, ◌^◌, List, [], ◌∷◌, ◌++◌, length, map, take}
 use Rattle.constriction_model.specs.Acceptance.{IsAccepted}
 use Rattle.constriction_model.specs.Rows.{Row, contiguous_rows, rows_of}
@@ -28,6 +28,10 @@ pub record IsStored (bits precision : ℕ) (lefts : List ℕ) : Type 0 where
 -- the left cumulatives of a table: all of it but its last number
 abbrev pub lefts_in : List ℕ → List ℕ
 lefts_in table = take (length table - 1) table
+
+-- the entries of a table, one a row: all of it but its last one
+abbrev pub entries_in : {Entry : Type 0} → List Entry → List Entry
+entries_in table = take (length table - 1) table
 
 -- a table over words of so many bits: the left cumulatives of accepted weights, and after them the total, which wraps to 0 where it is
 -- no word

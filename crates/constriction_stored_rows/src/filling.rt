@@ -58,6 +58,13 @@ pub fn rows_announced<const PRECISION: usize>(announced: usize) -> usize {
     announced.min(1usize << PRECISION.min(62))
 }
 
+/// How many entries to ask memory for at once, where so many rows are announced: one for each of them, and one
+/// for the total.
+#[inline]
+pub fn entries_announced<const PRECISION: usize>(announced: usize) -> usize {
+    rows_announced::<PRECISION>(announced).saturating_add(1)
+}
+
 /// An empty list with room for so many items, where memory for that is not refused: what refuses the
 /// items that come decides nothing yet.
 #[inline]
@@ -89,7 +96,7 @@ fn words_needed<const PRECISION: usize>(announced: usize, infer_last: bool) -> u
     } else {
         announced
     };
-    rows_announced::<PRECISION>(rows).saturating_add(1)
+    entries_announced::<PRECISION>(rows)
 }
 
 /// The table of these weights, the last of which may be inferred.

@@ -3,7 +3,7 @@
 ghost use Rattle.std.specs.Prelude.{◌≡◌, ◌+◌, ◌%◌, ◌^◌, ◌<◌, ◌≤◌, length, map, slice_index, slice_index_or, IfOk, IfErr};
 ghost use Rattle.constriction_model.specs.Model.{row_of, LiesWithin};
 ghost use Rattle.constriction_model.specs.Rows.{Row, contiguous_rows};
-ghost use Rattle.constriction_stored_rows.specs.Stored.{IsStored, IsTable, lefts_in, weights_of};
+ghost use Rattle.constriction_stored_rows.specs.Stored.{IsTable, lefts_in, entries_in, weights_of};
 ghost use Rattle.constriction_stored_rows.specs.Stored.{rows_paired};
 
 use constriction_model::{Alone, CdfEntry, Weight, WithSymbol};
@@ -43,71 +43,21 @@ pub fn row_at<P: WholeNumber, const PRECISION: usize>(cdf: &[P], index: usize) -
     (left, weight.to_weight())
 }
 
-/// Where the row at `index` ends, of entries after which no total stands: where the next one begins, and the last
-/// row at `2^PRECISION`, which wraps to 0 where that is no word.
-///
-/// Of two rows it chooses between two words that are the same for each look-up. A loop has these in registers and
-/// takes one of them without a jump, which random quantiles would make the processor guess wrong half of the time.
-#[inline(always)]
-fn end_of_row<Entry, Kind: CdfEntry<Entry>, const PRECISION: usize>(
-    entries: &[Entry],
-    index: usize,
-) -> Kind::Word
-    requires some { 0 < PRECISION }
-    requires fits { PRECISION ≤ Kind.Word.BITS }
-    requires in_bounds { index < length entries.now }
-    ensures next { index + 1 < length entries.now
-        → Kind.Word.whole result ≡ slice_index (map Kind.cumulative entries.now) (index + 1) }
-    ensures last { length entries.now ≤ index + 1 → Kind.Word.whole result ≡ 2 ^ PRECISION % 2 ^ Kind.Word.BITS }
-{
-    let total = Kind::Word::wrapping_pow2(PRECISION);
-    if entries.len() == 2 {
-        let second = Kind::cumulative_of(&entries[1]);
-        return if index == 0 { second } else { total };
-    }
-    if index + 1 < entries.len() {
-        Kind::cumulative_of(&entries[index + 1])
-    } else {
-        total
-    }
-}
-
-/// Where the row at `index` begins, and its weight, of entries after which no total stands.
-#[inline]
-fn row_words_among<Entry, Kind: CdfEntry<Entry>, const PRECISION: usize>(
-    entries: &[Entry],
-    index: usize,
-) -> (Kind::Word, Kind::Word)
-    requires some { 0 < PRECISION }
-    requires fits { PRECISION ≤ Kind.Word.BITS }
-    requires stored { IsStored Kind.Word.BITS PRECISION (map Kind.cumulative entries.now) }
-    requires in_bounds { index < length entries.now }
-    ensures left { Kind.Word.whole result.0 ≡ slice_index (map Kind.cumulative entries.now) index }
-    ensures weight { Kind.Word.whole result.1
-        ≡ slice_index (weights_of PRECISION (map Kind.cumulative entries.now)) index }
-    ensures positive { 0 < Kind.Word.whole result.1 }
-{
-    let left = Kind::cumulative_of(&entries[index]);
-    let end = end_of_row::<Entry, Kind, PRECISION>(entries, index);
-    (left, end.wrapping_minus(left))
-}
-
 /// Where the row at `index` begins, and its weight as a word that is not 0, of entries that have a
-/// left cumulative and a symbol each.
+/// left cumulative and a symbol each, with the total after them.
 #[inline]
 pub fn paired_row_at<P: WholeNumber, Symbol, const PRECISION: usize>(
-    entries: &[(P, Symbol)],
+    cdf: &[(P, Symbol)],
     index: usize,
 ) -> (P, Weight<P>)
-    requires some { 0 < PRECISION }
     requires fits { PRECISION ≤ P.BITS }
-    requires stored { IsStored P.BITS PRECISION (map (λ x. P.whole x.0) entries.now) }
-    requires in_bounds { index < length entries.now }
-    ensures left { P.whole result.0 ≡ slice_index (map (λ x. P.whole x.0) entries.now) index }
+    requires table { IsTable P.BITS PRECISION (map (λ x. P.whole x.0) cdf.now) }
+    requires in_bounds { index + 1 < length cdf.now }
+    ensures left { P.whole result.0 ≡ slice_index (map (λ x. P.whole x.0) (entries_in cdf.now)) index }
     ensures weight { P.whole (P.base result.1)
-        ≡ slice_index (weights_of PRECISION (map (λ x. P.whole x.0) entries.now)) index }
+        ≡ slice_index (weights_of PRECISION (map (λ x. P.whole x.0) (entries_in cdf.now))) index }
 {
-    let (left, weight) = row_words_among::<(P, Symbol), WithSymbol, PRECISION>(entries, index);
+    let (left, weight) = row_words_at::<(P, Symbol), WithSymbol, PRECISION>(cdf, index);
     (left, weight.to_weight())
 }
 
@@ -128,23 +78,22 @@ pub fn contiguous_row_at<P: WholeNumber, const PRECISION: usize>(
     (index, left, weight)
 }
 
-/// The row at `index` of entries that have a left cumulative and a symbol each, with a clone of the
-/// symbol.
+/// The row at `index` of entries that have a left cumulative and a symbol each, with the total after
+/// them, and a clone of the row's symbol.
 #[inline]
 pub fn cloned_row_at<P: WholeNumber, Symbol: Clone, const PRECISION: usize>(
     cdf: &[(P, Symbol)],
     index: usize,
 ) -> Result<(Symbol, P, Weight<P>), AllocError>
-    requires some { 0 < PRECISION }
     requires fits { PRECISION ≤ P.BITS }
-    requires stored { IsStored P.BITS PRECISION (map (λ x. P.whole x.0) cdf.now) }
-    requires in_bounds { index < length cdf.now }
+    requires table { IsTable P.BITS PRECISION (map (λ x. P.whole x.0) cdf.now) }
+    requires in_bounds { index + 1 < length cdf.now }
     ensures row { IfOk result (λ x. (own : Symbol) × Symbol.is_clone own x.0
-        × (slice_index_or (rows_paired P.whole PRECISION cdf.now) index (row_of P.whole P.base (own, x.1, x.2))
+        × (slice_index_or (rows_paired P.whole PRECISION (entries_in cdf.now)) index (row_of P.whole P.base (own, x.1, x.2))
         ≡ row_of P.whole P.base (own, x.1, x.2))) }
     ensures within { IfOk result (λ x. LiesWithin PRECISION (row_of P.whole P.base x)) }
-    ensures refused { IfErr result (λ _. (r : Row Symbol) × (slice_index_or (rows_paired P.whole PRECISION cdf.now) index r ≡ r)
-        × ¬ (Symbol.is_infallible r.symbol)) }
+    ensures refused { IfErr result (λ _. (r : Row Symbol)
+        × (slice_index_or (rows_paired P.whole PRECISION (entries_in cdf.now)) index r ≡ r) × ¬ (Symbol.is_infallible r.symbol)) }
 {
     let (left, weight) = paired_row_at::<P, Symbol, PRECISION>(cdf, index);
     match cdf[index].1.clone() {

@@ -19,14 +19,15 @@ use std::alloc::Global;
 /// Its symbols are those that the walk gave. The only refusal is `OutOfMemory`, where memory for the entries,
 /// or for a clone of a symbol, is refused.
 ///
-/// One walk, and one allocation where the walk announces how many rows there are. No symbols are compared.
+/// One walk, one allocation where the walk announces how many rows there are, and one clone more, of the last
+/// symbol. No symbols are compared.
 pub fn to_generic_decoder_model_of_distinct<M, const PRECISION: usize>(
     alloc: Global,
     model: M,
 ) -> Result<DecoderMadeOf<M, PRECISION>, ModelError>
 where
     M: IterableEntropyModel<PRECISION>,
-    M::Symbol: Eq + Drop,
+    M::Symbol: Eq + Clone,
     requires positive { 0 < PRECISION }
     requires fits { PRECISION ≤ M.Probability.BITS }
     requires clones { ClonesAreEqual M.Symbol.eq M.stands_for }
@@ -36,7 +37,7 @@ where
     ensures refused { IfErr result (λ e. e ≡ ModelError.OutOfMemory) }
 {
     let cdf = entries_collected::<_, _, _, _, PRECISION>(alloc, model.symbol_table())?;
-    Ok(decoder_over(cdf))
+    Ok(decoder_over(cdf)?)
 }
 
 /// The lookup model of the same rows as a model that can be walked through and no two symbols of which are
@@ -45,14 +46,14 @@ where
 /// The only refusal is `OutOfMemory`, where memory for the entries, for a clone of a symbol, or for the table
 /// is refused.
 ///
-/// One walk, and one pass over the rows. No symbols are compared.
+/// One walk, one clone more, of the last symbol, and one pass over the rows. No symbols are compared.
 pub fn to_generic_lookup_decoder_model_of_distinct<M, const PRECISION: usize>(
     alloc: Global,
     model: M,
 ) -> Result<LookupMadeOf<M, PRECISION, 8>, ModelError>
 where
     M: IterableEntropyModel<PRECISION>,
-    M::Symbol: Eq + Drop,
+    M::Symbol: Eq + Clone,
     M::Probability: IndexWord,
     requires positive { 0 < PRECISION }
     requires narrow { PRECISION ≤ 63 }

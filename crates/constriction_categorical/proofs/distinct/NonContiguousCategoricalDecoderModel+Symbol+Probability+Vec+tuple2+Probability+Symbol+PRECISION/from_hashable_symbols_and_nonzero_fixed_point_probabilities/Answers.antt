@@ -1,4 +1,4 @@
-use Rattle.std.proofs.Common.{◌≡◌, true, false, Err, map, sym, subst, ◌∙◌, rules}
+use Rattle.std.proofs.Common.{◌≡◌, true, false, Err, map, sym, subst, ◌∙◌, arith, rules}
 use Rattle.std.specs.List.{IsDistinct}
 use Rattle.constriction_model.specs.declared.error.ModelError.TheVariants.{InvalidTable}
 use Rattle.constriction_model.specs.Acceptance.{AreAccepted, WasReadOf, completed}
@@ -6,31 +6,29 @@ use Rattle.constriction_stored_rows.proofs.ApartLemmas.{read-symbols, apart-acce
 use Rattle.constriction_stored_rows.proofs.MadeLemmas.{made-unrefused}
 use Rattle.constriction_categorical.proofs.distinct.NonContiguousCategoricalDecoderModel+Symbol+Probability+Vec+tuple2+Probability+Symbol+PRECISION.from_hashable_symbols_and_nonzero_fixed_point_probabilities.Goals as goal
 
-pub invariant_of-result : goal.invariant_of-result
-invariant_of-result g c =
+pub decoder_over-requires : goal.decoder_over-requires
+decoder_over-requires g c =
     let whole = g.Probability.WholeNumber.whole in
     let eq = g.Symbol.PartialEq.eq in
     let bits = g.Probability.WholeNumber.BITS in
-    let read = c.in_ok-cdf.ensures.ok in
+    let read = c.in_ok-entries.ensures.ok in
     let weights = completed g.row.PRECISION c.args.infer_last_probability (map whole read.1) in
-    let entries = c.in_ok-cdf.cdf.items in
+    let entries = c.in_ok-entries.entries.items in
     let symbols = read-symbols eq whole bits g.row.PRECISION entries read.0 weights read.4 read.5 in
     let differ : IsDistinct eq read.0 =
     subst (IsDistinct eq) symbols (rw c.deref.ensures.value at (c.in_ok-apart.ensures.0 c.if-not-apart.false)) in
-    record {
-      precise = (c.requires.positive, c.requires.fits);
-      stored = (apart-stored eq whole bits g.row.PRECISION entries read.0 weights read.4 read.5 differ).0;
-      distinct = apart-distinct eq whole bits g.row.PRECISION entries read.0 weights read.4 read.5 differ;
-    }
+    let stored = (apart-stored eq whole bits g.row.PRECISION entries read.0 weights read.4 read.5 differ).0 in
+    let distinct = apart-distinct eq whole bits g.row.PRECISION entries read.0 weights read.4 read.5 differ in
+    (omega arith, (c.requires.positive, (c.requires.fits, (stored, distinct))))
 
 pub returns : goal.returns
 returns g c =
     let whole = g.Probability.WholeNumber.whole in
     let eq = g.Symbol.PartialEq.eq in
     let bits = g.Probability.WholeNumber.BITS in
-    let read = c.in_ok-cdf.ensures.ok in
+    let read = c.in_ok-entries.ensures.ok in
     let weights = completed g.row.PRECISION c.args.infer_last_probability (map whole read.1) in
-    let entries = c.in_ok-cdf.cdf.items in
+    let entries = c.in_ok-entries.entries.items in
     let symbols = read-symbols eq whole bits g.row.PRECISION entries read.0 weights read.4 read.5 in
     let differ : IsDistinct eq read.0 =
     subst (IsDistinct eq) symbols (rw c.deref.ensures.value at (c.in_ok-apart.ensures.0 c.if-not-apart.false)) in
@@ -41,13 +39,13 @@ returns g c =
         read.2,
         read.3,
         apart-accepted eq whole bits g.row.PRECISION entries read.0 weights read.4 read.5 differ,
-        (apart-stored eq whole bits g.row.PRECISION entries read.0 weights read.4 read.5 differ).1,
+        c.in_ok-decoder_over.ensures ∙ (apart-stored eq whole bits g.row.PRECISION entries read.0 weights read.4 read.5 differ).1,
       );
       invalid = λ e. absurd (made-unrefused _ _ e);
     }
 
-pub returns-in_err-cdf : goal.returns-in_err-cdf
-returns-in_err-cdf g c =
+pub returns-in_err-entries : goal.returns-in_err-entries
+returns-in_err-entries g c =
     let whole = g.Probability.WholeNumber.whole in
     let bits = g.Probability.WholeNumber.BITS in
     record {
@@ -69,9 +67,9 @@ returns-then-not-apart g c =
     let whole = g.Probability.WholeNumber.whole in
     let eq = g.Symbol.PartialEq.eq in
     let bits = g.Probability.WholeNumber.BITS in
-    let read = c.in_ok-cdf.ensures.ok in
+    let read = c.in_ok-entries.ensures.ok in
     let weights = completed g.row.PRECISION c.args.infer_last_probability (map whole read.1) in
-    let entries = c.in_ok-cdf.cdf.items in
+    let entries = c.in_ok-entries.entries.items in
     let symbols = read-symbols eq whole bits g.row.PRECISION entries read.0 weights read.4 read.5 in
     record {
       ok = tt;

@@ -1,4 +1,4 @@
-use Rattle.std.proofs.Common.{◌≡◌, map, Err, refl, rules}
+use Rattle.std.proofs.Common.{◌≡◌, map, Err, refl, ◌∙◌, arith, rules}
 use Rattle.constriction_model.specs.declared.error.ModelError.TheVariants.{InvalidTable}
 use Rattle.constriction_model.specs.Acceptance.{AreAccepted, completed}
 use Rattle.constriction_model.specs.Rows.{rows_of}
@@ -6,31 +6,29 @@ use Rattle.constriction_stored_rows.proofs.MadeLemmas.{made-unrefused, bad-both}
 use Rattle.constriction_stored_rows.proofs.PairedLemmas.{paired-of_rows, accepted-tile, paired-distinct}
 use Rattle.constriction_categorical.proofs.non_contiguous.NonContiguousCategoricalDecoderModel+Symbol+Probability+Vec+tuple2+Probability+Symbol+PRECISION.from_symbols_and_nonzero_fixed_point_probabilities.Goals as goal
 
-pub invariant_of-result : goal.invariant_of-result
-invariant_of-result g c =
+pub decoder_over-requires : goal.decoder_over-requires
+decoder_over-requires g c =
     let whole = g.Probability.WholeNumber.whole in
     let eq = g.Symbol.PartialEq.eq in
-    let given = c.in_ok-cdf.ensures.ok in
+    let bits = g.Probability.WholeNumber.BITS in
+    let given = c.in_ok-entries.ensures.ok in
     let weights = completed g.row.PRECISION c.args.infer_last_probability (map whole given.1) in
     let good = given.4 in
-    let tile = accepted-tile eq g.Probability.WholeNumber.BITS g.row.PRECISION given.0 weights good.0 in
-    record {
-      precise = (c.requires.positive, c.requires.fits);
-      stored = (paired-of_rows whole g.Probability.WholeNumber.BITS g.row.PRECISION (rows_of given.0 weights) c.in_ok-cdf.cdf.items tile
-          good.1).0;
-      distinct = paired-distinct eq g.Probability.WholeNumber.BITS g.row.PRECISION given.0 weights good.0 whole c.in_ok-cdf.cdf.items good.1;
-    }
+    let entries = c.in_ok-entries.entries.items in
+    let tile = accepted-tile eq bits g.row.PRECISION given.0 weights good.0 in
+    let stored = (paired-of_rows whole bits g.row.PRECISION (rows_of given.0 weights) entries tile good.1).0 in
+    let distinct = paired-distinct eq bits g.row.PRECISION given.0 weights good.0 whole entries good.1 in
+    (omega arith, (c.requires.positive, (c.requires.fits, (stored, distinct))))
 
 pub returns : goal.returns
 returns g c =
     let whole = g.Probability.WholeNumber.whole in
-    let eq = g.Symbol.PartialEq.eq in
-    let given = c.in_ok-cdf.ensures.ok in
+    let given = c.in_ok-entries.ensures.ok in
     let weights = completed g.row.PRECISION c.args.infer_last_probability (map whole given.1) in
     let good = given.4 in
-    let tile = accepted-tile eq g.Probability.WholeNumber.BITS g.row.PRECISION given.0 weights good.0 in
-    let rows = paired-of_rows whole g.Probability.WholeNumber.BITS g.row.PRECISION (rows_of given.0 weights) c.in_ok-cdf.cdf.items tile
-    good.1 in
+    let tile = accepted-tile g.Symbol.PartialEq.eq g.Probability.WholeNumber.BITS g.row.PRECISION given.0 weights good.0 in
+    let rows = paired-of_rows whole g.Probability.WholeNumber.BITS g.row.PRECISION (rows_of given.0 weights) c.in_ok-entries.entries.items
+    tile good.1 in
     record {
       ok = (
         given.0,
@@ -42,7 +40,7 @@ returns g c =
         },
         record { iterator = c.into_iter.result; became = c.into_iter.ensures.into_iter_gives; was_read = given.3 },
         good.0,
-        rows.1,
+        c.in_ok-decoder_over.ensures ∙ rows.1,
       );
       invalid = λ e. absurd (made-unrefused _ _ e);
     }
@@ -64,8 +62,8 @@ rows_read-requires-clause-weights_go g c = (c.requires.probabilities_end c.into_
 pub rows_read-requires-clause-weights_end : goal.rows_read-requires-clause-weights_end
 rows_read-requires-clause-weights_end g c = (c.requires.probabilities_end c.into_iter.result c.into_iter.ensures.into_iter_gives).1
 
-pub returns-in_err-cdf : goal.returns-in_err-cdf
-returns-in_err-cdf g c = record {
+pub returns-in_err-entries : goal.returns-in_err-entries
+returns-in_err-entries g c = record {
   ok = search rules;
   invalid = λ h.
       let e : c.rows_read.result ≡ Err InvalidTable = search rules in

@@ -1,34 +1,41 @@
-use Rattle.std.proofs.Common.{◌≡◌, length, map, ap, ◌∙◌, arith}
+use Rattle.std.proofs.Common.{◌≡◌, ◌+◌, ◌<◌, length, map, ap, ◌∙◌, arith}
 use Rattle.std.proofs.lemmas.List.{length-map}
 use Rattle.constriction_model.specs.Model.{row_of}
-use Rattle.constriction_stored_rows.specs.Stored.{rows_paired}
-use Rattle.constriction_stored_rows.proofs.PairedLemmas.{paired-probed, paired-index, lent-lefts}
+use Rattle.constriction_stored_rows.specs.Stored.{entries_in, rows_paired}
+use Rattle.constriction_stored_rows.specs.SymbolRowLemmas.{entries-stored}
+use Rattle.constriction_stored_rows.proofs.PairedLemmas.{paired-probed, paired-index, lent-lefts, entries-long}
 use Rattle.constriction_categorical.proofs.non_contiguous.NonContiguousCategoricalDecoderModelSearchingModel.counted_quantile_function.Goals as goal
 
 pub row_of_quantile-index-requires-clause-searchable : goal.row_of_quantile-index-requires-clause-searchable
 row_of_quantile-index-requires-clause-searchable g c =
     let whole = g.Probability.WholeNumber.whole in
+    let table = g.Cdf.SafeBuf.words_of c.args.self.now.cdf in
+    let stored = entries-stored whole g.Probability.WholeNumber.BITS g.row.PRECISION table c.args.self.now.stored in
     rw c.new-rows.ensures.cumulatives
-    ((paired-probed whole g.Probability.WholeNumber.BITS g.row.PRECISION (g.Cdf.SafeBuf.words_of c.args.self.now.cdf)
-    c.args.self.now.stored c.cdf_entries.result.now c.cdf_entries.ensures).1 (whole c.args.quantile))
+    ((paired-probed whole g.Probability.WholeNumber.BITS g.row.PRECISION (entries_in table) stored c.cdf_entries.result.now
+    c.cdf_entries.ensures).1 (whole c.args.quantile))
 
-pub cloned_row_at-requires-clause-stored : goal.cloned_row_at-requires-clause-stored
-cloned_row_at-requires-clause-stored g c = rw c.words.ensures c.args.self.now.stored
+pub cloned_row_at-requires-clause-table : goal.cloned_row_at-requires-clause-table
+cloned_row_at-requires-clause-table g c = rw c.words.ensures c.args.self.now.stored
 
 pub cloned_row_at-requires-clause-in_bounds : goal.cloned_row_at-requires-clause-in_bounds
 cloned_row_at-requires-clause-in_bounds g c =
     let whole = g.Probability.WholeNumber.whole in
-    let entries = g.Cdf.SafeBuf.words_of c.args.self.now.cdf in
-    let found = paired-index whole g.Probability.WholeNumber.BITS g.row.PRECISION entries c.args.self.now.stored c.cdf_entries.result.now
+    let table = g.Cdf.SafeBuf.words_of c.args.self.now.cdf in
+    let stored = entries-stored whole g.Probability.WholeNumber.BITS g.row.PRECISION table c.args.self.now.stored in
+    let found = paired-index whole g.Probability.WholeNumber.BITS g.row.PRECISION (entries_in table) stored c.cdf_entries.result.now
     c.cdf_entries.ensures (whole c.args.quantile) c.row_of_quantile-index.result c.requires.in_range
     (rw c.new-rows.ensures.cumulatives at c.row_of_quantile-index.ensures.found) in
-    rw c.words.ensures found.1
+    let long = entries-long whole g.Probability.WholeNumber.BITS g.row.PRECISION table c.args.self.now.stored in
+    let within : c.row_of_quantile-index.result + 1 < length table = omega (arith, found.1, long) in
+    rw c.words.ensures within
 
 pub returns-in-Ok-clause-row : goal.returns-in-Ok-clause-row
 returns-in-Ok-clause-row g c =
     let whole = g.Probability.WholeNumber.whole in
-    let entries = g.Cdf.SafeBuf.words_of c.args.self.now.cdf in
-    let found = paired-index whole g.Probability.WholeNumber.BITS g.row.PRECISION entries c.args.self.now.stored c.cdf_entries.result.now
+    let table = g.Cdf.SafeBuf.words_of c.args.self.now.cdf in
+    let stored = entries-stored whole g.Probability.WholeNumber.BITS g.row.PRECISION table c.args.self.now.stored in
+    let found = paired-index whole g.Probability.WholeNumber.BITS g.row.PRECISION (entries_in table) stored c.cdf_entries.result.now
     c.cdf_entries.ensures (whole c.args.quantile) c.row_of_quantile-index.result c.requires.in_range
     (rw c.new-rows.ensures.cumulatives at c.row_of_quantile-index.ensures.found) in
     let at = rw c.words.ensures at c.in-Ok.ensures.row in
@@ -38,8 +45,9 @@ returns-in-Ok-clause-row g c =
 pub returns-in-Err-clause-refused : goal.returns-in-Err-clause-refused
 returns-in-Err-clause-refused g c =
     let whole = g.Probability.WholeNumber.whole in
-    let entries = g.Cdf.SafeBuf.words_of c.args.self.now.cdf in
-    let found = paired-index whole g.Probability.WholeNumber.BITS g.row.PRECISION entries c.args.self.now.stored c.cdf_entries.result.now
+    let table = g.Cdf.SafeBuf.words_of c.args.self.now.cdf in
+    let stored = entries-stored whole g.Probability.WholeNumber.BITS g.row.PRECISION table c.args.self.now.stored in
+    let found = paired-index whole g.Probability.WholeNumber.BITS g.row.PRECISION (entries_in table) stored c.cdf_entries.result.now
     c.cdf_entries.ensures (whole c.args.quantile) c.row_of_quantile-index.result c.requires.in_range
     (rw c.new-rows.ensures.cumulatives at c.row_of_quantile-index.ensures.found) in
     let at = rw c.words.ensures at c.in-Err.ensures.refused in
@@ -48,10 +56,11 @@ returns-in-Err-clause-refused g c =
 pub returns-in-Ok-clause-few : goal.returns-in-Ok-clause-few
 returns-in-Ok-clause-few g c =
     let whole = g.Probability.WholeNumber.whole in
-    let entries = g.Cdf.SafeBuf.words_of c.args.self.now.cdf in
-    let rows = rows_paired whole g.row.PRECISION entries in
+    let table = g.Cdf.SafeBuf.words_of c.args.self.now.cdf in
+    let stored = entries-stored whole g.Probability.WholeNumber.BITS g.row.PRECISION table c.args.self.now.stored in
+    let rows = rows_paired whole g.row.PRECISION (entries_in table) in
     let many : length (map (λ x. whole x.0) c.cdf_entries.result.now) ≡ length rows =
-    ap length (lent-lefts whole g.Probability.WholeNumber.BITS g.row.PRECISION entries c.args.self.now.stored c.cdf_entries.result.now
+    ap length (lent-lefts whole g.Probability.WholeNumber.BITS g.row.PRECISION (entries_in table) stored c.cdf_entries.result.now
     c.cdf_entries.ensures) ∙ length-map rows (λ r. r.left) in
     let fresh : c.new-rows.result.asked ≡ 0 = c.new-rows.ensures.fresh in
     let asked = rw (c.new-rows.ensures.cumulatives, many) at c.row_of_quantile-index.ensures in
@@ -60,10 +69,11 @@ returns-in-Ok-clause-few g c =
 pub returns-in-Ok-clause-among : goal.returns-in-Ok-clause-among
 returns-in-Ok-clause-among g c =
     let whole = g.Probability.WholeNumber.whole in
-    let entries = g.Cdf.SafeBuf.words_of c.args.self.now.cdf in
-    let rows = rows_paired whole g.row.PRECISION entries in
+    let table = g.Cdf.SafeBuf.words_of c.args.self.now.cdf in
+    let stored = entries-stored whole g.Probability.WholeNumber.BITS g.row.PRECISION table c.args.self.now.stored in
+    let rows = rows_paired whole g.row.PRECISION (entries_in table) in
     let many : length (map (λ x. whole x.0) c.cdf_entries.result.now) ≡ length rows =
-    ap length (lent-lefts whole g.Probability.WholeNumber.BITS g.row.PRECISION entries c.args.self.now.stored c.cdf_entries.result.now
+    ap length (lent-lefts whole g.Probability.WholeNumber.BITS g.row.PRECISION (entries_in table) stored c.cdf_entries.result.now
     c.cdf_entries.ensures) ∙ length-map rows (λ r. r.left) in
     let fresh : c.new-rows.result.asked ≡ 0 = c.new-rows.ensures.fresh in
     let asked = rw (c.new-rows.ensures.cumulatives, many) at c.row_of_quantile-index.ensures in
@@ -72,10 +82,11 @@ returns-in-Ok-clause-among g c =
 pub returns-in-Ok-clause-some : goal.returns-in-Ok-clause-some
 returns-in-Ok-clause-some g c =
     let whole = g.Probability.WholeNumber.whole in
-    let entries = g.Cdf.SafeBuf.words_of c.args.self.now.cdf in
-    let rows = rows_paired whole g.row.PRECISION entries in
+    let table = g.Cdf.SafeBuf.words_of c.args.self.now.cdf in
+    let stored = entries-stored whole g.Probability.WholeNumber.BITS g.row.PRECISION table c.args.self.now.stored in
+    let rows = rows_paired whole g.row.PRECISION (entries_in table) in
     let many : length (map (λ x. whole x.0) c.cdf_entries.result.now) ≡ length rows =
-    ap length (lent-lefts whole g.Probability.WholeNumber.BITS g.row.PRECISION entries c.args.self.now.stored c.cdf_entries.result.now
+    ap length (lent-lefts whole g.Probability.WholeNumber.BITS g.row.PRECISION (entries_in table) stored c.cdf_entries.result.now
     c.cdf_entries.ensures) ∙ length-map rows (λ r. r.left) in
     let fresh : c.new-rows.result.asked ≡ 0 = c.new-rows.ensures.fresh in
     let asked = rw (c.new-rows.ensures.cumulatives, many) at c.row_of_quantile-index.ensures in

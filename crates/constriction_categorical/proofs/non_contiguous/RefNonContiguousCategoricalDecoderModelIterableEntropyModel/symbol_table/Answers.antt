@@ -10,4 +10,7 @@ returns g c =
 pub invariant_of-result : goal.invariant_of-result
 invariant_of-result g c =
     let lent = paired-lent g.Probability.WholeNumber.whole _ g.row.PRECISION _ _ c.args.self.now.stored c.words-cdf.ensures in
-    record { precise = c.args.self.now.precise; stored = lent.0; in_order = lent.2; in_bounds = lent.3 }
+    record { narrow = c.args.self.now.precise.1; stored = lent.0; in_order = lent.2; in_bounds = lent.3 }
+
+pub overflow_sub-result : goal.overflow_sub-result
+overflow_sub-result g c = (paired-lent g.Probability.WholeNumber.whole _ g.row.PRECISION _ _ c.args.self.now.stored c.words-cdf.ensures).4

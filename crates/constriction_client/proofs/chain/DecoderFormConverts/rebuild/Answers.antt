@@ -3,7 +3,7 @@ use Rattle.constriction_client.proofs.Rebuilding.{rows-stand}
 use Rattle.constriction_client.proofs.chain.DecoderFormConverts.rebuild.Goals as goal
 
 pub symbols_and_weights-requires-clause-distinct : goal.symbols_and_weights-requires-clause-distinct
-symbols_and_weights-requires-clause-distinct g c = c.requires.4 _
+symbols_and_weights-requires-clause-distinct g c = c.requires.4 c.args.self.now
 
 pub symbols_and_weights-requires-clause-clones : goal.symbols_and_weights-requires-clause-clones
 symbols_and_weights-requires-clause-clones g c = c.requires.3

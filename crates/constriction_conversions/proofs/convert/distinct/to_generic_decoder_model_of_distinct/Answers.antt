@@ -42,7 +42,7 @@ returns-clause-ok g c =
     (g.M.EntropyModel.rows c.args.model) c.symbol_table.result c.symbol_table.ensures.all eq
     g.met.M.Symbol.Eq.laws c.requires.clones c.requires.distinct entries c.in_ok-cdf.ensures in
     subst (λ (rows : List (Row g.row.M-Symbol.Denot)). StandApart eq g.M.IterableEntropyModel.stands_for rows (g.M.EntropyModel.rows c.args.model))
-    (sym c.decoder_over.ensures) (
+    (sym c.in_ok-decoder_over.ensures) (
       (walked-stored g.M.IterableEntropyModel.stands_for g.M.IterableEntropyModel.may_refuse g.M.Probability.WholeNumber.whole
           g.M.Probability.WholeNumber.base g.M.SymbolTable.Iterator.next_gives g.M.IterableEntropyModel.rows_left M.steps_law
           (g.M.EntropyModel.rows c.args.model) c.symbol_table.result c.symbol_table.ensures.all eq g.M.Probability.WholeNumber.BITS g.row.PRECISION
