@@ -7,13 +7,13 @@ ghost use Rattle.constriction.specs.Slots.{meets_slot};
 
 use crate::checks::{same, same_at};
 use constriction::stream::model::{
-    EntropyModel, LookupDecoderModel, SearchingModel, SlottedContiguousLookupDecoderModel,
-    SlottedNonContiguousLookupDecoderModel,
+    ContiguousLookupDecoderModel, EntropyModel, LookupDecoderModel, ModelError, SearchingModel,
+    SlottedContiguousLookupDecoderModel, SlottedNonContiguousLookupDecoderModel,
 };
 use constriction_fixtures::any_symbols::{Decoder, SYMBOLS, WEIGHTS, decoder};
 use constriction_fixtures::contiguous::Table;
 use constriction_fixtures::given::of_four;
-use constriction_words::WholeNumber;
+use constriction_words::{IndexWord, WholeNumber};
 use std::alloc::{AllocError, Global};
 use std::fmt::Debug;
 use std::process::Abort;
@@ -160,4 +160,103 @@ fn a_table_compares_the_rows_of_a_slot(rt: HostRuntime) {
     let letters = decoder::<6>(rt.alloc(), &SYMBOLS, &WEIGHTS, false).expect(&rt, "accepted");
     let tabled = letters_with_table(&rt, rt.alloc(), letters);
     finds(&rt, &tabled, &LETTERS, &COMPARED);
+}
+
+/// A lookup model with 256 slots.
+type Lookup<Word, const PRECISION: usize> = ContiguousLookupDecoderModel<
+    Word,
+    Vec<Word>,
+    Vec<Word>,
+    PRECISION,
+>;
+
+/// The lookup model of two rows.
+fn of_two<Word: IndexWord, const PRECISION: usize>(
+    alloc: Global,
+    weights: &[Word; 2],
+) -> Result<Lookup<Word, PRECISION>, ModelError>
+    requires positive { 0 < PRECISION }
+    requires narrow { PRECISION ≤ 63 }
+    requires fits { PRECISION ≤ Word.BITS }
+{
+    Lookup::<Word, PRECISION>::from_nonzero_fixed_point_probabilities(
+        alloc,
+        weights.iter().copied(),
+        false,
+    )
+}
+
+/// The symbol of a quantile, and how many of two rows are compared, the second of which begins at `cut`: one where both
+/// meet the quantile's slot of so many quantiles, and else none.
+fn among_two(cut: usize, width: usize, quantile: usize) -> Option<(usize, usize)>
+    requires { 0 < width }
+{
+    let both = cut % width != 0 && cut / width == quantile / width;
+    Some((usize::from(cut <= quantile), usize::from(both)))
+}
+
+/// Slots of one quantile.
+#[test]
+fn of_two_rows_of_8_bits_none_is_compared(rt: HostRuntime) {
+    for weights in [[1u8, 255], [100, 156], [128, 128], [255, 1]] {
+        let model = of_two::<u8, 8>(rt.alloc(), &weights).expect(&rt, "accepted");
+        for quantile in 0..=u8::MAX {
+            let wanted = among_two(weights[0] as usize, 1, quantile as usize);
+            same_at(
+                &rt,
+                quantile,
+                found::<&Lookup<u8, 8>, 8>(&model, quantile),
+                wanted,
+            );
+        }
+    }
+}
+
+/// Slots of 16 quantiles. The second row begins within the first slot, at one slot's first quantile, within a slot, and
+/// at the first quantile of the last slot and within it.
+#[test]
+fn of_two_rows_of_12_bits_one_is_compared_in_the_slot_of_both(rt: HostRuntime) {
+    for weights in [
+        [1u16, 4095],
+        [1536, 2560],
+        [1541, 2555],
+        [4080, 16],
+        [4090, 6],
+        [4095, 1],
+    ] {
+        let model = of_two::<u16, 12>(rt.alloc(), &weights).expect(&rt, "accepted");
+        for quantile in 0..4096u16 {
+            let wanted = among_two(weights[0] as usize, 16, quantile as usize);
+            same_at(
+                &rt,
+                quantile,
+                found::<&Lookup<u16, 12>, 12>(&model, quantile),
+                wanted,
+            );
+        }
+    }
+}
+
+/// The same of slots of 256 quantiles.
+#[test]
+fn of_two_rows_of_16_bits_one_is_compared_in_the_slot_of_both(rt: HostRuntime) {
+    for weights in [
+        [1u16, 65_535],
+        [25_600, 39_936],
+        [25_701, 39_835],
+        [65_280, 256],
+        [65_300, 236],
+        [65_535, 1],
+    ] {
+        let model = of_two::<u16, 16>(rt.alloc(), &weights).expect(&rt, "accepted");
+        for quantile in 0..=u16::MAX {
+            let wanted = among_two(weights[0] as usize, 256, quantile as usize);
+            same_at(
+                &rt,
+                quantile,
+                found::<&Lookup<u16, 16>, 16>(&model, quantile),
+                wanted,
+            );
+        }
+    }
 }

@@ -23,6 +23,15 @@ slot-to precision slot_bits q =
     let below = (whole-part (slot_width precision slot_bits) q (q / slot_width precision slot_bits) wide).0 (omega arith) in
     omega arith
 
+-- where one row meets the slot of a quantile, it is the quantile's
+pub slot_only : (precision slot_bits q : ℕ) (lefts : List ℕ) (first last : ℕ) → first ≡ last
+    → IsSlot lefts (slot_width precision slot_bits) (q / slot_width precision slot_bits) first last → IsLastAtMost lefts q first
+slot_only precision slot_bits q lefts first last same s = record {
+  in_bounds = s.from.in_bounds;
+  at_most = omega (arith, s.from.at_most, slot-from precision slot_bits q);
+  last = λ j a b. omega (arith, s.to.last j (omega arith) b, slot-to precision slot_bits q);
+}
+
 -- the rows of a slot that has one word
 module _ (width count : ℕ) (lefts table : List ℕ) (slot : ℕ) (s : HasSlots width count lefts table) (within : slot < count) where
   module _ (one : words_a_slot width ≡ 1) where

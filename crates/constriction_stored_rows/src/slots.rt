@@ -192,8 +192,12 @@ fn row_of_few<Entry, Kind: CdfEntry<Entry>, const PRECISION: usize, const SLOT_B
 /// The last row that begins at a quantile or below it, among the rows that meet its slot, and how many of these,
 /// other than the first one, were compared with the quantile: the only row where a slot holds one quantile, else by two
 /// comparisons without a jump where at most three rows meet the slot, and by a search where more do.
+///
+/// Of a model of few rows, one row alone meets nearly all slots, and is found by no comparison. That is a jump, which is
+/// guessed right for 15 of 16 quantiles at least, if these are spread evenly; the rest is out of line, so that a loop is
+/// compiled twice over, and tests the number of rows once.
 #[inline(always)]
-#[tactic(auto, using(constriction_model::proofs::Digits::digits_few))]
+#[tactic(auto, using(constriction_model::proofs::Digits::digits_few, crate::proofs::SlotLemmas::slot_only))]
 pub fn row_in_slot<Entry, Kind: CdfEntry<Entry>, const PRECISION: usize, const SLOT_BITS: usize>(
     entries: &[Entry],
     table: &[Kind::Word],
@@ -211,6 +215,12 @@ pub fn row_in_slot<Entry, Kind: CdfEntry<Entry>, const PRECISION: usize, const S
     let (first, last) = rows_of_slot::<Entry, Kind, PRECISION, SLOT_BITS>(entries, table, quantile);
     if width_of_slots::<PRECISION, SLOT_BITS>() == 1 {
         return (first, 0);
+    }
+    if entries.len() <= number_of_slots::<PRECISION, SLOT_BITS>() / 16 {
+        if first == last {
+            return (first, 0);
+        }
+        return row_among::<Entry, Kind, PRECISION, SLOT_BITS>(entries, first, last, quantile);
     }
     if last - first <= 2 {
         let row = row_of_few::<Entry, Kind, PRECISION, SLOT_BITS>(entries, first, last, quantile);
