@@ -1,6 +1,6 @@
 use Rattle.constriction.specs.GivenLemmas.{gives-array, made-of-lists, refused-lists}
 use Rattle.constriction_fixtures.proofs.GivenParts.{first, second}
-use Rattle.constriction_client_tests.proofs.known_models.decoder_of.Goals as goal
+use Rattle.constriction_theorem_tests.proofs.known_models.decoder_of.Goals as goal
 
 pub returns-clause-rows : goal.returns-clause-rows
 returns-clause-rows c =
