@@ -1,7 +1,6 @@
 //! Chains of conversions, and what the forms that they leave answer.
 
-ghost use Rattle.std.specs.Prelude.{◌<◌, ◌≤◌, [], ◌∷◌, nat_eq, IfOk};
-ghost use Rattle.constriction.specs.Entries.{SameEntries};
+ghost use Rattle.std.specs.Prelude.{◌<◌, ◌≤◌, [], ◌∷◌, IfOk};
 ghost use Rattle.constriction.specs.Model.{ClonesAreEqual};
 ghost use Rattle.constriction_client.specs.Chains.{ChainLeaves};
 ghost use Rattle.constriction_client.specs.declared.chain.ChainStep.TheVariants.{ToLookup, Rebuild, IntoSearch};
@@ -11,13 +10,14 @@ use crate::model_checks::{answers_as_a_scan, decodes, tile, walks};
 use crate::queries::{Asked, QUERIES, Replied, decoder_of_letters, encoder_of_letters, replies};
 use constriction::stream::model::{
     DecoderModel, EntropyModel, IterableEntropyModel, ModelError,
-    SmallNonContiguousCategoricalDecoderModel, UniformModel, to_generic_encoder_model,
+    SmallNonContiguousCategoricalDecoderModel, UniformModel,
 };
 use constriction_client::laws::{answer_after_chain, form_symbols_differ};
 use constriction_client::{ChainStep, DecoderForm, Query, Reply, answer_queries, convert_chain};
 use constriction_fixtures::any_symbols::{
     Decoder, Encoder, ROWS, Row, STEPS, SYMBOLS, WEIGHTS, decoder,
 };
+use constriction_fixtures::given::encoder_of;
 use constriction_fixtures::lookup_any_symbols::{looked_up, lookup};
 use constriction_fixtures::symbol_types::{Letter, letters};
 use constriction_words::{BitArray, IndexWord, NonZeroBitArray};
@@ -139,14 +139,24 @@ fn is_form(rt: &impl Abort, name: &str, form: &Form, table: bool) {
     decodes(rt, form, &ROWS);
 }
 
+/// Stops the test where a chain does not leave the letters' rows, with a table or without, of the form that searches or of
+/// the one with a table.
+fn keeps_the_rows(
+    rt: &impl Abort,
+    alloc: Global,
+    table: bool,
+    (name, steps, after): (&str, &[ChainStep], bool),
+) {
+    let made = converted(alloc, form(rt, alloc, table), steps);
+    is_form(rt, name, &made.expect(rt, "a form"), after);
+}
+
 #[test]
 fn every_chain_keeps_the_rows(rt: HostRuntime) {
-    for (name, steps, tables) in CHAINS {
-        let [from_search, from_lookup] = tables;
-        for (before, after) in [(false, from_search), (true, from_lookup)] {
-            let made = converted(rt.alloc(), form(&rt, rt.alloc(), before), steps);
-            is_form(&rt, name, &made.expect(&rt, "a form"), after);
-        }
+    for each in &CHAINS {
+        let (name, steps, [from_search, from_lookup]) = *each;
+        keeps_the_rows(&rt, rt.alloc(), false, (name, steps, from_search));
+        keeps_the_rows(&rt, rt.alloc(), true, (name, steps, from_lookup));
     }
 }
 
@@ -233,21 +243,18 @@ fn replies_by_rows(rt: &impl Abort, alloc: Global, form: &Form, encoder: &Encode
     }
 }
 
+/// Stops the test where a chain leaves a form that replies otherwise than by the letters' rows.
+fn keeps_the_replies(rt: &impl Abort, alloc: Global, steps: &[ChainStep], encoder: &Encoder<6>) {
+    let made = converted(alloc, form(rt, alloc, false), steps);
+    replies_by_rows(rt, alloc, &made.expect(rt, "a form"), encoder);
+}
+
 #[test]
 fn every_chain_keeps_the_replies(rt: HostRuntime) {
     let encoder = encoder_of_letters(&rt, rt.alloc());
-    for (_, steps, _) in CHAINS {
-        let made = converted(rt.alloc(), form(&rt, rt.alloc(), false), steps);
-        replies_by_rows(&rt, rt.alloc(), &made.expect(&rt, "a form"), &encoder);
+    for each in &CHAINS {
+        keeps_the_replies(&rt, rt.alloc(), each.1, &encoder);
     }
-}
-
-/// The encoder's model that is made of a decoder's: it has its entries, since clones of letters are the letters.
-pub fn encoder_of(alloc: Global, model: &Decoder<6>) -> Result<Encoder<6>, ModelError>
-    ensures { IfOk result (λ e. SameEntries nat_eq
-        (⟦<Encoder<6> as EntropyModel<6>>⟧.rows e) (⟦<Decoder<6> as EntropyModel<6>>⟧.rows model.now)) }
-{
-    to_generic_encoder_model::<_, 6>(alloc, model)
 }
 
 /// Takes the form with these entries through a chain, and asks it and the encoder's model that was made of
@@ -268,12 +275,16 @@ fn ask_after(
     )
 }
 
+/// Stops the test where the worked letters do not reply as ever after a chain.
+fn reply_after(rt: &impl Abort, alloc: Global, steps: &[ChainStep]) {
+    let found = ask_after(alloc, decoder_of_letters(rt, alloc), steps, &QUERIES);
+    holds(rt, &found.expect(rt, "replies"), &replies());
+}
+
 #[test]
 fn letters_reply_after_any_chain(rt: HostRuntime) {
-    for (_, steps, _) in CHAINS {
-        let searching = decoder_of_letters(&rt, rt.alloc());
-        let found = ask_after(rt.alloc(), searching, steps, &QUERIES);
-        holds(&rt, &found.expect(&rt, "replies"), &replies());
+    for each in &CHAINS {
+        reply_after(&rt, rt.alloc(), each.1);
     }
 }
 

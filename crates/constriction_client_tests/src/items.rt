@@ -18,7 +18,6 @@ use constriction_words::{BitArray, CoderError, Stack};
 use std::alloc::{AllocError, Global};
 use std::convert::Infallible;
 use std::process::Abort;
-use std::test::Fail;
 
 type Written = Result<(), CoderError<QuantileFault, AllocError>>;
 
@@ -347,9 +346,9 @@ fn write_letters(items: &[(u8, u8)], words: &mut Vec<u8>) -> Written {
 }
 
 #[test]
-fn a_model_of_the_caller_may_name_a_symbol_twice(rt: HostRuntime) -> Result<(), Fail> {
+fn a_model_of_the_caller_may_name_a_symbol_twice(rt: HostRuntime) {
     let items = [(b'a', 0u8), (b'b', 1)];
-    let pairs = letters_back(rt.alloc(), &items)?;
+    let pairs = letters_back(rt.alloc(), &items).expect(&rt, "pairs");
     holds(&rt, &pairs, &[(b'b', 1), (b'a', 0)]);
     let mut words = Vec::new(rt.alloc());
     same(&rt, write_letters(&items, &mut words), Ok(()));
@@ -359,7 +358,6 @@ fn a_model_of_the_caller_may_name_a_symbol_twice(rt: HostRuntime) -> Result<(), 
         Err(CoderError::Frontend(QuantileFault::ImpossibleSymbol)),
     );
     holds(&rt, &words, &[3, 2]);
-    Ok(())
 }
 
 fn item_faults_are_sentences(rt: &impl Abort, alloc: Global) {

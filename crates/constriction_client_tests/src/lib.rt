@@ -1,5 +1,4 @@
-//! The tests of items there and back, chains of conversions, queries, the laws of the theorem, and runs of calls on a
-//! cursor.
+//! The tests of items there and back, chains of conversions, queries, and runs of calls on a cursor.
 //!
 //! A library that has tests of its own is proved twice, so none of them has any. Tests use the
 //! public interface alone.
@@ -20,10 +19,6 @@ mod failing_sources;
 #[cfg(test)]
 mod items;
 #[cfg(test)]
-mod known;
-#[cfg(test)]
-mod known_models;
-#[cfg(test)]
 mod message;
 #[cfg(test)]
 mod model_checks;
@@ -33,7 +28,5 @@ mod own_ends;
 mod owned_symbols;
 #[cfg(test)]
 mod queries;
-#[cfg(test)]
-mod theorem;
 #[cfg(test)]
 mod two_models;

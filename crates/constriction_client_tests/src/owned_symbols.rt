@@ -3,7 +3,7 @@
 ghost use Rattle.std.specs.Prelude.{◌≡◌, ◌<◌, IfOk, string_bytes};
 ghost use Rattle.constriction.specs.Rows.{Row, IsRowOf};
 
-use crate::checks::{same, same_at};
+use crate::checks::{holds, same, same_at};
 use constriction::stream::model::{
     DecoderModel, EncoderModel, EntropyModel, FromIterableEntropyModel, IterableEntropyModel,
     ModelError, NonContiguousCategoricalDecoderModel, NonContiguousCategoricalEncoderModel,
@@ -14,8 +14,8 @@ use constriction_client::laws::{decoder_and_encoder, there_and_back_of_two};
 use constriction_client::{ChainStep, DecoderForm, Query, Reply, answer_queries, convert_chain};
 use constriction_words::{BitArray, NonZeroBitArray};
 use std::alloc::{AllocError, Global};
+use std::fmt::Debug;
 use std::process::Abort;
-use std::test::Fail;
 
 type Decoder = NonContiguousCategoricalDecoderModel<String, u8, Vec<(u8, String)>, 6>;
 
@@ -116,19 +116,33 @@ fn encodes(rt: &impl Abort, alloc: Global, model: &Encoder) {
     same(rt, model.support_size(), 3);
 }
 
-#[test]
-fn models_of_texts_answer(rt: HostRuntime) -> Result<(), Fail> {
-    let model = decoder(rt.alloc())?;
-    answers(&rt, &model);
-    answers(&rt, &lookup(rt.alloc())?);
-    encodes(&rt, rt.alloc(), &encoder(rt.alloc())?);
-    same(&rt, text_of(&model, 20)?.as_str(), "be");
-    Ok(())
+/// Stops the test where no decoder's model was made, or where it does not answer these rows.
+fn made_answers<M, E>(rt: &impl Abort, made: Result<M, E>)
+where
+    M: DecoderModel<6, Symbol = String, Probability = u8> + Drop,
+    E: Debug + Drop,
+{
+    answers(rt, &made.expect(rt, "a model"));
+}
+
+/// Stops the test where no encoder's model was made, or where it does not have these entries.
+fn made_encodes<E: Debug + Drop>(rt: &impl Abort, alloc: Global, made: Result<Encoder, E>) {
+    encodes(rt, alloc, &made.expect(rt, "a model"));
 }
 
 #[test]
-fn a_table_of_texts_is_walked_from_both_ends(rt: HostRuntime) -> Result<(), Fail> {
-    let model = decoder(rt.alloc())?;
+fn models_of_texts_answer(rt: HostRuntime) {
+    let model = decoder(rt.alloc()).expect(&rt, "accepted");
+    answers(&rt, &model);
+    let text = text_of(&model, 20).expect(&rt, "a text");
+    same(&rt, text.as_str(), "be");
+    made_answers(&rt, lookup(rt.alloc()));
+    made_encodes(&rt, rt.alloc(), encoder(rt.alloc()));
+}
+
+#[test]
+fn a_table_of_texts_is_walked_from_both_ends(rt: HostRuntime) {
+    let model = decoder(rt.alloc()).expect(&rt, "accepted");
     let mut table = model.symbol_table();
     for (from_the_back, text, left) in [(false, "a", 0), (true, "", 21), (true, "be", 3)] {
         let step = if from_the_back {
@@ -142,54 +156,54 @@ fn a_table_of_texts_is_walked_from_both_ends(rt: HostRuntime) -> Result<(), Fail
         same(&rt, (found.as_str(), begins), (text, left));
     }
     same(&rt, table.next().is_none(), true);
-    Ok(())
 }
 
-/// The models that are made from a decoder of texts, and its own clones.
-fn remade(alloc: Global, model: &Decoder) -> Result<[Decoder; 3], ModelError> {
-    Ok([
-        to_generic_decoder_model::<_, 6>(alloc, model)?,
-        Decoder::from_iterable_entropy_model(alloc, model)?,
-        model.clone()?,
-    ])
+/// Stops the test where a model that is made from a decoder of texts, or its clone, does not answer the rows.
+fn remade_answer(rt: &impl Abort, alloc: Global, model: &Decoder) {
+    made_answers(rt, to_generic_decoder_model::<_, 6>(alloc, model));
+    made_answers(rt, Decoder::from_iterable_entropy_model(alloc, model));
+    made_answers(rt, model.clone());
 }
 
-/// The same that look up which rows to search.
-fn looked_up(alloc: Global, model: &Decoder) -> Result<[Lookup; 4], ModelError> {
-    let lookup = model.to_lookup_decoder_model(alloc)?;
-    Ok([
-        to_generic_lookup_decoder_model::<_, 6>(alloc, model)?,
-        Lookup::from_iterable_entropy_model(alloc, model)?,
-        lookup.clone()?,
-        lookup,
-    ])
+/// The same of a model with a table, and of the searching one in it, lent and taken out.
+fn both_answer<E: Debug + Drop>(rt: &impl Abort, made: Result<Lookup, E>) {
+    let made = made.expect(rt, "a model");
+    answers(rt, &made);
+    answers(rt, &made.as_non_contiguous_categorical());
+    answers(rt, &made.into_non_contiguous_categorical());
 }
 
-/// Encoders that are made from a decoder of texts.
-fn encoders(alloc: Global, model: &Decoder) -> Result<[Encoder; 3], ModelError> {
-    let encoder = to_generic_encoder_model::<_, 6>(alloc, model)?;
-    Ok([
-        Encoder::from_iterable_entropy_model(alloc, model)?,
-        encoder.clone()?,
-        encoder,
-    ])
+/// The same of the models with a table that are made from a decoder of texts, and of the clone of one.
+fn looked_up_answer(rt: &impl Abort, alloc: Global, model: &Decoder) {
+    both_answer(rt, to_generic_lookup_decoder_model::<_, 6>(alloc, model));
+    both_answer(rt, Lookup::from_iterable_entropy_model(alloc, model));
+    let lookup = model.to_lookup_decoder_model(alloc);
+    if let Ok(lookup) = &lookup {
+        both_answer(rt, lookup.clone());
+    }
+    both_answer(rt, lookup);
+}
+
+/// Stops the test where an encoder that is made from a decoder of texts, or its clone, does not have the entries.
+fn encoders_encode(rt: &impl Abort, alloc: Global, model: &Decoder) {
+    made_encodes(
+        rt,
+        alloc,
+        Encoder::from_iterable_entropy_model(alloc, model),
+    );
+    let encoder = to_generic_encoder_model::<_, 6>(alloc, model);
+    if let Ok(encoder) = &encoder {
+        made_encodes(rt, alloc, encoder.clone());
+    }
+    made_encodes(rt, alloc, encoder);
 }
 
 #[test]
-fn models_of_texts_are_converted(rt: HostRuntime) -> Result<(), Fail> {
-    let model = decoder(rt.alloc())?;
-    for made in remade(rt.alloc(), &model)? {
-        answers(&rt, &made);
-    }
-    for made in looked_up(rt.alloc(), &model)? {
-        answers(&rt, &made);
-        answers(&rt, &made.as_non_contiguous_categorical());
-        answers(&rt, &made.into_non_contiguous_categorical());
-    }
-    for made in encoders(rt.alloc(), &model)? {
-        encodes(&rt, rt.alloc(), &made);
-    }
-    Ok(())
+fn models_of_texts_are_converted(rt: HostRuntime) {
+    let model = decoder(rt.alloc()).expect(&rt, "accepted");
+    remade_answer(&rt, rt.alloc(), &model);
+    looked_up_answer(&rt, rt.alloc(), &model);
+    encoders_encode(&rt, rt.alloc(), &model);
 }
 
 /// The form that each kind of step leaves of a decoder of texts.
@@ -215,27 +229,37 @@ fn ask(
     answer_queries::<_, _, _, _, 6>(alloc, form, encoder, queries)
 }
 
-#[test]
-fn a_chain_of_texts_replies(rt: HostRuntime) -> Result<(), Fail> {
-    let form = converted(rt.alloc(), decoder(rt.alloc())?)?;
-    answers(&rt, &form);
+/// A text in memory of its own. It stops the test where memory is refused.
+fn text(rt: &impl Abort, alloc: Global, text: &str) -> String {
+    String::from_str(alloc, text).expect(rt, "memory")
+}
+
+/// Stops the test where a form does not reply to two quantiles and to two texts as the rows of the texts do.
+fn replies(rt: &impl Abort, alloc: Global, form: &DecoderForm<String, u8, 6>) {
     let queries = [
         Query::OfQuantile(20),
         Query::OfQuantile(64),
-        Query::OfSymbol(String::from_str(rt.alloc(), "be")?),
-        Query::OfSymbol(String::from_str(rt.alloc(), "eb")?),
+        Query::OfSymbol(text(rt, alloc, "be")),
+        Query::OfSymbol(text(rt, alloc, "eb")),
     ];
-    let replies = ask(rt.alloc(), &form, &encoder(rt.alloc())?, &queries)?;
+    let encoder = encoder(alloc).expect(rt, "accepted");
+    let found = ask(alloc, form, &encoder, &queries).expect(rt, "replies");
     let weight = 18u8.into_nonzero_unchecked();
-    let text = String::from_str(rt.alloc(), "be")?;
     let expected = [
-        Reply::Row(text, 3, weight),
+        Reply::Row(text(rt, alloc, "be"), 3, weight),
         Reply::OutOfRange,
         Reply::Entry(Some((3, weight))),
         Reply::Entry(None),
     ];
-    same(&rt, replies.as_slice(), &expected);
-    Ok(())
+    same(rt, found.as_slice(), &expected);
+}
+
+#[test]
+fn a_chain_of_texts_replies(rt: HostRuntime) {
+    let model = decoder(rt.alloc()).expect(&rt, "accepted");
+    let form = converted(rt.alloc(), model).expect(&rt, "a form");
+    answers(&rt, &form);
+    replies(&rt, rt.alloc(), &form);
 }
 
 /// Texts with offsets, which are written and read back by the models of one decoder.
@@ -249,24 +273,19 @@ fn there_and_back(
 }
 
 #[test]
-fn texts_come_back(rt: HostRuntime) -> Result<(), Fail> {
-    let model = decoder(rt.alloc())?;
+fn texts_come_back(rt: HostRuntime) {
+    let model = decoder(rt.alloc()).expect(&rt, "accepted");
     let items = [
-        (String::from_str(rt.alloc(), "be")?, 17u8),
-        (String::from_str(rt.alloc(), "")?, 0),
+        (text(&rt, rt.alloc(), "be"), 17u8),
+        (text(&rt, rt.alloc(), ""), 0),
     ];
-    let back = there_and_back(rt.alloc(), &model, &items)?.expect(&rt, "pairs");
-    for (item, text, offset) in [(0, "", 0), (1, "be", 17)] {
-        let Some(pair) = back.get(item) else {
-            panic!(rt; "a pair is missing");
-        };
-        same(&rt, (pair.0.as_str(), pair.1), (text, offset));
-    }
-    let unknown = [(String::from_str(rt.alloc(), "b")?, 0u8)];
-    same(
-        &rt,
-        there_and_back(rt.alloc(), &model, &unknown)?.is_none(),
-        true,
-    );
-    Ok(())
+    let back = there_and_back(rt.alloc(), &model, &items).expect(&rt, "two models");
+    let expected = [
+        (text(&rt, rt.alloc(), ""), 0u8),
+        (text(&rt, rt.alloc(), "be"), 17),
+    ];
+    holds(&rt, &back.expect(&rt, "pairs"), &expected);
+    let unknown = [(text(&rt, rt.alloc(), "b"), 0u8)];
+    let back = there_and_back(rt.alloc(), &model, &unknown).expect(&rt, "two models");
+    same(&rt, back.is_none(), true);
 }

@@ -176,6 +176,14 @@ fn a_refused_clone_refuses_the_replies(rt: HostRuntime) {
     same(&rt, refused, Some(AllocError));
 }
 
+/// Stops the test where there are other replies than the worked ones, unless memory was refused.
+fn replied_or_was_refused(rt: &impl Abort, asked: Result<Vec<Replied>, AllocError>) {
+    match asked {
+        Ok(found) => holds(rt, &found, &replies()),
+        Err(error) => same(rt, error, AllocError),
+    }
+}
+
 /// Whichever request for memory is refused, both models are as before.
 #[test]
 fn a_refusal_of_memory_leaves_both_models(rt: HostRuntime) {
@@ -185,13 +193,7 @@ fn a_refusal_of_memory_leaves_both_models(rt: HostRuntime) {
     let Ok(encoder) = encoder::<6>(rt.alloc(), &SYMBOLS, &WEIGHTS, false) else {
         return;
     };
-    match ask(rt.alloc(), &form, &encoder, &QUERIES) {
-        Ok(found) => holds(&rt, &found, &replies()),
-        Err(error) => same(&rt, error, AllocError),
-    }
-    match ask(rt.alloc(), &form, &encoder, &QUERIES) {
-        Ok(found) => holds(&rt, &found, &replies()),
-        Err(error) => same(&rt, error, AllocError),
-    }
+    replied_or_was_refused(&rt, ask(rt.alloc(), &form, &encoder, &QUERIES));
+    replied_or_was_refused(&rt, ask(rt.alloc(), &form, &encoder, &QUERIES));
     end_of_requests(&rt);
 }

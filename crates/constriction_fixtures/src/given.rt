@@ -1,11 +1,15 @@
-//! What a caller knows of a model that it makes of an array of weights.
+//! What a caller knows of a model that it makes of an array of weights, or of another model.
 
-ghost use Rattle.std.specs.Prelude.{◌≡◌, Err, IfOk, map};
+ghost use Rattle.std.specs.Prelude.{◌≡◌, Err, IfOk, map, nat_eq};
 ghost use Rattle.constriction.specs.Acceptance.{IsAccepted};
+ghost use Rattle.constriction.specs.Entries.{SameEntries};
 ghost use Rattle.constriction.specs.Rows.{contiguous_rows};
 
+use crate::any_symbols::{Decoder, Encoder};
 use crate::contiguous::Table;
-use constriction::stream::model::{ContiguousLookupDecoderModel, EntropyModel, ModelError};
+use constriction::stream::model::{
+    ContiguousLookupDecoderModel, EntropyModel, ModelError, to_generic_encoder_model,
+};
 use constriction_words::WholeNumber;
 use std::alloc::Global;
 
@@ -29,4 +33,12 @@ pub fn lookup_of_four(alloc: Global, weights: [u8; 4]) -> Result<Lookup, ModelEr
     ensures invalid { result ≡ Err ModelError.InvalidTable → ¬ (IsAccepted 8 6 (map ⟦<u8 as WholeNumber>⟧.whole weights)) }
 {
     Lookup::from_nonzero_fixed_point_probabilities(alloc, weights, false)
+}
+
+/// The encoder's model that is made of a decoder's: it has its entries, since clones of letters are the letters.
+pub fn encoder_of(alloc: Global, model: &Decoder<6>) -> Result<Encoder<6>, ModelError>
+    ensures { IfOk result (λ e. SameEntries nat_eq
+        (⟦<Encoder<6> as EntropyModel<6>>⟧.rows e) (⟦<Decoder<6> as EntropyModel<6>>⟧.rows model.now)) }
+{
+    to_generic_encoder_model::<_, 6>(alloc, model)
 }

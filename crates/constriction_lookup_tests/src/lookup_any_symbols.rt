@@ -17,15 +17,13 @@ use constriction_fixtures::lookup_any_symbols::{Lookup, Made, looked_up, lookup}
 use constriction_fixtures::own_model::three;
 use constriction_words::NonZeroBitArray;
 use std::alloc::Global;
+use std::fmt::Debug;
 use std::process::Abort;
 
 #[test]
 fn letters_have_their_quantiles(rt: HostRuntime) {
-    for (weights, infer) in [(WEIGHTS.as_slice(), false), (&[3, 18, 1], true)] {
-        let model = lookup::<6>(rt.alloc(), &SYMBOLS, weights, infer).expect(&rt, "accepted");
-        decodes(&rt, &model, &ROWS);
-        same(&rt, model.symbol_table().len(), 4);
-    }
+    has_letters(&rt, lookup::<6>(rt.alloc(), &SYMBOLS, &WEIGHTS, false));
+    has_letters(&rt, lookup::<6>(rt.alloc(), &SYMBOLS, &[3, 18, 1], true));
 }
 
 /// Stops the test where letters and weights are accepted.
@@ -55,7 +53,7 @@ fn the_views_and_clones_of_letters_answer_alike(rt: HostRuntime) {
     let model = letters(&rt, rt.alloc());
     decodes(&rt, &model.as_view(), &ROWS);
     decodes(&rt, &model.as_view().as_view(), &ROWS);
-    decodes(&rt, &model.clone().expect(&rt, "a clone"), &ROWS);
+    has_letters(&rt, model.clone());
 }
 
 #[test]
@@ -66,8 +64,10 @@ fn a_lookup_model_of_letters_is_made_of_a_searching_one(rt: HostRuntime) {
 }
 
 /// Stops the test where no model was made, or it has other rows than the worked table.
-fn has_letters(rt: &impl Abort, made: Result<Lookup<char, 6>, ModelError>) {
-    decodes(rt, &made.expect(rt, "a model"), &ROWS);
+fn has_letters<E: Debug + Drop>(rt: &impl Abort, made: Result<Lookup<char, 6>, E>) {
+    let model = made.expect(rt, "a model");
+    decodes(rt, &model, &ROWS);
+    same(rt, model.symbol_table().len(), 4);
 }
 
 #[test]
@@ -208,11 +208,16 @@ pub fn has_rows(rt: &impl Abort, model: &Lookup<char, 3>) {
     same(rt, table.next().is_none(), true);
 }
 
+/// Stops the test where no model was made, or it has other rows than the caller's.
+fn is_of_three(rt: &impl Abort, made: Result<Lookup<char, 3>, ModelError>) {
+    has_rows(rt, &made.expect(rt, "a model"));
+}
+
 #[test]
 fn a_lookup_model_is_made_of_a_model_of_the_caller(rt: HostRuntime) {
     let (by_function, by_method) = looked_up::<_, 3>(rt.alloc(), &three('p', 'q', 'r'));
-    has_rows(&rt, &by_function.expect(&rt, "a model"));
-    has_rows(&rt, &by_method.expect(&rt, "a model"));
+    is_of_three(&rt, by_function);
+    is_of_three(&rt, by_method);
     let (by_function, by_method) = looked_up::<_, 3>(rt.alloc(), &three('p', 'q', 'p'));
     same(&rt, by_function.err(), Some(ModelError::InvalidTable));
     same(&rt, by_method.err(), Some(ModelError::InvalidTable));

@@ -13,6 +13,7 @@ use constriction_fixtures::contiguous::{
 };
 use constriction_fixtures::tables::{STEPS, Walk, left, step};
 use std::alloc::Global;
+use std::fmt::Debug;
 use std::process::Abort;
 
 /// A lookup model whose words are `u8`.
@@ -129,8 +130,7 @@ fn small_lookup(rt: &impl Abort, alloc: Global) -> Lookup<6> {
 #[test]
 fn the_views_and_clones_of_a_lookup_model_answer_alike(rt: HostRuntime) {
     let model = small_lookup(&rt, rt.alloc());
-    let clone = model.clone().expect(&rt, "a clone");
-    answers_as_a_scan::<_, 6>(&rt, &clone, &WEIGHTS);
+    is_small_lookup(&rt, model.clone());
     let view = model.as_view();
     answers_as_a_scan::<_, 6>(&rt, &view, &WEIGHTS);
     answers_as_a_scan::<_, 6>(&rt, &view.as_view(), &WEIGHTS);
@@ -145,7 +145,7 @@ fn a_lookup_model_is_made_of_a_searching_one(rt: HostRuntime) {
 }
 
 /// Stops the test where no model was made, or it has other rows than the worked table.
-fn is_small_lookup(rt: &impl Abort, made: Result<Lookup<6>, ModelError>) {
+fn is_small_lookup<E: Debug + Drop>(rt: &impl Abort, made: Result<Lookup<6>, E>) {
     answers_as_a_scan::<_, 6>(rt, &made.expect(rt, "a model"), &WEIGHTS);
 }
 
@@ -196,20 +196,31 @@ fn searched<const PRECISION: usize>(
     (first.checked_add(index), [size, before, rows.asked()])
 }
 
+/// Stops the test where a search of a quantile's slot finds another row than a scan of the weights, or asks a question,
+/// or more than one row meets the slot.
+fn is_not_searched<const PRECISION: usize>(
+    rt: &impl Abort,
+    model: &Lookup<PRECISION>,
+    weights: &[u8],
+    quantile: u8,
+)
+    requires { quantile < 2 ^ PRECISION }
+{
+    let (found, counts) = searched(model, quantile);
+    same_at(rt, quantile, found, symbol_by_scan(weights, quantile));
+    same_at(rt, quantile, counts, [1, 0, 0]);
+}
+
 /// Up to 8 bits a slot is a quantile, so that one row meets it.
 #[test]
 fn a_slot_of_one_quantile_is_met_by_one_row(rt: HostRuntime) {
     let model = small_lookup(&rt, rt.alloc());
     for quantile in 0..64u8 {
-        let (found, counts) = searched(&model, quantile);
-        same_at(&rt, quantile, found, symbol_by_scan(&WEIGHTS, quantile));
-        same_at(&rt, quantile, counts, [1, 0, 0]);
+        is_not_searched(&rt, &model, &WEIGHTS, quantile);
     }
     let halves = made::<8>(&rt, rt.alloc(), &[128, 128], false);
     for quantile in 0..=255u8 {
-        let (found, counts) = searched(&halves, quantile);
-        same_at(&rt, quantile, found, Some((quantile >= 128) as usize));
-        same_at(&rt, quantile, counts, [1, 0, 0]);
+        is_not_searched(&rt, &halves, &[128, 128], quantile);
     }
 }
 

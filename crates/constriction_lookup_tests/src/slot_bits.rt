@@ -19,11 +19,11 @@ use std::fmt::{Debug, Display};
 use std::process::Abort;
 
 /// A lookup model over words, of which only the word, the precision and the slots are named.
-type Slotted<Word, const PRECISION: usize, const SLOT_BITS: usize> =
+pub type Slotted<Word, const PRECISION: usize, const SLOT_BITS: usize> =
     SlottedContiguousLookupDecoderModel<Word, Vec<Word>, Vec<Word>, PRECISION, SLOT_BITS>;
 
 /// The lookup model of weights in a slice.
-fn slotted<Word: IndexWord, const PRECISION: usize, const SLOT_BITS: usize>(
+pub fn slotted<Word: IndexWord, const PRECISION: usize, const SLOT_BITS: usize>(
     alloc: Global,
     weights: &[Word],
 ) -> Result<Slotted<Word, PRECISION, SLOT_BITS>, ModelError>
@@ -40,9 +40,9 @@ fn slotted<Word: IndexWord, const PRECISION: usize, const SLOT_BITS: usize>(
 
 /// The row of a quantile with its weight as a plain word, what a search finds among the rows that meet the
 /// quantile's slot, how many these are, and how often it asked.
-type Looked<Word> = (Option<(usize, Word, Word)>, Option<usize>, usize, usize);
+pub type Looked<Word> = (Option<(usize, Word, Word)>, Option<usize>, usize, usize);
 
-fn looked<Word: IndexWord, const PRECISION: usize, const SLOT_BITS: usize>(
+pub fn looked<Word: IndexWord, const PRECISION: usize, const SLOT_BITS: usize>(
     model: &Slotted<Word, PRECISION, SLOT_BITS>,
     quantile: Word,
 ) -> Looked<Word>
@@ -59,7 +59,7 @@ fn looked<Word: IndexWord, const PRECISION: usize, const SLOT_BITS: usize>(
 }
 
 /// What a look-up has to give: the row of the model that searches all rows, and its symbol.
-fn wanted(model: &Model<u16, 12>, quantile: u16) -> (Option<(usize, u16, u16)>, Option<usize>)
+pub fn wanted(model: &Model<u16, 12>, quantile: u16) -> (Option<(usize, u16, u16)>, Option<usize>)
     requires { quantile < 4096 }
 {
     match model.quantile_function(quantile) {
@@ -214,14 +214,19 @@ where
     }
 }
 
+/// Stops the test where a view of the model, or the searching model in it or in a view, has not these rows.
+fn views_have_five_rows(rt: &impl Abort, model: &Direct) {
+    has_five_rows(rt, &model.as_view());
+    has_five_rows(rt, &model.as_contiguous_categorical());
+    has_five_rows(rt, &model.as_view().into_contiguous_categorical());
+}
+
 #[test]
 fn a_direct_model_is_cloned_and_viewed(rt: HostRuntime) {
     let model = direct(rt.alloc()).expect(&rt, "accepted");
     has_five_rows(&rt, &model);
     has_five_rows(&rt, &model.clone().expect(&rt, "a clone"));
-    has_five_rows(&rt, &model.as_view());
-    has_five_rows(&rt, &model.as_contiguous_categorical());
-    has_five_rows(&rt, &model.as_view().into_contiguous_categorical());
+    views_have_five_rows(&rt, &model);
     same(&rt, model.symbol_table().len(), 5);
     has_five_rows(&rt, &model.into_contiguous_categorical());
 }

@@ -1,20 +1,19 @@
 //! Lookup models whose slots hold more than one quantile, over each word, and the questions of a search
 //! among the rows that meet a slot.
 
-ghost use Rattle.std.specs.Prelude.{◌^◌, ◌<◌, ◌≤◌};
+ghost use Rattle.std.specs.Prelude.{◌^◌, ◌<◌};
 
 use crate::checks::{same, same_at};
+use crate::slot_bits::{looked, slotted, wanted};
 use constriction::stream::model::{
-    ContiguousLookupDecoderModel, DecoderModel, ModelError, Probe,
-    SmallContiguousLookupDecoderModel, row_of_quantile,
+    ContiguousLookupDecoderModel, ModelError, SmallContiguousLookupDecoderModel,
 };
-use constriction_fixtures::widths::{Model, model_of};
-use constriction_words::{IndexWord, NonZeroBitArray, WholeNumber};
+use constriction_fixtures::widths::model_of;
 use std::alloc::Global;
 use std::iter;
 use std::process::Abort;
 
-/// A lookup model over words, of which only the word and the precision are named.
+/// A lookup model whose number of slots is not given, which is 256 then.
 type Lookup<Word, const PRECISION: usize> = ContiguousLookupDecoderModel<
     Word,
     Vec<Word>,
@@ -22,101 +21,36 @@ type Lookup<Word, const PRECISION: usize> = ContiguousLookupDecoderModel<
     PRECISION,
 >;
 
-/// The lookup model of weights in a slice.
-fn lookup_of<Word: IndexWord, const PRECISION: usize>(
-    alloc: Global,
-    weights: &[Word],
-    infer_last: bool,
-) -> Result<Lookup<Word, PRECISION>, ModelError>
-    requires positive { 0 < PRECISION }
-    requires narrow { PRECISION ≤ 63 }
-    requires fits { PRECISION ≤ Word.BITS }
-{
-    Lookup::<Word, PRECISION>::from_nonzero_fixed_point_probabilities(
-        alloc,
-        weights.iter().copied(),
-        infer_last,
-    )
-}
-
-/// The row of a quantile, with its weight as a plain word.
-fn row_of<Word: IndexWord, const PRECISION: usize>(
-    model: &Lookup<Word, PRECISION>,
-    quantile: Word,
-) -> Option<(usize, Word, Word)>
-    requires { Word.whole quantile < 2 ^ PRECISION }
-{
-    let (symbol, left, weight) = model.quantile_function(quantile).ok()?;
-    Some((symbol, left, Word::from_weight(weight)))
-}
-
-/// What the search finds among the rows that meet the quantile's slot, how many these are, and how often
-/// it asked.
-fn searched<Word: IndexWord, const PRECISION: usize>(
-    model: &Lookup<Word, PRECISION>,
-    quantile: Word,
-) -> (Option<usize>, usize, usize)
-    requires { Word.whole quantile < 2 ^ PRECISION }
-{
-    let (first, mut rows) = model.quantile_probe(quantile);
-    let index = row_of_quantile(&mut rows, quantile);
-    (first.checked_add(index), rows.len(), rows.asked())
-}
-
 type Small = SmallContiguousLookupDecoderModel;
 
-fn small_row(model: &Small, quantile: u16) -> Option<(usize, u16, u16)>
-    requires { quantile < 4096 }
-{
-    row_of(model, quantile)
-}
-
-fn small_searched(model: &Small, quantile: u16) -> (Option<usize>, usize, usize)
-    requires { quantile < 4096 }
-{
-    searched(model, quantile)
+/// The small model of weights in a slice. It stops the test where they are refused.
+fn small(rt: &impl Abort, alloc: Global, weights: &[u16]) -> Small {
+    slotted::<u16, 12, 8>(alloc, weights).expect(rt, "accepted")
 }
 
 #[test]
 fn five_rows_that_share_a_slot_are_searched(rt: HostRuntime) {
-    let model: Small = lookup_of::<u16, 12>(rt.alloc(), &[1, 1, 1, 1, 4092], false).expect(
-        &rt, "accepted",
-    );
+    let model = small(&rt, rt.alloc(), &[1, 1, 1, 1, 4092]);
     for (quantile, symbol) in [(3u16, 3usize), (4, 4), (5, 4), (15, 4)] {
         assert!(rt; quantile < 4096);
-        let (found, size, asked) = small_searched(&model, quantile);
+        let (_, found, size, asked) = looked(&model, quantile);
         let wanted = (Some(symbol), 5, true);
         same_at(&rt, quantile, (found, size, asked <= 3), wanted);
     }
-    same(&rt, small_searched(&model, 16), (Some(4), 1, 0));
-    same(&rt, small_row(&model, 16), Some((4, 4, 4092)));
-}
-
-/// The row of a quantile of the model that searches all rows.
-fn row_of_all(model: &Model<u16, 12>, quantile: u16) -> Option<(usize, u16, u16)>
-    requires { quantile < 4096 }
-{
-    let (symbol, left, weight) = model.quantile_function(quantile).ok()?;
-    Some((symbol, left, weight.get()))
+    let wanted = (Some((4, 4, 4092)), Some(4), 1, 0);
+    same(&rt, looked(&model, 16), wanted);
 }
 
 /// Stops the test where the lookup model of the weights and the searching one have another row for one of
 /// the 4,096 quantiles, or a search of its slot finds another one or asks more than `most` questions.
 fn answer_alike(rt: &impl Abort, alloc: Global, weights: &[u16], most: usize) {
-    let lookup: Small = lookup_of::<u16, 12>(alloc, weights, false).expect(rt, "accepted");
+    let model = small(rt, alloc, weights);
     let searching = model_of::<u16, 12>(alloc, weights, false).expect(rt, "accepted");
     for quantile in 0..4096u16 {
-        let row = small_row(&lookup, quantile);
-        same_at(rt, quantile, row, row_of_all(&searching, quantile));
-        let (found, _, asked) = small_searched(&lookup, quantile);
-        same_at(rt, quantile, (found, asked <= most), (symbol_in(row), true));
+        let (row, found, _, asked) = looked(&model, quantile);
+        same_at(rt, quantile, (row, found), wanted(&searching, quantile));
+        same_at(rt, quantile, asked <= most, true);
     }
-}
-
-/// The symbol of a row.
-fn symbol_in(row: Option<(usize, u16, u16)>) -> Option<usize> {
-    let (symbol, _, _) = row?;
-    Some(symbol)
 }
 
 /// A slot has 16 quantiles, so that at most 16 rows meet one.
@@ -139,24 +73,18 @@ fn each_quantile_of_12_bits_has_the_row_that_a_search_of_all_finds(rt: HostRunti
     }
 }
 
-type Full = Lookup<u16, 16>;
-
-fn full_row(model: &Full, quantile: u16) -> Option<(usize, u16, u16)> {
-    row_of(model, quantile)
-}
-
 /// The row of the last quantile of 16 bits.
 fn last_of_16_bits(alloc: Global, weights: &[u16]) -> Result<(usize, u16, u16), ModelError> {
-    let model = lookup_of::<u16, 16>(alloc, weights, false)?;
-    full_row(&model, u16::MAX).ok_or(ModelError::OutOfMemory)
+    let model = slotted::<u16, 16, 8>(alloc, weights)?;
+    looked(&model, u16::MAX).0.ok_or(ModelError::OutOfMemory)
 }
 
 #[test]
 fn each_quantile_of_16_bits_may_have_a_row_of_its_own(rt: HostRuntime) {
     let ones = vec![in rt.alloc(); 1u16; 65_536].expect(&rt, "memory");
-    let model = lookup_of::<u16, 16>(rt.alloc(), &ones, false).expect(&rt, "accepted");
+    let model = slotted::<u16, 16, 8>(rt.alloc(), &ones).expect(&rt, "accepted");
     for quantile in 0..=u16::MAX {
-        let row = full_row(&model, quantile);
+        let (row, _, _, _) = looked(&model, quantile);
         same_at(&rt, quantile, row, Some((quantile as usize, quantile, 1)));
     }
 }
@@ -183,17 +111,15 @@ fn has_row<const PRECISION: usize>(
 )
     requires { quantile < 2 ^ PRECISION }
 {
-    same_at(rt, quantile, row_of(model, quantile), Some(row));
-    let (found, _, asked) = searched(model, quantile);
-    same_at(rt, quantile, (found, asked), (Some(row.0), questions));
+    let (answered, found, _, asked) = looked(model, quantile);
+    let wanted = (Some(row), Some(row.0), questions);
+    same_at(rt, quantile, (answered, found, asked), wanted);
 }
 
 #[test]
 fn two_rows_of_many_quantiles_may_have_slots_of_their_own(rt: HostRuntime) {
     let half = 1usize << 39;
-    let model = lookup_of::<usize, 40>(rt.alloc(), &[1 << 39, 1 << 39], false).expect(
-        &rt, "accepted",
-    );
+    let model = slotted::<usize, 40, 8>(rt.alloc(), &[1 << 39, 1 << 39]).expect(&rt, "accepted");
     has_row::<40>(&rt, &model, (1 << 39) - 1, (0, 0, half), 0);
     has_row::<40>(&rt, &model, 1 << 39, (1, half, half), 0);
 }
@@ -201,9 +127,7 @@ fn two_rows_of_many_quantiles_may_have_slots_of_their_own(rt: HostRuntime) {
 #[test]
 fn a_slot_of_63_bits_is_searched_where_two_rows_meet_it(rt: HostRuntime) {
     let most = (1usize << 63) - 1;
-    let model = lookup_of::<usize, 63>(rt.alloc(), &[1, (1 << 63) - 1], false).expect(
-        &rt, "accepted",
-    );
+    let model = slotted::<usize, 63, 8>(rt.alloc(), &[1, (1 << 63) - 1]).expect(&rt, "accepted");
     has_row::<63>(&rt, &model, 0, (0, 0, 1), 1);
     has_row::<63>(&rt, &model, 1, (1, 1, most), 1);
     has_row::<63>(&rt, &model, 1 << 62, (1, 1, most), 0);
@@ -221,10 +145,8 @@ fn many_rows_in_a_slot(alloc: Global) -> Result<Lookup<usize, 40>, ModelError> {
 fn is_found(model: &Lookup<usize, 40>, quantile: usize) -> bool
     requires { quantile < 2 ^ 40 }
 {
-    let (found, _, asked) = searched(model, quantile);
-    row_of(model, quantile) == Some((quantile, quantile, 1))
-        && found == Some(quantile)
-        && asked <= 22
+    let (row, found, _, asked) = looked(model, quantile);
+    row == Some((quantile, quantile, 1)) && found == Some(quantile) && asked <= 22
 }
 
 /// Each quantile of a row of weight 1. `counted_quantile_function` says how many rows were compared; that a look-up
@@ -240,7 +162,8 @@ fn a_slot_that_4_194_304_rows_meet_is_searched(rt: HostRuntime) {
 
 /// Why weights are refused, of which the second one is more than there are quantiles.
 fn refused_for_more(alloc: Global, infer_last: bool) -> Option<ModelError> {
-    lookup_of::<usize, 6>(alloc, &[60, 1 << 40], infer_last).err()
+    let weights = [60, 1 << 40];
+    Lookup::<usize, 6>::from_nonzero_fixed_point_probabilities(alloc, weights, infer_last).err()
 }
 
 /// Why weights are refused that are more than there are quantiles.

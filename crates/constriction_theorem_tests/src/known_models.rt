@@ -7,18 +7,17 @@ ghost use Rattle.constriction.specs.Entries.{SameEntries};
 ghost use Rattle.constriction.specs.Probe.{IsRowIndexOf};
 ghost use Rattle.constriction.specs.Rows.{contiguous_rows, rows_of};
 
-use crate::chains::encoder_of;
 use crate::checks::same;
 use constriction::stream::model::{
-    DecoderModel, EncoderModel, EntropyModel, IterableEntropyModel, ModelError,
+    DecoderModel, EncoderModel, EncodesOver, EntropyModel, IterableEntropyModel, ModelError,
     NonContiguousCategoricalDecoderModel, NonContiguousCategoricalEncoderModel,
     NonContiguousLookupDecoderModel, SmallUniformModel, is_quantile, row_of_quantile,
 };
 use constriction_fixtures::contiguous::Table;
-use constriction_fixtures::given::{Lookup, lookup_of_four, of_four};
+use constriction_fixtures::given::{Lookup, encoder_of, lookup_of_four, of_four};
 use constriction_words::{NonZeroBitArray, WholeNumber};
 use std::alloc::{AllocError, Global};
-use std::test::Fail;
+use std::process::Abort;
 
 pub type Decoder = NonContiguousCategoricalDecoderModel<char, u8, Vec<(u8, char)>, 6>;
 
@@ -131,6 +130,15 @@ fn second_entry(model: &Table<6>) -> Option<(u8, u8)>
     ensures { result ≡ Some (3, 18) }
 {
     let (left, weight) = model.left_cumulative_and_probability(&1)?;
+    Some((left, weight.get()))
+}
+
+/// The same, asked of it as an encoder over these symbols and words.
+fn second_entry_over(model: &Table<6>) -> Option<(u8, u8)>
+    requires { ⟦<Table<6> as EntropyModel<6>>⟧.rows model.now ≡ contiguous_rows (3 ∷ 18 ∷ 1 ∷ 42 ∷ []) }
+    ensures { result ≡ Some (3, 18) }
+{
+    let (left, weight) = EncodesOver::<usize, u8, 6>::entry(model, &1)?;
     Some((left, weight.get()))
 }
 
@@ -259,37 +267,66 @@ fn lookup_of(alloc: Global, symbols: [char; 4], weights: [u8; 4]) -> Result<Tabl
     Tabled::from_symbols_and_nonzero_fixed_point_probabilities(alloc, symbols, weights, false)
 }
 
+/// Stops the test where the contiguous model answers otherwise than its rows leave.
+fn leaves_one_answer(rt: &impl Abort, model: &Table<6>)
+    requires { ⟦<Table<6> as EntropyModel<6>>⟧.rows model.now ≡ contiguous_rows (3 ∷ 18 ∷ 1 ∷ 42 ∷ []) }
+{
+    same(rt, row_of_20(model), Ok((1, 3, 18)));
+    same(rt, second_entry(model), Some((3, 18)));
+    same(rt, second_entry_over(model), Some((3, 18)));
+    same(rt, ends(model), (Some(0), Some(3), 2));
+    same(rt, index_of_20(model), (0, 1));
+}
+
 #[test]
-fn contracts_leave_one_answer(rt: HostRuntime) -> Result<(), Fail> {
-    let model = of_four(rt.alloc(), [3, 18, 1, 42])?;
-    same(&rt, row_of_20(&model), Ok((1, 3, 18)));
-    same(&rt, second_entry(&model), Some((3, 18)));
-    same(&rt, ends(&model), (Some(0), Some(3), 2));
-    same(&rt, index_of_20(&model), (0, 1));
-    let tabled = lookup_of_four(rt.alloc(), [3, 18, 1, 42])?;
+fn contracts_leave_one_answer(rt: HostRuntime) {
+    let model = of_four(rt.alloc(), [3, 18, 1, 42]).expect(&rt, "accepted");
+    leaves_one_answer(&rt, &model);
+    let tabled = lookup_of_four(rt.alloc(), [3, 18, 1, 42]).expect(&rt, "accepted");
     same(&rt, looked_up(&tabled), Ok((1, 3, 18)));
     same(&rt, looked_up_in_a_view(&tabled), Ok((1, 3, 18)));
+}
+
+#[test]
+fn contracts_leave_one_answer_of_a_uniform_model(rt: HostRuntime) {
     same(&rt, row_of_819(), Ok((1, 819, 819)));
     same(&rt, last_entry(), Some((3276, 820)));
     same(&rt, uniform_ends(), (Some(0), Some(4), 3));
     same(&rt, are_quantiles(), (true, false));
     same(&rt, last_quantile(), 63);
-    Ok(())
+}
+
+/// Stops the test where the encoder that is made of a decoder of letters, or its clone, has another entry of `x`.
+fn leaves_one_entry(rt: &impl Abort, alloc: Global, model: &Decoder)
+    requires { ⟦<Decoder as EntropyModel<6>>⟧.rows model.now
+        ≡ rows_of (97 ∷ 120 ∷ 99 ∷ 121 ∷ []) (3 ∷ 18 ∷ 1 ∷ 42 ∷ []) }
+{
+    let Ok(encoder) = encoder_of(alloc, model) else {
+        panic!(rt; "there is no encoder");
+    };
+    same(rt, entry_of_x(&encoder), Some((3, 18)));
+    let Ok(clone) = cloned(&encoder) else {
+        panic!(rt; "there is no clone");
+    };
+    same(rt, entry_of_x(&clone), Some((3, 18)));
 }
 
 #[test]
-fn contracts_leave_one_answer_over_letters(rt: HostRuntime) -> Result<(), Fail> {
-    let model = decoder_of(rt.alloc(), ['a', 'x', 'c', 'y'], [3, 18, 1, 42])?;
+fn contracts_leave_one_answer_over_letters(rt: HostRuntime) {
+    let model = decoder_of(rt.alloc(), ['a', 'x', 'c', 'y'], [3, 18, 1, 42]);
+    let model = model.expect(&rt, "accepted");
     same(&rt, letter_of_20(&model), Ok(('x', 3, 18)));
     same(&rt, letters_at_the_ends(&model), (Some('a'), Some('y'), 2));
-    let numbers = of_four(rt.alloc(), [3, 18, 1, 42])?;
+    let numbers = of_four(rt.alloc(), [3, 18, 1, 42]).expect(&rt, "accepted");
     same(&rt, sizes(&numbers, &model), (4, 4));
-    let encoder = encoder_of(rt.alloc(), &model)?;
-    same(&rt, entry_of_x(&encoder), Some((3, 18)));
-    same(&rt, entry_of_x(&cloned(&encoder)?), Some((3, 18)));
-    let tabled = lookup_of(rt.alloc(), ['a', 'x', 'c', 'y'], [3, 18, 1, 42])?;
+    leaves_one_entry(&rt, rt.alloc(), &model);
+}
+
+#[test]
+fn contracts_leave_one_answer_over_letters_by_a_table(rt: HostRuntime) {
+    let tabled = lookup_of(rt.alloc(), ['a', 'x', 'c', 'y'], [3, 18, 1, 42]);
+    let tabled = tabled.expect(&rt, "accepted");
     same(&rt, letter_looked_up(&tabled), Ok(('x', 3, 18)));
     same(&rt, letter_looked_up_in_a_clone(&tabled), Ok(('x', 3, 18)));
     same(&rt, index_looked_up(&tabled), (1, 0));
-    Ok(())
 }

@@ -8,7 +8,6 @@ ghost use Rattle.constriction_client.specs.Replies.{in_numbers};
 ghost use Rattle.constriction_client.specs.declared.cursor_calls.CursorReply.TheVariants as reply;
 ghost use Rattle.constriction_client.specs.declared.queries.Reply.TheVariants as answer;
 
-use crate::chains::encoder_of;
 use crate::checks::{holds, same};
 use crate::known_models::decoder_of;
 use constriction::stream::model::{EncodesOver, EntropyModel, ModelError};
@@ -19,10 +18,10 @@ use constriction_client::{
     run_cursor, run_reversed, write_quantiles,
 };
 use constriction_fixtures::contiguous::Table;
-use constriction_fixtures::given::of_four;
+use constriction_fixtures::given::{encoder_of, of_four};
 use constriction_words::{CoderError, WholeNumber};
 use std::alloc::{AllocError, Global};
-use std::test::Fail;
+use std::process::Abort;
 
 /// Whether an item of the second symbol was written, where 3, 18, 1 and 42 are the weights of 0, 1, 2 and 3.
 fn written(model: &Table<6>, sink: &mut Vec<u8>) -> bool
@@ -150,38 +149,44 @@ fn turned_calls(
     )
 }
 
-#[test]
-fn contracts_leave_one_result(rt: HostRuntime) -> Result<(), Fail> {
-    let model = of_four(rt.alloc(), [3, 18, 1, 42])?;
-    let mut sink = Vec::new(rt.alloc());
-    same(&rt, written(&model, &mut sink), true);
-    holds(&rt, &sink, &[5]);
-    holds(&rt, &back(rt.alloc(), &model)?, &[(1, 2)]);
-    let mut cursor = at_0(rt.alloc())?;
-    same(
-        &rt,
-        through_a_cursor(rt.alloc(), &model, &mut cursor).is_some(),
-        true,
-    );
-    same(&rt, replies(rt.alloc(), &model)?.len(), 3);
-    Ok(())
+/// Stops the test where the model does not write the item, does not give it back, or does not reply.
+fn leaves_one_result(rt: &impl Abort, alloc: Global, model: &Table<6>)
+    requires { ⟦<Table<6> as EntropyModel<6>>⟧.rows model.now ≡ contiguous_rows (3 ∷ 18 ∷ 1 ∷ 42 ∷ []) }
+{
+    let mut sink = Vec::new(alloc);
+    same(rt, written(model, &mut sink), true);
+    holds(rt, &sink, &[5]);
+    let pairs = back(alloc, model).expect(rt, "pairs");
+    holds(rt, &pairs, &[(1, 2)]);
+    let found = replies(alloc, model).expect(rt, "replies");
+    same(rt, found.len(), 3);
 }
 
 #[test]
-fn contracts_leave_one_reply_after_a_chain(rt: HostRuntime) -> Result<(), Fail> {
-    let model = decoder_of(rt.alloc(), ['a', 'x', 'c', 'y'], [3, 18, 1, 42])?;
-    let encoder = encoder_of(rt.alloc(), &model)?;
-    let found = replies_after(rt.alloc(), DecoderForm::Search(model), &encoder)?;
-    same(&rt, found.len(), 2);
-    Ok(())
+fn contracts_leave_one_result(rt: HostRuntime) {
+    let model = of_four(rt.alloc(), [3, 18, 1, 42]).expect(&rt, "accepted");
+    leaves_one_result(&rt, rt.alloc(), &model);
+    let mut cursor = at_0(rt.alloc()).expect(&rt, "a cursor");
+    let pairs = through_a_cursor(rt.alloc(), &model, &mut cursor);
+    same(&rt, pairs.is_some(), true);
 }
 
 #[test]
-fn contracts_leave_one_run(rt: HostRuntime) -> Result<(), Fail> {
+fn contracts_leave_one_reply_after_a_chain(rt: HostRuntime) {
+    let model = decoder_of(rt.alloc(), ['a', 'x', 'c', 'y'], [3, 18, 1, 42]);
+    let model = model.expect(&rt, "accepted");
+    let encoder = encoder_of(rt.alloc(), &model).expect(&rt, "an encoder");
+    let found = replies_after(rt.alloc(), DecoderForm::Search(model), &encoder);
+    same(&rt, found.expect(&rt, "replies").len(), 2);
+}
+
+#[test]
+fn contracts_leave_one_run(rt: HostRuntime) {
     let words = [CursorReply::Word(Some(10)), CursorReply::Written];
-    let mut cursor = at_1(rt.alloc())?;
-    holds(&rt, &calls(rt.alloc(), &mut cursor)?, &words);
-    let mut turned = at_1_turned(rt.alloc())?;
-    holds(&rt, &turned_calls(rt.alloc(), &mut turned)?, &words);
-    Ok(())
+    let mut cursor = at_1(rt.alloc()).expect(&rt, "a cursor");
+    let found = calls(rt.alloc(), &mut cursor).expect(&rt, "replies");
+    holds(&rt, &found, &words);
+    let mut turned = at_1_turned(rt.alloc()).expect(&rt, "a cursor");
+    let found = turned_calls(rt.alloc(), &mut turned).expect(&rt, "replies");
+    holds(&rt, &found, &words);
 }

@@ -3,17 +3,16 @@
 ghost use Rattle.std.specs.Prelude.{◌≢◌};
 
 use crate::checks::{end_of_requests, holds, same};
-use crate::model_checks::small;
-use crate::queries::{Asked, QUERIES, replies};
 use constriction::laws::contiguous_symbols_differ;
 use constriction::stream::model::ModelError;
 use constriction_client::{ChainStep, DecoderForm, Query, Reply, SearchOrLookup};
 use constriction_fixtures::any_symbols::{SYMBOLS, WEIGHTS};
 use constriction_fixtures::contiguous::Table;
+use constriction_fixtures::given::of_four;
 use constriction_theorem::{
-    AnswersOfModel, AnswersOfWeights, FormAndReplies, answer_by_model, answer_from_range_u8,
-    answer_from_range_u16, answer_from_range_usize, answer_from_symbols_and_weights,
-    answer_from_weights,
+    AnswersOfModel, AnswersOfWeights, FormAndReplies, RepliesByEncoder, answer_by_model,
+    answer_from_range_u8, answer_from_range_u16, answer_from_range_usize,
+    answer_from_symbols_and_weights, answer_from_weights,
 };
 use constriction_words::BitArray;
 use std::alloc::Global;
@@ -31,38 +30,53 @@ fn has_table<S, T>(rt: &impl Abort, form: &SearchOrLookup<S, T>) {
     same(rt, table, true);
 }
 
-/// The row of a number.
-fn row(symbol: usize, left: u8, weight: u8) -> Reply<usize, u8>
+/// The reply that is a row.
+fn row<Symbol>(symbol: Symbol, left: u8, weight: u8) -> Reply<Symbol, u8>
     requires { weight ≢ 0 }
 {
     Reply::Row(symbol, left, weight.into_nonzero_unchecked())
 }
 
-/// The entry of one.
-fn entry(left: u8, weight: u8) -> Reply<usize, u8>
+/// The reply that is an entry.
+fn entry<Symbol>(left: u8, weight: u8) -> Reply<Symbol, u8>
     requires { weight ≢ 0 }
 {
     Reply::Entry(Some((left, weight.into_nonzero_unchecked())))
 }
 
+/// Queries of each kind about letters.
+const LETTERS: [Query<char, u8>; 5] = [
+    Query::OfQuantile(20),
+    Query::OfQuantile(21),
+    Query::OfQuantile(64),
+    Query::OfSymbol('c'),
+    Query::OfSymbol('z'),
+];
+
+/// The replies of the worked letters to these.
+fn replies_of_letters() -> [Reply<char, u8>; 5] {
+    [
+        row('x', 3, 18),
+        row('c', 21, 1),
+        Reply::OutOfRange,
+        entry(21, 1),
+        Reply::Entry(None),
+    ]
+}
+
 /// Asks what is made of the letters and of some weights.
-fn of_letters(
-    alloc: Global,
-    weights: &[u8],
-    queries: &[Asked],
-) -> Result<FormAndReplies<char, u8, 6>, ModelError> {
+fn of_letters(alloc: Global, weights: &[u8]) -> Result<FormAndReplies<char, u8, 6>, ModelError> {
     let symbols = SYMBOLS.to_vec(alloc)?;
     let weights = weights.to_vec(alloc)?;
-    answer_from_symbols_and_weights::<_, _, 6>(alloc, symbols, weights, false, &STEPS, queries)
+    answer_from_symbols_and_weights::<_, _, 6>(alloc, symbols, weights, false, &STEPS, &LETTERS)
 }
 
 #[test]
 fn what_is_made_of_letters_and_weights_replies(rt: HostRuntime) {
-    let made = of_letters(rt.alloc(), &WEIGHTS, &QUERIES);
-    let (form, found) = made.expect(&rt, "accepted");
+    let (form, found) = of_letters(rt.alloc(), &WEIGHTS).expect(&rt, "accepted");
     has_table(&rt, &form);
-    holds(&rt, &found, &replies());
-    let refused = of_letters(rt.alloc(), &WEIGHTS[1..], &QUERIES).err();
+    holds(&rt, &found, &replies_of_letters());
+    let refused = of_letters(rt.alloc(), &WEIGHTS[1..]).err();
     same(&rt, refused, Some(ModelError::InvalidTable));
 }
 
@@ -95,21 +109,21 @@ fn of_weights(
     answer_from_weights::<_, 6>(alloc, weights, true, &STEPS, &NUMBERS)
 }
 
+/// Stops the test where a decoder and one of the encoders reply otherwise.
+fn are_of_numbers(rt: &impl Abort, found: &RepliesByEncoder<u8>) {
+    let expected = replies_of_numbers();
+    holds(rt, &found.contiguous, &expected);
+    holds(rt, &found.hashed, &expected);
+}
+
 #[test]
 fn each_model_of_weights_replies(rt: HostRuntime) {
-    let made = of_weights(rt.alloc(), &[3, 18, 1]);
-    let AnswersOfWeights {
-        searching,
-        tabled,
-        direct,
-        form,
-        converted,
-    } = made.expect(&rt, "accepted");
-    has_table(&rt, &form);
-    for of_one in [searching, tabled, direct, converted] {
-        holds(&rt, &of_one.contiguous, &replies_of_numbers());
-        holds(&rt, &of_one.hashed, &replies_of_numbers());
-    }
+    let made = of_weights(rt.alloc(), &[3, 18, 1]).expect(&rt, "accepted");
+    has_table(&rt, &made.form);
+    are_of_numbers(&rt, &made.searching);
+    are_of_numbers(&rt, &made.tabled);
+    are_of_numbers(&rt, &made.direct);
+    are_of_numbers(&rt, &made.converted);
     let refused = of_weights(rt.alloc(), &[3, 61]).err();
     same(&rt, refused, Some(ModelError::InvalidTable));
 }
@@ -135,7 +149,7 @@ fn of_table(
 
 #[test]
 fn a_model_and_what_is_made_of_it_reply(rt: HostRuntime) {
-    let model = small(&rt, rt.alloc());
+    let model = of_four(rt.alloc(), [3, 18, 1, 42]).expect(&rt, "accepted");
     let answers = of_table(rt.alloc(), &model).expect(&rt, "replies");
     has_table(&rt, &answers.form);
     holds(&rt, &answers.by_model, &replies_of_numbers());
