@@ -15,7 +15,7 @@ use crate::symbol_table::ContiguousSymbolTable;
 use constriction_buffers::SafeBuf;
 use constriction_model::{
     Alone, CdfProbe, DecoderModel, EncoderModel, EntropyModel, ModelError, Probe, SearchingModel,
-    Weight, row_of_quantile,
+    Weight, row_in_entries,
 };
 use constriction_numbers::WholeNumber;
 use constriction_stored_rows::{contiguous_row_at, copied, row_at, table_of};
@@ -157,6 +157,8 @@ impl<
     /// A probe of the rows in question for a quantile, which are all rows, and the index of the
     /// first of them. What [`row_of_quantile`] answers on it, plus that index, is the index of the
     /// quantile's row.
+    ///
+    /// [`row_of_quantile`]: constriction_model::row_of_quantile
     #[inline]
     pub fn quantile_probe<'m>(
         &'m self,
@@ -225,17 +227,16 @@ impl<Probability: WholeNumber, Cdf: SafeBuf<Probability>, const PRECISION: usize
 > for ContiguousCategoricalEntropyModel<Probability, Cdf, PRECISION> {
     ghost rows_in_question = { λ m q. length (⟦<Self as EntropyModel<PRECISION>>⟧.rows m) };
 
-    /// The row of a quantile, by [`row_of_quantile`], and how many rows that asked for. It takes no memory and
+    /// The row of a quantile, by [`row_in_entries`], and how many rows that asked for. It takes no memory and
     /// always succeeds.
     #[inline(always)]
     fn counted_quantile_function(
         &self,
         quantile: Probability,
     ) -> Result<((usize, Probability, Weight<Probability>), usize), AllocError> {
-        let mut rows = CdfProbe::<Probability, Alone>::new(self.cdf_entries());
-        let index = row_of_quantile(&mut rows, quantile);
+        let (index, asked) = row_in_entries::<Probability, Alone>(self.cdf_entries(), quantile);
         let row = contiguous_row_at::<Probability, PRECISION>(self.cdf.words(), index);
-        Ok((row, rows.asked()))
+        Ok((row, asked))
     }
 }
 

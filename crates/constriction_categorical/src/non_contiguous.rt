@@ -18,7 +18,7 @@ use crate::non_contiguous_table::NonContiguousSymbolTable;
 use constriction_buffers::SafeBuf;
 use constriction_model::{
     CdfProbe, DecoderModel, EntropyModel, ModelError, Probe, SearchingModel, Weight, WithSymbol,
-    row_of_quantile,
+    row_in_entries,
 };
 use constriction_numbers::WholeNumber;
 use constriction_stored_rows::{
@@ -208,6 +208,8 @@ impl<
     /// A probe of the rows in question for a quantile, which are all rows, and the index of the
     /// first of them. What [`row_of_quantile`] answers on it, plus that index, is the index of the
     /// quantile's row.
+    ///
+    /// [`row_of_quantile`]: constriction_model::row_of_quantile
     #[inline]
     pub fn quantile_probe<'m>(
         &'m self,
@@ -284,16 +286,18 @@ impl<
     for NonContiguousCategoricalDecoderModel<Symbol, Probability, Cdf, PRECISION> {
     ghost rows_in_question = { λ m q. length (⟦<Self as EntropyModel<PRECISION>>⟧.rows m) };
 
-    /// The row of a quantile, by [`row_of_quantile`], with a clone of its symbol, and how many rows that asked for.
+    /// The row of a quantile, by [`row_in_entries`], with a clone of its symbol, and how many rows that asked for.
     #[inline(always)]
     fn counted_quantile_function(
         &self,
         quantile: Probability,
     ) -> Result<((Symbol, Probability, Weight<Probability>), usize), AllocError> {
-        let mut rows = CdfProbe::<(Probability, Symbol), WithSymbol>::new(self.cdf_entries());
-        let index = row_of_quantile(&mut rows, quantile);
+        let (index, asked) = row_in_entries::<(Probability, Symbol), WithSymbol>(
+            self.cdf_entries(),
+            quantile,
+        );
         match cloned_row_at::<Probability, Symbol, PRECISION>(self.cdf.words(), index) {
-            Ok(row) => Ok((row, rows.asked())),
+            Ok(row) => Ok((row, asked)),
             Err(refused) => Err(refused),
         }
     }

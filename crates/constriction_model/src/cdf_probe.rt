@@ -1,8 +1,10 @@
 //! Probes of stored rows.
 
-ghost use Rattle.std.specs.Prelude.{◌≡◌, ◌+◌, ◌<◌, ◌≤◌, ℕ, length, map};
+ghost use Rattle.std.specs.Prelude.{◌≡◌, ◌+◌, ◌-◌, ◌<◌, ◌≤◌, ℕ, length, map};
+ghost use Rattle.constriction_model.specs.Probe.{digits, IsSearchable, IsLastAtMost};
 
 use crate::probe::Probe;
+use crate::search::{row_of_quantile, row_of_two};
 use constriction_numbers::WholeNumber;
 use std::marker::PhantomData;
 
@@ -96,4 +98,40 @@ impl<'c, Entry, Kind: CdfEntry<Entry>> Probe for CdfProbe<'c, Entry, Kind> {
         self.asked += 1;
         Kind::cumulative_of(&self.entries[index]).is_at_most(q)
     }
+}
+
+/// The greatest index of an entry whose cumulative is at most `q`, by [`row_of_quantile`], and how many entries were
+/// compared.
+///
+/// At most two entries have a probe of their own, which no call takes by its address: in a loop the other one is written to
+/// memory for each quantile.
+#[inline(always)]
+pub fn row_in_entries<Entry, Kind: CdfEntry<Entry>>(
+    entries: &[Entry],
+    q: Kind::Word,
+) -> (usize, usize)
+    requires { IsSearchable (map Kind.cumulative entries.now) (Kind.Word.whole q) }
+    ensures found { IsLastAtMost (map Kind.cumulative entries.now) (Kind.Word.whole q) result.0 }
+    ensures few { result.1 ≤ digits (length entries.now - 1) }
+    ensures some { 1 < length entries.now → 0 < result.1 }
+{
+    if entries.len() <= 2 {
+        let mut rows = CdfProbe::<Entry, Kind>::new(entries);
+        let index = row_of_two(&mut rows, q);
+        return (index, rows.asked());
+    }
+    searched::<Entry, Kind>(entries, q)
+}
+
+/// The same, by a probe of any number of entries.
+#[inline(always)]
+fn searched<Entry, Kind: CdfEntry<Entry>>(entries: &[Entry], q: Kind::Word) -> (usize, usize)
+    requires { IsSearchable (map Kind.cumulative entries.now) (Kind.Word.whole q) }
+    ensures found { IsLastAtMost (map Kind.cumulative entries.now) (Kind.Word.whole q) result.0 }
+    ensures few { result.1 ≤ digits (length entries.now - 1) }
+    ensures some { 1 < length entries.now → 0 < result.1 }
+{
+    let mut rows = CdfProbe::<Entry, Kind>::new(entries);
+    let index = row_of_quantile(&mut rows, q);
+    (index, rows.asked())
 }

@@ -1,19 +1,23 @@
-use Rattle.std.proofs.Common.{◌≡◌, ◌+◌, ◌<◌, length, map, ap, ◌∙◌, arith}
-use Rattle.std.proofs.lemmas.List.{length-map}
+use Rattle.std.proofs.Common.{◌≡◌, ◌+◌, ◌<◌, ℕ, List, length, map, ap, sym, ◌∙◌, arith}
 use Rattle.constriction_model.specs.Model.{row_of}
-use Rattle.constriction_stored_rows.specs.Stored.{entries_in, rows_paired}
+use Rattle.constriction_stored_rows.specs.Stored.{entries_in, rows_paired, IsStored}
 use Rattle.constriction_stored_rows.specs.SymbolRowLemmas.{entries-stored}
-use Rattle.constriction_stored_rows.proofs.PairedLemmas.{paired-probed, paired-index, lent-lefts, entries-long}
+use Rattle.constriction_stored_rows.proofs.PairedLemmas.{paired-many, paired-probed, paired-index, entries-long}
 use Rattle.constriction_categorical.proofs.non_contiguous.NonContiguousCategoricalDecoderModelSearchingModel.counted_quantile_function.Goals as goal
 
-pub row_of_quantile-index-requires-clause-searchable : goal.row_of_quantile-index-requires-clause-searchable
-row_of_quantile-index-requires-clause-searchable g c =
+-- as many entries are asked as there are rows
+as-many : {Symbol Word : Type 0} (whole : Word → ℕ) (bits precision : ℕ) (entries lent : List (Word × Symbol))
+    → IsStored bits precision (map (λ x. whole x.0) entries) → lent ≡ entries
+    → length lent ≡ length (rows_paired whole precision entries)
+as-many whole bits precision entries lent stored e = ap length e ∙ sym (paired-many whole bits precision entries stored)
+
+pub row_in_entries-index-requires : goal.row_in_entries-index-requires
+row_in_entries-index-requires g c =
     let whole = g.Probability.WholeNumber.whole in
     let table = g.Cdf.SafeBuf.words_of c.args.self.now.cdf in
     let stored = entries-stored whole g.Probability.WholeNumber.BITS g.row.PRECISION table c.args.self.now.stored in
-    rw c.new-rows.ensures.cumulatives
-    ((paired-probed whole g.Probability.WholeNumber.BITS g.row.PRECISION (entries_in table) stored c.cdf_entries.result.now
-    c.cdf_entries.ensures).1 (whole c.args.quantile))
+    (paired-probed whole g.Probability.WholeNumber.BITS g.row.PRECISION (entries_in table) stored c.cdf_entries.result.now
+    c.cdf_entries.ensures).1 (whole c.args.quantile)
 
 pub cloned_row_at-requires-clause-table : goal.cloned_row_at-requires-clause-table
 cloned_row_at-requires-clause-table g c = rw c.words.ensures c.args.self.now.stored
@@ -24,10 +28,10 @@ cloned_row_at-requires-clause-in_bounds g c =
     let table = g.Cdf.SafeBuf.words_of c.args.self.now.cdf in
     let stored = entries-stored whole g.Probability.WholeNumber.BITS g.row.PRECISION table c.args.self.now.stored in
     let found = paired-index whole g.Probability.WholeNumber.BITS g.row.PRECISION (entries_in table) stored c.cdf_entries.result.now
-    c.cdf_entries.ensures (whole c.args.quantile) c.row_of_quantile-index.result c.requires.in_range
-    (rw c.new-rows.ensures.cumulatives at c.row_of_quantile-index.ensures.found) in
+    c.cdf_entries.ensures (whole c.args.quantile) c.row_in_entries-index.result.0 c.requires.in_range
+    c.row_in_entries-index.ensures.found in
     let long = entries-long whole g.Probability.WholeNumber.BITS g.row.PRECISION table c.args.self.now.stored in
-    let within : c.row_of_quantile-index.result + 1 < length table = omega (arith, found.1, long) in
+    let within : c.row_in_entries-index.result.0 + 1 < length table = omega (arith, found.1, long) in
     rw c.words.ensures within
 
 pub returns-in-Ok-clause-row : goal.returns-in-Ok-clause-row
@@ -36,8 +40,8 @@ returns-in-Ok-clause-row g c =
     let table = g.Cdf.SafeBuf.words_of c.args.self.now.cdf in
     let stored = entries-stored whole g.Probability.WholeNumber.BITS g.row.PRECISION table c.args.self.now.stored in
     let found = paired-index whole g.Probability.WholeNumber.BITS g.row.PRECISION (entries_in table) stored c.cdf_entries.result.now
-    c.cdf_entries.ensures (whole c.args.quantile) c.row_of_quantile-index.result c.requires.in_range
-    (rw c.new-rows.ensures.cumulatives at c.row_of_quantile-index.ensures.found) in
+    c.cdf_entries.ensures (whole c.args.quantile) c.row_in_entries-index.result.0 c.requires.in_range
+    c.row_in_entries-index.ensures.found in
     let at = rw c.words.ensures at c.in-Ok.ensures.row in
     let answer = row_of whole g.Probability.WholeNumber.base (at.0, c.in-Ok.row.1, c.in-Ok.row.2) in
     (at.0, at.1, rw at.2 at (found.0.row answer))
@@ -48,8 +52,8 @@ returns-in-Err-clause-refused g c =
     let table = g.Cdf.SafeBuf.words_of c.args.self.now.cdf in
     let stored = entries-stored whole g.Probability.WholeNumber.BITS g.row.PRECISION table c.args.self.now.stored in
     let found = paired-index whole g.Probability.WholeNumber.BITS g.row.PRECISION (entries_in table) stored c.cdf_entries.result.now
-    c.cdf_entries.ensures (whole c.args.quantile) c.row_of_quantile-index.result c.requires.in_range
-    (rw c.new-rows.ensures.cumulatives at c.row_of_quantile-index.ensures.found) in
+    c.cdf_entries.ensures (whole c.args.quantile) c.row_in_entries-index.result.0 c.requires.in_range
+    c.row_in_entries-index.ensures.found in
     let at = rw c.words.ensures at c.in-Err.ensures.refused in
     (at.0, rw at.1 at (found.0.row at.0), at.2)
 
@@ -58,36 +62,21 @@ returns-in-Ok-clause-few g c =
     let whole = g.Probability.WholeNumber.whole in
     let table = g.Cdf.SafeBuf.words_of c.args.self.now.cdf in
     let stored = entries-stored whole g.Probability.WholeNumber.BITS g.row.PRECISION table c.args.self.now.stored in
-    let rows = rows_paired whole g.row.PRECISION (entries_in table) in
-    let many : length (map (λ x. whole x.0) c.cdf_entries.result.now) ≡ length rows =
-    ap length (lent-lefts whole g.Probability.WholeNumber.BITS g.row.PRECISION (entries_in table) stored c.cdf_entries.result.now
-    c.cdf_entries.ensures) ∙ length-map rows (λ r. r.left) in
-    let fresh : c.new-rows.result.asked ≡ 0 = c.new-rows.ensures.fresh in
-    let asked = rw (c.new-rows.ensures.cumulatives, many) at c.row_of_quantile-index.ensures in
-    omega (arith, c.asked.ensures, fresh, asked.few)
+    rw (as-many whole g.Probability.WholeNumber.BITS g.row.PRECISION (entries_in table) c.cdf_entries.result.now stored
+    c.cdf_entries.ensures) at c.row_in_entries-index.ensures.few
 
 pub returns-in-Ok-clause-among : goal.returns-in-Ok-clause-among
 returns-in-Ok-clause-among g c =
     let whole = g.Probability.WholeNumber.whole in
     let table = g.Cdf.SafeBuf.words_of c.args.self.now.cdf in
     let stored = entries-stored whole g.Probability.WholeNumber.BITS g.row.PRECISION table c.args.self.now.stored in
-    let rows = rows_paired whole g.row.PRECISION (entries_in table) in
-    let many : length (map (λ x. whole x.0) c.cdf_entries.result.now) ≡ length rows =
-    ap length (lent-lefts whole g.Probability.WholeNumber.BITS g.row.PRECISION (entries_in table) stored c.cdf_entries.result.now
-    c.cdf_entries.ensures) ∙ length-map rows (λ r. r.left) in
-    let fresh : c.new-rows.result.asked ≡ 0 = c.new-rows.ensures.fresh in
-    let asked = rw (c.new-rows.ensures.cumulatives, many) at c.row_of_quantile-index.ensures in
-    omega (arith, c.asked.ensures, fresh, asked.few)
+    rw (as-many whole g.Probability.WholeNumber.BITS g.row.PRECISION (entries_in table) c.cdf_entries.result.now stored
+    c.cdf_entries.ensures) at c.row_in_entries-index.ensures.few
 
 pub returns-in-Ok-clause-some : goal.returns-in-Ok-clause-some
 returns-in-Ok-clause-some g c =
     let whole = g.Probability.WholeNumber.whole in
     let table = g.Cdf.SafeBuf.words_of c.args.self.now.cdf in
     let stored = entries-stored whole g.Probability.WholeNumber.BITS g.row.PRECISION table c.args.self.now.stored in
-    let rows = rows_paired whole g.row.PRECISION (entries_in table) in
-    let many : length (map (λ x. whole x.0) c.cdf_entries.result.now) ≡ length rows =
-    ap length (lent-lefts whole g.Probability.WholeNumber.BITS g.row.PRECISION (entries_in table) stored c.cdf_entries.result.now
-    c.cdf_entries.ensures) ∙ length-map rows (λ r. r.left) in
-    let fresh : c.new-rows.result.asked ≡ 0 = c.new-rows.ensures.fresh in
-    let asked = rw (c.new-rows.ensures.cumulatives, many) at c.row_of_quantile-index.ensures in
-    (λ more. omega (arith, c.asked.ensures, fresh, asked.some more))
+    rw (as-many whole g.Probability.WholeNumber.BITS g.row.PRECISION (entries_in table) c.cdf_entries.result.now stored
+    c.cdf_entries.ensures) at c.row_in_entries-index.ensures.some
