@@ -1,9 +1,9 @@
 -- Collecting the rows of a symbol table.
-use Rattle.std.specs.Prelude.{◌≡◌, ℕ, Bool, true, false, List, [], ◌∷◌, ◌++◌, map, Option, Some, None, Ok, Result}
+use Rattle.std.specs.Prelude.{◌≡◌, ℕ, ◌+◌, ◌<◌, ◌≤◌, Bool, true, false, List, [], ◌∷◌, ◌++◌, length, map, Option, Some, None, Ok, Result}
 use Rattle.std.specs.Cmp.{IsEquivalence}
 use Rattle.std.specs.Iterator.{Yields, Drains}
 use Rattle.std.specs.List.{list_any, IsDistinct}
-use Rattle.std.proofs.Common.{refl, ap, sym, ◌∙◌, subst}
+use Rattle.std.proofs.Common.{refl, ap, sym, ◌∙◌, subst, arith, length-append}
 use Rattle.std.proofs.lemmas.List.{map-append}
 use Rattle.std.proofs.lemmas.Simd.{map-map}
 use Rattle.constriction_model.specs.Model.{row_of, StandForRows, ClonesAreEqual, ClonesRepeat}
@@ -80,6 +80,11 @@ module _ {Symbol Word Weight Refusal T : Type 0} (steps : T → Option (Result (
   collected-uncompared u v entries next o x f step e n =
       collected-step steps it (λ _ _. false) (λ _ _. refl) u v entries o x f step e entries
       (list_any (λ _. false) (map (λ y. y.1) entries)) refl refl next n (never-any (map (λ y. y.1) entries))
+
+-- where there is room for what is left, and one item is taken and put at the end, there is room for what is left then
+pub room-left : {A : Type 0} (before after : List A) (x : A) (left next room : ℕ) → after ≡ before ++ x ∷ [] → length before + left ≤ room
+    → next < left → length after + next ≤ room
+room-left before after x left next room is fits fewer = omega (arith, ap length is, length-append before (x ∷ []))
 
 -- ---- walks through all rows of a model
 

@@ -1,8 +1,8 @@
 //! Storing the rows that a walk gives, for models that are made from other ones.
 
-ghost use Rattle.std.specs.Prelude.{◌≡◌, ℕ, IfOk, map};
+ghost use Rattle.std.specs.Prelude.{◌≡◌, ℕ, IfOk, [], map, vec_capacity};
 ghost use Rattle.std.specs.HashMap.{get, IsUnique};
-ghost use Rattle.std.specs.Iterator.{IsFinite};
+ghost use Rattle.std.specs.Iterator.{IsFinite, UpTo};
 ghost use Rattle.std.specs.List.{IsDistinct};
 ghost use Rattle.constriction_stored_rows.specs.Filling.{HoldsEntries};
 ghost use Rattle.constriction_model.specs.Model.{row_of};
@@ -47,10 +47,13 @@ where
 }
 
 /// The entries of the rows that a walk gives, whose symbols are not compared.
+///
+/// The most that a walk announces is a promise, by the contract of `size_hint`: where there is room for so many, the loop
+/// does not test for room.
 #[inline]
 pub fn entries_collected<Symbol, Word, Positive, Walk, const PRECISION: usize>(
     alloc: Global,
-    mut walk: Walk,
+    walk: Walk,
 ) -> Result<Vec<(Word, Symbol)>, AllocError>
 where
     Symbol: Drop,
@@ -61,7 +64,53 @@ where
     requires ends { IsFinite (Walk.remaining walk) }
     ensures { IfOk result (λ v. WalkedGood Walk.next_gives walk (λ xs. v.items ≡ map (λ x. (x.1, x.0)) xs)) }
 {
-    let mut entries = room_for(alloc, entries_announced::<PRECISION>(walk.size_hint().0));
+    let (least, most) = walk.size_hint();
+    let entries = room_for(alloc, entries_announced::<PRECISION>(least));
+    match most {
+        Some(most) if most <= entries.capacity() => entries_reserved(entries, walk),
+        _ => entries_grown(entries, walk),
+    }
+}
+
+/// The same, where there is room for all rows of the walk.
+#[inline(always)]
+fn entries_reserved<Symbol, Word, Positive, Walk>(
+    mut entries: Vec<(Word, Symbol)>,
+    mut walk: Walk,
+) -> Result<Vec<(Word, Symbol)>, AllocError>
+where
+    Symbol: Drop,
+    Word: Copy,
+    Positive: Copy,
+    Walk: Iterator<Item = Result<(Symbol, Word, Positive), AllocError>>,
+    requires empty { entries.items ≡ [] }
+    requires goes { Walk.can_next walk }
+    requires room { UpTo (Walk.remaining walk) (vec_capacity entries) }
+    ensures { IfOk result (λ v. WalkedGood Walk.next_gives walk (λ xs. v.items ≡ map (λ x. (x.1, x.0)) xs)) }
+{
+    'rows: while let Some(row) = walk.next() {
+        let (symbol, left, _weight) = row?;
+        entries.push_reserved((left, symbol));
+    }
+    Ok(entries)
+}
+
+/// The same, where there may be more rows than room.
+#[inline(always)]
+fn entries_grown<Symbol, Word, Positive, Walk>(
+    mut entries: Vec<(Word, Symbol)>,
+    mut walk: Walk,
+) -> Result<Vec<(Word, Symbol)>, AllocError>
+where
+    Symbol: Drop,
+    Word: Copy,
+    Positive: Copy,
+    Walk: Iterator<Item = Result<(Symbol, Word, Positive), AllocError>>,
+    requires empty { entries.items ≡ [] }
+    requires goes { Walk.can_next walk }
+    requires ends { IsFinite (Walk.remaining walk) }
+    ensures { IfOk result (λ v. WalkedGood Walk.next_gives walk (λ xs. v.items ≡ map (λ x. (x.1, x.0)) xs)) }
+{
     'rows: while let Some(row) = walk.next() {
         let (symbol, left, _weight) = row?;
         entries = and_item(entries, (left, symbol))?;

@@ -2,7 +2,7 @@
 use Rattle.std.proofs.Common.{false, refl}
 use Rattle.std.specs.Iterator.{IsFinite}
 use Rattle.constriction_conversions.proofs.CollectLemmas.{IsCollected}
-use Rattle.constriction_conversions.proofs.walking.entries_collected.Given as goal
+use Rattle.constriction_conversions.proofs.walking.entries_grown.Given as goal
 
 abbrev pub invariant-rows : goal.invariant-rows
 invariant-rows g l =

@@ -1,12 +1,12 @@
 use Rattle.std.proofs.Common.{false, refl}
 use Rattle.constriction_conversions.proofs.CollectLemmas.{collected-none, collected-uncompared, collected-end}
-use Rattle.constriction_conversions.proofs.walking.entries_collected.Goals as goal
+use Rattle.constriction_conversions.proofs.walking.entries_grown.Goals as goal
 
 pub rows-init : goal.rows-init
 rows-init g c = (
   c.requires.goes,
   c.requires.ends,
-  collected-none g.Walk.Iterator.next_gives c.args.walk (λ _ _. false) (λ _ _. refl) c.room_for-entries.result.items c.room_for-entries.ensures,
+  collected-none g.Walk.Iterator.next_gives c.args.walk (λ _ _. false) (λ _ _. refl) c.args.entries.items c.requires.empty,
 )
 
 pub rows-preserved : goal.rows-preserved
