@@ -1,7 +1,8 @@
 //! The kernels over this repository's libraries.
 //!
 //! Of Rattle's functions a slice is a pointer and a length, and an allocator is nothing. What each requires is
-//! asked of its caller here: quantiles lie below `2^PRECISION`, and a uniform model has 2 to `2^24` symbols.
+//! asked of its caller here: quantiles lie below `2^PRECISION`, and a uniform model has 2 to `2^24` symbols, and
+//! no two symbols of a table are equal.
 
 /// A safe function for each export, over slices.
 macro_rules! exports {
@@ -25,6 +26,7 @@ exports! {
     contiguous_symbol = kernel_contiguous_symbol(weights: [u32], symbols: [u32]);
     contiguous_table = kernel_contiguous_table(weights: [u32]);
     decoder_build = kernel_decoder_build(weights: [u32], symbols: [u32]);
+    decoder_build_distinct = kernel_decoder_build_distinct(weights: [u32], symbols: [u32]);
     decoder_build_hashable = kernel_decoder_build_hashable(weights: [u32], symbols: [u32]);
     decoder_build_sorted = kernel_decoder_build_sorted(weights: [u32], symbols: [u32]);
     decoder_quantile = kernel_decoder_quantile(weights: [u32], symbols: [u32], quantiles: [u32]);
@@ -38,8 +40,11 @@ exports! {
     direct_symbol_lookup_build = kernel_direct_symbol_lookup_build(weights: [u16], symbols: [u32]);
     direct_symbol_lookup_quantile = kernel_direct_symbol_lookup_quantile(weights: [u16], symbols: [u32], quantiles: [u16]);
     slotted_symbol_lookup_quantile = kernel_slotted_symbol_lookup_quantile(weights: [u16], symbols: [u32], quantiles: [u16]);
+    small_contiguous_quantile = kernel_small_contiguous_quantile(weights: [u16], quantiles: [u16]);
+    small_decoder_quantile = kernel_small_decoder_quantile(weights: [u16], symbols: [u32], quantiles: [u16]);
     to_decoder = kernel_to_decoder(weights: [u32]);
     to_decoder_of_distinct = kernel_to_decoder_of_distinct(weights: [u32]);
+    wide_to_decoder_of_distinct = kernel_wide_to_decoder_of_distinct(weights: [u64]);
     to_encoder = kernel_to_encoder(weights: [u32]);
     to_direct_lookup = kernel_to_direct_lookup(weights: [u16]);
     write_quantiles = kernel_write_quantiles(weights: [u32], symbols: [u32]);

@@ -78,10 +78,18 @@ pub fn usual() -> Vec<Kernel> {
     let weights = tables[3].weights;
     kernels.push(kernel!("contiguous symbol_table", "u32/24", 4096, 4096, contiguous_table(weights)));
     for table in &small {
+        let (weights, quantiles) = (table.weights, inputs.small_quantiles);
+        kernels.push(kernel!("contiguous quantile_function", "u16/12", table.rows, MANY, small_contiguous_quantile(weights, quantiles)));
+    }
+    for table in &small {
         kernels.push(direct_lookup_quantile(&inputs, table));
     }
     for table in &small {
         kernels.push(slotted_lookup_quantile(&inputs, table));
+    }
+    for table in &small {
+        let (weights, symbols, quantiles) = (table.weights, table.symbols, inputs.small_quantiles);
+        kernels.push(kernel!("decoder of symbols quantile_function", "u16/12", table.rows, MANY, small_decoder_quantile(weights, symbols, quantiles)));
     }
     for table in &small {
         let (weights, symbols, quantiles) = (table.weights, table.symbols, inputs.small_quantiles);
@@ -116,6 +124,9 @@ pub fn usual() -> Vec<Kernel> {
         kernels.push(decoder_build(table));
     }
     for table in &tables[1..4] {
+        kernels.push(decoder_build_distinct(table));
+    }
+    for table in &tables[1..4] {
         kernels.push(decoder_build_hashable(table));
     }
     for table in &tables[1..4] {
@@ -128,6 +139,8 @@ pub fn usual() -> Vec<Kernel> {
         let weights = table.weights;
         kernels.push(kernel!("to_generic_decoder_model", "u32/24", table.rows, table.rows, to_decoder(weights)));
         kernels.push(kernel!("to_generic_decoder_model_of_distinct", "u32/24", table.rows, table.rows, to_decoder_of_distinct(weights)));
+        let wide: &'static [u64] = weights.iter().map(|weight| u64::from(*weight)).collect::<Vec<u64>>().leak();
+        kernels.push(kernel!("to_generic_decoder_model_of_distinct", "u64/24", table.rows, table.rows, wide_to_decoder_of_distinct(wide)));
         kernels.push(kernel!("to_generic_encoder_model", "u32/24", table.rows, table.rows, to_encoder(weights)));
     }
     let weights = small[2].weights;
@@ -163,6 +176,7 @@ pub fn growing() -> Vec<Kernel> {
         kernels.push(encoder_symbol(&table));
         kernels.push(contiguous_build(&table));
         kernels.push(encoder_build(&table));
+        kernels.push(decoder_build_distinct(&table));
         kernels.push(decoder_build_hashable(&table));
         kernels.push(decoder_build_sorted(&table));
         // it compares each symbol with all before it
@@ -215,6 +229,11 @@ fn contiguous_build(table: &Table) -> Kernel {
 fn decoder_build(table: &Table) -> Kernel {
     let (weights, symbols) = (table.weights, table.symbols);
     kernel!("decoder of symbols made, comparing", "u32/24", table.rows, table.rows, decoder_build(weights, symbols))
+}
+
+fn decoder_build_distinct(table: &Table) -> Kernel {
+    let (weights, symbols) = (table.weights, table.symbols);
+    kernel!("decoder of symbols made, known to differ", "u32/24", table.rows, table.rows, decoder_build_distinct(weights, symbols))
 }
 
 fn decoder_build_hashable(table: &Table) -> Kernel {

@@ -40,10 +40,11 @@ fn timed(run: &mut Run, repeats: u32) -> f64 {
     start.elapsed().as_nanos() as f64
 }
 
-/// How often a kernel goes over its input, so that it takes as long as a sample has to.
+/// How often a kernel goes over its input, so that it takes as long as a sample has to, and no less than half as long
+/// as making the model takes: what is left without it would else be lost in how that time varies.
 fn repeats_of(run: &mut Run, effort: &Effort) -> u32 {
-    let least = effort.sample.as_nanos() as f64;
     let none = timed(run, 0).min(timed(run, 0));
+    let least = (effort.sample.as_nanos() as f64).max(none / 2.0);
     let mut repeats = 1;
     loop {
         let taken = timed(run, repeats) - none;

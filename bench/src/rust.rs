@@ -8,6 +8,7 @@ mod client;
 mod contiguous;
 mod conversions;
 mod lookups;
+mod searches;
 mod uniform;
 
 pub use adapters::*;
@@ -17,6 +18,7 @@ pub use client::*;
 pub use contiguous::*;
 pub use conversions::*;
 pub use lookups::*;
+pub use searches::*;
 pub use uniform::*;
 
 /// The checksum with one more number. Each needs the one before, so no compiler takes several at a time.

@@ -26,6 +26,7 @@ pub fn decoder_build(weights: &[u32], symbols: &[u32], repeats: u32) -> u64 {
     sum
 }
 
+pub use decoder_build as decoder_build_distinct;
 pub use decoder_build as decoder_build_hashable;
 pub use decoder_build as decoder_build_sorted;
 

@@ -1,11 +1,12 @@
 //! Kernels of models over any symbols: decoders, which search, and encoders, which are hashed.
 
-ghost use Rattle.std.specs.Prelude.{◌^◌, ◌<◌, All};
+ghost use Rattle.std.specs.Prelude.{◌^◌, ◌<◌, All, nat_eq};
+ghost use Rattle.std.specs.List.{IsDistinct};
 
 use crate::checksum::{mix, row};
 use constriction::stream::model::{
     DecoderModel, DefaultNonContiguousCategoricalDecoderModel,
-    DefaultNonContiguousCategoricalEncoderModel, EncoderModel, IterableEntropyModel,
+    DefaultNonContiguousCategoricalEncoderModel, EncoderModel, IterableEntropyModel, ModelError,
 };
 use std::alloc::Global;
 
@@ -75,6 +76,38 @@ pub extern "C" fn kernel_decoder_build_sorted(
             weights.iter().copied(),
             false,
         ) else {
+            return 1;
+        };
+        sum = mix(sum, model.support_size() as u64);
+    }
+    sum
+}
+
+/// The decoder of symbols that differ.
+fn of_distinct(alloc: Global, weights: &[u32], symbols: &[u32]) -> Result<Decoder, ModelError>
+    requires { IsDistinct nat_eq symbols.now }
+{
+    Decoder::from_distinct_symbols_and_nonzero_fixed_point_probabilities(
+        alloc,
+        symbols.iter().copied(),
+        weights.iter().copied(),
+        false,
+    )
+}
+
+/// Makes the decoder, each time anew, by the constructor of a caller who knows that no two symbols are equal.
+#[unsafe(no_mangle)]
+pub extern "C" fn kernel_decoder_build_distinct(
+    alloc: Global,
+    weights: &[u32],
+    symbols: &[u32],
+    repeats: u32,
+) -> u64
+    requires { IsDistinct nat_eq symbols.now }
+{
+    let mut sum = 0u64;
+    for _ in 0..repeats {
+        let Ok(model) = of_distinct(alloc, weights, symbols) else {
             return 1;
         };
         sum = mix(sum, model.support_size() as u64);

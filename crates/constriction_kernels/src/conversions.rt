@@ -3,14 +3,18 @@
 use crate::checksum::{mix, row};
 use constriction::laws::contiguous_symbols_differ;
 use constriction::stream::model::{
-    DecoderModel, DefaultContiguousCategoricalEntropyModel, SmallContiguousCategoricalEntropyModel,
-    to_generic_decoder_model, to_generic_decoder_model_of_distinct, to_generic_encoder_model,
+    ContiguousCategoricalEntropyModel, DecoderModel, DefaultContiguousCategoricalEntropyModel,
+    SmallContiguousCategoricalEntropyModel, to_generic_decoder_model,
+    to_generic_decoder_model_of_distinct, to_generic_encoder_model,
 };
 use std::alloc::Global;
 
 type Contiguous = DefaultContiguousCategoricalEntropyModel;
 
 type Small = SmallContiguousCategoricalEntropyModel;
+
+/// Over words as wide as a symbol.
+type Wide = ContiguousCategoricalEntropyModel<u64, Vec<u64>, 24>;
 
 /// Makes a decoder over any symbols, each time anew. Each symbol is compared with all before it.
 #[unsafe(no_mangle)]
@@ -41,6 +45,31 @@ pub extern "C" fn kernel_to_decoder_of_distinct(
 ) -> u64 {
     contiguous_symbols_differ();
     let Ok(source) = Contiguous::from_nonzero_fixed_point_probabilities(
+        alloc,
+        weights.iter().copied(),
+        false,
+    ) else {
+        return 1;
+    };
+    let mut sum = 0u64;
+    for _ in 0..repeats {
+        let Ok(model) = to_generic_decoder_model_of_distinct::<_, 24>(alloc, &source) else {
+            return 1;
+        };
+        sum = mix(sum, model.support_size() as u64);
+    }
+    sum
+}
+
+/// The same over words as wide as a symbol, so that an entry has no padding.
+#[unsafe(no_mangle)]
+pub extern "C" fn kernel_wide_to_decoder_of_distinct(
+    alloc: Global,
+    weights: &[u64],
+    repeats: u32,
+) -> u64 {
+    contiguous_symbols_differ();
+    let Ok(source) = Wide::from_nonzero_fixed_point_probabilities(
         alloc,
         weights.iter().copied(),
         false,

@@ -14,4 +14,5 @@ pub mod client;
 pub mod contiguous;
 pub mod conversions;
 pub mod lookups;
+pub mod searches;
 pub mod uniform;
