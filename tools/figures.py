@@ -19,8 +19,17 @@ KINDS = (
 )
 
 
+def is_measured(it):
+    """Whether both sides have a time. There is none where the batch took no longer than the one that goes over nothing."""
+    return it["rust"] > 0 and it["here"] > 0
+
+
 def ratio(it):
-    return it["here"] / it["rust"] if it["rust"] else float("nan")
+    return it["here"] / it["rust"]
+
+
+def ratio_text(it):
+    return f"{ratio(it):.2f}" if is_measured(it) else "-"
 
 
 def rows_of(it):
@@ -28,6 +37,8 @@ def rows_of(it):
 
 
 def nanoseconds(time):
+    if time <= 0:
+        return "-"
     return f"{time:.2f}" if time < 100 else f"{time:,.0f}"
 
 
@@ -38,7 +49,7 @@ def aligned(rows):
 
 
 def time_rows(made):
-    return [[it["name"], it["words"], rows_of(it), nanoseconds(it["rust"]), nanoseconds(it["here"]), f"{ratio(it):.2f}"] for it in made]
+    return [[it["name"], it["words"], rows_of(it), nanoseconds(it["rust"]), nanoseconds(it["here"]), ratio_text(it)] for it in made]
 
 
 def times_text(made):
@@ -73,7 +84,7 @@ def put(file, section, text):
 
 def summary(saved):
     """Returns the lines of the README: how the ratios lie, and the worst row."""
-    measured = [it for it in saved["kernels"] if it["name"] != "nothing but the loop" and it["rust"]]
+    measured = [it for it in saved["kernels"] if it["name"] != "nothing but the loop" and is_measured(it)]
     ratios = sorted(ratio(it) for it in measured)
     middle = ratios[len(ratios) // 2]
     behind = sum(it > 1.1 for it in ratios)
@@ -103,7 +114,7 @@ def growth_table(made):
     sizes = sorted({it["rows"] for it in made})
     names = list(dict.fromkeys(it["name"] for it in made))
     at = {(it["name"], it["rows"]): it for it in made}
-    rows = [[name, *(f"{nanoseconds(at[name, size]['here'])} ({ratio(at[name, size]):.2f})" if (name, size) in at else "" for size in sizes)] for name in names]
+    rows = [[name, *(f"{nanoseconds(at[name, size]['here'])} ({ratio_text(at[name, size])})" if (name, size) in at else "" for size in sizes)] for name in names]
     head = ["Kernel", *(f"2^{size.bit_length() - 1}" for size in sizes)]
     return "\n".join("| " + " | ".join(row) + " |" for row in [head, ["---", *["--:"] * len(sizes)], *rows])
 
@@ -127,7 +138,7 @@ def steps(low, high):
 
 
 def draw_ratios(saved):
-    made = [it for it in saved["kernels"] if it["rust"]]
+    made = [it for it in saved["kernels"] if is_measured(it)]
     names = list(dict.fromkeys(it["name"] for it in made))
     ticks = steps(min(ratio(it) for it in made), max(ratio(it) for it in made))
     left, right, top, step = 352, 800, 100, 22
@@ -162,7 +173,7 @@ def draw_ratios(saved):
 def draw_rows(saved):
     lines = []
     for kind, name, hue in KINDS:
-        made = sorted((it for it in saved["growth"] if it["name"] == name), key=lambda it: it["rows"])
+        made = sorted((it for it in saved["growth"] if it["name"] == name and is_measured(it)), key=lambda it: it["rows"])
         if made:
             lines.append((kind, hue, made))
     times = [it[side] for _, _, made in lines for it in made for side in ("rust", "here")]
