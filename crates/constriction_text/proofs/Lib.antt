@@ -3,5 +3,6 @@ mod Cutting
 mod Exactly
 mod LineReading
 mod Numbers
+mod OneAnswer
 mod RowTexts
 mod Writing
