@@ -1,4 +1,4 @@
--- Reading a line finds exactly what the line spells.
+-- Reading a line finds exactly what the line spells. A caller who asks what a line spells computes `read_line`.
 use Rattle.std.proofs.Common.{refl, subst, ◌≡◌, ℕ, ◌<◌, ◌^◌, Bool, true, false, ◌||◌, ◌&&◌, eqb, cond, List, [], ◌∷◌, ◌++◌, ap, sym, ◌∙◌, length, arith, Option, Some, None, nat_lt, nat_le, Result, Ok, Err, find, codes}
 use Rattle.std.specs.Option.{option_map, IfSome, IfNone}
 use Rattle.std.specs.Result.{IfOk}
@@ -290,6 +290,10 @@ line_read line request spelled =
     (form_no_space (form_of request), numbers_no_space h.0 (numbers_of request) h.1) in
     ap read_words words ∙ words_read request h.0 h.1
 
+-- where reading finds nothing, the line spells nothing
+pub spells_none : (line : List ℕ) → read_line line ≡ None → (request : Request) → ¬ (Spells line request)
+spells_none line none request spelled = none_is_none request (sym none ∙ line_read line request spelled)
+
 -- what a parser found, in either case
 pub line_found : {E : Type 0} (line : List ℕ) (r : Result (Option Command) E)
     → IfOk r (λ found. option_map view found ≡ read_line line)
@@ -301,6 +305,6 @@ line_found line (Err e) h = tt
 pub line_none : {E : Type 0} (line : List ℕ) (r : Result (Option Command) E)
     → IfOk r (λ found. option_map view found ≡ read_line line)
     → IfOk r (λ found. IfNone found ((request : Request) → ¬ (Spells line request)))
-line_none line (Ok None) h = λ request s. none_is_none request (h ∙ line_read line request s)
+line_none line (Ok None) h = spells_none line (sym h)
 line_none line (Ok (Some command)) h = tt
 line_none line (Err e) h = tt

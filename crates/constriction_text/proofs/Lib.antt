@@ -1,6 +1,6 @@
 mod Accepting
 mod Cutting
-mod Exactly
+pub mod Exactly
 mod LineReading
 mod Numbers
 mod OneAnswer

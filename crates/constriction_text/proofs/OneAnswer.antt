@@ -9,7 +9,7 @@ use Rattle.constriction_text.specs.Grammar.{Request, table, infer, quantile, sym
 use Rattle.constriction_text.specs.Reading.{read_line}
 use Rattle.constriction_text.specs.Text.{IsTextOfModel, Answers, IsAnswer, AreAnswers, rows_text, quantile_text, symbol_text}
 use Rattle.constriction_text.proofs.Accepting.{are_accepted-to, are_accepted-from}
-use Rattle.constriction_text.proofs.Exactly.{none_is_none, some_inj, line_spelled, line_read}
+use Rattle.constriction_text.proofs.Exactly.{some_inj, line_spelled, line_read, spells_none}
 
 -- a line spells at most one request
 pub one_request : (line : List ℕ) (one other : Request) → Spells line one → Spells line other → one ≡ other
@@ -65,7 +65,7 @@ answered-alone (uniform form n) one other = λ first second. first ∙ sym secon
 
 is_reply : (line : List ℕ) (asked : Option Request) → read_line line ≡ asked → IsAnswer line (reply_to asked)
 is_reply line (Some request) e = inl (request, line_spelled line request e, answered request)
-is_reply line None e = inr (λ request spelled. none_is_none request (sym e ∙ line_read line request spelled), refl)
+is_reply line None e = inr (spells_none line e, refl)
 
 -- what was found is what a line asks for
 pub answer_found : (line : List ℕ) (request : Request) → Spells line request → answer_of request ≡ answer_to line

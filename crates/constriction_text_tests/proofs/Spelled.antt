@@ -1,14 +1,36 @@
 -- What some lines spell, and what answers them.
 use Rattle.std.proofs.Common.{suc, zero, refl, ◌≡◌, ℕ, ◌<◌, ◌≤◌, ◌^◌, List, [], ◌∷◌, ◌++◌, length, get_or, Option, Some, None, Result, Ok, Err, ap, sym, subst, ◌∙◌, append-nil, arith, codes, inl, inr}
+use Rattle.std.specs.Prelude.{IsNone}
 use Rattle.std.specs.Option.{option_map, IfSome, IfNone}
 use Rattle.std.specs.Result.{IfOk, OnOk}
 use Rattle.std.specs.Io.KnownBytes.{Appends, IsAtEnd}
 use Rattle.std.specs.Fmt.{digits}
 use Rattle.constriction_text.specs.declared.line.Command.{Command}
 use Rattle.constriction_text.specs.declared.line.Form.TheVariants.{U8Precision6, U8Precision8}
-use Rattle.constriction_text.specs.Grammar.{Request, table, infer, quantile, symbol, uniform, view, IsNumber, Spells}
+use Rattle.constriction_text.specs.Grammar.{Request, table, uniform, view, IsNumber, Spells}
+use Rattle.constriction_text.specs.Reading.{read_line, read_words, read_form, read_numbers, read_number, read_request}
 use Rattle.constriction_text.specs.Runs.{limit, HasRead}
 use Rattle.constriction_text.specs.Text.{IsAnswer, IsTextOf}
+use Rattle.constriction_text.proofs.Exactly.{spells_none}
+
+-- nothing was parsed where a line spells nothing
+pub parsed_none : {E : Type 0} (line : List ℕ) (r : Result (Option Command) E) → read_line line ≡ None
+    → IfOk r (λ found. IfSome found (λ command. Spells line (view command))) → IfOk r IsNone
+parsed_none line (Ok None) none found = refl
+parsed_none line (Ok (Some command)) none found = absurd (spells_none line none (view command) found)
+parsed_none line (Err e) none found = tt
+
+pub two_ranges_none : read_line (codes "uniform u8/6 2 3") ≡ None
+unfolding read_line read_words read_form read_numbers read_number read_request
+two_ranges_none = refl
+
+pub two_spaces_none : read_line (codes "table  u8/6 64") ≡ None
+unfolding read_line read_words read_form read_numbers read_number read_request
+two_spaces_none = refl
+
+pub many_digits_none : read_line (codes "table u8/6 000000000000000000064") ≡ None
+unfolding read_line read_words read_form read_numbers read_number read_request
+many_digits_none = refl
 
 -- what was parsed is what the line spells, where it spells no other request
 pub parsed : {E : Type 0} (line : List ℕ) (asked : Request) (r : Result (Option Command) E) → Spells line asked
@@ -39,21 +61,14 @@ written input rest old new text (Ok x) is alone h =
     h.2.2.2 ∙ ap (λ made. old ++ made) same
 written input rest old new text (Err e) is alone h = tt
 
--- a letter spells no request: each has a space
-letter_spells_none : (letter : ℕ) (request : Request) → ¬ (Spells (letter ∷ []) request)
-letter_spells_none letter (table form ws) h = let e = ap length h.2 in omega (arith, e)
-letter_spells_none letter (infer form ws) h = let e = ap length h.2 in omega (arith, e)
-letter_spells_none letter (quantile form q ws) h = let e = ap length h.2 in omega (arith, e)
-letter_spells_none letter (symbol form s ws) h = let e = ap length h.2 in omega (arith, e)
-letter_spells_none letter (uniform form n) h = let e = ap length h.2 in omega (arith, e)
-
-letter_answered : (letter : ℕ) → IsAnswer (letter ∷ []) (codes "bad line\n")
-letter_answered letter = inr (letter_spells_none letter, refl)
+letter_answered : (letter : ℕ) → read_line (letter ∷ []) ≡ None → IsAnswer (letter ∷ []) (codes "bad line\n")
+letter_answered letter none = inr (spells_none (letter ∷ []) none, refl)
 
 -- two letters on two lines
 pub letters_answered : IsTextOf (codes "x\ny") (codes "bad line\nbad line\n")
+unfolding read_line read_words
 letters_answered =
-    (codes "bad line\n" ∷ codes "bad line\n" ∷ [], (letter_answered 120, (letter_answered 121, tt)), refl)
+    (codes "bad line\n" ∷ codes "bad line\n" ∷ [], (letter_answered 120 refl, (letter_answered 121 refl, tt)), refl)
 
 -- a range
 pub range_spelled : Spells (codes "uniform u8/8 3") (uniform U8Precision8 3)

@@ -20,6 +20,27 @@ fn of_a_letter(alloc: Global) -> Result<Option<Command>, AllocError>
     parse(alloc, b"x")
 }
 
+/// What a line with two ranges asks for.
+fn of_two_ranges(alloc: Global) -> Result<Option<Command>, AllocError>
+    ensures { IfOk result IsNone }
+{
+    parse(alloc, b"uniform u8/6 2 3")
+}
+
+/// What a line with two spaces asks for.
+fn of_two_spaces(alloc: Global) -> Result<Option<Command>, AllocError>
+    ensures { IfOk result IsNone }
+{
+    parse(alloc, b"table  u8/6 64")
+}
+
+/// What a line with a number of 21 digits asks for.
+fn of_many_digits(alloc: Global) -> Result<Option<Command>, AllocError>
+    ensures { IfOk result IsNone }
+{
+    parse(alloc, b"table u8/6 000000000000000000064")
+}
+
 /// What a line that spells a request asks for: that request, as it spells no other one.
 fn of_a_range(alloc: Global) -> Result<Option<Command>, AllocError>
     ensures { IfOk result (λ found. option_map view found ≡ Some (uniform Form.U8Precision8 3)) }
@@ -71,6 +92,9 @@ fn run_over_letters(alloc: Global, written: &mut Vec<u8>) -> Result<(), RunFault
 #[test]
 fn contracts_leave_one_request(rt: HostRuntime) -> Result<(), Fail> {
     same(&rt, of_a_letter(rt.alloc())?.is_none(), true);
+    same(&rt, of_two_ranges(rt.alloc())?.is_none(), true);
+    same(&rt, of_two_spaces(rt.alloc())?.is_none(), true);
+    same(&rt, of_many_digits(rt.alloc())?.is_none(), true);
     same(&rt, of_a_range(rt.alloc())?.is_some(), true);
     Ok(())
 }
