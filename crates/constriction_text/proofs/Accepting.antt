@@ -14,7 +14,7 @@ use Rattle.std.proofs.lemmas.List.Sums.{AllPass-from_list_all, list_all-from_All
 use Rattle.constriction_model.specs.Acceptance.{IsAccepted, completed}
 use Rattle.constriction_stored_rows.specs.Given.{GaveGood, GaveBad}
 use Rattle.constriction_text.specs.NumberWords.{narrowed_to}
-use Rattle.constriction_text.specs.Text.{are_accepted}
+use Rattle.constriction_text.specs.Answering.{are_accepted}
 
 -- ---- the test and what it tests
 

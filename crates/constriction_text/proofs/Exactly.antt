@@ -1,4 +1,4 @@
--- Reading a line finds exactly what the line spells.
+-- Reading a line finds exactly what the line spells. A caller who asks what a line spells computes `read_line`.
 use Rattle.std.proofs.Common.{refl, subst, ◌≡◌, ℕ, ◌<◌, ◌^◌, Bool, true, false, ◌||◌, ◌&&◌, eqb, cond, List, [], ◌∷◌, ◌++◌, ap, sym, ◌∙◌, length, arith, Option, Some, None, nat_lt, nat_le, Result, Ok, Err, find, codes}
 use Rattle.std.specs.Option.{option_map, IfSome, IfNone}
 use Rattle.std.specs.Result.{IfOk}
@@ -14,15 +14,15 @@ use Rattle.std.specs.Str.Parse.{AllDigits, digits_value}
 use Rattle.constriction_text.specs.declared.line.Command.{Command}
 use Rattle.constriction_text.specs.declared.line.Form.{Form}
 use Rattle.constriction_text.specs.declared.line.Form.TheVariants.{U8Precision6, U8Precision8, U16Precision12}
-use Rattle.constriction_text.specs.Grammar.{Request, table, infer, quantile, symbol, uniform, keyword, form_of, form_word, numbers_of, IsNumber, Spells}
+use Rattle.constriction_text.specs.Grammar.{Request, table, infer, quantile, symbol, uniform, form_of, form_word, view, IsNumber, IsLineOf, Spells}
 use Rattle.constriction_text.specs.Parts.{only_number}
-use Rattle.constriction_text.specs.Reading.{forms, requests_of, read_number, read_numbers, read_form, read_request, read_words, read_line, view, ◌>>=◌}
+use Rattle.constriction_text.specs.Reading.{keyword, numbers_of, forms, requests_of, read_number, read_numbers, read_form, read_request, read_words, read_line, ◌>>=◌}
 use Rattle.constriction_text.proofs.Numbers.{read_number-some}
 
-none_is_none : {A : Type 0} (x : A) → None ≡ Some x → ⊥
+pub none_is_none : {A : Type 0} (x : A) → None ≡ Some x → ⊥
 none_is_none x e = cc
 
-some_inj : {A : Type 0} (x y : A) → Some x ≡ Some y → x ≡ y
+pub some_inj : {A : Type 0} (x y : A) → Some x ≡ Some y → x ≡ y
 some_inj x y e = cc
 
 -- a search that found something: here, or further down
@@ -234,6 +234,23 @@ form_no_space U16Precision12 = refl
 
 -- Lines.
 
+-- what spells a request is its keyword, its form and its numbers
+spelled_from : (line : List ℕ) (request : Request) → IsLineOf line (keyword request) (form_of request) (numbers_of request)
+    → Spells line request
+spelled_from line (table form ws) h = h
+spelled_from line (infer form ws) h = h
+spelled_from line (quantile form q ws) h = h
+spelled_from line (symbol form s ws) h = h
+spelled_from line (uniform form n) h = h
+
+spelled_to : (line : List ℕ) (request : Request) → Spells line request
+    → IsLineOf line (keyword request) (form_of request) (numbers_of request)
+spelled_to line (table form ws) h = h
+spelled_to line (infer form ws) h = h
+spelled_to line (quantile form q ws) h = h
+spelled_to line (symbol form s ws) h = h
+spelled_to line (uniform form n) h = h
+
 words_read : (request : Request) (words : List (List ℕ)) → AllZip IsNumber words (numbers_of request)
     → read_words (keyword request ∷ form_word (form_of request) ∷ words) ≡ Some request
 unfolding read_words
@@ -249,7 +266,8 @@ words_spelled (key ∷ word ∷ words) request e =
     let q = bind_some (read_numbers words) (λ numbers. read_request key p.0 numbers) request p.2 in
     let parts = request_parts key p.0 q.0 request q.2 in
     let P : List ℕ → Type 0 = λ numbers. AllZip IsNumber words numbers in
-    let form : word ≡ form_word (form_of request) = form_spelled word p.0 p.1 ∙ ap form_word parts.0 in (
+    let form : word ≡ form_word (form_of request) = form_spelled word p.0 p.1 ∙ ap form_word parts.0 in
+    spelled_from (join_with_byte 32 (key ∷ word ∷ words)) request (
       words,
       subst P parts.1 (numbers_spelled words q.0 q.1),
       ap (λ k. join_with_byte 32 (k ∷ word ∷ words)) (request_keyword key p.0 q.0 request q.2)
@@ -264,12 +282,17 @@ line_spelled line request e =
 
 pub line_read : (line : List ℕ) (request : Request) → Spells line request → read_line line ≡ Some request
 unfolding read_line
-line_read line request h =
+line_read line request spelled =
+    let h = spelled_to line request spelled in
     let words : slice_split (λ b. eqb b 32) line ≡ keyword request ∷ form_word (form_of request) ∷ h.0 =
     ap (slice_split (λ b. eqb b 32)) h.2
     ∙ split_joined (keyword request) (form_word (form_of request) ∷ h.0) (keyword_no_space request)
     (form_no_space (form_of request), numbers_no_space h.0 (numbers_of request) h.1) in
     ap read_words words ∙ words_read request h.0 h.1
+
+-- where reading finds nothing, the line spells nothing
+pub spells_none : (line : List ℕ) → read_line line ≡ None → (request : Request) → ¬ (Spells line request)
+spells_none line none request spelled = none_is_none request (sym none ∙ line_read line request spelled)
 
 -- what a parser found, in either case
 pub line_found : {E : Type 0} (line : List ℕ) (r : Result (Option Command) E)
@@ -281,7 +304,7 @@ line_found line (Err e) h = tt
 
 pub line_none : {E : Type 0} (line : List ℕ) (r : Result (Option Command) E)
     → IfOk r (λ found. option_map view found ≡ read_line line)
-    → IfOk r (λ found. IfNone found ((request : Request) → Spells line request → ⊥))
-line_none line (Ok None) h = λ request s. none_is_none request (h ∙ line_read line request s)
+    → IfOk r (λ found. IfNone found ((request : Request) → ¬ (Spells line request)))
+line_none line (Ok None) h = spells_none line (sym h)
 line_none line (Ok (Some command)) h = tt
 line_none line (Err e) h = tt

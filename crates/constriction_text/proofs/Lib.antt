@@ -1,7 +1,8 @@
 mod Accepting
 mod Cutting
-mod Exactly
+pub mod Exactly
 mod LineReading
 mod Numbers
+mod OneAnswer
 mod RowTexts
 mod Writing

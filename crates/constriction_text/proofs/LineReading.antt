@@ -6,7 +6,8 @@ use Rattle.std.specs.Option.{option_map}
 use Rattle.std.specs.Result.{IfOk}
 use Rattle.constriction_text.specs.declared.line.Command.{Command}
 use Rattle.constriction_text.specs.declared.line.Form.{Form}
-use Rattle.constriction_text.specs.Reading.{read_form, read_line, read_numbers, read_request, read_words, view, ◌>>=◌}
+use Rattle.constriction_text.specs.Grammar.{view}
+use Rattle.constriction_text.specs.Reading.{read_form, read_line, read_numbers, read_request, read_words, ◌>>=◌}
 
 -- a line of one word asks for nothing
 pub one_word : (line word : List ℕ) → slice_split (λ byte. byte == 32) line ≡ word ∷ [] → None ≡ read_line line

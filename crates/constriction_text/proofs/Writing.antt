@@ -4,7 +4,9 @@ use Rattle.std.specs.Io.KnownBytes.{Appends, Keeps}
 use Rattle.std.proofs.KnownBytes.{Appends-nil, Appends-trans, Appends-kept}
 use Rattle.std.proofs.lemmas.List.Concat.{flat_map-append}
 use lib.Seq.{take-add}
-use Rattle.constriction_text.specs.Text.{answer_to, answers_of, lines_of, text_of}
+use Rattle.constriction_text.specs.Answering.{answer_to, answers_of, text_of}
+use Rattle.constriction_text.specs.Text.{IsTextOf, lines_of}
+use Rattle.constriction_text.proofs.OneAnswer.{are_answers}
 use Rattle.std.specs.Result.{OnOk}
 use Rattle.std.specs.declared.result.Result.{Result}
 use Rattle.std.specs.declared.result.Result.TheVariants.{Ok, Err}
@@ -92,9 +94,15 @@ pub answered-first : (a b c : Option (List ℕ)) (input rest text : List ℕ) �
 answered-first a b c input rest text so_far turn = (
   so_far.first,
   lines_of rest,
+  answers_of so_far.first,
   so_far.lines,
+  are_answers so_far.first,
   subst (Appends a c) so_far.answers (Appends-trans a b c so_far.written text so_far.wrote turn),
 )
+
+-- nothing was written, which is the answers to no lines
+pub no_answers : (a : Option (List ℕ)) (input : List ℕ) → WritesFirstAnswers a a input
+no_answers a input = ([], lines_of input, [], refl, are_answers [], Appends-nil a)
 
 no-lines : (rest : List ℕ) → length rest ≡ 0 → lines_of rest ≡ []
 no-lines [] none = refl
@@ -102,16 +110,18 @@ no-lines (byte ∷ bytes) none = absurd (omega arith)
 
 -- and no line was left
 pub answered-all : (a b c : Option (List ℕ)) (input rest text : List ℕ) → Answered a b input rest text → Appends b c text
-    → length rest ≡ 0 → Appends a c (text_of input)
+    → length rest ≡ 0 → (whole : List ℕ) × IsTextOf input whole × Appends a c whole
 answered-all a b c input rest text so_far turn none =
     let lines : so_far.first ≡ lines_of input =
-    sym (append-nil so_far.first) ∙ ap (λ ls. so_far.first ++ ls) (sym (no-lines rest none)) ∙ so_far.lines in
-    subst (Appends a c) (so_far.answers ∙ ap answers_of lines)
-    (Appends-trans a b c so_far.written text so_far.wrote turn)
+    sym (append-nil so_far.first) ∙ ap (λ ls. so_far.first ++ ls) (sym (no-lines rest none)) ∙ so_far.lines in (
+      text_of input,
+      are_answers (lines_of input),
+      subst (Appends a c) (so_far.answers ∙ ap answers_of lines) (Appends-trans a b c so_far.written text so_far.wrote turn),
+    )
 
 -- a beginning of the text was written
 pub answered-stopped : (a b c : Option (List ℕ)) (input rest text : List ℕ) → Answered a b input rest text
-    → WritesBeginning b c text → WritesBeginning a c (text_of input)
+    → WritesBeginning b c text → (whole : List ℕ) × IsTextOf input whole × WritesBeginning a c whole
 answered-stopped a b c input rest text so_far turn =
     let others = answers_of (lines_of rest) in
     let joined : (so_far.written ++ turn.0) ++ (turn.1 ++ others) ≡ text_of input =
@@ -120,8 +130,11 @@ answered-stopped a b c input rest text so_far turn =
     ∙ sym (append_assoc so_far.written text others)
     ∙ ap (λ t. t ++ others) so_far.answers
     ∙ sym (flat_map-append answer_to so_far.first (lines_of rest))
-    ∙ ap answers_of so_far.lines in
-    (so_far.written ++ turn.0, turn.1 ++ others, joined, Appends-trans a b c so_far.written turn.0 so_far.wrote turn.3)
+    ∙ ap answers_of so_far.lines in (
+      text_of input,
+      are_answers (lines_of input),
+      (so_far.written ++ turn.0, turn.1 ++ others, joined, Appends-trans a b c so_far.written turn.0 so_far.wrote turn.3),
+    )
 
 -- a fault that was handed on
 pub same-fault : {T F : Type 0} (x y : F) → ◌≡◌ {A = Result T F} (Err x) (Err y) → x ≡ y

@@ -4,6 +4,8 @@ use Rattle.std.specs.List.{AllZip, join_with_byte}
 use Rattle.std.specs.Str.Parse.{IsNumeral, digits_value}
 use Rattle.constriction_text.specs.declared.line.Form.{Form}
 use Rattle.constriction_text.specs.declared.line.Form.TheVariants.{U8Precision6, U8Precision8, U16Precision12}
+use Rattle.constriction_text.specs.declared.line.Command.{Command}
+use Rattle.constriction_text.specs.declared.line.Command.TheVariants as command
 
 -- the word of a form: the type of its probabilities, and its precision
 abbrev pub form_word : Form → List ℕ
@@ -32,14 +34,6 @@ pub data Request : Type 0 where
   symbol : Form → ℕ → List ℕ → Request
   uniform : Form → ℕ → Request
 
--- the word that a line begins with
-abbrev pub keyword : Request → List ℕ
-keyword (table form weights) = codes "table"
-keyword (infer form weights) = codes "infer"
-keyword (quantile form q weights) = codes "quantile"
-keyword (symbol form s weights) = codes "symbol"
-keyword (uniform form n) = codes "uniform"
-
 -- the form that a request names
 abbrev pub form_of : Request → Form
 form_of (table form weights) = form
@@ -48,13 +42,13 @@ form_of (quantile form q weights) = form
 form_of (symbol form s weights) = form
 form_of (uniform form n) = form
 
--- the numbers that follow the form
-abbrev pub numbers_of : Request → List ℕ
-numbers_of (table form weights) = weights
-numbers_of (infer form weights) = weights
-numbers_of (quantile form q weights) = q ∷ weights
-numbers_of (symbol form s weights) = s ∷ weights
-numbers_of (uniform form n) = n ∷ []
+-- the request that a command is, without where its numbers lie in memory
+abbrev pub view : Command → Request
+view (command.Table form weights) = table form weights.items
+view (command.Infer form weights) = infer form weights.items
+view (command.Quantile form q weights) = quantile form q weights.items
+view (command.Symbol form s weights) = symbol form s weights.items
+view (command.Uniform form n) = uniform form n
 
 -- the word is one to twenty decimal digits, and spells this number, which is below 2 ^ 64
 pub record IsNumber (word : List ℕ) (number : ℕ) : Type 0 where
@@ -64,7 +58,14 @@ pub record IsNumber (word : List ℕ) (number : ℕ) : Type 0 where
   pub small : number < 2 ^ 64
 
 -- the line is the keyword, the word of the form and the numbers, with one space (byte 32) between each two
+abbrev pub IsLineOf : List ℕ → List ℕ → Form → List ℕ → Type 0
+IsLineOf line keyword form numbers =
+    (words : List (List ℕ)) × AllZip IsNumber words numbers × (line ≡ join_with_byte 32 (keyword ∷ form_word form ∷ words))
+
+-- the line spells the request
 abbrev pub Spells : List ℕ → Request → Type 0
-Spells line request =
-    (words : List (List ℕ)) × AllZip IsNumber words (numbers_of request)
-    × (line ≡ join_with_byte 32 (keyword request ∷ form_word (form_of request) ∷ words))
+Spells line (table form weights) = IsLineOf line (codes "table") form weights
+Spells line (infer form weights) = IsLineOf line (codes "infer") form weights
+Spells line (quantile form q weights) = IsLineOf line (codes "quantile") form (q ∷ weights)
+Spells line (symbol form s weights) = IsLineOf line (codes "symbol") form (s ∷ weights)
+Spells line (uniform form n) = IsLineOf line (codes "uniform") form (n ∷ [])

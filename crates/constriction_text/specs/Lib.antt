@@ -1,3 +1,4 @@
+pub mod Answering
 pub mod Collecting
 pub mod Grammar
 pub mod NumberWords

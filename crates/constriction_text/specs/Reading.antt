@@ -1,20 +1,34 @@
--- How a line is read: its words, and the request that they make.
-use Rattle.std.specs.Prelude.{◌≡◌, ℕ, ◌^◌, ◌↔◌, List, [], ◌∷◌, length, find, Option, Some, None, option_and_then}
+-- How a line is read: its words, and the request that they make. No public clause cites this module.
+use Rattle.std.specs.Prelude.{ℕ, ◌^◌, List, [], ◌∷◌, codes, length, find, Option, Some, None, option_and_then}
 use Rattle.std.specs.Prelude.{nat_lt, nat_le, ◌==◌, ◌&&◌, if◌then◌else◌}
 use Rattle.std.specs.List.{slice_split}
 use Rattle.std.specs.Str.{all_ascii_digits, bytes_eq}
 use Rattle.std.specs.Str.Parse.{digits_value}
 use Rattle.constriction_text.specs.declared.line.Form.{Form}
 use Rattle.constriction_text.specs.declared.line.Form.TheVariants.{U8Precision6, U8Precision8, U16Precision12}
-use Rattle.constriction_text.specs.declared.line.Command.{Command}
-use Rattle.constriction_text.specs.declared.line.Command.TheVariants as command
 use Rattle.constriction_text.specs.Grammar.{Request, table, infer, quantile, symbol, uniform}
-use Rattle.constriction_text.specs.Grammar.{keyword, form_word, Spells}
+use Rattle.constriction_text.specs.Grammar.{form_word}
 
 infixl 10 ◌>>=◌
 -- the next step, where the one before found something
 abbrev pub ◌>>=◌ : {A B : Type 0} → Option A → (A → Option B) → Option B
 found >>= next = option_and_then next found
+
+-- the word that a line begins with
+abbrev pub keyword : Request → List ℕ
+keyword (table form weights) = codes "table"
+keyword (infer form weights) = codes "infer"
+keyword (quantile form q weights) = codes "quantile"
+keyword (symbol form s weights) = codes "symbol"
+keyword (uniform form n) = codes "uniform"
+
+-- the numbers that follow the form
+abbrev pub numbers_of : Request → List ℕ
+numbers_of (table form weights) = weights
+numbers_of (infer form weights) = weights
+numbers_of (quantile form q weights) = q ∷ weights
+numbers_of (symbol form s weights) = s ∷ weights
+numbers_of (uniform form n) = n ∷ []
 
 -- the number that a word spells
 unfoldable pub read_number : List ℕ → Option ℕ
@@ -68,15 +82,3 @@ read_words (word ∷ form ∷ words) = do
 -- what a line asks for
 unfoldable pub read_line : List ℕ → Option Request
 read_line line = read_words (slice_split (λ byte. byte == 32) line)
-
--- the request that a command is, without where its numbers lie in memory
-abbrev pub view : Command → Request
-view (command.Table form weights) = table form weights.items
-view (command.Infer form weights) = infer form weights.items
-view (command.Quantile form q weights) = quantile form q weights.items
-view (command.Symbol form s weights) = symbol form s weights.items
-view (command.Uniform form n) = uniform form n
-
--- reading a line finds exactly what it spells
-abbrev pub ReadsExactly : Type 0
-ReadsExactly = (line : List ℕ) (request : Request) → (read_line line ≡ Some request) ↔ Spells line request

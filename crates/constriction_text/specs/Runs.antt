@@ -3,7 +3,7 @@ use Rattle.std.specs.Prelude.{ℕ, ◌≡◌, List, ◌++◌, Option}
 use Rattle.std.specs.Io.KnownBytes.{Appends, Consumes}
 use Rattle.constriction_text.specs.declared.fault.RunFault.{RunFault}
 use Rattle.constriction_text.specs.declared.fault.RunFault.TheVariants.{Read, Write, TooLong, OutOfMemory}
-use Rattle.constriction_text.specs.Text.{answers_of, lines_of}
+use Rattle.constriction_text.specs.Text.{AreAnswers, lines_of}
 
 -- the most bytes of an input
 abbrev pub limit : ℕ
@@ -27,4 +27,4 @@ WritesBeginning old new text = (written rest : List ℕ) × (written ++ rest ≡
 -- the answers to some first lines of an input were written, each whole, and nothing else
 abbrev pub WritesFirstAnswers : Option (List ℕ) → Option (List ℕ) → List ℕ → Type 0
 WritesFirstAnswers old new input =
-    (first rest : List (List ℕ)) × (first ++ rest ≡ lines_of input) × Appends old new (answers_of first)
+    (first rest : List (List ℕ)) × (text : List ℕ) × (first ++ rest ≡ lines_of input) × AreAnswers first text × Appends old new text

@@ -1,14 +1,13 @@
 -- The text that answers an input.
-use Rattle.std.specs.Prelude.{◌≡◌, ℕ, ◌^◌, ◌↔◌, Bool, true, ◌&&◌, ◌==◌, nat_eq, nat_le, nat_lt}
-use Rattle.std.specs.Prelude.{List, [], ◌∷◌, ◌++◌, codes, decimal, find, sum}
-use Rattle.std.specs.Prelude.{Option, Some, None, if◌then◌else◌}
-use Rattle.std.specs.List.{flat_map, list_all, slice_split}
+use Rattle.std.specs.Prelude.{◌≡◌, ℕ, ◌^◌, ◌⊎◌, true, ◌&&◌, ◌==◌, nat_eq, nat_le, nat_lt, List, [], ◌∷◌, ◌++◌, codes, decimal, find}
+use Rattle.std.specs.Prelude.{if◌then◌else◌}
+use Rattle.std.specs.List.{AllZip, concat, flat_map, slice_split}
 use Rattle.std.specs.Option.{option_map_or}
 use Rattle.constriction_model.specs.Acceptance.{IsAccepted, completed}
 use Rattle.constriction_model.specs.Rows.{Row, contiguous_rows, uniform_rows, entry_of}
-use Rattle.constriction_text.specs.Grammar.{Request, table, infer, quantile, symbol, uniform, bits_of, precision_of}
-use Rattle.constriction_text.specs.Reading.{read_line}
 use Rattle.constriction_model.specs.Scanning.{holds}
+use Rattle.constriction_text.specs.declared.line.Form.{Form}
+use Rattle.constriction_text.specs.Grammar.{Request, table, infer, quantile, symbol, uniform, bits_of, precision_of, Spells}
 
 -- parts, of which a last empty one is dropped
 abbrev pub without_last_empty : List (List ℕ) → List (List ℕ)
@@ -20,17 +19,6 @@ without_last_empty (part ∷ (next ∷ parts)) = part ∷ without_last_empty (ne
 -- the lines of an input: its parts between the bytes 10, but for a last empty one
 abbrev pub lines_of : List ℕ → List (List ℕ)
 lines_of input = without_last_empty (slice_split (λ byte. byte == 10) input)
-
--- whether weights are accepted at words of so many bits: each is positive and a word, and their sum is 2 ^ precision
-abbrev pub are_accepted : ℕ → ℕ → List ℕ → Bool
-are_accepted bits precision weights =
-    list_all (λ weight. nat_lt 0 weight && nat_lt weight (2 ^ bits)) weights && sum weights == 2 ^ precision
-
--- the test of weights holds exactly where a model accepts them
-abbrev pub TestsAcceptance : Type 0
-TestsAcceptance =
-    (bits precision : ℕ) (weights : List ℕ)
-    → (are_accepted bits precision weights ≡ true) ↔ IsAccepted bits precision weights
 
 -- the line of a row: its symbol, its left cumulative and its weight
 abbrev pub row_text : Row ℕ → List ℕ
@@ -56,34 +44,30 @@ abbrev pub uniform_text : ℕ → ℕ → List ℕ
 uniform_text precision n =
     if nat_le 2 n && nat_le n (2 ^ precision) then rows_text (uniform_rows precision n) else codes "range\n"
 
--- the text of the rows of a model of these weights, where they are accepted
-abbrev pub text_of_model : ℕ → ℕ → List ℕ → (List (Row ℕ) → List ℕ) → List ℕ
-text_of_model bits precision weights text =
-    if are_accepted bits precision weights then text (contiguous_rows weights) else codes "invalid\n"
+-- the text is that of the rows of a model of these weights, where one accepts them, and else says that they are invalid
+abbrev pub IsTextOfModel : Form → List ℕ → (List (Row ℕ) → List ℕ) → List ℕ → Type 0
+IsTextOfModel form weights text_of_rows text =
+    (IsAccepted (bits_of form) (precision_of form) weights × (text ≡ text_of_rows (contiguous_rows weights)))
+    ⊎ (¬ (IsAccepted (bits_of form) (precision_of form) weights) × (text ≡ codes "invalid\n"))
 
--- the text that answers a request; only `infer` infers the last weight
-unfoldable pub answer_of : Request → List ℕ
-answer_of (table form weights) = text_of_model (bits_of form) (precision_of form) weights rows_text
-answer_of (infer form weights) =
-    text_of_model (bits_of form) (precision_of form) (completed (precision_of form) true weights) rows_text
-answer_of (quantile form q weights) =
-    text_of_model (bits_of form) (precision_of form) weights (λ rows. quantile_text (precision_of form) rows q)
-answer_of (symbol form s weights) = text_of_model (bits_of form) (precision_of form) weights (λ rows. symbol_text rows s)
-answer_of (uniform form n) = uniform_text (precision_of form) n
+-- the text answers the request; only `infer` infers the last weight
+abbrev pub Answers : Request → List ℕ → Type 0
+Answers (table form weights) = IsTextOfModel form weights rows_text
+Answers (infer form weights) = IsTextOfModel form (completed (precision_of form) true weights) rows_text
+Answers (quantile form q weights) = IsTextOfModel form weights (λ rows. quantile_text (precision_of form) rows q)
+Answers (symbol form s weights) = IsTextOfModel form weights (λ rows. symbol_text rows s)
+Answers (uniform form n) = λ text. text ≡ uniform_text (precision_of form) n
 
--- the answer to what a line asks for
-abbrev pub reply_to : Option Request → List ℕ
-reply_to (Some request) = answer_of request
-reply_to None = codes "bad line\n"
+-- the text answers the request that the line spells, or the line spells none and the text says so
+abbrev pub IsAnswer : List ℕ → List ℕ → Type 0
+IsAnswer line text =
+    ((request : Request) × Spells line request × Answers request text)
+    ⊎ (((request : Request) → ¬ (Spells line request)) × (text ≡ codes "bad line\n"))
 
--- the answer to a line
-unfoldable pub answer_to : List ℕ → List ℕ
-answer_to line = reply_to (read_line line)
+-- the text is the answers to these lines, one after another
+abbrev pub AreAnswers : List (List ℕ) → List ℕ → Type 0
+AreAnswers lines text = (answers : List (List ℕ)) × AllZip IsAnswer lines answers × (text ≡ concat answers)
 
--- the answers to lines, one after another
-abbrev pub answers_of : List (List ℕ) → List ℕ
-answers_of lines = flat_map answer_to lines
-
--- the text that answers an input
-abbrev pub text_of : List ℕ → List ℕ
-text_of input = answers_of (lines_of input)
+-- the text answers the lines of an input
+abbrev pub IsTextOf : List ℕ → List ℕ → Type 0
+IsTextOf input = AreAnswers (lines_of input)

@@ -3,10 +3,9 @@
 ghost use Rattle.std.specs.Prelude.{◌≡◌, ◌<◌, ◌≤◌, ◌++◌, false, true};
 ghost use Rattle.std.specs.Prelude.{IfOk, OnOk, string_bytes};
 ghost use Rattle.constriction_model.specs.Acceptance.{completed};
-ghost use Rattle.constriction_text.specs.Reading.{view};
-ghost use Rattle.constriction_text.specs.Text.{answer_of, answer_to, text_of_model};
-ghost use Rattle.constriction_text.specs.Grammar.{bits_of, form_of, precision_of};
-ghost use Rattle.constriction_text.specs.Text.{rows_text, quantile_text, symbol_text, uniform_text};
+ghost use Rattle.constriction_text.specs.Answering.{answer_of, answer_to, text_of_model};
+ghost use Rattle.constriction_text.specs.Grammar.{bits_of, form_of, precision_of, view};
+ghost use Rattle.constriction_text.specs.Text.{IsAnswer, rows_text, quantile_text, symbol_text, uniform_text};
 
 use crate::line::{Command, Form, parse};
 use crate::line_model::{LineModel, model_of};
@@ -121,7 +120,7 @@ fn push_uniform<U: UniformRows<PRECISION>, const PRECISION: usize>(
 }
 
 /// Adds the answer to a command whose form has these models.
-#[tactic(auto, unfolding(crate::specs::Text::answer_of))]
+#[tactic(auto, unfolding(crate::specs::Answering::answer_of))]
 fn push_at<M: LineModel<PRECISION>, U: UniformRows<PRECISION>, const PRECISION: usize>(
     alloc: Global,
     text: &mut String,
@@ -183,7 +182,7 @@ fn push_command(alloc: Global, text: &mut String, command: &Command) -> Result<(
 }
 
 /// Adds the answer to a line, which is given without the byte 10 that ends it.
-#[tactic(auto, unfolding(crate::specs::Text::answer_to))]
+#[tactic(auto, using(crate::proofs::OneAnswer::answer_found, crate::proofs::OneAnswer::answer_none))]
 pub(crate) fn push_answer(alloc: Global, text: &mut String, line: &[u8]) -> Result<(), AllocError>
     ensures { OnOk result (string_bytes text.new ≡ string_bytes text.old ++ answer_to line.now) }
 {
@@ -195,7 +194,7 @@ pub(crate) fn push_answer(alloc: Global, text: &mut String, line: &[u8]) -> Resu
 
 /// The answer to a line, which is given without the byte 10 that ends it.
 pub fn answer(alloc: Global, line: &[u8]) -> Result<String, AllocError>
-    ensures { IfOk result (λ text. string_bytes text ≡ answer_to line.now) }
+    ensures { IfOk result (λ text. IsAnswer line.now (string_bytes text)) }
 {
     let mut text = String::new(alloc);
     push_answer(alloc, &mut text, line)?;

@@ -2,10 +2,10 @@
 
 ghost use Rattle.std.specs.Prelude.{◌≡◌, ◌∷◌, IfOk, IfSome, IfNone, option_and_then};
 ghost use Rattle.std.specs.Option.{option_copied, option_map};
-ghost use Rattle.constriction_text.specs.Grammar.{Request, Spells, form_of};
+ghost use Rattle.constriction_text.specs.Grammar.{Request, Spells, form_of, view};
 ghost use Rattle.constriction_text.specs.Parts.{parts_of, first_and_others, only_number};
 ghost use Rattle.constriction_text.specs.Reading.{read_form, read_line};
-ghost use Rattle.constriction_text.specs.Reading.{read_number, read_numbers, read_request, view};
+ghost use Rattle.constriction_text.specs.Reading.{read_number, read_numbers, read_request};
 
 use crate::cut::cut;
 use std::alloc::{AllocError, Global};
@@ -241,10 +241,7 @@ pub fn parse(alloc: Global, line: &[u8]) -> Result<Option<Command>, AllocError>
     ensures found { IfOk result (λ found. IfSome found (λ command. Spells line.now (view command))) }
 
     // Nothing is found only where nothing is spelled.
-    ensures none { IfOk result (λ found. IfNone found ((request : Request) → Spells line.now request → ⊥)) }
-
-    // Which it is, as a function of the line.
-    ensures exact { IfOk result (λ found. option_map view found ≡ read_line line.now) }
+    ensures none { IfOk result (λ found. IfNone found ((request : Request) → ¬ (Spells line.now request))) }
 {
     parse_line(alloc, line)
 }

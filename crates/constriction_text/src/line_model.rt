@@ -6,7 +6,8 @@ ghost use Rattle.std.specs.Iterator.{IsFiniteIterable};
 ghost use Rattle.constriction_model.specs.Acceptance.{IsAccepted, completed};
 ghost use Rattle.constriction_stored_rows.specs.Given.{GaveGood, GaveBad};
 ghost use Rattle.constriction_model.specs.Rows.{Row, RowsTile, IsRowOf, contiguous_rows, entry_of};
-ghost use Rattle.constriction_text.specs.Text.{are_accepted, rows_text};
+ghost use Rattle.constriction_text.specs.Answering.{are_accepted};
+ghost use Rattle.constriction_text.specs.Text.{rows_text};
 
 use crate::form_word::NumberWord;
 use std::alloc::{AllocError, Global};

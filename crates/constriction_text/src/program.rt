@@ -1,11 +1,12 @@
 //! A run over a reader and a writer.
 
-ghost use Rattle.std.specs.Prelude.{◌≡◌, ◌≢◌, ◌<◌, ◌≤◌, ◌+◌, ◌++◌, ◌∷◌, ◌⊎◌, Err, length};
+ghost use Rattle.std.specs.Prelude.{◌≡◌, ◌≢◌, ◌<◌, ◌≤◌, ◌+◌, ◌++◌, ◌∷◌, ◌⊎◌, ℕ, List, Err, length};
 ghost use Rattle.std.specs.Prelude.{IfOk, IfErr, OnOk, OnErr, string_bytes};
 ghost use Rattle.std.specs.Io.KnownBytes.{Appends, Consumes, IsAtEnd, Keeps};
 ghost use Rattle.constriction_text.specs.Runs.{limit, HasRead, WritesBeginning, WritesFirstAnswers};
 ghost use Rattle.constriction_text.specs.Collecting.{WritesFront};
-ghost use Rattle.constriction_text.specs.Text.{answer_to, lines_of, text_of};
+ghost use Rattle.constriction_text.specs.Answering.{answer_to};
+ghost use Rattle.constriction_text.specs.Text.{IsTextOf, lines_of};
 
 use crate::answers::push_answer;
 use crate::cut::cut;
@@ -154,11 +155,12 @@ fn write_last<W: Write>(writer: &mut W, answers: &[u8]) -> RunFault
 ///
 /// They are collected, and written once there are many bytes of them, and at the end.
 fn write_answers<W: Write>(alloc: Global, input: &[u8], writer: &mut W) -> Result<(), RunFault>
-    ensures ok { OnOk result (Appends (W.contents writer.old) (W.contents writer.new) (text_of input.now)) }
+    ensures ok { OnOk result ((text : List ℕ) × IsTextOf input.now text
+        × Appends (W.contents writer.old) (W.contents writer.new) text) }
     ensures out_of_memory { result ≡ Err RunFault.OutOfMemory →
         WritesFirstAnswers (W.contents writer.old) (W.contents writer.new) input.now }
     ensures write { result ≡ Err RunFault.Write →
-        WritesBeginning (W.contents writer.old) (W.contents writer.new) (text_of input.now) }
+        (text : List ℕ) × IsTextOf input.now text × WritesBeginning (W.contents writer.old) (W.contents writer.new) text }
     ensures faults { IfErr result (λ fault. (fault ≢ RunFault.Read) × (fault ≢ RunFault.TooLong)) }
 {
     let mut text = String::new(alloc);
@@ -181,11 +183,12 @@ fn write_answers<W: Write>(alloc: Global, input: &[u8], writer: &mut W) -> Resul
 /// The writer is not flushed: give one that holds nothing back. An input is at most 1,048,576
 /// bytes, and of a longer one no more than one byte past them is read. No turn of the reader or the
 /// writer follows one that answered an error.
+#[tactic(auto, using(crate::proofs::Writing::no_answers))]
 pub fn run<R: Read, W: Write>(alloc: Global, reader: &mut R, writer: &mut W) -> Result<(), RunFault>
     // What is written is the text of what was read, which is all that the reader had.
     ensures ok { OnOk result (HasRead (R.remaining reader.old) (R.remaining reader.new) (λ input.
         IsAtEnd (R.remaining reader.new) × (length input ≤ limit)
-        × Appends (W.contents writer.old) (W.contents writer.new) (text_of input))) }
+        × ((text : List ℕ) × IsTextOf input text × Appends (W.contents writer.old) (W.contents writer.new) text))) }
 
     ensures too_long { result ≡ Err RunFault.TooLong →
         HasRead (R.remaining reader.old) (R.remaining reader.new) (λ input. limit < length input) }
@@ -204,7 +207,7 @@ pub fn run<R: Read, W: Write>(alloc: Global, reader: &mut R, writer: &mut W) -> 
     ensures write { result ≡ Err RunFault.Write →
         HasRead (R.remaining reader.old) (R.remaining reader.new) (λ input.
         IsAtEnd (R.remaining reader.new) × (length input ≤ limit)
-        × WritesBeginning (W.contents writer.old) (W.contents writer.new) (text_of input)) }
+        × ((text : List ℕ) × IsTextOf input text × WritesBeginning (W.contents writer.old) (W.contents writer.new) text)) }
 
     // No turn takes more than one byte past the limit.
     ensures taken { HasRead (R.remaining reader.old) (R.remaining reader.new) (λ input. length input ≤ limit + 1) }

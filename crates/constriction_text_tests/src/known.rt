@@ -1,9 +1,15 @@
-//! What the contract of the grammar alone tells its caller. No body that answers otherwise meets it.
+//! What the contracts of the grammar, of answers and of texts tell their callers. No body that answers otherwise meets them.
 
-ghost use Rattle.std.specs.Prelude.{◌≡◌, IfOk, IsNone};
+ghost use Rattle.std.specs.Prelude.{◌≡◌, ◌++◌, ℕ, List, IfOk, IsNone, OnOk, Some, codes, string_bytes};
+ghost use Rattle.std.specs.Option.{option_map};
+ghost use Rattle.constriction_text.specs.Grammar.{uniform, view};
+ghost use Rattle.constriction_text.specs.Text.{IsTextOf};
 
-use crate::checks::same;
-use constriction_text::{Command, parse};
+use crate::checks::{holds, same};
+use constriction_text::laws::{
+    a_line_has_one_answer, a_line_spells_at_most_one_request, an_input_has_one_text,
+};
+use constriction_text::{Command, Form, RunFault, answer, parse, run};
 use std::alloc::{AllocError, Global};
 use std::test::Fail;
 
@@ -14,8 +20,105 @@ fn of_a_letter(alloc: Global) -> Result<Option<Command>, AllocError>
     parse(alloc, b"x")
 }
 
+/// What a line with two ranges asks for.
+fn of_two_ranges(alloc: Global) -> Result<Option<Command>, AllocError>
+    ensures { IfOk result IsNone }
+{
+    parse(alloc, b"uniform u8/6 2 3")
+}
+
+/// What a line with two spaces asks for.
+fn of_two_spaces(alloc: Global) -> Result<Option<Command>, AllocError>
+    ensures { IfOk result IsNone }
+{
+    parse(alloc, b"table  u8/6 64")
+}
+
+/// What a line with a number of 21 digits asks for.
+fn of_many_digits(alloc: Global) -> Result<Option<Command>, AllocError>
+    ensures { IfOk result IsNone }
+{
+    parse(alloc, b"table u8/6 000000000000000000064")
+}
+
+/// What a line that spells a request asks for: that request, as it spells no other one.
+fn of_a_range(alloc: Global) -> Result<Option<Command>, AllocError>
+    ensures { IfOk result (λ found. option_map view found ≡ Some (uniform Form.U8Precision8 3)) }
+{
+    a_line_spells_at_most_one_request();
+    parse(alloc, b"uniform u8/8 3")
+}
+
+/// The answer to a line of one letter.
+fn answer_to_a_letter(alloc: Global) -> Result<String, AllocError>
+    ensures { IfOk result (λ text. string_bytes text ≡ codes "bad line\n") }
+{
+    a_line_has_one_answer();
+    answer(alloc, b"x")
+}
+
+/// The answer to weights that a model accepts.
+fn answer_to_weights(alloc: Global) -> Result<String, AllocError>
+    ensures { IfOk result (λ text. string_bytes text ≡ codes "0 0 1\n1 1 63\n") }
+{
+    a_line_has_one_answer();
+    answer(alloc, b"table u8/6 1 63")
+}
+
+/// The answer to weights that no model accepts.
+fn answer_to_few_weights(alloc: Global) -> Result<String, AllocError>
+    ensures { IfOk result (λ text. string_bytes text ≡ codes "invalid\n") }
+{
+    a_line_has_one_answer();
+    answer(alloc, b"table u8/6 63")
+}
+
+/// The text of an input of two letters.
+fn text_of_letters()
+    ensures { (text : List ℕ) → IsTextOf (codes "x\ny") text → text ≡ codes "bad line\nbad line\n" }
+{
+    an_input_has_one_text();
+}
+
+/// What a run over an input of two letters writes.
+fn run_over_letters(alloc: Global, written: &mut Vec<u8>) -> Result<(), RunFault>
+    ensures { OnOk result (written.new.items ≡ written.old.items ++ codes "bad line\nbad line\n") }
+{
+    an_input_has_one_text();
+    let mut input = b"x\ny".as_slice();
+    run(alloc, &mut input, written)
+}
+
 #[test]
-fn a_line_of_one_letter_asks_for_nothing(rt: HostRuntime) -> Result<(), Fail> {
+fn contracts_leave_one_request(rt: HostRuntime) -> Result<(), Fail> {
     same(&rt, of_a_letter(rt.alloc())?.is_none(), true);
+    same(&rt, of_two_ranges(rt.alloc())?.is_none(), true);
+    same(&rt, of_two_spaces(rt.alloc())?.is_none(), true);
+    same(&rt, of_many_digits(rt.alloc())?.is_none(), true);
+    same(&rt, of_a_range(rt.alloc())?.is_some(), true);
     Ok(())
+}
+
+#[test]
+fn contracts_leave_one_answer(rt: HostRuntime) -> Result<(), Fail> {
+    same(&rt, answer_to_a_letter(rt.alloc())?.as_str(), "bad line\n");
+    same(
+        &rt,
+        answer_to_weights(rt.alloc())?.as_str(),
+        "0 0 1\n1 1 63\n",
+    );
+    same(
+        &rt,
+        answer_to_few_weights(rt.alloc())?.as_str(),
+        "invalid\n",
+    );
+    Ok(())
+}
+
+#[test]
+fn contracts_leave_one_text(rt: HostRuntime) {
+    let mut written = Vec::new(rt.alloc());
+    same(&rt, run_over_letters(rt.alloc(), &mut written), Ok(()));
+    holds(&rt, &written, b"bad line\nbad line\n");
+    text_of_letters();
 }

@@ -1,7 +1,6 @@
 //! Lines that ask for something, and lines that do not.
 
 use crate::checks::{holds, same, same_at};
-use constriction_text::laws::reading_is_exactly_spelling;
 use constriction_text::{Command, Form, parse};
 use std::alloc::Global;
 use std::process::Abort;
@@ -114,5 +113,4 @@ fn other_lines_ask_for_nothing(rt: HostRuntime) {
     for line in OTHERS {
         asks_for_nothing(&rt, alloc, line);
     }
-    reading_is_exactly_spelling();
 }

@@ -1,7 +1,6 @@
 //! Runs over whole inputs, and over readers and writers that give or take little, fail, or end.
 
 use crate::checks::{end_of_requests, holds, holds_at, prints, same, same_at};
-use constriction_text::laws::weights_are_tested_as_models_accept_them;
 use constriction_text::{RunFault, answer, run};
 use std::alloc::Global;
 use std::io::{self, Read, Write};
@@ -308,9 +307,8 @@ fn answered(rt: &impl Abort, alloc: Global, line: &[u8], text: &str) {
 }
 
 #[test]
-fn laws_and_answers_may_be_called(rt: HostRuntime) {
+fn a_line_is_answered(rt: HostRuntime) {
     answered(&rt, rt.alloc(), b"table u8/6 1 63", "0 0 1\n1 1 63\n");
-    weights_are_tested_as_models_accept_them();
 }
 
 /// What a run over an input answers, and what it writes in which turns.
