@@ -1,0 +1,57 @@
+use Rattle.std.proofs.Common.{◌≡◌, Err, true, refl, rules}
+use Rattle.constriction_model.specs.declared.error.ModelError.TheVariants.{InvalidTable}
+use Rattle.constriction_stored_rows.proofs.ReadLemmas.{read-none, read-more, bad-row}
+use Rattle.constriction_stored_rows.proofs.reading.take_all.Goals as goal
+
+pub rows-init : goal.rows-init
+rows-init g c = (
+  c.requires.weights_go,
+  c.requires.weights_end,
+  c.requires.symbols_go,
+  c.requires.symbols_end,
+  read-none g.Symbols.Iterator.next_gives _ g.Weights.Iterator.next_gives _ g.Stored.TakesRows.symbol_eq
+      g.met.Stored.TakesRows.symmetry_law g.Stored.TakesRows.holds g.P.WholeNumber.whole g.P.WholeNumber.BITS g.row.PRECISION
+      c.args.stored.now c.least-left.result (g.P.WholeNumber.whole c.greatest-room.result) c.requires.none c.least-left.ensures
+      c.greatest-room.ensures.value,
+)
+
+pub returns-then-not-leaves_some-clause-ok : goal.returns-then-not-leaves_some-clause-ok
+returns-then-not-leaves_some-clause-ok g c = λ ok.
+    c.take_given_last.ensures.ok ok _ _ c.rows.weights c.rows.invariant.4 c.in-Some.ensures.steps
+
+pub returns-then-not-leaves_some-clause-invalid : goal.returns-then-not-leaves_some-clause-invalid
+returns-then-not-leaves_some-clause-invalid g c = λ e.
+    c.take_given_last.ensures.invalid e _ _ c.rows.weights c.rows.invariant.4 c.in-Some.ensures.steps
+
+pub returns-in_err-take_next-clause-invalid : goal.returns-in_err-take_next-clause-invalid
+returns-in_err-take_next-clause-invalid g c = λ h.
+    let e : c.take_next.result ≡ Err InvalidTable = search rules in
+    bad-row g.Symbols.Iterator.next_gives _ g.Weights.Iterator.next_gives _ g.Stored.TakesRows.symbol_eq
+    g.met.Stored.TakesRows.symmetry_law g.Stored.TakesRows.holds g.P.WholeNumber.whole g.P.WholeNumber.BITS g.row.PRECISION
+    c.rows.stored c.rows.symbols c.rows.weights c.rows.left (g.P.WholeNumber.whole c.rows.room) c.rows.invariant.4 c.args.infer_last _ _
+    c.in-Some.weight c.in-Some.ensures.steps (c.take_next.ensures.refused e)
+
+pub rows-preserved : goal.rows-preserved
+rows-preserved g c =
+    let weights = c.in-Some.ensures.goes.on c.rows.invariant.1 in
+    let symbols = c.in_ok-take_next.ensures.goes (refl {a = true}) c.rows.invariant.3 in (
+      weights.0,
+      weights.1,
+      symbols.0,
+      symbols.1,
+      read-more g.Symbols.Iterator.next_gives _ g.Weights.Iterator.next_gives _ g.Stored.TakesRows.symbol_eq
+          g.met.Stored.TakesRows.symmetry_law g.Stored.TakesRows.holds g.P.WholeNumber.whole g.P.WholeNumber.BITS g.row.PRECISION
+          c.rows.stored c.rows.symbols c.rows.weights c.rows.left (g.P.WholeNumber.whole c.rows.room) c.rows.invariant.4
+          c.take_next.new.stored c.take_next.new.symbols c.next.new.self c.in-Some.weight c.plus-left.result
+          (g.P.WholeNumber.whole c.minus-room.result) c.in-Some.ensures.steps (c.in_ok-take_next.ensures.took (refl {a = true}))
+          c.greatest-room.ensures.within (c.leaves_some.ensures.some c.if-not-leaves_some.false) c.plus-left.ensures
+          c.minus-room.ensures,
+    )
+
+pub returns-clause-ok : goal.returns-clause-ok
+returns-clause-ok g c = λ ok.
+    c.take_inferred_last.ensures.ok ok _ _ _ c.rows.weights c.rows.invariant.4 c.in_default.ensures.steps
+
+pub returns-clause-invalid : goal.returns-clause-invalid
+returns-clause-invalid g c = λ e.
+    c.take_inferred_last.ensures.invalid e _ _ _ c.rows.weights c.rows.invariant.4 c.in_default.ensures.steps
