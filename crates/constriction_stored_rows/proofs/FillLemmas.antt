@@ -1,6 +1,8 @@
 -- Filling a table row by row.
 use Rattle.std.specs.Prelude.{◌≡◌, ℕ, ◌+◌, ◌-◌, ◌%◌, ◌^◌, ◌<◌, ◌≤◌, ◌⊎◌, Bool, true, false, List, [], ◌∷◌, ◌++◌, length, map, sum, All, Option, Some, None, Result, Ok, Err, IfOk}
 use Rattle.std.proofs.Common.{suc, zero, refl, ap, sym, ◌∙◌, arith, subst, inl, inr}
+use Rattle.std.proofs.Math.Nat.{mod-eq_of_lt, mod_self}
+use Rattle.std.proofs.lemmas.Bool.{cases_lt}
 use Rattle.std.proofs.lemmas.List.{map-append, length-append, get_or_append_left}
 use Rattle.std.proofs.lemmas.List.Elements.{All-push, All-nil, All-contains, Contains-append_left, Contains-push}
 use Rattle.std.proofs.lemmas.List.Sums.{sum_by-cons, sum_by-append, sum_by_push}
@@ -176,6 +178,18 @@ module _ {W : Type 0} (whole : W → ℕ) (bits precision : ℕ) where
         let inferred : infer ≡ true = wide.0 in
         rw inferred (bad-wide ws table left f (omega (arith, all, wide.1)))
   ]
+
+-- a weight and the word one below it, which wraps to the greatest word where the weight is 0
+pub wrapped : (n last w : ℕ) → (last + 1) % n ≡ w → last < n → ((w ≡ 0) × (last + 1 ≡ n)) ⊎ ((w ≡ last + 1) × (w < n))
+wrapped n last w is range = elim (cases_lt (last + 1) n) [
+  | inl less ↦
+      let same : (last + 1) % n ≡ last + 1 = mod-eq_of_lt less in
+      inr (omega (arith, is, same), omega (arith, is, same, less))
+  | inr most ↦
+      let end : last + 1 ≡ n = omega (arith, range, most) in
+      let zero_left : (last + 1) % n ≡ 0 = rw end (mod_self n) in
+      inl (omega (arith, is, zero_left), end)
+]
 
 -- a table is ended with the total
 pub ended : {W : Type 0} (whole : W → ℕ) (lefts filled table : List W) (total : W) (is : ℕ) (numbers : List ℕ)

@@ -38,31 +38,20 @@ pub fn and_item<T: Drop>(mut items: Vec<T>, item: T) -> Result<Vec<T>, AllocErro
     Ok(items)
 }
 
-/// Whether a row of this weight takes some quantiles and leaves some, where `room` is the number of quantiles
-/// after the first one of the row, and `one` the word 1.
+/// Whether a row of this weight leaves no quantiles, where `room` is the number of quantiles after the first one
+/// of the row, and `one` the word 1.
 ///
-/// One comparison tells so from all other weights: 0, one that fills the quantiles, and one that is too much.
+/// One comparison tells weights that leave some from all others: 0, one that fills the quantiles, and one that is
+/// too much.
 #[inline(always)]
-pub(crate) fn leaves_some<P: WholeNumber>(weight: P, one: P, room: P) -> bool
+pub(crate) fn leaves_none<P: WholeNumber>(weight: P, one: P, room: P) -> bool
     requires one { P.whole one ≡ 1 }
     requires range { P.whole room < 2 ^ P.BITS }
-    ensures some { IsTrue result → (0 < P.whole weight) × (P.whole weight ≤ P.whole room) }
-    ensures none { result ≡ false → (P.whole weight ≡ 0) ⊎ (P.whole room < P.whole weight) }
+    ensures none { IsTrue result → (P.whole weight ≡ 0) ⊎ (P.whole room < P.whole weight) }
+    ensures some { result ≡ false → (0 < P.whole weight) × (P.whole weight ≤ P.whole room) }
 {
     let last = weight.wrapping_minus(one);
-    !room.is_at_most(last)
-}
-
-/// Whether a row of this weight fills the quantiles. Otherwise the row takes no quantile, or more than there are.
-#[inline]
-fn is_filled_by<P: WholeNumber>(weight: P, one: P, room: P) -> bool
-    requires one { P.whole one ≡ 1 }
-    requires none_left { (P.whole weight ≡ 0) ⊎ (P.whole room < P.whole weight) }
-    ensures filled { IsTrue result → (0 < P.whole weight) × (P.whole weight < 2 ^ P.BITS) × (P.whole weight ≡ P.whole room + 1) }
-    ensures bad { result ≡ false → (P.whole weight ≡ 0) ⊎ (P.whole room + 1 < P.whole weight) }
-{
-    let last = weight.wrapping_minus(one);
-    !weight.is_least() && last.is_at_most(room)
+    room.is_at_most(last)
 }
 
 /// Whether the row of this weight is the last one: a given weight has to fill the quantiles, and no further one is
@@ -77,7 +66,11 @@ pub(crate) fn is_given_last<P: WholeNumber>(weight: P, one: P, room: P, infer_la
     if infer_last {
         return false;
     }
-    is_filled_by(weight, one, room)
+    if weight.is_least() {
+        return false;
+    }
+    let last = weight.wrapping_minus(one);
+    last.is_at_most(room)
 }
 
 /// Whether the row that takes all quantiles left is the last one: its weight is inferred, and it is a word.
@@ -224,7 +217,7 @@ fn filled<P: WholeNumber, I: Iterator<Item = P>, const PRECISION: usize>(
             table = full;
         }
         table.push_reserved(left);
-        if !leaves_some(weight, one, room) {
+        if leaves_none(weight, one, room) {
             return ended::<P, PRECISION>(
                 table,
                 is_end_of_given(rest, weight, one, room, infer_last),

@@ -8,7 +8,7 @@ ghost use Rattle.constriction_stored_rows.specs.Given.{GaveBothGood, GaveBothBad
 ghost use Rattle.constriction_stored_rows.specs.Reading.{TookRow, RefusedRow, IsReadWell, IsReadBadly, EndsWell, EndsBadly};
 ghost use Rattle.constriction_model.specs.Rows.{Row, rows_of, symbols_of};
 
-use crate::filling::{is_given_last, is_inferred_last, leaves_some};
+use crate::filling::{is_given_last, is_inferred_last, leaves_none};
 use constriction_model::ModelError;
 use constriction_numbers::WholeNumber;
 
@@ -172,7 +172,7 @@ fn take_all<
     let mut left = P::least();
     let mut room = P::greatest(PRECISION);
     'rows: while let Some(weight) = weights.next() {
-        if !leaves_some(weight, one, room) {
+        if leaves_none(weight, one, room) {
             return take_given_last::<P, Symbol, Stored, Symbols, Weights, PRECISION>(
                 stored, symbols, weights, left, weight, one, room, infer_last,
             );

@@ -3,8 +3,8 @@ use Rattle.constriction_stored_rows.proofs.FillLemmas.{if_ok-more, tabled-more, 
 use Rattle.constriction_stored_rows.proofs.filling.filled.Goals.{then-len-capacity+in_ok-make_room, else-len-capacity}
 use Rattle.constriction_stored_rows.proofs.filling.filled.Goals as goal
 
-pub returns-then-not-leaves_some-clause-ok : goal.returns-then-not-leaves_some-clause-ok
-returns-then-not-leaves_some-clause-ok g c =
+pub returns-then-leaves_none-clause-ok : goal.returns-then-leaves_none-clause-ok
+returns-then-leaves_none-clause-ok g c =
     let same : c.if-len-capacity.table.items ≡ c.rows.table.items =
     elim c.if-len-capacity.branch [
       | then-len-capacity+in_ok-make_room w ↦ ap (λ t. t.items) w.table-is ∙ w.make_room.ensures.same
@@ -16,8 +16,8 @@ returns-then-not-leaves_some-clause-ok g c =
     c.rows.rest c.rows.left (g.P.WholeNumber.whole c.rows.room) c.rows.invariant.2 c.args.infer_last c.push_reserved.new.self.items v.items _ _
     c.in-Some.weight pushed c.in-Some.ensures.steps (c.is_end_of_given.ensures.filled ok.0) ok.1)
 
-pub returns-then-not-leaves_some-clause-invalid : goal.returns-then-not-leaves_some-clause-invalid
-returns-then-not-leaves_some-clause-invalid g c = λ e.
+pub returns-then-leaves_none-clause-invalid : goal.returns-then-leaves_none-clause-invalid
+returns-then-leaves_none-clause-invalid g c = λ e.
     tabled-bad_given g.I.Iterator.next_gives _ g.P.WholeNumber.whole g.P.WholeNumber.BITS g.row.PRECISION c.rows.table.items
     c.rows.rest c.rows.left (g.P.WholeNumber.whole c.rows.room) c.rows.invariant.2 c.args.infer_last _ _
     c.in-Some.weight c.in-Some.ensures.steps (c.is_end_of_given.ensures.bad (c.ended.ensures.invalid e))
@@ -36,7 +36,7 @@ rows-preserved g c =
       tabled-more g.I.Iterator.next_gives _ g.P.WholeNumber.whole g.P.WholeNumber.BITS g.row.PRECISION c.rows.table.items
           c.rows.rest c.rows.left (g.P.WholeNumber.whole c.rows.room) c.rows.invariant.2 c.push_reserved.new.self.items _ c.in-Some.weight
           c.plus-left.result (g.P.WholeNumber.whole c.minus-room.result) pushed c.in-Some.ensures.steps c.greatest-room.ensures.within
-          (c.leaves_some.ensures.some c.if-not-leaves_some.false) c.plus-left.ensures c.minus-room.ensures,
+          (c.leaves_none.ensures.some c.if-leaves_none.false) c.plus-left.ensures c.minus-room.ensures,
     )
 
 pub returns-clause-ok : goal.returns-clause-ok

@@ -15,12 +15,12 @@ rows-init g c = (
       c.greatest-room.ensures.value,
 )
 
-pub returns-then-not-leaves_some-clause-ok : goal.returns-then-not-leaves_some-clause-ok
-returns-then-not-leaves_some-clause-ok g c = λ ok.
+pub returns-then-leaves_none-clause-ok : goal.returns-then-leaves_none-clause-ok
+returns-then-leaves_none-clause-ok g c = λ ok.
     c.take_given_last.ensures.ok ok _ _ c.rows.weights c.rows.invariant.4 c.in-Some.ensures.steps
 
-pub returns-then-not-leaves_some-clause-invalid : goal.returns-then-not-leaves_some-clause-invalid
-returns-then-not-leaves_some-clause-invalid g c = λ e.
+pub returns-then-leaves_none-clause-invalid : goal.returns-then-leaves_none-clause-invalid
+returns-then-leaves_none-clause-invalid g c = λ e.
     c.take_given_last.ensures.invalid e _ _ c.rows.weights c.rows.invariant.4 c.in-Some.ensures.steps
 
 pub returns-in_err-take_next-clause-invalid : goal.returns-in_err-take_next-clause-invalid
@@ -44,7 +44,7 @@ rows-preserved g c =
           c.rows.stored c.rows.symbols c.rows.weights c.rows.left (g.P.WholeNumber.whole c.rows.room) c.rows.invariant.4
           c.take_next.new.stored c.take_next.new.symbols c.next.new.self c.in-Some.weight c.plus-left.result
           (g.P.WholeNumber.whole c.minus-room.result) c.in-Some.ensures.steps (c.in_ok-take_next.ensures.took (refl {a = true}))
-          c.greatest-room.ensures.within (c.leaves_some.ensures.some c.if-not-leaves_some.false) c.plus-left.ensures
+          c.greatest-room.ensures.within (c.leaves_none.ensures.some c.if-leaves_none.false) c.plus-left.ensures
           c.minus-room.ensures,
     )
 
