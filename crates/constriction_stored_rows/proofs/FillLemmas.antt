@@ -191,6 +191,20 @@ wrapped n last w is range = elim (cases_lt (last + 1) n) [
       inl (omega (arith, is, zero_left), end)
 ]
 
+-- the greatest word of one bit is 1, and words have that bit
+pub one_is : (n : ℕ) → n + 1 ≡ 2 ^ 1 → n ≡ 1
+one_is n e = omega arith
+
+pub one_fits : (precision bits : ℕ) → 0 < precision → precision ≤ bits → 1 ≤ bits
+one_fits precision bits some fits = omega arith
+
+-- what is left after the first quantile of a row is a word, and so is the end of a row that leaves some
+pub room_below : (left room all bits : ℕ) → left + room + 1 ≡ all → all ≤ bits → room < bits
+room_below left room all bits is narrow = omega arith
+
+pub end_below : (left weight room all bits : ℕ) → left + room + 1 ≡ all → all ≤ bits → weight ≤ room → left + weight < bits
+end_below left weight room all bits is narrow less = omega arith
+
 -- a table is ended with the total
 pub ended : {W : Type 0} (whole : W → ℕ) (lefts filled table : List W) (total : W) (is : ℕ) (numbers : List ℕ)
     → filled ≡ lefts → table ≡ filled ++ total ∷ [] → whole total ≡ is → map whole lefts ≡ numbers
@@ -203,6 +217,16 @@ pub yields-more : {S A : Type 0} (steps : S → Option A → S → Type 0) (s : 
     → Yields steps s xs t → steps t (Some x) u → Yields steps s (xs ++ x ∷ []) u
 yields-more steps s [] t x u e h = (u, (let P : _ → Type 0 = λ v. steps v (Some x) u in subst P (sym e) h), refl)
 yields-more steps s (y ∷ xs) t x u (j, k, r) h = (j, k, yields-more steps j xs t x u r h)
+
+pub tabled-none : {S W : Type 0} (steps : S → Option W → S → Type 0) (it : S) (whole : W → ℕ) (bits precision : ℕ) (table : List W)
+    (left : W) (room : ℕ) → table ≡ [] → whole left ≡ 0 → room + 1 ≡ 2 ^ precision
+    → IsTabled steps it whole bits precision table it left room
+tabled-none steps it whole bits precision table left room empty least all = record {
+  weights = [];
+  given = refl;
+  filled = rw empty (filled-none whole bits precision left least (omega arith));
+  rest = omega arith;
+}
 
 module _ {S W : Type 0} (steps : S → Option W → S → Type 0) (it : S) (whole : W → ℕ) (bits precision : ℕ) (table : List W) (s : S)
     (left : W) (room : ℕ) (t : IsTabled steps it whole bits precision table s left room) where

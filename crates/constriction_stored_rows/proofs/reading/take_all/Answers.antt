@@ -1,5 +1,6 @@
-use Rattle.std.proofs.Common.{◌≡◌, Err, true, refl, rules}
+use Rattle.std.proofs.Common.{◌≡◌, ◌^◌, Err, true, refl, rules}
 use Rattle.constriction_model.specs.declared.error.ModelError.TheVariants.{InvalidTable}
+use Rattle.constriction_stored_rows.proofs.FillLemmas.{one_is, one_fits, room_below, end_below}
 use Rattle.constriction_stored_rows.proofs.ReadLemmas.{read-none, read-more, bad-row}
 use Rattle.constriction_stored_rows.proofs.reading.take_all.Goals as goal
 
@@ -55,3 +56,64 @@ returns-clause-ok g c = λ ok.
 pub returns-clause-invalid : goal.returns-clause-invalid
 returns-clause-invalid g c = λ e.
     c.take_inferred_last.ensures.invalid e _ _ _ c.rows.weights c.rows.invariant.4 c.in_default.ensures.steps
+
+pub greatest-one-requires-clause-fits : goal.greatest-one-requires-clause-fits
+greatest-one-requires-clause-fits g c = one_fits g.row.PRECISION g.P.WholeNumber.BITS c.requires.positive c.requires.fits
+
+pub greatest-room-requires-clause-some : goal.greatest-room-requires-clause-some
+greatest-room-requires-clause-some g c = c.requires.positive
+
+pub greatest-room-requires-clause-fits : goal.greatest-room-requires-clause-fits
+greatest-room-requires-clause-fits g c = c.requires.fits
+
+pub next-requires : goal.next-requires
+next-requires g c = c.rows.invariant.0
+
+pub leaves_none-requires-clause-one : goal.leaves_none-requires-clause-one
+leaves_none-requires-clause-one g c = one_is (g.P.WholeNumber.whole c.greatest-one.result) c.greatest-one.ensures.value
+
+pub leaves_none-requires-clause-range : goal.leaves_none-requires-clause-range
+leaves_none-requires-clause-range g c =
+    room_below (g.P.WholeNumber.whole c.rows.left) (g.P.WholeNumber.whole c.rows.room) (2 ^ g.row.PRECISION) (2 ^ g.P.WholeNumber.BITS) c.rows.invariant.4.rest c.greatest-room.ensures.within
+
+pub plus-left-requires : goal.plus-left-requires
+plus-left-requires g c =
+    end_below (g.P.WholeNumber.whole c.rows.left) (g.P.WholeNumber.whole c.in-Some.weight) (g.P.WholeNumber.whole c.rows.room) (2 ^ g.row.PRECISION) (2 ^ g.P.WholeNumber.BITS)
+    c.rows.invariant.4.rest c.greatest-room.ensures.within (c.leaves_none.ensures.some c.if-leaves_none.false).1
+
+pub minus-room-requires : goal.minus-room-requires
+minus-room-requires g c = (c.leaves_none.ensures.some c.if-leaves_none.false).1
+
+pub take_given_last-requires-clause-one : goal.take_given_last-requires-clause-one
+take_given_last-requires-clause-one g c = one_is (g.P.WholeNumber.whole c.greatest-one.result) c.greatest-one.ensures.value
+
+pub take_given_last-requires-clause-none_left : goal.take_given_last-requires-clause-none_left
+take_given_last-requires-clause-none_left g c = c.leaves_none.ensures.none c.if-leaves_none.true
+
+pub take_given_last-requires-clause-symbols_go : goal.take_given_last-requires-clause-symbols_go
+take_given_last-requires-clause-symbols_go g c = c.rows.invariant.2
+
+pub take_given_last-requires-clause-symbols_end : goal.take_given_last-requires-clause-symbols_end
+take_given_last-requires-clause-symbols_end g c = c.rows.invariant.3
+
+pub take_given_last-requires-clause-weights_go : goal.take_given_last-requires-clause-weights_go
+take_given_last-requires-clause-weights_go g c = (c.in-Some.ensures.goes.on c.rows.invariant.1).0
+
+pub take_next-requires-clause-positive : goal.take_next-requires-clause-positive
+take_next-requires-clause-positive g c = (c.leaves_none.ensures.some c.if-leaves_none.false).0
+
+pub take_next-requires-clause-goes : goal.take_next-requires-clause-goes
+take_next-requires-clause-goes g c = c.rows.invariant.2
+
+pub take_inferred_last-requires-clause-one : goal.take_inferred_last-requires-clause-one
+take_inferred_last-requires-clause-one g c = one_is (g.P.WholeNumber.whole c.greatest-one.result) c.greatest-one.ensures.value
+
+pub take_inferred_last-requires-clause-range : goal.take_inferred_last-requires-clause-range
+take_inferred_last-requires-clause-range g c =
+    room_below (g.P.WholeNumber.whole c.rows.left) (g.P.WholeNumber.whole c.rows.room) (2 ^ g.row.PRECISION) (2 ^ g.P.WholeNumber.BITS) c.rows.invariant.4.rest c.greatest-room.ensures.within
+
+pub take_inferred_last-requires-clause-symbols_go : goal.take_inferred_last-requires-clause-symbols_go
+take_inferred_last-requires-clause-symbols_go g c = c.rows.invariant.2
+
+pub take_inferred_last-requires-clause-symbols_end : goal.take_inferred_last-requires-clause-symbols_end
+take_inferred_last-requires-clause-symbols_end g c = c.rows.invariant.3
