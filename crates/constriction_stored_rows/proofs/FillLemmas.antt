@@ -1,7 +1,8 @@
 -- Filling a table row by row.
-use Rattle.std.specs.Prelude.{◌≡◌, ℕ, ◌+◌, ◌-◌, ◌%◌, ◌^◌, ◌<◌, ◌≤◌, ◌⊎◌, Bool, true, false, List, [], ◌∷◌, ◌++◌, length, map, sum, All, Option, Some, None}
+use Rattle.std.specs.Prelude.{◌≡◌, ℕ, ◌+◌, ◌-◌, ◌%◌, ◌^◌, ◌<◌, ◌≤◌, ◌⊎◌, Bool, true, false, List, [], ◌∷◌, ◌++◌, length, map, sum, All, Option, Some, None, Result, Ok, Err, IfOk}
 use Rattle.std.proofs.Common.{suc, zero, refl, ap, sym, ◌∙◌, arith, subst, inl, inr}
-use Rattle.std.proofs.Math.Nat.{mod-eq_of_lt, mod-lt}
+use Rattle.std.proofs.Math.Nat.{mod-eq_of_lt, mod_self}
+use Rattle.std.proofs.lemmas.Bool.{cases_lt}
 use Rattle.std.proofs.lemmas.List.{map-append, length-append, get_or_append_left}
 use Rattle.std.proofs.lemmas.List.Elements.{All-push, All-nil, All-contains, Contains-append_left, Contains-push}
 use Rattle.std.proofs.lemmas.List.Sums.{sum_by-cons, sum_by-append, sum_by_push}
@@ -9,6 +10,7 @@ use Rattle.std.specs.Iterator.{Yields}
 use Rattle.constriction_model.specs.Acceptance.{IsAccepted, completed}
 use Rattle.constriction_stored_rows.specs.Stored.{lefts_from}
 use Rattle.constriction_stored_rows.specs.Filling.{IsRowEnd, IsFilled}
+use Rattle.constriction_stored_rows.specs.Ends.{FillsAll, IsNoLast, IsNoneInferred, AndTotal, IsTabled, IsTableOf, IsNoTable}
 
 lefts_from-push : (l : ℕ) (ws : List ℕ) (w : ℕ) → lefts_from l (ws ++ w ∷ []) ≡ lefts_from l ws ++ (l + sum ws) ∷ []
 lefts_from-push l [] w = ap (λ x. x ∷ []) (omega arith)
@@ -111,31 +113,26 @@ module _ {W : Type 0} (whole : W → ℕ) (bits precision : ℕ) where
             ∙ sym (lefts_from-push 0 xs (2 ^ precision - sum xs)),
       )
 
-  -- a row whose last quantile, counted from its first one, is below what is left after that one
-  pub row-within : (left w next : W) (room last : ℕ) → whole left + room + 1 ≡ 2 ^ precision → 2 ^ precision ≤ 2 ^ bits
-      → (last + 1) % 2 ^ bits ≡ whole w → last < room → whole next ≡ whole left + whole w
+  -- a row that leaves some of the quantiles
+  pub row-within : (left w next : W) (room : ℕ) → whole left + room + 1 ≡ 2 ^ precision → 2 ^ precision ≤ 2 ^ bits
+      → 0 < whole w → whole w ≤ room → whole next ≡ whole left + whole w
       → IsRowEnd whole bits precision left w (Some next)
-  row-within left w next room last all narrow wrapped less is =
-      let one : (last + 1) % 2 ^ bits ≡ last + 1 = mod-eq_of_lt (omega arith) in
-      record {
-        positive = omega arith;
-        fits = omega arith;
-        is = is;
-        below = let b : whole next < 2 ^ precision = omega arith in b;
-      }
+  row-within left w next room all narrow some less is = record {
+    positive = some;
+    fits = omega arith;
+    is = is;
+    below = let b : whole next < 2 ^ precision = omega arith in b;
+  }
 
   -- a row that takes all that is left
-  pub row-last : (left w : W) (room last : ℕ) → whole left + room + 1 ≡ 2 ^ precision
-      → (last + 1) % 2 ^ bits ≡ whole w → 0 < 2 ^ bits → 0 < whole w → whole w ≡ room + 1
+  pub row-last : (left w : W) (room : ℕ) (infer : Bool) → whole left + room + 1 ≡ 2 ^ precision → FillsAll bits (whole w) room infer
       → IsRowEnd whole bits precision left w None
-  row-last left w room last all wrapped up some is =
-      let range : (last + 1) % 2 ^ bits < 2 ^ bits = mod-lt (last + 1) up in
-      record {
-        positive = some;
-        fits = omega arith;
-        is = let e : 2 ^ precision ≡ whole left + whole w = omega arith in e;
-        below = tt;
-      }
+  row-last left w room infer all fills = record {
+    positive = fills.positive;
+    fits = fills.fits;
+    is = let e : 2 ^ precision ≡ whole left + whole w = omega (arith, fills.is) in e;
+    below = tt;
+  }
 
   -- weights that leave nothing, where one more is inferred, whatever follows
   pub bad-full-more : (ws more : List W) → 2 ^ precision ≤ sum (map whole ws)
@@ -157,6 +154,57 @@ module _ {W : Type 0} (whole : W → ℕ) (bits precision : ℕ) where
       zero-or-more zero s h = inl refl
       zero-or-more (suc n) s h = inr (omega arith)
 
+  -- a given weight that does not end the list as it should
+  pub bad-no_last : (infer : Bool) (ws more : List W) (w : W) (room : ℕ) → sum (map whole ws) + room + 1 ≡ 2 ^ precision
+      → IsNoLast (whole w) room infer
+      → ¬ (IsAccepted bits precision (completed precision infer (map whole ((ws ++ w ∷ []) ++ more))))
+  bad-no_last infer ws more w room all why = elim why [
+    | inl none ↦ bad-more infer ws more w (inl none)
+    | inr (inl much) ↦ bad-more infer ws more w (inr (omega (arith, all, much)))
+    | inr (inr full) ↦
+        let given : infer ≡ true = full.0 in
+        let total : sum (map whole (ws ++ w ∷ [])) ≡ sum (map whole ws) + whole w =
+        ap sum (map-append whole ws (w ∷ [])) ∙ sum_by_push (λ x. x) (map whole ws) (whole w) in
+        rw given (bad-full-more (ws ++ w ∷ []) more (omega (arith, all, total, full.1)))
+  ]
+
+  -- no weight that is inferred after these
+  pub bad-none_inferred : (infer : Bool) (ws table : List W) (left : W) (room : ℕ) → IsFilled whole bits precision ws table (Some left)
+      → whole left + room + 1 ≡ 2 ^ precision → IsNoneInferred bits room infer
+      → ¬ (IsAccepted bits precision (completed precision infer (map whole ws)))
+  bad-none_inferred infer ws table left room f all why = elim why [
+    | inl given ↦ rw given (λ a. omega (arith, a.tiles.total, f.is, all))
+    | inr wide ↦
+        let inferred : infer ≡ true = wide.0 in
+        rw inferred (bad-wide ws table left f (omega (arith, all, wide.1)))
+  ]
+
+-- a weight and the word one below it, which wraps to the greatest word where the weight is 0
+pub wrapped : (n last w : ℕ) → (last + 1) % n ≡ w → last < n → ((w ≡ 0) × (last + 1 ≡ n)) ⊎ ((w ≡ last + 1) × (w < n))
+wrapped n last w is range = elim (cases_lt (last + 1) n) [
+  | inl less ↦
+      let same : (last + 1) % n ≡ last + 1 = mod-eq_of_lt less in
+      inr (omega (arith, is, same), omega (arith, is, same, less))
+  | inr most ↦
+      let end : last + 1 ≡ n = omega (arith, range, most) in
+      let zero_left : (last + 1) % n ≡ 0 = rw end (mod_self n) in
+      inl (omega (arith, is, zero_left), end)
+]
+
+-- the greatest word of one bit is 1, and words have that bit
+pub one_is : (n : ℕ) → n + 1 ≡ 2 ^ 1 → n ≡ 1
+one_is n e = omega arith
+
+pub one_fits : (precision bits : ℕ) → 0 < precision → precision ≤ bits → 1 ≤ bits
+one_fits precision bits some fits = omega arith
+
+-- what is left after the first quantile of a row is a word, and so is the end of a row that leaves some
+pub room_below : (left room all bits : ℕ) → left + room + 1 ≡ all → all ≤ bits → room < bits
+room_below left room all bits is narrow = omega arith
+
+pub end_below : (left weight room all bits : ℕ) → left + room + 1 ≡ all → all ≤ bits → weight ≤ room → left + weight < bits
+end_below left weight room all bits is narrow less = omega arith
+
 -- a table is ended with the total
 pub ended : {W : Type 0} (whole : W → ℕ) (lefts filled table : List W) (total : W) (is : ℕ) (numbers : List ℕ)
     → filled ≡ lefts → table ≡ filled ++ total ∷ [] → whole total ≡ is → map whole lefts ≡ numbers
@@ -169,3 +217,99 @@ pub yields-more : {S A : Type 0} (steps : S → Option A → S → Type 0) (s : 
     → Yields steps s xs t → steps t (Some x) u → Yields steps s (xs ++ x ∷ []) u
 yields-more steps s [] t x u e h = (u, (let P : _ → Type 0 = λ v. steps v (Some x) u in subst P (sym e) h), refl)
 yields-more steps s (y ∷ xs) t x u (j, k, r) h = (j, k, yields-more steps j xs t x u r h)
+
+pub tabled-none : {S W : Type 0} (steps : S → Option W → S → Type 0) (it : S) (whole : W → ℕ) (bits precision : ℕ) (table : List W)
+    (left : W) (room : ℕ) → table ≡ [] → whole left ≡ 0 → room + 1 ≡ 2 ^ precision
+    → IsTabled steps it whole bits precision table it left room
+tabled-none steps it whole bits precision table left room empty least all = record {
+  weights = [];
+  given = refl;
+  filled = rw empty (filled-none whole bits precision left least (omega arith));
+  rest = omega arith;
+}
+
+module _ {S W : Type 0} (steps : S → Option W → S → Type 0) (it : S) (whole : W → ℕ) (bits precision : ℕ) (table : List W) (s : S)
+    (left : W) (room : ℕ) (t : IsTabled steps it whole bits precision table s left room) where
+  -- one row more
+  pub tabled-more : (table' : List W) (s' : S) (w next : W) (room' : ℕ) → table' ≡ table ++ left ∷ [] → steps s (Some w) s'
+      → 2 ^ precision ≤ 2 ^ bits → (0 < whole w) × (whole w ≤ room) → whole next ≡ whole left + whole w → room' ≡ room - whole w
+      → IsTabled steps it whole bits precision table' s' next room'
+  tabled-more table' s' w next room' pushed sw narrow some end rest = record {
+    weights = t.weights ++ w ∷ [];
+    given = yields-more steps it t.weights s w s' t.given sw;
+    filled =
+        rw pushed
+        (filled-more whole bits precision t.weights table left w (Some next) t.filled
+        (row-within whole bits precision left w next room t.rest narrow some.0 some.1 end));
+    rest = omega (arith, t.rest, some.1, end, rest);
+  }
+
+  -- the last row, of a given weight
+  pub tabled-given : (infer : Bool) (table' all : List W) (s' s'' : S) (w : W) → table' ≡ table ++ left ∷ [] → steps s (Some w) s'
+      → FillsAll bits (whole w) room infer × steps s' None s'' → AndTotal whole bits precision table' all
+      → IsTableOf steps it whole bits precision infer all
+  tabled-given infer table' all s' s'' w pushed sw fills end =
+      let given : infer ≡ false = fills.0.given in
+      let good = good-given whole bits precision (t.weights ++ w ∷ []) (table ++ left ∷ [])
+      (filled-more whole bits precision t.weights table left w None t.filled
+      (row-last whole bits precision left w room infer t.rest fills.0)) in (
+        t.weights ++ w ∷ [],
+        (s'', (s', yields-more steps it t.weights s w s' t.given sw, fills.1)),
+        rw given (
+          good.0,
+          ended whole (table ++ left ∷ []) table' all end.0 (2 ^ precision % 2 ^ bits)
+              (lefts_from 0 (map whole (t.weights ++ w ∷ []))) pushed end.1 end.2 good.1,
+        ),
+      )
+
+  pub tabled-bad_given : (infer : Bool) (s' s'' : S) (w : W) → steps s (Some w) s'
+      → IsNoLast (whole w) room infer ⊎ ((room < whole w) × (more : W) × steps s' (Some more) s'')
+      → IsNoTable steps it whole bits precision infer
+  tabled-bad_given infer s' s'' w sw why =
+      let given = yields-more steps it t.weights s w s' t.given sw in
+      elim why [
+        | inl bad ↦ inr (
+          t.weights ++ w ∷ [],
+          s',
+          given,
+          λ more. bad-no_last whole bits precision infer t.weights more w room (omega (arith, t.filled.is, t.rest)) bad,
+        )
+        | inr after ↦
+            let total : sum (map whole (t.weights ++ w ∷ [])) ≡ sum (map whole t.weights) + whole w =
+            ap sum (map-append whole t.weights (w ∷ [])) ∙ sum_by_push (λ x. x) (map whole t.weights) (whole w) in
+            let much : 2 ^ precision ≤ sum (map whole (t.weights ++ w ∷ [])) = omega (arith, total, t.filled.is, t.rest, after.0) in
+            inr (
+              (t.weights ++ w ∷ []) ++ after.1 ∷ [],
+              s'',
+              yields-more steps it (t.weights ++ w ∷ []) s' after.1 s'' given after.2,
+              λ more. bad-after whole bits precision infer (t.weights ++ w ∷ []) more after.1 much,
+            )
+      ]
+
+  -- the last row, of the inferred weight
+  pub tabled-inferred : (infer : Bool) (all : List W) (s' : S) → steps s None s' → (infer ≡ true) × (room + 1 < 2 ^ bits)
+      → AndTotal whole bits precision (table ++ left ∷ []) all → IsTableOf steps it whole bits precision infer all
+  tabled-inferred infer all s' none word end =
+      let inferred : infer ≡ true = word.0 in
+      let good = good-inferred whole bits precision t.weights table left t.filled (omega (arith, t.rest, word.1)) in (
+        t.weights,
+        (s', (s, t.given, none)),
+        rw inferred (
+          good.0,
+          ended whole (table ++ left ∷ []) (table ++ left ∷ []) all end.0 (2 ^ precision % 2 ^ bits)
+              (lefts_from 0 (completed precision true (map whole t.weights))) refl end.1 end.2 good.1,
+        ),
+      )
+
+  pub tabled-bad_inferred : (infer : Bool) (s' : S) → steps s None s' → IsNoneInferred bits room infer
+      → IsNoTable steps it whole bits precision infer
+  tabled-bad_inferred infer s' none why = inl (
+    t.weights,
+    (s', (s, t.given, none)),
+    bad-none_inferred whole bits precision infer t.weights table left room t.filled t.rest why,
+  )
+
+-- what a good answer ensures ensures what follows from it
+pub if_ok-more : {T E : Type 0} {P Q : T → Type 0} (r : Result T E) → IfOk r P → ((v : T) → P v → Q v) → IfOk r Q
+if_ok-more (Ok v) p more = more v p
+if_ok-more (Err e) p more = tt

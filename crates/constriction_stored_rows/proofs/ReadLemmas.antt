@@ -1,19 +1,17 @@
 -- Reading rows from symbols and weights.
-use Rattle.std.specs.Prelude.{◌≡◌, ℕ, ◌+◌, ◌-◌, ◌%◌, ◌^◌, ◌<◌, ◌≤◌, ◌||◌, Bool, true, false, List, [], ◌∷◌, ◌++◌, length, map, sum, Option, Some, None}
+use Rattle.std.specs.Prelude.{◌≡◌, ℕ, ◌+◌, ◌-◌, ◌^◌, ◌<◌, ◌≤◌, ◌||◌, Bool, true, false, List, [], ◌∷◌, ◌++◌, length, map, sum, Option, Some, None}
 use Rattle.std.proofs.Common.{refl, ap, sym, ◌∙◌, arith, subst, inl, inr, rules, tests}
-use Rattle.std.specs.Iterator.{Yields}
 use Rattle.std.specs.List.{list_any, AllByRecursion, IsDistinct}
-use Rattle.std.proofs.Math.Nat.{mod-eq_of_lt}
 use Rattle.std.proofs.lemmas.List.{length-map, length-append, length_push, map-append, append_assoc}
-use Rattle.std.proofs.lemmas.List.Sums.{sum_by-cons}
+use Rattle.std.proofs.lemmas.List.Sums.{sum_by-cons, sum_by_push}
 use Rattle.std.proofs.lemmas.Bool.{cases_Bool}
 use Rattle.std.proofs.lemmas.Map.Keys.{IsDistinct-head, IsDistinct-tail, IsDistinct-cons}
-use Rattle.constriction_model.specs.Acceptance.{IsAccepted, AreAccepted, completed, ToItsEnd, SoFar}
-use Rattle.constriction_stored_rows.specs.Given.{GaveBothGood, GaveBothBad}
-use Rattle.constriction_stored_rows.specs.Filling.{IsFilled, IsRowEnd}
+use Rattle.constriction_model.specs.Acceptance.{IsAccepted, completed, ToItsEnd, SoFar}
+use Rattle.constriction_stored_rows.specs.Ends.{FillsAll, IsNoLast, IsNoneInferred}
+use Rattle.constriction_stored_rows.specs.Reading.{IsRead, IsReadBadly, IsReadWell, TookRow, RefusedRow}
 use Rattle.constriction_model.specs.RowLemmas.{symbols-rows_from}
 use Rattle.constriction_model.specs.Rows.{Row, rows_from, rows_of, symbols_of}
-use Rattle.constriction_stored_rows.proofs.FillLemmas.{filled-none, filled-more, good-given, good-inferred, bad-wide, bad-after, yields-more}
+use Rattle.constriction_stored_rows.proofs.FillLemmas.{filled-none, filled-more, row-within, row-last, good-given, good-inferred, bad-no_last, bad-none_inferred, bad-after, yields-more}
 
 -- ---- lists with two equal symbols
 
@@ -71,13 +69,6 @@ rows_from-push l (t ∷ ss) (v ∷ ws) s w e =
     (rows_from-push (l + v) ss ws s w (omega arith)
     ∙ ap (λ n. rows_from (l + v) ss ws ++ record { symbol = s; left = n; weight = w } ∷ []) more)
 
--- a row that leaves some of the quantiles has some, and its end is a word
-pub row-fits : (bits precision left w room last : ℕ) → left + room + 1 ≡ 2 ^ precision → 2 ^ precision ≤ 2 ^ bits
-    → (last + 1) % 2 ^ bits ≡ w → last < room → (0 < w) × (left + w < 2 ^ bits)
-row-fits bits precision left w room last all narrow wrapped less =
-    let one : (last + 1) % 2 ^ bits ≡ last + 1 = mod-eq_of_lt (omega arith) in
-    (omega arith, omega arith)
-
 -- as many weights as symbols, or one more where it is inferred
 pub length-completed : (precision : ℕ) (infer : Bool) (ws : List ℕ) → length ws ≤ length (completed precision infer ws)
 length-completed precision false ws = omega arith
@@ -86,21 +77,11 @@ length-completed precision true ws = omega (arith, length_push ws (2 ^ precision
 module _ {S T Symbol W Stored : Type 0} (steps : S → Option Symbol → S → Type 0) (it : S) (wsteps : T → Option W → T → Type 0) (jt : T)
     (eq : Symbol → Symbol → Bool) (symm : (s t : Symbol) → eq s t ≡ eq t s) (holds : Stored → List (Row Symbol) → Type 0) (whole : W → ℕ)
     (bits precision : ℕ) where
-  -- what was read and stored so far: the rows of as many symbols as weights, which leave `room` quantiles after the one at `left`
-  pub record IsRead (stored : Stored) (u : S) (v : T) (left : W) (room : ℕ) : Type 0 where
-    pub symbols : List Symbol
-    pub weights : List W
-    pub table : List W
-    pub from_symbols : Yields steps it symbols u
-    pub from_weights : Yields wsteps jt weights v
-    pub as_many : length symbols ≡ length weights
-    pub distinct : IsDistinct eq symbols
-    pub held : holds stored (rows_of symbols (map whole weights))
-    pub filled : IsFilled whole bits precision weights table (Some left)
-    pub rest : whole left + room + 1 ≡ 2 ^ precision
+  abbrev Read : Stored → S → T → W → ℕ → Type 0
+  Read = IsRead steps wsteps eq holds whole bits precision it jt
 
   pub read-none : (stored : Stored) (left : W) (room : ℕ) → holds stored [] → whole left ≡ 0 → room + 1 ≡ 2 ^ precision
-      → IsRead stored it jt left room
+      → Read stored it jt left room
   read-none stored left room h z r = record {
     symbols = [];
     weights = [];
@@ -114,7 +95,7 @@ module _ {S T Symbol W Stored : Type 0} (steps : S → Option Symbol → S → T
     rest = omega arith;
   }
 
-  module _ (stored : Stored) (u : S) (v : T) (left : W) (room : ℕ) (r : IsRead stored u v left room) where
+  module _ (stored : Stored) (u : S) (v : T) (left : W) (room : ℕ) (r : Read stored u v left room) where
     -- the symbols of the rows are those that were read
     pub read-symbols : symbols_of (rows_of r.symbols (map whole r.weights)) ≡ r.symbols
     read-symbols = symbols-rows_from 0 r.symbols (map whole r.weights) (r.as_many ∙ sym (length-map r.weights whole))
@@ -132,31 +113,41 @@ module _ {S T Symbol W Stored : Type 0} (steps : S → Option Symbol → S → T
         ap (λ l. rows_of r.symbols (map whole r.weights) ++ record { symbol = s; left = l; weight = w } ∷ []) is
         ∙ sym (rows_from-push 0 r.symbols (map whole r.weights) s w (r.as_many ∙ sym (length-map r.weights whole)))
 
-    pub read-more : (stored' : Stored) (u' : S) (v' : T) (s : Symbol) (w next : W) (room' : ℕ) → wsteps v (Some w) v' → steps u (Some s) u'
-        → holds stored' (rows_of r.symbols (map whole r.weights) ++ record { symbol = s; left = whole left; weight = whole w } ∷ [])
-        → list_any (eq s) (symbols_of (rows_of r.symbols (map whole r.weights))) ≡ false
-        → IsRowEnd whole bits precision left w (Some next) → whole next + room' + 1 ≡ 2 ^ precision
-        → IsRead stored' u' v' next room'
-    read-more stored' u' v' s w next room' sw ss h apart end rest = record {
-      symbols = r.symbols ++ s ∷ [];
+    took-held : (u' : S) (stored' : Stored) (w : W) (t : TookRow steps eq holds u stored (whole left) (whole w) u' stored')
+        → holds stored' (rows_of (r.symbols ++ t.symbol ∷ []) (map whole (r.weights ++ w ∷ [])))
+    took-held u' stored' w t = subst (holds stored')
+        (rows-push t.symbol (whole w) (whole left) refl ∙ ap (rows_of (r.symbols ++ t.symbol ∷ [])) (sym (map-append whole r.weights (w ∷ []))))
+        (t.held (rows_of r.symbols (map whole r.weights)) r.held)
+
+    took-distinct : (u' : S) (stored' : Stored) (weight : ℕ) (t : TookRow steps eq holds u stored (whole left) weight u' stored')
+        → IsDistinct eq (r.symbols ++ t.symbol ∷ [])
+    took-distinct u' stored' weight t = distinct-push eq symm r.symbols t.symbol r.distinct
+        (apart-read t.symbol false (t.apart (rows_of r.symbols (map whole r.weights)) r.held))
+
+    pub read-more : (stored' : Stored) (u' : S) (v' : T) (w next : W) (room' : ℕ) → wsteps v (Some w) v'
+        → TookRow steps eq holds u stored (whole left) (whole w) u' stored' → 2 ^ precision ≤ 2 ^ bits → (0 < whole w) × (whole w ≤ room)
+        → whole next ≡ whole left + whole w → room' ≡ room - whole w → Read stored' u' v' next room'
+    read-more stored' u' v' w next room' sw t narrow some end rest = record {
+      symbols = r.symbols ++ t.symbol ∷ [];
       weights = r.weights ++ w ∷ [];
       table = r.table ++ left ∷ [];
-      from_symbols = yields-more steps it r.symbols u s u' r.from_symbols ss;
+      from_symbols = yields-more steps it r.symbols u t.symbol u' r.from_symbols t.came;
       from_weights = yields-more wsteps jt r.weights v w v' r.from_weights sw;
-      as_many = omega (arith, r.as_many, length_push r.symbols s, length_push r.weights w);
-      distinct = distinct-push eq symm r.symbols s r.distinct (apart-read s false apart);
-      held = subst (holds stored')
-          (rows-push s (whole w) (whole left) refl ∙ ap (rows_of (r.symbols ++ s ∷ [])) (sym (map-append whole r.weights (w ∷ [])))) h;
-      filled = filled-more whole bits precision r.weights r.table left w (Some next) r.filled end;
-      rest = rest;
+      as_many = omega (arith, r.as_many, length_push r.symbols t.symbol, length_push r.weights w);
+      distinct = took-distinct u' stored' (whole w) t;
+      held = took-held u' stored' w t;
+      filled =
+          filled-more whole bits precision r.weights r.table left w (Some next) r.filled
+          (row-within whole bits precision left w next room r.rest narrow some.0 some.1 end);
+      rest = omega (arith, r.rest, some.1, end, rest);
     }
 
     module _ (infer : Bool) where
       abbrev pub Bad : Type 0
-      Bad = GaveBothBad steps it wsteps jt (λ ss ws. AreAccepted eq bits precision ss (completed precision infer (map whole ws)))
+      Bad = IsReadBadly steps wsteps eq holds whole bits precision infer it jt
 
       -- a weight after which nothing is accepted, whatever follows
-      pub bad-weight : (v' : T) (w : W) → wsteps v (Some w) v'
+      bad-weight : (v' : T) (w : W) → wsteps v (Some w) v'
           → ((more : List W) → ¬ (IsAccepted bits precision (completed precision infer (map whole ((r.weights ++ w ∷ []) ++ more))))) → Bad
       bad-weight v' w sw never = (
         r.symbols,
@@ -168,8 +159,14 @@ module _ {S T Symbol W Stored : Type 0} (steps : S → Option Symbol → S → T
         λ all others a b good. never b.0 (subst (λ xs. IsAccepted bits precision (completed precision infer (map whole xs))) b.1 good.tile),
       )
 
+      -- a given weight that does not end the list as it should
+      pub bad-given : (v' : T) (w : W) → wsteps v (Some w) v' → IsNoLast (whole w) room infer → Bad
+      bad-given v' w sw why =
+          bad-weight v' w sw
+          (λ more. bad-no_last whole bits precision infer r.weights more w room (omega (arith, r.filled.is, r.rest)) why)
+
       -- no symbol for a weight
-      pub bad-few : (u' : S) (v' : T) (w : W) → wsteps v (Some w) v' → steps u None u' → Bad
+      bad-few : (u' : S) (v' : T) (w : W) → wsteps v (Some w) v' → steps u None u' → Bad
       bad-few u' v' w sw ss = (
         r.symbols,
         r.weights ++ w ∷ [],
@@ -186,7 +183,7 @@ module _ {S T Symbol W Stored : Type 0} (steps : S → Option Symbol → S → T
       )
 
       -- a symbol that is equal to one before it
-      pub bad-repeat : (u' : S) (v' : T) (w : W) (s : Symbol) → wsteps v (Some w) v' → steps u (Some s) u'
+      bad-repeat : (u' : S) (v' : T) (w : W) (s : Symbol) → wsteps v (Some w) v' → steps u (Some s) u'
           → list_any (eq s) (symbols_of (rows_of r.symbols (map whole r.weights))) ≡ true → Bad
       bad-repeat u' v' w s sw ss found = (
         r.symbols ++ s ∷ [],
@@ -200,7 +197,14 @@ module _ {S T Symbol W Stored : Type 0} (steps : S → Option Symbol → S → T
             not-distinct eq symm r.symbols a.0 s (apart-read s true found) (subst (IsDistinct eq) is good.distinct),
       )
 
-      pub bad-repeat_last : (u' : S) (v' : T) (s : Symbol) → wsteps v None v' → steps u (Some s) u'
+      -- no symbol for a given row, or one that repeats another
+      pub bad-row : (u' : S) (v' : T) (w : W) → wsteps v (Some w) v' → RefusedRow steps eq holds u stored u' → Bad
+      bad-row u' v' w sw why = elim why [
+        | inl none ↦ bad-few u' v' w sw none
+        | inr again ↦ bad-repeat u' v' w again.0 sw again.1 (again.2 (rows_of r.symbols (map whole r.weights)) r.held)
+      ]
+
+      bad-repeat_last : (u' : S) (v' : T) (s : Symbol) → wsteps v None v' → steps u (Some s) u'
           → list_any (eq s) (symbols_of (rows_of r.symbols (map whole r.weights))) ≡ true → Bad
       bad-repeat_last u' v' s sw ss found = (
         r.symbols ++ s ∷ [],
@@ -215,21 +219,23 @@ module _ {S T Symbol W Stored : Type 0} (steps : S → Option Symbol → S → T
       )
 
       -- one weight more than fills the quantiles
-      pub bad-weight_after : (v' v'' : T) (w w' : W) → wsteps v (Some w) v' → wsteps v' (Some w') v''
-          → 2 ^ precision ≤ sum (map whole (r.weights ++ w ∷ [])) → Bad
-      bad-weight_after v' v'' w w' sw sw' much = (
-        r.symbols,
-        (r.weights ++ w ∷ []) ++ w' ∷ [],
-        SoFar,
-        SoFar,
-        (u, r.from_symbols),
-        (v'', yields-more wsteps jt (r.weights ++ w ∷ []) v' w' v'' (yields-more wsteps jt r.weights v w v' r.from_weights sw) sw'),
-        λ all others a b good. bad-after whole bits precision infer (r.weights ++ w ∷ []) b.0 w' much
-            (subst (λ xs. IsAccepted bits precision (completed precision infer (map whole xs))) b.1 good.tile),
-      )
+      pub bad-weight_after : (v' v'' : T) (w w' : W) → wsteps v (Some w) v' → wsteps v' (Some w') v'' → room < whole w → Bad
+      bad-weight_after v' v'' w w' sw sw' less =
+          let total : sum (map whole (r.weights ++ w ∷ [])) ≡ sum (map whole r.weights) + whole w =
+          ap sum (map-append whole r.weights (w ∷ [])) ∙ sum_by_push (λ x. x) (map whole r.weights) (whole w) in
+          let much : 2 ^ precision ≤ sum (map whole (r.weights ++ w ∷ [])) = omega (arith, total, r.filled.is, r.rest) in (
+            r.symbols,
+            (r.weights ++ w ∷ []) ++ w' ∷ [],
+            SoFar,
+            SoFar,
+            (u, r.from_symbols),
+            (v'', yields-more wsteps jt (r.weights ++ w ∷ []) v' w' v'' (yields-more wsteps jt r.weights v w v' r.from_weights sw) sw'),
+            λ all others a b good. bad-after whole bits precision infer (r.weights ++ w ∷ []) b.0 w' much
+                (subst (λ xs. IsAccepted bits precision (completed precision infer (map whole xs))) b.1 good.tile),
+          )
 
       -- weights that are not accepted, after their end
-      pub bad-weights : (v' : T) → wsteps v None v' → ¬ (IsAccepted bits precision (completed precision infer (map whole r.weights))) → Bad
+      bad-weights : (v' : T) → wsteps v None v' → ¬ (IsAccepted bits precision (completed precision infer (map whole r.weights))) → Bad
       bad-weights v' sw never = (
         r.symbols,
         r.weights,
@@ -240,9 +246,10 @@ module _ {S T Symbol W Stored : Type 0} (steps : S → Option Symbol → S → T
         λ all others a b good. never (subst (λ xs. IsAccepted bits precision (completed precision infer (map whole xs))) b good.tile),
       )
 
-    -- weights that leave something, where none is inferred
-    pub bad-left_over : (v' : T) → wsteps v None v' → Bad false
-    bad-left_over v' sw = bad-weights false v' sw (λ a. omega (arith, a.tiles.total, r.filled.is, r.rest))
+      -- no weight that is inferred
+      pub bad-inferred : (v' : T) → wsteps v None v' → IsNoneInferred bits room infer → Bad
+      bad-inferred v' sw why =
+          bad-weights v' sw (bad-none_inferred whole bits precision infer r.weights r.table left room r.filled r.rest why)
 
     -- one symbol more than weights
     pub bad-many : (u' u'' : S) (v' v'' : T) (w : W) (s s' : Symbol) → wsteps v (Some w) v' → wsteps v' None v'' → steps u (Some s) u'
@@ -263,7 +270,7 @@ module _ {S T Symbol W Stored : Type 0} (steps : S → Option Symbol → S → T
     )
 
     -- the same where the last weight is inferred: no symbol for it, and one more
-    pub bad-few_last : (u' : S) (v' : T) → wsteps v None v' → steps u None u' → Bad true
+    bad-few_last : (u' : S) (v' : T) → wsteps v None v' → steps u None u' → Bad true
     bad-few_last u' v' sw ss = (
       r.symbols,
       r.weights,
@@ -278,6 +285,12 @@ module _ {S T Symbol W Stored : Type 0} (steps : S → Option Symbol → S → T
           let few : length all ≡ length r.weights = ap length a ∙ r.as_many in
           omega (arith, more, few, good.as_many),
     )
+
+    pub bad-row_last : (u' : S) (v' : T) → wsteps v None v' → RefusedRow steps eq holds u stored u' → Bad true
+    bad-row_last u' v' sw why = elim why [
+      | inl none ↦ bad-few_last u' v' sw none
+      | inr again ↦ bad-repeat_last true u' v' again.0 sw again.1 (again.2 (rows_of r.symbols (map whole r.weights)) r.held)
+    ]
 
     pub bad-many_last : (u' u'' : S) (v' : T) (s s' : Symbol) → wsteps v None v' → steps u (Some s) u' → steps u' (Some s') u'' → Bad true
     bad-many_last u' u'' v' s s' sw ss ss' = (
@@ -298,59 +311,48 @@ module _ {S T Symbol W Stored : Type 0} (steps : S → Option Symbol → S → T
     )
 
     -- the last row, of a given weight or of the inferred one
-    pub good-last : (stored' : Stored) (u' u'' : S) (v' v'' : T) (s : Symbol) (w : W) → wsteps v (Some w) v' → wsteps v' None v''
-        → steps u (Some s) u' → steps u' None u''
-        → holds stored' (rows_of r.symbols (map whole r.weights) ++ record { symbol = s; left = whole left; weight = whole w } ∷ [])
-        → list_any (eq s) (symbols_of (rows_of r.symbols (map whole r.weights))) ≡ false
-        → IsRowEnd whole bits precision left w None
-        → GaveBothGood steps it wsteps jt (λ ss ws. AreAccepted eq bits precision ss (completed precision false (map whole ws))
-        × holds stored' (rows_of ss (completed precision false (map whole ws))))
-    good-last stored' u' u'' v' v'' s w sw sw' ss ss' h apart end = (
-      r.symbols ++ s ∷ [],
+    pub good-last : (stored' : Stored) (u' u'' : S) (v' v'' : T) (w : W) → wsteps v (Some w) v' → wsteps v' None v''
+        → TookRow steps eq holds u stored (whole left) (whole w) u' stored' → steps u' None u'' → FillsAll bits (whole w) room false
+        → IsReadWell steps wsteps eq holds whole bits precision false it jt stored'
+    good-last stored' u' u'' v' v'' w sw sw' t ss' fills = (
+      r.symbols ++ t.symbol ∷ [],
       r.weights ++ w ∷ [],
-      (u'', (u', yields-more steps it r.symbols u s u' r.from_symbols ss, ss')),
+      (u'', (u', yields-more steps it r.symbols u t.symbol u' r.from_symbols t.came, ss')),
       (v'', (v', yields-more wsteps jt r.weights v w v' r.from_weights sw, sw')),
       (
         record {
           tile = (good-given whole bits precision (r.weights ++ w ∷ []) (r.table ++ left ∷ [])
-              (filled-more whole bits precision r.weights r.table left w None r.filled end)).0;
+              (filled-more whole bits precision r.weights r.table left w None r.filled
+              (row-last whole bits precision left w room false r.rest fills))).0;
           as_many =
-              length_push r.symbols s ∙ ap (λ n. n + 1) r.as_many ∙ sym (length_push r.weights w) ∙ sym
+              length_push r.symbols t.symbol ∙ ap (λ n. n + 1) r.as_many ∙ sym (length_push r.weights w) ∙ sym
               (length-map (r.weights ++ w ∷ []) whole);
-          distinct = distinct-push eq symm r.symbols s r.distinct (apart-read s false apart);
+          distinct = took-distinct u' stored' (whole w) t;
         },
-        subst (holds stored')
-            (rows-push s (whole w) (whole left) refl ∙ ap (rows_of (r.symbols ++ s ∷ [])) (sym (map-append whole r.weights (w ∷ [])))) h,
+        took-held u' stored' w t,
       ),
     )
 
-    pub good-inferred_last : (stored' : Stored) (u' u'' : S) (v' : T) (s : Symbol) (w : W) → wsteps v None v'
-        → steps u (Some s) u' → steps u' None u''
-        → holds stored' (rows_of r.symbols (map whole r.weights) ++ record { symbol = s; left = whole left; weight = whole w } ∷ [])
-        → list_any (eq s) (symbols_of (rows_of r.symbols (map whole r.weights))) ≡ false
-        → whole w ≡ room + 1 → 2 ^ precision < 2 ^ bits + whole left
-        → GaveBothGood steps it wsteps jt (λ ss ws. AreAccepted eq bits precision ss (completed precision true (map whole ws))
-        × holds stored' (rows_of ss (completed precision true (map whole ws))))
-    good-inferred_last stored' u' u'' v' s w sw ss ss' h apart last narrow =
-        let is : whole w ≡ 2 ^ precision - sum (map whole r.weights) = omega (arith, last, r.rest, r.filled.is) in (
-          r.symbols ++ s ∷ [],
+    pub good-inferred_last : (stored' : Stored) (u' u'' : S) (v' : T) (weight : ℕ) → wsteps v None v'
+        → TookRow steps eq holds u stored (whole left) weight u' stored' → steps u' None u'' → weight ≡ room + 1 → room + 1 < 2 ^ bits
+        → IsReadWell steps wsteps eq holds whole bits precision true it jt stored'
+    good-inferred_last stored' u' u'' v' weight sw t ss' last narrow =
+        let is : weight ≡ 2 ^ precision - sum (map whole r.weights) = omega (arith, last, r.rest, r.filled.is) in (
+          r.symbols ++ t.symbol ∷ [],
           r.weights,
-          (u'', (u', yields-more steps it r.symbols u s u' r.from_symbols ss, ss')),
+          (u'', (u', yields-more steps it r.symbols u t.symbol u' r.from_symbols t.came, ss')),
           (v', (v, r.from_weights, sw)),
           (
             record {
-              tile = (good-inferred whole bits precision r.weights r.table left r.filled narrow).0;
+              tile = (good-inferred whole bits precision r.weights r.table left r.filled (omega (arith, r.rest, narrow))).0;
               as_many =
-                  length_push r.symbols s ∙ ap (λ n. n + 1) (r.as_many ∙ sym (length-map r.weights whole))
+                  length_push r.symbols t.symbol ∙ ap (λ n. n + 1) (r.as_many ∙ sym (length-map r.weights whole))
                   ∙ sym (length_push (map whole r.weights) (2 ^ precision - sum (map whole r.weights)));
-              distinct = distinct-push eq symm r.symbols s r.distinct (apart-read s false apart);
+              distinct = took-distinct u' stored' weight t;
             },
             subst (holds stored')
-                (rows-push s (whole w) (whole left) refl ∙ ap (λ n. rows_of (r.symbols ++ s ∷ []) (map whole r.weights ++ n ∷ [])) is) h,
+                (rows-push t.symbol weight (whole left) refl
+                ∙ ap (λ n. rows_of (r.symbols ++ t.symbol ∷ []) (map whole r.weights ++ n ∷ [])) is)
+                (t.held (rows_of r.symbols (map whole r.weights)) r.held),
           ),
         )
-
-    -- an inferred weight that is no word
-    pub bad-wide_last : (v' : T) → wsteps v None v' → room + 1 ≡ 2 ^ bits → Bad true
-    bad-wide_last v' sw wide =
-        bad-weights true v' sw (bad-wide whole bits precision r.weights r.table left r.filled (omega (arith, r.rest)))

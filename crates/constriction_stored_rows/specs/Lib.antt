@@ -1,5 +1,7 @@
+pub mod Ends
 pub mod Filling
 pub mod Given
+pub mod Reading
 pub mod SlotTable
 pub mod Slots
 pub mod Stored

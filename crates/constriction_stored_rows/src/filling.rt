@@ -1,9 +1,10 @@
 //! Filling the quantiles below `2^PRECISION` with rows, one after another.
 
-ghost use Rattle.std.specs.Prelude.{◌≡◌, ◌+◌, ◌%◌, ◌^◌, ◌<◌, ◌≤◌, ◌⊎◌, ℕ, List, [], ◌∷◌, ◌++◌, IfOk, IsTrue, false, map};
+ghost use Rattle.std.specs.Prelude.{◌≡◌, ◌+◌, ◌%◌, ◌^◌, ◌<◌, ◌≤◌, ◌⊎◌, ℕ, List, [], ◌∷◌, ◌++◌, Some, None, IfOk, IsTrue, true, false, map};
 ghost use Rattle.std.specs.Vec.{vec_len, vec_capacity};
-ghost use Rattle.std.specs.Iterator.{IsFiniteIterable};
+ghost use Rattle.std.specs.Iterator.{IsFinite, IsFiniteIterable};
 ghost use Rattle.constriction_model.specs.Acceptance.{completed, IsAccepted};
+ghost use Rattle.constriction_stored_rows.specs.Ends.{FillsAll, IsNoLast, IsNoneInferred, AndTotal, IsTableOf, IsNoTable};
 ghost use Rattle.constriction_stored_rows.specs.Given.{GaveGood, GaveBad};
 ghost use Rattle.constriction_stored_rows.specs.Stored.{lefts_from};
 
@@ -37,18 +38,52 @@ pub fn and_item<T: Drop>(mut items: Vec<T>, item: T) -> Result<Vec<T>, AllocErro
     Ok(items)
 }
 
-/// Whether a row of this weight fills the quantiles, where `last` is the weight less one, modulo
-/// `2^BITS`, and `room` the number of quantiles after the first one of the row. Otherwise the row takes
-/// no quantile, or more than there are.
-#[inline]
-pub(crate) fn is_filled_by<P: WholeNumber>(weight: P, last: P, room: P) -> bool
-    requires last { (P.whole last + 1) % 2 ^ P.BITS ≡ P.whole weight }
-    requires range { P.whole last < 2 ^ P.BITS }
-    requires too_much { P.whole room ≤ P.whole last }
-    ensures filled { IsTrue result → (0 < P.whole weight) × (P.whole weight ≡ P.whole room + 1) }
-    ensures bad { result ≡ false → (P.whole weight ≡ 0) ⊎ (P.whole room + 1 < P.whole weight) }
+/// Whether a row of this weight leaves no quantiles, where `room` is the number of quantiles after the first one
+/// of the row, and `one` the word 1.
+///
+/// One comparison tells weights that leave some from all others: 0, one that fills the quantiles, and one that is
+/// too much.
+#[inline(always)]
+pub(crate) fn leaves_none<P: WholeNumber>(weight: P, one: P, room: P) -> bool
+    requires one { P.whole one ≡ 1 }
+    requires range { P.whole room < 2 ^ P.BITS }
+    ensures none { IsTrue result → (P.whole weight ≡ 0) ⊎ (P.whole room < P.whole weight) }
+    ensures some { result ≡ false → (0 < P.whole weight) × (P.whole weight ≤ P.whole room) }
 {
-    !weight.is_least() && last.is_at_most(room)
+    let last = weight.wrapping_minus(one);
+    room.is_at_most(last)
+}
+
+/// Whether the row of this weight is the last one: a given weight has to fill the quantiles, and no further one is
+/// inferred.
+#[inline]
+pub(crate) fn is_given_last<P: WholeNumber>(weight: P, one: P, room: P, infer_last: bool) -> bool
+    requires one { P.whole one ≡ 1 }
+    requires none_left { (P.whole weight ≡ 0) ⊎ (P.whole room < P.whole weight) }
+    ensures filled { IsTrue result → FillsAll P.BITS (P.whole weight) (P.whole room) infer_last }
+    ensures bad { result ≡ false → IsNoLast (P.whole weight) (P.whole room) infer_last }
+{
+    if infer_last {
+        return false;
+    }
+    if weight.is_least() {
+        return false;
+    }
+    let last = weight.wrapping_minus(one);
+    last.is_at_most(room)
+}
+
+/// Whether the row that takes all quantiles left is the last one: its weight is inferred, and it is a word.
+#[inline]
+pub(crate) fn is_inferred_last<P: WholeNumber>(room: P, infer_last: bool) -> bool
+    requires { P.whole room < 2 ^ P.BITS }
+    ensures inferred { IsTrue result → (infer_last ≡ true) × (P.whole room + 1 < 2 ^ P.BITS) }
+    ensures bad { result ≡ false → IsNoneInferred P.BITS (P.whole room) infer_last }
+{
+    if infer_last {
+        return !room.is_greatest();
+    }
+    false
 }
 
 /// How many rows to ask memory for at once, where so many are announced: no more than any list that is
@@ -99,10 +134,102 @@ fn words_needed<const PRECISION: usize>(announced: usize, infer_last: bool) -> u
     entries_announced::<PRECISION>(rows)
 }
 
+/// Whether a weight that leaves no quantiles is the last one, and fills them.
+#[inline(always)]
+fn is_end_of_given<P: WholeNumber, I: Iterator<Item = P>>(
+    rest: &mut I,
+    weight: P,
+    one: P,
+    room: P,
+    infer_last: bool,
+) -> bool
+    requires one { P.whole one ≡ 1 }
+    requires none_left { (P.whole weight ≡ 0) ⊎ (P.whole room < P.whole weight) }
+    requires goes { I.can_next rest.old }
+    ensures filled { IsTrue result → FillsAll P.BITS (P.whole weight) (P.whole room) infer_last × I.next_gives rest.old None rest.new }
+    ensures bad { result ≡ false → IsNoLast (P.whole weight) (P.whole room) infer_last
+        ⊎ ((P.whole room < P.whole weight) × (more : P) × I.next_gives rest.old (Some more) rest.new) }
+{
+    if !is_given_last(weight, one, room, infer_last) {
+        return false;
+    }
+    rest.next().is_none()
+}
+
+/// The table and after it the total, where all quantiles are filled.
+#[inline(always)]
+fn ended<P: WholeNumber, const PRECISION: usize>(
+    table: Vec<P>,
+    is_whole: bool,
+) -> Result<Vec<P>, ModelError>
+    requires positive { 0 < PRECISION }
+    requires fits { PRECISION ≤ P.BITS }
+    ensures ok { IfOk result (λ v. (is_whole ≡ true) × AndTotal P.whole P.BITS PRECISION table.items v.items) }
+    ensures invalid { result ≡ Err ModelError.InvalidTable → is_whole ≡ false }
+{
+    if !is_whole {
+        return Err(ModelError::InvalidTable);
+    }
+    Ok(and_item(table, P::wrapping_pow2(PRECISION))?)
+}
+
+/// The table, the row of the inferred weight and the total, where that weight is a word.
+#[inline(always)]
+fn ended_inferred<P: WholeNumber, const PRECISION: usize>(
+    table: Vec<P>,
+    left: P,
+    is_word: bool,
+) -> Result<Vec<P>, ModelError>
+    requires positive { 0 < PRECISION }
+    requires fits { PRECISION ≤ P.BITS }
+    ensures ok { IfOk result (λ v. (is_word ≡ true) × AndTotal P.whole P.BITS PRECISION (table.items ++ left ∷ []) v.items) }
+    ensures invalid { result ≡ Err ModelError.InvalidTable → is_word ≡ false }
+{
+    if !is_word {
+        return Err(ModelError::InvalidTable);
+    }
+    ended::<P, PRECISION>(and_item(table, left)?, true)
+}
+
+/// Fills an empty table from the weights of an iterator.
+#[inline(always)]
+fn filled<P: WholeNumber, I: Iterator<Item = P>, const PRECISION: usize>(
+    mut table: Vec<P>,
+    rest: &mut I,
+    infer_last: bool,
+) -> Result<Vec<P>, ModelError>
+    requires positive { 0 < PRECISION }
+    requires fits { PRECISION ≤ P.BITS }
+    requires empty { table.items ≡ [] }
+    requires goes { I.can_next rest.old }
+    requires ends { IsFinite (I.remaining rest.old) }
+    ensures ok { IfOk result (λ v. IsTableOf I.next_gives rest.old P.whole P.BITS PRECISION infer_last v.items) }
+    ensures invalid { result ≡ Err ModelError.InvalidTable
+        → IsNoTable I.next_gives rest.old P.whole P.BITS PRECISION infer_last }
+{
+    let one = P::greatest(1);
+    let mut left = P::least();
+    let mut room = P::greatest(PRECISION);
+    'rows: while let Some(weight) = rest.next() {
+        if table.len() == table.capacity() {
+            let mut full = table;
+            make_room(&mut full)?;
+            table = full;
+        }
+        table.push_reserved(left);
+        if leaves_none(weight, one, room) {
+            return ended::<P, PRECISION>(
+                table,
+                is_end_of_given(rest, weight, one, room, infer_last),
+            );
+        }
+        left = left.plus(weight);
+        room = room.minus(weight);
+    }
+    ended_inferred::<P, PRECISION>(table, left, is_inferred_last(room, infer_last))
+}
+
 /// The table of these weights, the last of which may be inferred.
-///
-/// One comparison tells a weight that leaves quantiles from all others: 0, one that fills them, and
-/// one that is too much.
 pub fn table_of<P: WholeNumber, I: IntoIterator<Item = P>, const PRECISION: usize>(
     alloc: Global,
     weights: I,
@@ -120,44 +247,10 @@ pub fn table_of<P: WholeNumber, I: IntoIterator<Item = P>, const PRECISION: usiz
         × GaveBad I.IntoIter.next_gives it (λ ws.
         IsAccepted P.BITS PRECISION (completed PRECISION infer_last (map P.whole ws))) }
 {
-    let greatest = P::greatest(PRECISION);
-    let total = P::wrapping_pow2(PRECISION);
-    let one = P::greatest(1);
     let mut rest = weights.into_iter();
-    let mut table = room_for(
+    let table = room_for(
         alloc,
         words_needed::<PRECISION>(rest.size_hint().0, infer_last),
     );
-    let mut left = P::least();
-    let mut room = greatest;
-    'rows: while let Some(weight) = rest.next() {
-        if table.len() == table.capacity() {
-            let mut full = table;
-            make_room(&mut full)?;
-            table = full;
-        }
-        table.push_reserved(left);
-        let last = weight.wrapping_minus(one);
-        if room.is_at_most(last) {
-            if !is_filled_by(weight, last, room) {
-                return Err(ModelError::InvalidTable);
-            }
-            if infer_last {
-                return Err(ModelError::InvalidTable);
-            }
-            if let Some(_) = rest.next() {
-                return Err(ModelError::InvalidTable);
-            }
-            return Ok(and_item(table, total)?);
-        }
-        left = left.plus(weight);
-        room = room.minus(weight);
-    }
-    if !infer_last {
-        return Err(ModelError::InvalidTable);
-    }
-    if room.is_greatest() {
-        return Err(ModelError::InvalidTable);
-    }
-    Ok(and_item(and_item(table, left)?, total)?)
+    filled::<P, I::IntoIter, PRECISION>(table, &mut rest, infer_last)
 }

@@ -1,13 +1,14 @@
 //! Reading rows from symbols and weights, for models that store symbols.
 
-ghost use Rattle.std.specs.Prelude.{◌≡◌, ◌+◌, ◌<◌, ◌≤◌, ℕ, List, Bool, [], ◌∷◌, ◌++◌, IfOk, IsOk, true, false, map};
+ghost use Rattle.std.specs.Prelude.{◌≡◌, ◌+◌, ◌^◌, ◌<◌, ◌≤◌, ◌⊎◌, ℕ, List, Bool, [], ◌∷◌, ◌++◌, IfOk, IsOk, true, false, map, Some, None};
 ghost use Rattle.std.specs.Iterator.{IsFinite};
 ghost use Rattle.std.specs.List.{list_any};
 ghost use Rattle.constriction_model.specs.Acceptance.{completed, AreAccepted};
 ghost use Rattle.constriction_stored_rows.specs.Given.{GaveBothGood, GaveBothBad};
+ghost use Rattle.constriction_stored_rows.specs.Reading.{TookRow, RefusedRow, IsReadWell, IsReadBadly, EndsWell, EndsBadly};
 ghost use Rattle.constriction_model.specs.Rows.{Row, rows_of, symbols_of};
 
-use crate::filling::is_filled_by;
+use crate::filling::{is_given_last, is_inferred_last, leaves_none};
 use constriction_model::ModelError;
 use constriction_numbers::WholeNumber;
 
@@ -30,6 +31,159 @@ pub trait TakesRows<Symbol, Word: WholeNumber> {
             → holds self.old rows → list_any (symbol_eq symbol) (symbols_of rows) ≡ true };
 
     ghost symmetry_law: { (s t : Symbol) → symbol_eq s t ≡ symbol_eq t s };
+}
+
+/// Reads the symbol of a row, and stores the row.
+#[inline(always)]
+fn take_next<
+    P: WholeNumber,
+    Symbol,
+    Stored: TakesRows<Symbol, P>,
+    Symbols: Iterator<Item = Symbol>,
+>(stored: &mut Stored, symbols: &mut Symbols, left: P, weight: P) -> Result<(), ModelError>
+    requires positive { 0 < P.whole weight }
+    requires goes { Symbols.can_next symbols.old }
+    ensures took { IsOk result → TookRow Symbols.next_gives Stored.symbol_eq Stored.holds symbols.old stored.old
+        (P.whole left) (P.whole weight) symbols.new stored.new }
+    ensures goes { IsOk result → IsFinite (Symbols.remaining symbols.old)
+        → Symbols.can_next symbols.new × IsFinite (Symbols.remaining symbols.new) }
+    ensures refused { result ≡ Err ModelError.InvalidTable
+        → RefusedRow Symbols.next_gives Stored.symbol_eq Stored.holds symbols.old stored.old symbols.new }
+{
+    let Some(symbol) = symbols.next() else {
+        return Err(ModelError::InvalidTable);
+    };
+    stored.take_row(symbol, left, weight)
+}
+
+/// Stores the row of a given weight that leaves no quantiles, which has to fill them and to be the last one.
+#[inline(always)]
+fn take_given_last<
+    P: WholeNumber,
+    Symbol: Drop,
+    Stored: TakesRows<Symbol, P>,
+    Symbols: Iterator<Item = Symbol>,
+    Weights: Iterator<Item = P>,
+    const PRECISION: usize,
+>(
+    stored: &mut Stored,
+    symbols: &mut Symbols,
+    weights: &mut Weights,
+    left: P,
+    weight: P,
+    one: P,
+    room: P,
+    infer_last: bool,
+) -> Result<(), ModelError>
+    requires one { P.whole one ≡ 1 }
+    requires none_left { (P.whole weight ≡ 0) ⊎ (P.whole room < P.whole weight) }
+    requires symbols_go { Symbols.can_next symbols.old }
+    requires symbols_end { IsFinite (Symbols.remaining symbols.old) }
+    requires weights_go { Weights.can_next weights.old }
+    ensures ok { IsOk result
+        → EndsWell Symbols.next_gives Weights.next_gives Stored.symbol_eq Stored.holds P.whole P.BITS PRECISION
+        infer_last stored.old symbols.old left (P.whole room) (Some weight) weights.old stored.new }
+    ensures invalid { result ≡ Err ModelError.InvalidTable
+        → EndsBadly Symbols.next_gives Weights.next_gives Stored.symbol_eq Stored.holds P.whole P.BITS PRECISION
+        infer_last stored.old symbols.old left (P.whole room) (Some weight) weights.old }
+{
+    if !is_given_last(weight, one, room, infer_last) {
+        return Err(ModelError::InvalidTable);
+    }
+    take_next::<P, Symbol, Stored, Symbols>(stored, symbols, left, weight)?;
+    if let Some(_) = weights.next() {
+        return Err(ModelError::InvalidTable);
+    }
+    if let Some(_) = symbols.next() {
+        return Err(ModelError::InvalidTable);
+    }
+    Ok(())
+}
+
+/// Stores the row of the inferred weight, which is all that the given ones leave.
+#[inline(always)]
+fn take_inferred_last<
+    P: WholeNumber,
+    Symbol: Drop,
+    Stored: TakesRows<Symbol, P>,
+    Symbols: Iterator<Item = Symbol>,
+    Weights: Iterator<Item = P>,
+    const PRECISION: usize,
+>(
+    stored: &mut Stored,
+    symbols: &mut Symbols,
+    left: P,
+    one: P,
+    room: P,
+    infer_last: bool,
+) -> Result<(), ModelError>
+    requires one { P.whole one ≡ 1 }
+    requires range { P.whole room < 2 ^ P.BITS }
+    requires symbols_go { Symbols.can_next symbols.old }
+    requires symbols_end { IsFinite (Symbols.remaining symbols.old) }
+    ensures ok { IsOk result → (end : Weights)
+        → EndsWell Symbols.next_gives Weights.next_gives Stored.symbol_eq Stored.holds P.whole P.BITS PRECISION
+        infer_last stored.old symbols.old left (P.whole room) None end stored.new }
+    ensures invalid { result ≡ Err ModelError.InvalidTable → (end : Weights)
+        → EndsBadly Symbols.next_gives Weights.next_gives Stored.symbol_eq Stored.holds P.whole P.BITS PRECISION
+        infer_last stored.old symbols.old left (P.whole room) None end }
+{
+    if !is_inferred_last(room, infer_last) {
+        return Err(ModelError::InvalidTable);
+    }
+    let weight = room.plus(one);
+    take_next::<P, Symbol, Stored, Symbols>(stored, symbols, left, weight)?;
+    if let Some(_) = symbols.next() {
+        return Err(ModelError::InvalidTable);
+    }
+    Ok(())
+}
+
+/// Reads and stores all rows.
+#[inline(always)]
+fn take_all<
+    P: WholeNumber,
+    Symbol: Drop,
+    Stored: TakesRows<Symbol, P>,
+    Symbols: Iterator<Item = Symbol>,
+    Weights: Iterator<Item = P>,
+    const PRECISION: usize,
+>(
+    stored: &mut Stored,
+    symbols: &mut Symbols,
+    weights: &mut Weights,
+    infer_last: bool,
+) -> Result<(), ModelError>
+    requires positive { 0 < PRECISION }
+    requires fits { PRECISION ≤ P.BITS }
+    requires none { Stored.holds stored.old [] }
+    requires symbols_go { Symbols.can_next symbols.old }
+    requires symbols_end { IsFinite (Symbols.remaining symbols.old) }
+    requires weights_go { Weights.can_next weights.old }
+    requires weights_end { IsFinite (Weights.remaining weights.old) }
+    ensures ok { IsOk result
+        → IsReadWell Symbols.next_gives Weights.next_gives Stored.symbol_eq Stored.holds P.whole P.BITS PRECISION
+        infer_last symbols.old weights.old stored.new }
+    ensures invalid { result ≡ Err ModelError.InvalidTable
+        → IsReadBadly Symbols.next_gives Weights.next_gives Stored.symbol_eq Stored.holds P.whole P.BITS PRECISION
+        infer_last symbols.old weights.old }
+{
+    let one = P::greatest(1);
+    let mut left = P::least();
+    let mut room = P::greatest(PRECISION);
+    'rows: while let Some(weight) = weights.next() {
+        if leaves_none(weight, one, room) {
+            return take_given_last::<P, Symbol, Stored, Symbols, Weights, PRECISION>(
+                stored, symbols, weights, left, weight, one, room, infer_last,
+            );
+        }
+        take_next::<P, Symbol, Stored, Symbols>(stored, symbols, left, weight)?;
+        left = left.plus(weight);
+        room = room.minus(weight);
+    }
+    take_inferred_last::<P, Symbol, Stored, Symbols, Weights, PRECISION>(
+        stored, symbols, left, one, room, infer_last,
+    )
 }
 
 /// The rows of these symbols and weights, the last of which may be inferred, stored in what holds no
@@ -63,49 +217,11 @@ pub fn rows_read<
         → GaveBothBad Symbols.next_gives symbols Weights.next_gives weights (λ ss ws.
         AreAccepted Stored.symbol_eq P.BITS PRECISION ss (completed PRECISION infer_last (map P.whole ws))) }
 {
-    let one = P::greatest(1);
-    let mut left = P::least();
-    let mut room = P::greatest(PRECISION);
-    'rows: while let Some(weight) = weights.next() {
-        let last = weight.wrapping_minus(one);
-        if room.is_at_most(last) {
-            if !is_filled_by(weight, last, room) {
-                return Err(ModelError::InvalidTable);
-            }
-            if infer_last {
-                return Err(ModelError::InvalidTable);
-            }
-            let Some(symbol) = symbols.next() else {
-                return Err(ModelError::InvalidTable);
-            };
-            stored.take_row(symbol, left, weight)?;
-            if let Some(_) = weights.next() {
-                return Err(ModelError::InvalidTable);
-            }
-            if let Some(_) = symbols.next() {
-                return Err(ModelError::InvalidTable);
-            }
-            return Ok(stored);
-        }
-        let Some(symbol) = symbols.next() else {
-            return Err(ModelError::InvalidTable);
-        };
-        stored.take_row(symbol, left, weight)?;
-        left = left.plus(weight);
-        room = room.minus(weight);
-    }
-    if !infer_last {
-        return Err(ModelError::InvalidTable);
-    }
-    if room.is_greatest() {
-        return Err(ModelError::InvalidTable);
-    }
-    let Some(symbol) = symbols.next() else {
-        return Err(ModelError::InvalidTable);
-    };
-    stored.take_row(symbol, left, room.plus(one))?;
-    if let Some(_) = symbols.next() {
-        return Err(ModelError::InvalidTable);
-    }
+    take_all::<P, Symbol, Stored, Symbols, Weights, PRECISION>(
+        &mut stored,
+        &mut symbols,
+        &mut weights,
+        infer_last,
+    )?;
     Ok(stored)
 }

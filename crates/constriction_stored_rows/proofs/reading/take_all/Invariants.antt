@@ -1,7 +1,7 @@
 -- What was read so far is stored, and both iterators go on.
 use Rattle.std.specs.Iterator.{IsFinite}
-use Rattle.constriction_stored_rows.proofs.ReadLemmas.{IsRead}
-use Rattle.constriction_stored_rows.proofs.reading.rows_read.Given as goal
+use Rattle.constriction_stored_rows.specs.Reading.{IsRead}
+use Rattle.constriction_stored_rows.proofs.reading.take_all.Given as goal
 
 abbrev pub invariant-rows : goal.invariant-rows
 invariant-rows g l =
@@ -9,6 +9,6 @@ invariant-rows g l =
     × IsFinite (g.Weights.Iterator.remaining l.weights)
     × g.Symbols.Iterator.can_next l.symbols
     × IsFinite (g.Symbols.Iterator.remaining l.symbols)
-    × IsRead g.Symbols.Iterator.next_gives l.initial.symbols g.Weights.Iterator.next_gives l.initial.weights g.Stored.TakesRows.symbol_eq
-    g.met.Stored.TakesRows.symmetry_law g.Stored.TakesRows.holds g.P.WholeNumber.whole g.P.WholeNumber.BITS g.row.PRECISION
+    × IsRead g.Symbols.Iterator.next_gives g.Weights.Iterator.next_gives g.Stored.TakesRows.symbol_eq g.Stored.TakesRows.holds
+    g.P.WholeNumber.whole g.P.WholeNumber.BITS g.row.PRECISION l.initial.symbols l.initial.weights
     l.stored l.symbols l.weights l.left (g.P.WholeNumber.whole l.room)

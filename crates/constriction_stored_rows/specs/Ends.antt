@@ -1,0 +1,44 @@
+-- How a list of weights ends, and the table that it fills. No public clause cites this module.
+use Rattle.std.specs.Prelude.{◌≡◌, ℕ, ◌+◌, ◌%◌, ◌^◌, ◌<◌, ◌⊎◌, Bool, true, false, List, [], ◌∷◌, ◌++◌, map, Option, Some}
+use Rattle.std.specs.Iterator.{Yields}
+use Rattle.constriction_model.specs.Acceptance.{completed, IsAccepted}
+use Rattle.constriction_stored_rows.specs.Filling.{IsFilled}
+use Rattle.constriction_stored_rows.specs.Given.{GaveGood, GaveBad}
+use Rattle.constriction_stored_rows.specs.Stored.{lefts_from}
+
+-- a given weight ends a list: it takes all quantiles that are left, one more than `room`, and none is inferred
+pub record FillsAll (bits weight room : ℕ) (infer : Bool) : Type 0 where
+  pub given : infer ≡ false
+  pub positive : 0 < weight
+  pub fits : weight < 2 ^ bits
+  pub is : weight ≡ room + 1
+
+-- it does not: it is 0 or too much, or it leaves no quantiles to the one that is inferred
+abbrev pub IsNoLast : ℕ → ℕ → Bool → Type 0
+IsNoLast weight room infer = (weight ≡ 0) ⊎ (room + 1 < weight) ⊎ ((infer ≡ true) × (room < weight))
+
+-- no weight can be inferred: that is not asked for, or it would be no word
+abbrev pub IsNoneInferred : ℕ → ℕ → Bool → Type 0
+IsNoneInferred bits room infer = (infer ≡ false) ⊎ ((infer ≡ true) × (room + 1 ≡ 2 ^ bits))
+
+-- the table, and after it the total
+abbrev pub AndTotal : {Word : Type 0} → (Word → ℕ) → ℕ → ℕ → List Word → List Word → Type 0
+AndTotal {Word} whole bits precision lefts table =
+    (total : Word) × (table ≡ lefts ++ total ∷ []) × (whole total ≡ 2 ^ precision % 2 ^ bits)
+
+module _ {S W : Type 0} (steps : S → Option W → S → Type 0) (it : S) (whole : W → ℕ) (bits precision : ℕ) where
+  -- the weights so far fill the table, and leave `room` quantiles after the one at `left`
+  pub record IsTabled (table : List W) (s : S) (left : W) (room : ℕ) : Type 0 where
+    pub weights : List W
+    pub given : Yields steps it weights s
+    pub filled : IsFilled whole bits precision weights table (Some left)
+    pub rest : whole left + room + 1 ≡ 2 ^ precision
+
+  -- the iterator gave accepted weights, whose table this is
+  abbrev pub IsTableOf : Bool → List W → Type 0
+  IsTableOf infer table = GaveGood steps it (λ ws. IsAccepted bits precision (completed precision infer (map whole ws))
+      × (map whole table ≡ lefts_from 0 (completed precision infer (map whole ws)) ++ (2 ^ precision % 2 ^ bits) ∷ []))
+
+  -- the iterator gave weights that are not accepted, whatever would follow
+  abbrev pub IsNoTable : Bool → Type 0
+  IsNoTable infer = GaveBad steps it (λ ws. IsAccepted bits precision (completed precision infer (map whole ws)))
