@@ -1,7 +1,8 @@
 //! Lines of text, and what they ask for.
 
-ghost use Rattle.std.specs.Prelude.{◌≡◌, ◌∷◌, IfOk, IfSome, IfNone, option_and_then};
+ghost use Rattle.std.specs.Prelude.{◌≡◌, ◌∷◌, IfOk, IfSome, IfNone, codes, false, option_and_then};
 ghost use Rattle.std.specs.Option.{option_copied, option_map};
+ghost use Rattle.std.specs.Str.{bytes_eq};
 ghost use Rattle.constriction_text.specs.Grammar.{Request, Spells, form_of, view};
 ghost use Rattle.constriction_text.specs.Parts.{parts_of, first_and_others, only_number};
 ghost use Rattle.constriction_text.specs.Reading.{read_form, read_line};
@@ -187,6 +188,22 @@ fn parse_command(
             None => Ok(None),
         };
     }
+    parse_other_command(alloc, keyword, form, text)
+}
+
+/// The same of a keyword that is neither `table` nor `infer`.
+#[tactic(auto, unfolding(crate::specs::Reading::read_request))]
+fn parse_other_command(
+    alloc: Global,
+    keyword: &[u8],
+    form: Form,
+    text: Option<&[u8]>,
+) -> Result<Option<Command>, AllocError>
+    requires no_table { bytes_eq keyword.now (codes "table") ≡ false }
+    requires no_infer { bytes_eq keyword.now (codes "infer") ≡ false }
+    ensures { IfOk result (λ found. option_map view found
+        ≡ option_and_then (read_request keyword.now form) (read_numbers (parts_of 32 (option_copied text.entry)))) }
+{
     if keyword == b"quantile".as_slice() {
         return match parse_first_and_others(alloc, text)? {
             Some((quantile, weights)) => Ok(Some(Command::Quantile {
