@@ -1,6 +1,6 @@
 //! Lines that ask for something, and lines that do not.
 
-use crate::checks::{holds, same, same_at};
+use crate::checks::{same_at, shows};
 use constriction_text::{Command, Form, parse};
 use std::alloc::Global;
 use std::process::Abort;
@@ -13,69 +13,46 @@ fn asked(rt: &impl Abort, alloc: Global, line: &[u8]) -> Option<Command> {
     found
 }
 
-#[test]
-fn a_table_has_its_weights(rt: HostRuntime) {
-    let found = asked(&rt, rt.alloc(), b"table u8/6 3 018 18446744073709551615");
-    let Some(Command::Table { form, weights }) = found else {
-        panic!(rt; "no table");
-    };
-    same(&rt, form, Form::U8Precision6);
-    holds(&rt, &weights, &[3, 18, u64::MAX]);
+/// Lines, the form that each names, and what it asks for, as it is shown to a programmer.
+const REQUESTS: [(&str, Form, &str); 5] = [
+    (
+        "table u8/6 3 018 18446744073709551615",
+        Form::U8Precision6,
+        "Table { form: U8Precision6, weights: [3, 18, 18446744073709551615] }",
+    ),
+    (
+        "infer u16/12 5",
+        Form::U16Precision12,
+        "Infer { form: U16Precision12, weights: [5] }",
+    ),
+    (
+        "quantile u8/6 21 64",
+        Form::U8Precision6,
+        "Quantile { form: U8Precision6, quantile: 21, weights: [64] }",
+    ),
+    (
+        "symbol u8/6 4",
+        Form::U8Precision6,
+        "Symbol { form: U8Precision6, symbol: 4, weights: [] }",
+    ),
+    (
+        "uniform u8/8 3",
+        Form::U8Precision8,
+        "Uniform { form: U8Precision8, range: 3 }",
+    ),
+];
+
+fn asks_for(rt: &impl Abort, alloc: Global, line: &str, form: Form, shown: &str) {
+    let command = asked(rt, alloc, line.as_bytes()).expect(rt, "a request");
+    same_at(rt, line, command.form(), form);
+    shows(rt, alloc, &command, shown);
 }
 
 #[test]
-fn a_quantile_stands_before_the_weights(rt: HostRuntime) {
-    let found = asked(&rt, rt.alloc(), b"quantile u8/6 21 64");
-    let Some(
-        Command::Quantile {
-            form,
-            quantile,
-            weights,
-        },
-    ) = found
-    else {
-        panic!(rt; "no quantile");
-    };
-    same(&rt, form, Form::U8Precision6);
-    same(&rt, quantile, 21);
-    holds(&rt, &weights, &[64]);
-}
-
-#[test]
-fn a_symbol_stands_before_the_weights(rt: HostRuntime) {
-    let Some(command) = asked(&rt, rt.alloc(), b"symbol u8/6 4") else {
-        panic!(rt; "no request");
-    };
-    same(&rt, command.form(), Form::U8Precision6);
-    match &command {
-        Command::Symbol {
-            symbol,
-            weights,
-            ..
-        } => same(&rt, (*symbol, weights.is_empty()), (4, true)),
-        _ => panic!(rt; "no symbol"),
-    }
-}
-
-#[test]
-fn an_inferred_weight_is_not_written(rt: HostRuntime) {
-    let found = asked(&rt, rt.alloc(), b"infer u16/12 5");
-    let Some(Command::Infer { form, weights }) = found else {
-        panic!(rt; "no weights");
-    };
-    same(&rt, form, Form::U16Precision12);
-    holds(&rt, &weights, &[5]);
-}
-
-#[test]
-fn a_uniform_model_has_a_range(rt: HostRuntime) {
-    let Some(command) = asked(&rt, rt.alloc(), b"uniform u8/8 3") else {
-        panic!(rt; "no request");
-    };
-    same(&rt, command.form(), Form::U8Precision8);
-    match command {
-        Command::Uniform { range, .. } => same(&rt, range, 3),
-        _ => panic!(rt; "no uniform model"),
+fn lines_ask_for_what_they_spell(rt: HostRuntime) {
+    let alloc = rt.alloc();
+    for (line, form, shown) in REQUESTS {
+        asks_for(&rt, alloc, line, form, shown);
     }
 }
 
