@@ -7,6 +7,7 @@ use Rattle.std.proofs.lemmas.List.{length-map, length-append, length-replicate, 
 use Rattle.std.specs.List.Sorted.{IsStrictlyIncreasing}
 use Rattle.constriction_model.specs.Probe.{IsLastAtMost}
 use Rattle.constriction_stored_rows.specs.Slots.{slot_width, slot_count}
+use Rattle.constriction_stored_rows.specs.StoredLemmas.{read-whole}
 use Rattle.constriction_stored_rows.specs.SlotTable.{words_a_slot, HasWords, HasSlots, IsFirstWord}
 use Rattle.constriction_model.proofs.Halving.{later}
 
@@ -143,6 +144,24 @@ word-order w a b x y some f g h = elim (word-cases w y some) [
       rw odd.1 from)
 ]
 
+-- the first word of the next row is no earlier one
+pub next-word : (w : ℕ) (lefts : List ℕ) (row next x y : ℕ) → 0 < w → IsStrictlyIncreasing lefts → row + 1 ≡ next → next < length lefts
+    → IsFirstWord w (get_or lefts row 0) x → IsFirstWord w (get_or lefts next 0) y → x ≤ y
+next-word w lefts row next x y some up e b from to =
+    word-order w (get_or lefts row 0) (get_or lefts next 0) x y some from to (omega (arith, later lefts row next up (omega arith) b))
+
+-- the first word of the row of an entry, whose left cumulative is this number
+pub entry-word : {Entry : Type 0} (cumulative : Entry → ℕ) (w : ℕ) (entries : List Entry) (i : ℕ) (entry : Entry) (number word : ℕ)
+    → i < length entries → entry ≡ get_or entries i entry → number ≡ cumulative entry
+    → IsFirstWord w number word → IsFirstWord w (get_or (map cumulative entries) i 0) word
+entry-word cumulative w entries i entry number word h is same from =
+    rw (read-whole cumulative entries i entry h is ∙ sym same) from
+
+-- the table has all words before the first one of a row
+pub word-within : (precision slot_bits left word : ℕ) → IsFirstWord (slot_width precision slot_bits) left word → left < 2 ^ precision
+    → word ≤ words_a_slot (slot_width precision slot_bits) * slot_count precision slot_bits
+word-within precision slot_bits left word from h = (from.first (slot_count precision slot_bits)).1 (omega (arith, slots-all precision slot_bits))
+
 -- a list that increases is nowhere below its indices
 pub index-most : (xs : List ℕ) (i : ℕ) → IsStrictlyIncreasing xs → i < length xs → i ≤ get_or xs i 0
 index-most xs zero up h = omega arith
@@ -236,8 +255,7 @@ module _ {W : Type 0} (whole : W → ℕ) (w : ℕ) (some : 0 < w) (lefts : List
   pub row-filled : (next : ℕ) → whole row + 1 ≡ next → next < length lefts → IsFirstWord w (get_or lefts next 0) n
       → HasWords w lefts (map whole new) × (length new ≡ n)
   row-filled next e b to =
-      let order : length items ≤ n =
-      word-order w (get_or lefts (whole row) 0) (get_or lefts next 0) (length items) n some from to (omega (arith, later lefts (whole row) next up (omega arith) b)) in
+      let order : length items ≤ n = next-word w lefts (whole row) next (length items) n some up e b from to in
       (filled-more order (λ h. (n, rw e to, omega (arith, same-long))), filled-long order)
 
   -- it was the last one, and all words are there

@@ -1,6 +1,6 @@
 //! The table of the rows that meet each slot.
 
-ghost use Rattle.std.specs.Prelude.{◌≡◌, ◌+◌, ◌-◌, ◌*◌, ◌/◌, ◌^◌, ◌<◌, ◌≤◌, ℕ, length, map, take, drop, slice_index, IfOk};
+ghost use Rattle.std.specs.Prelude.{◌≡◌, ◌+◌, ◌++◌, ◌-◌, ◌*◌, ◌/◌, ◌^◌, ◌<◌, ◌≤◌, ℕ, length, map, take, drop, replicate, slice_index, IfOk, vec_capacity, vec_len};
 ghost use Rattle.std.specs.List.Sorted.{IsStrictlyIncreasing};
 ghost use Rattle.constriction_model.specs.Probe.{IsLastAtMost, IsSearchable};
 ghost use Rattle.constriction_stored_rows.specs.Slots.{slot_count, slot_width};
@@ -53,6 +53,21 @@ fn first_word<W: WholeNumber, const PRECISION: usize, const SLOT_BITS: usize>(le
     left / width + (left + (width - 1)) / width
 }
 
+/// The table, filled up with a row to so many words, for which it has room. No word is tested for room, and nothing of the table
+/// leaves the processor's registers, as it does around a call that may ask for memory.
+#[inline(always)]
+fn filled_up<W: Copy>(mut table: Vec<W>, words: usize, row: W) -> Vec<W>
+    requires room { words ≤ vec_capacity table }
+    requires more { vec_len table ≤ words }
+    ensures items { result.items ≡ take words table.items ++ replicate (words - vec_len table) row }
+    ensures capacity { vec_capacity result ≡ vec_capacity table }
+{
+    'words: for _ in table.len()..words {
+        table.push_reserved(row);
+    }
+    table
+}
+
 /// The table of the rows that meet each slot: of each slot the first and the last one, which are one row
 /// where a slot holds one quantile.
 ///
@@ -77,11 +92,10 @@ pub fn slots_of<Entry, Kind: CdfEntry<Entry>, const PRECISION: usize, const SLOT
         let end = first_word::<Kind::Word, PRECISION, SLOT_BITS>(Kind::cumulative_of(
             &entries[next],
         ));
-        table.resize(end, row)?;
+        table = filled_up(table, end, row);
         row = Kind::Word::from_number(next);
     }
-    table.resize(words, row)?;
-    Ok(table)
+    Ok(filled_up(table, words, row))
 }
 
 /// The slot of a quantile.

@@ -1,12 +1,39 @@
-use Rattle.std.proofs.Common.{◌≡◌, ℕ, ◌+◌, ◌-◌, ◌^◌, ◌<◌, ◌≤◌, length, map, get_or, ap, sym, refl, ◌∙◌, arith}
+use Rattle.std.proofs.Common.{◌≡◌, ℕ, ◌+◌, ◌-◌, ◌^◌, ◌<◌, ◌≤◌, length, map, ap, refl, arith}
 use Rattle.std.proofs.Math.Pow.{pow_mono}
 use Rattle.std.proofs.lemmas.List.{length-map}
 use Rattle.std.proofs.lemmas.Nat.{pow_pos}
 use Rattle.constriction_stored_rows.specs.Slots.{slot_width}
-use Rattle.constriction_stored_rows.specs.StoredLemmas.{read-whole}
-use Rattle.constriction_stored_rows.specs.SlotTable.{IsFirstWord}
-use Rattle.constriction_stored_rows.proofs.SlotFilling.{index-most, row-filled, all-filled}
+use Rattle.constriction_stored_rows.proofs.SlotFilling.{index-most, entry-word, next-word, word-within, row-filled, all-filled}
 use Rattle.constriction_stored_rows.proofs.slots.slots_of.Goals as goal
+
+pub filled_up-table-requires-clause-room : goal.filled_up-table-requires-clause-room
+filled_up-table-requires-clause-room g c =
+    let entries = c.args.entries.now in
+    let lefts = map g.Kind.CdfEntry.cumulative entries in
+    let next : ℕ = c.rows.next in
+    let here : next < length entries = omega (arith, c.rows-test.true) in
+    let to = entry-word g.Kind.CdfEntry.cumulative (slot_width g.row.PRECISION g.row.SLOT_BITS) entries next c.index-entries-next.result _ c.first_word-end.result here
+    c.index-entries-next.is c.cumulative_of.ensures c.first_word-end.ensures in
+    let below = c.requires.below next (omega (arith, here, length-map entries g.Kind.CdfEntry.cumulative)) in
+    omega (arith, word-within g.row.PRECISION g.row.SLOT_BITS _ c.first_word-end.result to below, c.words_of_table-words.ensures, c.rows.invariant.4)
+
+pub filled_up-table-requires-clause-more : goal.filled_up-table-requires-clause-more
+filled_up-table-requires-clause-more g c =
+    let width = slot_width g.row.PRECISION g.row.SLOT_BITS in
+    let entries = c.args.entries.now in
+    let lefts = map g.Kind.CdfEntry.cumulative entries in
+    let long : length lefts ≡ length entries = length-map entries g.Kind.CdfEntry.cumulative in
+    let next : ℕ = c.rows.next in
+    let here : next < length entries = omega (arith, c.rows-test.true) in
+    let inv = c.rows.invariant in
+    let to = entry-word g.Kind.CdfEntry.cumulative width entries next c.index-entries-next.result _ c.first_word-end.result here
+    c.index-entries-next.is c.cumulative_of.ensures c.first_word-end.ensures in
+    omega (
+      arith,
+      next-word width lefts (g.Kind.Word.WholeNumber.whole c.rows.row) next (length c.rows.table.items) c.first_word-end.result
+          (pow_pos (g.row.PRECISION - g.row.SLOT_BITS)) c.requires.searchable.increases inv.0 (omega (arith, here, long)) inv.3 to,
+      c.rows.table.ok.0,
+    )
 
 pub from_number-row-requires : goal.from_number-row-requires
 from_number-row-requires g c =
@@ -18,34 +45,33 @@ from_number-row-requires g c =
 pub rows-preserved : goal.rows-preserved
 rows-preserved g c =
     let whole = g.Kind.Word.WholeNumber.whole in
-    let cumulative = g.Kind.CdfEntry.cumulative in
+    let width = slot_width g.row.PRECISION g.row.SLOT_BITS in
     let entries = c.args.entries.now in
-    let lefts = map cumulative entries in
-    let long : length lefts ≡ length entries = length-map entries cumulative in
+    let lefts = map g.Kind.CdfEntry.cumulative entries in
+    let long : length lefts ≡ length entries = length-map entries g.Kind.CdfEntry.cumulative in
     let next : ℕ = c.rows.next in
     let here : next < length entries = omega (arith, c.rows-test.true) in
     let inv = c.rows.invariant in
-    let left : get_or lefts next 0 ≡ whole c.cumulative_of.result =
-    read-whole cumulative entries next c.index-entries-next.result here c.index-entries-next.is ∙ sym c.cumulative_of.ensures in
-    let to : IsFirstWord (slot_width g.row.PRECISION g.row.SLOT_BITS) (get_or lefts next 0) c.first_word-end.result = rw left c.first_word-end.ensures in
-    let filled = row-filled whole (slot_width g.row.PRECISION g.row.SLOT_BITS) (pow_pos (g.row.PRECISION - g.row.SLOT_BITS)) lefts c.rows.table.items c.resize.new.self.items c.rows.row c.first_word-end.result
-    c.requires.searchable.increases inv.2 inv.3 (omega (arith, inv.1, long)) c.rows.table.len c.rows.table.ok.0 c.in_ok-resize.ensures.items next inv.0
-    (omega arith) to in (
+    let to = entry-word g.Kind.CdfEntry.cumulative width entries next c.index-entries-next.result _ c.first_word-end.result here
+    c.index-entries-next.is c.cumulative_of.ensures c.first_word-end.ensures in
+    let filled = row-filled whole width (pow_pos (g.row.PRECISION - g.row.SLOT_BITS)) lefts c.rows.table.items c.filled_up-table.result.items c.rows.row c.first_word-end.result
+    c.requires.searchable.increases inv.2 inv.3 (omega (arith, inv.1, long)) c.rows.table.len c.rows.table.ok.0 c.filled_up-table.ensures.items next inv.0
+    (omega (arith, here, long)) to in (
       ap (λ n. n + 1) c.from_number-row.ensures,
       rw c.from_number-row.ensures here,
       filled.0,
       rw (c.from_number-row.ensures, filled.1) to,
+      omega (arith, inv.4, c.filled_up-table.ensures.capacity),
     )
 
 pub returns : goal.returns
 returns g c =
     let whole = g.Kind.Word.WholeNumber.whole in
-    let cumulative = g.Kind.CdfEntry.cumulative in
-    let lefts = map cumulative c.args.entries.now in
-    let long : length lefts ≡ length c.args.entries.now = length-map c.args.entries.now cumulative in
+    let lefts = map g.Kind.CdfEntry.cumulative c.args.entries.now in
+    let long : length lefts ≡ length c.args.entries.now = length-map c.args.entries.now g.Kind.CdfEntry.cumulative in
     let inv = c.rows.invariant in
     let row : whole c.rows.row < length lefts = omega (arith, inv.1, long) in
-    all-filled whole (slot_width g.row.PRECISION g.row.SLOT_BITS) (pow_pos (g.row.PRECISION - g.row.SLOT_BITS)) lefts c.rows.table.items c.resize-2.new.self.items c.rows.row c.words_of_table-words.result
-    c.requires.searchable.increases inv.2 inv.3 row c.rows.table.len c.rows.table.ok.0 c.in_ok-resize-2.ensures.items g.row.PRECISION g.row.SLOT_BITS refl
+    all-filled whole (slot_width g.row.PRECISION g.row.SLOT_BITS) (pow_pos (g.row.PRECISION - g.row.SLOT_BITS)) lefts c.rows.table.items c.filled_up.result.items c.rows.row c.words_of_table-words.result
+    c.requires.searchable.increases inv.2 inv.3 row c.rows.table.len c.rows.table.ok.0 c.filled_up.ensures.items g.row.PRECISION g.row.SLOT_BITS refl
     c.words_of_table-words.ensures (omega (arith, inv.0, row, long, c.rows-test.false))
     (c.requires.below (whole c.rows.row) row)
