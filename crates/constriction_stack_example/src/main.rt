@@ -49,25 +49,57 @@ fn stored(alloc: Global) -> anyhow::Result<Vec<u32>> {
     Ok(words)
 }
 
-fn main(host: HostRuntime) -> anyhow::Result<()> {
-    let alloc = host.alloc();
-    let mut source = Cursor::new_at_write_beginning(stored(alloc)?);
-    let table: Table = read_table(alloc, owned(alloc, &WORDS)?, &mut source)?;
-    println!(host; "a table in {} words", source.buf().len())?;
-    let encoder = to_generic_encoder_model::<_, 24>(alloc, &table)?;
+/// The table that words hold.
+fn read_back(alloc: Global, words: Vec<u32>) -> anyhow::Result<Table> {
+    let symbols = owned(alloc, &WORDS)?;
+    let mut source = Cursor::new_at_write_beginning(words);
+    Ok(read_table(alloc, symbols, &mut source)?)
+}
+
+/// The message, encoded by the rows of the table.
+fn encoded(alloc: Global, table: &Table) -> anyhow::Result<Vec<u32>> {
+    let encoder = to_generic_encoder_model::<_, 24>(alloc, table)?;
     let message = owned(alloc, &MESSAGE)?;
     let mut coder = StackCoder::new(alloc);
     coder.encode_symbols::<_, _, 24>(&message, &encoder)?;
-    let compressed = coder.into_compressed()?;
-    println!(host; "{} symbols in {} words:", message.len(), compressed.len())?;
-    for word in &compressed {
+    Ok(coder.into_compressed()?)
+}
+
+/// So many symbols, in the order in which they were encoded.
+fn decoded(
+    alloc: Global,
+    table: &Table,
+    compressed: Vec<u32>,
+    count: usize,
+) -> anyhow::Result<Vec<String>> {
+    let mut coder = StackCoder::from_compressed(compressed)?;
+    let mut symbols = coder.decode_symbols::<_, _, 24>(alloc, count, table)?;
+    symbols.reverse();
+    Ok(symbols)
+}
+
+fn print_words(host: &HostRuntime, words: &[u32]) -> anyhow::Result<()> {
+    println!(host; "{} symbols in {} words:", MESSAGE.len(), words.len())?;
+    for word in words {
         println!(host; "{word:08x}")?;
     }
-    let mut coder = StackCoder::from_compressed(compressed)?;
-    let mut symbols = coder.decode_symbols::<_, _, 24>(alloc, message.len(), &table)?;
-    symbols.reverse();
-    for symbol in &symbols {
+    Ok(())
+}
+
+fn print_symbols(host: &HostRuntime, symbols: &[String]) -> anyhow::Result<()> {
+    for symbol in symbols {
         println!(host; "{symbol}")?;
     }
     Ok(())
+}
+
+fn main(host: HostRuntime) -> anyhow::Result<()> {
+    let alloc = host.alloc();
+    let words = stored(alloc)?;
+    println!(host; "a table in {} words", words.len())?;
+    let table = read_back(alloc, words)?;
+    let compressed = encoded(alloc, &table)?;
+    print_words(&host, &compressed)?;
+    let symbols = decoded(alloc, &table, compressed, MESSAGE.len())?;
+    print_symbols(&host, &symbols)
 }
