@@ -102,6 +102,90 @@ fn converted_from<Probability: IndexWord, const PRECISION: usize>(
     Ok((form, hashed))
 }
 
+/// The replies of the model with a table of 256 slots at most.
+fn asked_by_table<Probability: IndexWord, const PRECISION: usize>(
+    alloc: Global,
+    model: &Contiguous<Probability, PRECISION>,
+    hashed: &NonContiguousCategoricalEncoderModel<usize, Probability, PRECISION>,
+    queries: &[Query<usize, Probability>],
+) -> Result<RepliesByEncoder<Probability>, ModelError>
+    requires positive { 0 < PRECISION }
+    requires fits { PRECISION ≤ Probability.BITS }
+    requires narrow { PRECISION ≤ 63 }
+    requires hashed { (s : ℕ) → entry_of nat_eq
+        (⟦<NonContiguousCategoricalEncoderModel<usize, Probability, PRECISION> as EntropyModel<PRECISION>>⟧.rows hashed.now) s
+        ≡ entry_of nat_eq (⟦<Contiguous<Probability, PRECISION> as EntropyModel<PRECISION>>⟧.rows model.now) s }
+    ensures ok { IfOk result (ReplyAsScan (in_numbers Probability.whole Probability.base)
+        (replies_by_scan PRECISION Probability.whole nat_eq queries.now
+        (⟦<Contiguous<Probability, PRECISION> as EntropyModel<PRECISION>>⟧.rows model.now))) }
+    ensures refused { IfErr result (λ e. e ≡ ModelError.OutOfMemory) }
+{
+    let tabled = model.to_lookup_decoder_model(alloc)?;
+    let replies = asked_beside_both::<_, _, _, _, PRECISION>(
+        alloc, &tabled, model, hashed, queries,
+    )?;
+    Ok(replies)
+}
+
+/// The replies of the model with a slot for each quantile.
+fn asked_by_slot<Probability: IndexWord, const PRECISION: usize>(
+    alloc: Global,
+    model: &Contiguous<Probability, PRECISION>,
+    hashed: &NonContiguousCategoricalEncoderModel<usize, Probability, PRECISION>,
+    queries: &[Query<usize, Probability>],
+) -> Result<RepliesByEncoder<Probability>, ModelError>
+    requires positive { 0 < PRECISION }
+    requires fits { PRECISION ≤ Probability.BITS }
+    requires narrow { PRECISION ≤ 63 }
+    requires hashed { (s : ℕ) → entry_of nat_eq
+        (⟦<NonContiguousCategoricalEncoderModel<usize, Probability, PRECISION> as EntropyModel<PRECISION>>⟧.rows hashed.now) s
+        ≡ entry_of nat_eq (⟦<Contiguous<Probability, PRECISION> as EntropyModel<PRECISION>>⟧.rows model.now) s }
+    ensures ok { IfOk result (ReplyAsScan (in_numbers Probability.whole Probability.base)
+        (replies_by_scan PRECISION Probability.whole nat_eq queries.now
+        (⟦<Contiguous<Probability, PRECISION> as EntropyModel<PRECISION>>⟧.rows model.now))) }
+    ensures refused { IfErr result (λ e. e ≡ ModelError.OutOfMemory) }
+{
+    let direct = model.to_slotted_lookup_decoder_model::<PRECISION>(alloc)?;
+    let replies = asked_beside_both::<_, _, _, _, PRECISION>(
+        alloc, &direct, model, hashed, queries,
+    )?;
+    Ok(replies)
+}
+
+/// The replies of the model that searches, of the one with a table and of the one with a slot for each quantile.
+fn asked_by_each<Probability: IndexWord, const PRECISION: usize>(
+    alloc: Global,
+    model: &Contiguous<Probability, PRECISION>,
+    hashed: &NonContiguousCategoricalEncoderModel<usize, Probability, PRECISION>,
+    queries: &[Query<usize, Probability>],
+) -> Result<
+    (
+        RepliesByEncoder<Probability>,
+        RepliesByEncoder<Probability>,
+        RepliesByEncoder<Probability>,
+    ),
+    ModelError,
+>
+    requires positive { 0 < PRECISION }
+    requires fits { PRECISION ≤ Probability.BITS }
+    requires narrow { PRECISION ≤ 63 }
+    requires hashed { (s : ℕ) → entry_of nat_eq
+        (⟦<NonContiguousCategoricalEncoderModel<usize, Probability, PRECISION> as EntropyModel<PRECISION>>⟧.rows hashed.now) s
+        ≡ entry_of nat_eq (⟦<Contiguous<Probability, PRECISION> as EntropyModel<PRECISION>>⟧.rows model.now) s }
+    ensures ok { IfOk result (λ three. let AsScan = ReplyAsScan (in_numbers Probability.whole Probability.base)
+        (replies_by_scan PRECISION Probability.whole nat_eq queries.now
+        (⟦<Contiguous<Probability, PRECISION> as EntropyModel<PRECISION>>⟧.rows model.now)) in
+        AsScan three.0 × AsScan three.1 × AsScan three.2) }
+    ensures refused { IfErr result (λ e. e ≡ ModelError.OutOfMemory) }
+{
+    let by_search = asked_beside_both::<_, _, _, _, PRECISION>(
+        alloc, model, model, hashed, queries,
+    )?;
+    let by_table = asked_by_table(alloc, model, hashed, queries)?;
+    let by_slot = asked_by_slot(alloc, model, hashed, queries)?;
+    Ok((by_search, by_table, by_slot))
+}
+
 /// The replies of all models of a model's rows.
 fn answers_of<Probability: IndexWord, const PRECISION: usize>(
     alloc: Global,
@@ -122,27 +206,17 @@ fn answers_of<Probability: IndexWord, const PRECISION: usize>(
         ≡ ⟦<Contiguous<Probability, PRECISION> as EntropyModel<PRECISION>>⟧.rows model.now) }
     ensures refused { IfErr result (λ e. e ≡ ModelError.OutOfMemory) }
 {
-    let tabled = model.to_lookup_decoder_model(alloc)?;
-    let direct = model.to_slotted_lookup_decoder_model::<PRECISION>(alloc)?;
     let (form, hashed) = converted_from(alloc, model, steps)?;
-    let by_search = asked_beside_both::<_, _, _, _, PRECISION>(
-        alloc, model, model, &hashed, queries,
-    )?;
-    let by_table = asked_beside_both::<_, _, _, _, PRECISION>(
-        alloc, &tabled, model, &hashed, queries,
-    )?;
-    let by_slot = asked_beside_both::<_, _, _, _, PRECISION>(
-        alloc, &direct, model, &hashed, queries,
-    )?;
-    let by_form = asked_beside_both::<_, _, _, _, PRECISION>(
+    let (searching, tabled, direct) = asked_by_each(alloc, model, &hashed, queries)?;
+    let converted = asked_beside_both::<_, _, _, _, PRECISION>(
         alloc, &form, model, &hashed, queries,
     )?;
     Ok(AnswersOfWeights {
-        searching: by_search,
-        tabled: by_table,
-        direct: by_slot,
+        searching,
+        tabled,
+        direct,
         form,
-        converted: by_form,
+        converted,
     })
 }
 
