@@ -10,9 +10,9 @@ use Rattle.std.proofs.lemmas.Simd.{map-map}
 use Rattle.constriction.specs.Acceptance.{AreAccepted, IsMadeOfBoth, WasReadOf, completed}
 use Rattle.constriction.specs.GivenLemmas.{made-of-lists, refused-lists}
 use Rattle.constriction.specs.Laws.{AreRows}
-use Rattle.constriction.specs.Model.{row_of, StandForRows, ClonesAreEqual}
+use Rattle.constriction.specs.Model.{row_of, StandForRows, ClonesAreSame, ClonesAreEqual}
 use Rattle.constriction.specs.Rows.{Row, RowsTile, rows_of, symbols_of}
-use Rattle.constriction.specs.StandLemmas.{tile-made, distinct-made, tiling-rebuilds}
+use Rattle.constriction.specs.StandLemmas.{tile-made, distinct-made, same-equal, tiling-rebuilds}
 use Rattle.constriction_model.specs.declared.error.ModelError.{ModelError}
 use Rattle.constriction_model.specs.declared.error.ModelError.TheVariants.{InvalidTable, OutOfMemory}
 
@@ -142,9 +142,14 @@ module _ {Symbol Word Weight Refusal Walk : Type 0} (eq : Symbol → Symbol → 
       ((gives (map Ok read) drained).unrefused read refl)) ss ws
 
 -- a form whose rows are these, where these stand for others
-pub rows-stand : {Symbol Form Error : Type 0} (Stands : Symbol → Symbol → Type 0) (rows : Form → List (Row Symbol))
+pub rows_stand : {Symbol Form Error : Type 0} (Stands : Symbol → Symbol → Type 0) (rows : Form → List (Row Symbol))
     (listed others : List (Row Symbol)) (r : Result Form Error) → IfOk r (λ m. rows m ≡ listed) → StandForRows Stands listed others
     → IfOk r (λ m. StandForRows Stands (rows m) others)
-rows-stand {Symbol = Symbol} Stands rows listed others (Ok m) is stand =
+rows_stand {Symbol = Symbol} Stands rows listed others (Ok m) is stand =
     subst (λ (rs : List (Row Symbol)). StandForRows Stands rs others) (sym is) stand
-rows-stand Stands rows listed others (Err e) is stand = tt
+rows_stand Stands rows listed others (Err e) is stand = tt
+
+-- clones that are the same values are equal ones
+pub same_are_equal : {Symbol : Type 0} (eq : Symbol → Symbol → Bool) → IsEquivalence eq → (IsClone : Symbol → Symbol → Type 0)
+    → ClonesAreSame IsClone → ClonesAreEqual eq IsClone
+same_are_equal eq laws IsClone same = same-equal eq laws IsClone same

@@ -136,6 +136,15 @@ fn searched<Symbol: Eq + Clone + Drop, Probability: IndexWord, const PRECISION: 
     to_generic_decoder_model_of_distinct::<_, PRECISION>(alloc, form)
 }
 
+/// Of forms whose symbols differ, this one's do.
+fn symbols_differ_of<Symbol: Eq, Probability: IndexWord, const PRECISION: usize>(
+    form: &DecoderForm<Symbol, Probability, PRECISION>,
+)
+    requires { SymbolsDiffer Symbol.eq ⟦<DecoderForm<Symbol, Probability, PRECISION> as EntropyModel<PRECISION>>⟧.rows }
+    ensures { IsDistinct Symbol.eq
+        (symbols_of (⟦<DecoderForm<Symbol, Probability, PRECISION> as EntropyModel<PRECISION>>⟧.rows form.now)) }
+{}
+
 /// The form with a table of the same rows.
 fn tabled_of<Symbol: Eq + Drop, Probability: IndexWord, const PRECISION: usize>(
     alloc: Global,
@@ -208,13 +217,16 @@ impl<Symbol: Eq + Clone + Drop, Probability: IndexWord, const PRECISION: usize> 
         × SymbolsDiffer Symbol.eq ⟦<DecoderForm<Symbol, Probability, PRECISION> as EntropyModel<PRECISION>>⟧.rows };
 
     fn to_search(&self, alloc: Global) -> Result<Self, ModelError> {
+        symbols_differ_of(self);
         match searched(alloc, self) {
             Ok(model) => Ok(DecoderForm::Search(model)),
             Err(refusal) => Err(refusal),
         }
     }
 
+    #[tactic(auto, using(crate::proofs::Rebuilding::rows_stand))]
     fn to_lookup(&self, alloc: Global) -> Result<Self, ModelError> {
+        symbols_differ_of(self);
         match searched(alloc, self) {
             Ok(model) => tabled_of(alloc, model),
             Err(refusal) => Err(refusal),

@@ -1,8 +1,10 @@
 //! Models that are made from any model that can be walked through.
 
-ghost use Rattle.std.specs.Prelude.{◌≡◌, ◌<◌, ◌≤◌, IfOk, IfErr, ⊤};
+ghost use Rattle.std.specs.Prelude.{◌≡◌, ◌<◌, ◌≤◌, map, IfOk, IfErr, ⊤};
+ghost use Rattle.std.specs.List.{IsDistinct};
 ghost use Rattle.constriction_model.specs.Entries.{HoldsEntriesOf};
 ghost use Rattle.constriction_model.specs.Model.{StandApart, ClonesRepeat};
+ghost use Rattle.constriction_stored_rows.specs.Stored.{IsStored, rows_paired};
 
 use crate::hashed::NonContiguousCategoricalEncoderModel;
 use crate::walking::{entries_walked, table_walked};
@@ -142,6 +144,27 @@ where
     }
 }
 
+/// The entries of a decoder of a model's rows, no two symbols of which are equal.
+#[inline]
+fn entries_apart<M, const PRECISION: usize>(
+    alloc: Global,
+    model: M,
+) -> Result<Vec<(M::Probability, M::Symbol)>, ModelError>
+where
+    M: IterableEntropyModel<PRECISION>,
+    M::Symbol: Eq + Clone,
+    requires positive { 0 < PRECISION }
+    requires fits { PRECISION ≤ M.Probability.BITS }
+    ensures stored { IfOk result (λ v. IsStored M.Probability.BITS PRECISION (map (λ x. M.Probability.whole x.0) v.items)) }
+    ensures distinct { IfOk result (λ v. IsDistinct M.Symbol.eq (map (λ x. x.1) v.items)) }
+    ensures rows { IfOk result (λ v. StandApart M.Symbol.eq M.stands_for
+        (rows_paired M.Probability.whole PRECISION v.items) (M.rows model)) }
+    ensures invalid { result ≡ Err ModelError.InvalidTable → ClonesRepeat M.Symbol.eq M.stands_for (M.rows model) }
+{
+    let cdf = entries_walked::<_, _, _, _, PRECISION>(alloc, model.symbol_table())?;
+    Ok(cdf)
+}
+
 /// The decoder model of the same rows as any model that can be walked through.
 ///
 /// Its symbols are those that the walk gave: clones, where the model owns its symbols. `InvalidTable` comes
@@ -166,7 +189,7 @@ where
         (⟦<DecoderMadeOf<M, PRECISION> as EntropyModel<PRECISION>>⟧.rows d) (M.rows model)) }
     ensures invalid { result ≡ Err ModelError.InvalidTable → ClonesRepeat M.Symbol.eq M.stands_for (M.rows model) }
 {
-    let cdf = entries_walked::<_, _, _, _, PRECISION>(alloc, model.symbol_table())?;
+    let cdf = entries_apart::<_, PRECISION>(alloc, model)?;
     Ok(decoder_over(cdf)?)
 }
 

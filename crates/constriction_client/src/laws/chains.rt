@@ -29,6 +29,23 @@ pub fn form_symbols_differ<Symbol: Eq, Probability: IndexWord, const PRECISION: 
     >();
 }
 
+/// The form that the steps leave, where clones are the same values: its rows are those of the first one.
+#[tactic(auto, using(crate::proofs::Rebuilding::same_are_equal))]
+fn converted_exactly<Symbol: Eq + Clone + Drop, Probability: IndexWord, const PRECISION: usize>(
+    alloc: Global,
+    form: DecoderForm<Symbol, Probability, PRECISION>,
+    steps: &[ChainStep],
+) -> Result<DecoderForm<Symbol, Probability, PRECISION>, ModelError>
+    requires precision { IsPrecision Probability.BITS PRECISION }
+    requires narrow { PRECISION ≤ 63 }
+    requires clones { ClonesAreSame Symbol.is_clone }
+    ensures rows { IfOk result (λ made. ⟦<DecoderForm<Symbol, Probability, PRECISION> as EntropyModel<PRECISION>>⟧.rows made
+        ≡ ⟦<DecoderForm<Symbol, Probability, PRECISION> as EntropyModel<PRECISION>>⟧.rows form) }
+    ensures refused { IfErr result (λ e. e ≡ ModelError.OutOfMemory) }
+{
+    convert_chain(alloc, form, steps)
+}
+
 /// Converts a decoder's model by any steps, and answers queries by what they leave and by an encoder of the
 /// same rows: where clones of symbols are the same values, the replies are those that a scan of the rows
 /// before the conversions gives. For symbols whose clones are equal and not the same, as `String`,
@@ -59,6 +76,6 @@ where
         (⟦<DecoderForm<Symbol, Probability, PRECISION> as EntropyModel<PRECISION>>⟧.rows form)) }
     ensures refused { IfErr result (λ e. e ≡ ModelError.OutOfMemory) }
 {
-    let converted = convert_chain(alloc, form, steps)?;
+    let converted = converted_exactly(alloc, form, steps)?;
     Ok(answer_queries::<_, _, _, _, PRECISION>(alloc, &converted, encoder, queries)?)
 }

@@ -1,9 +1,10 @@
 //! Models that are made, without comparing symbols, from models whose symbols are known to differ.
 
-ghost use Rattle.std.specs.Prelude.{◌≡◌, ◌<◌, ◌≤◌, IfOk, IfErr};
+ghost use Rattle.std.specs.Prelude.{◌≡◌, ◌<◌, ◌≤◌, map, IfOk, IfErr};
 ghost use Rattle.std.specs.List.{IsDistinct};
 ghost use Rattle.constriction_model.specs.Model.{StandApart, ClonesAreEqual};
 ghost use Rattle.constriction_model.specs.Rows.{symbols_of};
+ghost use Rattle.constriction_stored_rows.specs.Stored.{IsStored, rows_paired};
 
 use crate::convert::{DecoderMadeOf, LookupMadeOf};
 use crate::walking::entries_collected;
@@ -11,6 +12,29 @@ use constriction_categorical::{IterableEntropyModel, decoder_over};
 use constriction_model::{EntropyModel, ModelError};
 use constriction_numbers::IndexWord;
 use std::alloc::Global;
+
+/// The entries of a decoder of a model's rows, the symbols of which differ.
+#[inline]
+fn entries_of_distinct<M, const PRECISION: usize>(
+    alloc: Global,
+    model: M,
+) -> Result<Vec<(M::Probability, M::Symbol)>, ModelError>
+where
+    M: IterableEntropyModel<PRECISION>,
+    M::Symbol: Eq + Clone,
+    requires positive { 0 < PRECISION }
+    requires fits { PRECISION ≤ M.Probability.BITS }
+    requires clones { ClonesAreEqual M.Symbol.eq M.stands_for }
+    requires differ { IsDistinct M.Symbol.eq (symbols_of (M.rows model)) }
+    ensures stored { IfOk result (λ v. IsStored M.Probability.BITS PRECISION (map (λ x. M.Probability.whole x.0) v.items)) }
+    ensures distinct { IfOk result (λ v. IsDistinct M.Symbol.eq (map (λ x. x.1) v.items)) }
+    ensures rows { IfOk result (λ v. StandApart M.Symbol.eq M.stands_for
+        (rows_paired M.Probability.whole PRECISION v.items) (M.rows model)) }
+    ensures refused { IfErr result (λ e. e ≡ ModelError.OutOfMemory) }
+{
+    let cdf = entries_collected::<_, _, _, _, PRECISION>(alloc, model.symbol_table())?;
+    Ok(cdf)
+}
 
 /// The decoder model of the same rows as a model that can be walked through and no two symbols of which are
 /// equal, as the functions of [`laws`](crate::laws) say of each contiguous or uniform model and of each
@@ -36,7 +60,7 @@ where
         (⟦<DecoderMadeOf<M, PRECISION> as EntropyModel<PRECISION>>⟧.rows d) (M.rows model)) }
     ensures refused { IfErr result (λ e. e ≡ ModelError.OutOfMemory) }
 {
-    let cdf = entries_collected::<_, _, _, _, PRECISION>(alloc, model.symbol_table())?;
+    let cdf = entries_of_distinct::<_, PRECISION>(alloc, model)?;
     Ok(decoder_over(cdf)?)
 }
 
