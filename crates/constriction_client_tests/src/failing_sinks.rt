@@ -12,15 +12,6 @@ use std::alloc::AllocError;
 /// What a write answers where its sink refuses a word so.
 type Written<Refusal> = Result<(), CoderError<QuantileFault, Refusal>>;
 
-/// Writes items to a cursor over borrowed words.
-fn write_to_cursor(
-    model: &Table<6>,
-    items: &[(usize, u8)],
-    sink: &mut Cursor<u8, &mut [u8]>,
-) -> Written<BoundedWriteError> {
-    write_quantiles(model, items, sink)
-}
-
 /// What a cursor over these words answers to items, from the first word on, and where it then stands.
 fn written_over(
     model: &Table<6>,
@@ -28,7 +19,7 @@ fn written_over(
     words: &mut [u8],
 ) -> (Written<BoundedWriteError>, usize) {
     let mut sink = Cursor::<u8, &mut [u8]>::new_at_write_beginning(words);
-    let answer = write_to_cursor(model, items, &mut sink);
+    let answer = write_quantiles(model, items, &mut sink);
     (answer, sink.pos())
 }
 
