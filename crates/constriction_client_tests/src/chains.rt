@@ -119,8 +119,8 @@ const CHAINS: [(&str, &[ChainStep], [bool; 2]); 10] = [
 fn is_form(rt: &impl Abort, name: &str, form: &Form, table: bool) {
     same_at(rt, name, matches!(form, DecoderForm::Lookup(_)), table);
     decodes(rt, form, &ROWS);
-    for steps in STEPS {
-        walks(rt, form.symbol_table(), &steps);
+    for steps in &STEPS {
+        walks(rt, form.symbol_table(), steps);
     }
 }
 
@@ -224,12 +224,19 @@ fn converted_letters(
     convert_chain(alloc, DecoderForm::Search(searching), steps)
 }
 
+/// The chains of one step that clones symbols.
+const CLONING: [[ChainStep; 1]; 3] = [
+    [ChainStep::ToSearch],
+    [ChainStep::ToLookup],
+    [ChainStep::Rebuild],
+];
+
 #[test]
 fn a_refused_clone_refuses_a_chain(rt: HostRuntime) {
     let kept = converted_letters(rt.alloc(), &[ChainStep::IntoSearch]);
     same(&rt, kept.is_ok(), true);
-    for step in [ChainStep::ToSearch, ChainStep::ToLookup, ChainStep::Rebuild] {
-        let refused = converted_letters(rt.alloc(), &[step]).err();
+    for steps in &CLONING {
+        let refused = converted_letters(rt.alloc(), steps).err();
         same(&rt, refused, Some(ModelError::OutOfMemory));
     }
 }

@@ -204,23 +204,24 @@ fn is_case(rt: &impl Abort, alloc: Global, (name, words, calls, replies, left, p
     holds_at(rt, name, back.buf(), left);
 }
 
+const CASES: [Case; 4] = [
+    ("no words", &[], &CALLS_OF_NONE, &REPLIES_OF_NONE, &[], 0),
+    ("no calls", &[1, 2, 3], &[], &[], &[1, 2, 3], 0),
+    ("neither", &[], &[], &[], &[], 0),
+    (
+        "ends",
+        &[1, 2, 3],
+        &CALLS_AT_ENDS,
+        &REPLIES_AT_ENDS,
+        &[7, 2, 3],
+        3,
+    ),
+];
+
 #[test]
 fn runs_at_the_ends_and_of_nothing(rt: HostRuntime) {
-    let cases: [Case; 4] = [
-        ("no words", &[], &CALLS_OF_NONE, &REPLIES_OF_NONE, &[], 0),
-        ("no calls", &[1, 2, 3], &[], &[], &[1, 2, 3], 0),
-        ("neither", &[], &[], &[], &[], 0),
-        (
-            "ends",
-            &[1, 2, 3],
-            &CALLS_AT_ENDS,
-            &REPLIES_AT_ENDS,
-            &[7, 2, 3],
-            3,
-        ),
-    ];
-    for case in cases {
-        is_case(&rt, rt.alloc(), case);
+    for case in &CASES {
+        is_case(&rt, rt.alloc(), *case);
     }
 }
 

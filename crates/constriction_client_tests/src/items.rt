@@ -71,37 +71,36 @@ fn stops_after_the_first(
 #[test]
 fn the_words_before_a_fault_stay_written(rt: HostRuntime) {
     let model = small(&rt, rt.alloc());
-    for case in [
-        (
-            "an offset of the weight",
-            [(0, 2), (2, 1), (9, 0)],
-            QuantileFault::OffsetTooLarge,
-        ),
-        (
-            "a symbol past the last one",
-            [(0, 2), (4, 0), (2, 1)],
-            QuantileFault::ImpossibleSymbol,
-        ),
-        (
-            "a symbol that is no word",
-            [(0, 2), (usize::MAX, 9), (2, 1)],
-            QuantileFault::ImpossibleSymbol,
-        ),
-    ] {
-        stops_after_the_first(&rt, rt.alloc(), &model, case);
-    }
+    let too_large = QuantileFault::OffsetTooLarge;
+    let offset = (
+        "an offset of the weight",
+        [(0, 2), (2, 1), (9, 0)],
+        too_large,
+    );
+    stops_after_the_first(&rt, rt.alloc(), &model, offset);
+    let impossible = QuantileFault::ImpossibleSymbol;
+    let past = (
+        "a symbol past the last one",
+        [(0, 2), (4, 0), (2, 1)],
+        impossible,
+    );
+    stops_after_the_first(&rt, rt.alloc(), &model, past);
+    let impossible = QuantileFault::ImpossibleSymbol;
+    let no_word = (
+        "a symbol that is no word",
+        [(0, 2), (usize::MAX, 9), (2, 1)],
+        impossible,
+    );
+    stops_after_the_first(&rt, rt.alloc(), &model, no_word);
 }
 
-/// Words, how many of them are asked for, the answer, the words that are left, and the pairs, of which one was there
-/// before.
-type Reads<'a> = (&'a [u8], usize, Read, &'a [u8], &'a [(usize, u8)]);
-
-/// Reads of these words give the answer, and leave these words and pairs.
+/// So many reads of words give the answer, and leave these words, and these pairs, of which one was there before.
 fn are_read(
     rt: &impl Abort,
     alloc: Global,
     model: &Table<6>,
-    (words, count, answer, left, pairs): Reads,
+    (count, words): (usize, &[u8]),
+    (answer, left, pairs): (Read, &[u8], &[(usize, u8)]),
 ) {
     let mut words = vec_of(rt, alloc, words);
     let mut out = [(2, 0)].to_vec(alloc).expect(rt, "memory");
@@ -110,20 +109,30 @@ fn are_read(
     holds_at(rt, count, &out, pairs);
 }
 
+/// How many reads there are of 2 and 63, how many of them give a pair, the words that are left, and the pairs.
+const READS: [(usize, usize, &[u8], &[(usize, u8)]); 4] = [
+    (0, 0, &[2, 63], &[(2, 0)]),
+    (1, 1, &[2], &[(2, 0), (3, 41)]),
+    (2, 2, &[], &[(2, 0), (3, 41), (0, 2)]),
+    (5, 2, &[], &[(2, 0), (3, 41), (0, 2)]),
+];
+
 #[test]
 fn words_are_read_up_to_the_count_or_to_one_that_is_no_quantile(rt: HostRuntime) {
     let model = small(&rt, rt.alloc());
-    let refused = Err(CoderError::Frontend(ReadFault::QuantileTooLarge));
-    let cases: [Reads; 5] = [
-        (&[2, 63], 0, Ok(0), &[2, 63], &[(2, 0)]),
-        (&[2, 63], 1, Ok(1), &[2], &[(2, 0), (3, 41)]),
-        (&[2, 63], 2, Ok(2), &[], &[(2, 0), (3, 41), (0, 2)]),
-        (&[2, 63], 5, Ok(2), &[], &[(2, 0), (3, 41), (0, 2)]),
-        (&[2, 64, 63], 3, refused, &[2], &[(2, 0), (3, 41)]),
-    ];
-    for case in cases {
-        are_read(&rt, rt.alloc(), &model, case);
+    for each in &READS {
+        let (count, read, left, pairs) = *each;
+        are_read(
+            &rt,
+            rt.alloc(),
+            &model,
+            (count, &[2, 63]),
+            (Ok(read), left, pairs),
+        );
     }
+    let refused = Err(CoderError::Frontend(ReadFault::QuantileTooLarge));
+    let left = (refused, [2].as_slice(), [(2, 0), (3, 41)].as_slice());
+    are_read(&rt, rt.alloc(), &model, (3, &[2, 64, 63]), left);
 }
 
 #[test]
@@ -156,18 +165,6 @@ fn wrote_all_or_was_refused(rt: &impl Abort, written: Written, words: &[u8]) {
     same(rt, QUANTILES.starts_with(words), true);
 }
 
-/// An answer, or the refusal of memory and what it leaves, whichever growth is refused.
-#[test]
-fn a_refusal_of_memory_ends_what_is_written(rt: HostRuntime) {
-    let Ok(model) = table::<6>(rt.alloc(), &WEIGHTS, false) else {
-        return;
-    };
-    let mut words = Vec::new(rt.alloc());
-    let written = write(&model, &ITEMS, &mut words);
-    wrote_all_or_was_refused(&rt, written, words.as_slice());
-    end_of_requests(&rt);
-}
-
 /// All six pairs are read, or memory was refused and the word whose pair found no room is gone.
 fn read_all_or_was_refused(rt: &impl Abort, answer: Read, left: usize, out: &[(usize, u8)]) {
     let (expected, in_all) = match out.len() {
@@ -179,12 +176,16 @@ fn read_all_or_was_refused(rt: &impl Abort, answer: Read, left: usize, out: &[(u
     same(rt, REVERSED.starts_with(out), true);
 }
 
-/// The same of reads: the word whose pair found no room has been read.
+/// An answer, or the refusal of memory and what it leaves, whichever growth is refused: that of the words, or that of the
+/// pairs, where the word whose pair found no room has been read.
 #[test]
-fn a_refusal_of_memory_ends_what_is_read(rt: HostRuntime) {
+fn a_refusal_of_memory_ends_what_is_written_or_read(rt: HostRuntime) {
     let Ok(model) = table::<6>(rt.alloc(), &WEIGHTS, false) else {
         return;
     };
+    let mut words = Vec::new(rt.alloc());
+    let written = write(&model, &ITEMS, &mut words);
+    wrote_all_or_was_refused(&rt, written, words.as_slice());
     let Ok(mut words) = QUANTILES.to_vec(rt.alloc()) else {
         return;
     };
@@ -194,7 +195,7 @@ fn a_refusal_of_memory_ends_what_is_read(rt: HostRuntime) {
     end_of_requests(&rt);
 }
 
-/// And of the way there and back.
+/// The same of the way there and back.
 #[test]
 fn a_refusal_of_memory_ends_the_way(rt: HostRuntime) {
     let Ok(model) = table::<6>(rt.alloc(), &WEIGHTS, false) else {
@@ -259,24 +260,19 @@ fn a_model_of_the_caller_may_name_a_symbol_twice(rt: HostRuntime) {
 
 #[test]
 fn faults_of_items_are_sentences(rt: HostRuntime) {
-    for (fault, text) in [
-        (
-            QuantileFault::ImpossibleSymbol,
-            "The model has no entry of the symbol.",
-        ),
-        (
-            QuantileFault::OffsetTooLarge,
-            "The offset is not below the weight of the symbol.",
-        ),
-    ] {
-        prints(&rt, rt.alloc(), &fault, text);
-    }
-    for (fault, text) in [
-        (ReadFault::OutOfMemory, "Memory for a pair was refused."),
-        (ReadFault::QuantileTooLarge, "The word is no quantile."),
-    ] {
-        prints(&rt, rt.alloc(), &fault, text);
-    }
+    let impossible = "The model has no entry of the symbol.";
+    prints(
+        &rt,
+        rt.alloc(),
+        &QuantileFault::ImpossibleSymbol,
+        impossible,
+    );
+    let too_large = "The offset is not below the weight of the symbol.";
+    prints(&rt, rt.alloc(), &QuantileFault::OffsetTooLarge, too_large);
+    let refused = "Memory for a pair was refused.";
+    prints(&rt, rt.alloc(), &ReadFault::OutOfMemory, refused);
+    let no_quantile = "The word is no quantile.";
+    prints(&rt, rt.alloc(), &ReadFault::QuantileTooLarge, no_quantile);
 }
 
 #[test]

@@ -89,11 +89,11 @@ fn an_error_of_the_source_is_handed_on(rt: HostRuntime) {
     let model = small(&rt, rt.alloc());
     let mut source = Interrupted { reads: 0 };
     let mut out = Vec::new(rt.alloc());
-    let interrupted = read_interrupted(&model, &mut source, &mut out);
-    same(&rt, interrupted, Err(CoderError::Backend("interrupted")));
-    same(&rt, source.reads, 2);
+    let answer = read_interrupted(&model, &mut source, &mut out);
+    let interrupted = Err(CoderError::Backend("interrupted"));
+    same(&rt, (answer, source.reads), (interrupted, 2));
     holds(&rt, &out, &[(3, 41)]);
-    same(&rt, read_interrupted(&model, &mut source, &mut out), Ok(1));
-    same(&rt, source.reads, 4);
+    let answer = read_interrupted(&model, &mut source, &mut out);
+    same(&rt, (answer, source.reads), (Ok(1), 4));
     holds(&rt, &out, &[(3, 41), (0, 2)]);
 }

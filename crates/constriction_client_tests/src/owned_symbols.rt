@@ -85,32 +85,40 @@ fn is_row(
     same(rt, (text.as_str(), left, weight.get()), expected);
 }
 
-/// Stops the test where the model does not answer the rows of the texts, at both ends of each.
+/// The quantiles at both ends of each row, and the row.
+const ROWS: [(u8, (&str, u8, u8)); 6] = [
+    (0, ("a", 0, 3)),
+    (2, ("a", 0, 3)),
+    (3, ("be", 3, 18)),
+    (20, ("be", 3, 18)),
+    (21, ("", 21, 43)),
+    (63, ("", 21, 43)),
+];
+
+/// Stops the test where the model does not answer these rows.
 fn answers<M>(rt: &impl Abort, model: &M)
 where
     M: DecoderModel<6, Symbol = String, Probability = u8>,
 {
-    for (quantile, row) in [
-        (0, ("a", 0, 3)),
-        (2, ("a", 0, 3)),
-        (3, ("be", 3, 18)),
-        (20, ("be", 3, 18)),
-        (21, ("", 21, 43)),
-        (63, ("", 21, 43)),
-    ] {
+    for each in &ROWS {
+        let (quantile, row) = *each;
         assert!(rt; quantile < 64);
         is_row(rt, model.quantile_function(quantile), row);
     }
 }
 
-/// Stops the test where the model does not have the entries of the texts, and no others.
+/// The entries of the texts, and that of another text.
+const ENTRIES: [(&str, Option<(u8, u8)>); 4] = [
+    ("a", Some((0, 3))),
+    ("be", Some((3, 18))),
+    ("", Some((21, 43))),
+    ("b", None),
+];
+
+/// Stops the test where the model does not have these entries.
 fn encodes(rt: &impl Abort, alloc: Global, model: &Encoder) {
-    for (symbol, expected) in [
-        ("a", Some((0, 3))),
-        ("be", Some((3, 18))),
-        ("", Some((21, 43))),
-        ("b", None),
-    ] {
+    for each in &ENTRIES {
+        let (symbol, expected) = *each;
         let found = model.left_cumulative_and_probability(&text(rt, alloc, symbol));
         same_at(rt, symbol, plain_entry(found), expected);
     }

@@ -93,35 +93,25 @@ fn one_model_replies_both_ways(rt: HostRuntime) {
     same(&rt, none.is_empty(), true);
 }
 
-/// Asks a uniform model of three symbols as a decoder, and the hashed encoder made from it, at the full
-/// width of a byte.
-fn ask_uniform(
-    alloc: Global,
-    queries: &[Query<usize, u8>],
-) -> Result<Vec<Reply<usize, u8>>, AllocError> {
-    let form = UniformModel::<u8, 8>::new(3);
-    match to_generic_encoder_model::<_, 8>(alloc, form) {
-        Ok(encoder) => answer_queries::<_, _, _, _, 8>(alloc, &form, &encoder, queries),
-        Err(_) => Err(AllocError),
-    }
-}
-
+/// A uniform model of three symbols and the hashed encoder that is made of it, at the full width of a byte.
 #[test]
 fn a_dividing_and_a_hashed_model_reply(rt: HostRuntime) {
+    let form = UniformModel::<u8, 8>::new(3);
+    let encoder = to_generic_encoder_model::<_, 8>(rt.alloc(), form).expect(&rt, "a model");
     let queries = [
         Query::OfQuantile(84),
         Query::OfQuantile(255),
         Query::OfSymbol(2),
         Query::OfSymbol(3),
     ];
-    let found = ask_uniform(rt.alloc(), &queries).expect(&rt, "replies");
+    let found = answer_queries::<_, _, _, _, 8>(rt.alloc(), &form, &encoder, &queries);
     let expected = [
         Reply::Row(0, 0, 85u8.into_nonzero_unchecked()),
         Reply::Row(2, 170, 86u8.into_nonzero_unchecked()),
         Reply::Entry(Some((170, 86u8.into_nonzero_unchecked()))),
         Reply::Entry(None),
     ];
-    holds(&rt, &found, &expected);
+    holds(&rt, &found.expect(&rt, "replies"), &expected);
 }
 
 /// An encoder's model of letters that may refuse a clone.

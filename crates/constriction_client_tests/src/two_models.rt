@@ -169,25 +169,28 @@ fn a_cursor_keeps_the_words_before_a_refusal(rt: HostRuntime) {
     let impossible = CoderError::Frontend(QuantileFault::ImpossibleSymbol);
     let too_large = CoderError::Frontend(QuantileFault::OffsetTooLarge);
     let full = CoderError::Backend(ReadWriteError::Write(BoundedWriteError::OutOfSpace));
-    for case in [
-        (
-            "an impossible symbol",
-            [(0, 2), (4, 0), (1, 0)],
-            impossible,
-            [7, 2, 9],
-            2,
-        ),
-        (
-            "an offset of the weight",
-            [(0, 2), (2, 1), (1, 0)],
-            too_large,
-            [7, 2, 9],
-            2,
-        ),
+    let case = (
+        "an impossible symbol",
+        [(0, 2), (4, 0), (1, 0)],
+        impossible,
+        [7, 2, 9],
+        2,
+    );
+    keeps_the_words(&rt, rt.alloc(), &model, case);
+    let case = (
+        "an offset of the weight",
+        [(0, 2), (2, 1), (1, 0)],
+        too_large,
+        [7, 2, 9],
+        2,
+    );
+    keeps_the_words(&rt, rt.alloc(), &model, case);
+    keeps_the_words(
+        &rt,
+        rt.alloc(),
+        &model,
         ("no place", ITEMS, full, [7, 2, 63], 3),
-    ] {
-        keeps_the_words(&rt, rt.alloc(), &model, case);
-    }
+    );
 }
 
 /// Whichever request is refused, the words of all items stand then.
