@@ -1,16 +1,12 @@
 //! What models over worked tables answer, beside what is expected.
 
-ghost use Rattle.std.specs.Prelude.{◌<◌, ◌^◌, ◌≤◌};
+ghost use Rattle.std.specs.Prelude.{◌<◌, ◌≤◌};
 
-use crate::checks::{same, same_at};
-use constriction::stream::model::{
-    DecoderModel, EncoderModel, FromIterableEntropyModel, IterableEntropyModel,
-    NonContiguousSymbolTable,
-};
+use crate::checks::same_at;
+use constriction::stream::model::{DecoderModel, NonContiguousSymbolTable};
 use constriction_fixtures::any_symbols::{Row, Step, plain};
 use constriction_fixtures::contiguous::{Small, Table, WEIGHTS, row_by_scan, table};
-use constriction_fixtures::tables::{left, look_up, row};
-use constriction_words::{NonZeroBitArray, WholeNumber};
+use constriction_fixtures::tables::look_up;
 use std::alloc::Global;
 use std::process::Abort;
 
@@ -46,7 +42,7 @@ pub fn walks(rt: &impl Abort, table: NonContiguousSymbolTable<'_, char, u8, 6>, 
     }
 }
 
-/// The same where the weights are accepted. It stops the test where they are not.
+/// The model of these weights. It stops the test where they are not accepted.
 pub fn made<const PRECISION: usize>(
     rt: &impl Abort,
     alloc: Global,
