@@ -163,10 +163,12 @@ fn are_run<Buf: SafeBufMut<u8> + Drop>(
 fn a_cursor_over_each_buffer_and_its_reversal_reply_the_same(rt: HostRuntime) {
     let words = [10u8, 20, 30];
     let alloc = rt.alloc();
-    let [first, second] = [vec_of(&rt, alloc, &words), vec_of(&rt, alloc, &words)];
+    let first = vec_of(&rt, alloc, &words);
+    let second = vec_of(&rt, alloc, &words);
     are_run(&rt, alloc, "vec", first, second);
-    let [first, second] = [vec_of(&rt, alloc, &words), vec_of(&rt, alloc, &words)];
-    are_run(&rt, alloc, "own", Marked::new(first), Marked::new(second));
+    let first = Marked::new(vec_of(&rt, alloc, &words));
+    let second = Marked::new(vec_of(&rt, alloc, &words));
+    are_run(&rt, alloc, "own", first, second);
     let [mut first, mut second] = [words; 2];
     are_run(&rt, alloc, "array", &mut first, &mut second);
     let [mut first, mut second] = [words; 2];
