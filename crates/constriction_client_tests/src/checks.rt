@@ -36,26 +36,13 @@ where
 
 /// These words in memory of their own. It stops the test where memory is refused.
 pub fn vec_of(rt: &impl Abort, alloc: Global, words: &[u8]) -> Vec<u8> {
-    let Ok(words) = words.to_vec(alloc) else {
-        panic!(rt; "memory was refused");
-    };
-    words
+    words.to_vec(alloc).expect(rt, "memory")
 }
 
 /// Stops the test where the value is not printed as this text.
 pub fn prints<T: Display>(rt: &impl Abort, alloc: Global, value: &T, text: &str) {
-    let Ok(printed) = format!(in alloc; "{value}") else {
-        panic!(rt; "memory was refused");
-    };
+    let printed = format!(in alloc; "{value}").expect(rt, "memory");
     same(rt, printed.as_str(), text);
-}
-
-/// Stops the test where the value is not shown to a programmer as this text.
-pub fn shows<T: Debug>(rt: &impl Abort, alloc: Global, value: &T, text: &str) {
-    let Ok(shown) = format!(in alloc; "{value:?}") else {
-        panic!(rt; "memory was refused");
-    };
-    same(rt, shown.as_str(), text);
 }
 
 /// More requests for memory than any test makes.

@@ -1,6 +1,6 @@
 //! Items that a model or a sink refuses, and what was written before them.
 
-use crate::checks::{holds, same, same_at};
+use crate::checks::{holds, same};
 use crate::model_checks::small;
 use constriction_backends::{BoundedWriteError, Cursor, FallibleCallbackWriteWords};
 use constriction_client::{QuantileFault, write_quantiles};
@@ -12,34 +12,15 @@ use std::alloc::AllocError;
 /// What a write answers where its sink refuses a word so.
 type Written<Refusal> = Result<(), CoderError<QuantileFault, Refusal>>;
 
-/// Writes items to a cursor over borrowed words.
-fn write_to_cursor(
-    model: &Table<6>,
-    items: &[(usize, u8)],
-    sink: &mut Cursor<u8, &mut [u8]>,
-) -> Written<BoundedWriteError> {
-    write_quantiles(model, items, sink)
-}
-
-/// What a cursor over these words answers to items, from the first word on, and where it then stands.
-fn written_over(
-    model: &Table<6>,
-    items: &[(usize, u8)],
-    words: &mut [u8],
-) -> (Written<BoundedWriteError>, usize) {
-    let mut sink = Cursor::<u8, &mut [u8]>::new_at_write_beginning(words);
-    let answer = write_to_cursor(model, items, &mut sink);
-    (answer, sink.pos())
-}
-
 #[test]
 fn a_cursor_of_two_words_refuses_the_third_item(rt: HostRuntime) {
     let model = small(&rt, rt.alloc());
     let mut words = [0u8; 2];
-    let (answer, pos) = written_over(&model, &[(0, 2), (3, 41), (1, 0)], &mut words);
+    let mut sink = Cursor::<u8, &mut [u8]>::new_at_write_beginning(&mut words);
+    let answer = write_quantiles(&model, &[(0, 2), (3, 41), (1, 0)], &mut sink);
+    let pos = sink.pos();
     let refused = Err(CoderError::Backend(BoundedWriteError::OutOfSpace));
-    same(&rt, answer, refused);
-    same(&rt, (words, pos), ([2, 63], 2));
+    same(&rt, (answer, words, pos), (refused, [2, 63], 2));
 }
 
 /// What a callback that refuses its third word was handed last, how often it was called, and the answer.
@@ -59,9 +40,9 @@ fn handed(model: &Table<6>, items: &[(usize, u8)]) -> (Written<char>, [u8; 3], u
 #[test]
 fn a_callback_is_handed_no_word_after_one_that_it_refuses(rt: HostRuntime) {
     let model = small(&rt, rt.alloc());
-    let (answer, words, calls) = handed(&model, &[(0, 2), (3, 41), (1, 0), (2, 0)]);
-    same(&rt, answer, Err(CoderError::Backend('x')));
-    same(&rt, (words, calls), ([2, 63, 3], 3));
+    let found = handed(&model, &[(0, 2), (3, 41), (1, 0), (2, 0)]);
+    let refused = Err(CoderError::Backend('x'));
+    same(&rt, found, (refused, [2, 63, 3], 3));
 }
 
 /// Writes items by a model of the caller.
@@ -75,23 +56,18 @@ fn write_letters(model: &Triple, items: &[(char, u8)], words: &mut Vec<u8>) -> W
 fn a_model_of_the_caller_judges_offsets_by_its_last_row(rt: HostRuntime) {
     let model = three('p', 'q', 'p');
     let mut words = Vec::new(rt.alloc());
-    for (item, answer) in [
-        (('p', 0), Ok(())),
-        (
-            ('p', 1),
-            Err(CoderError::Frontend(QuantileFault::OffsetTooLarge)),
-        ),
-        (
-            ('r', 0),
-            Err(CoderError::Frontend(QuantileFault::ImpossibleSymbol)),
-        ),
-    ] {
-        same_at(
-            &rt,
-            item.0,
-            write_letters(&model, &[item], &mut words),
-            answer,
-        );
-        holds(&rt, &words, &[7]);
-    }
+    same(&rt, write_letters(&model, &[('p', 0)], &mut words), Ok(()));
+    let too_large = Err(CoderError::Frontend(QuantileFault::OffsetTooLarge));
+    same(
+        &rt,
+        write_letters(&model, &[('p', 1)], &mut words),
+        too_large,
+    );
+    let impossible = Err(CoderError::Frontend(QuantileFault::ImpossibleSymbol));
+    same(
+        &rt,
+        write_letters(&model, &[('r', 0)], &mut words),
+        impossible,
+    );
+    holds(&rt, &words, &[7]);
 }

@@ -14,11 +14,6 @@ type Read = Result<usize, CoderError<ReadFault, Infallible>>;
 /// A source of borrowed words.
 type Words<'a> = Cursor<u8, &'a [u8]>;
 
-/// The source of these words in their order.
-fn words_in(words: &[u8]) -> Words<'_> {
-    Cursor::<u8, &[u8]>::new_at_write_beginning(words)
-}
-
 /// Reads pairs in the order of the words.
 fn read(model: &Table<6>, source: &mut Words, count: usize, out: &mut Vec<(usize, u8)>) -> Read {
     read_symbols::<Queue, _, _, _, _, 6>(model, source, count, out)
@@ -27,15 +22,15 @@ fn read(model: &Table<6>, source: &mut Words, count: usize, out: &mut Vec<(usize
 #[test]
 fn a_cursor_is_read_on_after_a_word_that_is_no_quantile(rt: HostRuntime) {
     let model = small(&rt, rt.alloc());
-    let mut source = words_in(&[2, 64, 3]);
+    let mut source = Words::new_at_write_beginning(&[2, 64, 3]);
     let mut out = Vec::new(rt.alloc());
     let refused = Err(CoderError::Frontend(ReadFault::QuantileTooLarge));
-    same(&rt, read(&model, &mut source, 3, &mut out), refused);
+    let answer = read(&model, &mut source, 3, &mut out);
+    same(&rt, (answer, source.pos()), (refused, 2));
     holds(&rt, &out, &[(0, 2)]);
-    same(&rt, source.pos(), 2);
-    same(&rt, read(&model, &mut source, 5, &mut out), Ok(1));
+    let answer = read(&model, &mut source, 5, &mut out);
+    same(&rt, (answer, source.pos()), (Ok(1), 3));
     holds(&rt, &out, &[(0, 2), (1, 0)]);
-    same(&rt, source.pos(), 3);
 }
 
 /// Reads pairs of letters, of which memory for a clone is refused where it is `r`.
@@ -51,7 +46,7 @@ fn read_letters(
 #[test]
 fn a_word_whose_letter_is_not_cloned_is_gone(rt: HostRuntime) {
     let model = letters(rt.alloc()).expect(&rt, "accepted");
-    let mut source = words_in(&[20, 50]);
+    let mut source = Words::new_at_write_beginning(&[20, 50]);
     let mut out = Vec::new(rt.alloc());
     let refused = Err(CoderError::Frontend(ReadFault::OutOfMemory));
     same(&rt, read_letters(&model, &mut source, 2, &mut out), refused);

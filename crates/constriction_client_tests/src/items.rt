@@ -9,7 +9,7 @@ use crate::checks::{end_of_requests, holds, holds_at, prints, same, same_at, vec
 use crate::model_checks::{made, small};
 use constriction::stream::model::{DecoderModel, EncoderModel, EntropyModel, Weight};
 use constriction_client::laws::{
-    each_quantile_in_range_has_a_row, reads_back, reads_back_reversed,
+    each_quantile_in_range_has_a_row, form_symbols_differ, reads_back, reads_back_reversed,
     the_row_found_is_the_row_of_the_quantile, there_and_back,
 };
 use constriction_client::{QuantileFault, ReadFault, read_symbols, write_quantiles};
@@ -47,65 +47,11 @@ fn back(alloc: Global, model: &Table<6>, items: &[(usize, u8)]) -> Back {
     there_and_back(alloc, model, items)
 }
 
-/// Items are written as these words.
-fn are_written<const PRECISION: usize>(
-    rt: &impl Abort,
-    model: &Table<PRECISION>,
-    items: &[(usize, u8)],
-    words: &mut Vec<u8>,
-    quantiles: &[u8],
-) {
-    same(rt, write(model, items, words), Ok(()));
-    holds(rt, words, quantiles);
-}
-
-/// These are read back as these pairs, the last one first, and none is left.
-fn are_read<const PRECISION: usize>(
-    rt: &impl Abort,
-    model: &Table<PRECISION>,
-    words: &mut Vec<u8>,
-    out: &mut Vec<(usize, u8)>,
-    (count, pairs): (usize, &[(usize, u8)]),
-) {
-    same(rt, read(model, words, count, out), Ok(pairs.len()));
-    holds(rt, out, pairs);
-    same(rt, words.is_empty(), true);
-}
-
-#[test]
-fn three_items_come_back_from_a_stack_reversed(rt: HostRuntime) {
-    let model = small(&rt, rt.alloc());
-    let mut words = Vec::new(rt.alloc());
-    are_written(
-        &rt,
-        &model,
-        &[(0, 2), (3, 41), (1, 0)],
-        &mut words,
-        &[2, 63, 3],
-    );
-    let mut out = Vec::new(rt.alloc());
-    are_read(
-        &rt,
-        &model,
-        &mut words,
-        &mut out,
-        (3, &[(1, 0), (3, 41), (0, 2)]),
-    );
-}
-
-/// The items come back as these pairs.
-fn come_back(rt: &impl Abort, made: Back, pairs: &[(usize, u8)]) {
-    match made {
-        Ok(back) => holds(rt, &back, pairs),
-        Err(fault) => same(rt, Err(fault), Ok(())),
-    }
-}
-
 #[test]
 fn three_items_go_there_and_back(rt: HostRuntime) {
     let model = small(&rt, rt.alloc());
     let made = back(rt.alloc(), &model, &[(0, 2), (3, 41), (1, 0)]);
-    come_back(&rt, made, &[(1, 0), (3, 41), (0, 2)]);
+    holds(&rt, &made.expect(&rt, "pairs"), &[(1, 0), (3, 41), (0, 2)]);
 }
 
 /// The first of these items alone is written, after 7.
@@ -113,113 +59,93 @@ fn stops_after_the_first(
     rt: &impl Abort,
     alloc: Global,
     model: &Table<6>,
-    items: &[(usize, u8)],
-    (name, fault): (&str, QuantileFault),
+    (name, items, fault): (&str, [(usize, u8); 3], QuantileFault),
 ) {
     let mut words = vec_of(rt, alloc, &[7]);
-    let written = write(model, items, &mut words);
+    let written = write(model, &items, &mut words);
     same_at(rt, name, written, Err(CoderError::Frontend(fault)));
     holds_at(rt, name, &words, &[7, 2]);
-    same_at(rt, name, back(alloc, model, items).is_err(), true);
+    same_at(rt, name, back(alloc, model, &items).is_err(), true);
 }
 
 #[test]
 fn the_words_before_a_fault_stay_written(rt: HostRuntime) {
     let model = small(&rt, rt.alloc());
-    stops_after_the_first(
-        &rt,
-        rt.alloc(),
-        &model,
-        &[(0, 2), (2, 1), (9, 0)],
-        ("an offset of the weight", QuantileFault::OffsetTooLarge),
+    let too_large = QuantileFault::OffsetTooLarge;
+    let offset = (
+        "an offset of the weight",
+        [(0, 2), (2, 1), (9, 0)],
+        too_large,
     );
-    stops_after_the_first(
-        &rt,
-        rt.alloc(),
-        &model,
-        &[(0, 2), (4, 0), (2, 1)],
-        (
-            "a symbol past the last one",
-            QuantileFault::ImpossibleSymbol,
-        ),
+    stops_after_the_first(&rt, rt.alloc(), &model, offset);
+    let impossible = QuantileFault::ImpossibleSymbol;
+    let past = (
+        "a symbol past the last one",
+        [(0, 2), (4, 0), (2, 1)],
+        impossible,
     );
-    stops_after_the_first(
-        &rt,
-        rt.alloc(),
-        &model,
-        &[(0, 2), (usize::MAX, 9), (2, 1)],
-        ("a symbol that is no word", QuantileFault::ImpossibleSymbol),
+    stops_after_the_first(&rt, rt.alloc(), &model, past);
+    let impossible = QuantileFault::ImpossibleSymbol;
+    let no_word = (
+        "a symbol that is no word",
+        [(0, 2), (usize::MAX, 9), (2, 1)],
+        impossible,
     );
+    stops_after_the_first(&rt, rt.alloc(), &model, no_word);
 }
 
-/// One pair that was read before.
-fn one_pair(rt: &impl Abort, alloc: Global) -> Vec<(usize, u8)> {
-    let mut pairs = Vec::new(alloc);
-    let Ok(()) = pairs.push((2, 0)) else {
-        panic!(rt; "memory was refused");
-    };
-    pairs
-}
-
-#[test]
-fn a_word_that_is_no_quantile_is_gone(rt: HostRuntime) {
-    let model = small(&rt, rt.alloc());
-    let mut words = vec_of(&rt, rt.alloc(), &[2, 64, 63]);
-    let mut out = one_pair(&rt, rt.alloc());
-    same(
-        &rt,
-        read(&model, &mut words, 3, &mut out),
-        Err(CoderError::Frontend(ReadFault::QuantileTooLarge)),
-    );
-    holds(&rt, &words, &[2]);
-    holds(&rt, &out, &[(2, 0), (3, 41)]);
-}
-
-/// So many reads of 2 and 63 give so many pairs, and leave these words.
-fn are_read_at_most(
+/// So many reads of words give the answer, and leave these words, and these pairs, of which one was there before.
+fn are_read(
     rt: &impl Abort,
     alloc: Global,
     model: &Table<6>,
-    (count, pairs): (usize, &[(usize, u8)]),
-    left: &[u8],
+    (count, words): (usize, &[u8]),
+    (answer, left, pairs): (Read, &[u8], &[(usize, u8)]),
 ) {
-    let mut words = vec_of(rt, alloc, &[2, 63]);
-    let mut out = Vec::new(alloc);
-    let answer = read(model, &mut words, count, &mut out);
-    same_at(rt, count, answer, Ok(pairs.len()));
+    let mut words = vec_of(rt, alloc, words);
+    let mut out = [(2, 0)].to_vec(alloc).expect(rt, "memory");
+    same_at(rt, count, read(model, &mut words, count, &mut out), answer);
     holds_at(rt, count, &words, left);
     holds_at(rt, count, &out, pairs);
 }
 
+/// How many reads there are of 2 and 63, how many of them give a pair, the words that are left, and the pairs.
+const READS: [(usize, usize, &[u8], &[(usize, u8)]); 4] = [
+    (0, 0, &[2, 63], &[(2, 0)]),
+    (1, 1, &[2], &[(2, 0), (3, 41)]),
+    (2, 2, &[], &[(2, 0), (3, 41), (0, 2)]),
+    (5, 2, &[], &[(2, 0), (3, 41), (0, 2)]),
+];
+
 #[test]
-fn no_more_words_are_read_than_are_asked_for(rt: HostRuntime) {
+fn words_are_read_up_to_the_count_or_to_one_that_is_no_quantile(rt: HostRuntime) {
     let model = small(&rt, rt.alloc());
-    let alloc = rt.alloc();
-    are_read_at_most(&rt, alloc, &model, (0, &[]), &[2, 63]);
-    are_read_at_most(&rt, alloc, &model, (1, &[(3, 41)]), &[2]);
-    are_read_at_most(&rt, alloc, &model, (2, &[(3, 41), (0, 2)]), &[]);
-    are_read_at_most(&rt, alloc, &model, (5, &[(3, 41), (0, 2)]), &[]);
+    for each in &READS {
+        let (count, read, left, pairs) = *each;
+        are_read(
+            &rt,
+            rt.alloc(),
+            &model,
+            (count, &[2, 63]),
+            (Ok(read), left, pairs),
+        );
+    }
+    let refused = Err(CoderError::Frontend(ReadFault::QuantileTooLarge));
+    let left = (refused, [2].as_slice(), [(2, 0), (3, 41)].as_slice());
+    are_read(&rt, rt.alloc(), &model, (3, &[2, 64, 63]), left);
 }
 
 #[test]
 fn at_the_full_width_each_word_is_a_quantile(rt: HostRuntime) {
     let model = made::<8>(&rt, rt.alloc(), &[200], true);
     let mut words = Vec::new(rt.alloc());
-    are_written(
-        &rt,
-        &model,
-        &[(1, 55), (0, 199), (1, 0)],
-        &mut words,
-        &[255, 199, 200],
-    );
+    let items = [(1, 55), (0, 199), (1, 0)];
+    same(&rt, write(&model, &items, &mut words), Ok(()));
+    holds(&rt, &words, &[255, 199, 200]);
     let mut out = Vec::new(rt.alloc());
-    are_read(
-        &rt,
-        &model,
-        &mut words,
-        &mut out,
-        (4, &[(1, 0), (0, 199), (1, 55)]),
-    );
+    same(&rt, read(&model, &mut words, 4, &mut out), Ok(3));
+    holds(&rt, &out, &[(1, 0), (0, 199), (1, 55)]);
+    same(&rt, words.is_empty(), true);
 }
 
 /// Six items, their quantiles, and the items from the last to the first.
@@ -239,18 +165,6 @@ fn wrote_all_or_was_refused(rt: &impl Abort, written: Written, words: &[u8]) {
     same(rt, QUANTILES.starts_with(words), true);
 }
 
-/// An answer, or the refusal of memory and what it leaves, whichever growth is refused.
-#[test]
-fn a_refusal_of_memory_ends_what_is_written(rt: HostRuntime) {
-    let Ok(model) = table::<6>(rt.alloc(), &WEIGHTS, false) else {
-        return;
-    };
-    let mut words = Vec::new(rt.alloc());
-    let written = write(&model, &ITEMS, &mut words);
-    wrote_all_or_was_refused(&rt, written, words.as_slice());
-    end_of_requests(&rt);
-}
-
 /// All six pairs are read, or memory was refused and the word whose pair found no room is gone.
 fn read_all_or_was_refused(rt: &impl Abort, answer: Read, left: usize, out: &[(usize, u8)]) {
     let (expected, in_all) = match out.len() {
@@ -262,12 +176,16 @@ fn read_all_or_was_refused(rt: &impl Abort, answer: Read, left: usize, out: &[(u
     same(rt, REVERSED.starts_with(out), true);
 }
 
-/// The same of reads: the word whose pair found no room has been read.
+/// An answer, or the refusal of memory and what it leaves, whichever growth is refused: that of the words, or that of the
+/// pairs, where the word whose pair found no room has been read.
 #[test]
-fn a_refusal_of_memory_ends_what_is_read(rt: HostRuntime) {
+fn a_refusal_of_memory_ends_what_is_written_or_read(rt: HostRuntime) {
     let Ok(model) = table::<6>(rt.alloc(), &WEIGHTS, false) else {
         return;
     };
+    let mut words = Vec::new(rt.alloc());
+    let written = write(&model, &ITEMS, &mut words);
+    wrote_all_or_was_refused(&rt, written, words.as_slice());
     let Ok(mut words) = QUANTILES.to_vec(rt.alloc()) else {
         return;
     };
@@ -277,7 +195,7 @@ fn a_refusal_of_memory_ends_what_is_read(rt: HostRuntime) {
     end_of_requests(&rt);
 }
 
-/// And of the way there and back.
+/// The same of the way there and back.
 #[test]
 fn a_refusal_of_memory_ends_the_way(rt: HostRuntime) {
     let Ok(model) = table::<6>(rt.alloc(), &WEIGHTS, false) else {
@@ -334,69 +252,34 @@ impl DecoderModel<2> for Letters {
     ghost tile_law = { λ _. Prim.search rules };
 }
 
-fn letters_back(
-    alloc: Global,
-    items: &[(u8, u8)],
-) -> Result<Vec<(u8, u8)>, CoderError<QuantileFault, AllocError>> {
-    there_and_back(alloc, &Letters, items)
-}
-
-fn write_letters(items: &[(u8, u8)], words: &mut Vec<u8>) -> Written {
-    write_quantiles(&Letters, items, words)
-}
-
 #[test]
 fn a_model_of_the_caller_may_name_a_symbol_twice(rt: HostRuntime) {
-    let items = [(b'a', 0u8), (b'b', 1)];
-    let pairs = letters_back(rt.alloc(), &items).expect(&rt, "pairs");
-    holds(&rt, &pairs, &[(b'b', 1), (b'a', 0)]);
-    let mut words = Vec::new(rt.alloc());
-    same(&rt, write_letters(&items, &mut words), Ok(()));
-    same(
-        &rt,
-        write_letters(&[(b'c', 0)], &mut words),
-        Err(CoderError::Frontend(QuantileFault::ImpossibleSymbol)),
-    );
-    holds(&rt, &words, &[3, 2]);
-}
-
-fn item_faults_are_sentences(rt: &impl Abort, alloc: Global) {
-    prints(
-        rt,
-        alloc,
-        &QuantileFault::ImpossibleSymbol,
-        "The model has no entry of the symbol.",
-    );
-    prints(
-        rt,
-        alloc,
-        &QuantileFault::OffsetTooLarge,
-        "The offset is not below the weight of the symbol.",
-    );
-    prints(
-        rt,
-        alloc,
-        &ReadFault::OutOfMemory,
-        "Memory for a pair was refused.",
-    );
-    prints(
-        rt,
-        alloc,
-        &ReadFault::QuantileTooLarge,
-        "The word is no quantile.",
-    );
+    let back = there_and_back(rt.alloc(), &Letters, &[(b'a', 0), (b'b', 1)]);
+    holds(&rt, &back.expect(&rt, "pairs"), &[(b'b', 1), (b'a', 0)]);
 }
 
 #[test]
 fn faults_of_items_are_sentences(rt: HostRuntime) {
-    item_faults_are_sentences(&rt, rt.alloc());
+    let impossible = "The model has no entry of the symbol.";
+    prints(
+        &rt,
+        rt.alloc(),
+        &QuantileFault::ImpossibleSymbol,
+        impossible,
+    );
+    let too_large = "The offset is not below the weight of the symbol.";
+    prints(&rt, rt.alloc(), &QuantileFault::OffsetTooLarge, too_large);
+    let refused = "Memory for a pair was refused.";
+    prints(&rt, rt.alloc(), &ReadFault::OutOfMemory, refused);
+    let no_quantile = "The word is no quantile.";
+    prints(&rt, rt.alloc(), &ReadFault::QuantileTooLarge, no_quantile);
 }
 
 #[test]
-fn laws_of_items_may_be_called(rt: HostRuntime) {
-    let _ = rt;
+fn laws_may_be_called() {
     the_row_found_is_the_row_of_the_quantile::<usize>();
     each_quantile_in_range_has_a_row::<usize>();
     reads_back::<usize, u8>();
     reads_back_reversed::<usize, u8>();
+    form_symbols_differ::<char, u8, 6>();
 }

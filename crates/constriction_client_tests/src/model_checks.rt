@@ -1,16 +1,12 @@
 //! What models over worked tables answer, beside what is expected.
 
-ghost use Rattle.std.specs.Prelude.{◌<◌, ◌^◌, ◌≤◌};
+ghost use Rattle.std.specs.Prelude.{◌<◌, ◌≤◌};
 
-use crate::checks::{same, same_at};
-use constriction::stream::model::{
-    DecoderModel, EncoderModel, FromIterableEntropyModel, IterableEntropyModel,
-    NonContiguousSymbolTable,
-};
+use crate::checks::same_at;
+use constriction::stream::model::{DecoderModel, NonContiguousSymbolTable};
 use constriction_fixtures::any_symbols::{Row, Step, plain};
 use constriction_fixtures::contiguous::{Small, Table, WEIGHTS, row_by_scan, table};
-use constriction_fixtures::tables::{left, look_up, row};
-use constriction_words::{NonZeroBitArray, WholeNumber};
+use constriction_fixtures::tables::look_up;
 use std::alloc::Global;
 use std::process::Abort;
 
@@ -46,7 +42,7 @@ pub fn walks(rt: &impl Abort, table: NonContiguousSymbolTable<'_, char, u8, 6>, 
     }
 }
 
-/// The same where the weights are accepted. It stops the test where they are not.
+/// The model of these weights. It stops the test where they are not accepted.
 pub fn made<const PRECISION: usize>(
     rt: &impl Abort,
     alloc: Global,
@@ -56,10 +52,7 @@ pub fn made<const PRECISION: usize>(
     requires positive { 0 < PRECISION }
     requires fits { PRECISION ≤ 8 }
 {
-    let Ok(model) = table(alloc, weights, infer) else {
-        panic!(rt; "the weights are refused");
-    };
-    model
+    table(alloc, weights, infer).expect(rt, "accepted")
 }
 
 /// The model of the weights 3, 18, 1 and 42.
@@ -79,32 +72,4 @@ where
         let found = look_up::<M, PRECISION>(model, word);
         same_at(rt, word, found, row_by_scan(weights, word));
     }
-}
-
-/// Stops the test where a row is not the one of the next symbol, or does not begin where the one before
-/// it ends. It gives the next symbol and the end of the row.
-pub fn follows(
-    rt: &impl Abort,
-    (expected, end): (usize, u64),
-    (symbol, left, weight): (usize, u8, u8),
-) -> (usize, u64) {
-    same(rt, (symbol, left as u64), (expected, end));
-    (expected.wrapping_add(1), end.wrapping_add(weight as u64))
-}
-
-/// Stops the test where the rows are not those of the symbols 0, 1, .. in order, each of which begins
-/// where the one before it ends, the last at 2^PRECISION.
-pub fn tile<M, const PRECISION: usize>(rt: &impl Abort, model: M)
-where
-    M: IterableEntropyModel<PRECISION, Symbol = usize, Probability = u8>,
-    requires fits { PRECISION ≤ 8 }
-{
-    let mut next = (0usize, 0u64);
-    'rows: for item in model.symbol_table() {
-        let Some(found) = row(Some(item)) else {
-            return same_at(rt, next.0, "a row", "no row");
-        };
-        next = follows(rt, next, found);
-    }
-    same(rt, next.1, 1u64 << PRECISION);
 }

@@ -7,37 +7,30 @@ ghost use Rattle.constriction_backends.specs.StackLaws.{Pushes-told};
 use crate::checks::{holds, same};
 use crate::model_checks::small;
 use constriction_backends::{ReadWords, WriteWords};
-use constriction_client::{QuantileFault, ReadFault, read_symbols, write_quantiles};
+use constriction_client::{ReadFault, read_symbols, write_quantiles};
 use constriction_fixtures::contiguous::Table;
 use constriction_words::{CoderError, Queue};
 
-/// Why a sink of at most two words refuses a word.
-#[derive(Debug, PartialEq, Eq, Drop)]
-enum Refusal {
-    Full(u8),
-    OutOfMemory,
-}
-
-/// A sink of at most two words.
+/// A sink of at most two words, which hands a word back where it refuses it.
 #[derive(Drop)]
 struct TwoWords {
     words: Vec<u8>,
 }
 
 impl WriteWords<u8> for TwoWords {
-    type WriteError = Refusal;
+    type WriteError = u8;
 
     ghost write_gives = { λ s word r t. Pushes s.words.items word r t.words.items };
 
     ghost tells_written = { λ s words. words ≡ s.words.items };
 
-    fn write(&mut self, word: u8) -> Result<(), Refusal> {
+    fn write(&mut self, word: u8) -> Result<(), u8> {
         if self.words.len() >= 2 {
-            return Err(Refusal::Full(word));
+            return Err(word);
         }
         match self.words.push(word) {
             Ok(()) => Ok(()),
-            Err(_) => Err(Refusal::OutOfMemory),
+            Err(_) => Err(word),
         }
     }
 
@@ -46,22 +39,15 @@ impl WriteWords<u8> for TwoWords {
     ghost room_suffices = { λ s word r t h room. absurd room };
 }
 
-fn write_two(
-    model: &Table<6>,
-    items: &[(usize, u8)],
-    sink: &mut TwoWords,
-) -> Result<(), CoderError<QuantileFault, Refusal>> {
-    write_quantiles(model, items, sink)
-}
-
 #[test]
 fn a_refusal_of_the_sink_is_handed_on(rt: HostRuntime) {
     let model = small(&rt, rt.alloc());
     let mut sink = TwoWords {
         words: Vec::new(rt.alloc()),
     };
-    let written = write_two(&model, &[(0, 2), (3, 41), (1, 0), (4, 0)], &mut sink);
-    same(&rt, written, Err(CoderError::Backend(Refusal::Full(3))));
+    let items = [(0, 2), (3, 41), (1, 0), (4, 0)];
+    let written = write_quantiles(&model, &items, &mut sink);
+    same(&rt, written, Err(CoderError::Backend(3)));
     holds(&rt, &sink.words, &[2, 63]);
 }
 
@@ -103,11 +89,11 @@ fn an_error_of_the_source_is_handed_on(rt: HostRuntime) {
     let model = small(&rt, rt.alloc());
     let mut source = Interrupted { reads: 0 };
     let mut out = Vec::new(rt.alloc());
-    let interrupted = read_interrupted(&model, &mut source, &mut out);
-    same(&rt, interrupted, Err(CoderError::Backend("interrupted")));
-    same(&rt, source.reads, 2);
+    let answer = read_interrupted(&model, &mut source, &mut out);
+    let interrupted = Err(CoderError::Backend("interrupted"));
+    same(&rt, (answer, source.reads), (interrupted, 2));
     holds(&rt, &out, &[(3, 41)]);
-    same(&rt, read_interrupted(&model, &mut source, &mut out), Ok(1));
-    same(&rt, source.reads, 4);
+    let answer = read_interrupted(&model, &mut source, &mut out);
+    same(&rt, (answer, source.reads), (Ok(1), 4));
     holds(&rt, &out, &[(3, 41), (0, 2)]);
 }

@@ -7,7 +7,7 @@ ghost use Rattle.constriction.specs.Rows.{contiguous_rows, entry_of};
 
 use crate::checks::{end_of_requests, holds, holds_at, same, same_at, vec_of};
 use crate::items::Letters;
-use crate::model_checks::answers_as_a_scan;
+use crate::model_checks::{self, answers_as_a_scan};
 use constriction::stream::model::{
     ContiguousCategoricalEntropyModel, DecoderModel, EncoderModel, EncodesOver, EntropyModel,
     ModelError, Weight,
@@ -15,10 +15,10 @@ use constriction::stream::model::{
 use constriction_backends::{BoundedWriteError, Cursor};
 use constriction_client::QuantileFault;
 use constriction_client::laws::{
-    CursorFault, DecoderAndEncoder, decoder_and_encoder, there_and_back_in_a_cursor,
-    there_and_back_of_two,
+    CursorFault, decoder_and_encoder, there_and_back_in_a_cursor, there_and_back_of_two,
 };
-use constriction_words::{BitArray, CoderError, Pos, ReadWriteError, Seek};
+use constriction_fixtures::contiguous::{WEIGHTS, table};
+use constriction_words::{BitArray, CoderError, ReadWriteError, Seek};
 use std::alloc::{AllocError, Global};
 use std::process::Abort;
 
@@ -61,14 +61,15 @@ impl EncoderModel<2> for LetterEntries {
     ghost within_law = { λ _. Prim.search rules };
 }
 
-/// Whether items come back through a stack, by any decoder and any encoder over its symbols and
-/// words.
-fn come_back<D, E, const PRECISION: usize>(
+type Back<Symbol, Word> = Result<Vec<(Symbol, Word)>, CoderError<QuantileFault, AllocError>>;
+
+/// Items there and back through a stack, by any decoder and any encoder over its symbols and words.
+fn back_of_any<D, E, const PRECISION: usize>(
     alloc: Global,
     decoder: &D,
     encoder: &E,
     items: &[(D::Symbol, D::Probability)],
-) -> bool
+) -> Back<D::Symbol, D::Probability>
 where
     D: DecoderModel<PRECISION>,
     D::Symbol: Drop,
@@ -78,16 +79,16 @@ where
     requires alike { (s : D.Symbol) → entry_of E.symbol_eq (E.rows encoder.now) s
         ≡ entry_of E.symbol_eq (D.rows decoder.now) s }
 {
-    there_and_back_of_two(alloc, decoder, encoder, items).is_ok()
+    there_and_back_of_two(alloc, decoder, encoder, items)
 }
 
 /// The same where the words are bytes.
-fn come_back_as_bytes<D, E, const PRECISION: usize>(
+fn back_of_bytes<D, E, const PRECISION: usize>(
     alloc: Global,
     decoder: &D,
     encoder: &E,
     items: &[(D::Symbol, u8)],
-) -> bool
+) -> Back<D::Symbol, u8>
 where
     D: DecoderModel<PRECISION, Probability = u8>,
     D::Symbol: Drop,
@@ -96,151 +97,113 @@ where
     requires fits { PRECISION ≤ 8 }
     requires alike { (s : D.Symbol) → entry_of E.symbol_eq (E.rows encoder.now) s ≡ entry_of E.symbol_eq (D.rows decoder.now) s }
 {
-    there_and_back_of_two(alloc, decoder, encoder, items).is_ok()
+    back_of_any(alloc, decoder, encoder, items)
 }
 
-/// The weights of the models, items, and the same from the last to the first.
-const WEIGHTS: [u8; 4] = [3, 18, 1, 42];
-
+/// Items, and the same from the last to the first.
 const ITEMS: [(usize, u8); 3] = [(0, 2), (3, 41), (1, 0)];
 
 const REVERSED: [(usize, u8); 3] = [(1, 0), (3, 41), (0, 2)];
 
-/// The way through a stack, by two models of the same rows.
-fn through_a_stack(
+/// The same by two models of the same rows.
+fn back_of_two(
     alloc: Global,
     decoder: &Small,
     encoder: &Small,
     items: &[(usize, u8)],
-) -> Result<Items, CoderError<QuantileFault, AllocError>>
+) -> Back<usize, u8>
     requires { ⟦<Small as EntropyModel<6>>⟧.rows encoder.now ≡ ⟦<Small as EntropyModel<6>>⟧.rows decoder.now }
 {
-    there_and_back_of_two(alloc, decoder, encoder, items)
-}
-
-/// Whether items come back by two models of the same rows.
-fn come_back_of_two(alloc: Global, decoder: &Small, encoder: &Small, items: &[(usize, u8)]) -> bool
-    requires { ⟦<Small as EntropyModel<6>>⟧.rows encoder.now ≡ ⟦<Small as EntropyModel<6>>⟧.rows decoder.now }
-{
-    come_back(alloc, decoder, encoder, items)
-}
-
-/// The same where the words are bytes.
-fn come_back_of_two_as_bytes(
-    alloc: Global,
-    decoder: &Small,
-    encoder: &Small,
-    items: &[(usize, u8)],
-) -> bool
-    requires { ⟦<Small as EntropyModel<6>>⟧.rows encoder.now ≡ ⟦<Small as EntropyModel<6>>⟧.rows decoder.now }
-{
-    come_back_as_bytes(alloc, decoder, encoder, items)
-}
-
-/// The model of the weights 3, 18, 1 and 42, of which nothing is to be learned. It stops the test where there is none.
-fn worked(rt: &impl Abort, alloc: Global) -> Small {
-    model(alloc).expect(rt, "accepted")
+    back_of_bytes(alloc, decoder, encoder, items)
 }
 
 #[test]
 fn two_models_of_one_table_give_items_back(rt: HostRuntime) {
     let decoder = small(rt.alloc(), &WEIGHTS).expect(&rt, "accepted");
     let encoder = small(rt.alloc(), &WEIGHTS).expect(&rt, "accepted");
-    let back = through_a_stack(rt.alloc(), &decoder, &encoder, &ITEMS).expect(&rt, "items");
+    let back = back_of_two(rt.alloc(), &decoder, &encoder, &ITEMS).expect(&rt, "items");
     holds(&rt, &back, &REVERSED);
-    let same_back = come_back_of_two(rt.alloc(), &decoder, &encoder, &ITEMS);
-    let bytes_back = come_back_of_two_as_bytes(rt.alloc(), &decoder, &encoder, &ITEMS);
-    same(&rt, [same_back, bytes_back], [true, true]);
 }
 
-/// The way in a cursor, by a model and a reference to it.
+/// The way in a cursor that stands after the first of these words, by a model and a reference to it. It gives what comes
+/// back, and the words and the position that are left.
 fn in_a_cursor(
     alloc: Global,
     model: &Small,
     items: &[(usize, u8)],
-    cursor: &mut Cursor<u8, Vec<u8>>,
-) -> Result<Items, CursorFault> {
-    there_and_back_in_a_cursor(alloc, model, &model, items, cursor)
-}
-
-/// The model of the weights 3, 18, 1 and 42, of which nothing is to be learned.
-fn model(alloc: Global) -> Result<Small, ModelError> {
-    small(alloc, &WEIGHTS)
-}
-
-/// A cursor after the first of these words.
-fn at_1(words: Vec<u8>) -> Cursor<u8, Vec<u8>> {
+    words: Vec<u8>,
+) -> (Result<Items, CursorFault>, Vec<u8>, usize) {
     let mut cursor = Cursor::new_at_write_end_mut(words);
     let _ = cursor.seek(1);
-    cursor
+    let back = there_and_back_in_a_cursor(alloc, model, &model, items, &mut cursor);
+    let (words, pos) = cursor.into_buf_and_pos();
+    (back, words, pos)
 }
 
 #[test]
 fn items_come_back_in_their_order_from_a_cursor(rt: HostRuntime) {
-    let model = worked(&rt, rt.alloc());
-    let mut cursor = at_1(vec_of(&rt, rt.alloc(), &[7, 8, 9, 10, 11, 12]));
-    let back = in_a_cursor(rt.alloc(), &model, &ITEMS, &mut cursor);
+    let model = model_checks::small(&rt, rt.alloc());
+    let words = vec_of(&rt, rt.alloc(), &[7, 8, 9, 10, 11, 12]);
+    let (back, words, pos) = in_a_cursor(rt.alloc(), &model, &ITEMS, words);
     holds(&rt, &back.expect(&rt, "items"), &ITEMS);
-    holds(&rt, cursor.buf(), &[7, 2, 63, 3, 11, 12]);
-    same(&rt, cursor.pos(), 4);
+    holds(&rt, &words, &[7, 2, 63, 3, 11, 12]);
+    same(&rt, pos, 4);
 }
 
-/// Items are refused in a cursor of three words, and these words and the position stay.
+/// Items are refused in a cursor over 7, 8 and 9 that stands after the first, and these words and the position stay.
 fn keeps_the_words(
     rt: &impl Abort,
     alloc: Global,
     model: &Small,
-    items: &[(usize, u8)],
-    (name, fault, words, pos): (&str, CursorFault, &[u8], usize),
+    (name, items, fault, left, end): (&str, [(usize, u8); 3], CursorFault, [u8; 3], usize),
 ) {
-    let mut cursor = at_1(vec_of(rt, alloc, &[7, 8, 9]));
-    let back = in_a_cursor(alloc, model, items, &mut cursor);
+    let (back, words, pos) = in_a_cursor(alloc, model, &items, vec_of(rt, alloc, &[7, 8, 9]));
     same_at(rt, name, back.err(), Some(fault));
-    holds_at(rt, name, cursor.buf(), words);
-    same_at(rt, name, cursor.pos(), pos);
+    holds_at(rt, name, &words, &left);
+    same_at(rt, name, pos, end);
 }
 
-/// Items that are refused, why, and the words and the position that stay.
 #[test]
 fn a_cursor_keeps_the_words_before_a_refusal(rt: HostRuntime) {
-    let model = worked(&rt, rt.alloc());
+    let model = model_checks::small(&rt, rt.alloc());
     let impossible = CoderError::Frontend(QuantileFault::ImpossibleSymbol);
     let too_large = CoderError::Frontend(QuantileFault::OffsetTooLarge);
     let full = CoderError::Backend(ReadWriteError::Write(BoundedWriteError::OutOfSpace));
-    keeps_the_words(
-        &rt,
-        rt.alloc(),
-        &model,
-        &[(0, 2), (4, 0), (1, 0)],
-        ("an impossible symbol", impossible, &[7, 2, 9], 2),
+    let case = (
+        "an impossible symbol",
+        [(0, 2), (4, 0), (1, 0)],
+        impossible,
+        [7, 2, 9],
+        2,
     );
-    keeps_the_words(
-        &rt,
-        rt.alloc(),
-        &model,
-        &[(0, 2), (2, 1), (1, 0)],
-        ("an offset of the weight", too_large, &[7, 2, 9], 2),
+    keeps_the_words(&rt, rt.alloc(), &model, case);
+    let case = (
+        "an offset of the weight",
+        [(0, 2), (2, 1), (1, 0)],
+        too_large,
+        [7, 2, 9],
+        2,
     );
+    keeps_the_words(&rt, rt.alloc(), &model, case);
     keeps_the_words(
         &rt,
         rt.alloc(),
         &model,
-        &ITEMS,
-        ("no place", full, &[7, 2, 63], 3),
+        ("no place", ITEMS, full, [7, 2, 63], 3),
     );
 }
 
 /// Whichever request is refused, the words of all items stand then.
 #[test]
 fn a_refusal_of_memory_leaves_the_words_in_a_cursor(rt: HostRuntime) {
-    let Ok(model) = model(rt.alloc()) else {
+    let Ok(model) = table::<6>(rt.alloc(), &WEIGHTS, false) else {
         return;
     };
     let Ok(words) = [7u8, 8, 9, 10].to_vec(rt.alloc()) else {
         return;
     };
-    let mut cursor = at_1(words);
-    match in_a_cursor(rt.alloc(), &model, &ITEMS, &mut cursor) {
+    let (back, words, _pos) = in_a_cursor(rt.alloc(), &model, &ITEMS, words);
+    match back {
         Ok(items) => holds(&rt, &items, &ITEMS),
         Err(fault) => same(
             &rt,
@@ -248,35 +211,30 @@ fn a_refusal_of_memory_leaves_the_words_in_a_cursor(rt: HostRuntime) {
             CoderError::Backend(ReadWriteError::Read(AllocError)),
         ),
     }
-    holds(&rt, cursor.buf(), &[7, 2, 63, 3]);
+    holds(&rt, &words, &[7, 2, 63, 3]);
     end_of_requests(&rt);
 }
 
 /// Whichever request is refused, nothing comes back from a stack then.
 #[test]
 fn a_refusal_of_memory_ends_the_way_by_two_models(rt: HostRuntime) {
-    let Ok(model) = model(rt.alloc()) else {
+    let Ok(model) = table::<6>(rt.alloc(), &WEIGHTS, false) else {
         return;
     };
-    match through_a_stack(rt.alloc(), &model, &model, &ITEMS) {
+    match back_of_two(rt.alloc(), &model, &model, &ITEMS) {
         Ok(items) => holds(&rt, &items, &REVERSED),
         Err(fault) => same(&rt, fault, CoderError::Backend(AllocError)),
     }
     end_of_requests(&rt);
 }
 
-/// The decoder and the encoder that are made of a model.
-fn both_of(alloc: Global, model: &Small) -> Result<DecoderAndEncoder<usize, u8, 6>, ModelError> {
-    decoder_and_encoder(alloc, model)
-}
-
 /// Both models, or none where a request is refused.
 #[test]
 fn a_refusal_of_memory_leaves_no_decoder_and_no_encoder(rt: HostRuntime) {
-    let Ok(model) = model(rt.alloc()) else {
+    let Ok(model) = table::<6>(rt.alloc(), &WEIGHTS, false) else {
         return;
     };
-    match both_of(rt.alloc(), &model) {
+    match decoder_and_encoder::<_, 6>(rt.alloc(), &model) {
         Ok((decoder, encoder)) => {
             answers_as_a_scan::<_, 6>(&rt, &decoder, &WEIGHTS);
             same(&rt, encoder.support_size(), 4);
@@ -289,10 +247,7 @@ fn a_refusal_of_memory_leaves_no_decoder_and_no_encoder(rt: HostRuntime) {
 type Letter = (u8, u8);
 
 /// The way through a stack, by a decoder and an encoder that is none.
-fn letters_through_a_stack(
-    alloc: Global,
-    items: &[Letter],
-) -> Result<Vec<Letter>, CoderError<QuantileFault, AllocError>> {
+fn letters_through_a_stack(alloc: Global, items: &[Letter]) -> Back<u8, u8> {
     there_and_back_of_two(alloc, &Letters, &LetterEntries, items)
 }
 
@@ -308,37 +263,9 @@ fn an_encoder_that_is_no_decoder_writes_for_one(rt: HostRuntime) {
     let back = letters_through_a_stack(rt.alloc(), &items).expect(&rt, "items");
     holds(&rt, &back, &[(b'b', 1), (b'a', 0)]);
     let refused = letters_through_a_stack(rt.alloc(), &[(b'b', 2)]);
-    same(
-        &rt,
-        refused.err(),
-        Some(CoderError::Frontend(QuantileFault::OffsetTooLarge)),
-    );
+    let too_large = CoderError::Frontend(QuantileFault::OffsetTooLarge);
+    same(&rt, refused.err(), Some(too_large));
     let mut words = [0u8, 0];
     same(&rt, letters_come_back(rt.alloc(), &items, &mut words), true);
     same(&rt, words, [3, 2]);
-}
-
-/// Items there and back through a stack, by the decoder and the encoder that are made of one model.
-fn by_models_made_of(
-    alloc: Global,
-    model: &Small,
-    items: &[(usize, u8)],
-) -> Result<Items, CoderError<QuantileFault, AllocError>> {
-    match decoder_and_encoder::<_, 6>(alloc, model) {
-        Ok((decoder, encoder)) => there_and_back_of_two(alloc, &decoder, &encoder, items),
-        Err(_) => Err(CoderError::Backend(AllocError)),
-    }
-}
-
-#[test]
-fn items_come_back_by_two_models_made_of_one(rt: HostRuntime) {
-    let model = worked(&rt, rt.alloc());
-    let back = by_models_made_of(rt.alloc(), &model, &ITEMS).expect(&rt, "items");
-    holds(&rt, &back, &REVERSED);
-    let none = by_models_made_of(rt.alloc(), &model, &[(4, 0)]).err();
-    same(
-        &rt,
-        none,
-        Some(CoderError::Frontend(QuantileFault::ImpossibleSymbol)),
-    );
 }
