@@ -111,30 +111,27 @@ impl WholeNumber for Share {
 /// A model over shares.
 type Shares = ContiguousCategoricalEntropyModel<Share, Vec<Share>, 6>;
 
-/// The row of a quantile, in numbers.
-fn row(model: &Shares, quantile: u8) -> Option<(usize, u8, u8)>
-    requires { quantile < 2 ^ 6 }
-{
-    let (symbol, left, weight) = model.quantile_function(Share(quantile)).ok()?;
-    Some((symbol, left.0, weight.share.0))
-}
-
-/// The entry of a symbol, in numbers.
-fn entry(model: &Shares, symbol: usize) -> Option<(u8, u8)> {
-    let (left, weight) = model.left_cumulative_and_probability(&symbol)?;
-    Some((left.0, weight.share.0))
-}
-
 #[test]
 fn a_model_over_shares_answers_in_both_directions(rt: HostRuntime) {
     let weights = [Share(3), Share(18), Share(1), Share(42)];
     let made = Shares::from_nonzero_fixed_point_probabilities(rt.alloc(), weights, false);
     let model = made.expect(&rt, "accepted");
-    same(&rt, row(&model, 20), Some((1, 3, 18)));
-    same(&rt, row(&model, 21), Some((2, 21, 1)));
-    same(&rt, row(&model, 63), Some((3, 22, 42)));
-    same(&rt, entry(&model, 1), Some((3, 18)));
-    same(&rt, entry(&model, 4), None);
+    for (quantile, row) in [(20u8, (1, 3, 18)), (21, (2, 21, 1)), (63, (3, 22, 42))] {
+        assert!(rt; quantile < 64);
+        let (symbol, left, weight) = model
+            .quantile_function(Share(quantile))
+            .expect(&rt, "a row");
+        same(&rt, (symbol, left.0, weight.share.0), row);
+    }
+    let (left, weight) = model
+        .left_cumulative_and_probability(&1)
+        .expect(&rt, "an entry");
+    same(&rt, (left.0, weight.share.0), (3, 18));
+    same(
+        &rt,
+        model.left_cumulative_and_probability(&4).is_none(),
+        true,
+    );
     let uniform = UniformModel::<Share, 8>::new(3);
     let (symbol, left, weight) = uniform.quantile_function(Share(255)).expect(&rt, "a row");
     same(&rt, (symbol, left.0, weight.share.0), (2, 170, 86));
