@@ -7,56 +7,67 @@ use crate::model_checks::{answers, answers_as_a_scan, made, small};
 use constriction::stream::model::{DecoderModel, EncoderModel, ModelError, Probe, row_of_quantile};
 use constriction_fixtures::contiguous::{FULL_TABLES, TABLES, Table, WEIGHTS, table};
 use constriction_fixtures::given::of_four;
+use constriction_fixtures::tables::row;
 use constriction_words::WholeNumber;
 use std::alloc::Global;
 use std::process::Abort;
+
+/// Some quantiles of the model of four weights, and their rows.
+const ROWS: [(u8, (usize, u8, u8)); 6] = [
+    (2, (0, 0, 3)),
+    (3, (1, 3, 18)),
+    (20, (1, 3, 18)),
+    (21, (2, 21, 1)),
+    (22, (3, 22, 42)),
+    (63, (3, 22, 42)),
+];
 
 #[test]
 fn quantiles_have_the_rows_that_a_scan_finds_and_symbols_their_entries(rt: HostRuntime) {
     let model = of_four(rt.alloc(), WEIGHTS).expect(&rt, "accepted");
     answers_as_a_scan::<_, 6>(&rt, &model, &WEIGHTS);
-    let rows = [
-        (0u8, (0, 0u8, 3u8)),
-        (20, (1, 3, 18)),
-        (21, (2, 21, 1)),
-        (63, (3, 22, 42)),
-    ];
-    answers::<_, 6>(&rt, &model, &rows, &[4, usize::MAX]);
+    answers::<_, 6>(&rt, &model, &ROWS, &[4, usize::MAX]);
     same(&rt, model.support_size(), 4);
 }
 
-/// Stops the test where the counted search does not find this symbol among so many rows, or asks more questions
-/// than that.
+/// Stops the test where the model does not answer a quantile with this row, or the counted search does not find it
+/// among so many rows, or asks more questions than that.
 fn finds<const PRECISION: usize>(
     rt: &impl Abort,
     model: &Table<PRECISION>,
     quantile: u8,
-    symbol: usize,
+    expected: (usize, u8, u8),
     sizes: (usize, usize),
 )
     requires { quantile < 2 ^ PRECISION }
 {
     let (size, most) = sizes;
+    same_at(
+        rt,
+        quantile,
+        row(Some(model.quantile_function(quantile))),
+        Some(expected),
+    );
     let (first, mut rows) = model.quantile_probe(quantile);
     let before = (first, rows.len(), rows.asked());
     let found = row_of_quantile(&mut rows, quantile);
     let asked = rows.asked();
-    same_at(rt, quantile, (before, found), ((0, size, 0), symbol));
+    same_at(rt, quantile, (before, found), ((0, size, 0), expected.0));
     same_at(rt, quantile, (asked > 0, asked <= most), (most > 0, true));
 }
 
 #[test]
 fn a_search_of_1_4_and_256_rows_asks_at_most_0_2_and_8_questions(rt: HostRuntime) {
     let one = made::<6>(&rt, rt.alloc(), &[64], false);
-    finds(&rt, &one, 63, 0, (1, 0));
+    finds(&rt, &one, 63, (0, 0, 64), (1, 0));
     let four = small(&rt, rt.alloc());
-    for (quantile, symbol) in [(2u8, 0), (3, 1), (20, 1), (21, 2), (22, 3), (63, 3)] {
+    for each in &ROWS {
+        let (quantile, expected) = *each;
         assert!(rt; quantile < 64);
-        finds(&rt, &four, quantile, symbol, (4, 2));
+        finds(&rt, &four, quantile, expected, (4, 2));
     }
     let many = made::<8>(&rt, rt.alloc(), &[1; 256], false);
-    finds(&rt, &many, 200, 200, (256, 8));
-    answers_as_a_scan::<_, 8>(&rt, &many, &[1; 256]);
+    finds(&rt, &many, 200, (200, 200, 1), (256, 8));
 }
 
 fn are_accepted<const PRECISION: usize>(
@@ -112,16 +123,19 @@ fn a_model_and_references_to_it_are_used_through_bounds(rt: HostRuntime) {
     same(&rt, symbol_through_bounds(model, 3u8), Some(1));
 }
 
+const SENTENCES: [(ModelError, &str); 2] = [
+    (
+        ModelError::InvalidTable,
+        "The weights, or the symbols, are not accepted.",
+    ),
+    (ModelError::OutOfMemory, "Memory was refused."),
+];
+
 #[test]
 fn why_there_is_no_model_is_said_in_a_sentence(rt: HostRuntime) {
-    for (error, text) in [
-        (
-            ModelError::InvalidTable,
-            "The weights, or the symbols, are not accepted.",
-        ),
-        (ModelError::OutOfMemory, "Memory was refused."),
-    ] {
+    for each in &SENTENCES {
+        let (error, text) = each;
         let printed = format!(in rt.alloc(); "{error}").expect(&rt, "memory");
-        same(&rt, printed.as_str(), text);
+        same(&rt, printed.as_str(), *text);
     }
 }

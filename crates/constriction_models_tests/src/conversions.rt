@@ -100,7 +100,7 @@ fn models_that_are_made_from_one_of_numbers_answer_as_it_does(rt: HostRuntime) {
 
 /// Stops the test where what was made has other rows than the worked table.
 fn have_rows(rt: &impl Abort, made: Made<char, 6>) {
-    decodes(rt, &made.0.expect(rt, "a model"), &ROWS);
+    decodes::<_, 6>(rt, &made.0.expect(rt, "a model"), &ROWS);
     encodes(rt, &made.1.expect(rt, "a model"), &ROWS);
 }
 

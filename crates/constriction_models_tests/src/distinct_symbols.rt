@@ -58,56 +58,54 @@ const IN_ORDER: [char; 4] = ['a', 'c', 'x', 'y'];
 
 const ROWS_IN_ORDER: [Row; 4] = [('a', 0, 3), ('c', 3, 18), ('x', 21, 1), ('y', 22, 42)];
 
+/// Whether letters are in order and not hashed, the letters, their weights, whether the last one is inferred, and the
+/// rows.
+const ACCEPTED: [(bool, &[char], &[u8], bool, &[Row]); 5] = [
+    (false, &SYMBOLS, &WEIGHTS, false, &ROWS),
+    (false, &SYMBOLS, &[3, 18, 1], true, &ROWS),
+    (true, &IN_ORDER, &WEIGHTS, false, &ROWS_IN_ORDER),
+    (true, &IN_ORDER, &[3, 18, 1], true, &ROWS_IN_ORDER),
+    (true, &['a'], &[64], false, &[('a', 0, 64)]),
+];
+
 #[test]
 fn letters_are_told_apart_by_their_hashes_or_their_order(rt: HostRuntime) {
-    for (in_order, symbols, weights, infer, rows) in [
-        (
-            false,
-            SYMBOLS.as_slice(),
-            WEIGHTS.as_slice(),
-            false,
-            ROWS.as_slice(),
-        ),
-        (false, &SYMBOLS, &[3, 18, 1], true, &ROWS),
-        (true, &IN_ORDER, &WEIGHTS, false, &ROWS_IN_ORDER),
-        (true, &IN_ORDER, &[3, 18, 1], true, &ROWS_IN_ORDER),
-        (true, &['a'], &[64], false, &[('a', 0, 64)]),
-    ] {
+    for each in &ACCEPTED {
+        let (in_order, symbols, weights, infer, rows) = *each;
         let model = letters(rt.alloc(), in_order, symbols, weights, infer).expect(&rt, "a model");
-        decodes(&rt, &model, rows);
+        decodes::<_, 6>(&rt, &model, rows);
     }
 }
 
+/// What is wrong, whether letters are in order and not hashed, the letters, and their weights.
+const REFUSED: [(&str, bool, &[char], &[u8]); 11] = [
+    ("neighbours", false, &['a', 'a', 'c', 'y'], &WEIGHTS),
+    (
+        "the first one and the last one",
+        false,
+        &['a', 'x', 'c', 'a'],
+        &WEIGHTS,
+    ),
+    ("the last two", false, &['a', 'x', 'y', 'y'], &WEIGHTS),
+    ("a 0", false, &IN_ORDER, &[3, 18, 0, 43]),
+    ("too much", false, &IN_ORDER, &[3, 18, 2, 42]),
+    ("a symbol more", false, &IN_ORDER, &[22, 42]),
+    ("neighbours in order", true, &['a', 'c', 'c', 'y'], &WEIGHTS),
+    (
+        "the last two in order",
+        true,
+        &['a', 'c', 'y', 'y'],
+        &WEIGHTS,
+    ),
+    ("not in order", true, &SYMBOLS, &WEIGHTS),
+    ("too little", true, &IN_ORDER, &[3, 18, 1, 41]),
+    ("a weight more", true, &['a', 'c'], &[3, 18, 43]),
+];
+
 #[test]
 fn letters_and_weights_that_are_not_accepted(rt: HostRuntime) {
-    for (name, in_order, symbols, weights) in [
-        (
-            "neighbours",
-            false,
-            ['a', 'a', 'c', 'y'].as_slice(),
-            WEIGHTS.as_slice(),
-        ),
-        (
-            "the first one and the last one",
-            false,
-            &['a', 'x', 'c', 'a'],
-            &WEIGHTS,
-        ),
-        ("the last two", false, &['a', 'x', 'y', 'y'], &WEIGHTS),
-        ("a 0", false, &IN_ORDER, &[3, 18, 0, 43]),
-        ("too much", false, &IN_ORDER, &[3, 18, 2, 42]),
-        ("a symbol more", false, &IN_ORDER, &[22, 42]),
-        ("neighbours in order", true, &['a', 'c', 'c', 'y'], &WEIGHTS),
-        (
-            "the last two in order",
-            true,
-            &['a', 'c', 'y', 'y'],
-            &WEIGHTS,
-        ),
-        ("not in order", true, &SYMBOLS, &WEIGHTS),
-        ("too little", true, &IN_ORDER, &[3, 18, 1, 41]),
-        ("a weight more", true, &['a', 'c'], &[3, 18, 43]),
-    ] {
+    for each in &REFUSED {
+        let (name, in_order, symbols, weights) = *each;
         let refused = letters(rt.alloc(), in_order, symbols, weights, false).err();
         same_at(&rt, name, refused, Some(ModelError::InvalidTable));
     }
@@ -129,14 +127,14 @@ fn an_enum_is_hashed_and_ordered(rt: HostRuntime) {
         [16, 16, 32],
         false,
     );
-    decodes(&rt, &hashed.expect(&rt, "a model"), &MOVES);
+    decodes::<_, 6>(&rt, &hashed.expect(&rt, "a model"), &MOVES);
     let sorted = Moves::from_sorted_symbols_and_nonzero_fixed_point_probabilities(
         rt.alloc(),
         symbols,
         [16, 16, 32],
         false,
     );
-    decodes(&rt, &sorted.expect(&rt, "a model"), &MOVES);
+    decodes::<_, 6>(&rt, &sorted.expect(&rt, "a model"), &MOVES);
 }
 
 /// Texts, each in memory of its own. It stops the test where memory is refused.
@@ -198,17 +196,19 @@ fn of_distinct(alloc: Global, symbols: [usize; 4], weights: [u8; 4]) -> Result<N
     )
 }
 
+/// The rows of the model of these numbers.
+const NUMBERS: [(usize, u8, u8); 4] = [(7, 0, 3), (3, 3, 18), (9, 21, 1), (5, 22, 42)];
+
 #[test]
 fn numbers_that_are_known_to_differ_are_not_compared(rt: HostRuntime) {
-    let rows = [(7, 0, 3), (3, 3, 18), (9, 21, 1), (5, 22, 42)];
     let made = of_distinct(rt.alloc(), [7, 3, 9, 5], WEIGHTS).expect(&rt, "a model");
-    decodes(&rt, &made, &rows);
+    decodes::<_, 6>(&rt, &made, &NUMBERS);
     let refused = of_distinct(rt.alloc(), [7, 3, 9, 5], [3, 18, 1, 43]);
     same(&rt, refused.err(), Some(ModelError::InvalidTable));
     let looks_up = made
         .into_lookup_decoder_model(rt.alloc())
         .expect(&rt, "a model");
-    decodes(&rt, &looks_up, &rows);
+    decodes::<_, 6>(&rt, &looks_up, &NUMBERS);
 }
 
 /// The lookup model of the rows of a contiguous one.
@@ -226,25 +226,25 @@ fn again(alloc: Global, model: &Decoder<6>) -> Result<Decoder<6>, ModelError> {
 #[test]
 fn models_whose_symbols_differ_are_converted_without_comparing(rt: HostRuntime) {
     let looks_up = of_contiguous(rt.alloc(), &small(&rt, rt.alloc())).expect(&rt, "a model");
-    decodes(
+    decodes::<_, 6>(
         &rt,
         &looks_up,
         &[(0, 0, 3), (1, 3, 18), (2, 21, 1), (3, 22, 42)],
     );
     let model = letters(rt.alloc(), false, &SYMBOLS, &WEIGHTS, false).expect(&rt, "a model");
     let made = again(rt.alloc(), &model).expect(&rt, "a model");
-    decodes(&rt, &made, &ROWS);
+    decodes::<_, 6>(&rt, &made, &ROWS);
 }
 
 #[test]
 fn a_refusal_of_memory_leaves_no_model_of_symbols_that_are_not_compared(rt: HostRuntime) {
     let sorted = letters(rt.alloc(), true, &IN_ORDER, &WEIGHTS, false);
-    decodes_or_is_refused(&rt, &sorted, &ROWS_IN_ORDER);
+    decodes_or_is_refused::<_, 6>(&rt, &sorted, &ROWS_IN_ORDER);
     let hashed = letters(rt.alloc(), false, &SYMBOLS, &WEIGHTS, false);
-    decodes_or_is_refused(&rt, &hashed, &ROWS);
+    decodes_or_is_refused::<_, 6>(&rt, &hashed, &ROWS);
     if let Ok(model) = hashed {
-        decodes_or_is_refused(&rt, &again(rt.alloc(), &model), &ROWS);
-        decodes_or_is_refused(&rt, &model.into_lookup_decoder_model(rt.alloc()), &ROWS);
+        decodes_or_is_refused::<_, 6>(&rt, &again(rt.alloc(), &model), &ROWS);
+        decodes_or_is_refused::<_, 6>(&rt, &model.into_lookup_decoder_model(rt.alloc()), &ROWS);
     }
     end_of_requests(&rt);
 }

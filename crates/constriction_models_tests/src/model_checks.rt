@@ -7,7 +7,7 @@ use constriction::stream::model::{
     DecoderModel, EncoderModel, IterableEntropyModel, ModelError, NonContiguousSymbolTable,
     is_quantile,
 };
-use constriction_fixtures::any_symbols::{Step, plain};
+use constriction_fixtures::any_symbols::{Row, Step, plain};
 use constriction_fixtures::contiguous::{Small, Table, WEIGHTS, row_by_scan, table};
 use constriction_fixtures::tables::{look_up, row};
 use constriction_words::WholeNumber;
@@ -16,16 +16,18 @@ use std::fmt::{Debug, Display};
 use std::process::Abort;
 
 /// Stops the test where the model does not answer each quantile of each of these rows with the row.
-pub fn decodes<M>(rt: &impl Abort, model: &M, rows: &[(M::Symbol, u8, u8)])
+pub fn decodes<M, const PRECISION: usize>(rt: &impl Abort, model: &M, rows: &[(M::Symbol, u8, u8)])
 where
-    M: DecoderModel<6, Probability = u8>,
+    M: DecoderModel<PRECISION, Probability = u8>,
     M::Symbol: Copy + PartialEq + Debug,
+    requires positive { 0 < PRECISION }
+    requires fits { PRECISION ≤ 8 }
 {
     for row in rows {
         let (_, left, weight) = *row;
         for offset in 0..weight {
             let quantile = left.wrapping_add(offset);
-            assert!(rt; quantile < 64);
+            assert!(rt; is_quantile::<u8, PRECISION>(quantile));
             let found = plain(model.quantile_function(quantile));
             same_at(rt, quantile, found, Ok(*row));
         }
@@ -33,16 +35,18 @@ where
 }
 
 /// Stops the test where the answer is neither a model of these rows nor a refusal of memory.
-pub fn decodes_or_is_refused<M>(
+pub fn decodes_or_is_refused<M, const PRECISION: usize>(
     rt: &impl Abort,
     made: &Result<M, ModelError>,
-    rows: &[(char, u8, u8)],
+    rows: &[Row],
 )
 where
-    M: DecoderModel<6, Symbol = char, Probability = u8>,
+    M: DecoderModel<PRECISION, Symbol = char, Probability = u8>,
+    requires positive { 0 < PRECISION }
+    requires fits { PRECISION ≤ 8 }
 {
     match made {
-        Ok(model) => decodes(rt, model, rows),
+        Ok(model) => decodes::<M, PRECISION>(rt, model, rows),
         Err(error) => same(rt, error, &ModelError::OutOfMemory),
     }
 }

@@ -11,7 +11,7 @@ ghost use Rattle.constriction.specs.Tables.{YieldsRow};
 use crate::any_symbols::encodes;
 use crate::checks::{same, same_at};
 use crate::conversions::{Made, made};
-use crate::model_checks::walks;
+use crate::model_checks::{decodes, walks};
 use constriction::stream::model::{
     EncoderModel, EntropyModel, IterableEntropyModel, ModelError, Weight, to_generic_decoder_model,
 };
@@ -52,8 +52,11 @@ fn two_rows_of_one_letter_make_an_encoder_and_no_decoder(rt: HostRuntime) {
     is_encoder(&rt, by_method, &[('p', 7, 1), ('q', 2, 5)]);
 }
 
-/// The walk through the rows of the caller's model of `p`, `q` and `r`.
-pub const STEPS: [Step; 4] = [
+/// The rows of the caller's model of `p`, `q` and `r`.
+pub const THREE: [Row; 3] = [('p', 0, 2), ('q', 2, 5), ('r', 7, 1)];
+
+/// The walk through them.
+const STEPS: [Step; 4] = [
     (false, 3, Some(Ok(('p', 0, 2)))),
     (false, 2, Some(Ok(('q', 2, 5)))),
     (false, 1, Some(Ok(('r', 7, 1)))),
@@ -64,6 +67,7 @@ pub const STEPS: [Step; 4] = [
 fn a_decoder_has_the_rows_of_three_letters_of_the_caller(rt: HostRuntime) {
     let model = decoder_of(rt.alloc(), &three('p', 'q', 'r')).expect(&rt, "a model");
     walks(&rt, model.symbol_table(), &STEPS);
+    decodes::<_, 3>(&rt, &model, &THREE);
 }
 
 /// A model of one letter, which has two rows of the same weight. It is copied into its table.

@@ -1,14 +1,14 @@
 //! What the calls that make searching models answer where memory is refused: a model, or
 //! `OutOfMemory`. `tools/refused-memory` refuses each request in turn.
 
+ghost use Rattle.std.specs.Prelude.{◌<◌, ◌≤◌};
+
 use crate::any_symbols::encodes;
 use crate::checks::{end_of_requests, same};
 use crate::conversions::{Made, made};
-use crate::model_checks::{answers_as_a_scan, decodes, decodes_or_is_refused, walks};
-use crate::own_model::STEPS;
-use constriction::stream::model::{
-    IterableEntropyModel, ModelError, NonContiguousCategoricalDecoderModel,
-};
+use crate::model_checks::{answers_as_a_scan, decodes, decodes_or_is_refused};
+use crate::own_model::THREE;
+use constriction::stream::model::{ModelError, NonContiguousCategoricalDecoderModel};
 use constriction_fixtures::any_symbols::{Decoder, Encoder, ROWS, Row, SYMBOLS, WEIGHTS, decoder};
 use constriction_fixtures::contiguous::Table;
 use constriction_fixtures::own_model::three;
@@ -67,11 +67,11 @@ fn a_refusal_of_memory_leaves_no_decoder(rt: HostRuntime) {
     );
     if let Ok(model) = &made {
         match model.clone() {
-            Ok(clone) => decodes(&rt, &clone, &ROWS),
+            Ok(clone) => decodes::<_, 6>(&rt, &clone, &ROWS),
             Err(error) => same(&rt, error, AllocError),
         }
     }
-    decodes_or_is_refused(&rt, &made, &ROWS);
+    decodes_or_is_refused::<_, 6>(&rt, &made, &ROWS);
     end_of_requests(&rt);
 }
 
@@ -94,35 +94,37 @@ fn a_refusal_of_memory_leaves_no_encoder(rt: HostRuntime) {
     end_of_requests(&rt);
 }
 
+/// Stops the test where an answer is neither a model of these rows nor a refusal of memory.
+fn have_rows_or_are_refused<const PRECISION: usize>(
+    rt: &impl Abort,
+    made: &Made<char, PRECISION>,
+    rows: &[Row],
+)
+    requires positive { 0 < PRECISION }
+    requires fits { PRECISION ≤ 8 }
+{
+    decodes_or_is_refused::<_, PRECISION>(rt, &made.0, rows);
+    encodes_or_is_refused(rt, &made.1, rows);
+}
+
 #[test]
 fn a_refusal_of_memory_leaves_the_model_that_others_are_made_from(rt: HostRuntime) {
     let source = decoder::<6>(rt.alloc(), &SYMBOLS, &WEIGHTS, false);
     if let Ok(model) = &source {
         let (by_function, by_method) = made::<_, 6>(rt.alloc(), model);
-        decodes_or_is_refused(&rt, &by_function.0, &ROWS);
-        encodes_or_is_refused(&rt, &by_function.1, &ROWS);
-        decodes_or_is_refused(&rt, &by_method.0, &ROWS);
-        encodes_or_is_refused(&rt, &by_method.1, &ROWS);
+        have_rows_or_are_refused(&rt, &by_function, &ROWS);
+        have_rows_or_are_refused(&rt, &by_method, &ROWS);
     }
-    decodes_or_is_refused(&rt, &source, &ROWS);
+    decodes_or_is_refused::<_, 6>(&rt, &source, &ROWS);
     end_of_requests(&rt);
-}
-
-/// Stops the test where an answer is neither a model of the caller's three letters nor a refusal of memory.
-fn are_three(rt: &impl Abort, made: &Made<char, 3>) {
-    match &made.0 {
-        Ok(model) => walks(rt, model.symbol_table(), &STEPS),
-        Err(error) => same(rt, error, &ModelError::OutOfMemory),
-    }
-    encodes_or_is_refused(rt, &made.1, &[('p', 0, 2), ('q', 2, 5), ('r', 7, 1)]);
 }
 
 /// The table of this model announces no row, so that what is made of it grows.
 #[test]
 fn a_refusal_of_memory_leaves_a_model_of_the_caller(rt: HostRuntime) {
     let (by_function, by_method) = made::<_, 3>(rt.alloc(), &three('p', 'q', 'r'));
-    are_three(&rt, &by_function);
-    are_three(&rt, &by_method);
+    have_rows_or_are_refused(&rt, &by_function, &THREE);
+    have_rows_or_are_refused(&rt, &by_method, &THREE);
     end_of_requests(&rt);
 }
 

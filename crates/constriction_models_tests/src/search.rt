@@ -57,15 +57,18 @@ fn a_table_of_the_caller_is_searched(rt: HostRuntime) {
 }
 
 #[test]
-fn entries_tell_their_cumulatives_and_a_probe_of_them_counts_its_questions(rt: HostRuntime) {
-    let entries: [u8; 4] = [0, 3, 21, 22];
+fn entries_tell_their_cumulatives(rt: HostRuntime) {
     same(&rt, <Alone as CdfEntry<u8>>::cumulative_of(&7), 7);
-    let entry = (9, 'a');
     same(
         &rt,
-        <WithSymbol as CdfEntry<(u16, char)>>::cumulative_of(&entry),
+        <WithSymbol as CdfEntry<(u16, char)>>::cumulative_of(&(9, 'a')),
         9,
     );
+}
+
+#[test]
+fn a_probe_of_entries_counts_its_questions(rt: HostRuntime) {
+    let entries: [u8; 4] = [0, 3, 21, 22];
     let mut rows = CdfProbe::<u8, Alone>::new(entries.as_slice());
     same(&rt, (rows.len(), rows.asked()), (4, 0));
     same(

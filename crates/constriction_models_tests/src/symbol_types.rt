@@ -70,12 +70,14 @@ fn tagged(
 
 /// Stops the test where the model has not the tags 12 and 3 as they were given.
 fn has_tags<M: DecoderModel<6, Symbol = Tag, Probability = u8>>(rt: &impl Abort, model: &M) {
-    for (quantile, expected) in [(31u8, (12, 0, 32)), (32, (3, 32, 32))] {
-        assert!(rt; quantile < 64);
-        let (tag, left, weight) = plain(model.quantile_function(quantile)).expect(rt, "a row");
-        same_at(rt, quantile, (tag.0, left, weight), expected);
-    }
+    let (first, left, weight) = plain(model.quantile_function(31)).expect(rt, "a row");
+    same(rt, (first.0, left, weight), (12, 0, 32));
+    let (second, left, weight) = plain(model.quantile_function(32)).expect(rt, "a row");
+    same(rt, (second.0, left, weight), (3, 32, 32));
 }
+
+/// Tags and their entries in the model of the tags 12 and 3.
+const ENTRIES: [(u32, Option<(u8, u8)>); 3] = [(2, Some((0, 32))), (13, Some((32, 32))), (4, None)];
 
 #[test]
 fn tags_are_told_by_their_own_equality(rt: HostRuntime) {
@@ -83,7 +85,8 @@ fn tags_are_told_by_their_own_equality(rt: HostRuntime) {
     has_tags(&rt, &decoder.expect(&rt, "accepted"));
     has_tags(&rt, &looks_up.expect(&rt, "accepted"));
     let encoder = encoder.expect(&rt, "accepted");
-    for (tag, expected) in [(2, Some((0, 32))), (13, Some((32, 32))), (4, None)] {
+    for each in &ENTRIES {
+        let (tag, expected) = *each;
         let entry = plain_entry(encoder.left_cumulative_and_probability(&Tag(tag)));
         same_at(&rt, tag, entry, expected);
     }

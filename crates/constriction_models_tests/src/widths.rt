@@ -26,22 +26,24 @@ const COUNTS: [u32; 37] = [
     13892864,
 ];
 
+/// Some of their rows, beside a quantile of each.
+const ROWS_OF_COUNTS: [(u32, (usize, u32, u32)); 6] = [
+    (2290362110, (15, 2290362110, 234666240)),
+    (2525028350, (16, 2525028350, 1)),
+    (2525028351, (17, 2525028351, 1)),
+    (2525028352, (18, 2525028352, 227725568)),
+    (4281074432, (36, 4281074432, 13892864)),
+    (u32::MAX, (36, 4281074432, 13892864)),
+];
+
 #[test]
 fn counts_of_37_symbols_at_the_full_width_of_u32(rt: HostRuntime) {
     let model = model_of::<u32, 32>(rt.alloc(), &COUNTS, false).expect(&rt, "accepted");
     same(&rt, model.support_size(), 37);
-    let rows = [
-        (2290362110u32, (15, 2290362110u32, 234666240u32)),
-        (2525028350, (16, 2525028350, 1)),
-        (2525028351, (17, 2525028351, 1)),
-        (2525028352, (18, 2525028352, 227725568)),
-        (4281074432, (36, 4281074432, 13892864)),
-        (u32::MAX, (36, 4281074432, 13892864)),
-    ];
-    answers::<_, 32>(&rt, &model, &rows, &[37]);
+    answers::<_, 32>(&rt, &model, &ROWS_OF_COUNTS, &[37]);
     let (_, mut rows) = model.quantile_probe(u32::MAX);
-    same(&rt, row_of_quantile(&mut rows, u32::MAX), 36);
-    same(&rt, rows.asked() <= 6, true);
+    let found = row_of_quantile(&mut rows, u32::MAX);
+    same(&rt, (found, rows.asked() <= 6), (36, true));
 }
 
 /// Stops the test where the model of these weights does not answer so, or has an entry for one symbol more.
@@ -88,7 +90,8 @@ fn weights_whose_sum_wraps_are_refused(rt: HostRuntime) {
     same(&rt, refused, Some(ModelError::InvalidTable));
 }
 
-/// Stops the test where the model of these weights does not answer so, or there is one where it is to have no row.
+/// Stops the test where the model of these weights does not answer the quantile with the row, or where weights without a
+/// row are accepted.
 fn last_rows<const PRECISION: usize>(
     rt: &impl Abort,
     alloc: Global,
@@ -155,26 +158,27 @@ fn an_announced_length_takes_no_memory_that_an_accepted_list_would_not(rt: HostR
     same(&rt, refused.err(), Some(ModelError::InvalidTable));
 }
 
+/// The rows of the weights 96, 1000 and 3000, beside the first and the last quantile of each.
+const ROWS_OF_THREE: [(u16, (usize, u16, u16)); 6] = [
+    (0, (0, 0, 96)),
+    (95, (0, 0, 96)),
+    (96, (1, 96, 1000)),
+    (1095, (1, 96, 1000)),
+    (1096, (2, 1096, 3000)),
+    (4095, (2, 1096, 3000)),
+];
+
 #[test]
 fn the_views_and_clones_of_a_model_answer_as_it_does(rt: HostRuntime) {
     type Small = SmallContiguousCategoricalEntropyModel;
-    let weights = [96u16, 1000, 3000];
-    let model = Small::from_nonzero_fixed_point_probabilities(rt.alloc(), weights, false);
+    let model = Small::from_nonzero_fixed_point_probabilities(rt.alloc(), [96, 1000, 3000], false);
     let model = model.expect(&rt, "accepted");
     let clone = model.clone().expect(&rt, "a clone");
     let view = model.as_view();
     let again = view.as_view();
-    let rows = [
-        (0u16, (0, 0u16, 96u16)),
-        (95, (0, 0, 96)),
-        (96, (1, 96, 1000)),
-        (1095, (1, 96, 1000)),
-        (1096, (2, 1096, 3000)),
-        (4095, (2, 1096, 3000)),
-    ];
-    answers::<_, 12>(&rt, &clone, &rows, &[clone.support_size()]);
-    answers::<_, 12>(&rt, &view, &rows, &[view.support_size()]);
-    answers::<_, 12>(&rt, &again, &rows, &[again.support_size()]);
+    answers::<_, 12>(&rt, &clone, &ROWS_OF_THREE, &[clone.support_size()]);
+    answers::<_, 12>(&rt, &view, &ROWS_OF_THREE, &[view.support_size()]);
+    answers::<_, 12>(&rt, &again, &ROWS_OF_THREE, &[again.support_size()]);
     shows(&rt, rt.alloc(), &view, "[0, 96, 1096, 4096]");
 }
 
