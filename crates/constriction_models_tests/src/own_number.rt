@@ -118,23 +118,20 @@ fn row(answer: Result<(usize, Share, SomeShare), AllocError>) -> Option<(usize, 
     Some((symbol, left.0, weight.share.0))
 }
 
-/// A quantile of some rows, and the row.
-const ROWS: [(u8, (usize, u8, u8)); 3] = [(20, (1, 3, 18)), (21, (2, 21, 1)), (63, (3, 22, 42))];
-
 #[test]
 fn a_model_over_shares_answers_in_both_directions(rt: HostRuntime) {
     let weights = [Share(3), Share(18), Share(1), Share(42)];
     let made = Shares::from_nonzero_fixed_point_probabilities(rt.alloc(), weights, false);
     let model = made.expect(&rt, "accepted");
-    for each in &ROWS {
-        let (quantile, expected) = *each;
-        assert!(rt; quantile < 64);
-        same(
-            &rt,
-            row(model.quantile_function(Share(quantile))),
-            Some(expected),
-        );
-    }
+    same(
+        &rt,
+        [
+            row(model.quantile_function(Share(20))),
+            row(model.quantile_function(Share(21))),
+            row(model.quantile_function(Share(63))),
+        ],
+        [Some((1, 3, 18)), Some((2, 21, 1)), Some((3, 22, 42))],
+    );
     let (left, weight) = model
         .left_cumulative_and_probability(&1)
         .expect(&rt, "an entry");
