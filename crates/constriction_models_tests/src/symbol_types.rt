@@ -105,14 +105,9 @@ fn is_refused<T: Drop>(rt: &impl Abort, made: Result<T, ModelError>, why: ModelE
     same(rt, made.err(), Some(why));
 }
 
-/// The lookup model of the letters `a`, `r` and `c`.
+/// The lookup model of `a`, `r` and `c`, which takes the letters from the searching one and clones none.
 fn lookup_of_letters(alloc: Global) -> Result<Lookup<Letter, 6>, ModelError> {
-    Lookup::from_symbols_and_nonzero_fixed_point_probabilities(
-        alloc,
-        [Letter('a'), Letter('r'), Letter('c')],
-        [16, 32, 16],
-        false,
-    )
+    letters(alloc)?.into_lookup_decoder_model(alloc)
 }
 
 /// The row of an answer, with the character of its letter.
