@@ -21,7 +21,7 @@ use std::process::Abort;
 
 /// Stops the test where the model does not have these letters and no others, each with the entry of its
 /// row.
-pub fn encodes(rt: &impl Abort, model: &Encoder<6>, rows: &[Row]) {
+pub fn encodes<const PRECISION: usize>(rt: &impl Abort, model: &Encoder<PRECISION>, rows: &[Row]) {
     for row in rows {
         let (symbol, left, weight) = *row;
         same_at(rt, symbol, entry(model, symbol), Some((left, weight)));
@@ -33,27 +33,30 @@ pub fn encodes(rt: &impl Abort, model: &Encoder<6>, rows: &[Row]) {
     );
 }
 
-#[test]
-fn letters_have_their_quantiles_and_entries(rt: HostRuntime) {
-    for (weights, infer) in [(WEIGHTS.as_slice(), false), (&[3, 18, 1], true)] {
-        let model = decoder::<6>(rt.alloc(), &SYMBOLS, weights, infer).expect(&rt, "accepted");
-        decodes(&rt, &model, &ROWS);
-        same(&rt, model.support_size(), 4);
-        let model = encoder::<6>(rt.alloc(), &SYMBOLS, weights, infer).expect(&rt, "accepted");
-        encodes(&rt, &model, &ROWS);
-    }
+/// Stops the test where the model, a view of a view of it or a clone has other rows than the worked table.
+fn has_rows(rt: &impl Abort, model: &Decoder<6>) {
+    let clone = model.clone().expect(rt, "a clone");
+    let view = model.as_view();
+    decodes::<_, 6>(rt, model, &ROWS);
+    decodes::<_, 6>(rt, &view.as_view(), &ROWS);
+    decodes::<_, 6>(rt, &clone, &ROWS);
+    let sizes = [
+        model.support_size(),
+        view.support_size(),
+        clone.support_size(),
+    ];
+    same(rt, sizes, [4, 4, 4]);
 }
 
 #[test]
-fn the_views_and_clones_of_letters_answer_alike(rt: HostRuntime) {
-    let model = decoder::<6>(rt.alloc(), &SYMBOLS, &WEIGHTS, false).expect(&rt, "accepted");
-    decodes(&rt, &model.as_view().as_view(), &ROWS);
-    same(&rt, model.as_view().support_size(), 4);
-    let clone = model.clone().expect(&rt, "a clone");
-    decodes(&rt, &clone, &ROWS);
-    same(&rt, clone.support_size(), 4);
-    let model = encoder::<6>(rt.alloc(), &SYMBOLS, &WEIGHTS, false).expect(&rt, "accepted");
-    encodes(&rt, &model.clone().expect(&rt, "a clone"), &ROWS);
+fn models_of_letters_and_their_views_and_clones_have_the_rows(rt: HostRuntime) {
+    for (weights, infer) in [(WEIGHTS.as_slice(), false), (&[3, 18, 1], true)] {
+        let model = decoder::<6>(rt.alloc(), &SYMBOLS, weights, infer).expect(&rt, "accepted");
+        has_rows(&rt, &model);
+        let model = encoder::<6>(rt.alloc(), &SYMBOLS, weights, infer).expect(&rt, "accepted");
+        encodes(&rt, &model, &ROWS);
+        encodes(&rt, &model.clone().expect(&rt, "a clone"), &ROWS);
+    }
 }
 
 /// Stops the test where letters and weights are accepted by the decoder's model or the encoder's.
@@ -69,8 +72,13 @@ fn are_refused<const PRECISION: usize>(
         let (name, symbols, weights, infer) = *each;
         let decoder = decoder::<PRECISION>(alloc, symbols, weights, infer).err();
         let encoder = encoder::<PRECISION>(alloc, symbols, weights, infer).err();
-        same_at(rt, name, decoder, Some(ModelError::InvalidTable));
-        same_at(rt, name, encoder, Some(ModelError::InvalidTable));
+        let refused = Some(ModelError::InvalidTable);
+        same_at(
+            rt,
+            name,
+            (decoder, encoder),
+            (Some(ModelError::InvalidTable), refused),
+        );
     }
 }
 
@@ -78,14 +86,6 @@ fn are_refused<const PRECISION: usize>(
 fn letters_that_are_not_accepted(rt: HostRuntime) {
     are_refused::<6>(&rt, rt.alloc(), &REFUSED);
     are_refused::<8>(&rt, rt.alloc(), &FULL_REFUSED);
-}
-
-#[test]
-fn both_ends_give_each_letter_once(rt: HostRuntime) {
-    let model = decoder::<6>(rt.alloc(), &SYMBOLS, &WEIGHTS, false).expect(&rt, "accepted");
-    for steps in &STEPS {
-        walks(&rt, model.symbol_table(), steps);
-    }
 }
 
 #[test]
@@ -151,10 +151,13 @@ fn searched(model: &Decoder<6>, quantile: u8) -> (usize, usize, usize)
 }
 
 #[test]
-fn a_search_among_letters_asks_two_questions(rt: HostRuntime) {
+fn letters_are_searched_by_two_questions_and_walked_from_both_ends(rt: HostRuntime) {
     let model = decoder::<6>(rt.alloc(), &SYMBOLS, &WEIGHTS, false).expect(&rt, "accepted");
     same(&rt, searched(&model, 21), (0, 2, 2));
     same(&rt, searched(&model, 63), (0, 3, 2));
+    for steps in &STEPS {
+        walks(&rt, model.symbol_table(), steps);
+    }
     symbols_and_weights_rebuild::<&Decoder<6>, 6>();
     non_contiguous_symbols_differ::<char, u8, Vec<(u8, char)>, 6>();
 }

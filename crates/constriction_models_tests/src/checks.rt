@@ -20,28 +20,6 @@ where
     assert_eq!(rt; found, expected, "{name}");
 }
 
-/// Stops the test where a `Vec` does not hold these items.
-pub fn holds<T: PartialEq + Debug>(rt: &impl Abort, found: &Vec<T>, expected: &[T]) {
-    same(rt, found.as_slice(), expected);
-}
-
-/// A clone. It stops the test where memory is refused.
-pub fn clone_of<T: Clone>(rt: &impl Abort, value: &T) -> T {
-    let clone: Result<_, _> = value.clone();
-    let Ok(clone) = clone else {
-        panic!(rt; "memory was refused");
-    };
-    clone
-}
-
-/// Stops the test where the value is not printed as this text.
-pub fn prints<T: Display>(rt: &impl Abort, alloc: Global, value: &T, text: &str) {
-    let Ok(printed) = format!(in alloc; "{value}") else {
-        panic!(rt; "memory was refused");
-    };
-    same(rt, printed.as_str(), text);
-}
-
 /// Stops the test where the text that shows the value to a programmer has no such part.
 pub fn shows<T: Debug>(rt: &impl Abort, alloc: Global, value: &T, part: &str) {
     let text = format!(in alloc; "{value:?}").expect(rt, "memory");

@@ -56,72 +56,52 @@ where
     )
 }
 
-/// Stops the test where what was made answers otherwise than this model does.
+/// Stops the test where what was made answers otherwise than this model does, or its rows do not tile.
 fn answer_as<M>(rt: &impl Abort, model: &M, made: Made<usize, 6>)
 where
     M: DecoderModel<6, Symbol = usize, Probability = u8> + EncoderModel<6>,
 {
-    looks_up_as(rt, model, &made.0.expect(rt, "a model"));
-    has_entries_of(rt, model, &made.1.expect(rt, "a model"));
+    let decoder = made.0.expect(rt, "a model");
+    let encoder = made.1.expect(rt, "a model");
+    for word in 0..=64u8 {
+        let symbol = usize::from(word);
+        let found = (
+            look_up::<_, 6>(&decoder, word),
+            entry::<_, 6>(&encoder, symbol),
+        );
+        let expected = (look_up::<M, 6>(model, word), entry::<M, 6>(model, symbol));
+        same_at(rt, word, found, expected);
+    }
+    tile::<_, 6>(rt, &decoder);
 }
 
-/// Stops the test where the decoder's model has another row for a quantile, or its rows do not tile.
-fn looks_up_as<M>(rt: &impl Abort, model: &M, decoder: &Decoder<usize, 6>)
+/// Stops the test where one of the models that are made from this one answers otherwise than it does.
+fn makes_its_like<M>(rt: &impl Abort, alloc: Global, model: M)
 where
-    M: DecoderModel<6, Symbol = usize, Probability = u8>,
+    M: DecoderModel<6, Symbol = usize, Probability = u8>
+        + EncoderModel<6>
+        + IterableEntropyModel<6>
+        + Copy,
 {
-    for quantile in 0..64u8 {
-        let found = look_up::<_, 6>(decoder, quantile);
-        same_at(rt, quantile, found, look_up::<M, 6>(model, quantile));
-    }
-    tile::<_, 6>(rt, decoder);
-}
-
-/// Stops the test where the encoder's model has another entry for a symbol.
-fn has_entries_of<M>(rt: &impl Abort, model: &M, encoder: &Encoder<usize, 6>)
-where
-    M: EncoderModel<6, Symbol = usize, Probability = u8>,
-{
-    for symbol in 0..=64 {
-        let found = entry::<_, 6>(encoder, symbol);
-        same_at(rt, symbol, found, entry::<M, 6>(model, symbol));
-    }
+    let (by_function, by_method) = made::<M, 6>(alloc, model);
+    answer_as(rt, &model, by_function);
+    answer_as(rt, &model, by_method);
 }
 
 #[test]
-fn models_that_are_made_from_a_contiguous_one_answer_as_it_does(rt: HostRuntime) {
+fn models_that_are_made_from_one_of_numbers_answer_as_it_does(rt: HostRuntime) {
     let model = table::<6>(rt.alloc(), &WEIGHTS, false).expect(&rt, "accepted");
-    let (by_function, by_method) = made::<_, 6>(rt.alloc(), &model);
-    answer_as(&rt, &model, by_function);
-    answer_as(&rt, &model, by_method);
-    let (by_function, by_method) = made::<_, 6>(rt.alloc(), &model.as_view());
-    answer_as(&rt, &model, by_function);
-    answer_as(&rt, &model, by_method);
-}
-
-#[test]
-fn models_that_are_made_from_a_uniform_one_answer_as_it_does(rt: HostRuntime) {
+    makes_its_like(&rt, rt.alloc(), &model);
+    makes_its_like(&rt, rt.alloc(), &model.as_view());
     for range in [2, 5, 64] {
-        let model = UniformModel::<u8, 6>::new(range);
-        let (by_function, by_method) = made::<_, 6>(rt.alloc(), model);
-        answer_as(&rt, &model, by_function);
-        answer_as(&rt, &model, by_method);
+        makes_its_like(&rt, rt.alloc(), UniformModel::<u8, 6>::new(range));
     }
 }
 
 /// Stops the test where what was made has other rows than the worked table.
 fn have_rows(rt: &impl Abort, made: Made<char, 6>) {
-    decodes(rt, &made.0.expect(rt, "a model"), &ROWS);
+    decodes::<_, 6>(rt, &made.0.expect(rt, "a model"), &ROWS);
     encodes(rt, &made.1.expect(rt, "a model"), &ROWS);
-}
-
-#[test]
-fn models_that_are_made_from_a_decoder_answer_as_it_does(rt: HostRuntime) {
-    let model = any_symbols::decoder::<6>(rt.alloc(), &SYMBOLS, &WEIGHTS, false);
-    let model = model.expect(&rt, "accepted");
-    let (by_function, by_method) = made::<_, 6>(rt.alloc(), &model);
-    have_rows(&rt, by_function);
-    have_rows(&rt, by_method);
 }
 
 /// The letters and the weights of a model, as its table gives them. It stops the test where memory is refused.
@@ -141,9 +121,12 @@ fn columns(
 }
 
 #[test]
-fn the_columns_of_a_table_are_accepted_again(rt: HostRuntime) {
+fn models_that_are_made_from_a_decoder_or_its_columns_answer_as_it_does(rt: HostRuntime) {
     let model = any_symbols::decoder::<6>(rt.alloc(), &SYMBOLS, &WEIGHTS, false);
     let model = model.expect(&rt, "accepted");
+    let (by_function, by_method) = made::<_, 6>(rt.alloc(), &model);
+    have_rows(&rt, by_function);
+    have_rows(&rt, by_method);
     let (symbols, weights) = columns(&rt, rt.alloc(), &model);
     let decoder = any_symbols::decoder::<6>(rt.alloc(), &symbols, &weights, false);
     let encoder = any_symbols::encoder::<6>(rt.alloc(), &symbols, &weights, false);

@@ -4,15 +4,15 @@ ghost use Rattle.std.specs.Prelude.{◌<◌, nat_eq};
 ghost use Rattle.std.specs.List.{IsDistinct};
 
 use crate::checks::{end_of_requests, same, same_at};
-use crate::model_checks::decodes;
+use crate::model_checks::{decodes, decodes_or_is_refused, small};
 use constriction::laws::{contiguous_symbols_differ, non_contiguous_symbols_differ};
 use constriction::stream::model::{
     DecoderModel, ModelError, NonContiguousCategoricalDecoderModel,
     NonContiguousLookupDecoderModel, to_generic_decoder_model_of_distinct,
     to_generic_lookup_decoder_model_of_distinct,
 };
-use constriction_fixtures::any_symbols::{Decoder, ROWS, Row, SYMBOLS, WEIGHTS, plain};
-use constriction_fixtures::contiguous::table;
+use constriction_fixtures::any_symbols::{Decoder, ROWS, Row, SYMBOLS, WEIGHTS};
+use constriction_fixtures::contiguous::Small;
 use std::alloc::Global;
 use std::process::Abort;
 
@@ -32,34 +32,25 @@ type Numbers = NonContiguousCategoricalDecoderModel<usize, u8, Vec<(u8, usize)>,
 
 type NumberLookup = NonContiguousLookupDecoderModel<usize, u8, Vec<(u8, usize)>, Vec<u8>, 6>;
 
-/// The decoder's model of letters, by one hash of each.
-fn by_hash(
+/// The decoder's model of letters in order, or by one hash of each.
+fn letters(
     alloc: Global,
+    in_order: bool,
     symbols: &[char],
     weights: &[u8],
     infer: bool,
 ) -> Result<Decoder<6>, ModelError> {
-    Decoder::from_hashable_symbols_and_nonzero_fixed_point_probabilities(
-        alloc,
-        symbols.iter().copied(),
-        weights.iter().copied(),
-        infer,
-    )
-}
-
-/// The decoder's model of letters in order.
-fn by_order(
-    alloc: Global,
-    symbols: &[char],
-    weights: &[u8],
-    infer: bool,
-) -> Result<Decoder<6>, ModelError> {
-    Decoder::from_sorted_symbols_and_nonzero_fixed_point_probabilities(
-        alloc,
-        symbols.iter().copied(),
-        weights.iter().copied(),
-        infer,
-    )
+    let symbols = symbols.iter().copied();
+    let weights = weights.iter().copied();
+    if in_order {
+        Decoder::from_sorted_symbols_and_nonzero_fixed_point_probabilities(
+            alloc, symbols, weights, infer,
+        )
+    } else {
+        Decoder::from_hashable_symbols_and_nonzero_fixed_point_probabilities(
+            alloc, symbols, weights, infer,
+        )
+    }
 }
 
 /// The letters of the table in order, and its rows.
@@ -67,132 +58,83 @@ const IN_ORDER: [char; 4] = ['a', 'c', 'x', 'y'];
 
 const ROWS_IN_ORDER: [Row; 4] = [('a', 0, 3), ('c', 3, 18), ('x', 21, 1), ('y', 22, 42)];
 
-#[test]
-fn letters_are_told_apart_by_their_hashes(rt: HostRuntime) {
-    let model = by_hash(rt.alloc(), &SYMBOLS, &WEIGHTS, false).expect(&rt, "a model");
-    decodes(&rt, &model, &ROWS);
-    let inferred = by_hash(rt.alloc(), &SYMBOLS, &[3, 18, 1], true).expect(&rt, "a model");
-    decodes(&rt, &inferred, &ROWS);
-}
+/// Whether letters are in order and not hashed, the letters, their weights, whether the last one is inferred, and the
+/// rows.
+const ACCEPTED: [(bool, &[char], &[u8], bool, &[Row]); 5] = [
+    (false, &SYMBOLS, &WEIGHTS, false, &ROWS),
+    (false, &SYMBOLS, &[3, 18, 1], true, &ROWS),
+    (true, &IN_ORDER, &WEIGHTS, false, &ROWS_IN_ORDER),
+    (true, &IN_ORDER, &[3, 18, 1], true, &ROWS_IN_ORDER),
+    (true, &['a'], &[64], false, &[('a', 0, 64)]),
+];
 
 #[test]
-fn letters_in_order_are_accepted(rt: HostRuntime) {
-    let model = by_order(rt.alloc(), &IN_ORDER, &WEIGHTS, false).expect(&rt, "a model");
-    decodes(&rt, &model, &ROWS_IN_ORDER);
-    let inferred = by_order(rt.alloc(), &IN_ORDER, &[3, 18, 1], true).expect(&rt, "a model");
-    decodes(&rt, &inferred, &ROWS_IN_ORDER);
-    let alone = by_order(rt.alloc(), &['a'], &[64], false);
-    same(&rt, alone.is_ok(), true);
-}
-
-/// Stops the test where the letters are not refused.
-fn is_refused(rt: &impl Abort, name: &str, made: Result<Decoder<6>, ModelError>) {
-    same_at(rt, name, made.err(), Some(ModelError::InvalidTable));
-}
-
-#[test]
-fn repeats_are_refused(rt: HostRuntime) {
-    let alloc = rt.alloc();
-    for repeat in [
-        ['a', 'a', 'c', 'y'],
-        ['a', 'x', 'c', 'a'],
-        ['a', 'x', 'y', 'y'],
-    ] {
-        is_refused(&rt, "by hash", by_hash(alloc, &repeat, &WEIGHTS, false));
-    }
-    is_refused(
-        &rt,
-        "neighbours",
-        by_order(alloc, &['a', 'c', 'c', 'y'], &WEIGHTS, false),
-    );
-    is_refused(
-        &rt,
-        "at the end",
-        by_order(alloc, &['a', 'c', 'y', 'y'], &WEIGHTS, false),
-    );
-}
-
-#[test]
-fn letters_out_of_order_are_refused_by_order_alone(rt: HostRuntime) {
-    let alloc = rt.alloc();
-    is_refused(
-        &rt,
-        "not in order",
-        by_order(alloc, &SYMBOLS, &WEIGHTS, false),
-    );
-    same(&rt, by_hash(alloc, &SYMBOLS, &WEIGHTS, false).is_ok(), true);
-}
-
-#[test]
-fn weights_are_judged_as_ever(rt: HostRuntime) {
-    let alloc = rt.alloc();
-    is_refused(
-        &rt,
-        "a 0",
-        by_hash(alloc, &IN_ORDER, &[3, 18, 0, 43], false),
-    );
-    is_refused(
-        &rt,
-        "too much",
-        by_hash(alloc, &IN_ORDER, &[3, 18, 2, 42], false),
-    );
-    is_refused(
-        &rt,
-        "a symbol more",
-        by_hash(alloc, &IN_ORDER, &[22, 42], false),
-    );
-    is_refused(
-        &rt,
-        "too little",
-        by_order(alloc, &IN_ORDER, &[3, 18, 1, 41], false),
-    );
-    is_refused(
-        &rt,
-        "a weight more",
-        by_order(alloc, &['a', 'c'], &[3, 18, 43], false),
-    );
-}
-
-/// The symbol of a quantile.
-fn move_of(model: &Moves, quantile: u8) -> Option<Move>
-    requires { quantile < 64 }
-{
-    match model.quantile_function(quantile) {
-        Ok((found, _left, _weight)) => Some(found),
-        Err(_) => None,
+fn letters_are_told_apart_by_their_hashes_or_their_order(rt: HostRuntime) {
+    for each in &ACCEPTED {
+        let (in_order, symbols, weights, infer, rows) = *each;
+        let model = letters(rt.alloc(), in_order, symbols, weights, infer).expect(&rt, "a model");
+        decodes::<_, 6>(&rt, &model, rows);
     }
 }
 
-/// Stops the test where the model does not answer these moves.
-fn moves(rt: &impl Abort, made: Result<Moves, ModelError>) {
-    let model = made.expect(rt, "a model");
-    same(rt, move_of(&model, 15), Some(Move::Left));
-    same(rt, move_of(&model, 16), Some(Move::Right));
-    same(rt, move_of(&model, 63), Some(Move::Stay));
+/// What is wrong, whether letters are in order and not hashed, the letters, and their weights.
+const REFUSED: [(&str, bool, &[char], &[u8]); 11] = [
+    ("neighbours", false, &['a', 'a', 'c', 'y'], &WEIGHTS),
+    (
+        "the first one and the last one",
+        false,
+        &['a', 'x', 'c', 'a'],
+        &WEIGHTS,
+    ),
+    ("the last two", false, &['a', 'x', 'y', 'y'], &WEIGHTS),
+    ("a 0", false, &IN_ORDER, &[3, 18, 0, 43]),
+    ("too much", false, &IN_ORDER, &[3, 18, 2, 42]),
+    ("a symbol more", false, &IN_ORDER, &[22, 42]),
+    ("neighbours in order", true, &['a', 'c', 'c', 'y'], &WEIGHTS),
+    (
+        "the last two in order",
+        true,
+        &['a', 'c', 'y', 'y'],
+        &WEIGHTS,
+    ),
+    ("not in order", true, &SYMBOLS, &WEIGHTS),
+    ("too little", true, &IN_ORDER, &[3, 18, 1, 41]),
+    ("a weight more", true, &['a', 'c'], &[3, 18, 43]),
+];
+
+#[test]
+fn letters_and_weights_that_are_not_accepted(rt: HostRuntime) {
+    for each in &REFUSED {
+        let (name, in_order, symbols, weights) = *each;
+        let refused = letters(rt.alloc(), in_order, symbols, weights, false).err();
+        same_at(&rt, name, refused, Some(ModelError::InvalidTable));
+    }
 }
+
+/// The rows of the model of these moves.
+const MOVES: [(Move, u8, u8); 3] = [
+    (Move::Left, 0, 16),
+    (Move::Right, 16, 16),
+    (Move::Stay, 32, 32),
+];
 
 #[test]
 fn an_enum_is_hashed_and_ordered(rt: HostRuntime) {
-    let alloc = rt.alloc();
     let symbols = [Move::Left, Move::Right, Move::Stay];
-    moves(
-        &rt,
-        Moves::from_hashable_symbols_and_nonzero_fixed_point_probabilities(
-            alloc,
-            symbols,
-            [16, 16, 32],
-            false,
-        ),
+    let hashed = Moves::from_hashable_symbols_and_nonzero_fixed_point_probabilities(
+        rt.alloc(),
+        symbols,
+        [16, 16, 32],
+        false,
     );
-    moves(
-        &rt,
-        Moves::from_sorted_symbols_and_nonzero_fixed_point_probabilities(
-            alloc,
-            symbols,
-            [16, 16, 32],
-            false,
-        ),
+    decodes::<_, 6>(&rt, &hashed.expect(&rt, "a model"), &MOVES);
+    let sorted = Moves::from_sorted_symbols_and_nonzero_fixed_point_probabilities(
+        rt.alloc(),
+        symbols,
+        [16, 16, 32],
+        false,
     );
+    decodes::<_, 6>(&rt, &sorted.expect(&rt, "a model"), &MOVES);
 }
 
 /// Texts, each in memory of its own. It stops the test where memory is refused.
@@ -213,34 +155,34 @@ fn has_text(rt: &impl Abort, model: &Texts, quantile: u8, text: &str)
     same_at(rt, quantile, found.as_str(), text);
 }
 
-/// The model of texts, by one hash of each.
-fn texts_by_hash(rt: &impl Abort, alloc: Global, texts: &[&str]) -> Result<Texts, ModelError> {
-    Texts::from_hashable_symbols_and_nonzero_fixed_point_probabilities(
-        alloc,
-        owned(rt, alloc, texts),
-        [3, 18, 43],
-        false,
-    )
-}
-
-/// The model of texts in order.
-fn texts_by_order(rt: &impl Abort, alloc: Global, texts: &[&str]) -> Result<Texts, ModelError> {
-    Texts::from_sorted_symbols_and_nonzero_fixed_point_probabilities(
-        alloc,
-        owned(rt, alloc, texts),
-        [3, 18, 43],
-        false,
-    )
+/// The model of three texts in order, or by one hash of each.
+fn texts(
+    rt: &impl Abort,
+    alloc: Global,
+    in_order: bool,
+    texts: &[&str],
+) -> Result<Texts, ModelError> {
+    let texts = owned(rt, alloc, texts);
+    let weights = [3, 18, 43];
+    if in_order {
+        Texts::from_sorted_symbols_and_nonzero_fixed_point_probabilities(
+            alloc, texts, weights, false,
+        )
+    } else {
+        Texts::from_hashable_symbols_and_nonzero_fixed_point_probabilities(
+            alloc, texts, weights, false,
+        )
+    }
 }
 
 #[test]
 fn texts_are_hashed_and_ordered(rt: HostRuntime) {
-    let hashed = texts_by_hash(&rt, rt.alloc(), &["b", "", "ab"]).expect(&rt, "a model");
+    let hashed = texts(&rt, rt.alloc(), false, &["b", "", "ab"]).expect(&rt, "a model");
     has_text(&rt, &hashed, 2, "b");
     has_text(&rt, &hashed, 21, "ab");
-    let repeat = texts_by_hash(&rt, rt.alloc(), &["b", "", "b"]);
-    same(&rt, repeat.err(), Some(ModelError::InvalidTable));
-    let sorted = texts_by_order(&rt, rt.alloc(), &["", "ab", "b"]).expect(&rt, "a model");
+    let repeat = texts(&rt, rt.alloc(), false, &["b", "", "b"]).err();
+    same(&rt, repeat, Some(ModelError::InvalidTable));
+    let sorted = texts(&rt, rt.alloc(), true, &["", "ab", "b"]).expect(&rt, "a model");
     has_text(&rt, &sorted, 3, "ab");
     has_text(&rt, &sorted, 63, "b");
 }
@@ -254,35 +196,25 @@ fn of_distinct(alloc: Global, symbols: [usize; 4], weights: [u8; 4]) -> Result<N
     )
 }
 
-/// The number of a quantile.
-fn number_of<M>(model: &M, quantile: u8) -> Option<(usize, u8, u8)>
-where
-    M: DecoderModel<6, Symbol = usize, Probability = u8>,
-    requires { quantile < 64 }
-{
-    plain(model.quantile_function(quantile)).ok()
-}
+/// The rows of the model of these numbers.
+const NUMBERS: [(usize, u8, u8); 4] = [(7, 0, 3), (3, 3, 18), (9, 21, 1), (5, 22, 42)];
 
 #[test]
 fn numbers_that_are_known_to_differ_are_not_compared(rt: HostRuntime) {
     let made = of_distinct(rt.alloc(), [7, 3, 9, 5], WEIGHTS).expect(&rt, "a model");
-    same(&rt, number_of(&made, 3), Some((3, 3, 18)));
-    same(&rt, number_of(&made, 63), Some((5, 22, 42)));
+    decodes::<_, 6>(&rt, &made, &NUMBERS);
     let refused = of_distinct(rt.alloc(), [7, 3, 9, 5], [3, 18, 1, 43]);
     same(&rt, refused.err(), Some(ModelError::InvalidTable));
     let looks_up = made
         .into_lookup_decoder_model(rt.alloc())
         .expect(&rt, "a model");
-    same(&rt, number_of(&looks_up, 22), Some((5, 22, 42)));
+    decodes::<_, 6>(&rt, &looks_up, &NUMBERS);
 }
 
-/// The decoder's model, and the lookup model, of the rows of a contiguous one.
-fn of_contiguous(alloc: Global) -> Result<(Numbers, NumberLookup), ModelError> {
+/// The lookup model of the rows of a contiguous one.
+fn of_contiguous(alloc: Global, model: &Small) -> Result<NumberLookup, ModelError> {
     contiguous_symbols_differ();
-    let source = table::<6>(alloc, &WEIGHTS, false)?;
-    let searching = to_generic_decoder_model_of_distinct::<_, 6>(alloc, &source)?;
-    let looks_up = to_generic_lookup_decoder_model_of_distinct::<_, 6>(alloc, &source)?;
-    Ok((searching, looks_up))
+    to_generic_lookup_decoder_model_of_distinct::<_, 6>(alloc, model)
 }
 
 /// The decoder's model of the rows of another one, whose symbols differ however it was made.
@@ -291,53 +223,28 @@ fn again(alloc: Global, model: &Decoder<6>) -> Result<Decoder<6>, ModelError> {
     to_generic_decoder_model_of_distinct::<_, 6>(alloc, model)
 }
 
-/// Stops the test where the model has not the rows of the contiguous one.
-fn has_numbers<M>(rt: &impl Abort, model: &M)
-where
-    M: DecoderModel<6, Symbol = usize, Probability = u8>,
-{
-    for (quantile, row) in [
-        (2, (0, 0, 3)),
-        (20, (1, 3, 18)),
-        (21, (2, 21, 1)),
-        (63, (3, 22, 42)),
-    ] {
-        assert!(rt; quantile < 64);
-        same_at(rt, quantile, number_of(model, quantile), Some(row));
-    }
-}
-
 #[test]
 fn models_whose_symbols_differ_are_converted_without_comparing(rt: HostRuntime) {
-    let (searching, looks_up) = of_contiguous(rt.alloc()).expect(&rt, "models");
-    has_numbers(&rt, &searching);
-    has_numbers(&rt, &looks_up);
-    let model = by_hash(rt.alloc(), &SYMBOLS, &WEIGHTS, false).expect(&rt, "a model");
+    let looks_up = of_contiguous(rt.alloc(), &small(&rt, rt.alloc())).expect(&rt, "a model");
+    decodes::<_, 6>(
+        &rt,
+        &looks_up,
+        &[(0, 0, 3), (1, 3, 18), (2, 21, 1), (3, 22, 42)],
+    );
+    let model = letters(rt.alloc(), false, &SYMBOLS, &WEIGHTS, false).expect(&rt, "a model");
     let made = again(rt.alloc(), &model).expect(&rt, "a model");
-    decodes(&rt, &made, &ROWS);
-}
-
-/// Stops the test where the answer is neither a model of the rows nor a refusal of memory.
-fn is_decoder(rt: &impl Abort, made: &Result<Decoder<6>, ModelError>, rows: &[Row]) {
-    match made {
-        Ok(model) => decodes(rt, model, rows),
-        Err(error) => same(rt, error, &ModelError::OutOfMemory),
-    }
+    decodes::<_, 6>(&rt, &made, &ROWS);
 }
 
 #[test]
 fn a_refusal_of_memory_leaves_no_model_of_symbols_that_are_not_compared(rt: HostRuntime) {
-    let hashed = by_hash(rt.alloc(), &SYMBOLS, &WEIGHTS, false);
-    is_decoder(&rt, &hashed, &ROWS);
-    let sorted = by_order(rt.alloc(), &IN_ORDER, &WEIGHTS, false);
-    is_decoder(&rt, &sorted, &ROWS_IN_ORDER);
+    let sorted = letters(rt.alloc(), true, &IN_ORDER, &WEIGHTS, false);
+    decodes_or_is_refused::<_, 6>(&rt, &sorted, &ROWS_IN_ORDER);
+    let hashed = letters(rt.alloc(), false, &SYMBOLS, &WEIGHTS, false);
+    decodes_or_is_refused::<_, 6>(&rt, &hashed, &ROWS);
     if let Ok(model) = hashed {
-        is_decoder(&rt, &again(rt.alloc(), &model), &ROWS);
-        let looks_up = model.into_lookup_decoder_model(rt.alloc());
-        match looks_up {
-            Ok(model) => decodes(&rt, &model, &ROWS),
-            Err(error) => same(&rt, error, ModelError::OutOfMemory),
-        }
+        decodes_or_is_refused::<_, 6>(&rt, &again(rt.alloc(), &model), &ROWS);
+        decodes_or_is_refused::<_, 6>(&rt, &model.into_lookup_decoder_model(rt.alloc()), &ROWS);
     }
     end_of_requests(&rt);
 }

@@ -83,18 +83,30 @@ where
 #[test]
 fn callers_that_compute_with_words(rt: HostRuntime) {
     let model = small(&rt, rt.alloc());
-    same(&rt, end_of_row::<_, _, _, 6>(&model, 20), Ok(21));
-    same(&rt, end_of_row::<_, _, _, 6>(&model, 63), Ok(64));
-    same(&rt, weight_of_row::<_, 6>(&model, 20), Ok(18));
-    same(&rt, weight_or_0::<_, _, _, 6>(&model, &1), 18u8);
-    same(&rt, weight_or_0::<_, _, _, 6>(&model, &4), 0u8);
-    same(&rt, after_the_first(&model, 22), Ok(23));
+    same(
+        &rt,
+        [
+            end_of_row::<_, _, _, 6>(&model, 20),
+            end_of_row::<_, _, _, 6>(&model, 63),
+            weight_of_row::<_, 6>(&model, 20),
+            after_the_first(&model, 22),
+        ],
+        [Ok(21), Ok(64), Ok(18), Ok(23)],
+    );
+    let weights: [u8; 2] = [
+        weight_or_0::<_, _, _, 6>(&model, &1),
+        weight_or_0::<_, _, _, 6>(&model, &4),
+    ];
+    same(&rt, weights, [18, 0]);
 }
 
 #[test]
 fn callers_that_compute_with_words_of_16_bits(rt: HostRuntime) {
     let uniform = SmallUniformModel::new(5);
-    same(&rt, end_of_row::<_, _, _, 12>(&uniform, 4095), Ok(4096u16));
-    same(&rt, weight_or_0::<_, _, _, 12>(&uniform, &4), 820u16);
-    same(&rt, last_of_row(&uniform, 3276), Ok(4095));
+    let rows = (
+        end_of_row::<_, _, _, 12>(&uniform, 4095),
+        weight_or_0::<_, _, _, 12>(&uniform, &4),
+        last_of_row(&uniform, 3276),
+    );
+    same(&rt, rows, (Ok(4096u16), 820u16, Ok(4095)));
 }

@@ -9,7 +9,7 @@ ghost use Rattle.constriction.specs.Model.{row_of, ClonesAreSame};
 ghost use Rattle.constriction.specs.Tables.{YieldsRow};
 ghost use Rattle.constriction.specs.Laws.{AnswerAlike};
 
-use crate::checks::{holds, same};
+use crate::checks::same;
 use crate::model_checks::small;
 use constriction::laws::{
     contiguous_symbols_differ, equal_answers, pairs_are_quantiles, table_gives_all_rows,
@@ -193,12 +193,8 @@ fn quantiles_come_back_from_symbols_and_offsets(rt: HostRuntime) {
     }
 }
 
-fn read_letters(alloc: Global) -> Result<Rows<ThreeLetters, 2>, AllocError> {
-    read_table(alloc, ThreeLetters)
-}
-
 /// By the model, and by a reference to it.
-fn read_letters_twice(
+fn read_letters(
     alloc: Global,
 ) -> Result<(Rows<ThreeLetters, 2>, Rows<&'static ThreeLetters, 2>), AllocError> {
     read_both(alloc, ThreeLetters, &ThreeLetters)
@@ -209,12 +205,8 @@ fn a_table_of_the_caller_is_read(rt: HostRuntime) {
     same(&rt, count_letters(), 3);
     let one = 1u8.into_nonzero_unchecked();
     let two = 2u8.into_nonzero_unchecked();
-    let rows = read_letters(rt.alloc()).expect(&rt, "memory");
-    holds(
-        &rt,
-        &rows,
-        &[(b'a', 0, one), (b'b', 1, two), (b'c', 3, one)],
-    );
-    let (rows, others) = read_letters_twice(rt.alloc()).expect(&rt, "memory");
-    holds(&rt, &rows, &others);
+    let expected = [(b'a', 0, one), (b'b', 1, two), (b'c', 3, one)];
+    let (rows, others) = read_letters(rt.alloc()).expect(&rt, "memory");
+    same(&rt, rows.as_slice(), expected.as_slice());
+    same(&rt, others.as_slice(), expected.as_slice());
 }

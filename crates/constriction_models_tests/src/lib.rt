@@ -19,8 +19,6 @@ mod distinct_symbols;
 #[cfg(test)]
 mod generic_callers;
 #[cfg(test)]
-mod given;
-#[cfg(test)]
 mod laws;
 #[cfg(test)]
 mod model_checks;

@@ -4,34 +4,102 @@ ghost use Rattle.std.specs.Prelude.{◌<◌, ◌^◌, ◌≤◌};
 
 use crate::checks::{same, same_at};
 use constriction::stream::model::{
-    DecoderModel, EncoderModel, FromIterableEntropyModel, IterableEntropyModel, ModelError,
-    NonContiguousSymbolTable,
+    DecoderModel, EncoderModel, IterableEntropyModel, ModelError, NonContiguousSymbolTable,
+    is_quantile,
 };
 use constriction_fixtures::any_symbols::{Row, Step, plain};
 use constriction_fixtures::contiguous::{Small, Table, WEIGHTS, row_by_scan, table};
-use constriction_fixtures::tables::{entry, left, look_up, row};
-use constriction_words::{NonZeroBitArray, WholeNumber};
+use constriction_fixtures::tables::{look_up, row};
+use constriction_words::WholeNumber;
 use std::alloc::Global;
+use std::fmt::{Debug, Display};
 use std::process::Abort;
 
 /// Stops the test where the model does not answer each quantile of each of these rows with the row.
-pub fn decodes<M>(rt: &impl Abort, model: &M, rows: &[Row])
+pub fn decodes<M, const PRECISION: usize>(rt: &impl Abort, model: &M, rows: &[(M::Symbol, u8, u8)])
 where
-    M: DecoderModel<6, Symbol = char, Probability = u8>,
+    M: DecoderModel<PRECISION, Probability = u8>,
+    M::Symbol: Copy + PartialEq + Debug,
+    requires positive { 0 < PRECISION }
+    requires fits { PRECISION ≤ 8 }
 {
     for row in rows {
         let (_, left, weight) = *row;
         for offset in 0..weight {
             let quantile = left.wrapping_add(offset);
-            assert!(rt; quantile < 64);
+            assert!(rt; is_quantile::<u8, PRECISION>(quantile));
             let found = plain(model.quantile_function(quantile));
             same_at(rt, quantile, found, Ok(*row));
         }
     }
 }
 
+/// Stops the test where the answer is neither a model of these rows nor a refusal of memory.
+pub fn decodes_or_is_refused<M, const PRECISION: usize>(
+    rt: &impl Abort,
+    made: &Result<M, ModelError>,
+    rows: &[Row],
+)
+where
+    M: DecoderModel<PRECISION, Symbol = char, Probability = u8>,
+    requires positive { 0 < PRECISION }
+    requires fits { PRECISION ≤ 8 }
+{
+    match made {
+        Ok(model) => decodes::<M, PRECISION>(rt, model, rows),
+        Err(error) => same(rt, error, &ModelError::OutOfMemory),
+    }
+}
+
+/// The entry of a symbol, as a row with its weight as a plain word.
+fn entry_of<M, const PRECISION: usize>(
+    model: &M,
+    symbol: usize,
+) -> Option<(usize, M::Probability, M::Probability)>
+where
+    M: EncoderModel<PRECISION, Symbol = usize>,
+{
+    let (left, weight) = model.left_cumulative_and_probability(&symbol)?;
+    Some((symbol, left, M::Probability::from_weight(weight)))
+}
+
+/// Stops the test where the model does not answer each of these quantiles, and the symbol of the row beside
+/// it, with the row, or where one of the numbers that are no symbols has an entry.
+pub fn answers<M, const PRECISION: usize>(
+    rt: &impl Abort,
+    model: &M,
+    rows: &[(M::Probability, (usize, M::Probability, M::Probability))],
+    no_symbols: &[usize],
+)
+where
+    M: DecoderModel<PRECISION, Symbol = usize> + EncoderModel<PRECISION>,
+    M::Probability: PartialEq + Debug + Display,
+    requires positive { 0 < PRECISION }
+    requires fits { PRECISION ≤ M.Probability.BITS }
+{
+    for each in rows {
+        let (quantile, expected) = *each;
+        assert!(rt; is_quantile::<M::Probability, PRECISION>(quantile));
+        let found = row(Some(model.quantile_function(quantile)));
+        let entry = entry_of::<M, PRECISION>(model, expected.0);
+        same_at(
+            rt,
+            quantile,
+            (found, entry),
+            (Some(expected), Some(expected)),
+        );
+    }
+    for symbol in no_symbols {
+        same_at(rt, *symbol, entry_of::<M, PRECISION>(model, *symbol), None);
+    }
+}
+
 /// Stops the test where the walk does not go in these steps.
-pub fn walks(rt: &impl Abort, table: NonContiguousSymbolTable<'_, char, u8, 6>, steps: &[Step]) {
+pub fn walks<const PRECISION: usize>(
+    rt: &impl Abort,
+    table: NonContiguousSymbolTable<'_, char, u8, PRECISION>,
+    steps: &[Step],
+) {
     let mut table = table;
     for each in steps {
         let (from_the_back, left, expected) = *each;
@@ -46,7 +114,7 @@ pub fn walks(rt: &impl Abort, table: NonContiguousSymbolTable<'_, char, u8, 6>, 
     }
 }
 
-/// The same where the weights are accepted. It stops the test where they are not.
+/// The model of these weights. It stops the test where they are not accepted.
 pub fn made<const PRECISION: usize>(
     rt: &impl Abort,
     alloc: Global,
@@ -56,10 +124,7 @@ pub fn made<const PRECISION: usize>(
     requires positive { 0 < PRECISION }
     requires fits { PRECISION ≤ 8 }
 {
-    let Ok(model) = table(alloc, weights, infer) else {
-        panic!(rt; "the weights are refused");
-    };
-    model
+    table(alloc, weights, infer).expect(rt, "accepted")
 }
 
 /// The model of the weights 3, 18, 1 and 42.
@@ -67,23 +132,7 @@ pub fn small(rt: &impl Abort, alloc: Global) -> Small {
     made(rt, alloc, &WEIGHTS, false)
 }
 
-/// Whether weights are accepted; they are not where they are an invalid table.
-pub fn is_accepted<Model: Drop>(
-    rt: &impl Abort,
-    name: &str,
-    made: Result<Model, ModelError>,
-) -> bool {
-    match made {
-        Ok(_) => true,
-        Err(error) => {
-            same_at(rt, name, error, ModelError::InvalidTable);
-            false
-        }
-    }
-}
-
-/// Stops the test where the model answers a quantile otherwise than by the row that a scan of the
-/// weights finds.
+/// Stops the test where the model answers a word otherwise than by the row that a scan of the weights finds.
 pub fn answers_as_a_scan<M, const PRECISION: usize>(rt: &impl Abort, model: &M, weights: &[u8])
 where
     M: DecoderModel<PRECISION, Symbol = usize, Probability = u8>,
@@ -98,7 +147,7 @@ where
 
 /// Stops the test where a row is not the one of the next symbol, or does not begin where the one before
 /// it ends. It gives the next symbol and the end of the row.
-pub fn follows(
+fn follows(
     rt: &impl Abort,
     (expected, end): (usize, u64),
     (symbol, left, weight): (usize, u8, u8),
@@ -116,33 +165,13 @@ where
 {
     let mut next = (0usize, 0u64);
     'rows: for item in model.symbol_table() {
-        let Some(found) = row(Some(item)) else {
-            return same_at(rt, next.0, "a row", "no row");
-        };
-        next = follows(rt, next, found);
+        next = follows(rt, next, plain(item).expect(rt, "a row"));
     }
     same(rt, next.1, 1u64 << PRECISION);
 }
 
-/// Stops the test where a row is not what the model answers for its symbol, and for the first, the
-/// middle and the last quantile of it.
-pub fn is_answered<M, const PRECISION: usize>(rt: &impl Abort, model: &M, expected: (usize, u8, u8))
-where
-    M: EncoderModel<PRECISION, Symbol = usize, Probability = u8> + DecoderModel<PRECISION>,
-    requires positive { 0 < PRECISION }
-    requires fits { PRECISION ≤ 8 }
-{
-    let (symbol, left, weight) = expected;
-    same(rt, entry::<M, PRECISION>(model, symbol), Some(expected));
-    for offset in [0, weight / 2, weight.wrapping_sub(1)] {
-        let quantile = left.wrapping_add(offset);
-        let found = look_up::<M, PRECISION>(model, quantile);
-        same_at(rt, quantile, found, Some(expected));
-    }
-}
-
 /// Stops the test where the rows do not tile, as above, or where a row of the table is not what the
-/// model answers.
+/// model answers for its symbol, and for the first, the middle and the last quantile of it.
 pub fn tile_and_are_answered<M, const PRECISION: usize>(rt: &impl Abort, model: M)
 where
     M: IterableEntropyModel<PRECISION, Symbol = usize, Probability = u8>
@@ -154,11 +183,13 @@ where
 {
     let mut next = (0usize, 0u64);
     'rows: for item in model.symbol_table() {
-        let Some(found) = row(Some(item)) else {
-            return same(rt, "a row", "no row");
-        };
+        let found = plain(item).expect(rt, "a row");
         next = follows(rt, next, found);
-        is_answered::<M, PRECISION>(rt, &model, found);
+        let (_, left, weight) = found;
+        let middle = left.wrapping_add(weight / 2);
+        let last = left.wrapping_add(weight.wrapping_sub(1));
+        let rows = [(left, found), (middle, found), (last, found)];
+        answers::<M, PRECISION>(rt, &model, &rows, &[]);
     }
     same(rt, next.1, 1u64 << PRECISION);
 }

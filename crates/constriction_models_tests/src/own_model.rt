@@ -8,12 +8,14 @@ ghost use Rattle.std.proofs.lemmas.Grind.{common_steps};
 ghost use Rattle.constriction.specs.Rows.{rows_of};
 ghost use Rattle.constriction.specs.Tables.{YieldsRow};
 
+use crate::any_symbols::encodes;
 use crate::checks::{same, same_at};
 use crate::conversions::{Made, made};
+use crate::model_checks::{decodes, walks};
 use constriction::stream::model::{
     EncoderModel, EntropyModel, IterableEntropyModel, ModelError, Weight, to_generic_decoder_model,
 };
-use constriction_fixtures::any_symbols::{Row, entry, plain, plain_entry};
+use constriction_fixtures::any_symbols::{Row, Step, plain_entry};
 use constriction_fixtures::conversions::Decoder;
 use constriction_fixtures::own_model::{Triple, three};
 use constriction_words::{BitArray, WholeNumber};
@@ -31,19 +33,9 @@ fn decoder_of(alloc: Global, model: &Triple) -> Result<Decoder<char, 3>, ModelEr
 }
 
 /// Stops the test where a decoder's model was made, or the encoder's one has other entries.
-fn is_encoder<const PRECISION: usize>(
-    rt: &impl Abort,
-    made: Made<char, PRECISION>,
-    entries: &[(char, Option<(u8, u8)>)],
-    support_size: usize,
-) {
+fn is_encoder<const PRECISION: usize>(rt: &impl Abort, made: Made<char, PRECISION>, rows: &[Row]) {
     same(rt, made.0.err(), Some(ModelError::InvalidTable));
-    let encoder = made.1.expect(rt, "a model");
-    for each in entries {
-        let (symbol, expected) = *each;
-        same_at(rt, symbol, entry(&encoder, symbol), expected);
-    }
-    same(rt, encoder.support_size(), support_size);
+    encodes(rt, &made.1.expect(rt, "a model"), rows);
 }
 
 #[test]
@@ -51,44 +43,31 @@ fn two_rows_of_one_letter_make_an_encoder_and_no_decoder(rt: HostRuntime) {
     let model = three('p', 'q', 'p');
     let refused = decoder_of(rt.alloc(), &model).err();
     same(&rt, refused, Some(ModelError::InvalidTable));
-    has_own_entries(&rt, &model);
-    let (by_function, by_method) = made::<_, 3>(rt.alloc(), &model);
-    is_encoder(&rt, by_function, &ENTRIES, 2);
-    is_encoder(&rt, by_method, &ENTRIES, 2);
-}
-
-/// The entries of a model of `p`, `q` and `p`.
-const ENTRIES: [(char, Option<(u8, u8)>); 3] = [
-    ('p', Some((7, 1))),
-    ('q', Some((2, 5))),
-    ('r', None),
-];
-
-/// Stops the test where the caller's model has other ones.
-fn has_own_entries(rt: &impl Abort, model: &Triple) {
-    for each in &ENTRIES {
-        let (symbol, expected) = *each;
-        let own = plain_entry(model.left_cumulative_and_probability(&symbol));
-        same_at(rt, symbol, own, expected);
+    for (symbol, entry) in [('p', Some((7, 1))), ('q', Some((2, 5))), ('r', None)] {
+        let found = plain_entry(model.left_cumulative_and_probability(&symbol));
+        same_at(&rt, symbol, found, entry);
     }
+    let (by_function, by_method) = made::<_, 3>(rt.alloc(), &model);
+    is_encoder(&rt, by_function, &[('p', 7, 1), ('q', 2, 5)]);
+    is_encoder(&rt, by_method, &[('p', 7, 1), ('q', 2, 5)]);
 }
 
 /// The rows of the caller's model of `p`, `q` and `r`.
-const THREE: [Row; 3] = [('p', 0, 2), ('q', 2, 5), ('r', 7, 1)];
+pub const THREE: [Row; 3] = [('p', 0, 2), ('q', 2, 5), ('r', 7, 1)];
 
-/// Stops the test where the model has not the rows of the caller's.
-pub fn has_rows(rt: &impl Abort, model: &Decoder<char, 3>) {
-    let mut table = model.symbol_table();
-    for row in &THREE {
-        same(rt, table.next().map(plain), Some(Ok(*row)));
-    }
-    same(rt, table.next().is_none(), true);
-}
+/// The walk through them.
+const STEPS: [Step; 4] = [
+    (false, 3, Some(Ok(('p', 0, 2)))),
+    (false, 2, Some(Ok(('q', 2, 5)))),
+    (false, 1, Some(Ok(('r', 7, 1)))),
+    (false, 0, None),
+];
 
 #[test]
 fn a_decoder_has_the_rows_of_three_letters_of_the_caller(rt: HostRuntime) {
     let model = decoder_of(rt.alloc(), &three('p', 'q', 'r')).expect(&rt, "a model");
-    has_rows(&rt, &model);
+    walks(&rt, model.symbol_table(), &STEPS);
+    decodes::<_, 3>(&rt, &model, &THREE);
 }
 
 /// A model of one letter, which has two rows of the same weight. It is copied into its table.
@@ -158,8 +137,7 @@ impl IterableEntropyModel<6> for Twice {
 
 #[test]
 fn an_encoder_has_the_second_row_of_one_letter(rt: HostRuntime) {
-    let entries = [('a', Some((32, 32))), ('b', None)];
     let (by_function, by_method) = made::<_, 6>(rt.alloc(), Twice('a'));
-    is_encoder(&rt, by_function, &entries, 1);
-    is_encoder(&rt, by_method, &entries, 1);
+    is_encoder(&rt, by_function, &[('a', 32, 32)]);
+    is_encoder(&rt, by_method, &[('a', 32, 32)]);
 }

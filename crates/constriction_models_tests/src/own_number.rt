@@ -9,6 +9,7 @@ use constriction::stream::model::{
     ContiguousCategoricalEntropyModel, DecoderModel, EncoderModel, UniformModel,
 };
 use constriction_words::WholeNumber;
+use std::alloc::AllocError;
 
 /// A share of 256.
 #[derive(Clone, Copy)]
@@ -111,18 +112,10 @@ impl WholeNumber for Share {
 /// A model over shares.
 type Shares = ContiguousCategoricalEntropyModel<Share, Vec<Share>, 6>;
 
-/// The row of a quantile, in numbers.
-fn row(model: &Shares, quantile: u8) -> Option<(usize, u8, u8)>
-    requires { quantile < 2 ^ 6 }
-{
-    let (symbol, left, weight) = model.quantile_function(Share(quantile)).ok()?;
+/// The row of an answer, in numbers.
+fn row(answer: Result<(usize, Share, SomeShare), AllocError>) -> Option<(usize, u8, u8)> {
+    let (symbol, left, weight) = answer.ok()?;
     Some((symbol, left.0, weight.share.0))
-}
-
-/// The entry of a symbol, in numbers.
-fn entry(model: &Shares, symbol: usize) -> Option<(u8, u8)> {
-    let (left, weight) = model.left_cumulative_and_probability(&symbol)?;
-    Some((left.0, weight.share.0))
 }
 
 #[test]
@@ -130,12 +123,28 @@ fn a_model_over_shares_answers_in_both_directions(rt: HostRuntime) {
     let weights = [Share(3), Share(18), Share(1), Share(42)];
     let made = Shares::from_nonzero_fixed_point_probabilities(rt.alloc(), weights, false);
     let model = made.expect(&rt, "accepted");
-    same(&rt, row(&model, 20), Some((1, 3, 18)));
-    same(&rt, row(&model, 21), Some((2, 21, 1)));
-    same(&rt, row(&model, 63), Some((3, 22, 42)));
-    same(&rt, entry(&model, 1), Some((3, 18)));
-    same(&rt, entry(&model, 4), None);
+    same(
+        &rt,
+        [
+            row(model.quantile_function(Share(20))),
+            row(model.quantile_function(Share(21))),
+            row(model.quantile_function(Share(63))),
+        ],
+        [Some((1, 3, 18)), Some((2, 21, 1)), Some((3, 22, 42))],
+    );
+    let (left, weight) = model
+        .left_cumulative_and_probability(&1)
+        .expect(&rt, "an entry");
+    same(&rt, (left.0, weight.share.0), (3, 18));
+    same(
+        &rt,
+        model.left_cumulative_and_probability(&4).is_none(),
+        true,
+    );
     let uniform = UniformModel::<Share, 8>::new(3);
-    let (symbol, left, weight) = uniform.quantile_function(Share(255)).expect(&rt, "a row");
-    same(&rt, (symbol, left.0, weight.share.0), (2, 170, 86));
+    same(
+        &rt,
+        row(uniform.quantile_function(Share(255))),
+        Some((2, 170, 86)),
+    );
 }

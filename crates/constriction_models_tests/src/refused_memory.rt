@@ -1,13 +1,15 @@
 //! What the calls that make searching models answer where memory is refused: a model, or
 //! `OutOfMemory`. `tools/refused-memory` refuses each request in turn.
 
+ghost use Rattle.std.specs.Prelude.{◌<◌, ◌≤◌};
+
 use crate::any_symbols::encodes;
 use crate::checks::{end_of_requests, same};
 use crate::conversions::{Made, made};
-use crate::model_checks::{answers_as_a_scan, decodes};
-use crate::own_model::has_rows;
+use crate::model_checks::{answers_as_a_scan, decodes, decodes_or_is_refused};
+use crate::own_model::THREE;
 use constriction::stream::model::{ModelError, NonContiguousCategoricalDecoderModel};
-use constriction_fixtures::any_symbols::{Decoder, Encoder, ROWS, SYMBOLS, WEIGHTS, decoder};
+use constriction_fixtures::any_symbols::{Decoder, Encoder, ROWS, Row, SYMBOLS, WEIGHTS, decoder};
 use constriction_fixtures::contiguous::Table;
 use constriction_fixtures::own_model::three;
 use std::alloc::{AllocError, Global};
@@ -15,7 +17,7 @@ use std::process::Abort;
 
 type Texts = NonContiguousCategoricalDecoderModel<String, u8, Vec<(u8, String)>, 6>;
 
-/// Stops the test where the answer is neither a model of the rows nor a refusal of memory.
+/// Stops the test where the answer is neither the model of the weights nor a refusal of memory.
 fn is_contiguous(rt: &impl Abort, made: &Result<Table<6>, ModelError>) {
     match made {
         Ok(model) => answers_as_a_scan::<_, 6>(rt, model, &WEIGHTS),
@@ -32,95 +34,88 @@ fn grown_contiguous(alloc: Global) -> Result<Table<6>, ModelError> {
 #[test]
 fn a_refusal_of_memory_leaves_no_contiguous_model(rt: HostRuntime) {
     let made = grown_contiguous(rt.alloc());
-    is_contiguous(&rt, &made);
-    let Ok(model) = made else {
-        return;
-    };
-    match model.clone() {
-        Ok(clone) => answers_as_a_scan::<_, 6>(&rt, &clone, &WEIGHTS),
-        Err(error) => same(&rt, error, AllocError),
+    if let Ok(model) = &made {
+        match model.clone() {
+            Ok(clone) => answers_as_a_scan::<_, 6>(&rt, &clone, &WEIGHTS),
+            Err(error) => same(&rt, error, AllocError),
+        }
     }
-    answers_as_a_scan::<_, 6>(&rt, &model, &WEIGHTS);
+    is_contiguous(&rt, &made);
     end_of_requests(&rt);
 }
 
-/// Stops the test where the answer is neither a model of the rows nor a refusal of memory.
-fn is_decoder(rt: &impl Abort, made: &Result<Decoder<6>, ModelError>) {
+/// Stops the test where the answer is neither an encoder's model of these rows nor a refusal of memory.
+fn encodes_or_is_refused<const PRECISION: usize>(
+    rt: &impl Abort,
+    made: &Result<Encoder<PRECISION>, ModelError>,
+    rows: &[Row],
+) {
     match made {
-        Ok(model) => decodes(rt, model, &ROWS),
+        Ok(model) => encodes(rt, model, rows),
         Err(error) => same(rt, error, &ModelError::OutOfMemory),
     }
 }
 
-/// The same of an encoder's model.
-fn is_encoder(rt: &impl Abort, made: &Result<Encoder<6>, ModelError>) {
-    match made {
-        Ok(model) => encodes(rt, model, &ROWS),
-        Err(error) => same(rt, error, &ModelError::OutOfMemory),
-    }
-}
-
-/// The decoder's model of letters that do not announce how many they are, so that its entries grow.
-fn grown_decoder(alloc: Global) -> Result<Decoder<6>, ModelError> {
-    Decoder::from_symbols_and_nonzero_fixed_point_probabilities(
-        alloc,
-        "axcy".chars(),
-        WEIGHTS,
-        false,
-    )
-}
-
-/// The same of an encoder's model.
-fn grown_encoder(alloc: Global) -> Result<Encoder<6>, ModelError> {
-    Encoder::from_symbols_and_nonzero_fixed_point_probabilities(
-        alloc,
-        "axcy".chars(),
-        WEIGHTS,
-        false,
-    )
-}
-
+/// The letters do not announce how many they are, so that the entries grow.
 #[test]
 fn a_refusal_of_memory_leaves_no_decoder(rt: HostRuntime) {
-    let made = grown_decoder(rt.alloc());
-    is_decoder(&rt, &made);
-    let Ok(model) = made else {
-        return;
-    };
-    match model.clone() {
-        Ok(clone) => decodes(&rt, &clone, &ROWS),
-        Err(error) => same(&rt, error, AllocError),
+    let made = Decoder::<6>::from_symbols_and_nonzero_fixed_point_probabilities(
+        rt.alloc(),
+        "axcy".chars(),
+        WEIGHTS,
+        false,
+    );
+    if let Ok(model) = &made {
+        match model.clone() {
+            Ok(clone) => decodes::<_, 6>(&rt, &clone, &ROWS),
+            Err(error) => same(&rt, error, AllocError),
+        }
     }
-    decodes(&rt, &model, &ROWS);
+    decodes_or_is_refused::<_, 6>(&rt, &made, &ROWS);
     end_of_requests(&rt);
 }
 
+/// The letters do not announce how many they are, so that the entries grow.
 #[test]
 fn a_refusal_of_memory_leaves_no_encoder(rt: HostRuntime) {
-    let made = grown_encoder(rt.alloc());
-    is_encoder(&rt, &made);
-    let Ok(model) = made else {
-        return;
-    };
-    match model.clone() {
-        Ok(clone) => encodes(&rt, &clone, &ROWS),
-        Err(error) => same(&rt, error, AllocError),
+    let made = Encoder::<6>::from_symbols_and_nonzero_fixed_point_probabilities(
+        rt.alloc(),
+        "axcy".chars(),
+        WEIGHTS,
+        false,
+    );
+    if let Ok(model) = &made {
+        match model.clone() {
+            Ok(clone) => encodes(&rt, &clone, &ROWS),
+            Err(error) => same(&rt, error, AllocError),
+        }
     }
-    encodes(&rt, &model, &ROWS);
+    encodes_or_is_refused(&rt, &made, &ROWS);
     end_of_requests(&rt);
+}
+
+/// Stops the test where an answer is neither a model of these rows nor a refusal of memory.
+fn have_rows_or_are_refused<const PRECISION: usize>(
+    rt: &impl Abort,
+    made: &Made<char, PRECISION>,
+    rows: &[Row],
+)
+    requires positive { 0 < PRECISION }
+    requires fits { PRECISION ≤ 8 }
+{
+    decodes_or_is_refused::<_, PRECISION>(rt, &made.0, rows);
+    encodes_or_is_refused(rt, &made.1, rows);
 }
 
 #[test]
 fn a_refusal_of_memory_leaves_the_model_that_others_are_made_from(rt: HostRuntime) {
-    let Ok(model) = decoder::<6>(rt.alloc(), &SYMBOLS, &WEIGHTS, false) else {
-        return;
-    };
-    let (by_function, by_method) = made::<_, 6>(rt.alloc(), &model);
-    is_decoder(&rt, &by_function.0);
-    is_encoder(&rt, &by_function.1);
-    is_decoder(&rt, &by_method.0);
-    is_encoder(&rt, &by_method.1);
-    decodes(&rt, &model, &ROWS);
+    let source = decoder::<6>(rt.alloc(), &SYMBOLS, &WEIGHTS, false);
+    if let Ok(model) = &source {
+        let (by_function, by_method) = made::<_, 6>(rt.alloc(), model);
+        have_rows_or_are_refused(&rt, &by_function, &ROWS);
+        have_rows_or_are_refused(&rt, &by_method, &ROWS);
+    }
+    decodes_or_is_refused::<_, 6>(&rt, &source, &ROWS);
     end_of_requests(&rt);
 }
 
@@ -128,21 +123,9 @@ fn a_refusal_of_memory_leaves_the_model_that_others_are_made_from(rt: HostRuntim
 #[test]
 fn a_refusal_of_memory_leaves_a_model_of_the_caller(rt: HostRuntime) {
     let (by_function, by_method) = made::<_, 3>(rt.alloc(), &three('p', 'q', 'r'));
-    are_three(&rt, &by_function);
-    are_three(&rt, &by_method);
+    have_rows_or_are_refused(&rt, &by_function, &THREE);
+    have_rows_or_are_refused(&rt, &by_method, &THREE);
     end_of_requests(&rt);
-}
-
-/// Stops the test where an answer is neither a model of the caller's three letters nor a refusal of memory.
-fn are_three(rt: &impl Abort, made: &Made<char, 3>) {
-    match &made.0 {
-        Ok(model) => has_rows(rt, model),
-        Err(error) => same(rt, error, &ModelError::OutOfMemory),
-    }
-    match &made.1 {
-        Ok(model) => same(rt, model.support_size(), 3),
-        Err(error) => same(rt, error, &ModelError::OutOfMemory),
-    }
 }
 
 /// The model of two texts, each in memory of its own.

@@ -50,98 +50,64 @@ type TagDecoder = Decoder<Tag, 6>;
 
 type TagEncoder = Encoder<Tag, 6>;
 
-/// The models of these tags, 32 quantiles each.
+/// The decoder's, the encoder's and the lookup model of these tags, 32 quantiles each.
 fn tagged(
     alloc: Global,
-    tags: [u32; 2],
+    [first, second]: [u32; 2],
 ) -> (
     Result<TagDecoder, ModelError>,
     Result<TagEncoder, ModelError>,
+    Result<Lookup<Tag, 6>, ModelError>,
 ) {
-    let [first, second] = tags;
-    let decoder = TagDecoder::from_symbols_and_nonzero_fixed_point_probabilities(
-        alloc,
-        [Tag(first), Tag(second)],
-        [32, 32],
-        false,
-    );
-    let encoder = TagEncoder::from_symbols_and_nonzero_fixed_point_probabilities(
-        alloc,
-        [Tag(first), Tag(second)],
-        [32, 32],
-        false,
-    );
-    (decoder, encoder)
-}
-
-/// The lookup model of these tags.
-fn tagged_lookup(alloc: Global, tags: [u32; 2]) -> Result<Lookup<Tag, 6>, ModelError> {
-    let [first, second] = tags;
-    Lookup::from_symbols_and_nonzero_fixed_point_probabilities(
-        alloc,
-        [Tag(first), Tag(second)],
-        [32, 32],
-        false,
+    let tags = [Tag(first), Tag(second)];
+    let weights = [32, 32];
+    (
+        TagDecoder::from_symbols_and_nonzero_fixed_point_probabilities(alloc, tags, weights, false),
+        TagEncoder::from_symbols_and_nonzero_fixed_point_probabilities(alloc, tags, weights, false),
+        Lookup::from_symbols_and_nonzero_fixed_point_probabilities(alloc, tags, weights, false),
     )
-}
-
-/// The tag, the left cumulative and the weight of a quantile.
-fn row<M: DecoderModel<6, Symbol = Tag, Probability = u8>>(
-    model: &M,
-    quantile: u8,
-) -> Result<(u32, u8, u8), AllocError>
-    requires in_range { quantile < 64 }
-{
-    let (tag, left, weight) = plain(model.quantile_function(quantile))?;
-    Ok((tag.0, left, weight))
 }
 
 /// Stops the test where the model has not the tags 12 and 3 as they were given.
 fn has_tags<M: DecoderModel<6, Symbol = Tag, Probability = u8>>(rt: &impl Abort, model: &M) {
-    same(
-        rt,
-        (row(model, 31), row(model, 32)),
-        (Ok((12, 0, 32)), Ok((3, 32, 32))),
-    );
+    let (first, left, weight) = plain(model.quantile_function(31)).expect(rt, "a row");
+    same(rt, (first.0, left, weight), (12, 0, 32));
+    let (second, left, weight) = plain(model.quantile_function(32)).expect(rt, "a row");
+    same(rt, (second.0, left, weight), (3, 32, 32));
 }
 
-/// The left cumulative and the weight of a tag.
-fn entry(model: &TagEncoder, tag: u32) -> Option<(u8, u8)> {
-    plain_entry(model.left_cumulative_and_probability(&Tag(tag)))
-}
+/// Tags and their entries in the model of the tags 12 and 3.
+const ENTRIES: [(u32, Option<(u8, u8)>); 3] = [(2, Some((0, 32))), (13, Some((32, 32))), (4, None)];
 
 #[test]
 fn tags_are_told_by_their_own_equality(rt: HostRuntime) {
-    let (decoder, encoder) = tagged(rt.alloc(), [12, 3]);
-    let decoder = decoder.expect(&rt, "accepted");
+    let (decoder, encoder, looks_up) = tagged(rt.alloc(), [12, 3]);
+    has_tags(&rt, &decoder.expect(&rt, "accepted"));
+    has_tags(&rt, &looks_up.expect(&rt, "accepted"));
     let encoder = encoder.expect(&rt, "accepted");
-    has_tags(&rt, &decoder);
-    for (tag, expected) in [(2, Some((0, 32))), (13, Some((32, 32))), (4, None)] {
-        same_at(&rt, tag, entry(&encoder, tag), expected);
+    for each in &ENTRIES {
+        let (tag, expected) = *each;
+        let entry = plain_entry(encoder.left_cumulative_and_probability(&Tag(tag)));
+        same_at(&rt, tag, entry, expected);
     }
-    let (decoder, encoder) = tagged(rt.alloc(), [12, 2]);
-    same(&rt, decoder.err(), Some(ModelError::InvalidTable));
-    same(&rt, encoder.err(), Some(ModelError::InvalidTable));
 }
 
 #[test]
-fn a_lookup_model_tells_tags_by_their_own_equality(rt: HostRuntime) {
-    has_tags(
-        &rt,
-        &tagged_lookup(rt.alloc(), [12, 3]).expect(&rt, "accepted"),
-    );
-    let refused = tagged_lookup(rt.alloc(), [12, 2]).err();
-    same(&rt, refused, Some(ModelError::InvalidTable));
+fn tags_of_one_last_digit_are_refused(rt: HostRuntime) {
+    let (decoder, encoder, looks_up) = tagged(rt.alloc(), [12, 2]);
+    is_refused(&rt, decoder, ModelError::InvalidTable);
+    is_refused(&rt, encoder, ModelError::InvalidTable);
+    is_refused(&rt, looks_up, ModelError::InvalidTable);
 }
 
-/// The lookup model of the same.
+/// Stops the test where there is an answer, or it is refused for another reason.
+fn is_refused<T: Drop>(rt: &impl Abort, made: Result<T, ModelError>, why: ModelError) {
+    same(rt, made.err(), Some(why));
+}
+
+/// The lookup model of `a`, `r` and `c`, which takes the letters from the searching one and clones none.
 fn lookup_of_letters(alloc: Global) -> Result<Lookup<Letter, 6>, ModelError> {
-    Lookup::from_symbols_and_nonzero_fixed_point_probabilities(
-        alloc,
-        [Letter('a'), Letter('r'), Letter('c')],
-        [16, 32, 16],
-        false,
-    )
+    letters(alloc)?.into_lookup_decoder_model(alloc)
 }
 
 /// The row of an answer, with the character of its letter.
@@ -184,39 +150,32 @@ fn walks(rt: &impl Abort, table: NonContiguousSymbolTable<'_, Letter, u8, 6>, st
     }
 }
 
-#[test]
-fn a_refused_clone_stands_in_the_place_of_its_row(rt: HostRuntime) {
-    let model = letters(rt.alloc()).expect(&rt, "accepted");
-    for steps in &STEPS {
-        walks(&rt, model.symbol_table(), steps);
-    }
-    answers_a_refusal(&rt, &model);
-}
-
 /// Stops the test where the model does not answer the first letter, and a refusal for the second one.
 fn answers_a_refusal<M>(rt: &impl Abort, model: &M)
 where
     M: DecoderModel<6, Symbol = Letter, Probability = u8>,
 {
-    let found = letter_row(model.quantile_function(15));
-    same(rt, found, Ok(('a', 0, 16)));
-    let refused = letter_row(model.quantile_function(16));
-    same(rt, refused, Err(AllocError));
+    let first = letter_row(model.quantile_function(15));
+    let second = letter_row(model.quantile_function(16));
+    same(rt, (first, second), (Ok(('a', 0, 16)), Err(AllocError)));
 }
 
 #[test]
-fn a_lookup_model_answers_a_refused_clone(rt: HostRuntime) {
-    let model = lookup_of_letters(rt.alloc()).expect(&rt, "accepted");
+fn a_refused_clone_stands_in_the_place_of_its_row(rt: HostRuntime) {
+    let searching = letters(rt.alloc()).expect(&rt, "accepted");
+    let looks_up = lookup_of_letters(rt.alloc()).expect(&rt, "accepted");
     for steps in &STEPS {
-        walks(&rt, model.symbol_table(), steps);
+        walks(&rt, searching.symbol_table(), steps);
+        walks(&rt, looks_up.symbol_table(), steps);
     }
-    answers_a_refusal(&rt, &model);
+    answers_a_refusal(&rt, &searching);
+    answers_a_refusal(&rt, &looks_up);
 }
 
-/// Stops the test where memory for it was not refused.
-fn are_refused(rt: &impl Abort, made: Made<Letter, 6>) {
-    same(rt, made.0.err(), Some(ModelError::OutOfMemory));
-    same(rt, made.1.err(), Some(ModelError::OutOfMemory));
+/// Stops the test where memory for what is made was not refused.
+fn are_refused(rt: &impl Abort, (decoder, encoder): Made<Letter, 6>) {
+    is_refused(rt, decoder, ModelError::OutOfMemory);
+    is_refused(rt, encoder, ModelError::OutOfMemory);
 }
 
 #[test]
@@ -226,20 +185,18 @@ fn a_refused_clone_is_want_of_memory(rt: HostRuntime) {
     let (by_function, by_method) = made::<_, 6>(rt.alloc(), &model);
     are_refused(&rt, by_function);
     are_refused(&rt, by_method);
+    is_refused(
+        &rt,
+        model.to_lookup_decoder_model(rt.alloc()),
+        ModelError::OutOfMemory,
+    );
 }
 
 #[test]
 fn a_refused_clone_is_want_of_memory_for_a_lookup_model(rt: HostRuntime) {
-    let searching = letters(rt.alloc()).expect(&rt, "accepted");
-    is_refused(&rt, searching.to_lookup_decoder_model(rt.alloc()));
     let model = lookup_of_letters(rt.alloc()).expect(&rt, "accepted");
     same(&rt, model.clone().err(), Some(AllocError));
     let (by_function, by_method) = looked_up::<_, 6>(rt.alloc(), &model);
-    is_refused(&rt, by_function);
-    is_refused(&rt, by_method);
-}
-
-/// Stops the test where memory for a lookup model was not refused.
-fn is_refused(rt: &impl Abort, made: Result<Lookup<Letter, 6>, ModelError>) {
-    same(rt, made.err(), Some(ModelError::OutOfMemory));
+    is_refused(&rt, by_function, ModelError::OutOfMemory);
+    is_refused(&rt, by_method, ModelError::OutOfMemory);
 }
