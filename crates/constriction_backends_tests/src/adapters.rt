@@ -3,7 +3,7 @@
 ghost use Rattle.std.specs.Prelude.{◌≡◌, ◌↔◌, ◌+◌, ◌-◌, ◌/◌, ◌≤◌, length, slice_get, None, Ok, Err};
 ghost use Rattle.std.specs.Option.{option_map};
 
-use crate::checks::{same, vec_of};
+use crate::checks::{next_of, same, vec_of};
 use constriction_backends::{
     AsSeekReadWords, BoundedReadWords, FallibleCallbackWriteWords, FallibleIteratorReadWords,
     FusedWords, InfallibleCallbackWriteWords, InfallibleIteratorReadWords, IntoReadWords,
@@ -119,82 +119,42 @@ impl Iterator for Gapped {
     }
 }
 
-/// A source over the words of a slice.
-type Words<'a> = InfallibleIteratorReadWords<Copied<Iter<'a, u8>>>;
-
 type Read = Result<Option<u8>, Infallible>;
-
-fn words_in(words: &[u8]) -> Words<'_> {
-    InfallibleIteratorReadWords::new(words.iter().copied())
-}
-
-fn popped(source: &mut Words) -> Read {
-    ReadWords::<u8, Stack>::read(source)
-}
-
-fn taken(source: &mut Words) -> Read {
-    ReadWords::<u8, Queue>::read(source)
-}
-
-fn words_to_pop(source: &Words) -> usize {
-    BoundedReadWords::<u8, Stack>::remaining(source)
-}
-
-fn words_to_take(source: &Words) -> usize {
-    BoundedReadWords::<u8, Queue>::remaining(source)
-}
-
-fn is_exhausted(source: &Words) -> bool {
-    BoundedReadWords::<u8, Stack>::is_exhausted(source)
-}
-
-fn may_be_exhausted(source: &Words) -> bool {
-    ReadWords::<u8, Stack>::maybe_exhausted(source)
-}
 
 #[test]
 fn an_iterator_of_words_is_read_in_its_order(rt: HostRuntime) {
-    let mut source = words_in(&[5, 6]);
-    same(&rt, words_to_pop(&source), 2);
-    same(&rt, may_be_exhausted(&source), true);
-    same(&rt, popped(&mut source), Ok(Some(5)));
-    same(&rt, words_to_take(&source), 1);
-    same(&rt, may_be_exhausted(&source), true);
-    same(&rt, taken(&mut source), Ok(Some(6)));
+    let words = [5u8, 6];
+    let mut source = InfallibleIteratorReadWords::new(words.iter().copied());
     same(
         &rt,
-        (words_to_pop(&source), is_exhausted(&source)),
-        (0, true),
+        next_of::<Stack, _>(&mut source),
+        (2, false, true, Ok(Some(5))),
     );
-    for _ in 0..2u8 {
-        same(&rt, may_be_exhausted(&source), true);
-        same(&rt, taken(&mut source), Ok(None));
-    }
-}
-
-/// The next word of a source over an iterator with gaps.
-fn with_a_gap() -> InfallibleIteratorReadWords<Gapped> {
-    InfallibleIteratorReadWords::new(Gapped { calls: 0 })
-}
-
-fn after_gap(source: &mut InfallibleIteratorReadWords<Gapped>) -> Read {
-    ReadWords::<u8, Queue>::read(source)
-}
-
-/// The next item of what such a source turns into.
-fn left_after_gap(source: InfallibleIteratorReadWords<Gapped>) -> Option<u8> {
-    let mut left: FusedWords<Gapped> = source.into_iter();
-    left.next()
+    same(
+        &rt,
+        next_of::<Queue, _>(&mut source),
+        (1, false, true, Ok(Some(6))),
+    );
+    same(
+        &rt,
+        next_of::<Stack, _>(&mut source),
+        (0, true, true, Ok(None)),
+    );
+    same(
+        &rt,
+        next_of::<Queue, _>(&mut source),
+        (0, true, true, Ok(None)),
+    );
 }
 
 #[test]
 fn the_end_of_an_iterator_is_for_good(rt: HostRuntime) {
-    let mut source = with_a_gap();
-    same(&rt, after_gap(&mut source), Ok(Some(1)));
-    for _ in 0..3u8 {
-        same(&rt, after_gap(&mut source), Ok(None));
+    let mut source = InfallibleIteratorReadWords::new(Gapped { calls: 0 });
+    for expected in [Some(1), None, None, None] {
+        same(&rt, ReadWords::<u8, Queue>::read(&mut source), Ok(expected));
     }
-    same(&rt, left_after_gap(source), None);
+    let mut left: FusedWords<Gapped> = source.into_iter();
+    same(&rt, left.next(), None);
 }
 
 /// A source over words, and an error in the place of one.
@@ -204,62 +164,38 @@ const ITEMS: [Result<u8, char>; 3] = [Ok(1), Err('x'), Ok(2)];
 
 type ReadItem = Result<Option<u8>, char>;
 
-fn all_items() -> Items<'static> {
-    FallibleIteratorReadWords::new(ITEMS.iter().copied())
-}
+/// What such a source says of what is left: how many items, whether none is and whether none may be; and its next item.
+type Next = (usize, bool, bool, ReadItem);
 
-fn items_left(source: &Items) -> usize {
-    BoundedReadWords::<u8, Queue>::remaining(source)
-}
-
-fn no_item_is_left(source: &Items) -> bool {
-    BoundedReadWords::<u8, Queue>::is_exhausted(source)
-}
-
-/// Stops the test where a source has not so many items left, or says that one is left for certain.
-fn has_items_left(rt: &impl Abort, source: &Items, count: usize) {
-    let may_be_exhausted = ReadWords::<u8, Queue>::maybe_exhausted(source);
-    same(rt, (items_left(source), may_be_exhausted), (count, true));
-}
-
-fn taken_item(source: &mut Items) -> ReadItem {
-    ReadWords::<u8, Queue>::read(source)
-}
-
-fn popped_item(source: &mut Items) -> ReadItem {
-    ReadWords::<u8, Stack>::read(source)
-}
-
-fn taken_when_turned(source: &mut Reverse<Items>) -> ReadItem {
-    ReadWords::<u8, Queue>::read(source)
-}
-
-fn popped_when_turned(source: &mut Reverse<Items>) -> ReadItem {
-    ReadWords::<u8, Stack>::read(source)
-}
-
-/// The first item of what a source turns into, and how many are left then.
-fn first_item(source: Items) -> (Option<Result<u8, char>>, usize) {
-    let mut left = source.into_iter();
-    (left.next(), left.len())
+/// The source is read in either order, and once more after two reads in either order while it was turned round.
+fn all_items(mut source: Items) -> ([Next; 3], [ReadItem; 2]) {
+    let first = next_of::<Queue, _>(&mut source);
+    let second = next_of::<Stack, _>(&mut source);
+    let mut turned = Reverse(source);
+    let read = [
+        ReadWords::<u8, Queue>::read(&mut turned),
+        ReadWords::<u8, Stack>::read(&mut turned),
+    ];
+    ([first, second, next_of::<Queue, _>(&mut turned.0)], read)
 }
 
 #[test]
 fn an_error_stands_in_the_place_of_a_word(rt: HostRuntime) {
-    let mut source = all_items();
-    has_items_left(&rt, &source, 3);
-    same(&rt, taken_item(&mut source), Ok(Some(1)));
-    has_items_left(&rt, &source, 2);
-    same(&rt, popped_item(&mut source), Err('x'));
-    has_items_left(&rt, &source, 1);
-    let mut turned = Reverse(source);
-    same(&rt, taken_when_turned(&mut turned), Ok(Some(2)));
-    same(&rt, popped_when_turned(&mut turned), Ok(None));
-    let mut source = turned.0;
-    same(&rt, taken_item(&mut source), Ok(None));
-    has_items_left(&rt, &source, 0);
-    same(&rt, no_item_is_left(&source), true);
-    same(&rt, first_item(all_items()), (Some(Ok(1)), 2));
+    same(
+        &rt,
+        all_items(FallibleIteratorReadWords::new(ITEMS.iter().copied())),
+        (
+            [
+                (3, false, true, Ok(Some(1))),
+                (2, false, true, Err('x')),
+                (0, true, true, Ok(None)),
+            ],
+            [Ok(Some(2)), Ok(None)],
+        ),
+    );
+    let source: Items = FallibleIteratorReadWords::new(ITEMS.iter().copied());
+    let mut left = source.into_iter();
+    same(&rt, (left.next(), left.len()), (Some(Ok(1)), 2));
 }
 
 /// Two reads of a source whose count is right: the second one finds an item where two were left.
@@ -321,15 +257,6 @@ fn calls_until_refused(words: &[u8]) -> (bool, Result<(), u8>, Result<(), u8>, u
     (may_be_full, answer, after, calls)
 }
 
-#[test]
-fn a_callback_is_called_until_it_refuses(rt: HostRuntime) {
-    same(
-        &rt,
-        calls_until_refused(&[1, 2, 3, 4]),
-        (true, Err(3), Ok(()), 4),
-    );
-}
-
 /// The number of calls that a callback answers once it was taken out of its sink.
 fn calls_of_three(word: u8) -> Result<(), u8>
     ensures { result ≡ Err 3 }
@@ -343,16 +270,6 @@ fn calls_of_three(word: u8) -> Result<(), u8>
     let _ = sink.write(word);
     let mut callback = sink.into_inner();
     callback(word)
-}
-
-#[test]
-fn callers_know_what_their_callbacks_did(rt: HostRuntime) {
-    same(
-        &rt,
-        (sum_of_two(250, 9), calls_of_two(1, 2)),
-        (259, (2, true)),
-    );
-    same(&rt, calls_of_three(7), Err(3));
 }
 
 /// What a callback adds up of words and one more, what the sink answers to each, and whether it may
@@ -372,6 +289,18 @@ fn sum_of(words: &[u32], last: u32) -> ([Result<(), Infallible>; 2], bool, u32) 
 }
 
 #[test]
-fn a_callback_adds_what_it_is_given(rt: HostRuntime) {
+fn a_callback_is_given_each_word_until_it_refuses(rt: HostRuntime) {
     same(&rt, sum_of(&[1, 2, 3], 4), ([Ok(()), Ok(())], true, 10));
+    let refused = calls_until_refused(&[1, 2, 3, 4]);
+    same(&rt, refused, (true, Err(3), Ok(()), 4));
+}
+
+#[test]
+fn callers_know_what_their_callbacks_did(rt: HostRuntime) {
+    same(
+        &rt,
+        (sum_of_two(250, 9), calls_of_two(1, 2)),
+        (259, (2, true)),
+    );
+    same(&rt, calls_of_three(7), Err(3));
 }

@@ -24,7 +24,6 @@ fn buffers_lend_their_words(rt: HostRuntime) {
     let words = [3u8, 18, 1, 42];
     lends(&rt, &words.as_slice());
     lends(&rt, &&words);
-    lends(&rt, &vec_of(&rt, rt.alloc(), &words));
     lends(&rt, &boxed_of(&rt, rt.alloc(), &words));
 }
 
@@ -34,14 +33,10 @@ fn buffers_are_written(rt: HostRuntime) {
     is_written(&rt, vec_of(&rt, rt.alloc(), &words));
     let marked = is_written(&rt, Marked::new(vec_of(&rt, rt.alloc(), &words)));
     same(&rt, (marked.first, marked.last), (7, 9));
-}
-
-#[test]
-fn borrowed_buffers_are_written(rt: HostRuntime) {
-    let mut words = [3u8, 18, 1, 42];
     let mut copy = words;
     let array: &mut [u8; 4] = &mut copy;
     is_written(&rt, array);
-    let slice: &mut [u8] = &mut words;
+    let mut copy = words;
+    let slice: &mut [u8] = &mut copy;
     is_written(&rt, slice);
 }

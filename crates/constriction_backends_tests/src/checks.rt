@@ -2,6 +2,8 @@
 //!
 //! A proof of `assert_eq!` costs much and a call of these costs nothing, so tests call these.
 
+use constriction_backends::{BoundedReadWords, Cursor, SafeBuf};
+use constriction_words::{Pos, Semantics};
 use std::alloc::{AllocError, Global};
 use std::boxed::BoxedSlice;
 use std::fmt::{Debug, Display};
@@ -9,7 +11,7 @@ use std::process::Abort;
 
 /// Stops the test where the two differ, and shows both.
 pub fn same<T: PartialEq + Debug + Drop>(rt: &impl Abort, found: T, expected: T) {
-    assert_eq!(rt; found, expected);
+    same_at(rt, "found, beside expected", found, expected);
 }
 
 /// The same of one case among several, whose name is shown too.
@@ -28,10 +30,7 @@ pub fn holds<T: PartialEq + Debug>(rt: &impl Abort, found: &Vec<T>, expected: &[
 
 /// These words in memory of their own. It stops the test where memory is refused.
 pub fn vec_of(rt: &impl Abort, alloc: Global, words: &[u8]) -> Vec<u8> {
-    let Ok(words) = words.to_vec(alloc) else {
-        panic!(rt; "memory was refused");
-    };
-    words
+    words.to_vec(alloc).expect(rt, "memory")
 }
 
 /// The same as a boxed slice.
@@ -39,29 +38,30 @@ pub fn boxed_of(rt: &impl Abort, alloc: Global, words: &[u8]) -> BoxedSlice<u8> 
     vec_of(rt, alloc, words).into_boxed_slice()
 }
 
-/// A clone. It stops the test where memory is refused.
-pub fn clone_of<T: Clone>(rt: &impl Abort, value: &T) -> T {
-    let clone: Result<_, _> = value.clone();
-    let Ok(clone) = clone else {
-        panic!(rt; "memory was refused");
-    };
-    clone
+/// How many items a source has left, whether it has none, whether it may have none, and its next word then.
+pub fn next_of<S: Semantics, Source: BoundedReadWords<u8, S>>(
+    source: &mut Source,
+) -> (usize, bool, bool, Result<Option<u8>, Source::ReadError>)
+    requires { Source.can_read source.old }
+    ensures { Source.can_read source.new }
+{
+    (
+        source.remaining(),
+        source.is_exhausted(),
+        source.maybe_exhausted(),
+        source.read(),
+    )
 }
 
-/// Stops the test where the value is not printed as this text.
-pub fn prints<T: Display>(rt: &impl Abort, alloc: Global, value: &T, text: &str) {
-    let Ok(printed) = format!(in alloc; "{value}") else {
-        panic!(rt; "memory was refused");
-    };
-    same(rt, printed.as_str(), text);
-}
-
-/// Stops the test where the value is not shown to a programmer as this text.
-pub fn shows<T: Debug>(rt: &impl Abort, alloc: Global, value: &T, text: &str) {
-    let Ok(shown) = format!(in alloc; "{value:?}") else {
-        panic!(rt; "memory was refused");
-    };
-    same(rt, shown.as_str(), text);
+/// Stops the test where a cursor does not stand at this position, or does not hold these words.
+pub fn is_at<Buf: SafeBuf<u8>, const N: usize>(
+    rt: &impl Abort,
+    cursor: &Cursor<u8, Buf>,
+    pos: usize,
+    words: [u8; N],
+) {
+    same(rt, cursor.buf().words(), words.as_slice());
+    same(rt, cursor.pos(), pos);
 }
 
 /// More requests for memory than any test makes.

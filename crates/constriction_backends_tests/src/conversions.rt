@@ -6,84 +6,61 @@ use constriction_backends::{
 };
 use constriction_fixtures::marked::Marked;
 use constriction_words::{Queue, Seek, Stack, UnwrapInfallible};
-use std::alloc::Global;
-use std::boxed::BoxedSlice;
 use std::process::Abort;
 
-/// The first two words of a buffer that turns into a stack, and of another one as a queue.
-fn two_of_each<Buf: SafeBuf<u8> + Drop>(stack: Buf, queue: Buf) -> [Option<u8>; 4] {
+/// Stops the test where a buffer of 1, 2 and 3 turns into another stack, or another one into another queue.
+fn turn_into_sources<Buf: SafeBuf<u8> + Drop>(rt: &impl Abort, stack: Buf, queue: Buf) {
     let mut stack = IntoReadWords::<u8, Stack>::into_read_words(stack);
     let mut queue = IntoReadWords::<u8, Queue>::into_read_words(queue);
-    [
+    let found = [
         ReadWords::<u8, Stack>::read(&mut stack).unwrap_infallible(),
         ReadWords::<u8, Stack>::read(&mut stack).unwrap_infallible(),
         ReadWords::<u8, Queue>::read(&mut queue).unwrap_infallible(),
         ReadWords::<u8, Queue>::read(&mut queue).unwrap_infallible(),
-    ]
+    ];
+    same(rt, found, [Some(3), Some(2), Some(1), Some(2)]);
 }
 
-fn vec(rt: &impl Abort, alloc: Global) -> Vec<u8> {
-    vec_of(rt, alloc, &[1, 2, 3])
-}
-
-fn boxed(rt: &impl Abort, alloc: Global) -> BoxedSlice<u8> {
-    boxed_of(rt, alloc, &[1, 2, 3])
-}
-
-fn marked(rt: &impl Abort, alloc: Global) -> Marked {
-    Marked::new(vec(rt, alloc))
-}
+const WORDS: [u8; 3] = [1, 2, 3];
 
 #[test]
 fn buffers_turn_into_sources(rt: HostRuntime) {
-    let words = [1u8, 2, 3];
-    let expected = [Some(3), Some(2), Some(1), Some(2)];
-    same(
-        &rt,
-        two_of_each(words.as_slice(), words.as_slice()),
-        expected,
-    );
-    same(&rt, two_of_each(&words, &words), expected);
     let alloc = rt.alloc();
-    same(&rt, two_of_each(vec(&rt, alloc), vec(&rt, alloc)), expected);
-    same(
+    turn_into_sources(&rt, WORDS.as_slice(), WORDS.as_slice());
+    turn_into_sources(&rt, &WORDS, &WORDS);
+    turn_into_sources(&rt, vec_of(&rt, alloc, &WORDS), vec_of(&rt, alloc, &WORDS));
+    turn_into_sources(
         &rt,
-        two_of_each(boxed(&rt, alloc), boxed(&rt, alloc)),
-        expected,
+        boxed_of(&rt, alloc, &WORDS),
+        boxed_of(&rt, alloc, &WORDS),
     );
-    same(
+    turn_into_sources(
         &rt,
-        two_of_each(marked(&rt, alloc), marked(&rt, alloc)),
-        expected,
+        Marked::new(vec_of(&rt, alloc, &WORDS)),
+        Marked::new(vec_of(&rt, alloc, &WORDS)),
     );
 }
 
-/// A stack that seeks to 1, and the word that it reads there.
-fn sought_in_a_stack(words: &[u8]) -> (Result<(), ()>, Option<u8>) {
+/// What a stack of a slice answers to a seek to 1, and a queue of a vector to seeks to 4 and to 2, and the word that each
+/// reads there.
+fn sought(words: &[u8], vec: Vec<u8>) -> ([Result<(), ()>; 3], [Option<u8>; 2]) {
     let mut stack = IntoSeekReadWords::<u8, Stack>::into_seek_read_words(words);
-    let sought = stack.seek(1);
-    (
-        sought,
+    let mut queue = IntoSeekReadWords::<u8, Queue>::into_seek_read_words(vec);
+    let sought = [stack.seek(1), queue.seek(4), queue.seek(2)];
+    let read = [
         ReadWords::<u8, Stack>::read(&mut stack).unwrap_infallible(),
-    )
-}
-
-/// A queue that seeks to 4 and to 2, and the word that it reads there.
-fn sought_in_a_queue(words: Vec<u8>) -> ([Result<(), ()>; 2], Option<u8>) {
-    let mut queue = IntoSeekReadWords::<u8, Queue>::into_seek_read_words(words);
-    let sought = [queue.seek(4), queue.seek(2)];
-    (
-        sought,
         ReadWords::<u8, Queue>::read(&mut queue).unwrap_infallible(),
-    )
+    ];
+    (sought, read)
 }
 
 #[test]
 fn buffers_turn_into_sources_that_seek(rt: HostRuntime) {
-    let words = [1u8, 2, 3];
-    same(&rt, sought_in_a_stack(&words), (Ok(()), Some(1)));
-    let vec = vec_of(&rt, rt.alloc(), &words);
-    same(&rt, sought_in_a_queue(vec), ([Err(()), Ok(())], Some(3)));
+    same(
+        &rt,
+        sought(&WORDS, vec_of(&rt, rt.alloc(), &WORDS)),
+        ([Ok(()), Err(()), Ok(())], [Some(1), Some(3)]),
+    );
 }
 
 /// The next word of a stack and of a queue that a buffer lends.
@@ -96,15 +73,11 @@ fn lent(words: &Vec<u8>) -> [Option<u8>; 2] {
     ]
 }
 
-/// What a lent queue and a lent stack answer to a seek, and their next words.
-fn lent_and_sought(
-    words: &Vec<u8>,
-    in_queue: usize,
-    in_stack: usize,
-) -> ([Result<(), ()>; 2], [Option<u8>; 2]) {
+/// What a lent queue answers to a seek to 1 and a lent stack to one to 4, and their next words.
+fn lent_and_sought(words: &Vec<u8>) -> ([Result<(), ()>; 2], [Option<u8>; 2]) {
     let mut queue = AsSeekReadWords::<u8, Queue>::as_seek_read_words(words);
     let mut stack = AsSeekReadWords::<u8, Stack>::as_seek_read_words(words);
-    let sought = [queue.seek(in_queue), stack.seek(in_stack)];
+    let sought = [queue.seek(1), stack.seek(4)];
     let read = [
         ReadWords::<u8, Queue>::read(&mut queue).unwrap_infallible(),
         ReadWords::<u8, Stack>::read(&mut stack).unwrap_infallible(),
@@ -114,12 +87,9 @@ fn lent_and_sought(
 
 #[test]
 fn buffers_lend_sources_and_stay_as_they_are(rt: HostRuntime) {
-    let words = vec_of(&rt, rt.alloc(), &[1, 2, 3]);
+    let words = vec_of(&rt, rt.alloc(), &WORDS);
     same(&rt, lent(&words), [Some(3), Some(1)]);
-    same(
-        &rt,
-        lent_and_sought(&words, 1, 4),
-        ([Ok(()), Err(())], [Some(2), Some(3)]),
-    );
-    holds(&rt, &words, &[1, 2, 3]);
+    let sought = lent_and_sought(&words);
+    same(&rt, sought, ([Ok(()), Err(())], [Some(2), Some(3)]));
+    holds(&rt, &words, &WORDS);
 }

@@ -1,6 +1,6 @@
 //! What errors print, and how they compare.
 
-use crate::checks::{clone_of, prints, same, shows};
+use crate::checks::same;
 use constriction::backends::BoundedWriteError;
 use constriction_words::CoderError;
 use std::error::Error;
@@ -11,14 +11,13 @@ fn is_an_error<E: Error>(_error: &E) {}
 fn a_full_sink_is_out_of_space(rt: HostRuntime) {
     let error = BoundedWriteError::OutOfSpace;
     is_an_error(&error);
-    same(&rt, clone_of(&rt, &error), BoundedWriteError::OutOfSpace);
-    prints(&rt, rt.alloc(), &error, "Out of space.");
-    shows(&rt, rt.alloc(), &error, "OutOfSpace");
-    let nested: CoderError<u8, BoundedWriteError> = CoderError::Backend(error);
-    prints(
+    let clone = error.clone().expect(&rt, "a clone");
+    same(&rt, &clone, &error);
+    let nested: CoderError<u8, BoundedWriteError> = CoderError::Backend(clone);
+    let text = format!(in rt.alloc(); "{error} {error:?} {nested}").expect(&rt, "memory");
+    same(
         &rt,
-        rt.alloc(),
-        &nested,
-        "Error while reading compressed data: Out of space.",
+        text.as_str(),
+        "Out of space. OutOfSpace Error while reading compressed data: Out of space.",
     );
 }

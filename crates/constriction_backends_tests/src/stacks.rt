@@ -2,15 +2,17 @@
 
 ghost use Rattle.std.specs.Prelude.{◌≡◌, ◌<◌, List, [], Some, None, Ok, IfSome, IsOk, length, vec_capacity};
 
-use crate::checks::{end_of_requests, holds as vec_holds, same, same_at, vec_of};
+use crate::checks::{end_of_requests, holds, next_of, same, same_at, vec_of};
 use constriction_backends::{
     BoundedReadWords, Cursor, ReadWords, Reverse, StackBackend, WriteWords, laws,
 };
 use constriction_words::{Pos, PosSeek, Queue, ReadWriteError, Seek, Stack};
 use smallvec::SmallVec;
-use std::alloc::{AllocError, Global};
+use std::alloc::AllocError;
 use std::convert::Infallible;
+use std::iter::Copied;
 use std::process::Abort;
+use std::slice::Iter;
 
 /// A stack that is empty takes 1, 2 and 3. It is then not exhausted, and never full.
 fn is_filled<W>(rt: &impl Abort, words: &mut W)
@@ -28,16 +30,6 @@ where
     );
 }
 
-/// How many words remain, whether that is none, and the next one.
-fn counted<W>(words: &mut W) -> (usize, bool, Result<Option<u8>, Infallible>)
-where
-    W: BoundedReadWords<u8, Stack, ReadError = Infallible>,
-    requires { W.can_read words.old }
-    ensures { W.can_read words.new }
-{
-    (words.remaining(), words.is_exhausted(), words.read())
-}
-
 /// A stack of 1, 2 and 3 is read to its end, and once more.
 fn is_emptied<W>(rt: &impl Abort, words: &mut W)
 where
@@ -47,28 +39,20 @@ where
     same(
         rt,
         [
-            counted(words),
-            counted(words),
-            counted(words),
-            counted(words),
-            counted(words),
+            next_of::<Stack, W>(words),
+            next_of::<Stack, W>(words),
+            next_of::<Stack, W>(words),
+            next_of::<Stack, W>(words),
+            next_of::<Stack, W>(words),
         ],
         [
-            (3, false, Ok(Some(3))),
-            (2, false, Ok(Some(2))),
-            (1, false, Ok(Some(1))),
-            (0, true, Ok(None)),
-            (0, true, Ok(None)),
+            (3, false, false, Ok(Some(3))),
+            (2, false, false, Ok(Some(2))),
+            (1, false, false, Ok(Some(1))),
+            (0, true, true, Ok(None)),
+            (0, true, true, Ok(None)),
         ],
     );
-}
-
-/// What a seek answers, and where it leaves the stack.
-fn sought<W>(words: &mut W, pos: usize) -> (Result<(), ()>, usize)
-where
-    W: PosSeek<Position = usize> + Pos + Seek,
-{
-    (words.seek(pos), words.pos())
 }
 
 /// Seeks in a stack of three words, and where each leaves it.
@@ -86,7 +70,7 @@ where
 {
     same(rt, words.pos(), 3);
     for (pos, answer, after) in SEEKS {
-        same_at(rt, pos, sought(words, pos), (answer, after));
+        same_at(rt, pos, (words.seek(pos), words.pos()), (answer, after));
     }
 }
 
@@ -94,32 +78,18 @@ where
 fn a_vec_is_a_stack(rt: HostRuntime) {
     let mut words = Vec::new(rt.alloc());
     is_filled(&rt, &mut words);
-    vec_holds(&rt, &words, &[1, 2, 3]);
+    holds(&rt, &words, &[1, 2, 3]);
     is_emptied(&rt, &mut words);
-}
-
-#[test]
-fn a_vec_goes_back_for_good(rt: HostRuntime) {
-    let mut words = vec_of(&rt, rt.alloc(), &[1, 2, 3]);
+    is_filled(&rt, &mut words);
     goes_back(&rt, &mut words);
-    vec_holds(&rt, &words, &[1]);
+    holds(&rt, &words, &[1]);
 }
 
 /// A stack whose first two words stand in the value itself.
 type Two = SmallVec<u8, 2>;
 
-/// What it answers to a word.
-fn pushed(words: &mut Two, word: u8) -> Result<(), AllocError> {
-    words.write(word)
-}
-
-/// What it answers to the words of an iterator.
-fn extended(words: &mut Two, more: &[u8]) -> Result<(), AllocError> {
-    words.extend_from_iter(more.iter().copied())
-}
-
 /// It holds these words.
-fn holds(rt: &impl Abort, words: &Two, expected: &[u8]) {
+fn two_hold(rt: &impl Abort, words: &Two, expected: &[u8]) {
     same(rt, words.as_slice(), expected);
 }
 
@@ -127,40 +97,38 @@ fn holds(rt: &impl Abort, words: &Two, expected: &[u8]) {
 fn a_small_vec_is_a_stack(rt: HostRuntime) {
     let mut words: Two = SmallVec::new(rt.alloc());
     is_filled(&rt, &mut words);
-    holds(&rt, &words, &[1, 2, 3]);
+    two_hold(&rt, &words, &[1, 2, 3]);
     is_emptied(&rt, &mut words);
+    is_filled(&rt, &mut words);
+    goes_back(&rt, &mut words);
+    two_hold(&rt, &words, &[1]);
 }
 
-#[test]
-fn a_small_vec_goes_back_for_good(rt: HostRuntime) {
-    let mut words: Two = SmallVec::new(rt.alloc());
-    same(&rt, extended(&mut words, &[1, 2, 3]), Ok(()));
-    goes_back(&rt, &mut words);
-    holds(&rt, &words, &[1]);
+/// What a stack answers to the words of an iterator.
+fn extended<W>(words: &mut W, more: &[u8]) -> Result<(), AllocError>
+where
+    W: WriteWords<u8, WriteError = AllocError>,
+    requires { W.can_write words.old }
+{
+    words.extend_from_iter(more.iter().copied())
 }
 
 /// It holds 1, 2, 3 and 4, or the first two where memory for the others was refused.
 fn holds_all_or_two(rt: &impl Abort, words: &Two, answer: Result<(), AllocError>) {
     match answer {
-        Ok(()) => holds(rt, words, &[1, 2, 3, 4]),
-        Err(AllocError) => holds(rt, words, &[1, 2]),
+        Ok(()) => two_hold(rt, words, &[1, 2, 3, 4]),
+        Err(AllocError) => two_hold(rt, words, &[1, 2]),
     }
 }
 
-/// It asks for memory once. Where that is refused, the first two words stay.
+/// Each stack asks for memory once, the second one within a call that has written two words by then. Where that is
+/// refused, the first two words stay.
 #[test]
 fn a_refusal_of_memory_leaves_words_within_the_value(rt: HostRuntime) {
     let mut words: Two = SmallVec::new(rt.alloc());
-    same(&rt, pushed(&mut words, 1), Ok(()));
-    same(&rt, pushed(&mut words, 2), Ok(()));
+    same(&rt, [words.write(1), words.write(2)], [Ok(()), Ok(())]);
     let answer = extended(&mut words, &[3, 4]);
     holds_all_or_two(&rt, &words, answer);
-    end_of_requests(&rt);
-}
-
-/// It asks for memory once, as above, within a call that has written two words by then.
-#[test]
-fn a_refusal_of_memory_keeps_the_words_before(rt: HostRuntime) {
     let mut words: Two = SmallVec::new(rt.alloc());
     let answer = extended(&mut words, &[1, 2, 3, 4]);
     holds_all_or_two(&rt, &words, answer);
@@ -175,32 +143,17 @@ fn holds_a_beginning(rt: &impl Abort, held: &[u8], answer: Result<(), AllocError
     same(rt, NINE.starts_with(held), true);
 }
 
-/// What a `Vec` answers to the words of an iterator.
-fn vec_extended(words: &mut Vec<u8>, more: &[u8]) -> Result<(), AllocError> {
-    words.extend_from_iter(more.iter().copied())
-}
-
 /// Nine words make a `Vec` and a `SmallVec` grow more than once. Whichever growth is refused, the
 /// words before the refused one stand.
 #[test]
 fn each_refusal_of_memory_keeps_the_words_before(rt: HostRuntime) {
     let mut vec = Vec::new(rt.alloc());
-    let answer = vec_extended(&mut vec, &NINE);
+    let answer = extended(&mut vec, &NINE);
     holds_a_beginning(&rt, vec.as_slice(), answer);
     let mut small: Two = SmallVec::new(rt.alloc());
     let answer = extended(&mut small, &NINE);
     holds_a_beginning(&rt, small.as_slice(), answer);
     end_of_requests(&rt);
-}
-
-fn tells_what_it_was_extended_by<Words: Iterator<Item = u8> + Drop>(_words: Words) {
-    laws::extending_tells::<u8, Vec<u8>, Words>();
-}
-
-fn laws_of_stacks_may_be_called() {
-    laws::pushed_is_popped::<u8, AllocError, Infallible>();
-    laws::written_is_read::<u8, Vec<u8>>();
-    laws::seek_back::<u8>();
 }
 
 /// The word that comes back from a `Vec`, or the refusal of memory.
@@ -224,8 +177,10 @@ fn read_once<Backend: StackBackend<u8>>(
 
 #[test]
 fn what_was_pushed_is_popped(rt: HostRuntime) {
-    laws_of_stacks_may_be_called();
-    tells_what_it_was_extended_by([1u8, 2].iter().copied());
+    laws::pushed_is_popped::<u8, AllocError, Infallible>();
+    laws::written_is_read::<u8, Vec<u8>>();
+    laws::seek_back::<u8>();
+    laws::extending_tells::<u8, Vec<u8>, Copied<Iter<'_, u8>>>();
     let mut words = Vec::new(rt.alloc());
     if let Ok(word) = there_and_back_in_a_vec(&mut words, 7) {
         same(&rt, word, Some(7));
@@ -253,26 +208,16 @@ fn replace_first(words: &mut Reverse<Vec<u8>>, word: u8) -> Result<(), AllocErro
     words.0.write(word)
 }
 
-/// The last of three words is replaced.
-fn replaced_in_a_stack(rt: &impl Abort, alloc: Global) {
-    let mut words = vec_of(rt, alloc, &[1, 2, 3]);
-    assert!(rt; !words.is_empty());
-    same(rt, replace_last(&mut words, 4), Ok(()));
-    vec_holds(rt, &words, &[1, 2, 4]);
-}
-
-/// The first one that a queue gives is replaced.
-fn replaced_in_a_queue(rt: &impl Abort, alloc: Global) {
-    let mut reversed = Reverse(vec_of(rt, alloc, &[1, 2, 3]));
-    assert!(rt; !reversed.0.is_empty());
-    same(rt, replace_first(&mut reversed, 5), Ok(()));
-    vec_holds(rt, &reversed.0, &[1, 2, 5]);
-}
-
 #[test]
 fn a_popped_word_leaves_its_place(rt: HostRuntime) {
-    replaced_in_a_stack(&rt, rt.alloc());
-    replaced_in_a_queue(&rt, rt.alloc());
+    let mut words = vec_of(&rt, rt.alloc(), &[1, 2, 3]);
+    assert!(rt; !words.is_empty());
+    same(&rt, replace_last(&mut words, 4), Ok(()));
+    holds(&rt, &words, &[1, 2, 4]);
+    let mut reversed = Reverse(words);
+    assert!(rt; !reversed.0.is_empty());
+    same(&rt, replace_first(&mut reversed, 5), Ok(()));
+    holds(&rt, &reversed.0, &[1, 2, 5]);
 }
 
 /// Two words through any stack, as a stack coder writes and reads them: they come back, the second one
@@ -305,31 +250,24 @@ where
     Some((last, next))
 }
 
-fn gives_back<Backend: StackBackend<u8>>(rt: &impl Abort, backend: &mut Backend)
+fn gives_back<Backend: StackBackend<u8> + Drop>(rt: &impl Abort, backend: Backend)
 where
     Backend::WriteError: Drop,
     Backend::ReadError: Drop,
-    requires { Backend.can_write backend.old }
+    requires { Backend.can_write backend }
 {
-    same(rt, there_and_back(backend, 1, 2), Some((Some(2), Some(1))));
-}
-
-fn cursor_gives_back(rt: &impl Abort, words: Vec<u8>) {
-    let mut cursor = Cursor::<u8, _>::new_at_write_beginning(words);
-    gives_back(rt, &mut cursor);
-}
-
-fn reversed_cursor_gives_back(rt: &impl Abort, words: Vec<u8>) {
-    let mut reversed = Reverse(Cursor::<u8, _>::new_at_write_end(words));
-    gives_back(rt, &mut reversed);
+    let mut backend = backend;
+    let read = there_and_back(&mut backend, 1, 2);
+    same(rt, read, Some((Some(2), Some(1))));
 }
 
 #[test]
 fn any_stack_gives_back_what_was_written(rt: HostRuntime) {
-    let mut words = vec_of(&rt, rt.alloc(), &[0; 3]);
-    gives_back(&rt, &mut words);
-    let mut small: Two = SmallVec::new(rt.alloc());
-    gives_back(&rt, &mut small);
-    cursor_gives_back(&rt, words);
-    reversed_cursor_gives_back(&rt, vec_of(&rt, rt.alloc(), &[0; 3]));
+    let alloc = rt.alloc();
+    gives_back(&rt, vec_of(&rt, alloc, &[0; 3]));
+    gives_back::<Two>(&rt, SmallVec::new(alloc));
+    let cursor = Cursor::<u8, _>::new_at_write_beginning(vec_of(&rt, alloc, &[0; 3]));
+    gives_back(&rt, cursor);
+    let cursor = Cursor::<u8, _>::new_at_write_end(vec_of(&rt, alloc, &[0; 3]));
+    gives_back(&rt, Reverse(cursor));
 }

@@ -53,11 +53,6 @@ impl WriteWords<u8> for Small {
     ghost room_suffices = { λ s word r t h room. absurd room };
 }
 
-/// What such a sink answers to words.
-fn small_extended(sink: &mut Small, words: &[u8]) -> Result<(), u8> {
-    sink.extend_from_iter(words.iter().copied())
-}
-
 #[test]
 fn default_answers_say_nothing(rt: HostRuntime) {
     let mut source = Endless;
@@ -68,7 +63,8 @@ fn default_answers_say_nothing(rt: HostRuntime) {
     );
     let mut sink = Small { last: 0 };
     same(&rt, sink.maybe_full(), true);
-    same(&rt, small_extended(&mut sink, &[4, 5, 10, 6]), Err(10));
+    let refused = sink.extend_from_iter([4u8, 5, 10, 6].iter().copied());
+    same(&rt, refused, Err(10));
     same(&rt, sink.last, 5);
 }
 
@@ -187,13 +183,19 @@ fn a_source_is_exhausted_where_nothing_remains(rt: HostRuntime) {
 }
 
 #[test]
-fn a_sink_is_full_where_no_place_is_free(rt: HostRuntime) {
-    let mut sink = Places { free: 2 };
-    for (free, answer) in [
-        (2, Ok(())),
-        (1, Ok(())),
-        (0, Err(BoundedWriteError::OutOfSpace)),
+fn a_sink_is_full_where_no_place_is_free_and_refuses_more_words(rt: HostRuntime) {
+    let mut sink = Places { free: 5 };
+    for (words, extended, free, written) in [
+        ([1u8, 2, 3].as_slice(), Ok(()), 2, Ok(())),
+        (
+            &[4, 5],
+            Err(BoundedWriteError::OutOfSpace),
+            0,
+            Err(BoundedWriteError::OutOfSpace),
+        ),
     ] {
+        let found = laws::extending_counts(&mut sink, words.iter().copied());
+        same(&rt, found, extended);
         same(
             &rt,
             (
@@ -202,24 +204,7 @@ fn a_sink_is_full_where_no_place_is_free(rt: HostRuntime) {
                 sink.maybe_full(),
                 sink.write(9),
             ),
-            (free, free == 0, true, answer),
+            (free, free == 0, true, written),
         );
-    }
-}
-
-/// What places answer to words.
-fn extended(sink: &mut Places, words: &[u8]) -> Result<(), BoundedWriteError> {
-    laws::extending_counts(sink, words.iter().copied())
-}
-
-#[test]
-fn more_words_than_places_are_refused(rt: HostRuntime) {
-    let mut sink = Places { free: 4 };
-    for (words, answer, free) in [
-        ([1u8, 2, 3].as_slice(), Ok(()), 1),
-        ([4, 5].as_slice(), Err(BoundedWriteError::OutOfSpace), 0),
-    ] {
-        same(&rt, extended(&mut sink, words), answer);
-        same(&rt, sink.space_left(), free);
     }
 }

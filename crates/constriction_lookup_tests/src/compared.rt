@@ -6,14 +6,15 @@ ghost use Rattle.constriction.specs.Rows.{contiguous_rows};
 ghost use Rattle.constriction.specs.Slots.{meets_slot};
 
 use crate::checks::{same, same_at};
+use crate::slot_bits::{looked, slotted};
 use constriction::stream::model::{
-    ContiguousLookupDecoderModel, EntropyModel, LookupDecoderModel, ModelError, SearchingModel,
-    SlottedContiguousLookupDecoderModel, SlottedNonContiguousLookupDecoderModel,
+    EntropyModel, LookupDecoderModel, SearchingModel, SlottedContiguousLookupDecoderModel,
+    SlottedNonContiguousLookupDecoderModel, is_quantile,
 };
 use constriction_fixtures::any_symbols::{Decoder, SYMBOLS, WEIGHTS, decoder};
 use constriction_fixtures::contiguous::Table;
 use constriction_fixtures::given::of_four;
-use constriction_words::{IndexWord, WholeNumber};
+use constriction_words::WholeNumber;
 use std::alloc::{AllocError, Global};
 use std::fmt::Debug;
 use std::process::Abort;
@@ -83,27 +84,6 @@ fn by_a_table_of_letters(model: &TabledLetters) -> Result<usize, AllocError>
     }
 }
 
-#[test]
-fn contracts_bound_what_is_compared(rt: HostRuntime) {
-    let model = of_four(rt.alloc(), [3, 18, 1, 42]).expect(&rt, "accepted");
-    same(&rt, by_a_search(&model), Ok(2));
-    let tabled: Tabled = LookupDecoderModel::with_table(rt.alloc(), model).expect(&rt, "a table");
-    same(&rt, by_a_table(&tabled), Ok((1, 0)));
-}
-
-#[test]
-fn contracts_bound_what_is_compared_among_letters(rt: HostRuntime) {
-    let letters = decoder::<6>(rt.alloc(), &SYMBOLS, &WEIGHTS, false).expect(&rt, "accepted");
-    same(&rt, among_letters(&letters), Ok(2));
-    let tabled = letters_with_table(&rt, rt.alloc(), letters);
-    same(&rt, by_a_table_of_letters(&tabled), Ok(2));
-}
-
-/// The model of letters with a table. It stops the test where memory is refused.
-fn letters_with_table(rt: &impl Abort, alloc: Global, letters: Decoder<6>) -> TabledLetters {
-    LookupDecoderModel::with_table(alloc, letters).expect(rt, "a table")
-}
-
 /// The symbol of a quantile, by any model that searches, and how many rows were compared.
 fn found<M: SearchingModel<PRECISION> + Copy, const PRECISION: usize>(
     model: M,
@@ -117,16 +97,17 @@ fn found<M: SearchingModel<PRECISION> + Copy, const PRECISION: usize>(
     }
 }
 
-/// Stops the test where a model finds another symbol for one of eight quantiles, or compares another number of rows.
-fn finds<M>(rt: &impl Abort, model: M, symbols: &[M::Symbol; 8], compared: &[usize; 8])
+/// Stops the test where a reference to a model finds another symbol for one of eight quantiles, or compares another
+/// number of rows.
+fn finds<M>(rt: &impl Abort, model: &M, symbols: &[M::Symbol; 8], compared: &[usize; 8])
 where
-    M: SearchingModel<6, Probability = u8> + Copy,
+    M: SearchingModel<6, Probability = u8>,
     M::Symbol: Copy + PartialEq + Debug + Drop,
 {
     for at in 0..8usize {
         let quantile = QUANTILES[at];
         assert!(rt; quantile < 64);
-        let found = found::<M, 6>(model, quantile);
+        let found = found::<&M, 6>(model, quantile);
         same_at(rt, quantile, found, Some((symbols[at], compared[at])));
     }
 }
@@ -144,46 +125,28 @@ const LETTERS: [char; 8] = ['a', 'x', 'x', 'x', 'c', 'y', 'y', 'y'];
 /// meets the others.
 const COMPARED: [usize; 8] = [1, 1, 2, 2, 2, 2, 0, 0];
 
+/// A search of four rows compares two, and a table the rows of a slot. The contracts bound both.
 #[test]
-fn a_search_of_four_rows_compares_two(rt: HostRuntime) {
-    let model = of_four(rt.alloc(), WEIGHTS).expect(&rt, "accepted");
+fn a_search_compares_two_of_four_rows_and_a_table_those_of_a_slot(rt: HostRuntime) {
+    let model = of_four(rt.alloc(), [3, 18, 1, 42]).expect(&rt, "accepted");
+    same(&rt, by_a_search(&model), Ok(2));
     finds(&rt, &model, &INDICES, &[2; 8]);
-    let letters = decoder::<6>(rt.alloc(), &SYMBOLS, &WEIGHTS, false).expect(&rt, "accepted");
-    finds(&rt, &letters, &LETTERS, &[2; 8]);
-}
-
-#[test]
-fn a_table_compares_the_rows_of_a_slot(rt: HostRuntime) {
-    let model = of_four(rt.alloc(), WEIGHTS).expect(&rt, "accepted");
     let tabled: Tabled = LookupDecoderModel::with_table(rt.alloc(), model).expect(&rt, "a table");
+    same(&rt, by_a_table(&tabled), Ok((1, 0)));
     finds(&rt, &tabled, &INDICES, &COMPARED);
-    let letters = decoder::<6>(rt.alloc(), &SYMBOLS, &WEIGHTS, false).expect(&rt, "accepted");
-    let tabled = letters_with_table(&rt, rt.alloc(), letters);
-    finds(&rt, &tabled, &LETTERS, &COMPARED);
 }
 
-/// A lookup model with 256 slots.
-type Lookup<Word, const PRECISION: usize> = ContiguousLookupDecoderModel<
-    Word,
-    Vec<Word>,
-    Vec<Word>,
-    PRECISION,
->;
-
-/// The lookup model of two rows.
-fn of_two<Word: IndexWord, const PRECISION: usize>(
-    alloc: Global,
-    weights: &[Word; 2],
-) -> Result<Lookup<Word, PRECISION>, ModelError>
-    requires positive { 0 < PRECISION }
-    requires narrow { PRECISION ≤ 63 }
-    requires fits { PRECISION ≤ Word.BITS }
-{
-    Lookup::<Word, PRECISION>::from_nonzero_fixed_point_probabilities(
-        alloc,
-        weights.iter().copied(),
-        false,
-    )
+/// The same of letters.
+#[test]
+fn a_search_compares_two_of_four_letters_and_a_table_those_of_a_slot(rt: HostRuntime) {
+    let letters = decoder::<6>(rt.alloc(), &SYMBOLS, &WEIGHTS, false).expect(&rt, "accepted");
+    same(&rt, among_letters(&letters), Ok(2));
+    finds(&rt, &letters, &LETTERS, &[2; 8]);
+    let tabled: TabledLetters = LookupDecoderModel::with_table(rt.alloc(), letters).expect(
+        &rt, "a table",
+    );
+    same(&rt, by_a_table_of_letters(&tabled), Ok(2));
+    finds(&rt, &tabled, &LETTERS, &COMPARED);
 }
 
 /// The symbol of a quantile, and how many of two rows are compared, the second of which begins at `cut`: one where both
@@ -195,27 +158,31 @@ fn among_two(cut: usize, width: usize, quantile: usize) -> Option<(usize, usize)
     Some((usize::from(cut <= quantile), usize::from(both)))
 }
 
-/// Slots of one quantile.
-#[test]
-fn of_two_rows_of_8_bits_none_is_compared(rt: HostRuntime) {
-    for weights in [[1u8, 255], [100, 156], [128, 128], [255, 1]] {
-        let model = of_two::<u8, 8>(rt.alloc(), &weights).expect(&rt, "accepted");
-        for quantile in 0..=u8::MAX {
-            let wanted = among_two(weights[0] as usize, 1, quantile as usize);
-            same_at(
-                &rt,
-                quantile,
-                found::<&Lookup<u8, 8>, 8>(&model, quantile),
-                wanted,
-            );
+/// Stops the test where a table of 256 slots of so many quantiles each compares other rows of two.
+fn compares_in_the_slot_of_both<const PRECISION: usize>(
+    rt: &impl Abort,
+    alloc: Global,
+    weights: &[u16; 2],
+    width: usize,
+)
+    requires positive { 0 < PRECISION }
+    requires fits { PRECISION ≤ 16 }
+    requires some { 0 < width }
+{
+    let model = slotted::<u16, PRECISION, 8>(alloc, weights).expect(rt, "accepted");
+    for quantile in 0..=u16::MAX {
+        if is_quantile::<u16, PRECISION>(quantile) {
+            let (_, counted, _, _, _) = looked(&model, quantile);
+            let wanted = among_two(weights[0] as usize, width, quantile as usize);
+            same_at(rt, quantile, counted, wanted);
         }
     }
 }
 
-/// Slots of 16 quantiles. The second row begins within the first slot, at one slot's first quantile, within a slot, and
-/// at the first quantile of the last slot and within it.
+/// Slots of one quantile are asked in `wide_slots`. The second row begins within the first slot, at one slot's first quantile, within a slot, and at the first quantile of
+/// the last slot and within it.
 #[test]
-fn of_two_rows_of_12_bits_one_is_compared_in_the_slot_of_both(rt: HostRuntime) {
+fn of_two_rows_one_is_compared_in_the_slot_of_both(rt: HostRuntime) {
     for weights in [
         [1u16, 4095],
         [1536, 2560],
@@ -224,22 +191,8 @@ fn of_two_rows_of_12_bits_one_is_compared_in_the_slot_of_both(rt: HostRuntime) {
         [4090, 6],
         [4095, 1],
     ] {
-        let model = of_two::<u16, 12>(rt.alloc(), &weights).expect(&rt, "accepted");
-        for quantile in 0..4096u16 {
-            let wanted = among_two(weights[0] as usize, 16, quantile as usize);
-            same_at(
-                &rt,
-                quantile,
-                found::<&Lookup<u16, 12>, 12>(&model, quantile),
-                wanted,
-            );
-        }
+        compares_in_the_slot_of_both::<12>(&rt, rt.alloc(), &weights, 16);
     }
-}
-
-/// The same of slots of 256 quantiles.
-#[test]
-fn of_two_rows_of_16_bits_one_is_compared_in_the_slot_of_both(rt: HostRuntime) {
     for weights in [
         [1u16, 65_535],
         [25_600, 39_936],
@@ -248,15 +201,6 @@ fn of_two_rows_of_16_bits_one_is_compared_in_the_slot_of_both(rt: HostRuntime) {
         [65_300, 236],
         [65_535, 1],
     ] {
-        let model = of_two::<u16, 16>(rt.alloc(), &weights).expect(&rt, "accepted");
-        for quantile in 0..=u16::MAX {
-            let wanted = among_two(weights[0] as usize, 256, quantile as usize);
-            same_at(
-                &rt,
-                quantile,
-                found::<&Lookup<u16, 16>, 16>(&model, quantile),
-                wanted,
-            );
-        }
+        compares_in_the_slot_of_both::<16>(&rt, rt.alloc(), &weights, 256);
     }
 }
