@@ -179,8 +179,8 @@ fn compares_in_the_slot_of_both<const PRECISION: usize>(
     }
 }
 
-/// Slots of one quantile are asked in `wide_slots`. The second row begins within the first slot, at one slot's first quantile, within a slot, and at the first quantile of
-/// the last slot and within it.
+/// The second row begins within the first slot, at one slot's first quantile, within a slot, and at the first quantile of
+/// the last slot and within it. Slots of one quantile are asked in `wide_slots`.
 #[test]
 fn of_two_rows_one_is_compared_in_the_slot_of_both(rt: HostRuntime) {
     for weights in [
