@@ -3,18 +3,97 @@
 //! [`into_lookup_decoder_model`](NonContiguousCategoricalDecoderModel::into_lookup_decoder_model) makes a lookup
 //! model of what they make.
 
-ghost use Rattle.std.specs.Prelude.{◌≡◌, ◌<◌, ◌≤◌};
+ghost use Rattle.std.specs.Prelude.{◌≡◌, ◌<◌, ◌≤◌, map, IfOk};
 ghost use Rattle.std.specs.Iterator.{IsFiniteIterable};
+ghost use Rattle.std.specs.List.{IsDistinct};
 ghost use Rattle.std.specs.List.Sorted.{IsStrictlySortedBy};
 ghost use Rattle.constriction_model.specs.Acceptance.{completed, AreAccepted, WasReadOf, IsMadeOfBoth, GivesDistinct};
 ghost use Rattle.constriction_model.specs.Rows.{rows_of};
+ghost use Rattle.constriction_stored_rows.specs.Stored.{IsStored, rows_paired};
 
-use crate::non_contiguous::{NonContiguousCategoricalDecoderModel, decoder_over};
+use crate::non_contiguous::NonContiguousCategoricalDecoderModel;
 use constriction_model::{EntropyModel, ModelError};
 use constriction_numbers::WholeNumber;
 use constriction_stored_rows::{are_apart, are_in_order, entries_read};
 use std::alloc::Global;
 use std::hash::Hash;
+
+/// The entries of these symbols and weights, no two of which symbols are equal.
+#[inline]
+fn entries_of_distinct<
+    P: WholeNumber,
+    Symbol: Eq + Drop,
+    S: IntoIterator<Item = Symbol>,
+    W: IntoIterator<Item = P>,
+    const PRECISION: usize,
+>(alloc: Global, symbols: S, weights: W, infer_last: bool) -> Result<Vec<(P, Symbol)>, ModelError>
+    requires positive { 0 < PRECISION }
+    requires fits { PRECISION ≤ P.BITS }
+    requires symbols_end { IsFiniteIterable S.into_iter_gives S.IntoIter.can_next S.IntoIter.remaining symbols }
+    requires weights_end { IsFiniteIterable W.into_iter_gives W.IntoIter.can_next W.IntoIter.remaining weights }
+    requires distinct { GivesDistinct S.into_iter_gives S.IntoIter.next_gives Symbol.eq symbols }
+    ensures told { IsMadeOfBoth (AreAccepted Symbol.eq P.BITS PRECISION) (completed PRECISION infer_last)
+        (WasReadOf S.into_iter_gives S.IntoIter.next_gives symbols) (WasReadOf W.into_iter_gives W.IntoIter.next_gives weights)
+        P.whole (λ v ss ws. rows_paired P.whole PRECISION v.items ≡ rows_of ss ws) result }
+    ensures stored { IfOk result (λ v. IsStored P.BITS PRECISION (map (λ x. P.whole x.0) v.items)) }
+    ensures distinct { IfOk result (λ v. IsDistinct Symbol.eq (map (λ x. x.1) v.items)) }
+{
+    entries_read::<P, Symbol, S, W, PRECISION>(alloc, symbols, weights, infer_last)
+}
+
+/// The entries of these symbols and weights, if no two of the symbols are equal, as their hashes tell.
+#[inline]
+fn entries_apart<
+    P: WholeNumber,
+    Symbol: Hash + Eq + Drop,
+    S: IntoIterator<Item = Symbol>,
+    W: IntoIterator<Item = P>,
+    const PRECISION: usize,
+>(alloc: Global, symbols: S, weights: W, infer_last: bool) -> Result<Vec<(P, Symbol)>, ModelError>
+    requires positive { 0 < PRECISION }
+    requires fits { PRECISION ≤ P.BITS }
+    requires symbols_end { IsFiniteIterable S.into_iter_gives S.IntoIter.can_next S.IntoIter.remaining symbols }
+    requires weights_end { IsFiniteIterable W.into_iter_gives W.IntoIter.can_next W.IntoIter.remaining weights }
+    ensures told { IsMadeOfBoth (AreAccepted Symbol.eq P.BITS PRECISION) (completed PRECISION infer_last)
+        (WasReadOf S.into_iter_gives S.IntoIter.next_gives symbols) (WasReadOf W.into_iter_gives W.IntoIter.next_gives weights)
+        P.whole (λ v ss ws. rows_paired P.whole PRECISION v.items ≡ rows_of ss ws) result }
+    ensures stored { IfOk result (λ v. IsStored P.BITS PRECISION (map (λ x. P.whole x.0) v.items)) }
+    ensures distinct { IfOk result (λ v. IsDistinct Symbol.eq (map (λ x. x.1) v.items)) }
+{
+    let entries = entries_read::<P, Symbol, S, W, PRECISION>(alloc, symbols, weights, infer_last)?;
+    let apart = are_apart(alloc, &entries)?;
+    if !apart {
+        return Err(ModelError::InvalidTable);
+    }
+    Ok(entries)
+}
+
+/// The entries of these symbols and weights, if each symbol is less than the next one.
+#[inline]
+fn entries_in_order<
+    P: WholeNumber,
+    Symbol: Ord + Drop,
+    S: IntoIterator<Item = Symbol>,
+    W: IntoIterator<Item = P>,
+    const PRECISION: usize,
+>(alloc: Global, symbols: S, weights: W, infer_last: bool) -> Result<Vec<(P, Symbol)>, ModelError>
+    requires positive { 0 < PRECISION }
+    requires fits { PRECISION ≤ P.BITS }
+    requires symbols_end { IsFiniteIterable S.into_iter_gives S.IntoIter.can_next S.IntoIter.remaining symbols }
+    requires weights_end { IsFiniteIterable W.into_iter_gives W.IntoIter.can_next W.IntoIter.remaining weights }
+    ensures told { IsMadeOfBoth (λ ss ws. AreAccepted Symbol.eq P.BITS PRECISION ss ws × IsStrictlySortedBy Symbol.cmp ss) (completed PRECISION infer_last)
+        (WasReadOf S.into_iter_gives S.IntoIter.next_gives symbols) (WasReadOf W.into_iter_gives W.IntoIter.next_gives weights)
+        P.whole (λ v ss ws. rows_paired P.whole PRECISION v.items ≡ rows_of ss ws) result }
+    ensures stored { IfOk result (λ v. IsStored P.BITS PRECISION (map (λ x. P.whole x.0) v.items)) }
+    ensures distinct { IfOk result (λ v. IsDistinct Symbol.eq (map (λ x. x.1) v.items)) }
+{
+    let entries = entries_read::<P, Symbol, S, W, PRECISION>(alloc, symbols, weights, infer_last)?;
+    let in_order = are_in_order(&entries);
+    if !in_order {
+        return Err(ModelError::InvalidTable);
+    }
+    Ok(entries)
+}
 
 impl<
     Symbol: Eq + Clone,
@@ -28,6 +107,7 @@ impl<
     /// announces how many there are, and one clone, of the last symbol. No symbols are compared.
     ///
     /// [`from_symbols_and_nonzero_fixed_point_probabilities`]: Self::from_symbols_and_nonzero_fixed_point_probabilities
+    #[tactic(auto, using(crate::proofs::Remade::made_of_both, crate::proofs::Remade::refused_both))]
     pub fn from_distinct_symbols_and_nonzero_fixed_point_probabilities<
         S: IntoIterator<Item = Symbol>,
         P: IntoIterator<Item = Probability>,
@@ -46,13 +126,15 @@ impl<
             (WasReadOf S.into_iter_gives S.IntoIter.next_gives symbols) (WasReadOf P.into_iter_gives P.IntoIter.next_gives probabilities)
             Probability.whole (λ m ss ws. ⟦<Self as EntropyModel<PRECISION>>⟧.rows m ≡ rows_of ss ws) result }
     {
-        let entries = entries_read::<Probability, Symbol, S, P, PRECISION>(
+        match entries_of_distinct::<Probability, Symbol, S, P, PRECISION>(
             alloc,
             symbols,
             probabilities,
             infer_last_probability,
-        )?;
-        Ok(decoder_over(entries)?)
+        ) {
+            Ok(entries) => Self::over_entries(entries),
+            Err(refused) => Err(refused),
+        }
     }
 }
 
@@ -70,6 +152,7 @@ impl<
     /// places as there are symbols, and is let go before the call answers.
     ///
     /// [`from_symbols_and_nonzero_fixed_point_probabilities`]: Self::from_symbols_and_nonzero_fixed_point_probabilities
+    #[tactic(auto, using(crate::proofs::Remade::made_of_both, crate::proofs::Remade::refused_both))]
     pub fn from_hashable_symbols_and_nonzero_fixed_point_probabilities<
         S: IntoIterator<Item = Symbol>,
         P: IntoIterator<Item = Probability>,
@@ -87,17 +170,15 @@ impl<
             (WasReadOf S.into_iter_gives S.IntoIter.next_gives symbols) (WasReadOf P.into_iter_gives P.IntoIter.next_gives probabilities)
             Probability.whole (λ m ss ws. ⟦<Self as EntropyModel<PRECISION>>⟧.rows m ≡ rows_of ss ws) result }
     {
-        let entries = entries_read::<Probability, Symbol, S, P, PRECISION>(
+        match entries_apart::<Probability, Symbol, S, P, PRECISION>(
             alloc,
             symbols,
             probabilities,
             infer_last_probability,
-        )?;
-        let apart = are_apart(alloc, &entries)?;
-        if !apart {
-            return Err(ModelError::InvalidTable);
+        ) {
+            Ok(entries) => Self::over_entries(entries),
+            Err(refused) => Err(refused),
         }
-        Ok(decoder_over(entries)?)
     }
 }
 
@@ -115,6 +196,7 @@ impl<
     /// it, and one clone, of the last symbol.
     ///
     /// [`from_symbols_and_nonzero_fixed_point_probabilities`]: Self::from_symbols_and_nonzero_fixed_point_probabilities
+    #[tactic(auto, using(crate::proofs::Remade::made_of_both, crate::proofs::Remade::refused_both))]
     pub fn from_sorted_symbols_and_nonzero_fixed_point_probabilities<
         S: IntoIterator<Item = Symbol>,
         P: IntoIterator<Item = Probability>,
@@ -133,16 +215,14 @@ impl<
             (WasReadOf S.into_iter_gives S.IntoIter.next_gives symbols) (WasReadOf P.into_iter_gives P.IntoIter.next_gives probabilities)
             Probability.whole (λ m ss ws. ⟦<Self as EntropyModel<PRECISION>>⟧.rows m ≡ rows_of ss ws) result }
     {
-        let entries = entries_read::<Probability, Symbol, S, P, PRECISION>(
+        match entries_in_order::<Probability, Symbol, S, P, PRECISION>(
             alloc,
             symbols,
             probabilities,
             infer_last_probability,
-        )?;
-        let in_order = are_in_order(&entries);
-        if !in_order {
-            return Err(ModelError::InvalidTable);
+        ) {
+            Ok(entries) => Self::over_entries(entries),
+            Err(refused) => Err(refused),
         }
-        Ok(decoder_over(entries)?)
     }
 }

@@ -1,13 +1,15 @@
 //! Models that look up where to search for the row of a quantile.
 
-ghost use Rattle.std.specs.Prelude.{◌≡◌, ◌/◌, ◌^◌, ◌<◌, ◌≤◌, map, count_by, IfOk};
+ghost use Rattle.std.specs.Prelude.{◌≡◌, ◌/◌, ◌^◌, ◌<◌, ◌≤◌, map, count_by, IfOk, IfErr};
 ghost use Rattle.constriction_model.specs.Probe.{IsProbeFor};
 ghost use Rattle.constriction_stored_rows.specs.Slots.{MeetsSlot, meets_slot, slot_count, slot_width};
 ghost use Rattle.constriction_stored_rows.specs.SlotTable.{HasSlots};
 
 use crate::stores_rows::{AnswersRows, OfAnySymbols, OfNumbers, StoresRows};
 use constriction_buffers::SafeBuf;
-use constriction_model::{CdfProbe, DecoderModel, EntropyModel, Probe, SearchingModel, Weight};
+use constriction_model::{
+    CdfProbe, DecoderModel, EntropyModel, ModelError, Probe, SearchingModel, Weight,
+};
 use constriction_stored_rows::{row_in_slot, slot_probe, slots_of};
 use std::alloc::{AllocError, Global};
 
@@ -75,6 +77,18 @@ impl<
             model,
             lookup_table,
         })
+    }
+
+    /// The same, with the refusal of a constructor.
+    #[inline]
+    pub(crate) fn made_with_table(alloc: Global, model: Model) -> Result<Self, ModelError>
+    where
+        Model: Drop,
+        requires narrow { PRECISION ≤ 63 }
+        ensures ok { IfOk result (λ m. ⟦<Self as EntropyModel<PRECISION>>⟧.rows m ≡ Model.rows model) }
+        ensures refused { IfErr result (λ e. e ≡ ModelError.OutOfMemory) }
+    {
+        Ok(Self::with_table(alloc, model)?)
     }
 }
 

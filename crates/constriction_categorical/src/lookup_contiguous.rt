@@ -66,6 +66,7 @@ impl<
     ///
     /// One pass over the weights and one over the rows. Beside the rows it takes one allocation for the
     /// table, with 8 `SLOT_BITS` of 512 words at most.
+    #[tactic(auto, using(crate::proofs::Remade::made_of_weights, crate::proofs::Remade::refused_weights))]
     pub fn from_nonzero_fixed_point_probabilities<I: IntoIterator<Item = Probability>>(
         alloc: Global,
         probabilities: I,
@@ -79,12 +80,15 @@ impl<
             (WasReadOf I.into_iter_gives I.IntoIter.next_gives probabilities) Probability.whole
             (λ m ws. ⟦<Self as EntropyModel<PRECISION>>⟧.rows m ≡ contiguous_rows ws) result }
     {
-        let model = ContiguousCategoricalEntropyModel::<
+        match ContiguousCategoricalEntropyModel::<
             Probability,
             Vec<Probability>,
             PRECISION,
-        >::from_nonzero_fixed_point_probabilities(alloc, probabilities, infer_last_probability)?;
-        Ok(Self::with_table(alloc, model)?)
+        >::from_nonzero_fixed_point_probabilities(alloc, probabilities, infer_last_probability)
+        {
+            Ok(model) => Self::made_with_table(alloc, model),
+            Err(refused) => Err(refused),
+        }
     }
 
     /// A model of the same rows, with rows and a table of its own from the allocators of this one's.
@@ -128,6 +132,7 @@ impl<
     }
 
     /// The same with `2^min(PRECISION, SLOT_BITS)` slots.
+    #[tactic(auto, using(crate::proofs::Remade::rows_same))]
     pub fn to_slotted_lookup_decoder_model<const SLOT_BITS: usize>(
         &self,
         alloc: Global,
@@ -147,8 +152,10 @@ impl<
             ≡ ⟦<Self as EntropyModel<PRECISION>>⟧.rows self.now) }
         ensures refused { IfErr result (λ e. e ≡ ModelError.OutOfMemory) }
     {
-        let model = self.in_vec(alloc)?;
-        Ok(LookupDecoderModel::with_table(alloc, model)?)
+        match self.in_vec(alloc) {
+            Ok(model) => LookupDecoderModel::made_with_table(alloc, model),
+            Err(_) => Err(ModelError::OutOfMemory),
+        }
     }
 }
 

@@ -83,6 +83,7 @@ impl<
     ///
     /// One pass over both, in which each symbol is compared with those before it, and one over the rows.
     /// Beside the rows it takes one allocation for the table, with 8 `SLOT_BITS` of 512 words at most.
+    #[tactic(auto, using(crate::proofs::Remade::made_of_both, crate::proofs::Remade::refused_both))]
     pub fn from_symbols_and_nonzero_fixed_point_probabilities<
         S: IntoIterator<Item = Symbol>,
         P: IntoIterator<Item = Probability>,
@@ -101,7 +102,7 @@ impl<
             (WasReadOf S.into_iter_gives S.IntoIter.next_gives symbols) (WasReadOf P.into_iter_gives P.IntoIter.next_gives probabilities)
             Probability.whole (λ m ss ws. ⟦<Self as EntropyModel<PRECISION>>⟧.rows m ≡ rows_of ss ws) result }
     {
-        let model = NonContiguousCategoricalDecoderModel::<
+        match NonContiguousCategoricalDecoderModel::<
             Symbol,
             Probability,
             Vec<(Probability, Symbol)>,
@@ -111,8 +112,10 @@ impl<
             symbols,
             probabilities,
             infer_last_probability,
-        )?;
-        Ok(Self::with_table(alloc, model)?)
+        ) {
+            Ok(model) => Self::made_with_table(alloc, model),
+            Err(refused) => Err(refused),
+        }
     }
 }
 
@@ -184,6 +187,7 @@ impl<
     }
 
     /// The same with `2^min(PRECISION, SLOT_BITS)` slots.
+    #[tactic(auto, using(crate::proofs::Remade::rows_stand))]
     pub fn to_slotted_lookup_decoder_model<const SLOT_BITS: usize>(
         &self,
         alloc: Global,
@@ -205,8 +209,10 @@ impl<
             (⟦<Self as EntropyModel<PRECISION>>⟧.rows self.now)) }
         ensures refused { IfErr result (λ e. e ≡ ModelError.OutOfMemory) }
     {
-        let model = self.in_vec(alloc)?;
-        Ok(LookupDecoderModel::with_table(alloc, model)?)
+        match self.in_vec(alloc) {
+            Ok(model) => LookupDecoderModel::made_with_table(alloc, model),
+            Err(_) => Err(ModelError::OutOfMemory),
+        }
     }
 }
 
@@ -239,7 +245,7 @@ impl<
             ≡ ⟦<Self as EntropyModel<PRECISION>>⟧.rows self) }
         ensures refused { IfErr result (λ e. e ≡ ModelError.OutOfMemory) }
     {
-        Ok(NonContiguousLookupDecoderModel::with_table(alloc, self)?)
+        NonContiguousLookupDecoderModel::made_with_table(alloc, self)
     }
 }
 

@@ -1,6 +1,6 @@
 //! Models of any symbols, which find the row of a quantile by a search.
 
-ghost use Rattle.std.specs.Prelude.{◌≡◌, ◌+◌, ◌^◌, ◌<◌, ◌≤◌, length, map, IfOk, ⊤};
+ghost use Rattle.std.specs.Prelude.{◌≡◌, ◌+◌, ◌^◌, ◌<◌, ◌≤◌, length, map, IfOk, IfErr, ⊤};
 ghost use Rattle.std.specs.Iterator.{IsFiniteIterable};
 ghost use Rattle.std.specs.List.{IsDistinct};
 ghost use Rattle.std.proofs.Props.{props};
@@ -67,6 +67,35 @@ impl<
     ghost rows = { λ m. rows_paired Probability.whole PRECISION (entries_in (Cdf.words_of m.cdf)) };
 }
 
+/// The entries of these symbols and weights, each symbol of which is compared with those before it.
+#[inline]
+fn entries_compared<
+    P: WholeNumber,
+    Symbol: Eq + Drop,
+    S: IntoIterator<Item = Symbol>,
+    W: IntoIterator<Item = P>,
+    const PRECISION: usize,
+>(alloc: Global, symbols: S, weights: W, infer_last: bool) -> Result<Vec<(P, Symbol)>, ModelError>
+    requires positive { 0 < PRECISION }
+    requires fits { PRECISION ≤ P.BITS }
+    requires symbols_end { IsFiniteIterable S.into_iter_gives S.IntoIter.can_next S.IntoIter.remaining symbols }
+    requires weights_end { IsFiniteIterable W.into_iter_gives W.IntoIter.can_next W.IntoIter.remaining weights }
+    ensures told { IsMadeOfBoth (AreAccepted Symbol.eq P.BITS PRECISION) (completed PRECISION infer_last)
+        (WasReadOf S.into_iter_gives S.IntoIter.next_gives symbols) (WasReadOf W.into_iter_gives W.IntoIter.next_gives weights)
+        P.whole (λ v ss ws. rows_paired P.whole PRECISION v.items ≡ rows_of ss ws) result }
+    ensures stored { IfOk result (λ v. IsStored P.BITS PRECISION (map (λ x. P.whole x.0) v.items)) }
+    ensures distinct { IfOk result (λ v. IsDistinct Symbol.eq (map (λ x. x.1) v.items)) }
+{
+    let symbols = symbols.into_iter();
+    let room = room_for(alloc, entries_announced::<PRECISION>(symbols.size_hint().0));
+    rows_read::<P, Symbol, Vec<(P, Symbol)>, _, _, PRECISION>(
+        room,
+        symbols,
+        weights.into_iter(),
+        infer_last,
+    )
+}
+
 /// The model over these entries: a model's left cumulatives, each with a symbol, no two of which are equal. The
 /// total and a clone of the last symbol are put after them, and want of memory, for the clone or for one entry
 /// more, is the only refusal. Crates above call it that have collected entries.
@@ -121,6 +150,7 @@ impl<
     /// [`from_hashable_symbols_and_nonzero_fixed_point_probabilities`]: Self::from_hashable_symbols_and_nonzero_fixed_point_probabilities
     /// [`from_sorted_symbols_and_nonzero_fixed_point_probabilities`]: Self::from_sorted_symbols_and_nonzero_fixed_point_probabilities
     /// [`from_distinct_symbols_and_nonzero_fixed_point_probabilities`]: Self::from_distinct_symbols_and_nonzero_fixed_point_probabilities
+    #[tactic(auto, using(crate::proofs::Remade::made_of_both, crate::proofs::Remade::refused_both))]
     pub fn from_symbols_and_nonzero_fixed_point_probabilities<
         S: IntoIterator<Item = Symbol>,
         P: IntoIterator<Item = Probability>,
@@ -138,14 +168,27 @@ impl<
             (WasReadOf S.into_iter_gives S.IntoIter.next_gives symbols) (WasReadOf P.into_iter_gives P.IntoIter.next_gives probabilities)
             Probability.whole (λ m ss ws. ⟦<Self as EntropyModel<PRECISION>>⟧.rows m ≡ rows_of ss ws) result }
     {
-        let symbols = symbols.into_iter();
-        let room = room_for(alloc, entries_announced::<PRECISION>(symbols.size_hint().0));
-        let entries = rows_read::<Probability, Symbol, Vec<(Probability, Symbol)>, _, _, PRECISION>(
-            room,
+        match entries_compared::<Probability, Symbol, S, P, PRECISION>(
+            alloc,
             symbols,
-            probabilities.into_iter(),
+            probabilities,
             infer_last_probability,
-        )?;
+        ) {
+            Ok(entries) => Self::over_entries(entries),
+            Err(refused) => Err(refused),
+        }
+    }
+
+    /// The model over these entries, as [`decoder_over`] makes it.
+    #[inline]
+    pub(crate) fn over_entries(entries: Vec<(Probability, Symbol)>) -> Result<Self, ModelError>
+        requires positive { 0 < PRECISION }
+        requires fits { PRECISION ≤ Probability.BITS }
+        requires stored { IsStored Probability.BITS PRECISION (map (λ x. Probability.whole x.0) entries.items) }
+        requires distinct { IsDistinct Symbol.eq (map (λ x. x.1) entries.items) }
+        ensures ok { IfOk result (λ m. ⟦<Self as EntropyModel<PRECISION>>⟧.rows m ≡ rows_paired Probability.whole PRECISION entries.items) }
+        ensures refused { IfErr result (λ e. e ≡ ModelError.OutOfMemory) }
+    {
         Ok(decoder_over(entries)?)
     }
 
@@ -230,7 +273,20 @@ impl<
     Cdf: SafeBuf<(Probability, Symbol)>,
     const PRECISION: usize,
 > NonContiguousCategoricalDecoderModel<Symbol, Probability, Cdf, PRECISION> {
+    /// Clones of the entries, which have to be equal to these.
+    #[inline]
+    fn entries_in_vec(&self, alloc: Global) -> Result<Vec<(Probability, Symbol)>, AllocError>
+        requires { ClonesAreEqual Symbol.eq Symbol.is_clone }
+        ensures stored { IfOk result (λ v. IsStored Probability.BITS PRECISION (map (λ x. Probability.whole x.0) v.items)) }
+        ensures distinct { IfOk result (λ v. IsDistinct Symbol.eq (map (λ x. x.1) v.items)) }
+        ensures rows { IfOk result (λ v. StandForRows Symbol.is_clone (rows_paired Probability.whole PRECISION v.items)
+            (⟦<Self as EntropyModel<PRECISION>>⟧.rows self.now)) }
+    {
+        entries_cloned(alloc, self.cdf_entries())
+    }
+
     /// The same model over clones of the entries of this one, which have to be equal to these.
+    #[tactic(auto, using(crate::proofs::Remade::rows_stand))]
     pub(crate) fn in_vec(
         &self,
         alloc: Global,
@@ -248,8 +304,10 @@ impl<
             (⟦<NonContiguousCategoricalDecoderModel<Symbol, Probability, Vec<(Probability, Symbol)>, PRECISION> as EntropyModel<PRECISION>>⟧.rows m)
             (⟦<Self as EntropyModel<PRECISION>>⟧.rows self.now)) }
     {
-        let entries = entries_cloned(alloc, self.cdf_entries())?;
-        decoder_over(entries)
+        match self.entries_in_vec(alloc) {
+            Ok(entries) => decoder_over(entries),
+            Err(refused) => Err(refused),
+        }
     }
 }
 

@@ -1,0 +1,2 @@
+pub mod ReadEntries
+pub mod Remade
