@@ -91,17 +91,20 @@ module _ {Symbol Word Entries : Type 0} (items : Entries → List (Word × Symbo
       invalid = read-refused eq (AreAccepted eq bits precision) (λ ss ws good. good) (Err e) held;
     }
 
-    pub apart-differ : (r : Result Entries ModelError) → AreHeld (λ _ _. false) r → IfOk r (λ v. IsDistinct eq (map (λ x. x.1) (items v)))
+    pub apart-differ : (r : Result Entries ModelError) → AreHeld (λ _ _. false) r
+        → IfOk r (λ v. IsDistinct eq (map (λ x. x.1) (items v)))
     apart-differ (Ok v) held = subst (IsDistinct eq) (sym (held-symbols eq v held)) (differ held.ok.0 held.ok.2)
     apart-differ (Err e) held = tt
 
   -- entries, whether they were read or refused
   module _ (compared : Symbol → Symbol → Bool) where
-    pub all-stored : (r : Result Entries ModelError) → AreHeld compared r → IfOk r (λ v. IsStored bits precision (map (λ x. whole x.0) (items v)))
+    pub all-stored : (r : Result Entries ModelError) → AreHeld compared r
+        → IfOk r (λ v. IsStored bits precision (map (λ x. whole x.0) (items v)))
     all-stored (Ok v) held = held-stored compared v held
     all-stored (Err e) held = tt
 
-    pub all-differ : (r : Result Entries ModelError) → AreHeld compared r → IfOk r (λ v. IsDistinct compared (map (λ x. x.1) (items v)))
+    pub all-differ : (r : Result Entries ModelError) → AreHeld compared r
+        → IfOk r (λ v. IsDistinct compared (map (λ x. x.1) (items v)))
     all-differ (Ok v) held =
         paired-distinct compared bits precision held.ok.0 (completes (map whole held.ok.1)) held.ok.4 whole (items v) held.ok.5
     all-differ (Err e) held = tt

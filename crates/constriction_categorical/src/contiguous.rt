@@ -215,8 +215,10 @@ impl<Probability: WholeNumber, Cdf: SafeBuf<Probability>, const PRECISION: usize
         &self,
         quantile: Probability,
     ) -> Result<(usize, Probability, Weight<Probability>), AllocError> {
-        let (row, _compared) = self.counted_quantile_function(quantile)?;
-        Ok(row)
+        match self.counted_quantile_function(quantile) {
+            Ok((row, _compared)) => Ok(row),
+            Err(refused) => Err(refused),
+        }
     }
 
     ghost tile_law = { λ m. stored-tiles _ _ _ m.stored.stored };

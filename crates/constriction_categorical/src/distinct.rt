@@ -18,7 +18,7 @@ use constriction_stored_rows::{are_apart, are_in_order, entries_read};
 use std::alloc::Global;
 use std::hash::Hash;
 
-/// The entries of these symbols and weights, no two of which symbols are equal.
+/// The entries of these symbols and weights, for symbols that are known to differ.
 #[inline]
 fn entries_of_distinct<
     P: WholeNumber,
@@ -41,7 +41,7 @@ fn entries_of_distinct<
     entries_read::<P, Symbol, S, W, PRECISION>(alloc, symbols, weights, infer_last)
 }
 
-/// The entries of these symbols and weights, if no two of the symbols are equal, as their hashes tell.
+/// The entries of these symbols and weights, if no two of the symbols are equal, which a hash of each tells.
 #[inline]
 fn entries_apart<
     P: WholeNumber,
@@ -81,7 +81,8 @@ fn entries_in_order<
     requires fits { PRECISION ≤ P.BITS }
     requires symbols_end { IsFiniteIterable S.into_iter_gives S.IntoIter.can_next S.IntoIter.remaining symbols }
     requires weights_end { IsFiniteIterable W.into_iter_gives W.IntoIter.can_next W.IntoIter.remaining weights }
-    ensures told { IsMadeOfBoth (λ ss ws. AreAccepted Symbol.eq P.BITS PRECISION ss ws × IsStrictlySortedBy Symbol.cmp ss) (completed PRECISION infer_last)
+    ensures told { IsMadeOfBoth (λ ss ws. AreAccepted Symbol.eq P.BITS PRECISION ss ws × IsStrictlySortedBy Symbol.cmp ss)
+        (completed PRECISION infer_last)
         (WasReadOf S.into_iter_gives S.IntoIter.next_gives symbols) (WasReadOf W.into_iter_gives W.IntoIter.next_gives weights)
         P.whole (λ v ss ws. rows_paired P.whole PRECISION v.items ≡ rows_of ss ws) result }
     ensures stored { IfOk result (λ v. IsStored P.BITS PRECISION (map (λ x. P.whole x.0) v.items)) }

@@ -152,8 +152,10 @@ where
         ),
         AllocError,
     > {
-        let (row, _compared) = self.counted_quantile_function(quantile)?;
-        Ok(row)
+        match self.counted_quantile_function(quantile) {
+            Ok((row, _compared)) => Ok(row),
+            Err(refused) => Err(refused),
+        }
     }
 
     ghost tile_law = { λ m. Model.tile_law m.model };

@@ -67,7 +67,7 @@ impl<
     ghost rows = { λ m. rows_paired Probability.whole PRECISION (entries_in (Cdf.words_of m.cdf)) };
 }
 
-/// The entries of these symbols and weights, each symbol of which is compared with those before it.
+/// The entries of these symbols and weights, if no symbol is equal to one before it.
 #[inline]
 fn entries_compared<
     P: WholeNumber,
@@ -179,7 +179,7 @@ impl<
         }
     }
 
-    /// The model over these entries, as [`decoder_over`] makes it.
+    /// The model over these entries, as [`decoder_over`] makes it, with the refusal of a constructor.
     #[inline]
     pub(crate) fn over_entries(entries: Vec<(Probability, Symbol)>) -> Result<Self, ModelError>
         requires positive { 0 < PRECISION }
@@ -328,8 +328,10 @@ impl<
         &self,
         quantile: Probability,
     ) -> Result<(Symbol, Probability, Weight<Probability>), AllocError> {
-        let (row, _compared) = self.counted_quantile_function(quantile)?;
-        Ok(row)
+        match self.counted_quantile_function(quantile) {
+            Ok((row, _compared)) => Ok(row),
+            Err(refused) => Err(refused),
+        }
     }
 
     ghost tile_law = { λ m. entries-tile Probability.whole _ _ _ m.stored };

@@ -41,7 +41,8 @@ returns-clause-told g c =
     judged-told vec_items g.P.WholeNumber.whole g.P.WholeNumber.BITS g.row.PRECISION (completed g.row.PRECISION c.args.infer_last)
     (WasReadOf g.S.IntoIterator.into_iter_gives g.S.IntoIter.Iterator.next_gives c.args.symbols)
     (WasReadOf g.W.IntoIterator.into_iter_gives g.W.IntoIter.Iterator.next_gives c.args.weights) g.Symbol.PartialEq.eq
-    c.in_ok-entries.entries c.in_ok-entries.ensures (IsDistinct g.Symbol.PartialEq.eq) (AreAccepted g.Symbol.PartialEq.eq g.P.WholeNumber.BITS g.row.PRECISION) (λ ss ws good _. good)
+    c.in_ok-entries.entries c.in_ok-entries.ensures (IsDistinct g.Symbol.PartialEq.eq)
+    (AreAccepted g.Symbol.PartialEq.eq g.P.WholeNumber.BITS g.row.PRECISION) (λ ss ws good _. good)
     (rw c.deref.ensures.value at (c.in_ok-apart.ensures.0 c.if-not-apart.false))
     (rw c.deref.ensures.value at (c.in_ok-apart.ensures.0 c.if-not-apart.false))
 

@@ -43,7 +43,8 @@ returns-clause-told g c =
     (WasReadOf g.S.IntoIterator.into_iter_gives g.S.IntoIter.Iterator.next_gives c.args.symbols)
     (WasReadOf g.W.IntoIterator.into_iter_gives g.W.IntoIter.Iterator.next_gives c.args.weights) g.Symbol.PartialEq.eq
     c.in_ok-entries.entries c.in_ok-entries.ensures (IsStrictlySortedBy g.Symbol.Ord.cmp)
-    (λ ss ws. AreAccepted g.Symbol.PartialEq.eq g.P.WholeNumber.BITS g.row.PRECISION ss ws × IsStrictlySortedBy g.Symbol.Ord.cmp ss) (λ ss ws good sorted. (good, sorted))
+    (λ ss ws. AreAccepted g.Symbol.PartialEq.eq g.P.WholeNumber.BITS g.row.PRECISION ss ws × IsStrictlySortedBy g.Symbol.Ord.cmp ss)
+    (λ ss ws good sorted. (good, sorted))
     (sorted-distinct g.Symbol.PartialEq.eq g.Symbol.Ord.cmp g.met.Symbol.Ord.matches_eq _
     (rw c.deref.ensures.value at (c.are_in_order-in_order.ensures.0 c.if-not-in_order.false)))
     (rw c.deref.ensures.value at (c.are_in_order-in_order.ensures.0 c.if-not-in_order.false))
