@@ -3,9 +3,7 @@
 ghost use Rattle.std.specs.Prelude.{◌≡◌, ◌/◌, ◌^◌, ◌<◌};
 
 use crate::checks::{prints, same, same_at, shows};
-use crate::numbers::{
-    half_way, held, lower, moved_up, remainder_of_product, wrapped, zero_is_refused,
-};
+use crate::numbers::{half_way, has_ends, lower, moved_up, remainder_of_product};
 use crate::weights::greatest_is_same_as;
 use constriction::stream::model::{
     ContiguousCategoricalEntropyModel, DecoderModel, EncoderModel, ModelError,
@@ -49,38 +47,16 @@ fn operations_give_the_exact_number(rt: HostRuntime) {
 
 #[test]
 fn samples_are_words(rt: HostRuntime) {
+    has_ends::<Sample>(&rt, 65535);
     same(
         &rt,
         (
             <Sample as WholeNumber>::BITS,
-            wrapped(),
-            zero_is_refused::<Sample>(),
-        ),
-        (
-            16,
-            (Sample(0), Sample(65535), Sample(1)),
-            (true, true, true),
-        ),
-    );
-    same(
-        &rt,
-        held(),
-        Some((
-            Sample(1),
-            Sample(65535),
-            Sample(65535),
-            Sample(1),
-            Sample(1),
-        )),
-    );
-    same(
-        &rt,
-        (
             Sample(3).pow(4),
             Sample(65535).to_index(),
             Sample::from_index(258),
         ),
-        (Sample(81), 65535, Sample(258)),
+        (16, Sample(81), 65535, Sample(258)),
     );
 }
 
