@@ -2,7 +2,7 @@
 
 ghost use Rattle.std.specs.Prelude.{◌≡◌, ◌/◌, ◌^◌, ◌<◌};
 
-use crate::checks::{prints, same, same_at, shows};
+use crate::checks::{prints, same, shows};
 use crate::numbers::{half_way, has_ends, lower, moved_up, remainder_of_product};
 use crate::weights::greatest_is_same_as;
 use constriction::stream::model::{
@@ -284,17 +284,20 @@ fn entry_of(model: &Model, symbol: usize) -> Option<(Sample, Sample)> {
     Some((left, weight.get()))
 }
 
-/// The model of these weights as samples.
-fn made(alloc: Global, weights: &[u16]) -> Result<Model, ModelError> {
-    Model::from_nonzero_fixed_point_probabilities(alloc, weights.iter().copied().map(Sample), false)
+/// The weights of a model.
+const WEIGHTS: [Sample; 5] = [Sample(1), Sample(1), Sample(1), Sample(1), Sample(4092)];
+
+fn made(alloc: Global) -> Result<Model, ModelError> {
+    Model::from_nonzero_fixed_point_probabilities(alloc, WEIGHTS, false)
 }
 
 #[test]
 fn samples_are_the_probabilities_of_a_model(rt: HostRuntime) -> Result<(), Fail> {
-    let model = made(rt.alloc(), &[1, 1, 1, 1, 4092])?;
+    let model = made(rt.alloc())?;
     for (quantile, symbol) in [(3u16, 3usize), (4, 4), (4095, 4)] {
         assert!(rt; quantile < 4096);
-        same_at(&rt, quantile, symbol_of(&model, quantile), Some(symbol));
+        let found = (quantile, symbol_of(&model, quantile));
+        same(&rt, found, (quantile, Some(symbol)));
     }
     same(&rt, model.support_size(), 5);
     same(&rt, entry_of(&model, 4), Some((Sample(4), Sample(4092))));
