@@ -23,8 +23,8 @@ where
     assert_eq!(rt; found, expected, "{name}");
 }
 
-/// Stops the test where a `Vec` does not hold these items.
-pub fn holds<T: PartialEq + Debug>(rt: &impl Abort, found: &Vec<T>, expected: &[T]) {
+/// Stops the test where a `Vec` does not hold these words.
+pub fn holds(rt: &impl Abort, found: &Vec<u8>, expected: &[u8]) {
     same(rt, found.as_slice(), expected);
 }
 

@@ -132,20 +132,19 @@ fn extended<Buf: SafeBufMut<u8>>(
     laws::extending_counts(cursor, added.iter().copied())
 }
 
+/// Words that are written from the second word of a cursor of three on, whether there is no place for the last one, and the
+/// words of the cursor then.
+const FILLS: [(&[u8], bool, [u8; 3]); 2] = [
+    (&[1, 2, 3], true, [10, 1, 2]),
+    (&[20, 30], false, [10, 20, 30]),
+];
+
 /// A cursor of 10, 99, 30 is filled from its second word on.
 fn is_filled<Buf: SafeBufMut<u8>>(rt: &impl Abort, buf: Buf) -> Buf {
     let mut cursor = Cursor::<u8, Buf>::new_at_write_beginning(buf);
-    let fills = [
-        (
-            [1u8, 2, 3].as_slice(),
-            Err(BoundedWriteError::OutOfSpace),
-            [10, 1, 2],
-        ),
-        ([20, 30].as_slice(), Ok(()), [10, 20, 30]),
-    ];
-    for (added, answer, words) in fills {
-        same(rt, cursor.seek(1), Ok(()));
-        same(rt, extended(&mut cursor, added), answer);
+    for (added, are_too_many, words) in FILLS {
+        same(rt, cursor.seek(1).is_ok(), true);
+        same(rt, extended(&mut cursor, added).is_err(), are_too_many);
         is_at(rt, &cursor, 3, words);
     }
     cursor.into_buf_and_pos().0

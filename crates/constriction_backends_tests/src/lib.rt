@@ -1,4 +1,4 @@
-//! The tests of sources, sinks, buffers and cursors, and what a caller learns of words that a cursor lends.
+//! The tests of sources, sinks, buffers and cursors, and of words that a cursor lends.
 //!
 //! A library that has tests of its own is proved twice, so none of them has any. Tests use the
 //! public interface alone.
@@ -16,6 +16,7 @@ mod conversions;
 mod cursors;
 #[cfg(test)]
 mod errors;
+#[cfg(test)]
 mod lent;
 #[cfg(test)]
 mod reversals;

@@ -45,28 +45,47 @@ fn turns_round<Buf: SafeBufMut<u8>>(rt: &impl Abort, buf: Buf) -> Buf {
     cursor.into_buf_and_pos().0
 }
 
-/// What a reversed cursor says of its places: how many are free, whether none is, and whether none may be.
-fn places<Buf: SafeBufMut<u8>>(reversed: &Turned<Buf>) -> (usize, bool, bool) {
+/// What a reversed cursor says of its places: its position, how many are free, whether none is, and whether none may be.
+fn places<Buf: SafeBufMut<u8>>(reversed: &Turned<Buf>) -> (usize, usize, bool, bool) {
     (
+        reversed.pos(),
         reversed.space_left(),
         reversed.is_full(),
         reversed.maybe_full(),
     )
 }
 
+/// What a call of a reversed cursor asks for.
+#[derive(Clone, Copy)]
+enum Call {
+    Write(u8),
+    Seek(usize),
+}
+
+/// Calls of a reversed cursor of 1, 2, 3 at inner position 0: whether each is refused, and the inner position and the words
+/// after it.
+const CALLS: [(Call, bool, usize, [u8; 3]); 6] = [
+    (Call::Write(7), true, 0, [1, 2, 3]),
+    (Call::Seek(4), true, 0, [1, 2, 3]),
+    (Call::Seek(2), false, 2, [1, 2, 3]),
+    (Call::Write(8), false, 1, [1, 8, 3]),
+    (Call::Write(9), false, 0, [9, 8, 3]),
+    (Call::Seek(2), false, 2, [9, 8, 3]),
+];
+
 /// A reversed cursor of 1, 2, 3 takes no word at inner position 0. It is written from its inner position down, and then
 /// takes the first two of three words.
 fn is_written_downwards<Buf: SafeBufMut<u8>>(rt: &impl Abort, buf: Buf) -> Buf {
     let mut reversed = Reverse(Cursor::<u8, Buf>::new_at_write_beginning(buf));
-    same(rt, places(&reversed), (0, true, true));
-    let refused = (reversed.write(7), reversed.seek(4));
-    same(rt, refused, (Err(BoundedWriteError::OutOfSpace), Err(())));
-    is_at(rt, &reversed.0, 0, [1, 2, 3]);
-    same(rt, reversed.seek(2), Ok(()));
-    same(rt, places(&reversed), (2, false, true));
-    same(rt, (reversed.write(8), reversed.write(9)), (Ok(()), Ok(())));
-    is_at(rt, &reversed.0, 0, [9, 8, 3]);
-    same(rt, (reversed.pos(), reversed.seek(2)), (0, Ok(())));
+    for (call, is_refused, pos, words) in CALLS {
+        let refused = match call {
+            Call::Write(word) => reversed.write(word).is_err(),
+            Call::Seek(to) => reversed.seek(to).is_err(),
+        };
+        same(rt, refused, is_refused);
+        same(rt, places(&reversed), (pos, pos, pos == 0, true));
+        is_at(rt, &reversed.0, pos, words);
+    }
     let refused = reversed.extend_from_iter([4u8, 5, 6].iter().copied());
     same(rt, refused, Err(BoundedWriteError::OutOfSpace));
     same(rt, ReadWords::<u8, Queue>::read(&mut reversed), Ok(None));

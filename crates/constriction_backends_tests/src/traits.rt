@@ -182,29 +182,25 @@ fn a_source_is_exhausted_where_nothing_remains(rt: HostRuntime) {
     }
 }
 
+/// Words of an iterator, how many places are free after them, and whether they are too many and one more word is refused.
+const EXTENDED: [(&[u8], usize, bool); 2] = [(&[1, 2, 3], 2, false), (&[4, 5], 0, true)];
+
 #[test]
 fn a_sink_is_full_where_no_place_is_free_and_refuses_more_words(rt: HostRuntime) {
     let mut sink = Places { free: 5 };
-    for (words, extended, free, written) in [
-        ([1u8, 2, 3].as_slice(), Ok(()), 2, Ok(())),
-        (
-            &[4, 5],
-            Err(BoundedWriteError::OutOfSpace),
-            0,
-            Err(BoundedWriteError::OutOfSpace),
-        ),
-    ] {
-        let found = laws::extending_counts(&mut sink, words.iter().copied());
-        same(&rt, found, extended);
+    for (words, free, are_refused) in EXTENDED {
+        let extended = laws::extending_counts(&mut sink, words.iter().copied());
+        let found = (
+            extended.is_err(),
+            sink.space_left(),
+            sink.is_full(),
+            sink.maybe_full(),
+            sink.write(9).is_err(),
+        );
         same(
             &rt,
-            (
-                sink.space_left(),
-                sink.is_full(),
-                sink.maybe_full(),
-                sink.write(9),
-            ),
-            (free, free == 0, true, written),
+            found,
+            (are_refused, free, free == 0, true, are_refused),
         );
     }
 }

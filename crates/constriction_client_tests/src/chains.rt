@@ -5,9 +5,9 @@ ghost use Rattle.constriction.specs.Model.{ClonesAreEqual};
 ghost use Rattle.constriction_client.specs.Chains.{ChainLeaves};
 ghost use Rattle.constriction_client.specs.declared.chain.ChainStep.TheVariants.{ToLookup, Rebuild, IntoSearch};
 
-use crate::checks::{end_of_requests, holds, same, same_at};
+use crate::checks::{end_of_requests, same, same_at};
 use crate::model_checks::{decodes, walks};
-use crate::queries::{QUERIES, Replied, replies};
+use crate::queries::{QUERIES, Replied, are_replies};
 use constriction::stream::model::{
     DecoderModel, EntropyModel, IterableEntropyModel, ModelError,
     SmallNonContiguousCategoricalDecoderModel,
@@ -191,7 +191,7 @@ fn ask_after(
 fn reply_after(rt: &impl Abort, alloc: Global, steps: &[ChainStep]) {
     let searching = decoder(alloc, &SYMBOLS, &WEIGHTS, false).expect(rt, "accepted");
     let found = ask_after(alloc, searching, steps).expect(rt, "replies");
-    holds(rt, &found, &replies());
+    are_replies(rt, &found);
 }
 
 #[test]
@@ -209,7 +209,7 @@ fn a_refusal_of_memory_leaves_no_replies_after_a_chain(rt: HostRuntime) {
     };
     let steps = [ChainStep::ToLookup, ChainStep::Rebuild];
     match ask_after(rt.alloc(), searching, &steps) {
-        Ok(found) => holds(&rt, &found, &replies()),
+        Ok(found) => are_replies(&rt, &found),
         Err(error) => same(&rt, error, ModelError::OutOfMemory),
     }
     end_of_requests(&rt);

@@ -8,7 +8,7 @@ use std::process::Abort;
 
 /// Stops the test where the two differ, and shows both.
 pub fn same<T: PartialEq + Debug + Drop>(rt: &impl Abort, found: T, expected: T) {
-    assert_eq!(rt; found, expected);
+    same_at(rt, "found, beside expected", found, expected);
 }
 
 /// The same of one case among several, whose name is shown too.

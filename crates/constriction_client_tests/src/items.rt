@@ -47,13 +47,6 @@ fn back(alloc: Global, model: &Table<6>, items: &[(usize, u8)]) -> Back {
     there_and_back(alloc, model, items)
 }
 
-#[test]
-fn three_items_go_there_and_back(rt: HostRuntime) {
-    let model = small(&rt, rt.alloc());
-    let made = back(rt.alloc(), &model, &[(0, 2), (3, 41), (1, 0)]);
-    holds(&rt, &made.expect(&rt, "pairs"), &[(1, 0), (3, 41), (0, 2)]);
-}
-
 /// The first of these items alone is written, after 7.
 fn stops_after_the_first(
     rt: &impl Abort,

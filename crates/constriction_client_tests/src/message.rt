@@ -1,17 +1,14 @@
 //! A message there and back, where each fault is handed on.
 
 use crate::checks::{holds, same};
+use crate::model_checks::small;
 use constriction::Stack;
-use constriction::stream::model::ContiguousCategoricalEntropyModel;
 use constriction_client::{read_symbols, write_quantiles};
 use std::test::Fail;
 
-type Model = ContiguousCategoricalEntropyModel<u8, Vec<u8>, 6>;
-
 #[test]
 fn a_message_goes_there_and_back(rt: HostRuntime) -> Result<(), Fail> {
-    let weights = [3, 18, 1, 42];
-    let model = Model::from_nonzero_fixed_point_probabilities(rt.alloc(), weights, false)?;
+    let model = small(&rt, rt.alloc());
     let mut words = Vec::new(rt.alloc());
     write_quantiles(&model, &[(0, 2), (3, 41), (1, 0)], &mut words)?;
     holds(&rt, &words, &[2, 63, 3]);

@@ -48,20 +48,14 @@ fn decoder(rt: &impl Abort, alloc: Global) -> Decoder {
     made.expect(rt, "accepted")
 }
 
-fn lookup(rt: &impl Abort, alloc: Global) -> Lookup {
+fn lookup(rt: &impl Abort, alloc: Global) -> Result<Lookup, ModelError> {
     let texts = texts(rt, alloc);
-    let made = Lookup::from_symbols_and_nonzero_fixed_point_probabilities(
-        alloc, texts, WEIGHTS, false,
-    );
-    made.expect(rt, "accepted")
+    Lookup::from_symbols_and_nonzero_fixed_point_probabilities(alloc, texts, WEIGHTS, false)
 }
 
-fn encoder(rt: &impl Abort, alloc: Global) -> Encoder {
+fn encoder(rt: &impl Abort, alloc: Global) -> Result<Encoder, ModelError> {
     let texts = texts(rt, alloc);
-    let made = Encoder::from_symbols_and_nonzero_fixed_point_probabilities(
-        alloc, texts, WEIGHTS, false,
-    );
-    made.expect(rt, "accepted")
+    Encoder::from_symbols_and_nonzero_fixed_point_probabilities(alloc, texts, WEIGHTS, false)
 }
 
 /// The text of a quantile: that of the symbol of its row.
@@ -125,14 +119,55 @@ fn encodes(rt: &impl Abort, alloc: Global, model: &Encoder) {
     same(rt, model.support_size(), 3);
 }
 
+/// Stops the test where a model that searches does not answer the rows.
+fn searching_answers(rt: &impl Abort, model: &Decoder) {
+    answers(rt, model);
+}
+
+/// The same of a model with a table.
+fn looking_up_answers(rt: &impl Abort, model: &Lookup) {
+    answers(rt, model);
+}
+
+/// Stops the test where a model that searches, or its clone, does not answer the rows.
+fn is_searching(rt: &impl Abort, made: Result<Decoder, ModelError>) {
+    let made = made.expect(rt, "a model");
+    searching_answers(rt, &made);
+    searching_answers(rt, &made.clone().expect(rt, "memory"));
+    let text = text_of(&made, 20).expect(rt, "a text");
+    same(rt, text.as_str(), "be");
+}
+
+/// The same of a model with a table, of its clone, and of the searching one in it, lent and taken out.
+fn is_looking_up(rt: &impl Abort, made: Result<Lookup, ModelError>) {
+    let made = made.expect(rt, "a model");
+    looking_up_answers(rt, &made);
+    looking_up_answers(rt, &made.clone().expect(rt, "memory"));
+    answers(rt, &made.as_non_contiguous_categorical());
+    searching_answers(rt, &made.into_non_contiguous_categorical());
+}
+
+/// Stops the test where an encoder, or its clone, does not have the entries.
+fn is_encoding(rt: &impl Abort, alloc: Global, made: Result<Encoder, ModelError>) {
+    let made = made.expect(rt, "a model");
+    encodes(rt, alloc, &made);
+    encodes(rt, alloc, &made.clone().expect(rt, "memory"));
+}
+
 #[test]
-fn models_of_texts_answer(rt: HostRuntime) {
-    let model = decoder(&rt, rt.alloc());
-    answers(&rt, &model);
-    let text = text_of(&model, 20).expect(&rt, "a text");
-    same(&rt, text.as_str(), "be");
-    answers(&rt, &lookup(&rt, rt.alloc()));
-    encodes(&rt, rt.alloc(), &encoder(&rt, rt.alloc()));
+fn models_of_texts_answer_and_are_cloned(rt: HostRuntime) {
+    let alloc = rt.alloc();
+    is_searching(&rt, Ok(decoder(&rt, alloc)));
+    is_looking_up(&rt, lookup(&rt, alloc));
+    is_encoding(&rt, alloc, encoder(&rt, alloc));
+}
+
+#[test]
+fn models_of_texts_are_looked_up(rt: HostRuntime) {
+    let alloc = rt.alloc();
+    let model = decoder(&rt, alloc);
+    is_looking_up(&rt, Lookup::from_iterable_entropy_model(alloc, &model));
+    is_looking_up(&rt, model.to_lookup_decoder_model(alloc));
 }
 
 #[test]
@@ -143,38 +178,6 @@ fn a_table_of_texts_is_walked_from_both_ends(rt: HostRuntime) {
     is_row(&rt, table.next_back().expect(&rt, "a row"), ("", 21, 43));
     is_row(&rt, table.next_back().expect(&rt, "a row"), ("be", 3, 18));
     same(&rt, table.next().is_none(), true);
-}
-
-/// Stops the test where a model that searches and is made from a decoder of texts, or its clone, does not answer the rows.
-fn searching_answer(rt: &impl Abort, alloc: Global, model: &Decoder) {
-    let made = Decoder::from_iterable_entropy_model(alloc, model).expect(rt, "a model");
-    answers(rt, &made);
-    answers(rt, &made.clone().expect(rt, "memory"));
-}
-
-/// The same of a model with a table, of its clone, and of the searching one in it, lent and taken out.
-fn looked_up_answer(rt: &impl Abort, made: Result<Lookup, ModelError>) {
-    let made = made.expect(rt, "a model");
-    answers(rt, &made);
-    answers(rt, &made.clone().expect(rt, "memory"));
-    answers(rt, &made.as_non_contiguous_categorical());
-    answers(rt, &made.into_non_contiguous_categorical());
-}
-
-/// Stops the test where an encoder that is made from a decoder of texts, or its clone, does not have the entries.
-fn made_encodes(rt: &impl Abort, alloc: Global, model: &Decoder) {
-    let made = Encoder::from_iterable_entropy_model(alloc, model).expect(rt, "a model");
-    encodes(rt, alloc, &made);
-    encodes(rt, alloc, &made.clone().expect(rt, "memory"));
-}
-
-#[test]
-fn models_of_texts_are_converted_and_cloned(rt: HostRuntime) {
-    let model = decoder(&rt, rt.alloc());
-    searching_answer(&rt, rt.alloc(), &model);
-    looked_up_answer(&rt, Lookup::from_iterable_entropy_model(rt.alloc(), &model));
-    looked_up_answer(&rt, model.to_lookup_decoder_model(rt.alloc()));
-    made_encodes(&rt, rt.alloc(), &model);
 }
 
 /// The form that each kind of step leaves of a decoder of texts.
@@ -208,7 +211,7 @@ fn replies(rt: &impl Abort, alloc: Global, form: &DecoderForm<String, u8, 6>) {
         Query::OfSymbol(text(rt, alloc, "be")),
         Query::OfSymbol(text(rt, alloc, "eb")),
     ];
-    let encoder = encoder(rt, alloc);
+    let encoder = encoder(rt, alloc).expect(rt, "accepted");
     let found = ask(alloc, form, &encoder, &queries).expect(rt, "replies");
     let weight = 18u8.into_nonzero_unchecked();
     let expected = [

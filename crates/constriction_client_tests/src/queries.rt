@@ -11,6 +11,7 @@ use constriction_fixtures::contiguous::Table;
 use constriction_fixtures::symbol_types::{Letter, LetterDecoder, letters};
 use constriction_words::BitArray;
 use std::alloc::{AllocError, Global};
+use std::process::Abort;
 
 /// A query about letters.
 pub type Asked = Query<char, u8>;
@@ -38,7 +39,7 @@ pub const QUERIES: [Asked; 14] = [
 ];
 
 /// The replies of the worked letters to these.
-pub fn replies() -> [Replied; 14] {
+fn replies() -> [Replied; 14] {
     let a = 3u8.into_nonzero_unchecked();
     let x = 18u8.into_nonzero_unchecked();
     let c = 1u8.into_nonzero_unchecked();
@@ -59,6 +60,11 @@ pub fn replies() -> [Replied; 14] {
         Reply::Entry(Some((22, y))),
         Reply::Entry(None),
     ]
+}
+
+/// Stops the test where these are not the replies of the worked letters.
+pub fn are_replies(rt: &impl Abort, found: &Vec<Replied>) {
+    holds(rt, found, &replies());
 }
 
 /// Asks one model both ways, once by a reference to it.
@@ -154,7 +160,7 @@ fn a_refusal_of_memory_leaves_no_replies(rt: HostRuntime) {
         return;
     };
     match answer_queries::<_, _, _, _, 6>(rt.alloc(), &form, &encoder, &QUERIES) {
-        Ok(found) => holds(&rt, &found, &replies()),
+        Ok(found) => are_replies(&rt, &found),
         Err(error) => same(&rt, error, AllocError),
     }
     end_of_requests(&rt);

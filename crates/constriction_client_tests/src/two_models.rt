@@ -140,16 +140,6 @@ fn in_a_cursor(
     (back, words, pos)
 }
 
-#[test]
-fn items_come_back_in_their_order_from_a_cursor(rt: HostRuntime) {
-    let model = model_checks::small(&rt, rt.alloc());
-    let words = vec_of(&rt, rt.alloc(), &[7, 8, 9, 10, 11, 12]);
-    let (back, words, pos) = in_a_cursor(rt.alloc(), &model, &ITEMS, words);
-    holds(&rt, &back.expect(&rt, "items"), &ITEMS);
-    holds(&rt, &words, &[7, 2, 63, 3, 11, 12]);
-    same(&rt, pos, 4);
-}
-
 /// Items are refused in a cursor over 7, 8 and 9 that stands after the first, and these words and the position stay.
 fn keeps_the_words(
     rt: &impl Abort,
@@ -193,25 +183,28 @@ fn a_cursor_keeps_the_words_before_a_refusal(rt: HostRuntime) {
     );
 }
 
-/// Whichever request is refused, the words of all items stand then.
+/// The items come back in their order. Whichever request is refused, the words of all items stand then.
 #[test]
 fn a_refusal_of_memory_leaves_the_words_in_a_cursor(rt: HostRuntime) {
     let Ok(model) = table::<6>(rt.alloc(), &WEIGHTS, false) else {
         return;
     };
-    let Ok(words) = [7u8, 8, 9, 10].to_vec(rt.alloc()) else {
+    let Ok(words) = [7u8, 8, 9, 10, 11, 12].to_vec(rt.alloc()) else {
         return;
     };
-    let (back, words, _pos) = in_a_cursor(rt.alloc(), &model, &ITEMS, words);
+    let (back, words, pos) = in_a_cursor(rt.alloc(), &model, &ITEMS, words);
     match back {
-        Ok(items) => holds(&rt, &items, &ITEMS),
+        Ok(items) => {
+            holds(&rt, &items, &ITEMS);
+            same(&rt, pos, 4);
+        }
         Err(fault) => same(
             &rt,
             fault,
             CoderError::Backend(ReadWriteError::Read(AllocError)),
         ),
     }
-    holds(&rt, &words, &[7, 2, 63, 3]);
+    holds(&rt, &words, &[7, 2, 63, 3, 11, 12]);
     end_of_requests(&rt);
 }
 

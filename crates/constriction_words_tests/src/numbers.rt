@@ -4,6 +4,7 @@ ghost use Rattle.std.specs.Prelude.{◌≡◌, ◌+◌, ◌-◌, ◌*◌, ◌/�
 
 use crate::checks::same;
 use constriction_words::{BitArray, IndexWord, NonZeroBitArray, WholeNumber};
+use std::process::Abort;
 
 /// The sum of two words.
 fn plus<P: BitArray>(a: P, b: P) -> P
@@ -84,46 +85,55 @@ fn operations_give_the_exact_number(rt: HostRuntime) {
     );
 }
 
-/// What wraps: one more than the greatest word, one less than 0, and the greatest word's square.
-pub fn wrapped<P: BitArray>() -> (P, P, P) {
-    let greatest = P::max_value();
-    (
-        greatest.wrapping_add(&P::one()),
-        P::zero().wrapping_sub(&P::one()),
-        greatest.wrapping_mul(&greatest),
-    )
+/// The number of the word that a word which is not 0 holds, where there is one.
+fn held<P: BitArray>(word: Option<P::NonZero>) -> Option<u128> {
+    word?.get().to_u128()
 }
 
-/// The word 1 and the greatest word, each put into a word that is not 0, and taken out.
-pub fn held<P: BitArray>() -> Option<(P, P, P, P, P)> {
-    let one = P::one();
-    let greatest = P::max_value();
-    Some((
-        one.into_nonzero()?.get(),
-        greatest.into_nonzero()?.get(),
-        P::NonZero::new(greatest)?.get(),
-        one.into_nonzero_unchecked().get(),
-        P::NonZero::new_unchecked(one).get(),
-    ))
-}
-
-/// Whether the default word is 0, and 0 refused as a word that is not 0.
-pub fn zero_is_refused<P: BitArray>() -> (bool, bool, bool) {
-    (
-        P::default() == P::zero(),
-        P::zero().into_nonzero().is_none(),
-        P::NonZero::new(P::zero()).is_none(),
-    )
+/// Stops the test where this number is not that of the greatest word, where a call does not wrap after it and before 0, or
+/// where a word that is not 0 is not made of 1 and of the greatest word alone, and holds it.
+pub fn has_ends<P: BitArray>(rt: &impl Abort, greatest_number: u128) {
+    let (zero, one, greatest) = (P::zero(), P::one(), P::max_value());
+    let last = Some(greatest_number);
+    same(
+        rt,
+        [
+            P::default().to_u128(),
+            greatest.wrapping_add(&one).to_u128(),
+            zero.wrapping_sub(&one).to_u128(),
+            greatest.wrapping_mul(&greatest).to_u128(),
+            held::<P>(one.into_nonzero()),
+            held::<P>(greatest.into_nonzero()),
+            held::<P>(P::NonZero::new(greatest)),
+            held::<P>(Some(one.into_nonzero_unchecked())),
+            held::<P>(Some(P::NonZero::new_unchecked(one))),
+            held::<P>(zero.into_nonzero()),
+            held::<P>(P::NonZero::new(zero)),
+        ],
+        [
+            Some(0),
+            Some(0),
+            last,
+            Some(1),
+            Some(1),
+            last,
+            last,
+            Some(1),
+            Some(1),
+            None,
+            None,
+        ],
+    );
 }
 
 #[test]
-fn wrapping_calls_are_modulo_the_width(rt: HostRuntime) {
-    same(&rt, wrapped(), (0, u8::MAX, 1));
-    same(&rt, wrapped(), (0, u16::MAX, 1));
-    same(&rt, wrapped(), (0, u32::MAX, 1));
-    same(&rt, wrapped(), (0, u64::MAX, 1));
-    same(&rt, wrapped(), (0, usize::MAX, 1));
-    same(&rt, wrapped(), (0, u128::MAX, 1));
+fn words_wrap_at_their_width_and_are_nonzero_unless_0(rt: HostRuntime) {
+    has_ends::<u8>(&rt, u128::from(u8::MAX));
+    has_ends::<u16>(&rt, u128::from(u16::MAX));
+    has_ends::<u32>(&rt, u128::from(u32::MAX));
+    has_ends::<u64>(&rt, u128::from(u64::MAX));
+    has_ends::<usize>(&rt, usize::MAX as u128);
+    has_ends::<u128>(&rt, u128::MAX);
     same(
         &rt,
         (
@@ -132,26 +142,6 @@ fn wrapping_calls_are_modulo_the_width(rt: HostRuntime) {
         ),
         (16, 0),
     );
-}
-
-#[test]
-fn a_word_is_nonzero_unless_it_is_0(rt: HostRuntime) {
-    for refused in [
-        zero_is_refused::<u8>(),
-        zero_is_refused::<u16>(),
-        zero_is_refused::<u32>(),
-        zero_is_refused::<u64>(),
-        zero_is_refused::<usize>(),
-        zero_is_refused::<u128>(),
-    ] {
-        same(&rt, refused, (true, true, true));
-    }
-    same(&rt, held(), Some((1, u8::MAX, u8::MAX, 1, 1)));
-    same(&rt, held(), Some((1, u16::MAX, u16::MAX, 1, 1)));
-    same(&rt, held(), Some((1, u32::MAX, u32::MAX, 1, 1)));
-    same(&rt, held(), Some((1, u64::MAX, u64::MAX, 1, 1)));
-    same(&rt, held(), Some((1, usize::MAX, usize::MAX, 1, 1)));
-    same(&rt, held(), Some((1, u128::MAX, u128::MAX, 1, 1)));
 }
 
 #[test]

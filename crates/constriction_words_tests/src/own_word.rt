@@ -1,28 +1,305 @@
-//! A caller's own word: a 16-bit sample, which is a type of its own over `u16`.
-//!
-//! The files stand in the order in which the traits build on one another: `operators`, `number`,
-//! `checked`, `integer`, then `nonzero`, `whole_number` and `word`.
+//! Samples where only the bound of words is known, and as the probabilities of a model.
 
-mod checked;
-mod integer;
-mod nonzero;
-mod number;
-mod operators;
-mod whole_number;
-mod word;
+ghost use Rattle.std.specs.Prelude.{◌≡◌, ◌/◌, ◌^◌, ◌<◌};
 
-use std::fmt;
-use std::fmt::{Display, Formatter, Write};
+use crate::checks::{prints, same, shows};
+use crate::numbers::{half_way, has_ends, lower, moved_up, remainder_of_product};
+use crate::weights::greatest_is_same_as;
+use constriction::stream::model::{
+    ContiguousCategoricalEntropyModel, DecoderModel, EncoderModel, ModelError,
+};
+use constriction_caller_fixtures::own_word::{NonZeroSample, Sample};
+use constriction_words::{BitArray, IndexWord, NonZeroBitArray, WholeNumber};
+use num_traits::{PrimInt, cast};
+use std::alloc::Global;
+use std::process::Abort;
+use std::test::Fail;
 
-#[cfg(test)]
-mod tests;
+type Model = ContiguousCategoricalEntropyModel<Sample, Vec<Sample>, 12>;
 
-/// A sample of 16 bits, whose number is from 0 to 65535.
-#[derive(Clone, Copy, Debug, Default, PartialEq, Eq, PartialOrd, Ord, Hash)]
-pub struct Sample(pub u16);
+/// What is learned of a sample from the contract over all words.
+fn half_of_sample(a: Sample) -> Sample
+    ensures { result.0 ≡ a.0 / 2 }
+{
+    half_way(Sample(0), a)
+}
 
-impl Display for Sample {
-    fn fmt<W: Write>(&self, f: &mut Formatter<W>) -> fmt::Result {
-        Display::fmt(&self.0, f)
+#[test]
+fn operations_give_the_exact_number(rt: HostRuntime) {
+    same(
+        &rt,
+        [
+            half_way(Sample(3), Sample(65535)),
+            half_of_sample(Sample(65535)),
+            remainder_of_product(Sample(255), Sample(257), Sample(1000)),
+            moved_up(Sample(0x8001), 1),
+            lower(Sample(400), Sample(399)),
+        ],
+        [
+            Sample(32766),
+            Sample(32767),
+            Sample(535),
+            Sample(2),
+            Sample(399),
+        ],
+    );
+}
+
+#[test]
+fn samples_are_words(rt: HostRuntime) {
+    has_ends::<Sample>(&rt, 65535);
+    same(
+        &rt,
+        (
+            <Sample as WholeNumber>::BITS,
+            Sample(3).pow(4),
+            Sample(65535).to_index(),
+            Sample::from_index(258),
+        ),
+        (16, Sample(81), 65535, Sample(258)),
+    );
+}
+
+#[test]
+fn weights_are_compared_by_their_numbers(rt: HostRuntime) {
+    same(
+        &rt,
+        greatest_is_same_as::<Sample>(),
+        Some([true, false, false]),
+    );
+}
+
+/// How many bits are 1 and 0: of all, of the highest and of the lowest ones.
+fn counted_bits<W: BitArray>(x: W) -> [u32; 6] {
+    [
+        x.count_ones(),
+        x.count_zeros(),
+        x.leading_ones(),
+        x.leading_zeros(),
+        x.trailing_ones(),
+        x.trailing_zeros(),
+    ]
+}
+
+/// The bits moved by one place, first round the ends and then over them; by bytes; and turned round.
+fn moved_bits<W: BitArray>(x: W) -> (W, W, W, W, W, W, W)
+    requires { W.BITS ≡ 16 }
+{
+    (
+        x.rotate_left(1),
+        x.rotate_right(1),
+        x.unsigned_shl(1),
+        x.unsigned_shr(1),
+        x.signed_shr(1),
+        x.swap_bytes(),
+        x.reverse_bits(),
+    )
+}
+
+/// The bits turned over, all but the lowest, all, and none; and there and back in both orders of
+/// bytes.
+fn combined_bits<W: BitArray>(x: W) -> (W, W, W, W, W, W) {
+    (
+        !x,
+        x & !W::one(),
+        x | !x,
+        x ^ x,
+        W::from_be(x.to_be()),
+        W::from_le(x.to_le()),
+    )
+}
+
+fn bits_of_a_word(rt: &impl Abort) {
+    same(
+        rt,
+        moved_bits(0x8003u16),
+        (7, 0xc001, 6, 0x4001, 0xc001, 0x0380, 0xc001),
+    );
+    same(
+        rt,
+        combined_bits(0x8003u16),
+        (0x7ffc, 0x8002, 65535, 0, 0x8003, 0x8003),
+    );
+}
+
+fn moved_bits_of_a_sample(rt: &impl Abort) {
+    same(
+        rt,
+        moved_bits(Sample(0x8003)),
+        (
+            Sample(7),
+            Sample(0xc001),
+            Sample(6),
+            Sample(0x4001),
+            Sample(0xc001),
+            Sample(0x0380),
+            Sample(0xc001),
+        ),
+    );
+}
+
+fn combined_bits_of_a_sample(rt: &impl Abort) {
+    same(
+        rt,
+        combined_bits(Sample(0x8003)),
+        (
+            Sample(0x7ffc),
+            Sample(0x8002),
+            Sample(65535),
+            Sample(0),
+            Sample(0x8003),
+            Sample(0x8003),
+        ),
+    );
+}
+
+#[test]
+fn bits_are_those_of_the_number(rt: HostRuntime) {
+    for bits in [counted_bits(Sample(0x8003)), counted_bits(0x8003u16)] {
+        same(&rt, bits, [3, 13, 1, 0, 2, 0]);
     }
+    bits_of_a_word(&rt);
+    moved_bits_of_a_sample(&rt);
+    combined_bits_of_a_sample(&rt);
+}
+
+/// Whether a word is 0, and the word as other numbers.
+fn as_numbers<W: BitArray>(x: W) -> (bool, Option<u16>, Option<i128>, Option<f32>, Option<f64>) {
+    (x.is_zero(), x.to_u16(), x.to_i128(), x.to_f32(), x.to_f64())
+}
+
+/// Numbers as a word of 16 bits: 0x8003, and two that are none.
+fn from_numbers<W: BitArray>() -> (Option<W>, bool, Option<W>) {
+    (
+        W::from_str_radix("8003", 16).ok(),
+        W::from_str_radix("10000", 16).is_err(),
+        cast::<i32, W>(-1),
+    )
+}
+
+/// What is checked, where it fits and where it does not.
+fn checked<W: BitArray>(x: W) -> [Option<W>; 7] {
+    [
+        x.checked_add(&x),
+        x.checked_sub(&x),
+        x.checked_mul(&x),
+        x.checked_div(&x),
+        x.checked_div(&W::zero()),
+        x.checked_pow(1),
+        x.checked_pow(2),
+    ]
+}
+
+/// What stops at the greatest word and at the least, and the least word.
+fn saturated<W: BitArray>(x: W) -> [W; 3] {
+    [
+        x.saturating_add(x),
+        W::one().saturating_sub(x),
+        W::min_value(),
+    ]
+}
+
+fn other_numbers(rt: &impl Abort) {
+    for numbers in [as_numbers(Sample(0x8003)), as_numbers(0x8003u16)] {
+        same(
+            rt,
+            numbers,
+            (
+                false,
+                Some(0x8003),
+                Some(0x8003),
+                Some(32771.0),
+                Some(32771.0),
+            ),
+        );
+    }
+    same(rt, from_numbers(), (Some(0x8003u16), true, None));
+    same(rt, from_numbers(), (Some(Sample(0x8003)), true, None));
+}
+
+fn checked_numbers(rt: &impl Abort) {
+    same(
+        rt,
+        checked(0x8003u16),
+        [None, Some(0), None, Some(1), None, Some(0x8003), None],
+    );
+    same(
+        rt,
+        checked(Sample(0x8003)),
+        [
+            None,
+            Some(Sample(0)),
+            None,
+            Some(Sample(1)),
+            None,
+            Some(Sample(0x8003)),
+            None,
+        ],
+    );
+}
+
+fn saturated_numbers(rt: &impl Abort) {
+    same(rt, saturated(0x8003u16), [65535, 0, 0]);
+    same(
+        rt,
+        saturated(Sample(0x8003)),
+        [Sample(65535), Sample(0), Sample(0)],
+    );
+}
+
+#[test]
+fn numbers_are_those_of_the_bits(rt: HostRuntime) {
+    other_numbers(&rt);
+    checked_numbers(&rt);
+    saturated_numbers(&rt);
+}
+
+#[test]
+fn samples_are_shown_as_their_numbers(rt: HostRuntime) {
+    let sample = Sample(40);
+    let held = NonZeroSample::new_unchecked(sample);
+    prints(&rt, rt.alloc(), &sample, "40");
+    shows(&rt, rt.alloc(), &sample, "Sample(40)");
+    shows(
+        &rt,
+        rt.alloc(),
+        &held,
+        "NonZeroSample { sample: Sample(40) }",
+    );
+    let wide = format!(in rt.alloc(); "{held:>4}").expect(&rt, "memory was refused");
+    same(&rt, wide.as_str(), "  40");
+}
+
+/// The symbol of a quantile.
+fn symbol_of(model: &Model, quantile: u16) -> Option<usize>
+    requires { quantile < 2 ^ 12 }
+{
+    let (symbol, _, _) = model.quantile_function(Sample(quantile)).ok()?;
+    Some(symbol)
+}
+
+/// The left cumulative and the weight of a symbol.
+fn entry_of(model: &Model, symbol: usize) -> Option<(Sample, Sample)> {
+    let (left, weight) = model.left_cumulative_and_probability(&symbol)?;
+    Some((left, weight.get()))
+}
+
+/// The weights of a model.
+const WEIGHTS: [Sample; 5] = [Sample(1), Sample(1), Sample(1), Sample(1), Sample(4092)];
+
+fn made(alloc: Global) -> Result<Model, ModelError> {
+    Model::from_nonzero_fixed_point_probabilities(alloc, WEIGHTS, false)
+}
+
+#[test]
+fn samples_are_the_probabilities_of_a_model(rt: HostRuntime) -> Result<(), Fail> {
+    let model = made(rt.alloc())?;
+    for (quantile, symbol) in [(3u16, 3usize), (4, 4), (4095, 4)] {
+        assert!(rt; quantile < 4096);
+        let found = (quantile, symbol_of(&model, quantile));
+        same(&rt, found, (quantile, Some(symbol)));
+    }
+    same(&rt, model.support_size(), 5);
+    same(&rt, entry_of(&model, 4), Some((Sample(4), Sample(4092))));
+    Ok(())
 }

@@ -29,11 +29,18 @@ pub fn are_same_row<P: BitArray>(a: (usize, P, P::NonZero), b: (usize, P, P::Non
 /// Whether the greatest word is the same weight as itself, as 1, and as the word below it.
 pub fn greatest_is_same_as<P: BitArray>() -> Option<[bool; 3]> {
     let greatest = P::max_value();
-    let weight = greatest.into_nonzero()?;
-    let below = greatest.wrapping_sub(&P::one()).into_nonzero()?;
+    let below = greatest.wrapping_sub(&P::one());
+    let (Some(weight), Some(again), Some(one), Some(below)) = (
+        greatest.into_nonzero(),
+        P::NonZero::new(greatest),
+        P::one().into_nonzero(),
+        below.into_nonzero(),
+    ) else {
+        return None;
+    };
     Some([
-        are_same_weight::<P>(weight, P::NonZero::new(greatest)?),
-        are_same_weight::<P>(weight, P::one().into_nonzero()?),
+        are_same_weight::<P>(weight, again),
+        are_same_weight::<P>(weight, one),
         are_one(weight, below),
     ])
 }
@@ -47,9 +54,10 @@ fn weights_are_compared_by_their_numbers(rt: HostRuntime) {
 
 /// Whether two rows, whose weights are words yet, are the same.
 fn rows_agree<P: BitArray>(a: (usize, P, P), b: (usize, P, P)) -> Option<bool> {
-    let a = (a.0, a.1, a.2.into_nonzero()?);
-    let b = (b.0, b.1, b.2.into_nonzero()?);
-    Some(are_same_row::<P>(a, b))
+    let (Some(first), Some(second)) = (a.2.into_nonzero(), b.2.into_nonzero()) else {
+        return None;
+    };
+    Some(are_same_row::<P>((a.0, a.1, first), (b.0, b.1, second)))
 }
 
 #[test]

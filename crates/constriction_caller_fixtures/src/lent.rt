@@ -1,0 +1,128 @@
+//! What a caller in another crate learns of the words that a cursor lends, and of its own words
+//! that a cursor wrote.
+
+ghost use Rattle.std.specs.Prelude.{◌≡◌, ◌<◌, length, slice_set};
+ghost use Rattle.constriction_backends.specs.Cursor.{buf_of, pos_of};
+
+use constriction_backends::{Cursor, ReadWords, SafeBuf, SafeBufMut, WriteWords};
+use constriction_words::{Pos, Queue, Seek};
+
+/// Sets the first word through the loan of all words.
+pub fn set_first<Word: Copy, Buf: SafeBufMut<Word>>(cursor: &mut Cursor<Word, Buf>, word: Word)
+    requires { 0 < length (Buf.words_of (buf_of cursor.old)) }
+    ensures buf { buf_of cursor.new ≡ Buf.with_words (buf_of cursor.old) (slice_set (Buf.words_of (buf_of cursor.old)) 0 word) }
+    ensures pos { pos_of cursor.new ≡ pos_of cursor.old }
+{
+    let words = cursor.buf_mut();
+    words[0] = word;
+}
+
+/// Sets the first word through the loan of the words before the position.
+#[tactic(auto, using(constriction_buffers::specs::BufferLaws::set_front))]
+pub fn set_written<Word: Copy, Buf: SafeBufMut<Word>>(cursor: &mut Cursor<Word, Buf>, word: Word)
+    requires { 0 < pos_of cursor.old }
+    ensures buf { buf_of cursor.new ≡ Buf.with_words (buf_of cursor.old) (slice_set (Buf.words_of (buf_of cursor.old)) 0 word) }
+    ensures pos { pos_of cursor.new ≡ pos_of cursor.old }
+{
+    let words = cursor.written_mut();
+    words[0] = word;
+}
+
+/// Sets the word at the position through the loan of the words from it on.
+#[tactic(auto, using(constriction_buffers::specs::BufferLaws::set_back))]
+pub fn set_unwritten<Word: Copy, Buf: SafeBufMut<Word>>(cursor: &mut Cursor<Word, Buf>, word: Word)
+    requires { pos_of cursor.old < length (Buf.words_of (buf_of cursor.old)) }
+    ensures buf { buf_of cursor.new ≡ Buf.with_words (buf_of cursor.old)
+        (slice_set (Buf.words_of (buf_of cursor.old)) (pos_of cursor.old) word) }
+    ensures pos { pos_of cursor.new ≡ pos_of cursor.old }
+{
+    let words = cursor.unwritten_mut();
+    words[0] = word;
+}
+
+/// A slice of the caller's own, written through a cursor over it.
+pub fn set_slice(words: &mut [u8], pos: usize, word: u8)
+    requires { pos < length words.old }
+    ensures { words.new ≡ slice_set words.old pos word }
+{
+    let mut cursor = Cursor::<u8, &mut [u8]>::new_at_write_end_mut(words);
+    let _ = cursor.seek(pos);
+    let _ = cursor.write(word);
+}
+
+/// The words that a cursor lends, written through another cursor.
+pub fn set_through_another<Buf: SafeBufMut<u8>>(cursor: &mut Cursor<u8, Buf>, word: u8)
+    requires { pos_of cursor.old < length (Buf.words_of (buf_of cursor.old)) }
+    ensures buf { buf_of cursor.new ≡ Buf.with_words (buf_of cursor.old)
+        (slice_set (Buf.words_of (buf_of cursor.old)) (pos_of cursor.old) word) }
+    ensures pos { pos_of cursor.new ≡ pos_of cursor.old }
+{
+    let pos = cursor.pos();
+    set_slice(cursor.buf_mut(), pos, word);
+}
+
+/// The same in one function. The loan is named once more at the end, so that the other cursor
+/// borrows it and does not take it.
+pub fn set_over_a_loan<Buf: SafeBufMut<u8>>(cursor: &mut Cursor<u8, Buf>, word: u8)
+    requires { pos_of cursor.old < length (Buf.words_of (buf_of cursor.old)) }
+    ensures buf { buf_of cursor.new ≡ Buf.with_words (buf_of cursor.old)
+        (slice_set (Buf.words_of (buf_of cursor.old)) (pos_of cursor.old) word) }
+    ensures pos { pos_of cursor.new ≡ pos_of cursor.old }
+{
+    let pos = cursor.pos();
+    let words = cursor.buf_mut();
+    let mut over = Cursor::<u8, &mut [u8]>::new_at_write_end_mut(words);
+    let _ = over.seek(pos);
+    let _ = over.write(word);
+    let _ = words;
+}
+
+/// The words that a cursor lends are as they were after reads by such a cursor.
+pub fn read_over_a_loan<Buf: SafeBufMut<u8>>(cursor: &mut Cursor<u8, Buf>) -> Option<u8>
+    ensures buf { buf_of cursor.new ≡ buf_of cursor.old }
+    ensures pos { pos_of cursor.new ≡ pos_of cursor.old }
+{
+    let words = cursor.buf_mut();
+    let mut over = Cursor::<u8, &mut [u8]>::new_at_write_beginning(words);
+    let read = ReadWords::<u8, Queue>::read(&mut over);
+    let _ = words;
+    match read {
+        Ok(word) => word,
+        Err(never) => match never {},
+    }
+}
+
+/// Whatever is done to a view, the cursor stays at its position and has as many words.
+pub fn move_a_view<Buf: SafeBufMut<u8>>(cursor: &mut Cursor<u8, Buf>)
+    ensures pos { pos_of cursor.new ≡ pos_of cursor.old }
+    ensures len { length (Buf.words_of (buf_of cursor.new)) ≡ length (Buf.words_of (buf_of cursor.old)) }
+{
+    let mut view = cursor.as_mut_view();
+    let _ = view.seek(0);
+    let _ = view.write(8);
+}
+
+/// A slice of the caller's own is as it was after reads.
+pub fn read_a_slice(words: &mut [u8]) -> Option<u8>
+    ensures { words.new ≡ words.old }
+{
+    let mut cursor = Cursor::<u8, &mut [u8]>::new_at_write_beginning(words);
+    match ReadWords::<u8, Queue>::read(&mut cursor) {
+        Ok(word) => word,
+        Err(never) => match never {},
+    }
+}
+
+/// A coder over a buffer of any kind, and one over a `Vec`, which repeats the bound of its cursor.
+#[derive(Drop)]
+pub struct Coder<Buf: SafeBuf<u8>> {
+    pub words: Cursor<u8, Buf>,
+}
+
+#[derive(Drop)]
+pub struct VecCoder<Word>
+where
+    Vec<Word>: SafeBuf<Word>,
+{
+    pub words: Cursor<Word, Vec<Word>>,
+}
