@@ -198,7 +198,9 @@ fn row_of_few<Entry, Kind: CdfEntry<Entry>, const PRECISION: usize, const SLOT_B
         (Kind.Word.whole quantile / slot_width PRECISION SLOT_BITS) first last }
     requires order { first ≤ last }
     requires few { last ≤ first + 2 }
-    ensures { IsLastAtMost (map Kind.cumulative entries.now) (Kind.Word.whole quantile) result }
+    ensures found { IsLastAtMost (map Kind.cumulative entries.now) (Kind.Word.whole quantile) result }
+    ensures counted { IsSlotSearch (map Kind.cumulative entries.now) (slot_width PRECISION SLOT_BITS)
+        (Kind.Word.whole quantile / slot_width PRECISION SLOT_BITS) (last - first) }
 {
     let middle = first + (last - first) / 2;
     last - (above::<Entry, Kind>(entries, last, quantile)
@@ -213,7 +215,6 @@ fn row_of_few<Entry, Kind: CdfEntry<Entry>, const PRECISION: usize, const SLOT_B
 /// guessed right for 15 of 16 quantiles at least, if these are spread evenly; the rest is out of line, so that a loop is
 /// compiled twice over, and tests the number of rows once.
 #[inline(always)]
-#[tactic(auto, using(constriction_model::proofs::Digits::digits_few))]
 pub fn row_in_slot<Entry, Kind: CdfEntry<Entry>, const PRECISION: usize, const SLOT_BITS: usize>(
     entries: &[Entry],
     table: &[Kind::Word],
