@@ -64,6 +64,19 @@ rows-preserved g c =
       omega (arith, inv.4, c.filled_up-table.ensures.capacity),
     )
 
+pub filled_up-requires-clause-more : goal.filled_up-requires-clause-more
+filled_up-requires-clause-more g c =
+    let whole = g.Kind.Word.WholeNumber.whole in
+    let lefts = map g.Kind.CdfEntry.cumulative c.args.entries.now in
+    let inv = c.rows.invariant in
+    let row : whole c.rows.row < length lefts = omega (arith, inv.1, length-map c.args.entries.now g.Kind.CdfEntry.cumulative) in
+    omega (
+      arith,
+      word-within g.row.PRECISION g.row.SLOT_BITS _ (length c.rows.table.items) inv.3 (c.requires.below (whole c.rows.row) row),
+      c.words_of_table-words.ensures,
+      c.rows.table.ok.0,
+    )
+
 pub returns : goal.returns
 returns g c =
     let whole = g.Kind.Word.WholeNumber.whole in
