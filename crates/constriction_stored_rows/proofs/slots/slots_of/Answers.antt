@@ -3,8 +3,21 @@ use Rattle.std.proofs.Math.Pow.{pow_mono}
 use Rattle.std.proofs.lemmas.List.{length-map}
 use Rattle.std.proofs.lemmas.Nat.{pow_pos}
 use Rattle.constriction_stored_rows.specs.Slots.{slot_width}
+use Rattle.constriction_stored_rows.specs.StoredLemmas.{read-whole}
 use Rattle.constriction_stored_rows.proofs.SlotFilling.{index-most, entry-word, next-word, word-within, row-filled, all-filled}
 use Rattle.constriction_stored_rows.proofs.slots.slots_of.Goals as goal
+
+pub first_word-end-requires-clause-below : goal.first_word-end-requires-clause-below
+first_word-end-requires-clause-below g c =
+    let entries = c.args.entries.now in
+    let next : ℕ = c.rows.next in
+    let here : next < length entries = omega (arith, c.rows-test.true) in
+    omega (
+      arith,
+      c.requires.below next (omega (arith, here, length-map entries g.Kind.CdfEntry.cumulative)),
+      read-whole g.Kind.CdfEntry.cumulative entries next c.index-entries-next.result here c.index-entries-next.is,
+      c.cumulative_of.ensures,
+    )
 
 pub filled_up-table-requires-clause-room : goal.filled_up-table-requires-clause-room
 filled_up-table-requires-clause-room g c =
