@@ -40,7 +40,6 @@ pub trait WriteWords<Word> {
 
     /// Writes the words of an iterator in order, and stops at the first one that is refused. The
     /// words before it stay written.
-    #[tactic(auto, using(crate::specs::SinkLaws::writes_more))]
     fn extend_from_iter<I: Iterator<Item = Word>>(
         &mut self,
         iter: I,

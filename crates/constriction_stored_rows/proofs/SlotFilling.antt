@@ -1,9 +1,9 @@
 -- Filling the table of slots.
-use Rattle.std.proofs.Common.{◌≡◌, ◌↔◌, ℕ, ◌+◌, ◌-◌, ◌*◌, ◌/◌, ◌^◌, ◌<◌, ◌≤◌, ◌⊎◌, suc, zero, min, List, ◌∷◌, ◌++◌, length, replicate, take, map, get_or, ap, sym, refl, ◌∙◌, arith, inl, inr, add-one}
+use Rattle.std.proofs.Common.{◌≡◌, ◌↔◌, ℕ, ◌+◌, ◌-◌, ◌*◌, ◌/◌, ◌^◌, ◌<◌, ◌≤◌, ◌⊎◌, suc, zero, min, List, ◌∷◌, ◌++◌, length, replicate, [], map, get_or, ap, sym, refl, ◌∙◌, arith, inl, inr, add-one}
 use Rattle.std.proofs.Math.Nat.{mul_comm, mul-le-mul_right, le-div_iff_mul-le}
 use Rattle.std.proofs.lemmas.Bool.{cases_lt}
 use Rattle.std.proofs.lemmas.Nat.{pow-add, pow_pos}
-use Rattle.std.proofs.lemmas.List.{length-map, length-append, length-replicate, map-append, get_or_append_left, get_or-append_right, get_or-replicate, take_all}
+use Rattle.std.proofs.lemmas.List.{length-map, length-append, length-replicate, map-append, get_or_append_left, get_or-append_right, get_or-replicate, append_assoc, replicate_more}
 use Rattle.std.specs.List.Sorted.{IsStrictlyIncreasing}
 use Rattle.constriction_model.specs.Probe.{IsLastAtMost}
 use Rattle.constriction_stored_rows.specs.Slots.{slot_width, slot_count}
@@ -221,17 +221,24 @@ map-replicate : {A B : Type 0} (f : A → B) (n : ℕ) (x : A) → map f (replic
 map-replicate f zero x = refl
 map-replicate f (suc n) x = ap (λ xs. f x ∷ xs) (map-replicate f n x)
 
--- what `resize` leaves, as numbers
-resized : {W : Type 0} (whole : W → ℕ) (items new : List W) (n : ℕ) (row : W) → length items ≤ n
-    → new ≡ take n items ++ replicate (n - length items) row → map whole new ≡ map whole items ++ replicate (n - length items) (whole row)
-resized whole items new n row h is =
-    ap (map whole) (is ∙ ap (λ xs. xs ++ replicate (n - length items) row) (take_all n items h)) ∙ map-append whole items (replicate (n - length items) row) ∙
-    ap (λ xs. map whole items ++ xs) (map-replicate whole (n - length items) row)
+-- one word more of a row
+pub filled-next : {W : Type 0} (items filled : List W) (row : W) (from to : ℕ) → from ≤ to → filled ≡ items ++ replicate (to - from) row
+    → filled ++ row ∷ [] ≡ items ++ replicate (to + 1 - from) row
+filled-next items filled row from to h is =
+    let more : to - from + 1 ≡ to + 1 - from = omega arith in
+    ap (λ xs. xs ++ row ∷ []) is ∙ append_assoc items (replicate (to - from) row) (row ∷ [])
+    ∙ ap (λ xs. items ++ xs) (replicate_more (to - from) row) ∙ ap (λ n. items ++ replicate n row) more
+
+-- what filling up leaves, as numbers
+filled-numbers : {W : Type 0} (whole : W → ℕ) (items new : List W) (n : ℕ) (row : W)
+    → new ≡ items ++ replicate n row → map whole new ≡ map whole items ++ replicate n (whole row)
+filled-numbers whole items new n row is =
+    ap (map whole) is ∙ map-append whole items (replicate n row) ∙ ap (λ xs. map whole items ++ xs) (map-replicate whole n row)
 
 module _ {W : Type 0} (whole : W → ℕ) (w : ℕ) (some : 0 < w) (lefts : List ℕ) (items new : List W) (row : W) (n : ℕ) (up : IsStrictlyIncreasing lefts)
     (t : HasWords w lefts (map whole items)) (from : IsFirstWord w (get_or lefts (whole row) 0) (length items)) (in_bounds : whole row < length lefts)
-    (count : ℕ) (counted : count ≡ length items) (new-is : new ≡ take n items ++ replicate (n - count) row) where
-  is : new ≡ take n items ++ replicate (n - length items) row
+    (count : ℕ) (counted : count ≡ length items) (new-is : new ≡ items ++ replicate (n - count) row) where
+  is : new ≡ items ++ replicate (n - length items) row
   is = rw counted at new-is
 
   same-long : length (map whole items) ≡ length items
@@ -240,15 +247,14 @@ module _ {W : Type 0} (whole : W → ℕ) (w : ℕ) (some : 0 < w) (lefts : List
   filled-long : length items ≤ n → length new ≡ n
   filled-long order =
       let long : length (map whole new) ≡ length (map whole items) + (n - length items) =
-      ap length (resized whole items new n row order is) ∙ length-append (map whole items) (replicate (n - length items) (whole row))
+      ap length (filled-numbers whole items new (n - length items) row is) ∙ length-append (map whole items) (replicate (n - length items) (whole row))
       ∙ ap (λ k. length (map whole items) + k) (length-replicate (n - length items) (whole row)) in
       omega (arith, long, same-long, length-map new whole)
 
-  filled-more : length items ≤ n
-      → (whole row + 1 < length lefts → (end : ℕ) × IsFirstWord w (get_or lefts (whole row + 1) 0) end × (length (map whole items) + (n - length items) ≤ end))
+  filled-more : (whole row + 1 < length lefts → (end : ℕ) × IsFirstWord w (get_or lefts (whole row + 1) 0) end × (length (map whole items) + (n - length items) ≤ end))
       → HasWords w lefts (map whole new)
-  filled-more order next =
-      rw (resized whole items new n row order is)
+  filled-more next =
+      rw (filled-numbers whole items new (n - length items) row is)
       (words-more w lefts (map whole items) (whole row) (n - length items) up in_bounds t (rw same-long from) next)
 
   -- another row comes, whose first word is n
@@ -256,7 +262,7 @@ module _ {W : Type 0} (whole : W → ℕ) (w : ℕ) (some : 0 < w) (lefts : List
       → HasWords w lefts (map whole new) × (length new ≡ n)
   row-filled next e b to =
       let order : length items ≤ n = next-word w lefts (whole row) next (length items) n some up e b from to in
-      (filled-more order (λ h. (n, rw e to, omega (arith, same-long))), filled-long order)
+      (filled-more (λ h. (n, rw e to, omega (arith, same-long))), filled-long order)
 
   -- it was the last one, and all words are there
   pub all-filled : (precision slot_bits : ℕ) → w ≡ slot_width precision slot_bits → n ≡ words_a_slot w * slot_count precision slot_bits
@@ -272,7 +278,7 @@ module _ {W : Type 0} (whole : W → ℕ) (w : ℕ) (some : 0 < w) (lefts : List
       let order : length items ≤ n = omega (arith, most, count, end) in
       record {
         long = length-map new whole ∙ filled-long order ∙ count;
-        words = filled-more order (λ h. absurd (omega arith));
+        words = filled-more (λ h. absurd (omega arith));
       }
 
 -- the slot of a quantile

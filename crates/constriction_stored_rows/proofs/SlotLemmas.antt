@@ -8,7 +8,8 @@ use Rattle.std.specs.List.Sorted.{IsStrictlyIncreasing}
 use Rattle.constriction_model.specs.Rows.{Row, RowsTile}
 use Rattle.constriction_model.specs.Probe.{IsSearchable, IsLastAtMost, TellsRows, IsRowIndexOf}
 use Rattle.constriction_stored_rows.specs.Slots.{MeetsSlot, slot_width, slot_count}
-use Rattle.constriction_stored_rows.specs.SlotTable.{words_a_slot, HasSlots, IsSlot, IsSlotPart}
+use Rattle.constriction_stored_rows.specs.SlotTable.{words_a_slot, HasSlots, IsSlot, IsSlotPart, IsSlotSearch}
+use Rattle.constriction_model.proofs.Digits.{digits_few}
 use Rattle.constriction_model.proofs.Halving.{later}
 use Rattle.constriction_stored_rows.proofs.SlotFilling.{slot-within, slot-below, whole-part}
 use Rattle.constriction_stored_rows.proofs.TileLemmas.{IsTile, tile-at, tiles-many, tiles-increase, tiles-found}
@@ -72,6 +73,17 @@ last-order lefts x y i k a b h = elim (cases_lt k i) [
 pub slot-order : (lefts : List ℕ) (width slot first last : ℕ) → IsSlot lefts width slot first last → first ≤ last
 slot-order lefts width slot first last s =
     last-order lefts (slot * width) (slot * width + (width - 1)) first last s.from s.to (omega arith)
+
+-- where at most three rows meet a slot, two comparisons are no more than a search makes
+pub slot-few : (lefts : List ℕ) (width slot first last : ℕ) → IsSlot lefts width slot first last → last ≤ first + 2
+    → IsSlotSearch lefts width slot (last - first)
+slot-few lefts width slot first last s few = record {
+  first = first;
+  last = last;
+  rows = s;
+  few = digits_few (last - first) (omega (arith, few));
+  some = λ more. omega (arith, more);
+}
 
 pub part-whole : {W : Type 0} (whole : W → ℕ) (xs : List W) (first count : ℕ)
     → map whole (take count (drop first xs)) ≡ take count (drop first (map whole xs))

@@ -59,7 +59,7 @@ fn first_word<W: WholeNumber, const PRECISION: usize, const SLOT_BITS: usize>(le
 fn filled_up<W: Copy>(mut table: Vec<W>, words: usize, row: W) -> Vec<W>
     requires room { words ≤ vec_capacity table }
     requires more { vec_len table ≤ words }
-    ensures items { result.items ≡ take words table.items ++ replicate (words - vec_len table) row }
+    ensures items { result.items ≡ table.items ++ replicate (words - vec_len table) row }
     ensures capacity { vec_capacity result ≡ vec_capacity table }
 {
     'words: for _ in table.len()..words {
@@ -120,8 +120,9 @@ fn rows_of_slot<Entry, Kind: CdfEntry<Entry>, const PRECISION: usize, const SLOT
     requires slots { HasSlots (slot_width PRECISION SLOT_BITS) (slot_count PRECISION SLOT_BITS)
         (map Kind.cumulative entries.now) (map Kind.Word.whole table.now) }
     requires below { Kind.Word.whole quantile < 2 ^ PRECISION }
-    ensures { IsSlot (map Kind.cumulative entries.now) (slot_width PRECISION SLOT_BITS)
+    ensures slot { IsSlot (map Kind.cumulative entries.now) (slot_width PRECISION SLOT_BITS)
         (Kind.Word.whole quantile / slot_width PRECISION SLOT_BITS) result.0 result.1 }
+    ensures order { result.0 ≤ result.1 }
 {
     let slot = slot_of::<Kind::Word, PRECISION, SLOT_BITS>(quantile);
     if width_of_slots::<PRECISION, SLOT_BITS>() == 1 {
@@ -195,8 +196,11 @@ fn row_of_few<Entry, Kind: CdfEntry<Entry>, const PRECISION: usize, const SLOT_B
     requires increases { IsStrictlyIncreasing (map Kind.cumulative entries.now) }
     requires slot { IsSlot (map Kind.cumulative entries.now) (slot_width PRECISION SLOT_BITS)
         (Kind.Word.whole quantile / slot_width PRECISION SLOT_BITS) first last }
+    requires order { first ≤ last }
     requires few { last ≤ first + 2 }
-    ensures { IsLastAtMost (map Kind.cumulative entries.now) (Kind.Word.whole quantile) result }
+    ensures found { IsLastAtMost (map Kind.cumulative entries.now) (Kind.Word.whole quantile) result }
+    ensures counted { IsSlotSearch (map Kind.cumulative entries.now) (slot_width PRECISION SLOT_BITS)
+        (Kind.Word.whole quantile / slot_width PRECISION SLOT_BITS) (last - first) }
 {
     let middle = first + (last - first) / 2;
     last - (above::<Entry, Kind>(entries, last, quantile)
@@ -211,7 +215,6 @@ fn row_of_few<Entry, Kind: CdfEntry<Entry>, const PRECISION: usize, const SLOT_B
 /// guessed right for 15 of 16 quantiles at least, if these are spread evenly; the rest is out of line, so that a loop is
 /// compiled twice over, and tests the number of rows once.
 #[inline(always)]
-#[tactic(auto, using(constriction_model::proofs::Digits::digits_few, crate::proofs::SlotLemmas::slot_only))]
 pub fn row_in_slot<Entry, Kind: CdfEntry<Entry>, const PRECISION: usize, const SLOT_BITS: usize>(
     entries: &[Entry],
     table: &[Kind::Word],
@@ -255,6 +258,7 @@ fn row_among<Entry, Kind: CdfEntry<Entry>, const PRECISION: usize, const SLOT_BI
     requires increases { IsStrictlyIncreasing (map Kind.cumulative entries.now) }
     requires slot { IsSlot (map Kind.cumulative entries.now) (slot_width PRECISION SLOT_BITS)
         (Kind.Word.whole quantile / slot_width PRECISION SLOT_BITS) first last }
+    requires order { first ≤ last }
     ensures found { IsLastAtMost (map Kind.cumulative entries.now) (Kind.Word.whole quantile) result.0 }
     ensures counted { IsSlotSearch (map Kind.cumulative entries.now) (slot_width PRECISION SLOT_BITS)
         (Kind.Word.whole quantile / slot_width PRECISION SLOT_BITS) result.1 }

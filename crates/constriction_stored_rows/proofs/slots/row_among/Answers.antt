@@ -1,15 +1,9 @@
-use Rattle.std.proofs.Common.{◌≡◌, ℕ, ◌+◌, ◌-◌, ◌/◌, length, map, take, drop, ap, arith}
+use Rattle.std.proofs.Common.{◌≡◌, ℕ, ◌+◌, ◌-◌, ◌/◌, ◌^◌, ◌<◌, length, map, take, drop, ap, arith, rules}
 use Rattle.constriction_model.specs.Probe.{digits}
 use Rattle.std.proofs.lemmas.List.{length-map}
 use Rattle.constriction_stored_rows.specs.Slots.{slot_width}
-use Rattle.constriction_stored_rows.proofs.SlotLemmas.{slot-from, slot-to, slot-order, slot-long, slot-part, part-found, part-searchable}
+use Rattle.constriction_stored_rows.proofs.SlotLemmas.{slot-from, slot-to, slot-long, slot-part, part-found, part-searchable}
 use Rattle.constriction_stored_rows.proofs.slots.row_among.Goals as goal
-
-pub probe_of-rows-requires-clause-order : goal.probe_of-rows-requires-clause-order
-probe_of-rows-requires-clause-order g c =
-    let lefts = map g.Kind.CdfEntry.cumulative c.args.entries.now in
-    let width : ℕ = slot_width g.row.PRECISION g.row.SLOT_BITS in
-    slot-order lefts width (g.Kind.Word.WholeNumber.whole c.args.quantile / width) _ _ c.requires.slot
 
 pub probe_of-rows-requires-clause-within : goal.probe_of-rows-requires-clause-within
 probe_of-rows-requires-clause-within g c =
@@ -52,3 +46,14 @@ returns g c =
         some = λ more. omega (arith, c.asked.ensures, asked.some (omega (arith, told)));
       };
     }
+
+pub overflow_add-row : goal.overflow_add-row
+overflow_add-row g c =
+    let lefts = map g.Kind.CdfEntry.cumulative c.args.entries.now in
+    let width : ℕ = slot_width g.row.PRECISION g.row.SLOT_BITS in
+    let told =
+    slot-long lefts width (g.Kind.Word.WholeNumber.whole c.args.quantile / width) c.args.first c.args.last c.requires.slot in
+    let asked = rw c.probe_of-rows.ensures.cumulatives at c.row_of_quantile.ensures.found in
+    let word : c.args.last < 2 ^ 64 = search (rules, c.ranges) in
+    let below : c.args.first + c.row_of_quantile.result < 2 ^ 64 = omega (arith, told, asked.in_bounds, c.requires.order, word) in
+    search rules

@@ -2,6 +2,7 @@ use Rattle.std.proofs.Common.{◌≡◌, ℕ, ◌+◌, ◌-◌, ◌*◌, ◌/◌
 use Rattle.std.proofs.Math.Nat.{div-one}
 use Rattle.constriction_model.specs.Probe.{IsLastAtMost}
 use Rattle.constriction_stored_rows.specs.Slots.{slot_width}
+use Rattle.constriction_stored_rows.proofs.SlotLemmas.{slot_only}
 use Rattle.constriction_stored_rows.proofs.slots.row_in_slot.Goals as goal
 
 pub returns-then-width_of_slots-eq1-clause-found : goal.returns-then-width_of_slots-eq1-clause-found
@@ -11,7 +12,7 @@ returns-then-width_of_slots-eq1-clause-found g c =
     let width : ℕ = slot_width g.row.PRECISION g.row.SLOT_BITS in
     let one : width ≡ 1 = sym c.width_of_slots.ensures ∙ c.if-width_of_slots-eq1.true in
     let same : q / width * width ≡ q = rw one (omega (arith, div-one q)) in
-    subst (λ n. IsLastAtMost lefts n c.rows_of_slot-first.result.0) same c.rows_of_slot-first.ensures.from
+    subst (λ n. IsLastAtMost lefts n c.rows_of_slot-first.result.0) same c.rows_of_slot-first.ensures.slot.from
 
 pub returns-then-width_of_slots-eq1-clause-counted : goal.returns-then-width_of_slots-eq1-clause-counted
 returns-then-width_of_slots-eq1-clause-counted g c =
@@ -25,9 +26,14 @@ returns-then-width_of_slots-eq1-clause-counted g c =
       first = first;
       last = first;
       rows = record {
-        from = c.rows_of_slot-first.ensures.from;
-        to = subst (λ n. IsLastAtMost lefts n first) ends c.rows_of_slot-first.ensures.from;
+        from = c.rows_of_slot-first.ensures.slot.from;
+        to = subst (λ n. IsLastAtMost lefts n first) ends c.rows_of_slot-first.ensures.slot.from;
       };
       few = omega arith;
       some = λ h. absurd (omega (arith, h));
     }
+
+pub returns-then-first-last-clause-found : goal.returns-then-first-last-clause-found
+returns-then-first-last-clause-found g c =
+    slot_only g.row.PRECISION g.row.SLOT_BITS (g.Kind.Word.WholeNumber.whole c.args.quantile) (map g.Kind.CdfEntry.cumulative c.args.entries.now)
+    c.rows_of_slot-first.result.0 c.rows_of_slot-first.result.1 c.if-first-last.true c.rows_of_slot-first.ensures.slot

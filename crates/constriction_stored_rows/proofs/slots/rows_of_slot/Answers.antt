@@ -1,10 +1,10 @@
-use Rattle.std.proofs.Common.{◌≡◌, ℕ, ◌+◌, ◌*◌, ◌-◌, ◌<◌, length, map, get_or, sym, ◌∙◌, arith, rules}
+use Rattle.std.proofs.Common.{◌≡◌, ℕ, ◌+◌, ◌*◌, ◌-◌, ◌/◌, ◌<◌, length, map, get_or, sym, ◌∙◌, arith, rules}
 use Rattle.std.proofs.lemmas.List.{length-map}
 use Rattle.std.proofs.lemmas.Nat.{pow_pos}
 use Rattle.constriction_stored_rows.specs.Slots.{slot_count, slot_width}
 use Rattle.constriction_stored_rows.specs.SlotTable.{words_a_slot}
 use Rattle.constriction_stored_rows.specs.StoredLemmas.{read-whole}
-use Rattle.constriction_stored_rows.proofs.SlotLemmas.{alone-within, slot-alone, pair-within, slot-pair}
+use Rattle.constriction_stored_rows.proofs.SlotLemmas.{alone-within, slot-alone, pair-within, slot-pair, slot-order}
 use Rattle.constriction_stored_rows.proofs.slots.rows_of_slot.Goals as goal
 
 pub bounds-table-slot : goal.bounds-table-slot
@@ -31,8 +31,8 @@ to_number-row-requires g c =
     omega (arith, slot.from.in_bounds, row, length-map c.args.entries.now g.Kind.CdfEntry.cumulative) in
     search rules
 
-pub returns-then-width_of_slots-eq1 : goal.returns-then-width_of_slots-eq1
-returns-then-width_of_slots-eq1 g c =
+pub returns-then-width_of_slots-eq1-clause-slot : goal.returns-then-width_of_slots-eq1-clause-slot
+returns-then-width_of_slots-eq1-clause-slot g c =
     let whole = g.Kind.Word.WholeNumber.whole in
     let table = c.args.table.now in
     let width : ℕ = slot_width g.row.PRECISION g.row.SLOT_BITS in
@@ -110,8 +110,8 @@ to_number-requires-2 g c =
     omega (arith, slot.to.in_bounds, row, length-map c.args.entries.now g.Kind.CdfEntry.cumulative) in
     search rules
 
-pub returns : goal.returns
-returns g c =
+pub returns-clause-slot : goal.returns-clause-slot
+returns-clause-slot g c =
     let whole = g.Kind.Word.WholeNumber.whole in
     let table = c.args.table.now in
     let width : ℕ = slot_width g.row.PRECISION g.row.SLOT_BITS in
@@ -130,3 +130,9 @@ returns g c =
     c.to_number-2.ensures
     ∙ sym (read-whole whole table (2 * slot + 1) c.index-table-slot-3.result (omega (arith, within, long)) c.index-table-slot-3.is) in
     rw (← c.slot_of-slot.ensures.is, first, last) pair
+
+pub returns-clause-order : goal.returns-clause-order
+returns-clause-order g c =
+    let width : ℕ = slot_width g.row.PRECISION g.row.SLOT_BITS in
+    slot-order (map g.Kind.CdfEntry.cumulative c.args.entries.now) width (g.Kind.Word.WholeNumber.whole c.args.quantile / width) _ _
+    (returns-clause-slot g c)

@@ -3,8 +3,21 @@ use Rattle.std.proofs.Math.Pow.{pow_mono}
 use Rattle.std.proofs.lemmas.List.{length-map}
 use Rattle.std.proofs.lemmas.Nat.{pow_pos}
 use Rattle.constriction_stored_rows.specs.Slots.{slot_width}
+use Rattle.constriction_stored_rows.specs.StoredLemmas.{read-whole}
 use Rattle.constriction_stored_rows.proofs.SlotFilling.{index-most, entry-word, next-word, word-within, row-filled, all-filled}
 use Rattle.constriction_stored_rows.proofs.slots.slots_of.Goals as goal
+
+pub first_word-end-requires-clause-below : goal.first_word-end-requires-clause-below
+first_word-end-requires-clause-below g c =
+    let entries = c.args.entries.now in
+    let next : ℕ = c.rows.next in
+    let here : next < length entries = omega (arith, c.rows-test.true) in
+    omega (
+      arith,
+      c.requires.below next (omega (arith, here, length-map entries g.Kind.CdfEntry.cumulative)),
+      read-whole g.Kind.CdfEntry.cumulative entries next c.index-entries-next.result here c.index-entries-next.is,
+      c.cumulative_of.ensures,
+    )
 
 pub filled_up-table-requires-clause-room : goal.filled_up-table-requires-clause-room
 filled_up-table-requires-clause-room g c =
@@ -62,6 +75,19 @@ rows-preserved g c =
       filled.0,
       rw (c.from_number-row.ensures, filled.1) to,
       omega (arith, inv.4, c.filled_up-table.ensures.capacity),
+    )
+
+pub filled_up-requires-clause-more : goal.filled_up-requires-clause-more
+filled_up-requires-clause-more g c =
+    let whole = g.Kind.Word.WholeNumber.whole in
+    let lefts = map g.Kind.CdfEntry.cumulative c.args.entries.now in
+    let inv = c.rows.invariant in
+    let row : whole c.rows.row < length lefts = omega (arith, inv.1, length-map c.args.entries.now g.Kind.CdfEntry.cumulative) in
+    omega (
+      arith,
+      word-within g.row.PRECISION g.row.SLOT_BITS _ (length c.rows.table.items) inv.3 (c.requires.below (whole c.rows.row) row),
+      c.words_of_table-words.ensures,
+      c.rows.table.ok.0,
     )
 
 pub returns : goal.returns
