@@ -2,6 +2,7 @@
 
 ghost use Rattle.std.specs.Prelude.{◌^◌, ◌<◌, All, nat_eq};
 ghost use Rattle.std.specs.List.{IsDistinct};
+ghost use Rattle.constriction.specs.Acceptance.{GivesDistinct};
 
 use crate::checksum::{mix, row};
 use constriction::stream::model::{
@@ -9,6 +10,8 @@ use constriction::stream::model::{
     DefaultNonContiguousCategoricalEncoderModel, EncoderModel, IterableEntropyModel, ModelError,
 };
 use std::alloc::Global;
+use std::iter::Copied;
+use std::slice::Iter;
 
 type Decoder = DefaultNonContiguousCategoricalDecoderModel<u32>;
 
@@ -37,6 +40,17 @@ pub extern "C" fn kernel_decoder_build(
     sum
 }
 
+/// The decoder of symbols that have a hash.
+#[inline(always)]
+fn of_hashable(alloc: Global, weights: &[u32], symbols: &[u32]) -> Result<Decoder, ModelError> {
+    Decoder::from_hashable_symbols_and_nonzero_fixed_point_probabilities(
+        alloc,
+        symbols.iter().copied(),
+        weights.iter().copied(),
+        false,
+    )
+}
+
 /// Makes the decoder, each time anew, by the constructor that finds repeats by a hash.
 #[unsafe(no_mangle)]
 pub extern "C" fn kernel_decoder_build_hashable(
@@ -47,12 +61,7 @@ pub extern "C" fn kernel_decoder_build_hashable(
 ) -> u64 {
     let mut sum = 0u64;
     for _ in 0..repeats {
-        let Ok(model) = Decoder::from_hashable_symbols_and_nonzero_fixed_point_probabilities(
-            alloc,
-            symbols.iter().copied(),
-            weights.iter().copied(),
-            false,
-        ) else {
+        let Ok(model) = of_hashable(alloc, weights, symbols) else {
             return 1;
         };
         sum = mix(sum, model.support_size() as u64);
@@ -83,16 +92,27 @@ pub extern "C" fn kernel_decoder_build_sorted(
     sum
 }
 
+/// The decoder of the symbols and weights that these give. No two of the symbols are equal, as the constructor asks it of iterators.
+#[inline(always)]
+fn of_iterators<'a>(
+    alloc: Global,
+    symbols: Copied<Iter<'a, u32>>,
+    weights: Copied<Iter<'a, u32>>,
+) -> Result<Decoder, ModelError>
+    requires { GivesDistinct ⟦<Copied<Iter<'a, u32>> as IntoIterator>⟧.into_iter_gives
+        ⟦<Copied<Iter<'a, u32>> as Iterator>⟧.next_gives nat_eq symbols }
+{
+    Decoder::from_distinct_symbols_and_nonzero_fixed_point_probabilities(
+        alloc, symbols, weights, false,
+    )
+}
+
 /// The decoder of symbols that differ.
+#[inline(always)]
 fn of_distinct(alloc: Global, weights: &[u32], symbols: &[u32]) -> Result<Decoder, ModelError>
     requires { IsDistinct nat_eq symbols.now }
 {
-    Decoder::from_distinct_symbols_and_nonzero_fixed_point_probabilities(
-        alloc,
-        symbols.iter().copied(),
-        weights.iter().copied(),
-        false,
-    )
+    of_iterators(alloc, symbols.iter().copied(), weights.iter().copied())
 }
 
 /// Makes the decoder, each time anew, by the constructor of a caller who knows that no two symbols are equal.
@@ -126,12 +146,7 @@ pub extern "C" fn kernel_decoder_quantile(
 ) -> u64
     requires { All (λ q. q < 2 ^ 24) quantiles.now }
 {
-    let Ok(model) = Decoder::from_hashable_symbols_and_nonzero_fixed_point_probabilities(
-        alloc,
-        symbols.iter().copied(),
-        weights.iter().copied(),
-        false,
-    ) else {
+    let Ok(model) = of_hashable(alloc, weights, symbols) else {
         return 1;
     };
     let mut sum = 0u64;
@@ -154,12 +169,7 @@ pub extern "C" fn kernel_decoder_table(
     symbols: &[u32],
     repeats: u32,
 ) -> u64 {
-    let Ok(model) = Decoder::from_hashable_symbols_and_nonzero_fixed_point_probabilities(
-        alloc,
-        symbols.iter().copied(),
-        weights.iter().copied(),
-        false,
-    ) else {
+    let Ok(model) = of_hashable(alloc, weights, symbols) else {
         return 1;
     };
     let mut sum = 0u64;
@@ -174,6 +184,17 @@ pub extern "C" fn kernel_decoder_table(
     sum
 }
 
+/// The encoder of symbols and weights.
+#[inline(always)]
+fn encoder_of(alloc: Global, weights: &[u32], symbols: &[u32]) -> Result<Encoder, ModelError> {
+    Encoder::from_symbols_and_nonzero_fixed_point_probabilities(
+        alloc,
+        symbols.iter().copied(),
+        weights.iter().copied(),
+        false,
+    )
+}
+
 /// Makes the encoder, each time anew.
 #[unsafe(no_mangle)]
 pub extern "C" fn kernel_encoder_build(
@@ -184,12 +205,7 @@ pub extern "C" fn kernel_encoder_build(
 ) -> u64 {
     let mut sum = 0u64;
     for _ in 0..repeats {
-        let Ok(model) = Encoder::from_symbols_and_nonzero_fixed_point_probabilities(
-            alloc,
-            symbols.iter().copied(),
-            weights.iter().copied(),
-            false,
-        ) else {
+        let Ok(model) = encoder_of(alloc, weights, symbols) else {
             return 1;
         };
         sum = mix(sum, model.support_size() as u64);
@@ -206,12 +222,7 @@ pub extern "C" fn kernel_encoder_symbol(
     asked: &[u32],
     repeats: u32,
 ) -> u64 {
-    let Ok(model) = Encoder::from_symbols_and_nonzero_fixed_point_probabilities(
-        alloc,
-        symbols.iter().copied(),
-        weights.iter().copied(),
-        false,
-    ) else {
+    let Ok(model) = encoder_of(alloc, weights, symbols) else {
         return 1;
     };
     let mut sum = 0u64;

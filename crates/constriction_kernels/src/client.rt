@@ -1,13 +1,11 @@
 //! Kernels of the generic client.
 
 use crate::checksum::mix;
+use crate::contiguous::contiguous_of;
 use constriction::Queue;
 use constriction::backends::Cursor;
-use constriction::stream::model::DefaultContiguousCategoricalEntropyModel;
 use constriction_client::{read_symbols, write_quantiles};
 use std::alloc::Global;
-
-type Contiguous = DefaultContiguousCategoricalEntropyModel;
 
 /// The items of these symbols, each with the offset 0.
 fn items_of(alloc: Global, symbols: &[u32]) -> Option<Vec<(usize, u32)>> {
@@ -28,11 +26,7 @@ pub extern "C" fn kernel_write_quantiles(
     symbols: &[u32],
     repeats: u32,
 ) -> u64 {
-    let Ok(model) = Contiguous::from_nonzero_fixed_point_probabilities(
-        alloc,
-        weights.iter().copied(),
-        false,
-    ) else {
+    let Ok(model) = contiguous_of(alloc, weights) else {
         return 1;
     };
     let Some(items) = items_of(alloc, symbols) else {
@@ -61,11 +55,7 @@ pub extern "C" fn kernel_read_symbols(
     words: &[u32],
     repeats: u32,
 ) -> u64 {
-    let Ok(model) = Contiguous::from_nonzero_fixed_point_probabilities(
-        alloc,
-        weights.iter().copied(),
-        false,
-    ) else {
+    let Ok(model) = contiguous_of(alloc, weights) else {
         return 1;
     };
     let mut sum = 0u64;

@@ -5,21 +5,24 @@ ghost use Rattle.std.specs.Prelude.{◌^◌, ◌<◌, All};
 use crate::checksum::{mix, row};
 use constriction::stream::model::{
     DecoderModel, DefaultContiguousCategoricalEntropyModel, EncoderModel, IterableEntropyModel,
+    ModelError,
 };
 use std::alloc::Global;
 
-type Contiguous = DefaultContiguousCategoricalEntropyModel;
+pub(crate) type Contiguous = DefaultContiguousCategoricalEntropyModel;
+
+/// The model of the weights.
+#[inline(always)]
+pub(crate) fn contiguous_of(alloc: Global, weights: &[u32]) -> Result<Contiguous, ModelError> {
+    Contiguous::from_nonzero_fixed_point_probabilities(alloc, weights.iter().copied(), false)
+}
 
 /// Makes the model of the weights, each time anew.
 #[unsafe(no_mangle)]
 pub extern "C" fn kernel_contiguous_build(alloc: Global, weights: &[u32], repeats: u32) -> u64 {
     let mut sum = 0u64;
     for _ in 0..repeats {
-        let Ok(model) = Contiguous::from_nonzero_fixed_point_probabilities(
-            alloc,
-            weights.iter().copied(),
-            false,
-        ) else {
+        let Ok(model) = contiguous_of(alloc, weights) else {
             return 1;
         };
         sum = mix(sum, model.support_size() as u64);
@@ -37,11 +40,7 @@ pub extern "C" fn kernel_contiguous_quantile(
 ) -> u64
     requires { All (λ q. q < 2 ^ 24) quantiles.now }
 {
-    let Ok(model) = Contiguous::from_nonzero_fixed_point_probabilities(
-        alloc,
-        weights.iter().copied(),
-        false,
-    ) else {
+    let Ok(model) = contiguous_of(alloc, weights) else {
         return 1;
     };
     let mut sum = 0u64;
@@ -64,11 +63,7 @@ pub extern "C" fn kernel_contiguous_symbol(
     symbols: &[u32],
     repeats: u32,
 ) -> u64 {
-    let Ok(model) = Contiguous::from_nonzero_fixed_point_probabilities(
-        alloc,
-        weights.iter().copied(),
-        false,
-    ) else {
+    let Ok(model) = contiguous_of(alloc, weights) else {
         return 1;
     };
     let mut sum = 0u64;
@@ -86,11 +81,7 @@ pub extern "C" fn kernel_contiguous_symbol(
 /// Walks through all rows.
 #[unsafe(no_mangle)]
 pub extern "C" fn kernel_contiguous_table(alloc: Global, weights: &[u32], repeats: u32) -> u64 {
-    let Ok(model) = Contiguous::from_nonzero_fixed_point_probabilities(
-        alloc,
-        weights.iter().copied(),
-        false,
-    ) else {
+    let Ok(model) = contiguous_of(alloc, weights) else {
         return 1;
     };
     let mut sum = 0u64;

@@ -1,29 +1,42 @@
 //! Kernels of conversions of contiguous models.
 
+ghost use Rattle.std.specs.Prelude.{◌<◌, ◌≤◌};
+
 use crate::checksum::{mix, row};
+use crate::contiguous::contiguous_of;
+use crate::searches::small_of;
 use constriction::laws::contiguous_symbols_differ;
 use constriction::stream::model::{
-    ContiguousCategoricalEntropyModel, DecoderModel, DefaultContiguousCategoricalEntropyModel,
-    SmallContiguousCategoricalEntropyModel, to_generic_decoder_model,
+    ContiguousCategoricalEntropyModel, DecoderModel, ModelError,
+    NonContiguousCategoricalDecoderModel, to_generic_decoder_model,
     to_generic_decoder_model_of_distinct, to_generic_encoder_model,
 };
+use constriction_words::WholeNumber;
 use std::alloc::Global;
-
-type Contiguous = DefaultContiguousCategoricalEntropyModel;
-
-type Small = SmallContiguousCategoricalEntropyModel;
 
 /// Over words as wide as a symbol.
 type Wide = ContiguousCategoricalEntropyModel<u64, Vec<u64>, 24>;
 
+/// The decoder over any symbols of a contiguous model, whose symbols are known to differ.
+#[inline(always)]
+fn decoder_of_distinct<Probability: WholeNumber, const PRECISION: usize>(
+    alloc: Global,
+    source: &ContiguousCategoricalEntropyModel<Probability, Vec<Probability>, PRECISION>,
+) -> Result<
+    NonContiguousCategoricalDecoderModel<usize, Probability, Vec<(Probability, usize)>, PRECISION>,
+    ModelError,
+>
+    requires positive { 0 < PRECISION }
+    requires fits { PRECISION ≤ Probability.BITS }
+{
+    contiguous_symbols_differ();
+    to_generic_decoder_model_of_distinct::<_, PRECISION>(alloc, source)
+}
+
 /// Makes a decoder over any symbols, each time anew. Each symbol is compared with all before it.
 #[unsafe(no_mangle)]
 pub extern "C" fn kernel_to_decoder(alloc: Global, weights: &[u32], repeats: u32) -> u64 {
-    let Ok(source) = Contiguous::from_nonzero_fixed_point_probabilities(
-        alloc,
-        weights.iter().copied(),
-        false,
-    ) else {
+    let Ok(source) = contiguous_of(alloc, weights) else {
         return 1;
     };
     let mut sum = 0u64;
@@ -43,17 +56,12 @@ pub extern "C" fn kernel_to_decoder_of_distinct(
     weights: &[u32],
     repeats: u32,
 ) -> u64 {
-    contiguous_symbols_differ();
-    let Ok(source) = Contiguous::from_nonzero_fixed_point_probabilities(
-        alloc,
-        weights.iter().copied(),
-        false,
-    ) else {
+    let Ok(source) = contiguous_of(alloc, weights) else {
         return 1;
     };
     let mut sum = 0u64;
     for _ in 0..repeats {
-        let Ok(model) = to_generic_decoder_model_of_distinct::<_, 24>(alloc, &source) else {
+        let Ok(model) = decoder_of_distinct(alloc, &source) else {
             return 1;
         };
         sum = mix(sum, model.support_size() as u64);
@@ -68,7 +76,6 @@ pub extern "C" fn kernel_wide_to_decoder_of_distinct(
     weights: &[u64],
     repeats: u32,
 ) -> u64 {
-    contiguous_symbols_differ();
     let Ok(source) = Wide::from_nonzero_fixed_point_probabilities(
         alloc,
         weights.iter().copied(),
@@ -78,7 +85,7 @@ pub extern "C" fn kernel_wide_to_decoder_of_distinct(
     };
     let mut sum = 0u64;
     for _ in 0..repeats {
-        let Ok(model) = to_generic_decoder_model_of_distinct::<_, 24>(alloc, &source) else {
+        let Ok(model) = decoder_of_distinct(alloc, &source) else {
             return 1;
         };
         sum = mix(sum, model.support_size() as u64);
@@ -89,11 +96,7 @@ pub extern "C" fn kernel_wide_to_decoder_of_distinct(
 /// Makes a hashed encoder, each time anew.
 #[unsafe(no_mangle)]
 pub extern "C" fn kernel_to_encoder(alloc: Global, weights: &[u32], repeats: u32) -> u64 {
-    let Ok(source) = Contiguous::from_nonzero_fixed_point_probabilities(
-        alloc,
-        weights.iter().copied(),
-        false,
-    ) else {
+    let Ok(source) = contiguous_of(alloc, weights) else {
         return 1;
     };
     let mut sum = 0u64;
@@ -109,11 +112,7 @@ pub extern "C" fn kernel_to_encoder(alloc: Global, weights: &[u32], repeats: u32
 /// Makes a lookup model with a slot for each quantile, each time anew.
 #[unsafe(no_mangle)]
 pub extern "C" fn kernel_to_direct_lookup(alloc: Global, weights: &[u16], repeats: u32) -> u64 {
-    let Ok(source) = Small::from_nonzero_fixed_point_probabilities(
-        alloc,
-        weights.iter().copied(),
-        false,
-    ) else {
+    let Ok(source) = small_of(alloc, weights) else {
         return 1;
     };
     let mut sum = 0u64;

@@ -4,29 +4,60 @@ ghost use Rattle.std.specs.Prelude.{◌^◌, ◌<◌, All};
 
 use crate::checksum::{mix, row};
 use constriction::stream::model::{
-    DecoderModel, SmallContiguousDirectLookupDecoderModel, SmallContiguousLookupDecoderModel,
-    SmallNonContiguousDirectLookupDecoderModel, SmallNonContiguousLookupDecoderModel,
+    DecoderModel, ModelError, SlottedContiguousLookupDecoderModel,
+    SlottedNonContiguousLookupDecoderModel,
 };
 use std::alloc::Global;
 
-type Direct = SmallContiguousDirectLookupDecoderModel;
+/// The model of 12 bits with `2^SLOT_BITS` slots.
+type Lookup<const SLOT_BITS: usize> = SlottedContiguousLookupDecoderModel<
+    u16,
+    Vec<u16>,
+    Vec<u16>,
+    12,
+    SLOT_BITS,
+>;
 
-type Slotted = SmallContiguousLookupDecoderModel;
+/// The same over any symbols.
+type LookupOfSymbols<const SLOT_BITS: usize> = SlottedNonContiguousLookupDecoderModel<
+    u32,
+    u16,
+    Vec<(u16, u32)>,
+    Vec<u16>,
+    12,
+    SLOT_BITS,
+>;
 
-type DirectOfSymbols = SmallNonContiguousDirectLookupDecoderModel<u32>;
+/// The model of the weights.
+#[inline(always)]
+fn lookup_of<const SLOT_BITS: usize>(
+    alloc: Global,
+    weights: &[u16],
+) -> Result<Lookup<SLOT_BITS>, ModelError> {
+    Lookup::from_nonzero_fixed_point_probabilities(alloc, weights.iter().copied(), false)
+}
 
-type SlottedOfSymbols = SmallNonContiguousLookupDecoderModel<u32>;
+/// The model of symbols and weights.
+#[inline(always)]
+fn lookup_of_symbols<const SLOT_BITS: usize>(
+    alloc: Global,
+    weights: &[u16],
+    symbols: &[u32],
+) -> Result<LookupOfSymbols<SLOT_BITS>, ModelError> {
+    LookupOfSymbols::from_symbols_and_nonzero_fixed_point_probabilities(
+        alloc,
+        symbols.iter().copied(),
+        weights.iter().copied(),
+        false,
+    )
+}
 
-/// Makes the model with a slot for each quantile, each time anew.
-#[unsafe(no_mangle)]
-pub extern "C" fn kernel_direct_lookup_build(alloc: Global, weights: &[u16], repeats: u32) -> u64 {
+/// Makes the model, each time anew.
+#[inline(always)]
+fn lookup_build<const SLOT_BITS: usize>(alloc: Global, weights: &[u16], repeats: u32) -> u64 {
     let mut sum = 0u64;
     for _ in 0..repeats {
-        let Ok(model) = Direct::from_nonzero_fixed_point_probabilities(
-            alloc,
-            weights.iter().copied(),
-            false,
-        ) else {
+        let Ok(model) = lookup_of::<SLOT_BITS>(alloc, weights) else {
             return 1;
         };
         let Ok((symbol, left, weight)) = model.quantile_function(0) else {
@@ -35,6 +66,63 @@ pub extern "C" fn kernel_direct_lookup_build(alloc: Global, weights: &[u16], rep
         sum = mix(sum, row(symbol, left as u64, weight.get() as u64));
     }
     sum
+}
+
+/// Finds the row of each quantile.
+#[inline(always)]
+fn lookup_quantile<const SLOT_BITS: usize>(
+    alloc: Global,
+    weights: &[u16],
+    quantiles: &[u16],
+    repeats: u32,
+) -> u64
+    requires { All (λ q. q < 2 ^ 12) quantiles.now }
+{
+    let Ok(model) = lookup_of::<SLOT_BITS>(alloc, weights) else {
+        return 1;
+    };
+    let mut sum = 0u64;
+    for _ in 0..repeats {
+        for quantile in quantiles {
+            let Ok((symbol, left, weight)) = model.quantile_function(*quantile) else {
+                return 1;
+            };
+            sum = mix(sum, row(symbol, left as u64, weight.get() as u64));
+        }
+    }
+    sum
+}
+
+/// Finds the row of each quantile in the model over any symbols.
+#[inline(always)]
+fn symbol_lookup_quantile<const SLOT_BITS: usize>(
+    alloc: Global,
+    weights: &[u16],
+    symbols: &[u32],
+    quantiles: &[u16],
+    repeats: u32,
+) -> u64
+    requires { All (λ q. q < 2 ^ 12) quantiles.now }
+{
+    let Ok(model) = lookup_of_symbols::<SLOT_BITS>(alloc, weights, symbols) else {
+        return 1;
+    };
+    let mut sum = 0u64;
+    for _ in 0..repeats {
+        for quantile in quantiles {
+            let Ok((symbol, left, weight)) = model.quantile_function(*quantile) else {
+                return 1;
+            };
+            sum = mix(sum, row(symbol as usize, left as u64, weight.get() as u64));
+        }
+    }
+    sum
+}
+
+/// Makes the model with a slot for each quantile, each time anew.
+#[unsafe(no_mangle)]
+pub extern "C" fn kernel_direct_lookup_build(alloc: Global, weights: &[u16], repeats: u32) -> u64 {
+    lookup_build::<12>(alloc, weights, repeats)
 }
 
 /// Finds the row of each quantile in the model with a slot for each quantile.
@@ -47,43 +135,13 @@ pub extern "C" fn kernel_direct_lookup_quantile(
 ) -> u64
     requires { All (λ q. q < 2 ^ 12) quantiles.now }
 {
-    let Ok(model) = Direct::from_nonzero_fixed_point_probabilities(
-        alloc,
-        weights.iter().copied(),
-        false,
-    ) else {
-        return 1;
-    };
-    let mut sum = 0u64;
-    for _ in 0..repeats {
-        for quantile in quantiles {
-            let Ok((symbol, left, weight)) = model.quantile_function(*quantile) else {
-                return 1;
-            };
-            sum = mix(sum, row(symbol, left as u64, weight.get() as u64));
-        }
-    }
-    sum
+    lookup_quantile::<12>(alloc, weights, quantiles, repeats)
 }
 
 /// Makes the model with 256 slots, each time anew.
 #[unsafe(no_mangle)]
 pub extern "C" fn kernel_slotted_lookup_build(alloc: Global, weights: &[u16], repeats: u32) -> u64 {
-    let mut sum = 0u64;
-    for _ in 0..repeats {
-        let Ok(model) = Slotted::from_nonzero_fixed_point_probabilities(
-            alloc,
-            weights.iter().copied(),
-            false,
-        ) else {
-            return 1;
-        };
-        let Ok((symbol, left, weight)) = model.quantile_function(0) else {
-            return 1;
-        };
-        sum = mix(sum, row(symbol, left as u64, weight.get() as u64));
-    }
-    sum
+    lookup_build::<8>(alloc, weights, repeats)
 }
 
 /// Finds the row of each quantile in the model with 256 slots.
@@ -96,23 +154,7 @@ pub extern "C" fn kernel_slotted_lookup_quantile(
 ) -> u64
     requires { All (λ q. q < 2 ^ 12) quantiles.now }
 {
-    let Ok(model) = Slotted::from_nonzero_fixed_point_probabilities(
-        alloc,
-        weights.iter().copied(),
-        false,
-    ) else {
-        return 1;
-    };
-    let mut sum = 0u64;
-    for _ in 0..repeats {
-        for quantile in quantiles {
-            let Ok((symbol, left, weight)) = model.quantile_function(*quantile) else {
-                return 1;
-            };
-            sum = mix(sum, row(symbol, left as u64, weight.get() as u64));
-        }
-    }
-    sum
+    lookup_quantile::<8>(alloc, weights, quantiles, repeats)
 }
 
 /// Makes the model over any symbols with a slot for each quantile, each time anew.
@@ -125,12 +167,7 @@ pub extern "C" fn kernel_direct_symbol_lookup_build(
 ) -> u64 {
     let mut sum = 0u64;
     for _ in 0..repeats {
-        let Ok(model) = DirectOfSymbols::from_symbols_and_nonzero_fixed_point_probabilities(
-            alloc,
-            symbols.iter().copied(),
-            weights.iter().copied(),
-            false,
-        ) else {
+        let Ok(model) = lookup_of_symbols::<12>(alloc, weights, symbols) else {
             return 1;
         };
         let Ok((symbol, left, weight)) = model.quantile_function(0) else {
@@ -152,24 +189,7 @@ pub extern "C" fn kernel_direct_symbol_lookup_quantile(
 ) -> u64
     requires { All (λ q. q < 2 ^ 12) quantiles.now }
 {
-    let Ok(model) = DirectOfSymbols::from_symbols_and_nonzero_fixed_point_probabilities(
-        alloc,
-        symbols.iter().copied(),
-        weights.iter().copied(),
-        false,
-    ) else {
-        return 1;
-    };
-    let mut sum = 0u64;
-    for _ in 0..repeats {
-        for quantile in quantiles {
-            let Ok((symbol, left, weight)) = model.quantile_function(*quantile) else {
-                return 1;
-            };
-            sum = mix(sum, row(symbol as usize, left as u64, weight.get() as u64));
-        }
-    }
-    sum
+    symbol_lookup_quantile::<12>(alloc, weights, symbols, quantiles, repeats)
 }
 
 /// Finds the row of each quantile in the model over any symbols with 256 slots.
@@ -183,22 +203,5 @@ pub extern "C" fn kernel_slotted_symbol_lookup_quantile(
 ) -> u64
     requires { All (λ q. q < 2 ^ 12) quantiles.now }
 {
-    let Ok(model) = SlottedOfSymbols::from_symbols_and_nonzero_fixed_point_probabilities(
-        alloc,
-        symbols.iter().copied(),
-        weights.iter().copied(),
-        false,
-    ) else {
-        return 1;
-    };
-    let mut sum = 0u64;
-    for _ in 0..repeats {
-        for quantile in quantiles {
-            let Ok((symbol, left, weight)) = model.quantile_function(*quantile) else {
-                return 1;
-            };
-            sum = mix(sum, row(symbol as usize, left as u64, weight.get() as u64));
-        }
-    }
-    sum
+    symbol_lookup_quantile::<8>(alloc, weights, symbols, quantiles, repeats)
 }

@@ -4,13 +4,20 @@ ghost use Rattle.std.specs.Prelude.{◌^◌, ◌<◌, All};
 
 use crate::checksum::{mix, row};
 use constriction::stream::model::{
-    DecoderModel, SmallContiguousCategoricalEntropyModel, SmallNonContiguousCategoricalDecoderModel,
+    DecoderModel, ModelError, SmallContiguousCategoricalEntropyModel,
+    SmallNonContiguousCategoricalDecoderModel,
 };
 use std::alloc::Global;
 
 type Contiguous = SmallContiguousCategoricalEntropyModel;
 
 type Decoder = SmallNonContiguousCategoricalDecoderModel<u32>;
+
+/// The contiguous model of the weights.
+#[inline(always)]
+pub(crate) fn small_of(alloc: Global, weights: &[u16]) -> Result<Contiguous, ModelError> {
+    Contiguous::from_nonzero_fixed_point_probabilities(alloc, weights.iter().copied(), false)
+}
 
 /// Finds the row of each quantile in the contiguous model.
 #[unsafe(no_mangle)]
@@ -22,11 +29,7 @@ pub extern "C" fn kernel_small_contiguous_quantile(
 ) -> u64
     requires { All (λ q. q < 2 ^ 12) quantiles.now }
 {
-    let Ok(model) = Contiguous::from_nonzero_fixed_point_probabilities(
-        alloc,
-        weights.iter().copied(),
-        false,
-    ) else {
+    let Ok(model) = small_of(alloc, weights) else {
         return 1;
     };
     let mut sum = 0u64;

@@ -70,6 +70,27 @@ pub struct AnswersOfModel<Symbol, Word: WholeNumber, Form> {
     pub converted: Vec<Reply<Symbol, Word>>,
 }
 
+/// The replies of a decoder whose rows can be walked through, beside the hashed encoder that is made of it.
+fn asked_beside_encoder<M, const PRECISION: usize>(
+    alloc: Global,
+    model: M,
+    queries: &[Query<M::Symbol, M::Probability>],
+) -> Result<Vec<Reply<M::Symbol, M::Probability>>, ModelError>
+where
+    M: DecoderModel<PRECISION> + IterableEntropyModel<PRECISION> + Copy,
+    M::Symbol: Hash + Eq + Drop,
+    requires precision { IsPrecision M.Probability.BITS PRECISION }
+    requires walked { ClonesAreEqual M.Symbol.eq M.IterableEntropyModel.stands_for }
+    ensures ok { IfOk result (λ replies. AreRepliesOf M.DecoderModel.stands_for
+        (replies_by_scan PRECISION M.Probability.whole M.Symbol.eq queries.now (M.rows model))
+        (map (in_numbers M.Probability.whole M.Probability.base) replies.items)) }
+    ensures refused { IfErr result (λ e. e ≡ ModelError.OutOfMemory) }
+{
+    let encoder = encoder_of::<M, PRECISION>(alloc, model)?;
+    let replies = answer_queries::<_, _, _, _, PRECISION>(alloc, &model, &encoder, queries)?;
+    Ok(replies)
+}
+
 /// Answers queries by a decoder whose rows can be walked through, one of the caller's own too, and by the form
 /// that the steps make of it as in [`answer_by_table`], both with the hashed encoder that is made of it. Where
 /// the symbols of its answers and clones of symbols are the same values, the replies of both are those that a
@@ -108,8 +129,7 @@ where
         ≡ replies_by_scan PRECISION M.Probability.whole M.Symbol.eq queries.now (M.rows model))) }
     ensures refused { IfErr result (λ e. e ≡ ModelError.OutOfMemory) }
 {
-    let encoder = encoder_of::<M, PRECISION>(alloc, model)?;
-    let by_model = answer_queries::<_, _, _, _, PRECISION>(alloc, &model, &encoder, queries)?;
+    let by_model = asked_beside_encoder::<M, PRECISION>(alloc, model, queries)?;
     let (form, converted) = answer_by_table::<M, PRECISION>(alloc, model, steps, queries)?;
     Ok(AnswersOfModel {
         by_model,

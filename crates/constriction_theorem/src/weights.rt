@@ -102,8 +102,8 @@ fn converted_from<Probability: IndexWord, const PRECISION: usize>(
     Ok((form, hashed))
 }
 
-/// The replies of the model with a table of 256 slots at most.
-fn asked_by_table<Probability: IndexWord, const PRECISION: usize>(
+/// The replies of the model with a table of `2^min(PRECISION, SLOT_BITS)` slots.
+fn asked_by_slots<Probability: IndexWord, const PRECISION: usize, const SLOT_BITS: usize>(
     alloc: Global,
     model: &Contiguous<Probability, PRECISION>,
     hashed: &NonContiguousCategoricalEncoderModel<usize, Probability, PRECISION>,
@@ -120,34 +120,9 @@ fn asked_by_table<Probability: IndexWord, const PRECISION: usize>(
         (⟦<Contiguous<Probability, PRECISION> as EntropyModel<PRECISION>>⟧.rows model.now))) }
     ensures refused { IfErr result (λ e. e ≡ ModelError.OutOfMemory) }
 {
-    let tabled = model.to_lookup_decoder_model(alloc)?;
+    let tabled = model.to_slotted_lookup_decoder_model::<SLOT_BITS>(alloc)?;
     let replies = asked_beside_both::<_, _, _, _, PRECISION>(
         alloc, &tabled, model, hashed, queries,
-    )?;
-    Ok(replies)
-}
-
-/// The replies of the model with a slot for each quantile.
-fn asked_by_slot<Probability: IndexWord, const PRECISION: usize>(
-    alloc: Global,
-    model: &Contiguous<Probability, PRECISION>,
-    hashed: &NonContiguousCategoricalEncoderModel<usize, Probability, PRECISION>,
-    queries: &[Query<usize, Probability>],
-) -> Result<RepliesByEncoder<Probability>, ModelError>
-    requires positive { 0 < PRECISION }
-    requires fits { PRECISION ≤ Probability.BITS }
-    requires narrow { PRECISION ≤ 63 }
-    requires hashed { (s : ℕ) → entry_of nat_eq
-        (⟦<NonContiguousCategoricalEncoderModel<usize, Probability, PRECISION> as EntropyModel<PRECISION>>⟧.rows hashed.now) s
-        ≡ entry_of nat_eq (⟦<Contiguous<Probability, PRECISION> as EntropyModel<PRECISION>>⟧.rows model.now) s }
-    ensures ok { IfOk result (ReplyAsScan (in_numbers Probability.whole Probability.base)
-        (replies_by_scan PRECISION Probability.whole nat_eq queries.now
-        (⟦<Contiguous<Probability, PRECISION> as EntropyModel<PRECISION>>⟧.rows model.now))) }
-    ensures refused { IfErr result (λ e. e ≡ ModelError.OutOfMemory) }
-{
-    let direct = model.to_slotted_lookup_decoder_model::<PRECISION>(alloc)?;
-    let replies = asked_beside_both::<_, _, _, _, PRECISION>(
-        alloc, &direct, model, hashed, queries,
     )?;
     Ok(replies)
 }
@@ -181,8 +156,8 @@ fn asked_by_each<Probability: IndexWord, const PRECISION: usize>(
     let by_search = asked_beside_both::<_, _, _, _, PRECISION>(
         alloc, model, model, hashed, queries,
     )?;
-    let by_table = asked_by_table(alloc, model, hashed, queries)?;
-    let by_slot = asked_by_slot(alloc, model, hashed, queries)?;
+    let by_table = asked_by_slots::<_, PRECISION, 8>(alloc, model, hashed, queries)?;
+    let by_slot = asked_by_slots::<_, PRECISION, PRECISION>(alloc, model, hashed, queries)?;
     Ok((by_search, by_table, by_slot))
 }
 
@@ -207,10 +182,10 @@ fn answers_of<Probability: IndexWord, const PRECISION: usize>(
     ensures refused { IfErr result (λ e. e ≡ ModelError.OutOfMemory) }
 {
     let (form, hashed) = converted_from(alloc, model, steps)?;
-    let (searching, tabled, direct) = asked_by_each(alloc, model, &hashed, queries)?;
     let converted = asked_beside_both::<_, _, _, _, PRECISION>(
         alloc, &form, model, &hashed, queries,
     )?;
+    let (searching, tabled, direct) = asked_by_each(alloc, model, &hashed, queries)?;
     Ok(AnswersOfWeights {
         searching,
         tabled,

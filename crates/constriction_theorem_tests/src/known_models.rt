@@ -88,10 +88,7 @@ fn letter_looked_up_in_a_clone(model: &Tabled) -> Result<(char, u8, u8), AllocEr
         ≡ rows_of (97 ∷ 120 ∷ 99 ∷ 121 ∷ []) (3 ∷ 18 ∷ 1 ∷ 42 ∷ []) }
     ensures { IfOk result (λ row. row ≡ (120, 3, 18)) }
 {
-    match model.clone()?.quantile_function(20) {
-        Ok((symbol, left, weight)) => Ok((symbol, left, weight.get())),
-        Err(refusal) => Err(refusal),
-    }
+    letter_looked_up(&model.clone()?)
 }
 
 /// How many symbols a contiguous model has, and a decoder of letters.

@@ -1,4 +1,4 @@
-use Rattle.constriction_theorem.proofs.weights.asked_by_table.Goals as goal
+use Rattle.constriction_theorem.proofs.weights.asked_by_slots.Goals as goal
 
 pub returns-clause-ok : goal.returns-clause-ok
 returns-clause-ok g c = (

@@ -1,0 +1,7 @@
+use Rattle.constriction.specs.StandLemmas.{entries-of}
+use Rattle.constriction_theorem.proofs.models.asked_beside_encoder.Goals as goal
+
+pub returns-clause-ok : goal.returns-clause-ok
+returns-clause-ok g c =
+    c.in_ok-replies.ensures.of_one (entries-of g.M.Symbol.PartialEq.eq g.met.M.Symbol.Eq.laws g.M.IterableEntropyModel.stands_for
+    c.requires.walked _ _ c.in_ok-encoder.ensures.entries)

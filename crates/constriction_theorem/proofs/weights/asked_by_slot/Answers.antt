@@ -1,7 +1,0 @@
-use Rattle.constriction_theorem.proofs.weights.asked_by_slot.Goals as goal
-
-pub returns-clause-ok : goal.returns-clause-ok
-returns-clause-ok g c = (
-  rw c.in_ok-direct.ensures.ok at c.in_ok-replies.ensures.contiguous,
-  rw c.in_ok-direct.ensures.ok at c.in_ok-replies.ensures.hashed,
-)
