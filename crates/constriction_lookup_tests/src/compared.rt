@@ -1,6 +1,6 @@
 //! How many rows a look-up compares: by the contract, and on worked tables.
 
-ghost use Rattle.std.specs.Prelude.{◌≡◌, ◌-◌, ◌^◌, ◌<◌, ◌≤◌, [], ◌∷◌, length, count_by, IfOk};
+ghost use Rattle.std.specs.Prelude.{◌≡◌, ◌-◌, ◌<◌, ◌≤◌, [], ◌∷◌, length, count_by, IfOk};
 ghost use Rattle.constriction.specs.Probe.{digits};
 ghost use Rattle.constriction.specs.Rows.{contiguous_rows};
 ghost use Rattle.constriction.specs.Slots.{meets_slot};
@@ -84,21 +84,7 @@ fn by_a_table_of_letters(model: &TabledLetters) -> Result<usize, AllocError>
     }
 }
 
-/// The symbol of a quantile, by any model that searches, and how many rows were compared.
-fn found<M: SearchingModel<PRECISION> + Copy, const PRECISION: usize>(
-    model: M,
-    quantile: M::Probability,
-) -> Option<(M::Symbol, usize)>
-    requires { M.Probability.whole quantile < 2 ^ PRECISION }
-{
-    match model.counted_quantile_function(quantile) {
-        Ok(((symbol, _, _), compared)) => Some((symbol, compared)),
-        Err(_) => None,
-    }
-}
-
-/// Stops the test where a reference to a model finds another symbol for one of eight quantiles, or compares another
-/// number of rows.
+/// Stops the test where the model finds another symbol for one of eight quantiles, or compares another number of rows.
 fn finds<M>(rt: &impl Abort, model: &M, symbols: &[M::Symbol; 8], compared: &[usize; 8])
 where
     M: SearchingModel<6, Probability = u8>,
@@ -107,8 +93,10 @@ where
     for at in 0..8usize {
         let quantile = QUANTILES[at];
         assert!(rt; quantile < 64);
-        let found = found::<&M, 6>(model, quantile);
-        same_at(rt, quantile, found, Some((symbols[at], compared[at])));
+        let ((symbol, _, _), counted) = model
+            .counted_quantile_function(quantile)
+            .expect(rt, "memory");
+        same_at(rt, quantile, (symbol, counted), (symbols[at], compared[at]));
     }
 }
 
@@ -125,12 +113,13 @@ const LETTERS: [char; 8] = ['a', 'x', 'x', 'x', 'c', 'y', 'y', 'y'];
 /// meets the others.
 const COMPARED: [usize; 8] = [1, 1, 2, 2, 2, 2, 0, 0];
 
-/// A search of four rows compares two, and a table the rows of a slot. The contracts bound both.
+/// A search of four rows compares two, and a table the rows of a slot. The contracts bound both. A reference to a model
+/// searches as the model does.
 #[test]
 fn a_search_compares_two_of_four_rows_and_a_table_those_of_a_slot(rt: HostRuntime) {
     let model = of_four(rt.alloc(), [3, 18, 1, 42]).expect(&rt, "accepted");
     same(&rt, by_a_search(&model), Ok(2));
-    finds(&rt, &model, &INDICES, &[2; 8]);
+    finds(&rt, &&model, &INDICES, &[2; 8]);
     let tabled: Tabled = LookupDecoderModel::with_table(rt.alloc(), model).expect(&rt, "a table");
     same(&rt, by_a_table(&tabled), Ok((1, 0)));
     finds(&rt, &tabled, &INDICES, &COMPARED);

@@ -6,8 +6,11 @@ use crate::checks::{same, same_at, shows};
 use crate::lookup_contiguous;
 use crate::model_checks::{has_letters, has_weights, walks};
 use crate::slot_bits::looked;
-use constriction::laws::{non_contiguous_lookup_symbols_differ, symbols_and_weights_rebuild};
-use constriction::stream::model::{IterableEntropyModel, ModelError, UniformModel};
+use constriction::laws::non_contiguous_lookup_symbols_differ;
+use constriction::stream::model::{
+    IterableEntropyModel, ModelError, NonContiguousCategoricalDecoderModel,
+    NonContiguousLookupDecoderModel, UniformModel,
+};
 use constriction_fixtures::any_symbols::{
     FULL_REFUSED, REFUSED, ROWS, Row, STEPS, SYMBOLS, WEIGHTS, decoder,
 };
@@ -16,6 +19,18 @@ use constriction_fixtures::lookup_any_symbols::{Lookup, looked_up, lookup};
 use constriction_fixtures::own_model::three;
 use std::alloc::Global;
 use std::process::Abort;
+
+/// Stops the test where the lookup model has not these rows.
+pub fn has_rows<const PRECISION: usize>(
+    rt: &impl Abort,
+    model: &Lookup<char, PRECISION>,
+    rows: &[Row],
+)
+    requires positive { 0 < PRECISION }
+    requires fits { PRECISION ≤ 8 }
+{
+    has_letters::<_, PRECISION>(rt, model, rows);
+}
 
 /// Stops the test where no model was made, or it has not these rows.
 fn is_of_letters<const PRECISION: usize>(
@@ -26,7 +41,7 @@ fn is_of_letters<const PRECISION: usize>(
     requires positive { 0 < PRECISION }
     requires fits { PRECISION ≤ 8 }
 {
-    has_letters::<_, PRECISION>(rt, &made.expect(rt, "a model"), rows);
+    has_rows(rt, &made.expect(rt, "a model"), rows);
 }
 
 #[test]
@@ -65,38 +80,61 @@ fn letters_that_are_not_accepted(rt: HostRuntime) {
     are_refused::<8>(&rt, rt.alloc(), &FULL_REFUSED);
 }
 
+/// The lookup model of the worked table. It stops the test where memory is refused.
+fn small(rt: &impl Abort, alloc: Global) -> Lookup<char, 6> {
+    lookup::<6>(alloc, &SYMBOLS, &WEIGHTS, false).expect(rt, "accepted")
+}
+
+/// A view of a lookup model of letters.
+type View<'m> = NonContiguousLookupDecoderModel<char, u8, &'m [(u8, char)], &'m [u8], 6>;
+
+/// Stops the test where the view has not the rows of the worked table.
+fn view_has_rows(rt: &impl Abort, view: &View<'_>) {
+    has_letters::<_, 6>(rt, view, &ROWS);
+}
+
+/// Stops the test where the view of a model that searches has not the rows of the worked table.
+pub fn searching_has_rows(
+    rt: &impl Abort,
+    view: &NonContiguousCategoricalDecoderModel<char, u8, &[(u8, char)], 6>,
+) {
+    has_letters::<_, 6>(rt, view, &ROWS);
+}
+
 #[test]
 fn a_model_of_letters_is_cloned_and_viewed_and_gives_the_searching_one_of_its_rows(
     rt: HostRuntime,
 ) {
-    let model = lookup::<6>(rt.alloc(), &SYMBOLS, &WEIGHTS, false).expect(&rt, "accepted");
-    has_letters::<_, 6>(&rt, &model.clone().expect(&rt, "a clone"), &ROWS);
-    has_letters::<_, 6>(&rt, &model.as_view(), &ROWS);
-    has_letters::<_, 6>(&rt, &model.as_view().as_view(), &ROWS);
-    has_letters::<_, 6>(&rt, &model.as_non_contiguous_categorical(), &ROWS);
+    let model = small(&rt, rt.alloc());
+    has_rows(&rt, &model.clone().expect(&rt, "a clone"), &ROWS);
+    view_has_rows(&rt, &model.as_view().as_view());
+    searching_has_rows(&rt, &model.as_non_contiguous_categorical());
     let searching = model.into_non_contiguous_categorical();
-    has_letters::<_, 6>(&rt, &searching, &ROWS);
+    searching_has_rows(&rt, &searching.as_view());
     same(&rt, searching.support_size(), 4);
 }
+
+/// Quantiles of letters, their rows, and the indices of these.
+const ANSWERS: [(u8, Row, usize); 3] = [
+    (0, ('a', 0, 3), 0),
+    (21, ('c', 21, 1), 2),
+    (63, ('y', 22, 42), 3),
+];
 
 /// The walk gives each letter once, from both ends. A slot holds one quantile, so that one letter meets it.
 #[test]
 fn a_model_of_letters_is_walked_and_no_slot_is_searched(rt: HostRuntime) {
-    let model = lookup::<6>(rt.alloc(), &SYMBOLS, &WEIGHTS, false).expect(&rt, "accepted");
+    let model = small(&rt, rt.alloc());
     same(&rt, model.symbol_table().len(), 4);
     for steps in &STEPS {
         walks(&rt, model.symbol_table(), steps);
     }
-    for (quantile, row, index) in [
-        (0u8, ('a', 0, 3), 0),
-        (21, ('c', 21, 1), 2),
-        (63, ('y', 22, 42), 3),
-    ] {
+    for each in &ANSWERS {
+        let (quantile, row, index) = *each;
         assert!(rt; quantile < 64);
         let expected = (Some(row), Some((row.0, 0)), index, 1, 0);
         same_at(&rt, quantile, looked(&model, quantile), expected);
     }
-    symbols_and_weights_rebuild::<&Lookup<char, 6>, 6>();
     non_contiguous_lookup_symbols_differ::<char, u8, Vec<(u8, char)>, Vec<u8>, 6>();
 }
 
@@ -126,7 +164,7 @@ fn a_lookup_model_is_made_of_a_model_of_numbers_and_of_a_uniform_one(rt: HostRun
 
 #[test]
 fn a_lookup_model_of_numbers_is_made_of_a_contiguous_one(rt: HostRuntime) {
-    let model = lookup_contiguous::lookup::<6>(rt.alloc(), &WEIGHTS, false).expect(&rt, "accepted");
+    let model = lookup_contiguous::small(&rt, rt.alloc());
     gives_weights(&rt, rt.alloc(), &model, &WEIGHTS);
 }
 
@@ -156,7 +194,7 @@ fn a_lookup_model_of_letters_is_made_of_a_searching_one(rt: HostRuntime) {
 
 #[test]
 fn a_lookup_model_of_letters_is_made_of_another_and_of_a_view(rt: HostRuntime) {
-    let model = lookup::<6>(rt.alloc(), &SYMBOLS, &WEIGHTS, false).expect(&rt, "accepted");
+    let model = small(&rt, rt.alloc());
     gives_letters::<_, 6>(&rt, rt.alloc(), &model, &ROWS);
     gives_letters::<_, 6>(&rt, rt.alloc(), &model.as_view(), &ROWS);
 }

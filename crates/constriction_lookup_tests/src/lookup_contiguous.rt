@@ -5,7 +5,8 @@ ghost use Rattle.std.specs.Prelude.{◌<◌, ◌≤◌};
 use crate::checks::{same, same_at};
 use crate::model_checks::has_weights;
 use constriction::stream::model::{
-    ContiguousLookupDecoderModel, DecoderModel, EncoderModel, IterableEntropyModel, ModelError,
+    ContiguousCategoricalEntropyModel, ContiguousLookupDecoderModel, IterableEntropyModel,
+    ModelError,
 };
 use constriction_fixtures::contiguous::{FULL_TABLES, TABLES, WEIGHTS, table};
 use constriction_fixtures::tables::{STEPS, Walk, entry, left, step};
@@ -59,6 +60,14 @@ const OF_8_BITS: [Case; 6] = [
     (&[1; 255], true, &[1; 256]),
 ];
 
+/// Stops the test where the lookup model has other rows than those of these weights.
+pub fn has_rows<const PRECISION: usize>(rt: &impl Abort, model: &Lookup<PRECISION>, weights: &[u8])
+    requires positive { 0 < PRECISION }
+    requires fits { PRECISION ≤ 8 }
+{
+    has_weights::<_, PRECISION>(rt, model, weights);
+}
+
 /// Stops the test where the lookup model of the given weights has other rows than those of all weights.
 fn have_rows<const PRECISION: usize>(rt: &impl Abort, alloc: Global, cases: &[Case])
     requires positive { 0 < PRECISION }
@@ -67,7 +76,7 @@ fn have_rows<const PRECISION: usize>(rt: &impl Abort, alloc: Global, cases: &[Ca
     for each in cases {
         let (given, infer, weights) = *each;
         let model = lookup::<PRECISION>(alloc, given, infer).expect(rt, "accepted");
-        has_weights::<_, PRECISION>(rt, &model, weights);
+        has_rows(rt, &model, weights);
         same(rt, model.symbol_table().len(), weights.len());
     }
 }
@@ -109,7 +118,7 @@ fn weights_are_accepted_exactly_where_they_tile(rt: HostRuntime) {
 
 /// Stops the test where no model was made, or it has other rows than the worked table.
 fn is_small<E: Debug + Drop>(rt: &impl Abort, made: Result<Lookup<6>, E>) {
-    has_weights::<_, 6>(rt, &made.expect(rt, "a model"), &WEIGHTS);
+    has_rows(rt, &made.expect(rt, "a model"), &WEIGHTS);
 }
 
 #[test]
@@ -119,43 +128,62 @@ fn a_lookup_model_is_made_of_a_searching_one(rt: HostRuntime) {
     is_small(&rt, searching.as_view().to_lookup_decoder_model(rt.alloc()));
 }
 
-/// Stops the test where a model that searches has not the rows of the worked table, or has other entries.
-fn is_searching<M>(rt: &impl Abort, model: M)
-where
-    M: EncoderModel<6, Symbol = usize, Probability = u8>
-        + DecoderModel<6>
-        + IterableEntropyModel<6>
-        + Copy,
-{
-    has_weights::<M, 6>(rt, model, &WEIGHTS);
-    for (symbol, row) in [
-        (0usize, Some((0usize, 0u8, 3u8))),
-        (1, Some((1, 3, 18))),
-        (2, Some((2, 21, 1))),
-        (3, Some((3, 22, 42))),
-        (4, None),
-    ] {
-        same_at(rt, symbol, entry::<M, 6>(&model, symbol), row);
+/// The lookup model of the worked table. It stops the test where memory is refused.
+pub fn small(rt: &impl Abort, alloc: Global) -> Lookup<6> {
+    lookup::<6>(alloc, &WEIGHTS, false).expect(rt, "accepted")
+}
+
+/// A view of a lookup model.
+type View<'m> = ContiguousLookupDecoderModel<u8, &'m [u8], &'m [u8], 6>;
+
+/// Stops the test where the view has other rows than the worked table.
+fn view_has_rows(rt: &impl Abort, view: &View<'_>) {
+    has_weights::<_, 6>(rt, view, &WEIGHTS);
+}
+
+/// A view of a model that searches.
+type SearchingView<'m> = ContiguousCategoricalEntropyModel<u8, &'m [u8], 6>;
+
+/// Stops the test where the view of a model that searches has other rows than the worked table.
+pub fn searching_has_rows(rt: &impl Abort, view: &SearchingView<'_>) {
+    has_weights::<_, 6>(rt, view, &WEIGHTS);
+}
+
+/// Symbols, and what a model of the worked table answers for them.
+const ENTRIES: [(usize, Option<(usize, u8, u8)>); 5] = [
+    (0, Some((0, 0, 3))),
+    (1, Some((1, 3, 18))),
+    (2, Some((2, 21, 1))),
+    (3, Some((3, 22, 42))),
+    (4, None),
+];
+
+/// Stops the test where the view of a model that searches has not the rows of the worked table, or has other entries.
+fn is_searching(rt: &impl Abort, view: &SearchingView<'_>) {
+    searching_has_rows(rt, view);
+    for each in &ENTRIES {
+        let (symbol, row) = *each;
+        same_at(rt, symbol, entry::<_, 6>(view, symbol), row);
     }
 }
 
 #[test]
 fn a_lookup_model_is_cloned_and_viewed_and_gives_the_searching_one_of_its_rows(rt: HostRuntime) {
-    let model = lookup::<6>(rt.alloc(), &WEIGHTS, false).expect(&rt, "accepted");
+    let model = small(&rt, rt.alloc());
     is_small(&rt, model.clone());
-    has_weights::<_, 6>(&rt, &model.as_view(), &WEIGHTS);
-    has_weights::<_, 6>(&rt, &model.as_view().as_view(), &WEIGHTS);
+    view_has_rows(&rt, &model.as_view().as_view());
     is_searching(&rt, &model.as_contiguous_categorical());
     let searching = model.into_contiguous_categorical();
-    is_searching(&rt, &searching);
+    is_searching(&rt, &searching.as_view());
     same(&rt, searching.support_size(), 4);
 }
 
 #[test]
 fn both_ends_of_a_lookup_model_give_each_row_once(rt: HostRuntime) {
-    let model = lookup::<6>(rt.alloc(), &WEIGHTS, false).expect(&rt, "accepted");
+    let model = small(&rt, rt.alloc());
     let mut table: Walk = model.symbol_table();
-    for (from_the_back, rows, expected) in STEPS {
+    for each in &STEPS {
+        let (from_the_back, rows, expected) = *each;
         same(&rt, left(&table), (rows, (rows, Some(rows))));
         same_at(&rt, rows, step(&mut table, from_the_back), expected);
     }

@@ -76,39 +76,49 @@ where
     (row, counted, first.wrapping_add(index), size, rows.asked())
 }
 
+/// Quantiles of five weights, and their rows.
+const FIVE_ROWS: [(u16, (usize, u16, u16)); 3] = [
+    (0, (0, 0, 1)),
+    (3, (3, 3, 1)),
+    (4, (4, 4, 4092)),
+];
+
 /// Stops the test where the model has not the rows of the five weights.
 fn has_five_rows<M>(rt: &impl Abort, model: &M)
 where
-    M: DecoderModel<12> + EntropyModel<12, Symbol = usize, Probability = u16>,
+    M: DecoderModel<12, Symbol = usize, Probability = u16>,
 {
-    for (quantile, row) in [
-        (0u16, (0usize, 0u16, 1u16)),
-        (3, (3, 3, 1)),
-        (4, (4, 4, 4092)),
-    ] {
+    for each in &FIVE_ROWS {
+        let (quantile, row) = *each;
         let found = tables::row(Some(model.quantile_function(quantile)));
         same_at(rt, quantile, found, Some(row));
     }
 }
 
+/// Stops the test where a lookup model has not these rows.
+fn looks_up_five_rows<const SLOT_BITS: usize>(
+    rt: &impl Abort,
+    model: &Slotted<u16, 12, SLOT_BITS>,
+) {
+    has_five_rows(rt, model);
+}
+
 /// The direct model of five rows.
 type Direct = SmallContiguousDirectLookupDecoderModel;
 
-/// Stops the test where a view of the model, or the searching model in it or in a view, has not these rows.
-fn views_have_five_rows(rt: &impl Abort, model: &Direct) {
+/// Stops the test where a view of the model, or the searching model in it, has not these rows.
+fn view_has_five_rows(rt: &impl Abort, model: &Direct) {
     has_five_rows(rt, &model.as_view());
-    has_five_rows(rt, &model.as_contiguous_categorical());
     has_five_rows(rt, &model.as_view().into_contiguous_categorical());
 }
 
 #[test]
 fn a_direct_model_is_cloned_and_viewed(rt: HostRuntime) {
     let model: Direct = slotted(rt.alloc(), &[1, 1, 1, 1, 4092]).expect(&rt, "accepted");
-    has_five_rows(&rt, &model);
-    has_five_rows(&rt, &model.clone().expect(&rt, "a clone"));
-    views_have_five_rows(&rt, &model);
+    looks_up_five_rows(&rt, &model);
+    looks_up_five_rows(&rt, &model.clone().expect(&rt, "a clone"));
+    view_has_five_rows(&rt, &model);
     same(&rt, model.symbol_table().len(), 5);
-    has_five_rows(&rt, &model.into_contiguous_categorical());
 }
 
 /// The row at an index of a model that stores its rows, and how many entries it lends.
@@ -136,11 +146,11 @@ fn a_model_that_stores_its_rows_gets_a_table(rt: HostRuntime) {
         same(&rt, stored(&searching, 3), Some((3, 3, 1, 5)));
     }
     let direct = searching.to_slotted_lookup_decoder_model::<12>(rt.alloc());
-    has_five_rows(&rt, &direct.expect(&rt, "a table"));
+    looks_up_five_rows(&rt, &direct.expect(&rt, "a table"));
     let model: Slotted<u16, 12, 4> = LookupDecoderModel::with_table(rt.alloc(), searching).expect(
         &rt, "a table",
     );
-    has_five_rows(&rt, &model);
+    looks_up_five_rows(&rt, &model);
 }
 
 /// A model of letters with so many slots.

@@ -1,1 +1,2 @@
+mod DistinctLemmas
 mod EvenLemmas

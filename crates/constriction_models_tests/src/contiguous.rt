@@ -116,10 +116,9 @@ where
 }
 
 #[test]
-fn a_model_and_references_to_it_are_used_through_bounds(rt: HostRuntime) {
+fn a_model_and_a_reference_to_it_are_used_through_bounds(rt: HostRuntime) {
     let model = small(&rt, rt.alloc());
-    same(&rt, symbol_through_bounds(&model, 21u8), Some(2));
-    same(&rt, symbol_through_bounds(&&model, 22u8), Some(3));
+    same(&rt, symbol_through_bounds(&model, 22u8), Some(3));
     same(&rt, symbol_through_bounds(model, 3u8), Some(1));
 }
 

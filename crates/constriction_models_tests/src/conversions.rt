@@ -4,7 +4,7 @@ ghost use Rattle.std.specs.Prelude.{◌^◌, ◌<◌, ◌≤◌};
 
 use crate::any_symbols::encodes;
 use crate::checks::same_at;
-use crate::model_checks::{decodes, tile};
+use crate::model_checks::{decodes_letters, tile};
 use constriction::stream::model::{
     DecoderModel, EncoderModel, FromIterableEntropyModel, IterableEntropyModel, ModelError,
     NonContiguousCategoricalEncoderModel, UniformModel, to_generic_decoder_model,
@@ -12,7 +12,7 @@ use constriction::stream::model::{
 };
 use constriction_fixtures::any_symbols;
 use constriction_fixtures::any_symbols::{ROWS, SYMBOLS, WEIGHTS};
-use constriction_fixtures::contiguous::table;
+use constriction_fixtures::contiguous::{row_by_scan, table};
 use constriction_fixtures::conversions::Decoder;
 use constriction_fixtures::tables::{entry, look_up};
 use constriction_words::NonZeroBitArray;
@@ -56,11 +56,20 @@ where
     )
 }
 
-/// Stops the test where what was made answers otherwise than this model does, or its rows do not tile.
-fn answer_as<M>(rt: &impl Abort, model: &M, made: Made<usize, 6>)
-where
-    M: DecoderModel<6, Symbol = usize, Probability = u8> + EncoderModel<6>,
-{
+/// The row of a symbol by a plain scan of the weights.
+fn row_of_symbol(weights: &[u8], symbol: usize) -> Option<(usize, u8, u8)> {
+    let mut left = 0u8;
+    for (at, weight) in weights.iter().enumerate() {
+        if at == symbol {
+            return Some((symbol, left, *weight));
+        }
+        left = left.wrapping_add(*weight);
+    }
+    None
+}
+
+/// Stops the test where what was made has other rows than those of these weights, or its rows do not tile.
+fn have_weights(rt: &impl Abort, made: Made<usize, 6>, weights: &[u8]) {
     let decoder = made.0.expect(rt, "a model");
     let encoder = made.1.expect(rt, "a model");
     for word in 0..=64u8 {
@@ -69,38 +78,43 @@ where
             look_up::<_, 6>(&decoder, word),
             entry::<_, 6>(&encoder, symbol),
         );
-        let expected = (look_up::<M, 6>(model, word), entry::<M, 6>(model, symbol));
+        let expected = (row_by_scan(weights, word), row_of_symbol(weights, symbol));
         same_at(rt, word, found, expected);
     }
     tile::<_, 6>(rt, &decoder);
 }
 
-/// Stops the test where one of the models that are made from this one answers otherwise than it does.
-fn makes_its_like<M>(rt: &impl Abort, alloc: Global, model: M)
+/// Stops the test where one of the models that are made from this one has other rows than those of its weights.
+fn makes_its_like<M>(rt: &impl Abort, alloc: Global, model: M, weights: &[u8])
 where
-    M: DecoderModel<6, Symbol = usize, Probability = u8>
-        + EncoderModel<6>
-        + IterableEntropyModel<6>
-        + Copy,
+    M: IterableEntropyModel<6, Symbol = usize, Probability = u8> + Copy,
 {
     let (by_function, by_method) = made::<M, 6>(alloc, model);
-    answer_as(rt, &model, by_function);
-    answer_as(rt, &model, by_method);
+    have_weights(rt, by_function, weights);
+    have_weights(rt, by_method, weights);
+}
+
+/// The same of the uniform model of so many symbols.
+fn uniform_makes_its_like(rt: &impl Abort, alloc: Global, range: usize, weights: &[u8])
+    requires some { 2 ≤ range }
+    requires within { range ≤ 64 }
+{
+    makes_its_like(rt, alloc, UniformModel::<u8, 6>::new(range), weights);
 }
 
 #[test]
 fn models_that_are_made_from_one_of_numbers_answer_as_it_does(rt: HostRuntime) {
     let model = table::<6>(rt.alloc(), &WEIGHTS, false).expect(&rt, "accepted");
-    makes_its_like(&rt, rt.alloc(), &model);
-    makes_its_like(&rt, rt.alloc(), &model.as_view());
-    for range in [2, 5, 64] {
-        makes_its_like(&rt, rt.alloc(), UniformModel::<u8, 6>::new(range));
-    }
+    makes_its_like(&rt, rt.alloc(), &model, &WEIGHTS);
+    makes_its_like(&rt, rt.alloc(), &model.as_view(), &WEIGHTS);
+    uniform_makes_its_like(&rt, rt.alloc(), 2, &[32, 32]);
+    uniform_makes_its_like(&rt, rt.alloc(), 5, &[12, 12, 12, 12, 16]);
+    uniform_makes_its_like(&rt, rt.alloc(), 64, &[1; 64]);
 }
 
 /// Stops the test where what was made has other rows than the worked table.
 fn have_rows(rt: &impl Abort, made: Made<char, 6>) {
-    decodes::<_, 6>(rt, &made.0.expect(rt, "a model"), &ROWS);
+    decodes_letters(rt, &made.0.expect(rt, "a model"), &ROWS);
     encodes(rt, &made.1.expect(rt, "a model"), &ROWS);
 }
 

@@ -2,12 +2,13 @@
 
 ghost use Rattle.std.specs.Prelude.{◌<◌, nat_eq};
 ghost use Rattle.std.specs.List.{IsDistinct};
+ghost use Rattle.constriction.specs.Rows.{symbols_of};
 
 use crate::checks::{end_of_requests, same, same_at};
-use crate::model_checks::{decodes, decodes_or_is_refused, small};
+use crate::model_checks::{decodes, decodes_letters, decodes_or_is_refused, small};
 use constriction::laws::{contiguous_symbols_differ, non_contiguous_symbols_differ};
 use constriction::stream::model::{
-    DecoderModel, ModelError, NonContiguousCategoricalDecoderModel,
+    DecoderModel, EntropyModel, ModelError, NonContiguousCategoricalDecoderModel,
     NonContiguousLookupDecoderModel, to_generic_decoder_model_of_distinct,
     to_generic_lookup_decoder_model_of_distinct,
 };
@@ -73,7 +74,7 @@ fn letters_are_told_apart_by_their_hashes_or_their_order(rt: HostRuntime) {
     for each in &ACCEPTED {
         let (in_order, symbols, weights, infer, rows) = *each;
         let model = letters(rt.alloc(), in_order, symbols, weights, infer).expect(&rt, "a model");
-        decodes::<_, 6>(&rt, &model, rows);
+        decodes_letters(&rt, &model, rows);
     }
 }
 
@@ -118,6 +119,11 @@ const MOVES: [(Move, u8, u8); 3] = [
     (Move::Stay, 32, 32),
 ];
 
+/// Stops the test where no model was made, or it has not these rows.
+fn has_moves(rt: &impl Abort, made: Result<Moves, ModelError>) {
+    decodes::<_, 6>(rt, &made.expect(rt, "a model"), &MOVES);
+}
+
 #[test]
 fn an_enum_is_hashed_and_ordered(rt: HostRuntime) {
     let symbols = [Move::Left, Move::Right, Move::Stay];
@@ -127,14 +133,14 @@ fn an_enum_is_hashed_and_ordered(rt: HostRuntime) {
         [16, 16, 32],
         false,
     );
-    decodes::<_, 6>(&rt, &hashed.expect(&rt, "a model"), &MOVES);
+    has_moves(&rt, hashed);
     let sorted = Moves::from_sorted_symbols_and_nonzero_fixed_point_probabilities(
         rt.alloc(),
         symbols,
         [16, 16, 32],
         false,
     );
-    decodes::<_, 6>(&rt, &sorted.expect(&rt, "a model"), &MOVES);
+    has_moves(&rt, sorted);
 }
 
 /// Texts, each in memory of its own. It stops the test where memory is refused.
@@ -188,6 +194,7 @@ fn texts_are_hashed_and_ordered(rt: HostRuntime) {
 }
 
 /// The model of four numbers of which the caller knows that they differ.
+#[tactic(auto, using(crate::proofs::DistinctLemmas::array_gives_distinct))]
 fn of_distinct(alloc: Global, symbols: [usize; 4], weights: [u8; 4]) -> Result<Numbers, ModelError>
     requires { IsDistinct nat_eq symbols }
 {
@@ -199,52 +206,76 @@ fn of_distinct(alloc: Global, symbols: [usize; 4], weights: [u8; 4]) -> Result<N
 /// The rows of the model of these numbers.
 const NUMBERS: [(usize, u8, u8); 4] = [(7, 0, 3), (3, 3, 18), (9, 21, 1), (5, 22, 42)];
 
+/// Stops the test where no lookup model was made, or it has not these rows.
+fn looks_up_numbers(
+    rt: &impl Abort,
+    made: Result<NumberLookup, ModelError>,
+    rows: &[(usize, u8, u8)],
+) {
+    decodes::<_, 6>(rt, &made.expect(rt, "a model"), rows);
+}
+
 #[test]
 fn numbers_that_are_known_to_differ_are_not_compared(rt: HostRuntime) {
     let made = of_distinct(rt.alloc(), [7, 3, 9, 5], WEIGHTS).expect(&rt, "a model");
     decodes::<_, 6>(&rt, &made, &NUMBERS);
     let refused = of_distinct(rt.alloc(), [7, 3, 9, 5], [3, 18, 1, 43]);
     same(&rt, refused.err(), Some(ModelError::InvalidTable));
-    let looks_up = made
-        .into_lookup_decoder_model(rt.alloc())
-        .expect(&rt, "a model");
-    decodes::<_, 6>(&rt, &looks_up, &NUMBERS);
+    looks_up_numbers(&rt, made.into_lookup_decoder_model(rt.alloc()), &NUMBERS);
+}
+
+/// No two symbols of a contiguous model are equal.
+fn numbers_differ(model: &Small)
+    ensures { IsDistinct nat_eq (symbols_of (⟦<Small as EntropyModel<6>>⟧.rows model.now)) }
+{
+    contiguous_symbols_differ();
 }
 
 /// The lookup model of the rows of a contiguous one.
+#[tactic(auto, using(crate::proofs::DistinctLemmas::same_are_equal))]
 fn of_contiguous(alloc: Global, model: &Small) -> Result<NumberLookup, ModelError> {
-    contiguous_symbols_differ();
+    numbers_differ(model);
     to_generic_lookup_decoder_model_of_distinct::<_, 6>(alloc, model)
 }
 
-/// The decoder's model of the rows of another one, whose symbols differ however it was made.
-fn again(alloc: Global, model: &Decoder<6>) -> Result<Decoder<6>, ModelError> {
+/// No two letters of a decoder's model are equal, however it was made.
+fn letters_differ(model: &Decoder<6>)
+    ensures { IsDistinct nat_eq (symbols_of (⟦<Decoder<6> as EntropyModel<6>>⟧.rows model.now)) }
+{
     non_contiguous_symbols_differ::<char, u8, Vec<(u8, char)>, 6>();
+}
+
+/// The decoder's model of the rows of another one.
+#[tactic(auto, using(crate::proofs::DistinctLemmas::same_are_equal))]
+fn again(alloc: Global, model: &Decoder<6>) -> Result<Decoder<6>, ModelError> {
+    letters_differ(model);
     to_generic_decoder_model_of_distinct::<_, 6>(alloc, model)
 }
 
+/// The rows of the contiguous model.
+const INDICES: [(usize, u8, u8); 4] = [(0, 0, 3), (1, 3, 18), (2, 21, 1), (3, 22, 42)];
+
 #[test]
 fn models_whose_symbols_differ_are_converted_without_comparing(rt: HostRuntime) {
-    let looks_up = of_contiguous(rt.alloc(), &small(&rt, rt.alloc())).expect(&rt, "a model");
-    decodes::<_, 6>(
-        &rt,
-        &looks_up,
-        &[(0, 0, 3), (1, 3, 18), (2, 21, 1), (3, 22, 42)],
-    );
+    let looks_up = of_contiguous(rt.alloc(), &small(&rt, rt.alloc()));
+    looks_up_numbers(&rt, looks_up, &INDICES);
     let model = letters(rt.alloc(), false, &SYMBOLS, &WEIGHTS, false).expect(&rt, "a model");
     let made = again(rt.alloc(), &model).expect(&rt, "a model");
-    decodes::<_, 6>(&rt, &made, &ROWS);
+    decodes_letters(&rt, &made, &ROWS);
 }
 
 #[test]
 fn a_refusal_of_memory_leaves_no_model_of_symbols_that_are_not_compared(rt: HostRuntime) {
     let sorted = letters(rt.alloc(), true, &IN_ORDER, &WEIGHTS, false);
-    decodes_or_is_refused::<_, 6>(&rt, &sorted, &ROWS_IN_ORDER);
+    decodes_or_is_refused(&rt, &sorted, &ROWS_IN_ORDER);
     let hashed = letters(rt.alloc(), false, &SYMBOLS, &WEIGHTS, false);
-    decodes_or_is_refused::<_, 6>(&rt, &hashed, &ROWS);
+    decodes_or_is_refused(&rt, &hashed, &ROWS);
     if let Ok(model) = hashed {
-        decodes_or_is_refused::<_, 6>(&rt, &again(rt.alloc(), &model), &ROWS);
-        decodes_or_is_refused::<_, 6>(&rt, &model.into_lookup_decoder_model(rt.alloc()), &ROWS);
+        decodes_or_is_refused(&rt, &again(rt.alloc(), &model), &ROWS);
+        match model.into_lookup_decoder_model(rt.alloc()) {
+            Ok(looks_up) => decodes::<_, 6>(&rt, &looks_up, &ROWS),
+            Err(error) => same(&rt, error, ModelError::OutOfMemory),
+        }
     }
     end_of_requests(&rt);
 }

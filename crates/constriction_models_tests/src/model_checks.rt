@@ -7,7 +7,7 @@ use constriction::stream::model::{
     DecoderModel, EncoderModel, IterableEntropyModel, ModelError, NonContiguousSymbolTable,
     is_quantile,
 };
-use constriction_fixtures::any_symbols::{Row, Step, plain};
+use constriction_fixtures::any_symbols::{Decoder, Row, Step, plain};
 use constriction_fixtures::contiguous::{Small, Table, WEIGHTS, row_by_scan, table};
 use constriction_fixtures::tables::{look_up, row};
 use constriction_words::WholeNumber;
@@ -34,19 +34,29 @@ where
     }
 }
 
-/// Stops the test where the answer is neither a model of these rows nor a refusal of memory.
-pub fn decodes_or_is_refused<M, const PRECISION: usize>(
+/// The same of the decoder's model of letters.
+pub fn decodes_letters<const PRECISION: usize>(
     rt: &impl Abort,
-    made: &Result<M, ModelError>,
+    model: &Decoder<PRECISION>,
     rows: &[Row],
 )
-where
-    M: DecoderModel<PRECISION, Symbol = char, Probability = u8>,
+    requires positive { 0 < PRECISION }
+    requires fits { PRECISION ≤ 8 }
+{
+    decodes::<_, PRECISION>(rt, model, rows);
+}
+
+/// Stops the test where the answer is neither a model of these rows nor a refusal of memory.
+pub fn decodes_or_is_refused<const PRECISION: usize>(
+    rt: &impl Abort,
+    made: &Result<Decoder<PRECISION>, ModelError>,
+    rows: &[Row],
+)
     requires positive { 0 < PRECISION }
     requires fits { PRECISION ≤ 8 }
 {
     match made {
-        Ok(model) => decodes::<M, PRECISION>(rt, model, rows),
+        Ok(model) => decodes_letters(rt, model, rows),
         Err(error) => same(rt, error, &ModelError::OutOfMemory),
     }
 }

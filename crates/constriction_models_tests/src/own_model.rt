@@ -11,7 +11,7 @@ ghost use Rattle.constriction.specs.Tables.{YieldsRow};
 use crate::any_symbols::encodes;
 use crate::checks::{same, same_at};
 use crate::conversions::{Made, made};
-use crate::model_checks::{decodes, walks};
+use crate::model_checks::{decodes_letters, walks};
 use constriction::stream::model::{
     EncoderModel, EntropyModel, IterableEntropyModel, ModelError, Weight, to_generic_decoder_model,
 };
@@ -38,12 +38,20 @@ fn is_encoder<const PRECISION: usize>(rt: &impl Abort, made: Made<char, PRECISIO
     encodes(rt, &made.1.expect(rt, "a model"), rows);
 }
 
+/// Letters, and their entries in the model of `p`, `q` and `p`.
+const ENTRIES: [(char, Option<(u8, u8)>); 3] = [
+    ('p', Some((7, 1))),
+    ('q', Some((2, 5))),
+    ('r', None),
+];
+
 #[test]
 fn two_rows_of_one_letter_make_an_encoder_and_no_decoder(rt: HostRuntime) {
     let model = three('p', 'q', 'p');
     let refused = decoder_of(rt.alloc(), &model).err();
     same(&rt, refused, Some(ModelError::InvalidTable));
-    for (symbol, entry) in [('p', Some((7, 1))), ('q', Some((2, 5))), ('r', None)] {
+    for each in &ENTRIES {
+        let (symbol, entry) = *each;
         let found = plain_entry(model.left_cumulative_and_probability(&symbol));
         same_at(&rt, symbol, found, entry);
     }
@@ -67,7 +75,7 @@ const STEPS: [Step; 4] = [
 fn a_decoder_has_the_rows_of_three_letters_of_the_caller(rt: HostRuntime) {
     let model = decoder_of(rt.alloc(), &three('p', 'q', 'r')).expect(&rt, "a model");
     walks(&rt, model.symbol_table(), &STEPS);
-    decodes::<_, 3>(&rt, &model, &THREE);
+    decodes_letters(&rt, &model, &THREE);
 }
 
 /// A model of one letter, which has two rows of the same weight. It is copied into its table.

@@ -10,6 +10,7 @@ use constriction::stream::model::{
 };
 use constriction_words::WholeNumber;
 use std::alloc::AllocError;
+use std::process::Abort;
 
 /// A share of 256.
 #[derive(Clone, Copy)]
@@ -112,39 +113,43 @@ impl WholeNumber for Share {
 /// A model over shares.
 type Shares = ContiguousCategoricalEntropyModel<Share, Vec<Share>, 6>;
 
-/// The row of an answer, in numbers.
-fn row(answer: Result<(usize, Share, SomeShare), AllocError>) -> Option<(usize, u8, u8)> {
+/// A row, in numbers.
+type Row = (usize, u8, u8);
+
+/// The row of an answer.
+fn row(answer: Result<(usize, Share, SomeShare), AllocError>) -> Option<Row> {
     let (symbol, left, weight) = answer.ok()?;
     Some((symbol, left.0, weight.share.0))
 }
+
+/// The entry of a symbol as a row, in numbers.
+fn entry(model: &Shares, symbol: usize) -> Option<Row> {
+    let (left, weight) = model.left_cumulative_and_probability(&symbol)?;
+    Some((symbol, left.0, weight.share.0))
+}
+
+/// Stops the test where this is not the row.
+fn is_row(rt: &impl Abort, found: Option<Row>, expected: Option<Row>) {
+    same(rt, found, expected);
+}
+
+/// Quantiles of the weights 3, 18, 1 and 42, and their rows.
+const ROWS: [(u8, Row); 3] = [(20, (1, 3, 18)), (21, (2, 21, 1)), (63, (3, 22, 42))];
 
 #[test]
 fn a_model_over_shares_answers_in_both_directions(rt: HostRuntime) {
     let weights = [Share(3), Share(18), Share(1), Share(42)];
     let made = Shares::from_nonzero_fixed_point_probabilities(rt.alloc(), weights, false);
     let model = made.expect(&rt, "accepted");
-    same(
-        &rt,
-        [
-            row(model.quantile_function(Share(20))),
-            row(model.quantile_function(Share(21))),
-            row(model.quantile_function(Share(63))),
-        ],
-        [Some((1, 3, 18)), Some((2, 21, 1)), Some((3, 22, 42))],
-    );
-    let (left, weight) = model
-        .left_cumulative_and_probability(&1)
-        .expect(&rt, "an entry");
-    same(&rt, (left.0, weight.share.0), (3, 18));
-    same(
-        &rt,
-        model.left_cumulative_and_probability(&4).is_none(),
-        true,
-    );
+    for each in &ROWS {
+        let (quantile, expected) = *each;
+        assert!(rt; quantile < 64);
+        let found = row(model.quantile_function(Share(quantile)));
+        is_row(&rt, found, Some(expected));
+    }
+    is_row(&rt, entry(&model, 1), Some((1, 3, 18)));
+    is_row(&rt, entry(&model, 4), None);
     let uniform = UniformModel::<Share, 8>::new(3);
-    same(
-        &rt,
-        row(uniform.quantile_function(Share(255))),
-        Some((2, 170, 86)),
-    );
+    let last = row(uniform.quantile_function(Share(255)));
+    is_row(&rt, last, Some((2, 170, 86)));
 }

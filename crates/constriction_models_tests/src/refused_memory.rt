@@ -6,21 +6,26 @@ ghost use Rattle.std.specs.Prelude.{◌<◌, ◌≤◌};
 use crate::any_symbols::encodes;
 use crate::checks::{end_of_requests, same};
 use crate::conversions::{Made, made};
-use crate::model_checks::{answers_as_a_scan, decodes, decodes_or_is_refused};
+use crate::model_checks::{answers_as_a_scan, decodes_letters, decodes_or_is_refused};
 use crate::own_model::THREE;
 use constriction::stream::model::{ModelError, NonContiguousCategoricalDecoderModel};
 use constriction_fixtures::any_symbols::{Decoder, Encoder, ROWS, Row, SYMBOLS, WEIGHTS, decoder};
 use constriction_fixtures::contiguous::Table;
 use constriction_fixtures::own_model::three;
-use std::alloc::{AllocError, Global};
+use std::alloc::Global;
 use std::process::Abort;
 
 type Texts = NonContiguousCategoricalDecoderModel<String, u8, Vec<(u8, String)>, 6>;
 
+/// Stops the test where the model has other rows than the weights.
+fn has_weights(rt: &impl Abort, model: &Table<6>) {
+    answers_as_a_scan::<_, 6>(rt, model, &WEIGHTS);
+}
+
 /// Stops the test where the answer is neither the model of the weights nor a refusal of memory.
 fn is_contiguous(rt: &impl Abort, made: &Result<Table<6>, ModelError>) {
     match made {
-        Ok(model) => answers_as_a_scan::<_, 6>(rt, model, &WEIGHTS),
+        Ok(model) => has_weights(rt, model),
         Err(error) => same(rt, error, &ModelError::OutOfMemory),
     }
 }
@@ -35,9 +40,8 @@ fn grown_contiguous(alloc: Global) -> Result<Table<6>, ModelError> {
 fn a_refusal_of_memory_leaves_no_contiguous_model(rt: HostRuntime) {
     let made = grown_contiguous(rt.alloc());
     if let Ok(model) = &made {
-        match model.clone() {
-            Ok(clone) => answers_as_a_scan::<_, 6>(&rt, &clone, &WEIGHTS),
-            Err(error) => same(&rt, error, AllocError),
+        if let Ok(clone) = model.clone() {
+            has_weights(&rt, &clone);
         }
     }
     is_contiguous(&rt, &made);
@@ -66,12 +70,11 @@ fn a_refusal_of_memory_leaves_no_decoder(rt: HostRuntime) {
         false,
     );
     if let Ok(model) = &made {
-        match model.clone() {
-            Ok(clone) => decodes::<_, 6>(&rt, &clone, &ROWS),
-            Err(error) => same(&rt, error, AllocError),
+        if let Ok(clone) = model.clone() {
+            decodes_letters(&rt, &clone, &ROWS);
         }
     }
-    decodes_or_is_refused::<_, 6>(&rt, &made, &ROWS);
+    decodes_or_is_refused(&rt, &made, &ROWS);
     end_of_requests(&rt);
 }
 
@@ -85,9 +88,8 @@ fn a_refusal_of_memory_leaves_no_encoder(rt: HostRuntime) {
         false,
     );
     if let Ok(model) = &made {
-        match model.clone() {
-            Ok(clone) => encodes(&rt, &clone, &ROWS),
-            Err(error) => same(&rt, error, AllocError),
+        if let Ok(clone) = model.clone() {
+            encodes(&rt, &clone, &ROWS);
         }
     }
     encodes_or_is_refused(&rt, &made, &ROWS);
@@ -103,7 +105,7 @@ fn have_rows_or_are_refused<const PRECISION: usize>(
     requires positive { 0 < PRECISION }
     requires fits { PRECISION ≤ 8 }
 {
-    decodes_or_is_refused::<_, PRECISION>(rt, &made.0, rows);
+    decodes_or_is_refused(rt, &made.0, rows);
     encodes_or_is_refused(rt, &made.1, rows);
 }
 
@@ -115,7 +117,7 @@ fn a_refusal_of_memory_leaves_the_model_that_others_are_made_from(rt: HostRuntim
         have_rows_or_are_refused(&rt, &by_function, &ROWS);
         have_rows_or_are_refused(&rt, &by_method, &ROWS);
     }
-    decodes_or_is_refused::<_, 6>(&rt, &source, &ROWS);
+    decodes_or_is_refused(&rt, &source, &ROWS);
     end_of_requests(&rt);
 }
 
@@ -128,11 +130,14 @@ fn a_refusal_of_memory_leaves_a_model_of_the_caller(rt: HostRuntime) {
     end_of_requests(&rt);
 }
 
+const TEXTS: [&str; 2] = ["left", "right"];
+
 /// The model of two texts, each in memory of its own.
 fn of_texts(alloc: Global) -> Result<Texts, ModelError> {
     let mut texts = Vec::new(alloc);
-    texts.push(String::from_str(alloc, "left")?)?;
-    texts.push(String::from_str(alloc, "right")?)?;
+    for text in &TEXTS {
+        texts.push(String::from_str(alloc, text)?)?;
+    }
     Texts::from_symbols_and_nonzero_fixed_point_probabilities(alloc, texts, [22, 42], false)
 }
 

@@ -1,6 +1,6 @@
 //! Walks through the rows of a model, from either end, and by a caller of the trait.
 
-ghost use Rattle.std.specs.Prelude.{◌<◌, ◌≤◌};
+ghost use Rattle.std.specs.Prelude.{◌^◌, ◌<◌, ◌≤◌};
 
 use crate::checks::{same, same_at};
 use crate::model_checks::{made, small, tile_and_are_answered};
@@ -15,35 +15,38 @@ use std::process::Abort;
 fn both_ends_give_each_row_once(rt: HostRuntime) {
     let model = small(&rt, rt.alloc());
     let mut table = model.symbol_table();
-    for (from_the_back, rows, expected) in STEPS {
+    for each in &STEPS {
+        let (from_the_back, rows, expected) = *each;
         same(&rt, left(&table), (rows, (rows, Some(rows))));
         same_at(&rt, rows, step(&mut table, from_the_back), expected);
     }
 }
 
+/// The rows of the weights 2^63, 2^63 - 1 and 1, the last one first.
+const FROM_THE_BACK: [Option<(usize, u64, u64)>; 4] = [
+    Some((2, u64::MAX, 1)),
+    Some((1, 1 << 63, (1 << 63) - 1)),
+    Some((0, 0, 1 << 63)),
+    None,
+];
+
 #[test]
 fn the_last_row_at_the_full_width_of_u64_is_given_from_the_back(rt: HostRuntime) {
     let weights = [1u64 << 63, (1 << 63) - 1];
     let model = model_of::<u64, 64>(rt.alloc(), &weights, true).expect(&rt, "accepted");
-    let mut rows = model.symbol_table().rev();
-    for expected in [
-        Some((2, u64::MAX, 1)),
-        Some((1, 1 << 63, (1 << 63) - 1)),
-        Some((0, 0, 1 << 63)),
-        None,
-    ] {
-        same(&rt, row(rows.next()), expected);
+    let mut rows = model.symbol_table();
+    for expected in &FROM_THE_BACK {
+        same(&rt, row(rows.next_back()), *expected);
     }
 }
 
-/// Stops the test where the rows of a reference to the model, or of a reference to it, do not tile or are not what
-/// the model answers, or are not so many.
-fn references_tile<const PRECISION: usize>(rt: &impl Abort, model: &Table<PRECISION>, count: usize)
+/// Stops the test where the rows of a reference to the model do not tile or are not what the model answers, or are not
+/// so many.
+fn rows_tile<const PRECISION: usize>(rt: &impl Abort, model: &Table<PRECISION>, count: usize)
     requires positive { 0 < PRECISION }
     requires fits { PRECISION ≤ 8 }
 {
     tile_and_are_answered::<_, PRECISION>(rt, model);
-    tile_and_are_answered::<_, PRECISION>(rt, &model);
     same(
         rt,
         (model.symbol_table().len(), counts(model)),
@@ -59,17 +62,27 @@ fn rows_of_a_contiguous_model_tile_and_are_what_it_answers(rt: HostRuntime) {
         (&[63], true, 2),
     ] {
         let model = made::<6>(&rt, rt.alloc(), weights, infer_last);
-        references_tile(&rt, &model, count);
+        rows_tile(&rt, &model, count);
     }
-    references_tile(&rt, &made::<8>(&rt, rt.alloc(), &[200], true), 2);
+    rows_tile(&rt, &made::<8>(&rt, rt.alloc(), &[200], true), 2);
+}
+
+/// Stops the test where the rows of the uniform model of so many symbols do not tile or are not what it answers.
+fn uniform_rows_tile<const PRECISION: usize>(rt: &impl Abort, range: usize)
+    requires positive { 0 < PRECISION }
+    requires fits { PRECISION ≤ 8 }
+    requires some { 2 ≤ range }
+    requires within { range ≤ 2 ^ PRECISION }
+{
+    tile_and_are_answered::<_, PRECISION>(rt, UniformModel::<u8, PRECISION>::new(range));
 }
 
 #[test]
 fn rows_of_a_uniform_model_tile_and_are_what_it_answers(rt: HostRuntime) {
     for range in [2, 3, 64] {
-        tile_and_are_answered::<_, 6>(&rt, UniformModel::<u8, 6>::new(range));
+        uniform_rows_tile::<6>(&rt, range);
     }
     for range in [2, 3, 255, 256] {
-        tile_and_are_answered::<_, 8>(&rt, &UniformModel::<u8, 8>::new(range));
+        uniform_rows_tile::<8>(&rt, range);
     }
 }

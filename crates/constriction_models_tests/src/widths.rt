@@ -168,6 +168,14 @@ const ROWS_OF_THREE: [(u16, (usize, u16, u16)); 6] = [
     (4095, (2, 1096, 3000)),
 ];
 
+/// A view of a small model.
+type View<'m> = SmallContiguousCategoricalEntropyModel<&'m [u16]>;
+
+/// Stops the test where the view has other rows than the three weights, or an entry for so many symbols.
+fn has_three_rows(rt: &impl Abort, view: &View<'_>, size: usize) {
+    answers::<_, 12>(rt, view, &ROWS_OF_THREE, &[size]);
+}
+
 #[test]
 fn the_views_and_clones_of_a_model_answer_as_it_does(rt: HostRuntime) {
     type Small = SmallContiguousCategoricalEntropyModel;
@@ -176,9 +184,9 @@ fn the_views_and_clones_of_a_model_answer_as_it_does(rt: HostRuntime) {
     let clone = model.clone().expect(&rt, "a clone");
     let view = model.as_view();
     let again = view.as_view();
-    answers::<_, 12>(&rt, &clone, &ROWS_OF_THREE, &[clone.support_size()]);
-    answers::<_, 12>(&rt, &view, &ROWS_OF_THREE, &[view.support_size()]);
-    answers::<_, 12>(&rt, &again, &ROWS_OF_THREE, &[again.support_size()]);
+    has_three_rows(&rt, &clone.as_view(), clone.support_size());
+    has_three_rows(&rt, &view, view.support_size());
+    has_three_rows(&rt, &again, again.support_size());
     shows(&rt, rt.alloc(), &view, "[0, 96, 1096, 4096]");
 }
 
