@@ -7,6 +7,7 @@ pub use Rattle.constriction_conversions.specs.Hashed
 pub use Rattle.constriction_model.specs.Laws
 pub use Rattle.constriction_model.specs.Model
 pub use Rattle.constriction_model.specs.PairLemmas
+pub use Rattle.constriction_model.specs.Precision
 pub use Rattle.constriction_model.specs.Probe
 pub use Rattle.constriction_model.specs.RowLemmas
 pub use Rattle.constriction_model.specs.Rows

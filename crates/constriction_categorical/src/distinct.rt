@@ -118,8 +118,7 @@ impl<
         probabilities: P,
         infer_last_probability: bool,
     ) -> Result<Self, ModelError>
-        requires positive { 0 < PRECISION }
-        requires fits { PRECISION ≤ Probability.BITS }
+        requires precision { IsPrecision Probability.BITS PRECISION }
         requires symbols_end { IsFiniteIterable S.into_iter_gives S.IntoIter.can_next S.IntoIter.remaining symbols }
         requires probabilities_end { IsFiniteIterable P.into_iter_gives P.IntoIter.can_next P.IntoIter.remaining probabilities }
         requires distinct { GivesDistinct S.into_iter_gives S.IntoIter.next_gives Symbol.eq symbols }
@@ -163,8 +162,7 @@ impl<
         probabilities: P,
         infer_last_probability: bool,
     ) -> Result<Self, ModelError>
-        requires positive { 0 < PRECISION }
-        requires fits { PRECISION ≤ Probability.BITS }
+        requires precision { IsPrecision Probability.BITS PRECISION }
         requires symbols_end { IsFiniteIterable S.into_iter_gives S.IntoIter.can_next S.IntoIter.remaining symbols }
         requires probabilities_end { IsFiniteIterable P.into_iter_gives P.IntoIter.can_next P.IntoIter.remaining probabilities }
         ensures { IsMadeOfBoth (AreAccepted Symbol.eq Probability.BITS PRECISION) (completed PRECISION infer_last_probability)
@@ -207,8 +205,7 @@ impl<
         probabilities: P,
         infer_last_probability: bool,
     ) -> Result<Self, ModelError>
-        requires positive { 0 < PRECISION }
-        requires fits { PRECISION ≤ Probability.BITS }
+        requires precision { IsPrecision Probability.BITS PRECISION }
         requires symbols_end { IsFiniteIterable S.into_iter_gives S.IntoIter.can_next S.IntoIter.remaining symbols }
         requires probabilities_end { IsFiniteIterable P.into_iter_gives P.IntoIter.can_next P.IntoIter.remaining probabilities }
         ensures { IsMadeOfBoth (λ ss ws. AreAccepted Symbol.eq Probability.BITS PRECISION ss ws × IsStrictlySortedBy Symbol.cmp ss)

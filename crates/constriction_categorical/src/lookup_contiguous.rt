@@ -72,9 +72,7 @@ impl<
         probabilities: I,
         infer_last_probability: bool,
     ) -> Result<Self, ModelError>
-        requires positive { 0 < PRECISION }
-        requires narrow { PRECISION ≤ 63 }
-        requires fits { PRECISION ≤ Probability.BITS }
+        requires precision { IsLookupPrecision Probability.BITS PRECISION }
         requires ends { IsFiniteIterable I.into_iter_gives I.IntoIter.can_next I.IntoIter.remaining probabilities }
         ensures { IsMadeOfWeights (IsAccepted Probability.BITS PRECISION) (completed PRECISION infer_last_probability)
             (WasReadOf I.into_iter_gives I.IntoIter.next_gives probabilities) Probability.whole

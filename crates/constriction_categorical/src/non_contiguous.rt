@@ -110,8 +110,7 @@ pub fn decoder_over<Symbol: Eq + Clone, Probability: WholeNumber, const PRECISIO
     >,
     AllocError,
 >
-    requires positive { 0 < PRECISION }
-    requires fits { PRECISION ≤ Probability.BITS }
+    requires precision { IsPrecision Probability.BITS PRECISION }
     requires stored { IsStored Probability.BITS PRECISION (map (λ x. Probability.whole x.0) entries.items) }
     requires distinct { IsDistinct Symbol.eq (map (λ x. x.1) entries.items) }
     ensures { IfOk result (λ m.
@@ -160,8 +159,7 @@ impl<
         probabilities: P,
         infer_last_probability: bool,
     ) -> Result<Self, ModelError>
-        requires positive { 0 < PRECISION }
-        requires fits { PRECISION ≤ Probability.BITS }
+        requires precision { IsPrecision Probability.BITS PRECISION }
         requires symbols_end { IsFiniteIterable S.into_iter_gives S.IntoIter.can_next S.IntoIter.remaining symbols }
         requires probabilities_end { IsFiniteIterable P.into_iter_gives P.IntoIter.can_next P.IntoIter.remaining probabilities }
         ensures { IsMadeOfBoth (AreAccepted Symbol.eq Probability.BITS PRECISION) (completed PRECISION infer_last_probability)

@@ -3,7 +3,6 @@ pub mod Chains
 pub mod Coming
 pub mod CursorCalls
 pub mod Placing
-pub mod Precision
 pub mod Quantiles
 pub mod Replies
 pub mod ThereAndBack

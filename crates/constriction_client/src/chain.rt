@@ -304,8 +304,7 @@ pub fn convert_chain<Symbol: Eq + Clone + Drop, Probability: IndexWord, const PR
     form: DecoderForm<Symbol, Probability, PRECISION>,
     steps: &[ChainStep],
 ) -> Result<DecoderForm<Symbol, Probability, PRECISION>, ModelError>
-    requires precision { IsPrecision Probability.BITS PRECISION }
-    requires narrow { PRECISION ≤ 63 }
+    requires precision { IsLookupPrecision Probability.BITS PRECISION }
     requires clones { ClonesAreEqual Symbol.eq Symbol.is_clone }
     ensures rows { IfOk result (λ made. ChainLeaves Symbol.is_clone steps.now
         (⟦<DecoderForm<Symbol, Probability, PRECISION> as EntropyModel<PRECISION>>⟧.rows form)

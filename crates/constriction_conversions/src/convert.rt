@@ -183,8 +183,7 @@ pub fn to_generic_decoder_model<M, const PRECISION: usize>(
 where
     M: IterableEntropyModel<PRECISION>,
     M::Symbol: Eq + Clone,
-    requires positive { 0 < PRECISION }
-    requires fits { PRECISION ≤ M.Probability.BITS }
+    requires precision { IsPrecision M.Probability.BITS PRECISION }
     ensures ok { IfOk result (λ d. StandApart M.Symbol.eq M.stands_for
         (⟦<DecoderMadeOf<M, PRECISION> as EntropyModel<PRECISION>>⟧.rows d) (M.rows model)) }
     ensures invalid { result ≡ Err ModelError.InvalidTable → ClonesRepeat M.Symbol.eq M.stands_for (M.rows model) }
@@ -212,9 +211,7 @@ where
     M: IterableEntropyModel<PRECISION>,
     M::Symbol: Eq + Clone,
     M::Probability: IndexWord,
-    requires positive { 0 < PRECISION }
-    requires narrow { PRECISION ≤ 63 }
-    requires fits { PRECISION ≤ M.Probability.BITS }
+    requires precision { IsLookupPrecision M.Probability.BITS PRECISION }
     ensures ok { IfOk result (λ d. StandApart M.Symbol.eq M.stands_for
         (⟦<LookupMadeOf<M, PRECISION, 8> as EntropyModel<PRECISION>>⟧.rows d) (M.rows model)) }
     ensures invalid { result ≡ Err ModelError.InvalidTable → ClonesRepeat M.Symbol.eq M.stands_for (M.rows model) }
@@ -231,9 +228,7 @@ where
     M: IterableEntropyModel<PRECISION>,
     M::Symbol: Eq + Clone,
     M::Probability: IndexWord,
-    requires positive { 0 < PRECISION }
-    requires narrow { PRECISION ≤ 63 }
-    requires fits { PRECISION ≤ M.Probability.BITS }
+    requires precision { IsLookupPrecision M.Probability.BITS PRECISION }
     ensures ok { IfOk result (λ d. StandApart M.Symbol.eq M.stands_for
         (⟦<LookupMadeOf<M, PRECISION, SLOT_BITS> as EntropyModel<PRECISION>>⟧.rows d) (M.rows model)) }
     ensures invalid { result ≡ Err ModelError.InvalidTable → ClonesRepeat M.Symbol.eq M.stands_for (M.rows model) }

@@ -121,8 +121,7 @@ impl<
         probabilities: P,
         infer_last_probability: bool,
     ) -> Result<Self, ModelError>
-        requires positive { 0 < PRECISION }
-        requires fits { PRECISION ≤ Probability.BITS }
+        requires precision { IsPrecision Probability.BITS PRECISION }
         requires symbols_end { IsFiniteIterable S.into_iter_gives S.IntoIter.can_next S.IntoIter.remaining symbols }
         requires probabilities_end { IsFiniteIterable P.into_iter_gives P.IntoIter.can_next P.IntoIter.remaining probabilities }
         ensures { IsMadeOfBoth (AreAccepted Symbol.eq Probability.BITS PRECISION) (completed PRECISION infer_last_probability)

@@ -2,7 +2,7 @@
 use Rattle.std.proofs.Common.{◌≡◌, ℕ, ◌+◌, ◌-◌, ◌*◌, ◌/◌, ◌%◌, ◌^◌, ◌<◌, ◌≤◌, refl, ap, sym, ◌∙◌, arith}
 use Rattle.std.proofs.Math.Nat.{add-div_right, pow-le-pow_right}
 use Rattle.std.proofs.lemmas.Nat.{mul-le}
-use Rattle.constriction_model.specs.Rows.{bin_of, rest_of}
+use Rattle.constriction_model.specs.UniformRowLemmas.{bin_of, rest_of}
 use Rattle.constriction_model.specs.UniformRowLemmas.{bin-positive, bins-fit}
 use Rattle.constriction_model.proofs.Differences.{difference-mod}
 

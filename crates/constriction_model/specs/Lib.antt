@@ -2,9 +2,11 @@ pub mod Acceptance
 pub mod CodingLemmas
 pub mod Entries
 pub mod GivenLemmas
+pub mod HintLemmas
 pub mod Laws
 pub mod Model
 pub mod PairLemmas
+pub mod Precision
 pub mod Probe
 pub mod RowLemmas
 pub mod Rows

@@ -53,13 +53,6 @@ abbrev pub uniform_weights : ℕ → ℕ → List ℕ
 uniform_weights precision n =
     replicate (n - 1) (2 ^ precision / n) ++ (2 ^ precision - (n - 1) * (2 ^ precision / n)) ∷ []
 
--- the weight of each symbol of a uniform model but the last one, and what those leave for it, where the last symbol is given
-abbrev pub bin_of : ℕ → ℕ → ℕ
-bin_of precision last = 2 ^ precision / (last + 1)
-
-abbrev pub rest_of : ℕ → ℕ → ℕ
-rest_of precision last = 2 ^ precision - last * bin_of precision last
-
 -- the rows of a uniform model of n symbols
 abbrev pub uniform_rows : ℕ → ℕ → List (Row ℕ)
 uniform_rows precision n = contiguous_rows (uniform_weights precision n)

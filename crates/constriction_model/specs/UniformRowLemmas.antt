@@ -15,7 +15,14 @@ use Rattle.constriction_model.specs.CodingLemmas.{rows-within}
 use Rattle.constriction_model.specs.Model.{LiesWithin}
 use Rattle.constriction_model.specs.RowLemmas.{length-rows_from, weights-rows_from, symbols-rows_from}
 use Rattle.constriction_model.specs.RowLemmas.{rows_from-at, contiguous-at, contiguous-past}
-use Rattle.constriction_model.specs.Rows.{Row, contiguous_rows, indices, uniform_weights, uniform_rows, bin_of, rest_of, RowsTile, IsRowOf, entry_of}
+use Rattle.constriction_model.specs.Rows.{Row, contiguous_rows, indices, uniform_weights, uniform_rows, RowsTile, IsRowOf, entry_of}
+
+-- the weight of each symbol of a uniform model but the last one, and what those leave for it, where the last symbol is given
+abbrev pub bin_of : ℕ → ℕ → ℕ
+bin_of precision last = 2 ^ precision / (last + 1)
+
+abbrev pub rest_of : ℕ → ℕ → ℕ
+rest_of precision last = 2 ^ precision - last * bin_of precision last
 
 -- k weights and a last one
 abbrev with_last : (k bin rest : ℕ) → List ℕ

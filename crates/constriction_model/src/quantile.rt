@@ -1,6 +1,7 @@
 //! Which words are quantiles.
 
-ghost use Rattle.std.specs.Prelude.{◌≡◌, ◌↔◌, ◌^◌, ◌<◌, ◌≤◌, IsTrue};
+ghost use Rattle.std.specs.Prelude.{◌≡◌, ◌↔◌, ◌^◌, ◌<◌, IsTrue};
+ghost use Rattle.constriction_model.specs.Precision.{IsPrecision};
 
 use constriction_numbers::WholeNumber;
 
@@ -13,8 +14,7 @@ use constriction_numbers::WholeNumber;
 /// `BitArray::into_nonzero`.
 #[inline]
 pub fn is_quantile<P: WholeNumber, const PRECISION: usize>(word: P) -> bool
-    requires positive { 0 < PRECISION }
-    requires fits { PRECISION ≤ P.BITS }
+    requires precision { IsPrecision P.BITS PRECISION }
     ensures { IsTrue result ↔ (P.whole word < 2 ^ PRECISION) }
 {
     word.is_at_most(P::greatest(PRECISION))

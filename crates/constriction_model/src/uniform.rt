@@ -1,9 +1,10 @@
 //! Models whose symbols all have the same weight, but for the last one.
 
-ghost use Rattle.std.specs.Prelude.{◌≡◌, ◌+◌, ◌*◌, ◌/◌, ◌^◌, ◌<◌, ◌≤◌, ℕ, nat_eq, ⊤};
+ghost use Rattle.std.specs.Prelude.{◌≡◌, ◌+◌, ◌-◌, ◌*◌, ◌/◌, ◌^◌, ◌<◌, ◌≤◌, ℕ, nat_eq, ⊤};
 ghost use Rattle.std.specs.Cmp.{nat_eq_equiv};
-ghost use Rattle.constriction_model.specs.Rows.{uniform_rows, bin_of, rest_of};
-ghost use Rattle.constriction_model.specs.UniformRowLemmas.{IsWeight, uniform-within, uniform-tiles};
+ghost use Rattle.constriction_model.specs.Precision.{IsPrecision};
+ghost use Rattle.constriction_model.specs.Rows.{uniform_rows};
+ghost use Rattle.constriction_model.specs.UniformRowLemmas.{IsWeight, bin_of, uniform-within, uniform-tiles};
 
 use crate::traits::{DecoderModel, EncoderModel, EntropyModel, Weight};
 use crate::uniform::weights::{last_probability, probability_per_bin, symbol_of};
@@ -27,8 +28,9 @@ pub struct UniformModel<Probability: WholeNumber, const PRECISION: usize> {
     ghost within: { Probability.whole last_symbol < 2 ^ PRECISION },
     ghost index: { Probability.whole last_symbol + 1 < 2 ^ 64 },
     ghost word: { Probability.whole last_symbol < 2 ^ Probability.BITS },
-    ghost bin: { Probability.whole probability_per_bin ≡ bin_of PRECISION (Probability.whole last_symbol) },
-    ghost rest: { Probability.whole last_probability ≡ rest_of PRECISION (Probability.whole last_symbol) },
+    ghost bin: { Probability.whole probability_per_bin ≡ 2 ^ PRECISION / (Probability.whole last_symbol + 1) },
+    ghost rest: { Probability.whole last_probability
+        ≡ 2 ^ PRECISION - Probability.whole last_symbol * (2 ^ PRECISION / (Probability.whole last_symbol + 1)) },
 }
 
 /// The model over 24 bits of `u32`, which suits most uses.
@@ -63,8 +65,7 @@ impl<Probability: WholeNumber, const PRECISION: usize> UniformModel<Probability,
     /// is at most 64 here, beside the width of the word. One division.
     #[inline]
     pub fn new(range: usize) -> Self
-        requires positive { 0 < PRECISION }
-        requires fits { PRECISION ≤ Probability.BITS }
+        requires precision { IsPrecision Probability.BITS PRECISION }
         requires narrow { PRECISION ≤ 64 }
         requires some { 2 ≤ range }
         requires within { range ≤ 2 ^ PRECISION }

@@ -34,8 +34,7 @@ pub fn answer_by_form<Symbol: Eq + Clone + Drop, Probability: IndexWord, E, cons
 ) -> Result<FormAndReplies<Symbol, Probability, PRECISION>, ModelError>
 where
     E: EncodesOver<Symbol, Probability, PRECISION>,
-    requires precision { IsPrecision Probability.BITS PRECISION }
-    requires narrow { PRECISION ≤ 63 }
+    requires precision { IsLookupPrecision Probability.BITS PRECISION }
     requires clones { ClonesAreEqual Symbol.eq Symbol.is_clone }
     requires equal { ClonesAreEqual E.symbol_eq Symbol.is_clone }
     requires alike { SameEntries E.symbol_eq (E.rows encoder.now)

@@ -34,8 +34,7 @@ where
     M: IterableEntropyModel<PRECISION> + Copy,
     M::Symbol: Hash + Eq + Clone + Drop,
     M::Probability: IndexWord,
-    requires precision { IsPrecision M.Probability.BITS PRECISION }
-    requires narrow { PRECISION ≤ 63 }
+    requires precision { IsLookupPrecision M.Probability.BITS PRECISION }
     requires walked { ClonesAreEqual M.Symbol.eq M.stands_for }
     requires clones { ClonesAreEqual M.Symbol.eq M.Symbol.is_clone }
     requires distinct { IsDistinct M.Symbol.eq (symbols_of (M.rows model)) }
@@ -110,8 +109,7 @@ where
     M: DecoderModel<PRECISION> + IterableEntropyModel<PRECISION> + Copy,
     M::Symbol: Hash + Eq + Clone + Drop,
     M::Probability: IndexWord,
-    requires precision { IsPrecision M.Probability.BITS PRECISION }
-    requires narrow { PRECISION ≤ 63 }
+    requires precision { IsLookupPrecision M.Probability.BITS PRECISION }
     requires walked { ClonesAreEqual M.Symbol.eq M.IterableEntropyModel.stands_for }
     requires clones { ClonesAreEqual M.Symbol.eq M.Symbol.is_clone }
     requires distinct { IsDistinct M.Symbol.eq (symbols_of (M.rows model)) }

@@ -37,8 +37,7 @@ pub fn answer_from_symbols_and_weights<
     steps: &[ChainStep],
     queries: &[Query<Symbol, Probability>],
 ) -> Result<FormAndReplies<Symbol, Probability, PRECISION>, ModelError>
-    requires precision { IsPrecision Probability.BITS PRECISION }
-    requires narrow { PRECISION ≤ 63 }
+    requires precision { IsLookupPrecision Probability.BITS PRECISION }
     requires clones { ClonesAreEqual Symbol.eq Symbol.is_clone }
     ensures accepted { IfOk result (λ _. AreAccepted Symbol.eq Probability.BITS PRECISION symbols.items
         (completed PRECISION infer_last_probability (map Probability.whole weights.items))) }

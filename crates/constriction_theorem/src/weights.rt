@@ -210,8 +210,7 @@ pub fn answer_from_weights<Probability: IndexWord, const PRECISION: usize>(
     steps: &[ChainStep],
     queries: &[Query<usize, Probability>],
 ) -> Result<AnswersOfWeights<Probability, DecoderForm<usize, Probability, PRECISION>>, ModelError>
-    requires precision { IsPrecision Probability.BITS PRECISION }
-    requires narrow { PRECISION ≤ 63 }
+    requires precision { IsLookupPrecision Probability.BITS PRECISION }
     ensures accepted { IfOk result (λ _. IsAccepted Probability.BITS PRECISION
         (completed PRECISION infer_last_probability (map Probability.whole weights.items))) }
     ensures invalid { result ≡ Err ModelError.InvalidTable → ¬ (IsAccepted Probability.BITS PRECISION

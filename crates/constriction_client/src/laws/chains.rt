@@ -66,8 +66,7 @@ pub fn answer_after_chain<
 ) -> Result<Vec<Reply<Symbol, Probability>>, ModelError>
 where
     E: EncodesOver<Symbol, Probability, PRECISION>,
-    requires precision { IsPrecision Probability.BITS PRECISION }
-    requires narrow { PRECISION ≤ 63 }
+    requires precision { IsLookupPrecision Probability.BITS PRECISION }
     requires clones { ClonesAreSame Symbol.is_clone }
     requires alike { SameEntries E.symbol_eq (E.rows encoder.now)
         (⟦<DecoderForm<Symbol, Probability, PRECISION> as EntropyModel<PRECISION>>⟧.rows form) }

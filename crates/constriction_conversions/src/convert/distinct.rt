@@ -52,8 +52,7 @@ pub fn to_generic_decoder_model_of_distinct<M, const PRECISION: usize>(
 where
     M: IterableEntropyModel<PRECISION>,
     M::Symbol: Eq + Clone,
-    requires positive { 0 < PRECISION }
-    requires fits { PRECISION ≤ M.Probability.BITS }
+    requires precision { IsPrecision M.Probability.BITS PRECISION }
     requires clones { ClonesAreEqual M.Symbol.eq M.stands_for }
     requires distinct { IsDistinct M.Symbol.eq (symbols_of (M.rows model)) }
     ensures ok { IfOk result (λ d. StandApart M.Symbol.eq M.stands_for
@@ -79,9 +78,7 @@ where
     M: IterableEntropyModel<PRECISION>,
     M::Symbol: Eq + Clone,
     M::Probability: IndexWord,
-    requires positive { 0 < PRECISION }
-    requires narrow { PRECISION ≤ 63 }
-    requires fits { PRECISION ≤ M.Probability.BITS }
+    requires precision { IsLookupPrecision M.Probability.BITS PRECISION }
     requires clones { ClonesAreEqual M.Symbol.eq M.stands_for }
     requires distinct { IsDistinct M.Symbol.eq (symbols_of (M.rows model)) }
     ensures ok { IfOk result (λ d. StandApart M.Symbol.eq M.stands_for

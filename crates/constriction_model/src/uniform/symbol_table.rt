@@ -1,10 +1,10 @@
 //! A walk through the rows of a uniform model.
 
-ghost use Rattle.std.specs.Prelude.{◌≡◌, ◌+◌, ◌*◌, ◌<◌, ◌≤◌, IfSome, length};
-ghost use Rattle.std.specs.Iterator.{UpTo, at_most, size};
-ghost use Rattle.std.specs.Iterator.SizeHint.{IsExactHint, IsWithinCount};
-ghost use Rattle.constriction_model.specs.Rows.{uniform_rows, bin_of};
-ghost use Rattle.constriction_model.specs.UniformRowLemmas.{IsWeight};
+ghost use Rattle.std.specs.Prelude.{◌≡◌, ◌+◌, ◌*◌, ◌<◌, ◌≤◌, length};
+ghost use Rattle.std.specs.Iterator.{at_most, size};
+ghost use Rattle.std.specs.Iterator.SizeHint.{IsExactHint};
+ghost use Rattle.constriction_model.specs.Rows.{uniform_rows};
+ghost use Rattle.constriction_model.specs.UniformRowLemmas.{IsWeight, bin_of};
 ghost use Rattle.constriction_model.specs.Tables.{YieldsRow, YieldsLastRow, rows_between};
 
 use crate::traits::Weight;
@@ -93,9 +93,7 @@ impl<Probability: WholeNumber, const PRECISION: usize> Iterator
     /// How many rows are left, exactly.
     #[inline]
     fn size_hint(&self) -> (usize, Option<usize>)
-        ensures lower { IsWithinCount result.0 (⟦<Self as Iterator>⟧.remaining self.now) }
-        ensures upper { IfSome result.1 (UpTo (⟦<Self as Iterator>⟧.remaining self.now)) }
-        ensures exact { IsExactHint result (size (⟦<Self as Iterator>⟧.remaining self.now)) }
+        ensures { IsExactHint result (size (⟦<Self as Iterator>⟧.remaining self.now)) }
     {
         let size = self.len();
         (size, Some(size))

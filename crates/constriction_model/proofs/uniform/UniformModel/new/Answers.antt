@@ -5,15 +5,15 @@ use Rattle.constriction_model.proofs.uniform.UniformModel.new.Goals as goal
 
 pub from_number-last_symbol-requires : goal.from_number-last_symbol-requires
 from_number-last_symbol-requires g c =
-    (last-fits g.Probability.WholeNumber.BITS g.row.PRECISION c.args.range (c.args.range - 1) c.requires.fits c.requires.some
+    (last-fits g.Probability.WholeNumber.BITS g.row.PRECISION c.args.range (c.args.range - 1) c.requires.precision.fits c.requires.some
     c.requires.within refl).2
 
 pub invariant_of-result : goal.invariant_of-result
 invariant_of-result g c =
-    let last = last-fits g.Probability.WholeNumber.BITS g.row.PRECISION c.args.range _ c.requires.fits c.requires.some c.requires.within
+    let last = last-fits g.Probability.WholeNumber.BITS g.row.PRECISION c.args.range _ c.requires.precision.fits c.requires.some c.requires.within
     c.from_number-last_symbol.ensures in
     record {
-      fits = c.requires.fits;
+      fits = c.requires.precision.fits;
       some = last.0;
       within = last.1;
       index = omega (arith, last.3);
@@ -24,6 +24,6 @@ invariant_of-result g c =
 
 pub returns : goal.returns
 returns g c =
-    let last = last-fits g.Probability.WholeNumber.BITS g.row.PRECISION c.args.range _ c.requires.fits c.requires.some c.requires.within
+    let last = last-fits g.Probability.WholeNumber.BITS g.row.PRECISION c.args.range _ c.requires.precision.fits c.requires.some c.requires.within
     c.from_number-last_symbol.ensures in
     ap (uniform_rows g.row.PRECISION) last.3
