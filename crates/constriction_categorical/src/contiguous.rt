@@ -4,6 +4,7 @@ ghost use Rattle.std.specs.Prelude.{◌≡◌, ◌+◌, ◌^◌, ◌<◌, ◌≤
 ghost use Rattle.std.specs.Iterator.{IsFiniteIterable};
 ghost use Rattle.constriction_model.specs.Acceptance.{completed, IsAccepted, WasReadOf, IsMadeOfWeights};
 ghost use Rattle.std.specs.Cmp.{nat_eq_equiv};
+ghost use Rattle.constriction_model.specs.Precision.{IsPrecision};
 ghost use Rattle.constriction_model.specs.Probe.{IsProbeFor};
 ghost use Rattle.constriction_model.specs.Rows.{contiguous_rows};
 ghost use Rattle.constriction_stored_rows.specs.Stored.{IsTable, lefts_in, weights_of};

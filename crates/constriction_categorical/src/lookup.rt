@@ -1,8 +1,8 @@
 //! Models that look up where to search for the row of a quantile.
 
-ghost use Rattle.std.specs.Prelude.{◌≡◌, ◌/◌, ◌^◌, ◌<◌, ◌≤◌, map, count_by, IfOk, IfErr};
+ghost use Rattle.std.specs.Prelude.{◌≡◌, ◌/◌, ◌^◌, ◌<◌, ◌≤◌, map, count_by, IsTrue, IfOk, IfErr};
 ghost use Rattle.constriction_model.specs.Probe.{IsProbeFor};
-ghost use Rattle.constriction_stored_rows.specs.Slots.{MeetsSlot, meets_slot, slot_count, slot_width};
+ghost use Rattle.constriction_stored_rows.specs.Slots.{meets_slot, slot_count, slot_width};
 ghost use Rattle.constriction_stored_rows.specs.SlotTable.{HasSlots};
 
 use crate::stores_rows::{AnswersRows, OfAnySymbols, OfNumbers, StoresRows};
@@ -115,7 +115,7 @@ where
     ) -> (usize, CdfProbe<'m, Model::Entry, Model::Kind>)
         requires { Model.Probability.whole quantile < 2 ^ PRECISION }
         ensures { IsProbeFor (⟦<Self as EntropyModel<PRECISION>>⟧.rows self.now)
-            (MeetsSlot (slot_width PRECISION SLOT_BITS) (Model.Probability.whole quantile / slot_width PRECISION SLOT_BITS))
+            (λ r. IsTrue (meets_slot (slot_width PRECISION SLOT_BITS) (Model.Probability.whole quantile / slot_width PRECISION SLOT_BITS) r))
             (Model.Probability.whole quantile) result.0
             (⟦<CdfProbe<'m, Model::Entry, Model::Kind> as Probe>⟧.cumulatives result.1)
             (⟦<CdfProbe<'m, Model::Entry, Model::Kind> as Probe>⟧.questions result.1) }

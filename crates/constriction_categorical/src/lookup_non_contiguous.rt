@@ -1,9 +1,10 @@
 //! Models of any symbols, which look up where to search for the row of a quantile.
 
-ghost use Rattle.std.specs.Prelude.{◌≡◌, ◌<◌, ◌≤◌, IfOk, IfErr};
+ghost use Rattle.std.specs.Prelude.{◌≡◌, ◌≤◌, IfOk, IfErr};
 ghost use Rattle.std.specs.Iterator.{IsFiniteIterable};
 ghost use Rattle.constriction_model.specs.Acceptance.{completed, AreAccepted, WasReadOf, IsMadeOfBoth};
 ghost use Rattle.constriction_model.specs.Model.{StandForRows, ClonesAreEqual};
+ghost use Rattle.constriction_model.specs.Precision.{IsLookupPrecision};
 ghost use Rattle.constriction_model.specs.Rows.{rows_of};
 ghost use Rattle.constriction_stored_rows.specs.SymbolRowLemmas.{entries-tile};
 ghost use Rattle.constriction_stored_rows.specs.Stored.{entries_in, rows_paired};

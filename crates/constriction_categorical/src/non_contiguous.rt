@@ -6,6 +6,7 @@ ghost use Rattle.std.specs.List.{IsDistinct};
 ghost use Rattle.std.proofs.Props.{props};
 ghost use Rattle.constriction_model.specs.Acceptance.{completed, AreAccepted, WasReadOf, IsMadeOfBoth};
 ghost use Rattle.constriction_model.specs.Model.{StandForRows, ClonesAreEqual};
+ghost use Rattle.constriction_model.specs.Precision.{IsPrecision};
 ghost use Rattle.constriction_model.specs.Probe.{IsProbeFor};
 ghost use Rattle.constriction_model.specs.Rows.{rows_of};
 ghost use Rattle.constriction_stored_rows.specs.Stored.{IsStored, IsTable, entries_in};
@@ -110,7 +111,8 @@ pub fn decoder_over<Symbol: Eq + Clone, Probability: WholeNumber, const PRECISIO
     >,
     AllocError,
 >
-    requires precision { IsPrecision Probability.BITS PRECISION }
+    requires positive { 0 < PRECISION }
+    requires fits { PRECISION ≤ Probability.BITS }
     requires stored { IsStored Probability.BITS PRECISION (map (λ x. Probability.whole x.0) entries.items) }
     requires distinct { IsDistinct Symbol.eq (map (λ x. x.1) entries.items) }
     ensures { IfOk result (λ m.

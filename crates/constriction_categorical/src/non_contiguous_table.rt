@@ -1,8 +1,8 @@
 //! The walk through the rows of a model that stores its symbols.
 
-ghost use Rattle.std.specs.Prelude.{◌≡◌, ◌^◌, ◌<◌, ◌≤◌, IfSome, length, map};
-ghost use Rattle.std.specs.Iterator.{UpTo, at_most, size};
-ghost use Rattle.std.specs.Iterator.SizeHint.{IsExactHint, IsWithinCount};
+ghost use Rattle.std.specs.Prelude.{◌≡◌, ◌^◌, ◌<◌, ◌≤◌, length, map};
+ghost use Rattle.std.specs.Iterator.{at_most, size};
+ghost use Rattle.std.specs.Iterator.SizeHint.{IsExactHint};
 ghost use Rattle.constriction_stored_rows.specs.Stored.{IsTable, entries_in};
 ghost use Rattle.constriction_model.specs.Tables.{YieldsRow, YieldsLastRow, rows_between};
 ghost use Rattle.constriction_stored_rows.specs.Stored.{rows_paired};
@@ -57,9 +57,7 @@ impl<'m, Symbol: Clone, Probability: WholeNumber, const PRECISION: usize> Iterat
     /// How many rows are left, exactly.
     #[inline]
     fn size_hint(&self) -> (usize, Option<usize>)
-        ensures lower { IsWithinCount result.0 (⟦<Self as Iterator>⟧.remaining self.now) }
-        ensures upper { IfSome result.1 (UpTo (⟦<Self as Iterator>⟧.remaining self.now)) }
-        ensures exact { IsExactHint result (size (⟦<Self as Iterator>⟧.remaining self.now)) }
+        ensures { IsExactHint result (size (⟦<Self as Iterator>⟧.remaining self.now)) }
     {
         let size = self.len();
         (size, Some(size))

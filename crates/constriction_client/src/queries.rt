@@ -3,7 +3,7 @@
 ghost use Rattle.std.specs.Prelude.{◌≡◌, ◌<◌, ◌≤◌, IfOk, map};
 ghost use Rattle.constriction.specs.Entries.{SameEntries};
 ghost use Rattle.constriction.specs.Rows.{entry_of};
-ghost use Rattle.constriction_client.specs.Precision.{IsPrecision};
+ghost use Rattle.constriction.specs.Precision.{IsPrecision};
 ghost use Rattle.constriction_client.specs.Replies.{in_numbers, reply_to_query, replies_of_two, replies_by_scan};
 ghost use Rattle.constriction_client.specs.Replies.{StandsForReply, AreRepliesOf};
 

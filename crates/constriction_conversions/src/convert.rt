@@ -4,6 +4,7 @@ ghost use Rattle.std.specs.Prelude.{◌≡◌, ◌<◌, ◌≤◌, map, IfOk, If
 ghost use Rattle.std.specs.List.{IsDistinct};
 ghost use Rattle.constriction_model.specs.Entries.{HoldsEntriesOf};
 ghost use Rattle.constriction_model.specs.Model.{StandApart, ClonesRepeat};
+ghost use Rattle.constriction_model.specs.Precision.{IsPrecision, IsLookupPrecision};
 ghost use Rattle.constriction_stored_rows.specs.Stored.{IsStored, rows_paired};
 
 use crate::hashed::NonContiguousCategoricalEncoderModel;
@@ -61,15 +62,13 @@ pub trait FromIterableEntropyModel<
     // Where none is made of a model, want of memory aside. Of a type that refuses no model it is ⊥.
     ghost refuses: { M → Type 0 };
 
-    // What the type asks of PRECISION beside that it is from 1 to the width of the words.
+    // What the type asks of PRECISION.
     ghost precise: { Type 0 };
 
     /// The model of the same rows. `OutOfMemory` comes where memory for it, or for a clone of a symbol, is
     /// refused, `InvalidTable` where the type says so.
     fn from_iterable_entropy_model(alloc: Global, model: M) -> Result<Self, ModelError>
-        requires positive { 0 < PRECISION }
-        requires fits { PRECISION ≤ M.Probability.BITS }
-        requires precise { precise }
+        requires { precise }
         ensures ok { IfOk result (tells model) }
         ensures invalid { result ≡ Err ModelError.InvalidTable → refuses model };
 }
@@ -92,7 +91,7 @@ where
 
     ghost refuses = { λ m. ClonesRepeat M.Symbol.eq M.stands_for (M.rows m) };
 
-    ghost precise = { ⊤ };
+    ghost precise = { IsPrecision M.Probability.BITS PRECISION };
 
     fn from_iterable_entropy_model(alloc: Global, model: M) -> Result<Self, ModelError> {
         to_generic_decoder_model::<M, PRECISION>(alloc, model)
@@ -118,7 +117,7 @@ where
 
     ghost refuses = { λ m. ClonesRepeat M.Symbol.eq M.stands_for (M.rows m) };
 
-    ghost precise = { PRECISION ≤ 63 };
+    ghost precise = { IsLookupPrecision M.Probability.BITS PRECISION };
 
     fn from_iterable_entropy_model(alloc: Global, model: M) -> Result<Self, ModelError> {
         to_generic_slotted_lookup_decoder_model::<M, PRECISION, SLOT_BITS>(alloc, model)

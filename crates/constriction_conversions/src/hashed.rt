@@ -9,6 +9,7 @@ ghost use Rattle.constriction_model.specs.Acceptance.{completed, AreAccepted, Wa
 ghost use Rattle.constriction_conversions.specs.Hashed.{rows_of_table};
 ghost use Rattle.constriction_model.specs.Entries.{SameEntries};
 ghost use Rattle.constriction_model.specs.Model.{LiesWithin, StandForRows};
+ghost use Rattle.constriction_model.specs.Precision.{IsPrecision};
 ghost use Rattle.constriction_model.specs.Rows.{rows_of};
 
 use crate::hash_table::{Entry, HashedRows, table_for};

@@ -5,10 +5,8 @@ use Rattle.std.specs.List.{AllByRecursion, IsDistinct}
 use Rattle.constriction_model.specs.Acceptance.{AreAccepted, Reading, ToItsEnd}
 use Rattle.constriction_stored_rows.specs.Filling.{HoldsRows}
 use Rattle.constriction_model.specs.Rows.{rows_of}
-use Rattle.constriction_stored_rows.specs.Stored.{IsStored}
-use Rattle.constriction_stored_rows.specs.Stored.{rows_paired}
 use Rattle.constriction_stored_rows.proofs.MadeLemmas.{BothBad}
-use Rattle.constriction_stored_rows.proofs.PairedLemmas.{paired-of_rows, accepted-tile, accepted-symbols, paired-distinct}
+use Rattle.constriction_stored_rows.proofs.PairedLemmas.{accepted-symbols}
 
 -- where symbols are not compared, no two are equal
 all-uncompared : {Symbol : Type 0} (ts : List Symbol) → AllByRecursion (λ t. false ≡ false) ts
@@ -29,12 +27,6 @@ module _ {Word Symbol : Type 0} (eq : Symbol → Symbol → Bool) (whole : Word 
   module _ (d : IsDistinct eq ss) where
     pub apart-accepted : AreAccepted eq bits precision ss ws
     apart-accepted = record { tile = a.tile; as_many = a.as_many; distinct = d }
-
-    pub apart-stored : IsStored bits precision (map (λ x. whole x.0) entries) × (rows_paired whole precision entries ≡ rows_of ss ws)
-    apart-stored = paired-of_rows whole bits precision (rows_of ss ws) entries (accepted-tile eq bits precision ss ws apart-accepted) h
-
-    pub apart-distinct : IsDistinct eq (map (λ x. x.1) entries)
-    apart-distinct = paired-distinct eq bits precision ss ws apart-accepted whole entries h
 
 -- ---- what was refused
 

@@ -4,14 +4,14 @@ use Rattle.std.proofs.Common.{◌≡◌, Bool, true, ℕ, zero, suc, ◌+◌, �
 use Rattle.std.proofs.lemmas.Bool.{cases_lt, cases_Bool, lt-ltb, ltb-true, and_parts, and_from}
 use Rattle.std.proofs.lemmas.List.Sums.{count_by_more_yes, count_by_more_no}
 use Rattle.std.proofs.lemmas.Nat.{pow_pos}
-use Rattle.constriction_model.specs.Probe.{digits}
+use Rattle.constriction_model.specs.Probe.{digits, TellsRows}
 use Rattle.constriction_model.specs.Rows.{Row, RowsTile}
 use Rattle.constriction_model.proofs.Digits.{digits_grow}
-use Rattle.constriction_stored_rows.specs.Slots.{MeetsSlot, meets_slot, slot_width, slot_count}
+use Rattle.constriction_stored_rows.specs.Slots.{meets_slot, slot_width, slot_count}
 use Rattle.constriction_stored_rows.specs.SlotTable.{IsSlot, IsSlotSearch}
 use Rattle.constriction_stored_rows.specs.StoredLemmas.{take-length}
 use Rattle.constriction_stored_rows.proofs.SlotFilling.{slot-below}
-use Rattle.constriction_stored_rows.proofs.SlotLemmas.{slot-long, slot-order, slot-part, slot-tells}
+use Rattle.constriction_stored_rows.proofs.SlotLemmas.{MeetsSlot, slot-long, slot-order, slot-part, slot-tells}
 use Rattle.constriction_stored_rows.proofs.TileLemmas.{tile-at, tiles-many}
 
 -- what the test says of rows that meet a slot, and of rows that do not
@@ -85,6 +85,22 @@ module _ {X : Type 0} (p : X → Bool) (xs : List X) (d : X) (from to : ℕ) (or
       omega (arith, all, whole)
 
 module _ {S : Type 0} (bits precision slot_bits : ℕ) (rows : List (Row S)) (t : RowsTile bits precision rows) where
+  -- what is told of the rows in which a quantile of the slot lies, is told of those that the test finds
+  pub tells-tested : (j first : ℕ) (told : List ℕ) → TellsRows rows (MeetsSlot (slot_width precision slot_bits) j) first told
+      → TellsRows rows (λ r. meets_slot (slot_width precision slot_bits) j r ≡ true) first told
+  tells-tested j first told tells =
+      let width : ℕ = slot_width precision slot_bits in
+      record {
+        exactly = λ i d h. (
+            λ e.
+                (tells.exactly i d h).0
+                (tested-met width j (get_or rows i d) (pow_pos (precision - slot_bits)) (tile-at bits precision rows t i d h).positive e),
+            λ run. met-tested width j (get_or rows i d) ((tells.exactly i d h).1 run),
+        );
+        within = tells.within;
+        in_order = tells.in_order;
+      }
+
   -- as many rows meet a slot as stand from its first row to its last one
   slot-met : (j first last : ℕ) (d : Row S) → j < slot_count precision slot_bits
       → IsSlot (map (λ r. r.left) rows) (slot_width precision slot_bits) j first last

@@ -7,12 +7,18 @@ use Rattle.std.proofs.lemmas.Nat.{pow_pos}
 use Rattle.std.specs.List.Sorted.{IsStrictlyIncreasing}
 use Rattle.constriction_model.specs.Rows.{Row, RowsTile}
 use Rattle.constriction_model.specs.Probe.{IsSearchable, IsLastAtMost, TellsRows, IsRowIndexOf}
-use Rattle.constriction_stored_rows.specs.Slots.{MeetsSlot, slot_width, slot_count}
+use Rattle.constriction_stored_rows.specs.Slots.{slot_width, slot_count}
 use Rattle.constriction_stored_rows.specs.SlotTable.{words_a_slot, HasSlots, IsSlot, IsSlotPart, IsSlotSearch}
 use Rattle.constriction_model.proofs.Digits.{digits_few}
 use Rattle.constriction_model.proofs.Halving.{later}
 use Rattle.constriction_stored_rows.proofs.SlotFilling.{slot-within, slot-below, whole-part}
 use Rattle.constriction_stored_rows.proofs.TileLemmas.{IsTile, tile-at, tiles-many, tiles-increase, tiles-found}
+
+-- some quantile lies both in a row and in a slot
+pub record MeetsSlot {Symbol : Type 0} (width slot : ℕ) (row : Row Symbol) : Type 0 where
+  pub quantile : ℕ
+  pub in_slot : (slot * width ≤ quantile) × (quantile < slot * width + width)
+  pub in_row : (row.left ≤ quantile) × (quantile < row.left + row.weight)
 
 -- the slot of a quantile holds it
 pub slot-from : (precision slot_bits q : ℕ) → q / slot_width precision slot_bits * slot_width precision slot_bits ≤ q

@@ -1,5 +1,5 @@
 -- The slots of lookup models, and which rows meet one.
-use Rattle.std.specs.Prelude.{ℕ, ◌+◌, ◌-◌, ◌*◌, ◌^◌, ◌<◌, ◌≤◌, min, Bool, ltb, ◌&&◌}
+use Rattle.std.specs.Prelude.{ℕ, ◌+◌, ◌-◌, ◌*◌, ◌^◌, min, Bool, ltb, ◌&&◌}
 use Rattle.constriction_model.specs.Rows.{Row}
 
 -- how many slots there are, of a model that divides its quantiles into 2 ^ slot_bits of them, or into as many as there are quantiles
@@ -11,12 +11,7 @@ slot_count precision slot_bits = 2 ^ min precision slot_bits
 abbrev pub slot_width : (precision slot_bits : ℕ) → ℕ
 slot_width precision slot_bits = 2 ^ (precision - slot_bits)
 
--- a row meets a slot: some quantile lies in both
-pub record MeetsSlot {Symbol : Type 0} (width slot : ℕ) (row : Row Symbol) : Type 0 where
-  pub quantile : ℕ
-  pub in_slot : (slot * width ≤ quantile) × (quantile < slot * width + width)
-  pub in_row : (row.left ≤ quantile) × (quantile < row.left + row.weight)
-
--- whether a row meets a slot: it begins before the slot ends, and ends after the slot begins
+-- whether a row with quantiles meets a slot, which is that some quantile lies in both: it begins before the slot ends, and ends after the
+-- slot begins
 abbrev pub meets_slot : {Symbol : Type 0} → ℕ → ℕ → Row Symbol → Bool
 meets_slot width slot row = ltb row.left (slot * width + width) && ltb (slot * width) (row.left + row.weight)

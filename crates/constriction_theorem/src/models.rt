@@ -4,7 +4,7 @@ ghost use Rattle.std.specs.Prelude.{◌≡◌, ◌<◌, ◌≤◌, List, map, fa
 ghost use Rattle.std.specs.List.{IsDistinct};
 ghost use Rattle.constriction.specs.Model.{StandForRows, ClonesAreSame, ClonesAreEqual};
 ghost use Rattle.constriction.specs.Rows.{Row, symbols_of};
-ghost use Rattle.constriction_client.specs.Precision.{IsPrecision};
+ghost use Rattle.constriction.specs.Precision.{IsPrecision, IsLookupPrecision};
 ghost use Rattle.constriction_client.specs.Chains.{is_lookup};
 ghost use Rattle.constriction_client.specs.Replies.{in_numbers, replies_by_scan, AreRepliesOf};
 ghost use Rattle.constriction_theorem.specs.Answers.{AnswersAfter};

@@ -4,7 +4,7 @@
 //! each index word.
 
 ghost use Rattle.std.specs.Prelude.{◌≡◌, ◌^◌, ◌<◌, ◌≤◌, IfOk, IfErr};
-ghost use Rattle.constriction_client.specs.Precision.{IsPrecision};
+ghost use Rattle.constriction.specs.Precision.{IsPrecision};
 ghost use Rattle.constriction_theorem.specs.Answers.{AnswersOfRange};
 
 use crate::models::{AnswersOfModel, answer_by_table};

@@ -4,7 +4,7 @@ ghost use Rattle.std.specs.Prelude.{◌≡◌, ◌<◌, ◌≤◌, ℕ, fold, ma
 ghost use Rattle.constriction.specs.Acceptance.{completed, IsAccepted};
 ghost use Rattle.constriction.specs.Model.{ClonesAreSame};
 ghost use Rattle.constriction.specs.Rows.{contiguous_rows, entry_of};
-ghost use Rattle.constriction_client.specs.Precision.{IsPrecision};
+ghost use Rattle.constriction.specs.Precision.{IsLookupPrecision};
 ghost use Rattle.constriction_client.specs.Chains.{is_lookup, is_lookup_after};
 ghost use Rattle.constriction_client.specs.Replies.{in_numbers, replies_by_scan};
 ghost use Rattle.constriction_theorem.specs.Answers.{ReplyAsScan};

@@ -5,7 +5,7 @@ ghost use Rattle.std.specs.List.{IsDistinct};
 ghost use Rattle.constriction.specs.Entries.{SameEntries};
 ghost use Rattle.constriction.specs.Model.{StandForRows, ClonesAreEqual};
 ghost use Rattle.constriction.specs.Rows.{entry_of, symbols_of};
-ghost use Rattle.constriction_client.specs.Precision.{IsPrecision};
+ghost use Rattle.constriction.specs.Precision.{IsPrecision};
 ghost use Rattle.constriction_client.specs.Coming.{ComeNext, QuantilesCome, GoesBack};
 ghost use Rattle.constriction_client.specs.declared.quantiles.QuantileFault.{QuantileFault};
 ghost use Rattle.constriction_client.specs.Placing.{PlacesItems, EndsPlacing};

@@ -3,6 +3,7 @@
 ghost use Rattle.std.specs.Prelude.{◌≡◌, ◌<◌, ◌≤◌, map, IfOk, IfErr};
 ghost use Rattle.std.specs.List.{IsDistinct};
 ghost use Rattle.constriction_model.specs.Model.{StandApart, ClonesAreEqual};
+ghost use Rattle.constriction_model.specs.Precision.{IsPrecision, IsLookupPrecision};
 ghost use Rattle.constriction_model.specs.Rows.{symbols_of};
 ghost use Rattle.constriction_stored_rows.specs.Stored.{IsStored, rows_paired};
 

@@ -1,5 +1,6 @@
 use Rattle.std.proofs.Common.{map}
 use Rattle.constriction_stored_rows.proofs.SlotLemmas.{slot-probed}
+use Rattle.constriction_stored_rows.proofs.SlotCounting.{tells-tested}
 use Rattle.constriction_categorical.proofs.lookup.LookupDecoderModel.quantile_probe.Goals as goal
 
 pub slot_probe-requires-clause-slots : goal.slot_probe-requires-clause-slots
@@ -12,4 +13,7 @@ returns g c =
     (map g.Model.Kind.CdfEntry.cumulative c.entries.result.now)
     (map g.Model.Kind.CdfEntry.cumulative c.slot_probe.result.1.entries.now) c.entries.ensures
     c.requires c.slot_probe.ensures.part in
-    record { tells = probed.0; searchable = probed.1; fresh = c.slot_probe.ensures.fresh; found = probed.2 }
+    let tells =
+        tells-tested g.Model.Probability.WholeNumber.BITS g.row.PRECISION g.row.SLOT_BITS (g.Model.EntropyModel.rows c.args.self.now.model)
+        (g.met.Model.StoresRows.stored_law c.args.self.now.model) _ _ _ probed.0 in
+    record { tells = tells; searchable = probed.1; fresh = c.slot_probe.ensures.fresh; found = probed.2 }
