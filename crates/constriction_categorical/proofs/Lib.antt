@@ -1,2 +1,3 @@
 pub mod ReadEntries
+pub mod RowAnswers
 pub mod Remade

@@ -165,9 +165,8 @@ impl<
         quantile: Probability,
     ) -> (usize, CdfProbe<'m, Probability, Alone>)
         requires { Probability.whole quantile < 2 ^ PRECISION }
-        ensures { IsProbeFor (⟦<Self as EntropyModel<PRECISION>>⟧.rows self.now) (λ _. ⊤) (Probability.whole quantile) result.0
-            (⟦<CdfProbe<'m, Probability, Alone> as Probe>⟧.cumulatives result.1)
-            (⟦<CdfProbe<'m, Probability, Alone> as Probe>⟧.questions result.1) }
+        ensures { IsProbeFor ⟦<CdfProbe<'m, Probability, Alone> as Probe>⟧
+            (⟦<Self as EntropyModel<PRECISION>>⟧.rows self.now) (λ _. ⊤) (Probability.whole quantile) result.0 result.1 }
     {
         (0, CdfProbe::new(self.cdf_entries()))
     }

@@ -114,11 +114,9 @@ where
         quantile: Model::Probability,
     ) -> (usize, CdfProbe<'m, Model::Entry, Model::Kind>)
         requires { Model.Probability.whole quantile < 2 ^ PRECISION }
-        ensures { IsProbeFor (⟦<Self as EntropyModel<PRECISION>>⟧.rows self.now)
+        ensures { IsProbeFor ⟦<CdfProbe<'m, Model::Entry, Model::Kind> as Probe>⟧ (⟦<Self as EntropyModel<PRECISION>>⟧.rows self.now)
             (λ r. IsTrue (meets_slot (slot_width PRECISION SLOT_BITS) (Model.Probability.whole quantile / slot_width PRECISION SLOT_BITS) r))
-            (Model.Probability.whole quantile) result.0
-            (⟦<CdfProbe<'m, Model::Entry, Model::Kind> as Probe>⟧.cumulatives result.1)
-            (⟦<CdfProbe<'m, Model::Entry, Model::Kind> as Probe>⟧.questions result.1) }
+            (Model.Probability.whole quantile) result.0 result.1 }
     {
         slot_probe::<Model::Entry, Model::Kind, PRECISION, SLOT_BITS>(
             self.model.entries(),

@@ -259,9 +259,8 @@ impl<
         quantile: Probability,
     ) -> (usize, CdfProbe<'m, (Probability, Symbol), WithSymbol>)
         requires { Probability.whole quantile < 2 ^ PRECISION }
-        ensures { IsProbeFor (⟦<Self as EntropyModel<PRECISION>>⟧.rows self.now) (λ _. ⊤) (Probability.whole quantile) result.0
-            (⟦<CdfProbe<'m, (Probability, Symbol), WithSymbol> as Probe>⟧.cumulatives result.1)
-            (⟦<CdfProbe<'m, (Probability, Symbol), WithSymbol> as Probe>⟧.questions result.1) }
+        ensures { IsProbeFor ⟦<CdfProbe<'m, (Probability, Symbol), WithSymbol> as Probe>⟧
+            (⟦<Self as EntropyModel<PRECISION>>⟧.rows self.now) (λ _. ⊤) (Probability.whole quantile) result.0 result.1 }
     {
         (0, CdfProbe::new(self.cdf_entries()))
     }

@@ -1,8 +1,9 @@
 //! Models that store their rows, which is what a table of slots stands beside.
 
-ghost use Rattle.std.specs.Prelude.{◌≡◌, ◌<◌, ◌≤◌, length, map, slice_index_or, IfOk, IfErr};
+ghost use Rattle.std.specs.Prelude.{◌≡◌, ◌<◌, ◌≤◌, length, map, slice_get, Some, IfOk};
 ghost use Rattle.constriction_model.specs.Model.{row_of, LiesWithin};
 ghost use Rattle.constriction_model.specs.Rows.{Row, RowsTile};
+ghost use Rattle.constriction_model.specs.Tables.{StandsFor};
 ghost use Rattle.constriction_stored_rows.specs.StoredRowLemmas.{stored-tiles};
 ghost use Rattle.constriction_stored_rows.specs.SymbolRowLemmas.{entries-tile};
 
@@ -41,14 +42,10 @@ pub trait AnswersRows<const PRECISION: usize>: StoresRows<PRECISION> + DecoderMo
         index: usize,
     ) -> Result<(Self::Symbol, Self::Probability, Weight<Self::Probability>), AllocError>
         requires { index < length (Self.rows self.now) }
-        ensures row { IfOk result (λ x. (own : Self.Symbol) × Self.stands_for own x.0
-            × (slice_index_or (Self.rows self.now) index
-            (row_of Self.Probability.whole Self.Probability.base (own, x.1, x.2))
-            ≡ row_of Self.Probability.whole Self.Probability.base (own, x.1, x.2))) }
+        ensures row { (r : Row Self.Symbol) × (slice_get (Self.rows self.now) index ≡ Some r)
+            × StandsFor Self.stands_for Self.may_refuse Self.Probability.whole Self.Probability.base result r }
         ensures within { IfOk result (λ x. LiesWithin PRECISION
-            (row_of Self.Probability.whole Self.Probability.base x)) }
-        ensures refused { IfErr result (λ _. (r : Row Self.Symbol)
-            × (slice_index_or (Self.rows self.now) index r ≡ r) × Self.may_refuse r.symbol) };
+            (row_of Self.Probability.whole Self.Probability.base x)) };
 }
 
 impl<Probability: WholeNumber, Cdf: SafeBuf<Probability>, const PRECISION: usize> StoresRows<

@@ -2,6 +2,7 @@
 use Rattle.std.specs.Prelude.{◌≡◌, ◌↔◌, ℕ, suc, zero, ◌+◌, ◌/◌, ◌<◌, ◌≤◌, List, length, map, take, drop, slice_index, slice_index_or}
 use Rattle.std.specs.List.Sorted.{IsStrictlyIncreasing}
 use Rattle.constriction_model.specs.Rows.{Row, IsRowOf}
+use Rattle.constriction_model.specs.declared.probe.Probe.{Ghosts}
 
 -- how many binary digits n has, among the lowest `most`
 abbrev pub digits_in : ℕ → ℕ → ℕ
@@ -40,9 +41,9 @@ pub record IsRowIndexOf {Symbol : Type 0} (rows : List (Row Symbol)) (q i : ℕ)
 
 -- A probe that was asked nothing yet tells the rows in question for the quantile q, the first of which stands at the index `first`: the
 -- greatest index whose cumulative is at most q, plus `first`, is the index of the quantile's row.
-pub record IsProbeFor {Symbol : Type 0} (rows : List (Row Symbol)) (InQuestion : Row Symbol → Type 0) (q first : ℕ)
-    (cumulatives : List ℕ) (questions : ℕ) : Type 0 where
-  pub tells : TellsRows rows InQuestion first cumulatives
-  pub searchable : IsSearchable cumulatives q
-  pub fresh : questions ≡ 0
-  pub found : (i : ℕ) → IsLastAtMost cumulatives q i → IsRowIndexOf rows q (first + i)
+pub record IsProbeFor {Symbol P Word : Type 0} (g : Ghosts P Word) (rows : List (Row Symbol)) (InQuestion : Row Symbol → Type 0) (q first : ℕ)
+    (probe : P) : Type 0 where
+  pub tells : TellsRows rows InQuestion first (g.cumulatives probe)
+  pub searchable : IsSearchable (g.cumulatives probe) q
+  pub fresh : g.questions probe ≡ 0
+  pub found : (i : ℕ) → IsLastAtMost (g.cumulatives probe) q i → IsRowIndexOf rows q (first + i)

@@ -1,5 +1,7 @@
-use Rattle.std.proofs.Common.{map}
+use Rattle.std.proofs.Common.{map, subst, sym, ◌∙◌}
+use Rattle.std.proofs.lemmas.Option.{get_or_from_slice_get}
 use Rattle.constriction_model.specs.Model.{row_of}
+use Rattle.constriction_model.specs.Rows.{IsRowOf}
 use Rattle.constriction_stored_rows.proofs.SlotCounting.{slot-compared}
 use Rattle.constriction_stored_rows.proofs.TileLemmas.{tiles-increase, tiles-found}
 use Rattle.constriction_categorical.proofs.lookup.LookupDecoderModelSearchingModel.counted_quantile_function.Goals as goal
@@ -25,16 +27,24 @@ returns-in-Ok-clause-row g c =
     (g.met.Model.StoresRows.stored_law c.args.self.now.model) (g.Model.Probability.WholeNumber.whole c.args.quantile)
     c.row_in_slot-index.result.0 c.requires.in_range (rw c.entries.ensures at c.row_in_slot-index.ensures.found) in
     let at = c.in-Ok.ensures.row in
-    let answer = row_of g.Model.Probability.WholeNumber.whole g.Model.Probability.WholeNumber.base (at.0, c.in-Ok.row.1, c.in-Ok.row.2) in
-    (at.0, at.1, rw at.2 at (found.row answer))
+    let rows = g.Model.EntropyModel.rows c.args.self.now.model in
+    let is = get_or_from_slice_get rows c.row_in_slot-index.result.0 at.0 at.0 at.1 in
+    let stands = at.2.0 in
+    (
+      stands.0,
+      stands.1,
+      subst (IsRowOf rows (g.Model.Probability.WholeNumber.whole c.args.quantile)) (is ∙ sym stands.2) (found.row at.0),
+    )
 
 pub returns-in-Err-clause-refused : goal.returns-in-Err-clause-refused
 returns-in-Err-clause-refused g c =
     let found = tiles-found g.Model.Probability.WholeNumber.BITS g.row.PRECISION (g.Model.EntropyModel.rows c.args.self.now.model)
     (g.met.Model.StoresRows.stored_law c.args.self.now.model) (g.Model.Probability.WholeNumber.whole c.args.quantile)
     c.row_in_slot-index.result.0 c.requires.in_range (rw c.entries.ensures at c.row_in_slot-index.ensures.found) in
-    let at = c.in-Err.ensures.refused in
-    (at.0, rw at.1 at (found.row at.0), at.2)
+    let at = c.in-Err.ensures.row in
+    let rows = g.Model.EntropyModel.rows c.args.self.now.model in
+    let is = get_or_from_slice_get rows c.row_in_slot-index.result.0 at.0 at.0 at.1 in
+    (at.0, subst (IsRowOf rows (g.Model.Probability.WholeNumber.whole c.args.quantile)) is (found.row at.0), at.2.1)
 
 pub returns-in-Ok-clause-few : goal.returns-in-Ok-clause-few
 returns-in-Ok-clause-few g c =

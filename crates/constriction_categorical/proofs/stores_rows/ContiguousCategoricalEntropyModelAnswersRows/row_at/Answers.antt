@@ -1,4 +1,8 @@
-use Rattle.std.proofs.Common.{◌+◌, ◌<◌, length, map, refl, arith}
+use Rattle.std.proofs.Common.{◌+◌, ◌<◌, length, map, refl, sym, arith}
+use Rattle.std.proofs.lemmas.Option.{slice_get_read}
+use Rattle.constriction_model.specs.Model.{row_of}
+use Rattle.constriction_model.specs.Rows.{contiguous_rows}
+use Rattle.constriction_stored_rows.specs.Stored.{lefts_in, weights_of}
 use Rattle.std.proofs.lemmas.List.{length-map}
 use Rattle.constriction_stored_rows.proofs.TableLemmas.{table-rows}
 use Rattle.constriction_categorical.proofs.stores_rows.ContiguousCategoricalEntropyModelAnswersRows.row_at.Goals as goal
@@ -19,4 +23,9 @@ contiguous_row_at-requires-clause-in_bounds g c =
     rw c.words.ensures within
 
 pub returns-clause-row : goal.returns-clause-row
-returns-clause-row g c = (c.contiguous_row_at.result.0, refl, rw c.words.ensures at c.contiguous_row_at.ensures.row)
+returns-clause-row g c =
+    let whole = g.Probability.WholeNumber.whole in
+    let rows = contiguous_rows (weights_of g.row.PRECISION (lefts_in (map whole (g.Cdf.SafeBuf.words_of c.args.self.now.cdf)))) in
+    let row = row_of whole g.Probability.WholeNumber.base c.contiguous_row_at.result in
+    let at = rw c.words.ensures at c.contiguous_row_at.ensures.row in
+    (row, slice_get_read rows (length rows) c.args.index row refl c.requires (sym at), ((c.contiguous_row_at.result.0, refl, refl), tt))

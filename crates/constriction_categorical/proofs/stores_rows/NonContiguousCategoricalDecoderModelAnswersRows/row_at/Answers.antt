@@ -1,5 +1,6 @@
 use Rattle.std.proofs.Common.{◌+◌, ◌<◌, length, arith}
 use Rattle.constriction_stored_rows.proofs.PairedLemmas.{entries-many}
+use Rattle.constriction_categorical.proofs.RowAnswers.{row-stands}
 use Rattle.constriction_categorical.proofs.stores_rows.NonContiguousCategoricalDecoderModelAnswersRows.row_at.Goals as goal
 
 pub cloned_row_at-requires-clause-table : goal.cloned_row_at-requires-clause-table
@@ -13,7 +14,6 @@ cloned_row_at-requires-clause-in_bounds g c =
     rw c.words.ensures within
 
 pub returns-clause-row : goal.returns-clause-row
-returns-clause-row g c = rw c.words.ensures at c.cloned_row_at.ensures.row
-
-pub returns-clause-refused : goal.returns-clause-refused
-returns-clause-refused g c = rw c.words.ensures at c.cloned_row_at.ensures.refused
+returns-clause-row g c =
+    row-stands _ _ _ _ _ c.args.index c.requires c.cloned_row_at.result (rw c.words.ensures at c.cloned_row_at.ensures.row)
+    (rw c.words.ensures at c.cloned_row_at.ensures.refused)
