@@ -1,7 +1,12 @@
 //! What follows of symbol tables and of models over any symbols, each law the contract of a function. Those of
 //! tables hold of each model that meets the trait, those of the caller too.
 
-ghost use Rattle.constriction_model.specs.Laws.{WalksRows, GivesAllRows, GivesAsMany, AnswersAreInTable, Rebuilds, SymbolsDiffer};
+ghost use Rattle.std.specs.Prelude.{◌≡◌, ◌++◌, ℕ, List, length, map};
+ghost use Rattle.std.specs.Iterator.{Yields, Drains};
+ghost use Rattle.std.specs.List.{IsDistinct};
+ghost use Rattle.constriction_model.specs.Acceptance.{AreAccepted};
+ghost use Rattle.constriction_model.specs.Laws.{AreRows, IsInTable};
+ghost use Rattle.constriction_model.specs.Rows.{Row, IsRowOf, rows_of, symbols_of};
 
 use constriction_buffers::SafeBuf;
 use constriction_categorical::{
@@ -15,8 +20,9 @@ use constriction_numbers::{IndexWord, WholeNumber};
 /// their symbols where the model owns these, and leave the others. Where memory for a clone of a symbol is
 /// refused, the refusal stands in the row's place.
 pub fn table_walks_rows<M: IterableEntropyModel<PRECISION>, const PRECISION: usize>()
-    ensures { WalksRows M.stands_for M.may_refuse M.Probability.whole M.Probability.base
-        M.SymbolTable.next_gives M.rows_left }
+    ensures { (t : M.SymbolTable) (items : _) (u : M.SymbolTable) → Yields M.SymbolTable.next_gives t items u
+        → (rows : List (Row M.Symbol)) × (M.rows_left t ≡ rows ++ M.rows_left u)
+        × AreRows M.stands_for M.may_refuse M.Probability.whole M.Probability.base items rows }
 {}
 
 /// A symbol table that is walked to its end gives all rows that were left, in order and each once:
@@ -24,15 +30,15 @@ pub fn table_walks_rows<M: IterableEntropyModel<PRECISION>, const PRECISION: usi
 /// where no item is a refusal nothing else: the very rows where clones are the same values, and otherwise
 /// rows whose symbols are clones.
 pub fn table_gives_all_rows<M: IterableEntropyModel<PRECISION>, const PRECISION: usize>()
-    ensures { GivesAllRows M.stands_for M.may_refuse M.Probability.whole M.Probability.base
-        M.SymbolTable.next_gives M.rows_left }
+    ensures { (t : M.SymbolTable) (items : _) → Drains M.SymbolTable.next_gives t items
+        → AreRows M.stands_for M.may_refuse M.Probability.whole M.Probability.base items (M.rows_left t) }
 {}
 
 /// A symbol table that is walked to its end gives as many items as rows were left, refusals counted.
 /// Where a model tells the number of its symbols, as by `support_size`, a fresh table of it has so
 /// many items.
 pub fn table_length<M: IterableEntropyModel<PRECISION>, const PRECISION: usize>()
-    ensures { GivesAsMany M.SymbolTable.next_gives M.rows_left }
+    ensures { (t : M.SymbolTable) (items : _) → Drains M.SymbolTable.next_gives t items → length items ≡ length (M.rows_left t) }
 {}
 
 /// The row of a quantile, for which [`DecoderModel::quantile_function`] answers, is in the model's symbol
@@ -42,8 +48,9 @@ pub fn table_length<M: IterableEntropyModel<PRECISION>, const PRECISION: usize>(
 pub fn answers_are_in_table<M, const PRECISION: usize>()
 where
     M: DecoderModel<PRECISION> + IterableEntropyModel<PRECISION>,
-    ensures { AnswersAreInTable M.IterableEntropyModel.stands_for M.IterableEntropyModel.may_refuse
-        M.Probability.whole M.Probability.base M.SymbolTable.next_gives M.rows_left M.rows }
+    ensures { (m : M) (t : M.SymbolTable) (items : _) (q : ℕ) (r : Row M.Symbol) → M.rows_left t ≡ M.rows m
+        → Drains M.SymbolTable.next_gives t items → IsRowOf (M.rows m) q r
+        → IsInTable M.IterableEntropyModel.stands_for M.IterableEntropyModel.may_refuse M.Probability.whole M.Probability.base items q r }
 {}
 
 /// Where no two symbols of a model are equal, the symbols and the weights of its table are accepted by the
@@ -55,7 +62,9 @@ pub fn symbols_and_weights_rebuild<M, const PRECISION: usize>()
 where
     M: IterableEntropyModel<PRECISION>,
     M::Symbol: Eq,
-    ensures { Rebuilds M.Symbol.eq M.Probability.BITS PRECISION M.rows }
+    ensures { (m : M) → IsDistinct M.Symbol.eq (symbols_of (M.rows m))
+        → AreAccepted M.Symbol.eq M.Probability.BITS PRECISION (symbols_of (M.rows m)) (map (λ r. r.weight) (M.rows m))
+        × (rows_of (symbols_of (M.rows m)) (map (λ r. r.weight) (M.rows m)) ≡ M.rows m) }
 {}
 
 /// No two symbols of a decoder over any symbols are equal, however it was made. So a hashed encoder that
@@ -65,8 +74,8 @@ where
     Symbol: Eq,
     Probability: WholeNumber,
     Cdf: SafeBuf<(Probability, Symbol)>,
-    ensures { SymbolsDiffer Symbol.eq
-        ⟦<NonContiguousCategoricalDecoderModel<Symbol, Probability, Cdf, PRECISION> as EntropyModel<PRECISION>>⟧.rows }
+    ensures { (m : _) → IsDistinct Symbol.eq (symbols_of
+        (⟦<NonContiguousCategoricalDecoderModel<Symbol, Probability, Cdf, PRECISION> as EntropyModel<PRECISION>>⟧.rows m)) }
 {}
 
 /// The same of a lookup model over any symbols.
@@ -82,8 +91,8 @@ where
     Probability: IndexWord,
     Cdf: SafeBuf<(Probability, Symbol)>,
     LookupTable: SafeBuf<Probability>,
-    ensures { SymbolsDiffer Symbol.eq
-        ⟦<NonContiguousLookupDecoderModel<Symbol, Probability, Cdf, LookupTable, PRECISION> as EntropyModel<PRECISION>>⟧.rows }
+    ensures { (m : _) → IsDistinct Symbol.eq (symbols_of
+        (⟦<NonContiguousLookupDecoderModel<Symbol, Probability, Cdf, LookupTable, PRECISION> as EntropyModel<PRECISION>>⟧.rows m)) }
 {}
 
 /// And of one with whatever number of slots.
@@ -100,6 +109,6 @@ where
     Probability: IndexWord,
     Cdf: SafeBuf<(Probability, Symbol)>,
     LookupTable: SafeBuf<Probability>,
-    ensures { SymbolsDiffer Symbol.eq
-        ⟦<SlottedNonContiguousLookupDecoderModel<Symbol, Probability, Cdf, LookupTable, PRECISION, SLOT_BITS> as EntropyModel<PRECISION>>⟧.rows }
+    ensures { (m : _) → IsDistinct Symbol.eq (symbols_of
+        (⟦<SlottedNonContiguousLookupDecoderModel<Symbol, Probability, Cdf, LookupTable, PRECISION, SLOT_BITS> as EntropyModel<PRECISION>>⟧.rows m)) }
 {}

@@ -1,12 +1,11 @@
 -- Rows that tile and answer alike on each quantile are the same rows.
-use Rattle.std.specs.Prelude.{◌≡◌, ℕ, ◌+◌, ◌^◌, ◌<◌, ◌≤◌, List, [], ◌∷◌, length, map, sum, All}
+use Rattle.std.specs.Prelude.{◌↔◌, ◌≡◌, ℕ, ◌+◌, ◌^◌, ◌<◌, ◌≤◌, List, [], ◌∷◌, length, map, sum, All}
 use Rattle.std.proofs.Common.{suc, zero, get_or, refl, ap, sym, subst, ◌∙◌, arith}
 use Rattle.std.proofs.lemmas.List.{length-map}
 use Rattle.std.proofs.lemmas.List.Sums.{sum_by-cons}
 use Rattle.constriction_model.specs.Rows.{Row, RowsTile, IsRowOf, rows_from}
 use Rattle.constriction_model.specs.CodingLemmas.{above}
 use Rattle.constriction_model.specs.PairLemmas.{row-further}
-use Rattle.constriction_model.specs.Laws.{AnswerAlike, EqualAnswers}
 
 -- no row is one of none
 no-row : {Symbol : Type 0} (xs : List (Row Symbol)) (q : ℕ) (r : Row Symbol) → xs ≡ [] → IsRowOf xs q r → ⊥
@@ -73,6 +72,11 @@ same-rows {Symbol = Symbol} end l (x ∷ ss) (y ∷ ts) (w ∷ ws) (v ∷ vs) e 
     ∙ ap (λ zs. zs ∷ rows_from (l + w) ts vs) (sym head)
     ∙ ap (λ n. record { symbol = y; left = l; weight = v } ∷ rows_from (l + n) ts vs) (sym weight)
 
+-- models of these rows answer alike on each quantile: it has the same row among both
+abbrev AnswerAlike : {Symbol : Type 0} → ℕ → List (Row Symbol) → List (Row Symbol) → Type 0
+AnswerAlike {Symbol} precision rows others =
+    (q : ℕ) (r : Row Symbol) → q < 2 ^ precision → IsRowOf rows q r ↔ IsRowOf others q r
+
 -- rows that tile and answer alike are the same
 pub alike-rows : {Symbol : Type 0} (bits more precision : ℕ) (rows others : List (Row Symbol)) → RowsTile bits precision rows
     → RowsTile more precision others → AnswerAlike precision rows others → rows ≡ others
@@ -93,7 +97,7 @@ alike-rows {Symbol = Symbol} bits more precision rows others tile also alike =
 
 pub equal-answers : {Symbol M N : Type 0} (bits more precision : ℕ) (rows : M → List (Row Symbol)) (others : N → List (Row Symbol))
     → ((m : M) → RowsTile bits precision (rows m)) → ((n : N) → RowsTile more precision (others n))
-    → EqualAnswers precision rows others
+    → (m : M) (n : N) → AnswerAlike precision (rows m) (others n) ↔ (rows m ≡ others n)
 equal-answers {Symbol = Symbol} bits more precision rows others tile also m n = (
   alike-rows bits more precision (rows m) (others n) (tile m) (also n),
   λ e q r below. (

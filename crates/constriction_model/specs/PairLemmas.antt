@@ -12,7 +12,8 @@ use Rattle.std.proofs.lemmas.Map.Keys.{IsDistinct-head, IsDistinct-tail}
 use Rattle.constriction_model.specs.Rows.{Row, RowsTile, IsRowOf, rows_from, entry_of, indices, contiguous_rows, symbols_of}
 use Rattle.constriction_model.specs.RowLemmas.{entry_of-cons, symbols-rows_from}
 use Rattle.constriction_model.specs.CodingLemmas.{entry-row, entry-below, one-row, row-within, rows-within}
-use Rattle.constriction_model.specs.Laws.{ContiguousSymbolsDiffer, QuantilesHaveOneRow, IsQuantileAt, IsOneToOne, PairsAreQuantiles}
+use Rattle.constriction_model.specs.Entries.{SameEntries}
+use Rattle.constriction_model.specs.Laws.{HasOneRow, IsQuantileAt, IsOneToOne}
 
 -- a row among others is one among more
 pub row-further : {Symbol : Type 0} (x : Row Symbol) (xs : List (Row Symbol)) (q : ℕ) (r : Row Symbol) → IsRowOf xs q r
@@ -45,7 +46,7 @@ has-row {Symbol = Symbol} bits precision rows q tile below =
 
 -- so each quantile has one row, where all rows tile
 pub one-row-each : {Symbol M : Type 0} (bits precision : ℕ) (rows : M → List (Row Symbol)) → ((m : M) → RowsTile bits precision (rows m))
-    → QuantilesHaveOneRow precision rows
+    → (m : M) (q : ℕ) → q < 2 ^ precision → HasOneRow precision (rows m) q
 one-row-each bits precision rows tile m q below =
     let one = has-row bits precision (rows m) q (tile m) below in
     let within = row-within bits precision (rows m) q one.0 (tile m) one.1 in
@@ -110,7 +111,7 @@ range-distinct a zero = tt
 range-distinct a (suc n) = (range-apart a (a + 1) n (omega arith), range-distinct (a + 1) n)
 
 -- no two symbols of a contiguous model are equal
-pub contiguous-distinct : ContiguousSymbolsDiffer
+pub contiguous-distinct : (weights : List ℕ) → IsDistinct nat_eq (symbols_of (contiguous_rows weights))
 contiguous-distinct ws =
     let is : symbols_of (contiguous_rows ws) ≡ indices (length ws) =
     symbols-rows_from 0 (indices (length ws)) ws (length-range_with_len 0 (length ws)) in
@@ -177,6 +178,7 @@ module _ {Symbol : Type 0} (eq : Symbol → Symbol → Bool) (entry : Symbol →
 
 pub pairs-are-quantiles : {Symbol D E : Type 0} (eq : Symbol → Symbol → Bool) (bits precision : ℕ) (rows : D → List (Row Symbol))
     (encoder_rows : E → List (Row Symbol)) → ((m : D) → RowsTile bits precision (rows m)) → IsEquivalence eq
-    → PairsAreQuantiles eq precision rows encoder_rows
+    → (d : D) (e : E) → IsDistinct eq (symbols_of (rows d)) → SameEntries eq (encoder_rows e) (rows d)
+    → IsOneToOne eq (entry_of eq (encoder_rows e)) precision (rows d)
 pairs-are-quantiles eq bits precision rows encoder_rows tile laws d e distinct agree =
     one-to-one eq (entry_of eq (encoder_rows e)) bits precision (rows d) (tile d) agree laws distinct

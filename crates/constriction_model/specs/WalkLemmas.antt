@@ -10,7 +10,7 @@ use Rattle.constriction_model.specs.Tables.{StandsFor, YieldsRow}
 use Rattle.constriction_model.specs.CodingLemmas.{one-row}
 use Rattle.constriction_model.specs.StandLemmas.{its-symbol, its-left, its-weight, same-rows, same-answer}
 use Rattle.constriction_model.specs.UniformRowLemmas.{length-uniform_rows}
-use Rattle.constriction_model.specs.Laws.{AreRows, WalksRows, GivesAllRows, GivesAsMany, AnswersAreInTable, UniformRowsAreAsMany}
+use Rattle.constriction_model.specs.Laws.{AreRows, IsInTable}
 
 -- where something relates two lists place by place, each element of one has a partner in the other
 partner : {X Y : Type 0} (R : X → Y → Type 0) (xs : List X) (ys : List Y) (k : ℕ) (y : Y) → AllZip R xs ys
@@ -109,7 +109,9 @@ module _ {Symbol Word Weight Refusal : Type 0} (Stands : Symbol → Symbol → T
         let more = stand-for j xs u rest in
         (one.0 ∷ more.0, one.1 ∙ ap (λ zs. one.0 ∷ zs) more.1, (one.2, more.2))
 
-    pub walks-rows : WalksRows Stands MayRefuse whole base steps rows_left
+    -- steps in a row give the first of the rows that were left, and leave the others
+    pub walks-rows : (t : T) (items : List (Result (Symbol × Word × Weight) Refusal)) (u : T) → Yields steps t items u
+        → (rows : List (Row Symbol)) × (rows_left t ≡ rows ++ rows_left u) × AreRows Stands MayRefuse whole base items rows
     walks-rows t items u h =
         let all = stand-for t items u h in
         (all.0, all.1, are-rows items all.0 all.2)
@@ -122,16 +124,19 @@ module _ {Symbol Word Weight Refusal : Type 0} (Stands : Symbol → Symbol → T
         let is : all.0 ≡ rows_left t = sym (all.1 ∙ ap (λ zs. all.0 ++ zs) none.0 ∙ append-nil all.0) in
         subst (λ (rows : List (Row Symbol)). AllZip (StandsFor Stands MayRefuse whole base) items rows) is all.2
 
-    pub gives-all-rows : GivesAllRows Stands MayRefuse whole base steps rows_left
+    -- steps to the end give all rows that were left, each once
+    pub gives-all-rows : (t : T) (items : List (Result (Symbol × Word × Weight) Refusal)) → Drains steps t items
+        → AreRows Stands MayRefuse whole base items (rows_left t)
     gives-all-rows t items h = are-rows items (rows_left t) (drained t items h)
 
-    pub gives-as-many : GivesAsMany steps rows_left
+    pub gives-as-many : (t : T) (items : List (Result (Symbol × Word × Weight) Refusal)) → Drains steps t items → length items ≡ length (rows_left t)
     gives-as-many t items h =
         sym (AllZip-long (StandsFor Stands MayRefuse whole base) items (rows_left t) (drained t items h))
 
     pub answers-are-in-table : {M : Type 0} (bits precision : ℕ) (rows : M → List (Row Symbol))
         → ((m : M) → RowsTile bits precision (rows m)) → ((a b : Word) → whole a ≡ whole b → a ≡ b)
-        → ((a b : Weight) → base a ≡ base b → a ≡ b) → AnswersAreInTable Stands MayRefuse whole base steps rows_left rows
+        → ((a b : Weight) → base a ≡ base b → a ≡ b) → (m : M) (t : T) (items : List (Result (Symbol × Word × Weight) Refusal)) (q : ℕ) (r : Row Symbol)
+        → rows_left t ≡ rows m → Drains steps t items → IsRowOf (rows m) q r → IsInTable Stands MayRefuse whole base items q r
     answers-are-in-table bits precision rows tile one_word one_weight m t items q r e d found =
         let all = subst (λ (rs : List (Row Symbol)). AllZip (StandsFor Stands MayRefuse whole base) items rs) e (drained t items d) in
         let among = found.among in
@@ -162,7 +167,7 @@ module _ {Symbol Word Weight Refusal : Type 0} (Stands : Symbol → Symbol → T
         }
 
 -- the number of uniform rows
-pub row-count : UniformRowsAreAsMany
+pub row-count : (precision n : ℕ) → 0 < n → length (uniform_rows precision n) ≡ n
 row-count precision n h =
     let last : n - 1 + 1 ≡ n = omega arith in
     ap (λ k. length (uniform_rows precision k)) (sym last) ∙ length-uniform_rows precision (n - 1) ∙ last

@@ -4,7 +4,7 @@ ghost use Rattle.std.specs.Prelude.{◌≡◌, ◌<◌, ◌≤◌, map, IfOk, If
 ghost use Rattle.constriction.specs.Entries.{SameEntries};
 ghost use Rattle.constriction.specs.Laws.{SymbolsDiffer};
 ghost use Rattle.constriction.specs.Model.{ClonesAreSame};
-ghost use Rattle.constriction.specs.Precision.{IsLookupPrecision};
+ghost use Rattle.constriction.specs.Precision.{IsPrecision, IsLookupPrecision};
 ghost use Rattle.constriction_client.specs.Replies.{in_numbers, replies_by_scan};
 
 use crate::chain::{ChainStep, convert_chain};
