@@ -1,10 +1,11 @@
 //! What follows from the steps of a cursor, and, by name, from the contracts of sources and sinks: each law the
 //! contract of a function.
 
-ghost use Rattle.std.specs.Prelude.{◌≡◌, ◌↔◌, length, reverse, Option, Result, IsOk};
-ghost use Rattle.constriction_backends.specs.Cursor.{buf_of, pos_of, SeeksTo, TurnsRound};
+ghost use Rattle.std.specs.Prelude.{◌≡◌, ◌↔◌, List, length, reverse, Option, Result, IsOk};
+ghost use Rattle.constriction_backends.specs.Cursor.{buf_of, pos_of, SeeksTo, TurnsRound, WritesTo};
 ghost use Rattle.constriction_backends.specs.CursorState.{State, reversal, StackReads, QueueReads};
-ghost use Rattle.constriction_backends.specs.CursorRuns.{ExtendingOverwrites};
+ghost use Rattle.constriction_backends.specs.CursorRuns.{Placed};
+ghost use Rattle.constriction_sources.specs.Sink.{Writes};
 
 use crate::cursor::Cursor;
 use constriction_buffers::{SafeBuf, SafeBufMut};
@@ -52,5 +53,6 @@ pub fn seek_back_in_a_cursor<Word, Buf: SafeBuf<Word>>()
 /// that were written before, in the places of as many others, and the buffer is the old one with
 /// other words.
 pub fn extending_overwrites<Word, Buf: SafeBufMut<Word>, WriteError>()
-    ensures { ExtendingOverwrites Word Buf Buf.SafeBuf Buf.with_words WriteError }
+    ensures { (c : Cursor Word Buf Buf.SafeBuf) (words : List Word) (t : Cursor Word Buf Buf.SafeBuf)
+        → Writes {E = WriteError} (λ s w r t. WritesTo s Buf.with_words w r t) c words t → Placed Buf.with_words c words t }
 {}

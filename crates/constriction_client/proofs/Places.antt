@@ -6,12 +6,13 @@ use Rattle.constriction_words.specs.declared.coder_error.CoderError.TheVariants.
 use Rattle.constriction_buffers.specs.declared.buf.SafeBuf.{Ghosts}
 use Rattle.constriction_backends.specs.declared.cursor.Cursor.{Cursor}
 use Rattle.constriction_backends.specs.Cursor.{state_of, WritesTo}
-use Rattle.constriction_backends.specs.CursorRuns.{ExtendingOverwrites}
+use Rattle.constriction_backends.specs.CursorRuns.{Placed}
 use Rattle.constriction_backends.specs.CursorState.{QueueReads}
+use Rattle.constriction_backends.specs.Sink.{Writes}
 use Rattle.constriction_backends.specs.Source.{Reads}
 use Rattle.constriction_client.specs.declared.quantiles.QuantileFault.{QuantileFault}
 use Rattle.constriction_client.specs.Coming.{ComeNext, GoesBack}
-use Rattle.constriction_client.specs.Placing.{Placed, PlacesItems}
+use Rattle.constriction_client.specs.Placing.{PlacesItems}
 use Rattle.constriction_client.specs.Quantiles.{IsQuantileOf, IsFaultOf, WritesItems, StopsAt, StopsAtItem}
 
 -- what comes after the same beginning
@@ -26,16 +27,12 @@ module _ {Word Buf Error : Type 0} {g : Ghosts Buf Word} (with_words : Buf → L
   gives_write = λ s w r t. WritesTo s with_words w r t
 
   module _ {Symbol : Type 0} (entry : Symbol → Option (ℕ × ℕ)) (whole : Word → ℕ) (tells : Cursor Word Buf g → List Word → Type 0)
-      (law : ExtendingOverwrites Word Buf g with_words Error) (c : Cursor Word Buf g) where
+      (law : (c : Cursor Word Buf g) (words : List Word) (t : Cursor Word Buf g) → Writes gives_write c words t → Placed with_words c words t)
+      (c : Cursor Word Buf g) where
     pub items-placed : (items : List (Symbol × Word)) (t : Cursor Word Buf g)
         → WritesItems entry whole gives_write tells items c t → PlacesItems entry whole with_words c items t
     items-placed items t wrote =
-        let over = law c wrote.words t wrote.written in
-        record {
-          words = wrote.words;
-          quantiles = wrote.quantiles;
-          placed = record { before = over.0; after = over.1; buf = over.2 };
-        }
+        record { words = wrote.words; quantiles = wrote.quantiles; placed = law c wrote.words t wrote.written }
 
     pub fault-placed : (items : List (Symbol × Word)) (t : Cursor Word Buf g) (fault : QuantileFault)
         → StopsAtItem entry whole gives_write tells items c (Frontend fault) t

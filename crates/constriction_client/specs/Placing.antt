@@ -7,19 +7,12 @@ use Rattle.constriction_words.specs.declared.read_write_error.ReadWriteError.The
 use Rattle.constriction_buffers.specs.declared.buf.SafeBuf.{Ghosts}
 use Rattle.constriction_backends.specs.declared.cursor.Cursor.{Cursor}
 use Rattle.constriction_backends.specs.Cursor.{buf_of, state_of}
+use Rattle.constriction_backends.specs.CursorRuns.{Placed}
 use Rattle.constriction_client.specs.declared.quantiles.QuantileFault.{QuantileFault}
 use Rattle.constriction_client.specs.Quantiles.{IsQuantileOf, IsFaultOf, AreQuantiles, StopsAt}
 
 -- Below, `with_words b ws` is the buffer b with the words ws in it, `entry` tells the entry of each symbol, and `whole` the
 -- number of each word.
-
--- The words took the places of as many others, from where the cursor c stood, and t stands after them. All other words are
--- those of c, and the buffer is that of c with other words.
-pub record Placed {Word Buf : Type 0} {g : Ghosts Buf Word} (with_words : Buf → List Word → Buf)
-    (c : Cursor Word Buf g) (words : List Word) (t : Cursor Word Buf g) : Type 0 where
-  pub before : (state_of t).before ≡ (state_of c).before ++ words
-  pub after : (state_of t).after ≡ drop (length words) (state_of c).after
-  pub buf : buf_of t ≡ with_words (buf_of c) (g.words_of (buf_of t))
 
 module _ {Symbol Word Buf : Type 0} {g : Ghosts Buf Word} (entry : Symbol → Option (ℕ × ℕ)) (whole : Word → ℕ)
     (with_words : Buf → List Word → Buf) (c : Cursor Word Buf g) where
