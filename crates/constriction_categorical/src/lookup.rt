@@ -1,8 +1,8 @@
 //! Models that look up where to search for the row of a quantile.
 
-ghost use Rattle.std.specs.Prelude.{◌≡◌, ◌/◌, ◌^◌, ◌<◌, ◌≤◌, map, count_by, IsTrue, IfOk, IfErr};
+ghost use Rattle.std.specs.Prelude.{◌≡◌, ◌/◌, ◌^◌, ◌<◌, ◌≤◌, map, min, count_by, IsTrue, IfOk, IfErr};
 ghost use Rattle.constriction_model.specs.Probe.{IsProbeFor};
-ghost use Rattle.constriction_stored_rows.specs.Slots.{meets_slot, slot_count, slot_width};
+ghost use Rattle.constriction_stored_rows.specs.Slots.{meets_slot, slot_width};
 ghost use Rattle.constriction_stored_rows.specs.SlotTable.{HasSlots};
 
 use crate::stores_rows::{AnswersRows, OfAnySymbols, OfNumbers, StoresRows};
@@ -36,7 +36,7 @@ where
     pub(crate) model: Model,
     pub(crate) lookup_table: LookupTable,
     ghost narrow: { PRECISION ≤ 63 },
-    ghost slots: { HasSlots (slot_width PRECISION SLOT_BITS) (slot_count PRECISION SLOT_BITS)
+    ghost slots: { HasSlots (slot_width PRECISION SLOT_BITS) (2 ^ min PRECISION SLOT_BITS)
         (map (λ r. r.left) (Model.rows model))
         (map Model.Probability.whole (LookupTable.words_of lookup_table)) },
 }

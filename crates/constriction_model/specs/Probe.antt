@@ -26,24 +26,19 @@ pub record IsLastAtMost (cumulatives : List ℕ) (q i : ℕ) : Type 0 where
   pub at_most : slice_index cumulatives i ≤ q
   pub last : (j : ℕ) → i < j → j < length cumulatives → q < slice_index cumulatives j
 
--- the rows in question are those from `first` on that are told, and no other row; what is told are their left cumulatives, in order
-pub record TellsRows {Symbol : Type 0} (rows : List (Row Symbol)) (InQuestion : Row Symbol → Type 0) (first : ℕ)
-    (told : List ℕ) : Type 0 where
-  pub exactly : (i : ℕ) (r : Row Symbol) → i < length rows
-      → InQuestion (slice_index_or rows i r) ↔ ((first ≤ i) × (i < first + length told))
-  pub within : first + length told ≤ length rows
-  pub in_order : told ≡ take (length told) (drop first (map (λ r. r.left) rows))
-
 -- the row of the quantile q stands at that index
 pub record IsRowIndexOf {Symbol : Type 0} (rows : List (Row Symbol)) (q i : ℕ) : Type 0 where
   pub in_bounds : i < length rows
   pub row : (r : Row Symbol) → IsRowOf rows q (slice_index_or rows i r)
 
--- A probe that was asked nothing yet tells the rows in question for the quantile q, the first of which stands at the index `first`: the
--- greatest index whose cumulative is at most q, plus `first`, is the index of the quantile's row.
+-- A probe that was asked nothing yet tells the rows in question for the quantile q: those from `first` on, and no other row. It tells their
+-- left cumulatives, in order, and the greatest index whose cumulative is at most q, plus `first`, is the index of the quantile's row.
 pub record IsProbeFor {Symbol P Word : Type 0} (g : Ghosts P Word) (rows : List (Row Symbol)) (InQuestion : Row Symbol → Type 0) (q first : ℕ)
     (probe : P) : Type 0 where
-  pub tells : TellsRows rows InQuestion first (g.cumulatives probe)
+  pub exactly : (i : ℕ) (r : Row Symbol) → i < length rows
+      → InQuestion (slice_index_or rows i r) ↔ ((first ≤ i) × (i < first + length (g.cumulatives probe)))
+  pub within : first + length (g.cumulatives probe) ≤ length rows
+  pub in_order : g.cumulatives probe ≡ take (length (g.cumulatives probe)) (drop first (map (λ r. r.left) rows))
   pub searchable : IsSearchable (g.cumulatives probe) q
   pub fresh : g.questions probe ≡ 0
   pub found : (i : ℕ) → IsLastAtMost (g.cumulatives probe) q i → IsRowIndexOf rows q (first + i)

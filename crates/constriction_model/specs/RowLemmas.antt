@@ -9,6 +9,10 @@ use Rattle.std.proofs.lemmas.List.Folds.{find-append}
 use Rattle.std.proofs.lemmas.List.Sums.{sum_by-cons}
 use Rattle.constriction_model.specs.Rows.{Row, rows_from, entry_of}
 
+-- the symbols 0, 1, .. of contiguous models
+abbrev pub indices : ℕ → List ℕ
+indices n = range_with_len 0 n
+
 -- ---- the rows of symbols and weights
 
 pub length-rows_from : {S : Type 0} (l : ℕ) (ss : List S) (ws : List ℕ) → length ss ≡ length ws

@@ -39,13 +39,9 @@ pub record IsRowOf {Symbol : Type 0} (rows : List (Row Symbol)) (q : ℕ) (r : R
 abbrev pub entry_of : {Symbol : Type 0} → (Symbol → Symbol → Bool) → List (Row Symbol) → Symbol → Option (ℕ × ℕ)
 entry_of eq rows s = option_map (λ r. (r.left, r.weight)) (find (λ r. eq r.symbol s) (reverse rows))
 
--- the symbols 0, 1, .. of contiguous models
-abbrev pub indices : ℕ → List ℕ
-indices n = range_with_len 0 n
-
--- the rows of a contiguous model of these weights
+-- the rows of a contiguous model of these weights: its symbols are 0, 1, ..
 abbrev pub contiguous_rows : List ℕ → List (Row ℕ)
-contiguous_rows weights = rows_of (indices (length weights)) weights
+contiguous_rows weights = rows_of (range_with_len 0 (length weights)) weights
 
 -- the weights of a uniform model of n symbols: each is the whole part of 2 ^ precision / n, but for the last one, which is what the
 -- others leave

@@ -13,9 +13,9 @@ use Rattle.std.proofs.lemmas.List.Sums.{sum_by_push}
 use Rattle.constriction_model.specs.Acceptance.{IsAccepted}
 use Rattle.constriction_model.specs.CodingLemmas.{rows-within}
 use Rattle.constriction_model.specs.Model.{LiesWithin}
-use Rattle.constriction_model.specs.RowLemmas.{length-rows_from, weights-rows_from, symbols-rows_from}
+use Rattle.constriction_model.specs.RowLemmas.{indices, length-rows_from, weights-rows_from, symbols-rows_from}
 use Rattle.constriction_model.specs.RowLemmas.{rows_from-at, contiguous-at, contiguous-past}
-use Rattle.constriction_model.specs.Rows.{Row, contiguous_rows, indices, uniform_weights, uniform_rows, RowsTile, IsRowOf, entry_of}
+use Rattle.constriction_model.specs.Rows.{Row, contiguous_rows, uniform_weights, uniform_rows, RowsTile, IsRowOf, entry_of}
 
 -- the weight of each symbol of a uniform model but the last one, and what those leave for it, where the last symbol is given
 abbrev pub bin_of : ℕ → ℕ → ℕ

@@ -1,6 +1,6 @@
 -- A list of cumulatives that is computed: for a test alone.
 use Rattle.std.specs.Prelude.{ℕ, ◌*◌, List, map}
-use Rattle.constriction.specs.Rows.{indices}
+use Rattle.constriction.specs.RowLemmas.{indices}
 
 -- the first even numbers, so many of them
 unfoldable pub evens : ℕ → List ℕ

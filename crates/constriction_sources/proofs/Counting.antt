@@ -1,6 +1,11 @@
 -- Reads in a row from a source that counts its items.
 use Rattle.std.proofs.Common.{◌≡◌, ◌≢◌, ◌↔◌, ◌+◌, ◌≤◌, ℕ, zero, suc, List, [], ◌∷◌, Option, Some, None, Result, Ok, Err, arith}
-use Rattle.constriction_sources.specs.Source.{CountsRead, GivesAnswers, HasItems}
+use Rattle.std.specs.Prelude.{slice_get}
+use Rattle.constriction_sources.specs.Source.{CountsRead, GivesAnswers}
+
+-- exactly the first n of the answers are items: words, or errors in their place
+abbrev HasItems : {W E : Type 0} → ℕ → List (Result (Option W) E) → Type 0
+HasItems {W} {E} n answers = (k : ℕ) (r : Result (Option W) E) → slice_get answers k ≡ Some r → (r ≡ Ok None) ↔ (n ≤ k)
 
 module _ {W E : Type 0} (m n : ℕ) (rest : List (Result (Option W) E)) (others : HasItems n rest) where
   -- an item stands before the others

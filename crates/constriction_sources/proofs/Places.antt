@@ -1,6 +1,6 @@
 -- Writes in a row to a sink that counts its free places. No public clause cites this module.
 use Rattle.std.proofs.Common.{◌≡◌, ℕ, suc, ◌+◌, List, [], ◌∷◌, length, Option, Result, Ok, Err, ap, arith}
-use Rattle.constriction_sources.specs.Sink.{CountsWrite, CountsExtend, Writes, ExtendsBy}
+use Rattle.constriction_sources.specs.Sink.{CountsWrite, TakesItems, Writes, ExtendsBy}
 
 module _ {S W E : Type 0} (gives : S → W → Result (Unit {0}) E → S → Type 0) (places : S → ℕ)
     (law : (s : S) (w : W) (r : Result (Unit {0}) E) (t : S) → gives s w r t → CountsWrite (places s) r (places t)) where
@@ -18,7 +18,8 @@ module _ {S W E : Type 0} (gives : S → W → Result (Unit {0}) E → S → Typ
 
   -- so writing from an iterator is refused exactly where it has more items than there are free places
   pub extending_counted : {I : Type 0} (next : I → Option W → I → Type 0) (s : S) (items : I) (r : Result (Unit {0}) E) (t : S)
-      → ExtendsBy gives next s items r t → CountsExtend next (places s) items r (places t)
+      → ExtendsBy gives next s items r t
+      → TakesItems next items r (λ ws. places s ≡ length ws + places t) (λ ws _ _. (places s ≡ length ws) × (places t ≡ 0))
   extending_counted next s items (Ok x) t (ws, drained, written) = (ws, drained, writes_counted s ws t written)
   extending_counted next s items (Err e) t (ws, w, rest, yielded, (j, written, refused)) =
       let full : (places j ≡ 0) × (places t ≡ 0) = law j w (Err e) t refused in

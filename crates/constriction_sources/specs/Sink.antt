@@ -20,11 +20,6 @@ TakesItems {I} {W} next items r OfAll OfThose =
     (λ _. (ws : List W) × Drains next items ws × OfAll ws)
     (λ e. (ws : List W) × (w : W) × (rest : I) × YieldsThen next items ws (Some w) rest × OfThose ws w e)
 
--- The items of an iterator were written where m places were free before and n are free after: all of them, each into a free place; or as
--- many as there were places, and there was one more.
-abbrev pub CountsExtend : {I W E : Type 0} → (I → Option W → I → Type 0) → ℕ → I → Result (Unit {0}) E → ℕ → Type 0
-CountsExtend next m items r n = TakesItems next items r (λ ws. m ≡ length ws + n) (λ ws _ _. (m ≡ length ws) × (n ≡ 0))
-
 module _ {S W E : Type 0} (gives : S → W → Result (Unit {0}) E → S → Type 0) where
   -- writes in order from s, each of which succeeded, lead to t
   abbrev pub Writes : S → List W → S → Type 0

@@ -23,7 +23,3 @@ GivesAnswers {S} gives s (r ∷ rs) t = (j : S) × gives s r j × GivesAnswers g
 abbrev pub Reads : {S W E : Type 0} → (S → Result (Option W) E → S → Type 0) → S → List W → S → Type 0
 Reads gives s [] t = s ≡ t
 Reads {S} gives s (w ∷ ws) t = (j : S) × gives s (Ok (Some w)) j × Reads gives j ws t
-
--- exactly the first n of the answers are items: words, or errors in their place
-abbrev pub HasItems : {W E : Type 0} → ℕ → List (Result (Option W) E) → Type 0
-HasItems {W} {E} n answers = (k : ℕ) (r : Result (Option W) E) → slice_get answers k ≡ Some r → (r ≡ Ok None) ↔ (n ≤ k)

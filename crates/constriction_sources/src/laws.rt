@@ -1,10 +1,10 @@
 //! What follows from the contracts of sources and sinks, each law the contract of a function.
 
-ghost use Rattle.std.specs.Prelude.{◌≡◌, ◌≤◌, ◌↔◌, [], ◌∷◌, ◌++◌, List, length, Option, Some, Result, Ok, Err, IfOk, IsOk};
+ghost use Rattle.std.specs.Prelude.{◌≡◌, ◌+◌, ◌≤◌, ◌↔◌, ℕ, [], ◌∷◌, ◌++◌, List, length, slice_get, Option, Some, None, Result, Ok, Err, IfOk, IsOk};
 ghost use Rattle.std.specs.Iterator.{IsFinite};
 ghost use Rattle.constriction_words.specs.Rewinding.{Rewinds};
-ghost use Rattle.constriction_sources.specs.Source.{GivesAnswers, HasItems};
-ghost use Rattle.constriction_sources.specs.Sink.{TakesItems, CountsExtend, ExtendsBy};
+ghost use Rattle.constriction_sources.specs.Source.{GivesAnswers};
+ghost use Rattle.constriction_sources.specs.Sink.{TakesItems, ExtendsBy};
 ghost use Rattle.constriction_sources.specs.Stack.{Pops, Pushes, PopsTold, ReadsWhatWasWritten};
 
 mod iterators;
@@ -80,7 +80,6 @@ pub fn seek_back<Word>()
 
 /// Writes the words of an iterator in order to a sink that counts its free places: they are refused
 /// exactly where there are more of them than places, and otherwise take a place each.
-#[tactic(auto, using(crate::proofs::Places::extending_counted))]
 pub fn extending_counts<Word, Sink: BoundedWriteWords<Word>, Words: Iterator<Item = Word>>(
     sink: &mut Sink,
     words: Words,
@@ -90,8 +89,9 @@ pub fn extending_counts<Word, Sink: BoundedWriteWords<Word>, Words: Iterator<Ite
     requires ends { IsFinite (Words.remaining words) }
     ensures goes_on { Sink.can_write sink.new }
     ensures gives { ExtendsBy Sink.write_gives Words.next_gives sink.old words result sink.new }
-    ensures counted { CountsExtend Words.next_gives
-        (Sink.free_places sink.old) words result (Sink.free_places sink.new) }
+    ensures counted { TakesItems Words.next_gives words result
+        (λ ws. Sink.free_places sink.old ≡ length ws + Sink.free_places sink.new)
+        (λ ws _ _. (Sink.free_places sink.old ≡ length ws) × (Sink.free_places sink.new ≡ 0)) }
 {
     sink.extend_from_iter(words)
 }
@@ -107,5 +107,6 @@ pub fn extending_tells<Word, Sink: WriteWords<Word>, Words: Iterator<Item = Word
 /// Where the count of a source is right, its reads give so many items, and then answer `Ok(None)`.
 pub fn remaining_counts<Word, S: Semantics, Source: BoundedReadWords<Word, S>>()
     ensures { (s : Source) (answers : List (Result (Option Word) Source.ReadError)) (t : Source) → Source.is_exact s
-        → GivesAnswers Source.read_gives s answers t → HasItems (Source.items_left s) answers }
+        → GivesAnswers Source.read_gives s answers t → (k : ℕ) (r : Result (Option Word) Source.ReadError)
+        → slice_get answers k ≡ Some r → (r ≡ Ok None) ↔ (Source.items_left s ≤ k) }
 {}

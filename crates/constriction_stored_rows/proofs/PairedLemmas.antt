@@ -11,7 +11,8 @@ use Rattle.constriction_model.specs.Rows.{Row, rows_from, rows_of, symbols_of, R
 use Rattle.constriction_stored_rows.specs.Stored.{IsStored, IsTable, lefts_in, entries_in, weights_of}
 use Rattle.constriction_stored_rows.specs.StoredLemmas.{IsRowAt, stored-row, stored-some, stored-of_rows}
 use Rattle.constriction_stored_rows.specs.SymbolRowLemmas.{symbols-many, symbol-rows_many, symbol-is_at, paired-long, paired-tiles, entries-lefts, entries-stored}
-use Rattle.constriction_model.specs.Probe.{TellsRows, IsRowIndexOf, IsLastAtMost, IsSearchable}
+use Rattle.constriction_model.specs.Probe.{IsRowIndexOf, IsLastAtMost, IsSearchable}
+use Rattle.constriction_model.specs.Searching.{TellsRows}
 use Rattle.constriction_stored_rows.specs.Stored.{rows_paired}
 use Rattle.constriction_model.specs.Tables.{rows_between}
 use Rattle.constriction_stored_rows.proofs.ProbeLemmas.{symbol-lefts}

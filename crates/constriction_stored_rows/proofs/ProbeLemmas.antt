@@ -8,7 +8,8 @@ use Rattle.constriction_stored_rows.specs.Stored.{IsStored, weights_of}
 use Rattle.constriction_stored_rows.specs.StoredLemmas.{stored-row, stored-some, stored-first, lefts-rows_from, take-length}
 use Rattle.constriction_stored_rows.specs.StoredRowLemmas.{symbols, symbols-long}
 use Rattle.constriction_stored_rows.specs.SymbolRowLemmas.{symbols-many, symbol-rows_many, symbol-row_at, symbol-row_of}
-use Rattle.constriction_model.specs.Probe.{TellsRows, IsRowIndexOf}
+use Rattle.constriction_model.specs.Probe.{IsRowIndexOf}
+use Rattle.constriction_model.specs.Searching.{TellsRows}
 use Rattle.constriction_model.specs.Probe.{IsSearchable, IsLastAtMost}
 
 module _ (bits precision : ℕ) (lefts : List ℕ) (t : IsStored bits precision lefts) where

@@ -4,7 +4,8 @@ use Rattle.std.proofs.Common.{◌≡◌, Bool, true, ℕ, zero, suc, ◌+◌, �
 use Rattle.std.proofs.lemmas.Bool.{cases_lt, cases_Bool, lt-ltb, ltb-true, and_parts, and_from}
 use Rattle.std.proofs.lemmas.List.Sums.{count_by_more_yes, count_by_more_no}
 use Rattle.std.proofs.lemmas.Nat.{pow_pos}
-use Rattle.constriction_model.specs.Probe.{digits, TellsRows}
+use Rattle.constriction_model.specs.Probe.{digits}
+use Rattle.constriction_model.specs.Searching.{TellsRows}
 use Rattle.constriction_model.specs.Rows.{Row, RowsTile}
 use Rattle.constriction_model.proofs.Digits.{digits_grow}
 use Rattle.constriction_stored_rows.specs.Slots.{meets_slot, slot_width, slot_count}

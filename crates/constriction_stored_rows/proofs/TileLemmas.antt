@@ -3,7 +3,8 @@ use Rattle.std.specs.Prelude.{⊤}
 use Rattle.std.specs.List.Sorted.{IsStrictlyIncreasing}
 use Rattle.std.proofs.Common.{◌≡◌, ℕ, ◌+◌, ◌^◌, ◌<◌, List, length, get_or, map, sym, refl, ◌∙◌, arith}
 use Rattle.std.proofs.lemmas.List.{length-map}
-use Rattle.constriction_model.specs.Probe.{IsSearchable, IsLastAtMost, TellsRows, IsRowIndexOf}
+use Rattle.constriction_model.specs.Probe.{IsSearchable, IsLastAtMost, IsRowIndexOf}
+use Rattle.constriction_model.specs.Searching.{TellsRows}
 use Rattle.constriction_model.specs.Rows.{Row, RowsTile, contiguous_rows}
 use Rattle.constriction_stored_rows.specs.Stored.{IsStored, IsTable, lefts_in, weights_of}
 use Rattle.constriction_stored_rows.specs.StoredLemmas.{stored-row, stored-of_rows}

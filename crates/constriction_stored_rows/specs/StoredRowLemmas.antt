@@ -2,9 +2,9 @@
 use Rattle.std.specs.Prelude.{◌≡◌, ℕ, ◌+◌, ◌^◌, ◌<◌, ◌≤◌, List, length, All, sum, take, Some, None, nat_eq}
 use Rattle.std.proofs.Common.{get_or, ap, sym, ◌∙◌, arith, subst, inr}
 use Rattle.std.proofs.lemmas.List.FromFn.{length-range_with_len, get_or-range_with_len}
-use Rattle.constriction_model.specs.Rows.{Row, contiguous_rows, indices, RowsTile, IsRowOf, entry_of}
+use Rattle.constriction_model.specs.Rows.{Row, contiguous_rows, RowsTile, IsRowOf, entry_of}
 use Rattle.constriction_stored_rows.specs.Stored.{IsStored, weights_of}
-use Rattle.constriction_model.specs.RowLemmas.{length-rows_from, contiguous-at, contiguous-past}
+use Rattle.constriction_model.specs.RowLemmas.{indices, length-rows_from, contiguous-at, contiguous-past}
 use Rattle.constriction_stored_rows.specs.StoredLemmas.{stored-row, length-gaps, lefts_from-at}
 use Rattle.constriction_stored_rows.specs.SymbolRowLemmas.{symbol-row_at, symbol-rows_tile, symbol-row_of}
 

@@ -9,7 +9,9 @@ returns g c =
     let probed = table-probed g.Probability.WholeNumber.BITS g.row.PRECISION table (map whole c.cdf_entries.result.now)
     c.args.self.now.stored c.cdf_entries.ensures in
     record {
-      tells = rw c.new.ensures.cumulatives probed.0;
+      exactly = rw c.new.ensures.cumulatives probed.0.exactly;
+      within = rw c.new.ensures.cumulatives probed.0.within;
+      in_order = rw c.new.ensures.cumulatives probed.0.in_order;
       searchable = rw c.new.ensures.cumulatives (probed.1 (whole c.args.quantile));
       fresh = c.new.ensures.fresh;
       found = rw c.new.ensures.cumulatives (λ i f. probed.2 (whole c.args.quantile) i c.requires f);

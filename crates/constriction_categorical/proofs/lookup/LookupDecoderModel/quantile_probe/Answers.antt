@@ -16,4 +16,11 @@ returns g c =
     let tells =
         tells-tested g.Model.Probability.WholeNumber.BITS g.row.PRECISION g.row.SLOT_BITS (g.Model.EntropyModel.rows c.args.self.now.model)
         (g.met.Model.StoresRows.stored_law c.args.self.now.model) _ _ _ probed.0 in
-    record { tells = tells; searchable = probed.1; fresh = c.slot_probe.ensures.fresh; found = probed.2 }
+    record {
+      exactly = tells.exactly;
+      within = tells.within;
+      in_order = tells.in_order;
+      searchable = probed.1;
+      fresh = c.slot_probe.ensures.fresh;
+      found = probed.2;
+    }
