@@ -13,21 +13,16 @@ use Rattle.constriction_client.specs.Quantiles.{IsQuantileOf, IsFaultOf, AreQuan
 -- Below, `with_words b ws` is the buffer b with the words ws in it, `entry` tells the entry of each symbol, and `whole` the
 -- number of each word.
 
--- The words took the places of as many others, from where the cursor c stood, and t stands after them. All other words are
--- those of c, and the buffer is that of c with other words.
-pub record Placed {Word Buf : Type 0} {g : Ghosts Buf Word} (with_words : Buf → List Word → Buf)
-    (c : Cursor Word Buf g) (words : List Word) (t : Cursor Word Buf g) : Type 0 where
-  pub before : (state_of t).before ≡ (state_of c).before ++ words
-  pub after : (state_of t).after ≡ drop (length words) (state_of c).after
-  pub buf : buf_of t ≡ with_words (buf_of c) (g.words_of (buf_of t))
-
 module _ {Symbol Word Buf : Type 0} {g : Ghosts Buf Word} (entry : Symbol → Option (ℕ × ℕ)) (whole : Word → ℕ)
     (with_words : Buf → List Word → Buf) (c : Cursor Word Buf g) where
-  -- the quantiles of the items were placed
+  -- The quantiles of the items took the places of as many other words, from where the cursor c stood, and t stands after them. All words
+  -- elsewhere are those of c, and the buffer is that of c with other words.
   pub record PlacesItems (items : List (Symbol × Word)) (t : Cursor Word Buf g) : Type 0 where
     pub words : List Word
     pub quantiles : AreQuantiles entry whole items words
-    pub placed : Placed with_words c words t
+    pub before : (state_of t).before ≡ (state_of c).before ++ words
+    pub after : (state_of t).after ≡ drop (length words) (state_of c).after
+    pub buf : buf_of t ≡ with_words (buf_of c) (g.words_of (buf_of t))
 
   -- What a fault leaves. At an item that has no quantile, those before it were placed. Where the quantile of an item found no
   -- place, so were those before it, and no place is left. Where memory was refused while the words were read, all items were
