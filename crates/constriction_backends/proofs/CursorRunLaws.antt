@@ -6,10 +6,9 @@ use Rattle.std.proofs.Common.{sym, ◌∙◌, ap, subst, arith, refl, append_ass
 use Rattle.std.proofs.lemmas.List.{reverse-append, reverse-reverse, length-reverse}
 use Rattle.constriction_buffers.specs.declared.buf.SafeBuf.{Ghosts}
 use Rattle.constriction_backends.specs.Cursor.{state_of, SeeksTo, TurnsRound, WritesTo}
-use Rattle.constriction_sources.specs.Sink.{Writes}
 use Rattle.constriction_backends.specs.CursorLaws.{same_cursor}
 use Rattle.constriction_backends.specs.CursorState.{State, reversal, StackReads, QueueReads}
-use Rattle.constriction_backends.specs.CursorRuns.{Placed}
+use Rattle.constriction_sources.specs.Sink.{Writes}
 
 pub reversal-twice : {W : Type 0} (s : State W) → reversal (reversal s) ≡ s
 reversal-twice {W = W} s =
@@ -73,20 +72,23 @@ module _ {W B : Type 0} {g : Ghosts B W} where
         let two : length (g.words_of d) ≡ length (g.words_of j) = ap (λ x. length (g.words_of x)) k ∙ keeps_length j (g.words_of d) in
         k ∙ (ap (λ x. with_words x (g.words_of d)) e ∙ again b ws (g.words_of d) (two ∙ one))
 
+    -- writes in a row that succeeded
     pub extending_overwrites : (E : Type 0) (c : Cursor W B g) (words : List W) (d : Cursor W B g)
-        → Writes {E = E} (λ s w r t. WritesTo s with_words w r t) c words d → Placed with_words c words d
-    extending_overwrites E c [] d e = record {
-      before = sym (ap (λ x. (state_of x).before) e) ∙ sym (append-nil (state_of c).before);
-      after = sym (ap (λ x. (state_of x).after) e);
-      buf = sym (ap (λ x. x.buf) e) ∙ (sym (unchanged c.buf) ∙ ap (λ x. with_words c.buf (g.words_of x.buf)) e);
-    }
+        → Writes {E = E} (λ s w r t. WritesTo s with_words w r t) c words d
+        → ((state_of d).before ≡ (state_of c).before ++ words)
+        × ((state_of d).after ≡ drop (length words) (state_of c).after)
+        × (d.buf ≡ with_words c.buf (g.words_of d.buf))
+    extending_overwrites E c [] d e = (
+      sym (ap (λ x. (state_of x).before) e) ∙ sym (append-nil (state_of c).before),
+      sym (ap (λ x. (state_of x).after) e),
+      sym (ap (λ x. x.buf) e) ∙ (sym (unchanged c.buf) ∙ ap (λ x. with_words c.buf (g.words_of x.buf)) e),
+    )
     extending_overwrites E c (w ∷ words) d (j, h, rest) =
-        let others = extending_overwrites E j words d rest in
-        record {
-          before = others.before ∙ (ap (λ l. l ++ words) h.0.0 ∙ append_assoc (state_of c).before (w ∷ []) words);
-          after = others.after ∙ sym (ap (drop (suc (length words))) h.0.1.1);
-          buf = twice c.buf j.buf d.buf (g.words_of j.buf) h.1.1 others.buf;
-        }
+        let others = extending_overwrites E j words d rest in (
+          others.0 ∙ (ap (λ l. l ++ words) h.0.0 ∙ append_assoc (state_of c).before (w ∷ []) words),
+          others.1 ∙ sym (ap (drop (suc (length words))) h.0.1.1),
+          twice c.buf j.buf d.buf (g.words_of j.buf) h.1.1 others.2,
+        )
 
     -- a cursor that was turned round and turned back
     pub turned_twice : (c t d : Cursor W B g) → TurnsRound with_words c t → TurnsRound with_words t d → d ≡ c

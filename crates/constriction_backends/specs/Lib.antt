@@ -2,7 +2,6 @@ pub use Rattle.constriction_buffers.specs.Buffer
 pub use Rattle.constriction_buffers.specs.BufferLaws
 pub mod Cursor
 pub mod CursorLaws
-pub mod CursorRuns
 pub mod CursorState
 pub use Rattle.constriction_sources.specs.ExtendingLaws
 pub use Rattle.constriction_sources.specs.ItemLaws

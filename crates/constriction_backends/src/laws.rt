@@ -1,10 +1,9 @@
 //! What follows from the steps of a cursor, and, by name, from the contracts of sources and sinks: each law the
 //! contract of a function.
 
-ghost use Rattle.std.specs.Prelude.{◌≡◌, ◌↔◌, List, length, reverse, Option, Result, IsOk};
-ghost use Rattle.constriction_backends.specs.Cursor.{buf_of, pos_of, SeeksTo, TurnsRound, WritesTo};
+ghost use Rattle.std.specs.Prelude.{◌≡◌, ◌↔◌, ◌++◌, List, length, drop, reverse, Option, Result, IsOk};
+ghost use Rattle.constriction_backends.specs.Cursor.{buf_of, pos_of, state_of, SeeksTo, TurnsRound, WritesTo};
 ghost use Rattle.constriction_backends.specs.CursorState.{State, reversal, StackReads, QueueReads};
-ghost use Rattle.constriction_backends.specs.CursorRuns.{Placed};
 ghost use Rattle.constriction_sources.specs.Sink.{Writes};
 
 use crate::cursor::Cursor;
@@ -54,5 +53,7 @@ pub fn seek_back_in_a_cursor<Word, Buf: SafeBuf<Word>>()
 /// other words.
 pub fn extending_overwrites<Word, Buf: SafeBufMut<Word>, WriteError>()
     ensures { (c : Cursor Word Buf Buf.SafeBuf) (words : List Word) (t : Cursor Word Buf Buf.SafeBuf)
-        → Writes {E = WriteError} (λ s w r t. WritesTo s Buf.with_words w r t) c words t → Placed Buf.with_words c words t }
+        → Writes {E = WriteError} (λ s w r t. WritesTo s Buf.with_words w r t) c words t
+        → ((state_of t).before ≡ (state_of c).before ++ words) × ((state_of t).after ≡ drop (length words) (state_of c).after)
+        × (buf_of t ≡ Buf.with_words (buf_of c) (Buf.words_of (buf_of t))) }
 {}

@@ -5,8 +5,7 @@ use Rattle.std.proofs.Math.Seq.{take-append_seam, drop-append_seam}
 use Rattle.constriction_words.specs.declared.coder_error.CoderError.TheVariants.{Frontend, Backend}
 use Rattle.constriction_buffers.specs.declared.buf.SafeBuf.{Ghosts}
 use Rattle.constriction_backends.specs.declared.cursor.Cursor.{Cursor}
-use Rattle.constriction_backends.specs.Cursor.{state_of, WritesTo}
-use Rattle.constriction_backends.specs.CursorRuns.{Placed}
+use Rattle.constriction_backends.specs.Cursor.{buf_of, state_of, WritesTo}
 use Rattle.constriction_backends.specs.CursorState.{QueueReads}
 use Rattle.constriction_backends.specs.Sink.{Writes}
 use Rattle.constriction_backends.specs.Source.{Reads}
@@ -27,12 +26,16 @@ module _ {Word Buf Error : Type 0} {g : Ghosts Buf Word} (with_words : Buf → L
   gives_write = λ s w r t. WritesTo s with_words w r t
 
   module _ {Symbol : Type 0} (entry : Symbol → Option (ℕ × ℕ)) (whole : Word → ℕ) (tells : Cursor Word Buf g → List Word → Type 0)
-      (law : (c : Cursor Word Buf g) (words : List Word) (t : Cursor Word Buf g) → Writes gives_write c words t → Placed with_words c words t)
+      (law : (c : Cursor Word Buf g) (words : List Word) (t : Cursor Word Buf g) → Writes gives_write c words t
+      → ((state_of t).before ≡ (state_of c).before ++ words)
+      × ((state_of t).after ≡ drop (length words) (state_of c).after)
+      × (buf_of t ≡ with_words (buf_of c) (g.words_of (buf_of t))))
       (c : Cursor Word Buf g) where
     pub items-placed : (items : List (Symbol × Word)) (t : Cursor Word Buf g)
         → WritesItems entry whole gives_write tells items c t → PlacesItems entry whole with_words c items t
     items-placed items t wrote =
-        record { words = wrote.words; quantiles = wrote.quantiles; placed = law c wrote.words t wrote.written }
+        let over = law c wrote.words t wrote.written in
+        record { words = wrote.words; quantiles = wrote.quantiles; before = over.0; after = over.1; buf = over.2 }
 
     pub fault-placed : (items : List (Symbol × Word)) (t : Cursor Word Buf g) (fault : QuantileFault)
         → StopsAtItem entry whole gives_write tells items c (Frontend fault) t
@@ -78,8 +81,25 @@ abbrev pub gives_read : {Word Buf : Type 0} {g : Ghosts Buf Word} (Error : Type 
     → Result (Option Word) Error → Cursor Word Buf g → Type 0
 gives_read Error s r t = QueueReads (state_of s) r (state_of t) × (t.buf ≡ s.buf)
 
-module _ {Word Buf : Type 0} {g : Ghosts Buf Word} (with_words : Buf → List Word → Buf) where
-  module _ (c j t : Cursor Word Buf g) (words : List Word) (placed : Placed with_words c words j) where
+module _ {Word Buf : Type 0} {g : Ghosts Buf Word} (Error : Type 0) where
+  -- the words that are read stood after the position, and stand before it then
+  pub reads-on : (s : Cursor Word Buf g) (words : List Word) (t : Cursor Word Buf g) → Reads (gives_read Error) s words t
+      → ((state_of t).before ≡ (state_of s).before ++ words) × ((state_of s).after ≡ words ++ (state_of t).after) × (t.buf ≡ s.buf)
+  reads-on s [] t e = (
+    sym (ap (λ (x : Cursor Word Buf g). (state_of x).before) e) ∙ sym (append-nil (state_of s).before),
+    ap (λ (x : Cursor Word Buf g). (state_of x).after) e,
+    sym (ap (λ (x : Cursor Word Buf g). x.buf) e),
+  )
+  reads-on s (w ∷ ws) t (j, read, others) =
+      let later = reads-on j ws t others in (
+        later.0 ∙ ap (λ xs. xs ++ ws) read.0.1 ∙ append_assoc (state_of s).before (w ∷ []) ws,
+        read.0.0 ∙ ap (λ xs. w ∷ xs) later.1,
+        later.2 ∙ read.1,
+      )
+
+module _ {Symbol Word Buf : Type 0} {g : Ghosts Buf Word} (entry : Symbol → Option (ℕ × ℕ)) (whole : Word → ℕ)
+    (with_words : Buf → List Word → Buf) (c : Cursor Word Buf g) (items : List (Symbol × Word)) where
+  module _ (j t : Cursor Word Buf g) (placed : PlacesItems entry whole with_words c items j) where
     -- the place where c stood is still there
     pub in-range : ((b : Buf) (ws : List Word) → length (g.words_of (with_words b ws)) ≡ length (g.words_of b))
         → c.pos ≤ length (g.words_of j.buf)
@@ -91,8 +111,10 @@ module _ {Word Buf : Type 0} {g : Ghosts Buf Word} (with_words : Buf → List Wo
 
     -- a cursor that is back there has the words before it
     pub back-at : t.buf ≡ j.buf → t.pos ≡ c.pos
-        → ((state_of t).before ≡ (state_of c).before) × ((state_of t).after ≡ words ++ drop (length words) (state_of c).after)
+        → ((state_of t).before ≡ (state_of c).before)
+        × ((state_of t).after ≡ placed.words ++ drop (length placed.words) (state_of c).after)
     back-at buf pos =
+        let words : List Word = placed.words in
         let rest : List Word = words ++ drop (length words) (state_of c).after in
         let joined : g.words_of t.buf ≡ (state_of c).before ++ rest =
         ap g.words_of buf ∙ sym (take-append-drop j.pos (g.words_of j.buf))
@@ -106,40 +128,26 @@ module _ {Word Buf : Type 0} {g : Ghosts Buf Word} (with_words : Buf → List Wo
               ∙ drop-append_seam (state_of c).before rest,
         )
 
-  pub reads-on : (Error : Type 0) (s : Cursor Word Buf g) (words : List Word) (t : Cursor Word Buf g) → Reads (gives_read Error) s words t
-      → ((state_of t).before ≡ (state_of s).before ++ words) × ((state_of s).after ≡ words ++ (state_of t).after) × (t.buf ≡ s.buf)
-  reads-on Error s [] t e = (
-    sym (ap (λ (x : Cursor Word Buf g). (state_of x).before) e) ∙ sym (append-nil (state_of s).before),
-    ap (λ (x : Cursor Word Buf g). (state_of x).after) e,
-    sym (ap (λ (x : Cursor Word Buf g). x.buf) e),
-  )
-  reads-on Error s (w ∷ ws) t (j, read, others) =
-      let later = reads-on Error j ws t others in (
-        later.0 ∙ ap (λ xs. xs ++ ws) read.0.1 ∙ append_assoc (state_of s).before (w ∷ []) ws,
-        read.0.0 ∙ ap (λ xs. w ∷ xs) later.1,
-        later.2 ∙ read.1,
-      )
-
   -- the words that were placed were read from there: the cursor stands after them again
-  pub placed-again : (Error : Type 0) (c j s : Cursor Word Buf g) (words : List Word) (t : Cursor Word Buf g) → Placed with_words c words j
-      → s.buf ≡ j.buf → s.pos ≡ c.pos → Reads (gives_read Error) s words t → Placed with_words c words t
-  placed-again Error c j s words t placed buf pos read =
-      let at = back-at c j s words placed buf pos in
+  pub placed-again : (Error : Type 0) (j s t : Cursor Word Buf g) (placed : PlacesItems entry whole with_words c items j)
+      → s.buf ≡ j.buf → s.pos ≡ c.pos → Reads (gives_read Error) s placed.words t → PlacesItems entry whole with_words c items t
+  placed-again Error j s t placed buf pos read =
+      let words : List Word = placed.words in
+      let at = back-at j s placed buf pos in
       let on = reads-on Error s words t read in
       let same : t.buf ≡ j.buf = on.2 ∙ buf in
       record {
+        words = words;
+        quantiles = placed.quantiles;
         before = on.0 ∙ ap (λ xs. xs ++ words) at.0;
         after = same-back words (state_of t).after (drop (length words) (state_of c).after) (sym on.1 ∙ at.1);
         buf = same ∙ placed.buf ∙ ap (λ b. with_words c.buf (g.words_of b)) (sym same);
       }
 
--- after the writing and the way back, the words are the next ones to come
-pub come-next : {Symbol Word Buf : Type 0} {g : Ghosts Buf Word} (entry : Symbol → Option (ℕ × ℕ)) (whole : Word → ℕ)
-    (with_words : Buf → List Word → Buf) (c : Cursor Word Buf g) (items : List (Symbol × Word)) (t : Cursor Word Buf g)
-    (back : GoesBack entry whole with_words c items t)
-    → ComeNext (λ (s : Cursor Word Buf g) (words : List Word). words ≡ (state_of s).after) t back.placed.words
-come-next entry whole with_words c items t back = record {
-  rest = drop (length back.placed.words) (state_of c).after;
-  told =
-      sym (back-at with_words c back.reached t back.placed.words back.placed.placed back.buf back.pos).1;
-}
+  -- after the writing and the way back, the words are the next ones to come
+  pub come-next : (t : Cursor Word Buf g) (back : GoesBack entry whole with_words c items t)
+      → ComeNext (λ (s : Cursor Word Buf g) (words : List Word). words ≡ (state_of s).after) t back.placed.words
+  come-next t back = record {
+    rest = drop (length back.placed.words) (state_of c).after;
+    told = sym (back-at back.reached t back.placed back.buf back.pos).1;
+  }

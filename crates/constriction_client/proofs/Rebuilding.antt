@@ -10,9 +10,9 @@ use Rattle.std.proofs.lemmas.Simd.{map-map}
 use Rattle.constriction.specs.Acceptance.{AreAccepted, IsMadeOfBoth, WasReadOf, completed}
 use Rattle.constriction.specs.GivenLemmas.{made-of-lists, refused-lists}
 use Rattle.constriction.specs.Laws.{AreRows}
-use Rattle.constriction.specs.Model.{row_of, StandForRows, ClonesAreSame, ClonesAreEqual}
+use Rattle.constriction.specs.Model.{row_of, StandForRows, ClonesAreEqual}
 use Rattle.constriction.specs.Rows.{Row, RowsTile, rows_of, symbols_of}
-use Rattle.constriction.specs.StandLemmas.{tile-made, distinct-made, same-equal, tiling-rebuilds}
+use Rattle.constriction.specs.StandLemmas.{tile-made, distinct-made, tiling-rebuilds}
 use Rattle.constriction_model.specs.declared.error.ModelError.{ModelError}
 use Rattle.constriction_model.specs.declared.error.ModelError.TheVariants.{InvalidTable, OutOfMemory}
 
@@ -148,8 +148,3 @@ pub rows_stand : {Symbol Form Error : Type 0} (Stands : Symbol → Symbol → Ty
 rows_stand {Symbol = Symbol} Stands rows listed others (Ok m) is stand =
     subst (λ (rs : List (Row Symbol)). StandForRows Stands rs others) (sym is) stand
 rows_stand Stands rows listed others (Err e) is stand = tt
-
--- clones that are the same values are equal ones
-pub same_are_equal : {Symbol : Type 0} (eq : Symbol → Symbol → Bool) → IsEquivalence eq → (IsClone : Symbol → Symbol → Type 0)
-    → ClonesAreSame IsClone → ClonesAreEqual eq IsClone
-same_are_equal eq laws IsClone same = same-equal eq laws IsClone same

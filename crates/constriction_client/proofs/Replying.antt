@@ -7,24 +7,33 @@ use Rattle.std.proofs.lemmas.Slice.Zip.{all_zipped_more}
 use Rattle.constriction.specs.Model.{row_of, AnswersQuantile, ClonesAreSame}
 use Rattle.constriction.specs.Rows.{Row, RowsTile, entry_of}
 use Rattle.constriction_client.specs.declared.queries.Query.{Query}
+use Rattle.constriction_client.specs.declared.queries.Query.TheVariants.{OfQuantile}
 use Rattle.constriction_client.specs.declared.queries.Reply.{Reply}
 use Rattle.constriction_client.specs.declared.queries.Reply.TheVariants as reply
-use Rattle.constriction_client.specs.Replies.{reply_to_quantile, replies_of_two, replies_by_scan, StandsForReply, AreRepliesOf}
+use Rattle.constriction_client.specs.Replies.{reply_to_query, replies_by_scan, StandsForReply, AreRepliesOf}
 use Rattle.constriction_model.proofs.Finding.{find_row}
 
 -- replies stand for those of a scan, one by one
 abbrev pub StandForReplies : {S : Type 0} → (S → S → Type 0) → List (Reply S ℕ ℕ) → List (Reply S ℕ ℕ) → Type 0
 StandForReplies Stands replies scanned = AllZip (StandsForReply Stands) replies scanned
 
+-- the replies to queries, one by one, where the rows and the entries are those of two models
+abbrev pub replies_of_two : {S Word : Type 0} → ℕ → (Word → ℕ) → List (Row S) → (S → Option (ℕ × ℕ)) → List (Query S Word)
+    → List (Reply S ℕ ℕ)
+replies_of_two precision whole rows entry queries = map (reply_to_query precision whole rows entry) queries
+
 -- an answer to the quantile stands for the reply of a scan
 pub told-reply : {S Word Weight : Type 0} (Stands : S → S → Type 0) (whole : Word → ℕ) (base : Weight → Word) (bits precision : ℕ)
-    (rows : List (Row S)) (q : ℕ) (x : S × Word × Weight) → q < 2 ^ precision → RowsTile bits precision rows
-    → AnswersQuantile Stands whole base rows q x
-    → StandsForReply Stands (reply.Row x.0 (whole x.1) (whole (base x.2))) (reply_to_quantile precision rows q)
-told-reply Stands whole base bits precision rows q x below tile answer = (
+    (rows : List (Row S)) (entry : S → Option (ℕ × ℕ)) (word : Word) (x : S × Word × Weight) → whole word < 2 ^ precision
+    → RowsTile bits precision rows → AnswersQuantile Stands whole base rows (whole word) x
+    → StandsForReply Stands (reply.Row x.0 (whole x.1) (whole (base x.2))) (reply_to_query precision whole rows entry (OfQuantile word))
+told-reply Stands whole base bits precision rows entry word x below tile answer = (
   answer.0,
   answer.1,
-  rw (lt-ltb q (2 ^ precision) below, find_row bits precision rows q (row_of whole base (answer.0, x.1, x.2)) tile answer.2) refl,
+  rw (
+    lt-ltb (whole word) (2 ^ precision) below,
+    find_row bits precision rows (whole word) (row_of whole base (answer.0, x.1, x.2)) tile answer.2,
+  ) refl,
 )
 
 -- where clones are the same values, what stands for the replies of a scan are these

@@ -6,7 +6,7 @@ use Rattle.std.specs.List.{AllZip}
 use Rattle.std.proofs.lemmas.List.{reverse-append}
 use Rattle.std.proofs.lemmas.List.Elements.{All-nil, All-cons}
 use Rattle.std.proofs.lemmas.Slice.Zip.{all_zipped_more, AllZip-long}
-use Rattle.constriction.specs.Model.{LiesWithin, ClonesAreEqual}
+use Rattle.constriction.specs.Model.{LiesWithin}
 use Rattle.constriction.specs.Rows.{Row, RowsTile, entry_of}
 use Rattle.constriction_words.specs.declared.coder_error.CoderError.{CoderError}
 use Rattle.constriction_words.specs.declared.coder_error.CoderError.TheVariants.{Frontend}
@@ -14,6 +14,12 @@ use Rattle.constriction_client.specs.declared.quantiles.QuantileFault.{QuantileF
 use Rattle.constriction_client.specs.Quantiles.{IsQuantileOf, AreQuantiles, IsPairOf, ArePairs, StopsAtItem}
 use Rattle.constriction_client.specs.ThereAndBack.{AreItems, StandForItems, ReadsBack, HasFault}
 use Rattle.constriction.specs.CodingLemmas.{entry-row, entry-below, one-row}
+
+-- the pairs are the items, one by one, but that each symbol stands for one that is equal to the item's
+abbrev StandOneByOne : {Symbol Word : Type 0} → (Symbol → Symbol → Type 0) → (Symbol → Symbol → Bool) → List (Symbol × Word)
+    → List (Symbol × Word) → Type 0
+StandOneByOne {Symbol} Stands eq items pairs =
+    AllZip (λ item pair. ((own : Symbol) × IsTrue (eq own item.0) × Stands own pair.0) × (pair.1 ≡ item.1)) items pairs
 
 -- one item
 same-item : {Symbol Word : Type 0} (Stands : Symbol → Symbol → Type 0) (eq : Symbol → Symbol → Bool) (entry : Symbol → Option (ℕ × ℕ))
@@ -36,25 +42,25 @@ same-item {Symbol = Symbol} Stands eq entry whole bits precision rows item pair 
     )
 
 -- all items, in order
-pub stand-back : {Symbol Word : Type 0} (Stands : Symbol → Symbol → Type 0) (eq : Symbol → Symbol → Bool) (entry : Symbol → Option (ℕ × ℕ))
+stand-one-by-one : {Symbol Word : Type 0} (Stands : Symbol → Symbol → Type 0) (eq : Symbol → Symbol → Bool) (entry : Symbol → Option (ℕ × ℕ))
     (whole : Word → ℕ) (bits precision : ℕ) (rows : List (Row Symbol)) (items pairs : List (Symbol × Word)) (words : List Word)
     → RowsTile bits precision rows → ((a b : Word) → whole a ≡ whole b → a ≡ b)
     → ((s : Symbol) → entry s ≡ entry_of eq rows s)
-    → AreQuantiles entry whole items words → ArePairs Stands rows whole words pairs → StandForItems Stands eq items pairs
-stand-back Stands eq entry whole bits precision rows [] [] [] tile one_word agree h k = tt
-stand-back Stands eq entry whole bits precision rows [] (p ∷ ps) [] tile one_word agree h k = absurd k
-stand-back Stands eq entry whole bits precision rows [] ps (w ∷ ws) tile one_word agree h k = absurd h
-stand-back Stands eq entry whole bits precision rows (i ∷ is) ps [] tile one_word agree h k = absurd h
-stand-back Stands eq entry whole bits precision rows (i ∷ is) [] (w ∷ ws) tile one_word agree h k = absurd k
-stand-back Stands eq entry whole bits precision rows (i ∷ is) (p ∷ ps) (w ∷ ws) tile one_word agree h k = (
+    → AreQuantiles entry whole items words → ArePairs Stands rows whole words pairs → StandOneByOne Stands eq items pairs
+stand-one-by-one Stands eq entry whole bits precision rows [] [] [] tile one_word agree h k = tt
+stand-one-by-one Stands eq entry whole bits precision rows [] (p ∷ ps) [] tile one_word agree h k = absurd k
+stand-one-by-one Stands eq entry whole bits precision rows [] ps (w ∷ ws) tile one_word agree h k = absurd h
+stand-one-by-one Stands eq entry whole bits precision rows (i ∷ is) ps [] tile one_word agree h k = absurd h
+stand-one-by-one Stands eq entry whole bits precision rows (i ∷ is) [] (w ∷ ws) tile one_word agree h k = absurd k
+stand-one-by-one Stands eq entry whole bits precision rows (i ∷ is) (p ∷ ps) (w ∷ ws) tile one_word agree h k = (
   same-item Stands eq entry whole bits precision rows i p w tile one_word agree h.0 k.0,
-  stand-back Stands eq entry whole bits precision rows is ps ws tile one_word agree h.1 k.1,
+  stand-one-by-one Stands eq entry whole bits precision rows is ps ws tile one_word agree h.1 k.1,
 )
 
 -- pairs whose symbols stand for equal ones are the items, where a symbol that stands for one is equal to what that is
 are-these : {Symbol Word : Type 0} (Stands : Symbol → Symbol → Type 0) (eq : Symbol → Symbol → Bool)
     → ((s t u : Symbol) → Stands s t → IsTrue (eq s u) → IsTrue (eq t u))
-    → (items pairs : List (Symbol × Word)) → StandForItems Stands eq items pairs → AreItems eq items pairs
+    → (items pairs : List (Symbol × Word)) → StandOneByOne Stands eq items pairs → AreItems eq items pairs
 are-these Stands eq carry [] [] h = tt
 are-these Stands eq carry [] (p ∷ ps) h = absurd h
 are-these Stands eq carry (i ∷ is) [] h = absurd h
@@ -63,15 +69,24 @@ are-these Stands eq carry (i ∷ is) (p ∷ ps) h = (
   are-these Stands eq carry is ps h.1,
 )
 
-pub are-items : {Symbol Word : Type 0} (Stands : Symbol → Symbol → Type 0) (eq : Symbol → Symbol → Bool) → IsEquivalence eq
-    → (items pairs : List (Symbol × Word)) → StandForItems Stands eq items pairs → ClonesAreEqual eq Stands → AreItems eq items pairs
-are-items Stands eq laws items pairs h equal =
-    are-these Stands eq (λ s t u stands same. sym (laws.congr s t u (equal s t stands)) ∙ same) items pairs h
+pub stand-back : {Symbol Word : Type 0} (Stands : Symbol → Symbol → Type 0) (eq : Symbol → Symbol → Bool) → IsEquivalence eq
+    → (entry : Symbol → Option (ℕ × ℕ)) (whole : Word → ℕ) (bits precision : ℕ) (rows : List (Row Symbol))
+    (items pairs : List (Symbol × Word)) (words : List Word)
+    → RowsTile bits precision rows → ((a b : Word) → whole a ≡ whole b → a ≡ b)
+    → ((s : Symbol) → entry s ≡ entry_of eq rows s)
+    → AreQuantiles entry whole items words → ArePairs Stands rows whole words pairs → StandForItems Stands eq items pairs
+stand-back Stands eq laws entry whole bits precision rows items pairs words tile one_word agree h k =
+    let stand = stand-one-by-one Stands eq entry whole bits precision rows items pairs words tile one_word agree h k in
+    record {
+      stand = stand;
+      equal = λ equal.
+          are-these Stands eq (λ s t u stands same. sym (laws.congr s t u (equal s t stands)) ∙ same) items pairs stand;
+    }
 
 pub reads-back : (Symbol Word : Type 0) → ReadsBack Symbol Word (λ words. words) (λ items. items)
 reads-back Symbol Word eq entry whole bits precision rows items pairs words tile one_word agree h k =
     are-these (λ s t. t ≡ s) eq (λ s t u is same. ap (λ x. eq x u) is ∙ same) items pairs
-    (stand-back (λ s t. t ≡ s) eq entry whole bits precision rows items pairs words tile one_word agree h k)
+    (stand-one-by-one (λ s t. t ≡ s) eq entry whole bits precision rows items pairs words tile one_word agree h k)
 
 -- what holds of two lists one by one holds of the reversed ones
 pub AllZip-reverse : {X Y : Type 0} (R : X → Y → Type 0) (xs : List X) (ys : List Y) → AllZip R xs ys
@@ -83,15 +98,15 @@ AllZip-reverse R (x ∷ xs) (y ∷ ys) h =
     rw (reverse-append (x ∷ []) xs, reverse-append (y ∷ []) ys)
     (all_zipped_more R (reverse xs) (reverse ys) x y (AllZip-reverse R xs ys h.1) h.0)
 
-pub stand-back-reversed : {Symbol Word : Type 0} (Stands : Symbol → Symbol → Type 0) (eq : Symbol → Symbol → Bool)
-    (entry : Symbol → Option (ℕ × ℕ)) (whole : Word → ℕ) (bits precision : ℕ) (rows : List (Row Symbol))
+pub stand-back-reversed : {Symbol Word : Type 0} (Stands : Symbol → Symbol → Type 0) (eq : Symbol → Symbol → Bool) → IsEquivalence eq
+    → (entry : Symbol → Option (ℕ × ℕ)) (whole : Word → ℕ) (bits precision : ℕ) (rows : List (Row Symbol))
     (items pairs : List (Symbol × Word)) (words : List Word)
     → RowsTile bits precision rows → ((a b : Word) → whole a ≡ whole b → a ≡ b)
     → ((s : Symbol) → entry s ≡ entry_of eq rows s)
     → AreQuantiles entry whole items words → ArePairs Stands rows whole (reverse words) pairs
     → StandForItems Stands eq (reverse items) pairs
-stand-back-reversed Stands eq entry whole bits precision rows items pairs words tile one_word agree h k =
-    stand-back Stands eq entry whole bits precision rows (reverse items) pairs (reverse words) tile one_word agree
+stand-back-reversed Stands eq laws entry whole bits precision rows items pairs words tile one_word agree h k =
+    stand-back Stands eq laws entry whole bits precision rows (reverse items) pairs (reverse words) tile one_word agree
     (AllZip-reverse (λ item word. IsQuantileOf entry whole item (whole word)) items words h) k
 
 pub reads-back-reversed : (Symbol Word : Type 0) → ReadsBack Symbol Word reverse reverse

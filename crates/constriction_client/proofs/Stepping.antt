@@ -9,7 +9,7 @@ use Rattle.std.proofs.Math.Seq.{take-append_seam, drop-append_seam}
 use Rattle.constriction_backends.specs.CursorState.{State, state, reversal, StackReads, QueueReads}
 use Rattle.constriction_backends.proofs.CursorRunLaws.{reversal-reads}
 use Rattle.constriction_backends.proofs.Turning.{state-reverse}
-use Rattle.constriction_client.specs.CursorCalls.{words, moved_by}
+use Rattle.constriction_client.specs.CursorCalls.{words, step}
 use Rattle.constriction_client.specs.declared.cursor_calls.CursorCall.TheVariants as call
 
 last_or-push : {W : Type 0} (o : Option W) (xs : List W) (w : W) → last_or o (xs ++ w ∷ []) ≡ Some w
@@ -79,7 +79,7 @@ queue_moves_back s r t read = queue_moves (reversal s) r (reversal t) (((reversa
 
 -- a seek to the place as far from the other end is a seek in the reversal, where the end is that of the same words
 pub seek_back : {W : Type 0} (xs ys all : List W) (p q n : ℕ) → ys ≡ xs → all ≡ xs → n ≡ length all - q → q ≤ length all
-    → reversal (state ys n) ≡ moved_by (call.Seek q) (reversal (state xs p))
+    → reversal (state ys n) ≡ (step (call.Seek q) (reversal (state xs p))).1
 seek_back xs ys all p q n stays whole there within =
     let told : words (reversal (state xs p)) ≡ reverse xs =
     sym (reverse-append (take p xs) (drop p xs)) ∙ ap reverse (take-append-drop p xs) in

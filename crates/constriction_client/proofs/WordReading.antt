@@ -1,5 +1,5 @@
 -- How words are read and their pairs added, turn by turn.
-use Rattle.std.proofs.Common.{◌≡◌, ℕ, ◌+◌, ◌^◌, ◌<◌, ◌≤◌, List, [], ◌∷◌, ◌++◌, length, Option, Some, None, Result, Ok, Err, refl, ap, sym, ◌∙◌, inl, inr, arith, append_assoc, append-nil, length-append}
+use Rattle.std.proofs.Common.{◌≡◌, ℕ, ◌+◌, ◌^◌, ◌<◌, List, [], ◌∷◌, ◌++◌, length, Option, Some, None, Result, Ok, Err, refl, ap, sym, ◌∙◌, inl, inr, arith, append_assoc, append-nil, length-append}
 use Rattle.std.specs.Prelude.{All}
 use Rattle.std.proofs.lemmas.List.Elements.{All-nil, All-push}
 use Rattle.std.proofs.lemmas.Slice.Zip.{all_zipped_more}
@@ -71,12 +71,6 @@ module _ {Symbol Word Source Error : Type 0} (Stands : Symbol → Symbol → Typ
         let now = told-more s so_far.words j word t took so_far.told upcoming h in
         (now.0, now.1 ∙ sym (append_assoc so_far.words (word ∷ []) now.0), now.2);
   }
-
-  -- as many pairs were added as words were read
-  pub read-counted : (s : Source) (old : List (Symbol × Word)) (n : ℕ) (t : Source) (new : List (Symbol × Word))
-      → HasRead Stands precision rows whole gives tells s old n t new → length new ≡ length old + n
-  read-counted s old n t new so_far =
-      omega (arith, ap length so_far.added, length-append old so_far.pairs, so_far.many)
 
   -- all that were asked for
   pub read-all : (s : Source) (old : List (Symbol × Word)) (count n : ℕ) (t : Source) (new : List (Symbol × Word))
@@ -154,12 +148,3 @@ module _ {Symbol Word Source Error : Type 0} (Stands : Symbol → Symbol → Typ
         let left = law j (Err error) t failed now.0 now.2 in
         (now.0, now.1, left.1, left.0);
   }
-
-  -- all that were asked for, and no more: what a call then answers
-  pub read-asked : (s : Source) (old : List (Symbol × Word)) (count n : ℕ) (t : Source) (new : List (Symbol × Word))
-      → HasRead Stands precision rows whole gives tells s old n t new → n ≤ count → count ≤ n
-      → ReadsPairs Stands precision rows whole gives tells count s old (Ok count) t new
-      × (length new ≡ length old + count) × (count ≤ count)
-  read-asked s old count n t new so_far most least =
-      let same : n ≡ count = omega arith in
-      (read-all s old count n t new so_far same, read-counted s old n t new so_far ∙ ap (λ k. length old + k) same, omega arith)

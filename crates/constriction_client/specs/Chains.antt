@@ -3,7 +3,7 @@ use Rattle.std.specs.Prelude.{◌≡◌, Bool, true, false, List, [], ◌∷◌}
 use Rattle.constriction.specs.Model.{StandForRows}
 use Rattle.constriction.specs.Rows.{Row}
 use Rattle.constriction_client.specs.declared.chain.ChainStep.{ChainStep}
-use Rattle.constriction_client.specs.declared.chain.ChainStep.TheVariants.{ToSearch, ToLookup, IntoSearch, Rebuild}
+use Rattle.constriction_client.specs.declared.chain.ChainStep.TheVariants.{ToLookup, IntoSearch, Rebuild}
 use Rattle.constriction_client.specs.declared.decoder_form.SearchOrLookup.{SearchOrLookup}
 use Rattle.constriction_client.specs.declared.decoder_form.SearchOrLookup.TheVariants.{Search, Lookup}
 
@@ -14,10 +14,9 @@ is_lookup (Lookup _) = true
 
 -- whether a form is a lookup form after a step, where `before` says whether it was one: a rebuilding keeps the kind
 abbrev pub is_lookup_after : Bool → ChainStep → Bool
-is_lookup_after before ToSearch = false
 is_lookup_after before ToLookup = true
-is_lookup_after before IntoSearch = false
 is_lookup_after before Rebuild = before
+is_lookup_after before _ = false
 
 -- The rows that a step leaves of others: those themselves where the form's entries stay, and with clones of the symbols where the form is
 -- made anew.

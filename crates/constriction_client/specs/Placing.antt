@@ -7,7 +7,6 @@ use Rattle.constriction_words.specs.declared.read_write_error.ReadWriteError.The
 use Rattle.constriction_buffers.specs.declared.buf.SafeBuf.{Ghosts}
 use Rattle.constriction_backends.specs.declared.cursor.Cursor.{Cursor}
 use Rattle.constriction_backends.specs.Cursor.{buf_of, state_of}
-use Rattle.constriction_backends.specs.CursorRuns.{Placed}
 use Rattle.constriction_client.specs.declared.quantiles.QuantileFault.{QuantileFault}
 use Rattle.constriction_client.specs.Quantiles.{IsQuantileOf, IsFaultOf, AreQuantiles, StopsAt}
 
@@ -16,11 +15,14 @@ use Rattle.constriction_client.specs.Quantiles.{IsQuantileOf, IsFaultOf, AreQuan
 
 module _ {Symbol Word Buf : Type 0} {g : Ghosts Buf Word} (entry : Symbol → Option (ℕ × ℕ)) (whole : Word → ℕ)
     (with_words : Buf → List Word → Buf) (c : Cursor Word Buf g) where
-  -- the quantiles of the items were placed
+  -- The quantiles of the items took the places of as many other words, from where the cursor c stood, and t stands after them. All words
+  -- elsewhere are those of c, and the buffer is that of c with other words.
   pub record PlacesItems (items : List (Symbol × Word)) (t : Cursor Word Buf g) : Type 0 where
     pub words : List Word
     pub quantiles : AreQuantiles entry whole items words
-    pub placed : Placed with_words c words t
+    pub before : (state_of t).before ≡ (state_of c).before ++ words
+    pub after : (state_of t).after ≡ drop (length words) (state_of c).after
+    pub buf : buf_of t ≡ with_words (buf_of c) (g.words_of (buf_of t))
 
   -- What a fault leaves. At an item that has no quantile, those before it were placed. Where the quantile of an item found no
   -- place, so were those before it, and no place is left. Where memory was refused while the words were read, all items were

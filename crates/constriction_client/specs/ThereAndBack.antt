@@ -1,6 +1,7 @@
 -- There and back: the words of items, read by the model whose rows gave them, are these items.
 use Rattle.std.specs.Prelude.{◌≡◌, ℕ, Bool, List, Option, IsTrue}
 use Rattle.std.specs.List.{AllZip}
+use Rattle.constriction.specs.Model.{ClonesAreEqual}
 use Rattle.constriction.specs.Rows.{Row, RowsTile, entry_of}
 use Rattle.constriction_client.specs.declared.quantiles.QuantileFault.{QuantileFault}
 use Rattle.constriction_client.specs.Quantiles.{AreQuantiles, ArePairs, IsFaultOf, StopsAt}
@@ -10,11 +11,12 @@ abbrev pub AreItems : {Symbol Word : Type 0} → (Symbol → Symbol → Bool) �
     → Type 0
 AreItems eq items pairs = AllZip (λ item pair. IsTrue (eq pair.0 item.0) × (pair.1 ≡ item.1)) items pairs
 
--- The pairs stand for the items, one by one: each symbol stands for one that is equal to the item's, and the offsets are the same.
-abbrev pub StandForItems : {Symbol Word : Type 0} → (Symbol → Symbol → Type 0) → (Symbol → Symbol → Bool) → List (Symbol × Word)
-    → List (Symbol × Word) → Type 0
-StandForItems {Symbol} Stands eq items pairs =
-    AllZip (λ item pair. ((own : Symbol) × IsTrue (eq own item.0) × Stands own pair.0) × (pair.1 ≡ item.1)) items pairs
+-- The pairs stand for the items, one by one: each symbol stands for one that is equal to the item's, and the offsets are the same. Where
+-- what stands for a symbol is equal to it, they are the items.
+pub record StandForItems {Symbol Word : Type 0} (Stands : Symbol → Symbol → Type 0) (eq : Symbol → Symbol → Bool)
+    (items pairs : List (Symbol × Word)) : Type 0 where
+  pub stand : AllZip (λ item pair. ((own : Symbol) × IsTrue (eq own item.0) × Stands own pair.0) × (pair.1 ≡ item.1)) items pairs
+  pub equal : ClonesAreEqual eq Stands → AreItems eq items pairs
 
 -- In rows that tile, the pairs of the words of items are the items, where the symbols of the pairs are those of rows. The words may be
 -- read in another order, as the last one first, and then the items come in that order. The items' entries may be those of another model,

@@ -4,7 +4,6 @@ ghost use Rattle.std.specs.Prelude.{◌≡◌, ◌<◌, ◌≤◌, Bool, List, f
 ghost use Rattle.std.specs.Iterator.{Drains, IsFinite};
 ghost use Rattle.std.specs.List.{IsDistinct};
 ghost use Rattle.constriction.specs.Acceptance.{completed, AreAccepted, WasReadOf, IsMadeOfBoth, GivesDistinct};
-ghost use Rattle.constriction.specs.Laws.{SymbolsDiffer};
 ghost use Rattle.constriction.specs.Model.{StandForRows, ClonesAreSame, ClonesAreEqual};
 ghost use Rattle.constriction.specs.Rows.{Row, rows_of, symbols_of};
 ghost use Rattle.constriction.specs.Precision.{IsLookupPrecision};
@@ -140,7 +139,8 @@ fn searched<Symbol: Eq + Clone + Drop, Probability: IndexWord, const PRECISION: 
 fn symbols_differ_of<Symbol: Eq, Probability: IndexWord, const PRECISION: usize>(
     form: &DecoderForm<Symbol, Probability, PRECISION>,
 )
-    requires { SymbolsDiffer Symbol.eq ⟦<DecoderForm<Symbol, Probability, PRECISION> as EntropyModel<PRECISION>>⟧.rows }
+    requires { (form : _) → IsDistinct Symbol.eq (symbols_of
+        (⟦<DecoderForm<Symbol, Probability, PRECISION> as EntropyModel<PRECISION>>⟧.rows form)) }
     ensures { IsDistinct Symbol.eq
         (symbols_of (⟦<DecoderForm<Symbol, Probability, PRECISION> as EntropyModel<PRECISION>>⟧.rows form.now)) }
 {}
@@ -214,7 +214,8 @@ impl<Symbol: Eq + Clone + Drop, Probability: IndexWord, const PRECISION: usize> 
 
     ghost may_convert = { (0 < PRECISION) × (PRECISION ≤ Probability.BITS) × (PRECISION ≤ 63)
         × ClonesAreEqual Symbol.eq Symbol.is_clone
-        × SymbolsDiffer Symbol.eq ⟦<DecoderForm<Symbol, Probability, PRECISION> as EntropyModel<PRECISION>>⟧.rows };
+        × ((form : _) → IsDistinct Symbol.eq (symbols_of
+        (⟦<DecoderForm<Symbol, Probability, PRECISION> as EntropyModel<PRECISION>>⟧.rows form))) };
 
     fn to_search(&self, alloc: Global) -> Result<Self, ModelError> {
         symbols_differ_of(self);

@@ -3,7 +3,7 @@
 ghost use Rattle.std.specs.Prelude.{◌≡◌, ◌<◌, ◌≤◌, ◌++◌, [], ◌∷◌, length, IfOk, OnErr, vec_len, vec_capacity};
 ghost use Rattle.constriction_backends.specs.Cursor.{buf_of, state_of};
 ghost use Rattle.constriction_backends.specs.CursorState.{reversal};
-ghost use Rattle.constriction_client.specs.CursorCalls.{reply_of, moved_by, RunsTo, RunsBackTo};
+ghost use Rattle.constriction_client.specs.CursorCalls.{step, run};
 
 use crate::cursor_calls::{CursorCall, CursorReply};
 use constriction_backends::{
@@ -18,8 +18,8 @@ fn step<Word: Copy + Drop, Buf: SafeBufMut<Word>>(
     cursor: &mut Cursor<Word, Buf>,
     call: &CursorCall<Word>,
 ) -> CursorReply<Word>
-    ensures reply { result ≡ reply_of call.now (state_of cursor.old) }
-    ensures moved { state_of cursor.new ≡ moved_by call.now (state_of cursor.old) }
+    ensures reply { result ≡ (step call.now (state_of cursor.old)).0 }
+    ensures moved { state_of cursor.new ≡ (step call.now (state_of cursor.old)).1 }
     ensures kept { buf_of cursor.new ≡ Buf.with_words (buf_of cursor.old) (Buf.words_of (buf_of cursor.new)) }
 {
     match call {
@@ -60,9 +60,9 @@ fn seek_reversed<Word, Buf: SafeBufMut<Word>>(
     reversed: &mut Reverse<Cursor<Word, Buf>>,
     position: usize,
 ) -> CursorReply<Word>
-    ensures reply { result ≡ reply_of (CursorCall.Seek position) (reversal (state_of reversed.old.0)) }
+    ensures reply { result ≡ (step (CursorCall.Seek position) (reversal (state_of reversed.old.0))).0 }
     ensures moved { reversal (state_of reversed.new.0)
-        ≡ moved_by (CursorCall.Seek position) (reversal (state_of reversed.old.0)) }
+        ≡ (step (CursorCall.Seek position) (reversal (state_of reversed.old.0))).1 }
     ensures kept { buf_of reversed.new.0 ≡ Buf.with_words (buf_of reversed.old.0) (Buf.words_of (buf_of reversed.new.0)) }
 {
     let len = reversed.0.buf().words().len();
@@ -80,8 +80,8 @@ fn step_reversed<Word: Copy + Drop, Buf: SafeBufMut<Word>>(
     reversed: &mut Reverse<Cursor<Word, Buf>>,
     call: &CursorCall<Word>,
 ) -> CursorReply<Word>
-    ensures reply { result ≡ reply_of call.now (reversal (state_of reversed.old.0)) }
-    ensures moved { reversal (state_of reversed.new.0) ≡ moved_by call.now (reversal (state_of reversed.old.0)) }
+    ensures reply { result ≡ (step call.now (reversal (state_of reversed.old.0))).0 }
+    ensures moved { reversal (state_of reversed.new.0) ≡ (step call.now (reversal (state_of reversed.old.0))).1 }
     ensures kept { buf_of reversed.new.0 ≡ Buf.with_words (buf_of reversed.old.0) (Buf.words_of (buf_of reversed.new.0)) }
 {
     match call {
@@ -133,7 +133,7 @@ pub(crate) fn run_reserved<Word: Copy + Drop, Buf: SafeBufMut<Word>>(
 ) -> Vec<CursorReply<Word>>
     requires empty { replies.items ≡ [] }
     requires room { length calls.now ≤ vec_capacity replies }
-    ensures ran { RunsTo calls.now (state_of cursor.old) result.items (state_of cursor.new) }
+    ensures ran { run calls.now (state_of cursor.old) ≡ (result.items, state_of cursor.new) }
     ensures kept { buf_of cursor.new ≡ Buf.with_words (buf_of cursor.old) (Buf.words_of (buf_of cursor.new)) }
 {
     for call in calls {
@@ -151,7 +151,7 @@ pub(crate) fn run_reversed_reserved<Word: Copy + Drop, Buf: SafeBufMut<Word>>(
 ) -> Vec<CursorReply<Word>>
     requires empty { replies.items ≡ [] }
     requires room { length calls.now ≤ vec_capacity replies }
-    ensures ran { RunsBackTo calls.now (state_of reversed.old.0) result.items (state_of reversed.new.0) }
+    ensures ran { run calls.now (reversal (state_of reversed.old.0)) ≡ (result.items, reversal (state_of reversed.new.0)) }
     ensures kept { buf_of reversed.new.0 ≡ Buf.with_words (buf_of reversed.old.0) (Buf.words_of (buf_of reversed.new.0)) }
 {
     for call in calls {
@@ -171,7 +171,7 @@ pub fn run_cursor<Word: Copy + Drop, Buf: SafeBufMut<Word>>(
     cursor: &mut Cursor<Word, Buf>,
     calls: &[CursorCall<Word>],
 ) -> Result<Vec<CursorReply<Word>>, AllocError>
-    ensures ok { IfOk result (λ replies. RunsTo calls.now (state_of cursor.old) replies.items (state_of cursor.new)) }
+    ensures ok { IfOk result (λ replies. run calls.now (state_of cursor.old) ≡ (replies.items, state_of cursor.new)) }
     ensures kept { buf_of cursor.new ≡ Buf.with_words (buf_of cursor.old) (Buf.words_of (buf_of cursor.new)) }
     ensures err { OnErr result (cursor.new ≡ cursor.old) }
 {
@@ -191,7 +191,7 @@ pub fn run_reversed<Word: Copy + Drop, Buf: SafeBufMut<Word>>(
     calls: &[CursorCall<Word>],
 ) -> Result<Vec<CursorReply<Word>>, AllocError>
     ensures ok { IfOk result (λ replies.
-        RunsBackTo calls.now (state_of reversed.old.0) replies.items (state_of reversed.new.0)) }
+        run calls.now (reversal (state_of reversed.old.0)) ≡ (replies.items, reversal (state_of reversed.new.0))) }
     ensures kept { buf_of reversed.new.0 ≡ Buf.with_words (buf_of reversed.old.0) (Buf.words_of (buf_of reversed.new.0)) }
     ensures err { OnErr result (reversed.new ≡ reversed.old) }
 {

@@ -4,12 +4,12 @@ ghost use Rattle.std.specs.Prelude.{reverse};
 ghost use Rattle.constriction_client.specs.CursorCalls.{RunsAlike};
 ghost use Rattle.constriction_client.specs.ThereAndBack.{ReadsBack};
 
-mod chains;
 mod cursor_runs;
+mod forms;
 mod round_trips;
 
-pub use self::chains::{answer_after_chain, form_symbols_differ};
 pub use self::cursor_runs::run_cursor_and_reversal;
+pub use self::forms::form_symbols_differ;
 pub use self::round_trips::{
     CursorFault, DecoderAndEncoder, decoder_and_encoder, there_and_back,
     there_and_back_in_a_cursor, there_and_back_of_two,

@@ -1,6 +1,6 @@
 //! Items as quantiles into a sink, and words from a source as pairs.
 
-ghost use Rattle.std.specs.Prelude.{◌≡◌, ◌↔◌, ◌+◌, ◌^◌, ◌<◌, ◌≤◌, ℕ, length, IsTrue, IfOk, IfErr, OnOk};
+ghost use Rattle.std.specs.Prelude.{◌≡◌, ◌↔◌, ◌+◌, ◌^◌, ◌<◌, ◌≤◌, ℕ, IsTrue, IfOk, IfErr, OnOk};
 ghost use Rattle.std.specs.Prelude.{Option, Some};
 ghost use Rattle.constriction.specs.Rows.{entry_of};
 ghost use Rattle.constriction.specs.Precision.{IsPrecision};
@@ -159,8 +159,6 @@ where
     requires can_read { R.can_read source.old }
     ensures pairs { ReadsPairs M.stands_for PRECISION (M.rows model.now) Word.whole R.read_gives R.tells_upcoming
         count source.old out.old.items result source.new out.new.items }
-    ensures counted { IfOk result (λ n. length out.new.items ≡ length out.old.items + n) }
-    ensures at_most { IfOk result (λ n. n ≤ count) }
     ensures goes_on { R.can_read source.new }
 {
     for done in 0..count {

@@ -4,7 +4,7 @@ ghost use Rattle.std.specs.Prelude.{◌≡◌, ◌<◌, ◌≤◌, IfOk, map};
 ghost use Rattle.constriction.specs.Entries.{SameEntries};
 ghost use Rattle.constriction.specs.Rows.{entry_of};
 ghost use Rattle.constriction.specs.Precision.{IsPrecision};
-ghost use Rattle.constriction_client.specs.Replies.{in_numbers, reply_to_query, replies_of_two, replies_by_scan};
+ghost use Rattle.constriction_client.specs.Replies.{in_numbers, reply_to_query, replies_by_scan};
 ghost use Rattle.constriction_client.specs.Replies.{StandsForReply, AreRepliesOf};
 
 use constriction::stream::model::{DecodesOver, EncodesOver, Weight, is_quantile};
@@ -84,7 +84,7 @@ where
     E: EncodesOver<Symbol, Word, PRECISION>,
     requires precision { IsPrecision Word.BITS PRECISION }
     ensures ok { IfOk result (λ replies. AreRepliesOf D.stands_for
-        (replies_of_two PRECISION Word.whole (D.rows form.now) (entry_of E.symbol_eq (E.rows encoder.now)) queries.now)
+        (map (reply_to_query PRECISION Word.whole (D.rows form.now) (entry_of E.symbol_eq (E.rows encoder.now))) queries.now)
         (map (in_numbers Word.whole Word.base) replies.items)) }
     ensures of_one { IfOk result (λ replies. SameEntries E.symbol_eq (E.rows encoder.now) (D.rows form.now)
         → AreRepliesOf D.stands_for (replies_by_scan PRECISION Word.whole E.symbol_eq queries.now (D.rows form.now))

@@ -1,4 +1,4 @@
-//! Chains of conversions, and what the forms that they leave answer.
+//! Chains of conversions, and the forms that they leave.
 
 ghost use Rattle.std.specs.Prelude.{◌<◌, ◌≤◌, [], ◌∷◌, IfOk};
 ghost use Rattle.constriction.specs.Model.{ClonesAreEqual};
@@ -7,15 +7,12 @@ ghost use Rattle.constriction_client.specs.declared.chain.ChainStep.TheVariants.
 
 use crate::checks::{end_of_requests, same, same_at};
 use crate::model_checks::{decodes, walks};
-use crate::queries::{QUERIES, Replied, are_replies};
 use constriction::stream::model::{
     DecoderModel, EntropyModel, IterableEntropyModel, ModelError,
     SmallNonContiguousCategoricalDecoderModel,
 };
-use constriction_client::laws::answer_after_chain;
 use constriction_client::{ChainStep, DecoderForm, convert_chain};
-use constriction_fixtures::any_symbols::{Decoder, ROWS, STEPS, SYMBOLS, WEIGHTS, decoder};
-use constriction_fixtures::given::encoder_of;
+use constriction_fixtures::any_symbols::{ROWS, STEPS, SYMBOLS, WEIGHTS, decoder};
 use constriction_fixtures::lookup_any_symbols::lookup;
 use constriction_fixtures::symbol_types::{Letter, letters};
 use constriction_words::{IndexWord, NonZeroBitArray};
@@ -168,51 +165,6 @@ fn a_form_of_words_of_16_bits_is_searched_again(rt: HostRuntime) {
     let made = searched_again(rt.alloc(), form).expect(&rt, "a form");
     let (symbol, left, weight) = made.quantile_function(4094).expect(&rt, "a row");
     same(&rt, (symbol, left, weight.get()), (30, 1, 4094));
-}
-
-/// Takes the form with these entries through a chain, and asks it and the encoder's model that was made of
-/// it before.
-fn ask_after(
-    alloc: Global,
-    searching: Decoder<6>,
-    steps: &[ChainStep],
-) -> Result<Vec<Replied>, ModelError> {
-    let encoder = encoder_of(alloc, &searching)?;
-    answer_after_chain(
-        alloc,
-        DecoderForm::Search(searching),
-        steps,
-        &encoder,
-        &QUERIES,
-    )
-}
-
-/// Stops the test where the worked letters do not reply as ever after a chain.
-fn reply_after(rt: &impl Abort, alloc: Global, steps: &[ChainStep]) {
-    let searching = decoder(alloc, &SYMBOLS, &WEIGHTS, false).expect(rt, "accepted");
-    let found = ask_after(alloc, searching, steps).expect(rt, "replies");
-    are_replies(rt, &found);
-}
-
-#[test]
-fn letters_reply_after_any_chain(rt: HostRuntime) {
-    for each in &CHAINS {
-        reply_after(&rt, rt.alloc(), each.1);
-    }
-}
-
-/// Whichever request for memory is refused, there are no replies after a chain then.
-#[test]
-fn a_refusal_of_memory_leaves_no_replies_after_a_chain(rt: HostRuntime) {
-    let Ok(searching) = decoder::<6>(rt.alloc(), &SYMBOLS, &WEIGHTS, false) else {
-        return;
-    };
-    let steps = [ChainStep::ToLookup, ChainStep::Rebuild];
-    match ask_after(rt.alloc(), searching, &steps) {
-        Ok(found) => are_replies(&rt, &found),
-        Err(error) => same(&rt, error, ModelError::OutOfMemory),
-    }
-    end_of_requests(&rt);
 }
 
 /// Takes the form of letters whose clones may be refused through a chain.

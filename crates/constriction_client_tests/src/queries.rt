@@ -14,14 +14,14 @@ use std::alloc::{AllocError, Global};
 use std::process::Abort;
 
 /// A query about letters.
-pub type Asked = Query<char, u8>;
+type Asked = Query<char, u8>;
 
 /// The reply to one.
-pub type Replied = Reply<char, u8>;
+type Replied = Reply<char, u8>;
 
 /// Queries of each kind: of both ends of each row, of words that are no quantiles, of each letter, and of one that
 /// has no row.
-pub const QUERIES: [Asked; 14] = [
+const QUERIES: [Asked; 14] = [
     Query::OfQuantile(0),
     Query::OfQuantile(2),
     Query::OfQuantile(3),
@@ -63,7 +63,7 @@ fn replies() -> [Replied; 14] {
 }
 
 /// Stops the test where these are not the replies of the worked letters.
-pub fn are_replies(rt: &impl Abort, found: &Vec<Replied>) {
+fn are_replies(rt: &impl Abort, found: &Vec<Replied>) {
     holds(rt, found, &replies());
 }
 

@@ -28,7 +28,8 @@ row_text row = decimal row.symbol ++ codes " " ++ decimal row.left ++ codes " " 
 abbrev pub rows_text : List (Row ℕ) → List ℕ
 rows_text rows = flat_map row_text rows
 
--- the line of the row that holds a quantile: of rows that tile one is found for each quantile below 2 ^ precision (`FindsARow`)
+-- the line of the row that holds a quantile: of rows that tile one is found for each quantile below 2 ^ precision, by the law
+-- `each_quantile_in_range_has_a_row`
 abbrev pub quantile_text : ℕ → List (Row ℕ) → ℕ → List ℕ
 quantile_text precision rows q =
     if nat_lt q (2 ^ precision) then option_map_or row_text (find (holds q) rows) [] else codes "range\n"

@@ -41,8 +41,7 @@ pub fn answer_from_symbols_and_weights<
     requires clones { ClonesAreEqual Symbol.eq Symbol.is_clone }
     ensures accepted { IfOk result (λ _. AreAccepted Symbol.eq Probability.BITS PRECISION symbols.items
         (completed PRECISION infer_last_probability (map Probability.whole weights.items))) }
-    ensures invalid { result ≡ Err ModelError.InvalidTable
-        → ¬ (AreAccepted Symbol.eq Probability.BITS PRECISION symbols.items
+    ensures invalid { result ≡ Err ModelError.InvalidTable → ¬ (AreAccepted Symbol.eq Probability.BITS PRECISION symbols.items
         (completed PRECISION infer_last_probability (map Probability.whole weights.items))) }
     ensures answers { IfOk result (λ both. AnswersAfter Symbol.is_clone (replies_by_scan PRECISION Probability.whole Symbol.eq queries.now)
         steps.now false (rows_of symbols.items (completed PRECISION infer_last_probability (map Probability.whole weights.items)))

@@ -1,24 +1,28 @@
-//! What contracts alone tell a caller of the client: which words, which items, which replies. No body that
+//! What contracts alone tell a caller of the client, and of a form that stands already: which words, which items, which replies. No body that
 //! answers otherwise meets them, however a proof of it may be refused.
 
-ghost use Rattle.std.specs.Prelude.{◌≡◌, ◌++◌, ℕ, [], ◌∷◌, Some, IfOk, IfSome, OnOk, IsTrue, map};
-ghost use Rattle.constriction.specs.Rows.{contiguous_rows, entry_of, rows_of};
+ghost use Rattle.std.specs.Prelude.{◌≡◌, ◌++◌, [], ◌∷◌, Some, IfOk, IfSome, OnOk, IsTrue, map, nat_eq, true};
+ghost use Rattle.constriction.specs.Entries.{SameEntries};
+ghost use Rattle.constriction.specs.Rows.{contiguous_rows, rows_of};
 ghost use Rattle.constriction_backends.specs.Cursor.{state_of};
+ghost use Rattle.constriction_client.specs.Chains.{is_lookup};
 ghost use Rattle.constriction_client.specs.Replies.{in_numbers};
 ghost use Rattle.constriction_client.specs.declared.cursor_calls.CursorReply.TheVariants as reply;
 ghost use Rattle.constriction_client.specs.declared.queries.Reply.TheVariants as answer;
 
 use crate::checks::{holds, same};
 use crate::known_models::decoder_of;
-use constriction::stream::model::{EncodesOver, EntropyModel, ModelError};
+use constriction::stream::model::{EntropyModel, ModelError};
 use constriction_backends::{Cursor, Reverse};
-use constriction_client::laws::{answer_after_chain, there_and_back, there_and_back_in_a_cursor};
+use constriction_client::laws::{there_and_back, there_and_back_in_a_cursor};
 use constriction_client::{
     ChainStep, CursorCall, CursorReply, DecoderForm, QuantileFault, Query, Reply, answer_queries,
     run_cursor, run_reversed, write_quantiles,
 };
+use constriction_fixtures::any_symbols::Encoder;
 use constriction_fixtures::contiguous::Table;
 use constriction_fixtures::given::{encoder_of, of_four};
+use constriction_theorem::{FormAndReplies, answer_by_form};
 use constriction_words::{CoderError, WholeNumber};
 use std::alloc::{AllocError, Global};
 use std::process::Abort;
@@ -80,23 +84,24 @@ fn replies(alloc: Global, model: &Table<6>) -> Result<Vec<Reply<usize, u8>>, All
     answer_queries::<_, _, _, _, 6>(alloc, model, model, &queries)
 }
 
-/// The replies to two queries after two conversions, by any encoder of the same entries.
-fn replies_after<E: EncodesOver<char, u8, 6>>(
+/// The form that two conversions leave, and its replies to two queries beside the hashed encoder of the same entries.
+fn replies_after(
     alloc: Global,
     form: DecoderForm<char, u8, 6>,
-    encoder: &E,
-) -> Result<Vec<Reply<char, u8>>, ModelError>
+    encoder: &Encoder<6>,
+) -> Result<FormAndReplies<char, u8, 6>, ModelError>
     requires rows { ⟦<DecoderForm<char, u8, 6> as EntropyModel<6>>⟧.rows form
         ≡ rows_of (97 ∷ 120 ∷ 99 ∷ 121 ∷ []) (3 ∷ 18 ∷ 1 ∷ 42 ∷ []) }
-    requires alike { (s : ℕ) → entry_of E.symbol_eq (E.rows encoder.now) s
-        ≡ entry_of E.symbol_eq (⟦<DecoderForm<char, u8, 6> as EntropyModel<6>>⟧.rows form) s }
-    ensures { IfOk result (λ replies.
-        map (in_numbers ⟦<u8 as WholeNumber>⟧.whole ⟦<u8 as WholeNumber>⟧.base) replies.items
+    requires alike { SameEntries nat_eq (⟦<Encoder<6> as EntropyModel<6>>⟧.rows encoder.now)
+        (⟦<DecoderForm<char, u8, 6> as EntropyModel<6>>⟧.rows form) }
+    ensures kind { IfOk result (λ both. is_lookup both.0 ≡ true) }
+    ensures replies { IfOk result (λ both.
+        map (in_numbers ⟦<u8 as WholeNumber>⟧.whole ⟦<u8 as WholeNumber>⟧.base) both.1.items
         ≡ answer.Row 120 3 18 ∷ answer.OutOfRange ∷ []) }
 {
     let steps = [ChainStep::ToLookup, ChainStep::Rebuild];
     let queries = [Query::OfQuantile(20), Query::OfQuantile(64)];
-    answer_after_chain(alloc, form, &steps, encoder, &queries)
+    answer_by_form(alloc, form, &steps, encoder, &queries)
 }
 
 /// A cursor over 10, 20 and 30 that stands at 1.
@@ -177,7 +182,7 @@ fn contracts_leave_one_reply_after_a_chain(rt: HostRuntime) {
     let model = model.expect(&rt, "accepted");
     let encoder = encoder_of(rt.alloc(), &model).expect(&rt, "an encoder");
     let found = replies_after(rt.alloc(), DecoderForm::Search(model), &encoder);
-    same(&rt, found.expect(&rt, "replies").len(), 2);
+    same(&rt, found.expect(&rt, "replies").1.len(), 2);
 }
 
 #[test]

@@ -6,12 +6,12 @@ use crate::checks::{end_of_requests, holds, same};
 use constriction::laws::contiguous_symbols_differ;
 use constriction::stream::model::ModelError;
 use constriction_client::{ChainStep, DecoderForm, Query, Reply, SearchOrLookup};
-use constriction_fixtures::any_symbols::{SYMBOLS, WEIGHTS};
+use constriction_fixtures::any_symbols::{SYMBOLS, WEIGHTS, decoder};
 use constriction_fixtures::contiguous::Table;
-use constriction_fixtures::given::of_four;
+use constriction_fixtures::given::{encoder_of, of_four};
 use constriction_theorem::{
-    AnswersOfModel, AnswersOfWeights, FormAndReplies, RepliesByEncoder, answer_by_model,
-    answer_from_range_u8, answer_from_range_u16, answer_from_range_usize,
+    AnswersOfModel, AnswersOfWeights, FormAndReplies, RepliesByEncoder, answer_by_form,
+    answer_by_model, answer_from_range_u8, answer_from_range_u16, answer_from_range_usize,
     answer_from_symbols_and_weights, answer_from_weights,
 };
 use constriction_words::BitArray;
@@ -78,6 +78,37 @@ fn what_is_made_of_letters_and_weights_replies(rt: HostRuntime) {
     holds(&rt, &found, &replies_of_letters());
     let refused = of_letters(rt.alloc(), &WEIGHTS[1..]).err();
     same(&rt, refused, Some(ModelError::InvalidTable));
+}
+
+/// Takes the decoder of the letters through the chain, and asks the form that is left and the encoder that was made of the
+/// decoder before.
+fn of_form(alloc: Global) -> Result<FormAndReplies<char, u8, 6>, ModelError> {
+    let searching = decoder(alloc, &SYMBOLS, &WEIGHTS, false)?;
+    let encoder = encoder_of(alloc, &searching)?;
+    answer_by_form(
+        alloc,
+        DecoderForm::Search(searching),
+        &STEPS,
+        &encoder,
+        &LETTERS,
+    )
+}
+
+#[test]
+fn what_is_left_of_a_form_replies(rt: HostRuntime) {
+    let (form, found) = of_form(rt.alloc()).expect(&rt, "replies");
+    has_table(&rt, &form);
+    holds(&rt, &found, &replies_of_letters());
+}
+
+/// Whichever request for memory is refused, there are no replies then.
+#[test]
+fn a_refusal_of_memory_leaves_no_replies_of_a_form(rt: HostRuntime) {
+    match of_form(rt.alloc()) {
+        Ok((_form, found)) => holds(&rt, &found, &replies_of_letters()),
+        Err(error) => same(&rt, error, ModelError::OutOfMemory),
+    }
+    end_of_requests(&rt);
 }
 
 /// Queries of each kind about numbers.

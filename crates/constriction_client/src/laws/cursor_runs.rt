@@ -3,7 +3,7 @@
 ghost use Rattle.std.specs.Prelude.{◌≡◌, IfOk, OnErr};
 ghost use Rattle.constriction_backends.specs.Cursor.{buf_of, state_of};
 ghost use Rattle.constriction_backends.specs.CursorState.{reversal};
-ghost use Rattle.constriction_client.specs.CursorCalls.{RunsTo, RunsBackTo};
+ghost use Rattle.constriction_client.specs.CursorCalls.{run};
 
 use crate::cursor_calls::{CursorCall, CursorReply};
 use crate::cursor_runs::{run_reserved, run_reversed_reserved};
@@ -25,9 +25,9 @@ pub fn run_cursor_and_reversal<Word: Copy + Drop, Buf: SafeBufMut<Word>, Turned:
     ensures alike { IfOk result (λ both. state_of reversed.old.0 ≡ reversal (state_of cursor.old)
         → (both.1.items ≡ both.0.items) × (state_of reversed.new.0 ≡ reversal (state_of cursor.new))
         × (state_of cursor.new ≡ reversal (state_of reversed.new.0))) }
-    ensures runs { IfOk result (λ both. RunsTo calls.now (state_of cursor.old) both.0.items (state_of cursor.new)) }
+    ensures runs { IfOk result (λ both. run calls.now (state_of cursor.old) ≡ (both.0.items, state_of cursor.new)) }
     ensures runs_back { IfOk result (λ both.
-        RunsBackTo calls.now (state_of reversed.old.0) both.1.items (state_of reversed.new.0)) }
+        run calls.now (reversal (state_of reversed.old.0)) ≡ (both.1.items, reversal (state_of reversed.new.0))) }
     ensures kept { buf_of cursor.new ≡ Buf.with_words (buf_of cursor.old) (Buf.words_of (buf_of cursor.new)) }
     ensures reversed_kept { buf_of reversed.new.0
         ≡ Turned.with_words (buf_of reversed.old.0) (Turned.words_of (buf_of reversed.new.0)) }

@@ -11,7 +11,7 @@ ghost use Rattle.constriction_client.specs.declared.quantiles.QuantileFault.{Qua
 ghost use Rattle.constriction_client.specs.Placing.{PlacesItems, EndsPlacing};
 ghost use Rattle.constriction_backends.specs.Source.{Reads};
 ghost use Rattle.constriction_client.specs.Quantiles.{ArePairs};
-ghost use Rattle.constriction_client.specs.ThereAndBack.{AreItems, StandForItems, HasFault};
+ghost use Rattle.constriction_client.specs.ThereAndBack.{StandForItems, HasFault};
 
 use crate::decoder_form::Searching;
 use crate::quantiles::{QuantileFault, ReadFault, read_symbols, write_quantiles};
@@ -86,8 +86,6 @@ where
     requires precision { IsPrecision Word.BITS PRECISION }
     requires alike { SameEntries E.symbol_eq (E.rows encoder.now) (D.rows decoder.now) }
     ensures ok { IfOk result (λ pairs. StandForItems D.stands_for E.symbol_eq (reverse items.now) pairs.items) }
-    ensures equal { IfOk result (λ pairs. ClonesAreEqual E.symbol_eq D.stands_for
-        → AreItems E.symbol_eq (reverse items.now) pairs.items) }
     ensures fault { (fault : QuantileFault) → result ≡ Err (CoderError.Frontend fault)
         → HasFault (entry_of E.symbol_eq (E.rows encoder.now)) Word.whole items.now fault }
 {
@@ -113,8 +111,6 @@ where
     M::Symbol: Drop,
     requires precision { IsPrecision M.Probability.BITS PRECISION }
     ensures ok { IfOk result (λ pairs. StandForItems M.stands_for M.symbol_eq (reverse items.now) pairs.items) }
-    ensures equal { IfOk result (λ pairs. ClonesAreEqual M.symbol_eq M.stands_for
-        → AreItems M.symbol_eq (reverse items.now) pairs.items) }
     ensures fault { (fault : QuantileFault) → result ≡ Err (CoderError.Frontend fault)
         → HasFault (entry_of M.symbol_eq (M.rows model.now)) M.Probability.whole items.now fault }
 {
@@ -204,8 +200,6 @@ where
     requires precision { IsPrecision Word.BITS PRECISION }
     requires alike { SameEntries E.symbol_eq (E.rows encoder.now) (D.rows decoder.now) }
     ensures ok { IfOk result (λ pairs. StandForItems D.stands_for E.symbol_eq items.now pairs.items) }
-    ensures equal { IfOk result (λ pairs. ClonesAreEqual E.symbol_eq D.stands_for
-        → AreItems E.symbol_eq items.now pairs.items) }
     ensures placed { OnOk result (PlacesItems (entry_of E.symbol_eq (E.rows encoder.now)) Word.whole
         Buf.with_words cursor.old items.now cursor.new) }
     ensures err { IfErr result (λ fault. EndsPlacing (entry_of E.symbol_eq (E.rows encoder.now)) Word.whole

@@ -1,5 +1,5 @@
 use Rattle.std.proofs.Common.{arith}
-use Rattle.constriction_client.proofs.WordReading.{read-counted, read-none, read-more, read-asked, read-to-end, read-fault, read-failed}
+use Rattle.constriction_client.proofs.WordReading.{read-none, read-more, read-all, read-to-end, read-fault, read-failed}
 use Rattle.constriction_client.proofs.quantiles.read_symbols.Goals as goal
 
 pub loop-done-init : goal.loop-done-init
@@ -17,11 +17,6 @@ returns-in-Ok-None g c = record {
       g.R.ReadWords.read_gives g.R.ReadWords.tells_upcoming g.met.R.ReadWords.reads_told
       _ _ _ c.loop-done.done _ _ _ c.loop-done.invariant.so_far c.loop-done-test.true
       (rw c.in-Ok-None.field-0-is at c.in-Ok-None.ensures.gives);
-  counted =
-      read-counted g.M.DecodesOver.stands_for g.row.PRECISION (g.M.DecodesOver.rows c.args.model.now) g.Word.WholeNumber.whole
-      g.R.ReadWords.read_gives g.R.ReadWords.tells_upcoming g.met.R.ReadWords.reads_told
-      _ _ c.loop-done.done _ _ c.loop-done.invariant.so_far;
-  at_most = omega (arith, c.loop-done-test.true);
   goes_on = c.read.ensures.goes_on;
 }
 
@@ -31,8 +26,6 @@ returns-in-Err g c = record {
       read-failed g.M.DecodesOver.stands_for g.row.PRECISION (g.M.DecodesOver.rows c.args.model.now) g.Word.WholeNumber.whole
       g.R.ReadWords.read_gives g.R.ReadWords.tells_upcoming g.met.R.ReadWords.reads_told
       _ _ _ _ _ _ _ _ c.loop-done.invariant.so_far c.loop-done-test.true c.in-Err.ensures.gives;
-  counted = tt;
-  at_most = tt;
   goes_on = c.read.ensures.goes_on;
 }
 
@@ -43,8 +36,6 @@ returns-in-Err-pair_of g c = record {
       g.R.ReadWords.read_gives g.R.ReadWords.tells_upcoming g.met.R.ReadWords.reads_told
       _ _ _ _ _ c.in-Ok-Some.word _ _ _ c.loop-done.invariant.so_far c.loop-done-test.true
       (rw c.in-Ok-Some.field-0-is at c.in-Ok-Some.ensures.gives) c.in-Err-pair_of.ensures.err;
-  counted = tt;
-  at_most = tt;
   goes_on = c.read.ensures.goes_on;
 }
 
@@ -56,8 +47,6 @@ returns-in-Err-push g c = record {
       g.R.ReadWords.read_gives g.R.ReadWords.tells_upcoming g.met.R.ReadWords.reads_told
       _ _ _ _ _ c.in-Ok-Some.word _ _ _ c.loop-done.invariant.so_far c.loop-done-test.true
       (rw c.in-Ok-Some.field-0-is at c.in-Ok-Some.ensures.gives) c.in-Ok.ensures.in_range);
-  counted = tt;
-  at_most = tt;
   goes_on = c.read.ensures.goes_on;
 }
 
@@ -73,8 +62,10 @@ loop-done-preserved g c = record {
 }
 
 pub returns : goal.returns
-returns g c =
-    let asked = read-asked g.M.DecodesOver.stands_for g.row.PRECISION (g.M.DecodesOver.rows c.args.model.now) g.Word.WholeNumber.whole
-    g.R.ReadWords.read_gives g.R.ReadWords.tells_upcoming g.met.R.ReadWords.reads_told
-    _ _ _ c.loop-done.done _ _ c.loop-done.invariant.so_far c.loop-done.auto.done-end c.loop-done-test.false in
-    record { pairs = asked.0; counted = asked.1; at_most = asked.2; goes_on = c.loop-done.invariant.goes_on }
+returns g c = record {
+  pairs =
+      read-all g.M.DecodesOver.stands_for g.row.PRECISION (g.M.DecodesOver.rows c.args.model.now) g.Word.WholeNumber.whole
+      g.R.ReadWords.read_gives g.R.ReadWords.tells_upcoming g.met.R.ReadWords.reads_told
+      _ _ c.args.count c.loop-done.done _ _ c.loop-done.invariant.so_far (omega (arith, c.loop-done.auto.done-end, c.loop-done-test.false));
+  goes_on = c.loop-done.invariant.goes_on;
+}

@@ -1,7 +1,7 @@
 use Rattle.std.proofs.Common.{map, refl, subst}
 use Rattle.constriction.specs.Rows.{entry_of}
-use Rattle.constriction_client.specs.Replies.{in_numbers, reply_to_query, replies_of_two, StandsForReply, AreRepliesOf}
-use Rattle.constriction_client.proofs.Replying.{all-told, one-more-told, replies-of, scan-of-rows}
+use Rattle.constriction_client.specs.Replies.{in_numbers, reply_to_query, StandsForReply, AreRepliesOf}
+use Rattle.constriction_client.proofs.Replying.{all-told, one-more-told, replies_of_two, replies-of, scan-of-rows}
 use Rattle.constriction_client.proofs.queries.answer_queries.Goals as goal
 
 pub loop-query-preserved : goal.loop-query-preserved

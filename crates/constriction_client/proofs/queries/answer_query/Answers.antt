@@ -1,3 +1,4 @@
+use Rattle.constriction.specs.Rows.{entry_of}
 use Rattle.constriction_client.proofs.Replying.{told-reply}
 use Rattle.constriction_client.proofs.queries.answer_query.Goals as goal
 
@@ -7,5 +8,6 @@ returns-in_ok-symbol-in-OfQuantile g c =
     let rows = g.D.DecodesOver.rows c.args.form.now in
     rw c.in-OfQuantile.is
     (told-reply g.D.DecodesOver.stands_for whole g.Word.WholeNumber.base g.Word.WholeNumber.BITS g.row.PRECISION rows
-    (whole c.in-OfQuantile.word) _ (c.is_quantile.ensures.0 c.if-not-is_quantile.false)
+    (entry_of g.E.EncodesOver.symbol_eq (g.E.EncodesOver.rows c.args.encoder.now)) c.in-OfQuantile.word _
+    (c.is_quantile.ensures.0 c.if-not-is_quantile.false)
     (g.met.D.DecodesOver.tile_law c.args.form.now) c.in_ok-symbol-in-OfQuantile.ensures.row)

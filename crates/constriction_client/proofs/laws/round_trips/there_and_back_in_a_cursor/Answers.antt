@@ -2,7 +2,7 @@ use Rattle.std.proofs.Common.{◌∙◌}
 use Rattle.std.specs.declared.convert.Infallible.{Infallible}
 use Rattle.constriction.specs.Rows.{entry_of}
 use Rattle.constriction_client.proofs.Places.{come-next, placed-again, reads-on}
-use Rattle.constriction_client.proofs.Returning.{are-items, as-many, quantiles-below, stand-back}
+use Rattle.constriction_client.proofs.Returning.{as-many, quantiles-below, stand-back}
 use Rattle.constriction_client.proofs.laws.round_trips.there_and_back_in_a_cursor.Goals as goal
 
 pub read_back-requires-clause-come : goal.read_back-requires-clause-come
@@ -29,22 +29,15 @@ returns-in-Ok-read_back g c =
     (come-next entry g.Word.WholeNumber.whole g.Buf.SafeBufMut.with_words c.args.cursor.now c.args.items.now
     c.write_and_go_back.new.cursor back)
     (as-many entry g.Word.WholeNumber.whole c.args.items.now back.placed.words back.placed.quantiles) in
-    let stand = stand-back g.D.DecodesOver.stands_for g.E.EncodesOver.symbol_eq entry g.Word.WholeNumber.whole g.Word.WholeNumber.BITS
-    g.row.PRECISION (g.D.DecodesOver.rows c.args.decoder.now) c.args.items.now c.in-Ok-read_back.pairs.items
-    back.placed.words (g.met.D.DecodesOver.tile_law c.args.decoder.now) g.met.Word.WholeNumber.same_law
-    c.requires.alike back.placed.quantiles read.0 in
     record {
-      ok = stand;
-      equal =
-          are-items g.D.DecodesOver.stands_for g.E.EncodesOver.symbol_eq g.met.E.EncodesOver.equality_law c.args.items.now
-          c.in-Ok-read_back.pairs.items stand;
-      placed = record {
-        words = back.placed.words;
-        quantiles = back.placed.quantiles;
-        placed =
-            placed-again g.Buf.SafeBufMut.with_words Infallible c.args.cursor.now back.reached c.write_and_go_back.new.cursor
-            back.placed.words c.read_back.new.source back.placed.placed back.buf back.pos read.1;
-      };
+      ok =
+          stand-back g.D.DecodesOver.stands_for g.E.EncodesOver.symbol_eq g.met.E.EncodesOver.equality_law entry g.Word.WholeNumber.whole
+          g.Word.WholeNumber.BITS g.row.PRECISION (g.D.DecodesOver.rows c.args.decoder.now) c.args.items.now
+          c.in-Ok-read_back.pairs.items back.placed.words (g.met.D.DecodesOver.tile_law c.args.decoder.now)
+          g.met.Word.WholeNumber.same_law c.requires.alike back.placed.quantiles read.0;
+      placed =
+          placed-again entry g.Word.WholeNumber.whole g.Buf.SafeBufMut.with_words c.args.cursor.now c.args.items.now Infallible back.reached
+          c.write_and_go_back.new.cursor c.read_back.new.source back.placed back.buf back.pos read.1;
       err = tt;
     }
 
@@ -52,5 +45,5 @@ pub returns-in-Err-read_back : goal.returns-in-Err-read_back
 returns-in-Err-read_back g c =
     let back = c.in-Ok.ensures.ok in
     let read = c.in-Err-read_back.ensures.err in
-    let on = reads-on g.Buf.SafeBufMut.with_words Infallible c.write_and_go_back.new.cursor read.0 c.read_back.new.source read.1 in
-    record { ok = tt; equal = tt; placed = tt; err = (back.reached, back.placed, on.2 ∙ back.buf) }
+    let on = reads-on Infallible c.write_and_go_back.new.cursor read.0 c.read_back.new.source read.1 in
+    record { ok = tt; placed = tt; err = (back.reached, back.placed, on.2 ∙ back.buf) }

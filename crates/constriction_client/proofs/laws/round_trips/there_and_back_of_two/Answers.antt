@@ -2,13 +2,12 @@ use Rattle.std.proofs.Common.{◌≡◌, [], reverse, ap, sym, ◌∙◌, append
 use Rattle.std.proofs.lemmas.List.{length-reverse}
 use Rattle.constriction.specs.Rows.{entry_of}
 use Rattle.constriction_client.specs.Quantiles.{IsQuantileOf}
-use Rattle.constriction_client.proofs.Returning.{AllZip-reverse, as-many, first-fault, quantiles-below, stand-back-reversed, are-items}
+use Rattle.constriction_client.proofs.Returning.{AllZip-reverse, as-many, first-fault, quantiles-below, stand-back-reversed}
 use Rattle.constriction_client.proofs.laws.round_trips.there_and_back_of_two.Goals as goal
 
 pub returns-in-Err : goal.returns-in-Err
 returns-in-Err g c = record {
   ok = tt;
-  equal = tt;
   fault = λ fault e. first-fault _ _ _ _ _ _ c.in-Err.fault _ fault c.in-Err.ensures.err (cc);
 }
 
@@ -36,17 +35,15 @@ returns-in-Ok-read_back g c =
     let wrote = c.in-Ok.ensures.ok in
     let entry = entry_of g.E.EncodesOver.symbol_eq (g.E.EncodesOver.rows c.args.encoder.now) in
     let stored : wrote.words ≡ c.write_quantiles.new.sink.items = wrote.told [] (sym c.new-words.ensures.items) in
-    let stand = stand-back-reversed g.D.DecodesOver.stands_for g.E.EncodesOver.symbol_eq entry g.Word.WholeNumber.whole
-    g.Word.WholeNumber.BITS g.row.PRECISION (g.D.DecodesOver.rows c.args.decoder.now) c.args.items.now c.in-Ok-read_back.pairs.items
-    wrote.words (g.met.D.DecodesOver.tile_law c.args.decoder.now) g.met.Word.WholeNumber.same_law c.requires.alike wrote.quantiles
-    (c.in-Ok-read_back.ensures.ok (reverse wrote.words)
-    (record { rest = []; told = append-nil (reverse wrote.words) ∙ ap reverse stored })
-    (length-reverse wrote.words
-    ∙ as-many entry g.Word.WholeNumber.whole c.args.items.now wrote.words wrote.quantiles)).0 in
     record {
-      ok = stand;
-      equal =
-          are-items g.D.DecodesOver.stands_for g.E.EncodesOver.symbol_eq g.met.E.EncodesOver.equality_law (reverse c.args.items.now)
-          c.in-Ok-read_back.pairs.items stand;
+      ok =
+          stand-back-reversed g.D.DecodesOver.stands_for g.E.EncodesOver.symbol_eq g.met.E.EncodesOver.equality_law entry
+          g.Word.WholeNumber.whole g.Word.WholeNumber.BITS g.row.PRECISION (g.D.DecodesOver.rows c.args.decoder.now) c.args.items.now
+          c.in-Ok-read_back.pairs.items wrote.words (g.met.D.DecodesOver.tile_law c.args.decoder.now) g.met.Word.WholeNumber.same_law
+          c.requires.alike wrote.quantiles
+          (c.in-Ok-read_back.ensures.ok (reverse wrote.words)
+          (record { rest = []; told = append-nil (reverse wrote.words) ∙ ap reverse stored })
+          (length-reverse wrote.words
+          ∙ as-many entry g.Word.WholeNumber.whole c.args.items.now wrote.words wrote.quantiles)).0;
       fault = λ fault e. absurd (cc);
     }

@@ -28,8 +28,9 @@ unreachable-requires g c =
     let placed = items-placed g.Buf.SafeBufMut.with_words
     (entry_of g.E.EncodesOver.symbol_eq (g.E.EncodesOver.rows c.args.encoder.now)) g.Word.WholeNumber.whole
     _ c.extending_overwrites.ensures c.args.cursor.now c.args.items.now c.write_quantiles.new.sink c.in-Ok.ensures.ok in
-    let fits = in-range g.Buf.SafeBufMut.with_words c.args.cursor.now c.write_quantiles.new.sink c.write_quantiles.new.sink
-    placed.words placed.placed g.met.Buf.SafeBufMut.keeps_length in
+    let fits = in-range (entry_of g.E.EncodesOver.symbol_eq (g.E.EncodesOver.rows c.args.encoder.now)) g.Word.WholeNumber.whole
+    g.Buf.SafeBufMut.with_words c.args.cursor.now c.args.items.now c.write_quantiles.new.sink c.write_quantiles.new.sink
+    placed g.met.Buf.SafeBufMut.keeps_length in
     omega (arith, fits, c.pos-start.ensures, c.in-Err.ensures.gives.0)
 
 pub returns : goal.returns
