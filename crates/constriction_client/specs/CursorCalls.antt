@@ -38,11 +38,3 @@ step (call.Seek position) s =
 abbrev pub run : {W : Type 0} → List (CursorCall W) → State W → List (CursorReply W) × State W
 run [] s = ([], s)
 run (call ∷ calls) s = let now = step call s in let later = run calls now.1 in (now.0 ∷ later.0, later.1)
-
--- a run on a state, and one on the reversal of another, which is its reversal: the replies are the same, and what is left are a state and
--- its reversal
-abbrev pub RunsAlike : Type 0 → Type 0
-RunsAlike W =
-    (calls : List (CursorCall W)) (s t turned left : State W) (replies others : List (CursorReply W))
-    → turned ≡ reversal s → run calls s ≡ (replies, t) → run calls (reversal turned) ≡ (others, reversal left)
-    → (others ≡ replies) × (left ≡ reversal t)

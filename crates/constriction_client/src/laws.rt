@@ -1,13 +1,15 @@
 //! What follows from the definitions that the contracts cite, each law the contract of a function.
 
-ghost use Rattle.std.specs.Prelude.{reverse};
-ghost use Rattle.constriction_client.specs.CursorCalls.{RunsAlike};
+ghost use Rattle.std.specs.Prelude.{◌≡◌, List, reverse};
+ghost use Rattle.constriction_backends.specs.CursorState.{State, reversal};
+ghost use Rattle.constriction_client.specs.CursorCalls.{run};
 ghost use Rattle.constriction_client.specs.ThereAndBack.{ReadsBack};
 
 mod cursor_runs;
 mod forms;
 mod round_trips;
 
+use crate::cursor_calls::{CursorCall, CursorReply};
 pub use self::cursor_runs::run_cursor_and_reversal;
 pub use self::forms::form_symbols_differ;
 pub use self::round_trips::{
@@ -33,5 +35,7 @@ pub fn reads_back_reversed<Symbol, Word>()
 /// leave a state and its reversal. So it is of what [`run_cursor`](crate::run_cursor) and
 /// [`run_reversed`](crate::run_reversed) say of each other.
 pub fn runs_are_alike<Word>()
-    ensures { RunsAlike Word }
+    ensures { (calls : List (CursorCall Word)) (s t turned left : State Word) (replies others : List (CursorReply Word))
+        → turned ≡ reversal s → run calls s ≡ (replies, t) → run calls (reversal turned) ≡ (others, reversal left)
+        → (others ≡ replies) × (left ≡ reversal t) }
 {}

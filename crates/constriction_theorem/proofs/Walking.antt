@@ -1,30 +1,43 @@
 -- What a chain leaves of rows that were read from a table, whose symbols stand for those of its model.
-use Rattle.std.proofs.Common.{◌≡◌, ℕ, Bool, false, List, Result, Ok, Err, ap, ◌∙◌}
+use Rattle.std.proofs.Common.{◌≡◌, ℕ, Bool, false, List, [], ◌∷◌, Result, Ok, Err, refl, ap, subst, sym, ◌∙◌}
 use Rattle.std.specs.Prelude.{IfOk}
-use Rattle.constriction.specs.Model.{StandForRows, ClonesAreSame}
+use Rattle.constriction.specs.Model.{StandForRows}
 use Rattle.constriction.specs.Rows.{Row}
 use Rattle.constriction.specs.StandLemmas.{same-rows}
+use Rattle.constriction_client.specs.Chains.{ChainLeaves}
 use Rattle.constriction_client.specs.declared.chain.ChainStep.{ChainStep}
 use Rattle.constriction_client.specs.declared.queries.Reply.{Reply}
-use Rattle.constriction_client.specs.ChainLemmas.{same-after}
 use Rattle.constriction_theorem.specs.Answers.{AnswersAfter}
 
-module _ {Symbol : Type 0} (Stands IsClone : Symbol → Symbol → Type 0) (walked others : List (Row Symbol))
-    (stand : StandForRows Stands walked others) (scan : List (Row Symbol) → List (Reply Symbol ℕ ℕ)) (steps : List ChainStep)
-    {Given Error : Type 0} (is_lookup : Given → Bool) (rows : Given → List (Row Symbol)) (replies : Given → List (Reply Symbol ℕ ℕ)) where
-  -- what the steps leave, they leave of rows that stand for those of the model
-  pub answers-of-table : (r : Result Given Error)
-      → IfOk r (λ x. AnswersAfter IsClone scan steps false walked (is_lookup x) (rows x) (replies x))
-      → IfOk r (λ x. (read : List (Row Symbol)) × StandForRows Stands read others
-      × AnswersAfter IsClone scan steps false read (is_lookup x) (rows x) (replies x))
-  answers-of-table (Ok x) h = (walked, stand, h)
-  answers-of-table (Err e) h = tt
+-- rows stand for themselves
+stand-themselves : {Symbol : Type 0} (rows : List (Row Symbol)) → StandForRows (λ s t. t ≡ s) rows rows
+stand-themselves [] = tt
+stand-themselves (r ∷ rs) = ((refl, refl, refl), stand-themselves rs)
 
-  -- where both have the same symbols, the rows are the model's, and the replies those of a scan of these
-  pub exact-of-table : (r : Result Given Error)
-      → IfOk r (λ x. AnswersAfter IsClone scan steps false walked (is_lookup x) (rows x) (replies x))
-      → IfOk r (λ x. ClonesAreSame Stands → ClonesAreSame IsClone → (rows x ≡ others) × (replies x ≡ scan others))
-  exact-of-table (Ok x) h = λ alike same.
-      let read = same-rows Stands alike walked others stand in
-      (same-after IsClone same steps walked (rows x) h.rows ∙ read, h.exact same ∙ ap scan read)
-  exact-of-table (Err e) h = tt
+-- what steps leave of rows, they leave of these where they are not walked
+pub leaves-of-itself : {Symbol : Type 0} (IsClone : Symbol → Symbol → Type 0) (steps : List ChainStep) (rows made : List (Row Symbol))
+    → ChainLeaves IsClone steps rows made
+    → (walked : List (Row Symbol)) × StandForRows (λ s t. t ≡ s) walked rows × ChainLeaves IsClone steps walked made
+leaves-of-itself IsClone steps rows made h = (rows, stand-themselves rows, h)
+
+module _ {Symbol : Type 0} (Stands IsClone : Symbol → Symbol → Type 0) (read rows : List (Row Symbol)) (stand : StandForRows Stands read rows)
+    (scan : List (Row Symbol) → List (Reply Symbol ℕ ℕ)) (steps : List ChainStep)
+    {Given Error : Type 0} (is_lookup : Given → Bool) (rows_of : Given → List (Row Symbol)) (replies : Given → List (Reply Symbol ℕ ℕ)) where
+  -- what the steps leave of the rows that were read, they leave of a walk of the model's
+  pub answers-of-table : (r : Result Given Error)
+      → IfOk r (λ x. AnswersAfter (λ s t. t ≡ s) IsClone scan steps false read (is_lookup x) (rows_of x) (replies x))
+      → IfOk r (λ x. AnswersAfter Stands IsClone scan steps false rows (is_lookup x) (rows_of x) (replies x))
+  answers-of-table (Ok x) h =
+      let same = same-rows (λ s t. t ≡ s) (λ s t e. e) h.walked read h.walk in
+      record {
+        kind = h.kind;
+        walked = h.walked;
+        walk = subst (λ (rs : List (Row Symbol)). StandForRows Stands rs rows) (sym same) stand;
+        rows = h.rows;
+        replies = h.replies;
+        exact = λ alike clones.
+            let both = h.exact (λ s t e. e) clones in
+            let first = same-rows Stands alike read rows stand in
+            (both.0 ∙ first, both.1 ∙ ap scan first);
+      }
+  answers-of-table (Err e) h = tt

@@ -1,6 +1,6 @@
 -- What a form replies after steps, and what the models of one row list do. In replies numbers stand for words.
 use Rattle.std.specs.Prelude.{◌≡◌, ℕ, Bool, false, nat_eq, List, fold, map}
-use Rattle.constriction.specs.Model.{ClonesAreSame}
+use Rattle.constriction.specs.Model.{StandForRows, ClonesAreSame}
 use Rattle.constriction.specs.Rows.{Row, uniform_rows}
 use Rattle.constriction_client.specs.Chains.{is_lookup, is_lookup_after, ChainLeaves}
 use Rattle.constriction_client.specs.declared.chain.ChainStep.{ChainStep}
@@ -11,19 +11,22 @@ use Rattle.constriction_client.specs.Replies.{in_numbers, replies_by_scan, AreRe
 use Rattle.constriction_theorem.specs.declared.models.AnswersOfModel.{AnswersOfModel}
 use Rattle.constriction_theorem.specs.declared.weights.RepliesByEncoder.{RepliesByEncoder}
 
--- The form that steps leave of one with the rows `first`, which was a lookup form or not, and what it replies beside an encoder of these
--- rows. `scan` gives the replies of a row list.
-pub record AnswersAfter {Symbol : Type 0} (IsClone : Symbol → Symbol → Type 0) (scan : List (Row Symbol) → List (Reply Symbol ℕ ℕ))
+-- The form that steps leave of one that was made of the rows `first`, which was a lookup form or not, and what it replies beside an encoder
+-- of these rows. `Walks` says what the symbols that a walk of these rows gives are of theirs, `IsClone` what clones of symbols are of these,
+-- and `scan` gives the replies of a row list.
+pub record AnswersAfter {Symbol : Type 0} (Walks IsClone : Symbol → Symbol → Type 0) (scan : List (Row Symbol) → List (Reply Symbol ℕ ℕ))
     (steps : List ChainStep) (was_lookup : Bool) (first : List (Row Symbol))
     (now_lookup : Bool) (made : List (Row Symbol)) (given : List (Reply Symbol ℕ ℕ)) : Type 0 where
   -- the form is of the kind that the steps say
   pub kind : now_lookup ≡ fold is_lookup_after was_lookup steps
-  -- its rows are those that the steps leave
-  pub rows : ChainLeaves IsClone steps first made
+  -- its rows are those that the steps leave of what a walk gave
+  pub walked : List (Row Symbol)
+  pub walk : StandForRows Walks walked first
+  pub rows : ChainLeaves IsClone steps walked made
   -- it replies as a scan of its rows does
   pub replies : AreRepliesOf IsClone (scan made) given
-  -- and where clones of symbols are the same values, as a scan of the first rows
-  pub exact : ClonesAreSame IsClone → given ≡ scan first
+  -- where both give the same symbols, its rows are the first ones, and it replies as a scan of these
+  pub exact : ClonesAreSame Walks → ClonesAreSame IsClone → (made ≡ first) × (given ≡ scan first)
 
 -- what a decoder replied beside each of two encoders is what a scan gives
 abbrev pub ReplyAsScan : {Word Weight : Type 0} → (Reply ℕ Word Weight → Reply ℕ ℕ ℕ) → List (Reply ℕ ℕ ℕ) → RepliesByEncoder Word Weight

@@ -39,8 +39,9 @@ where
     requires equal { ClonesAreEqual E.symbol_eq Symbol.is_clone }
     requires alike { SameEntries E.symbol_eq (E.rows encoder.now)
         (⟦<DecoderForm<Symbol, Probability, PRECISION> as EntropyModel<PRECISION>>⟧.rows form) }
-    ensures answers { IfOk result (λ x. AnswersAfter Symbol.is_clone (replies_by_scan PRECISION Probability.whole E.symbol_eq queries.now)
-        steps.now (is_lookup form) (⟦<DecoderForm<Symbol, Probability, PRECISION> as EntropyModel<PRECISION>>⟧.rows form)
+    ensures answers { IfOk result (λ x. AnswersAfter (λ s t. t ≡ s) Symbol.is_clone
+        (replies_by_scan PRECISION Probability.whole E.symbol_eq queries.now) steps.now (is_lookup form)
+        (⟦<DecoderForm<Symbol, Probability, PRECISION> as EntropyModel<PRECISION>>⟧.rows form)
         (is_lookup x.0) (⟦<DecoderForm<Symbol, Probability, PRECISION> as EntropyModel<PRECISION>>⟧.rows x.0)
         (map (in_numbers Probability.whole Probability.base) x.1.items)) }
     ensures refused { IfErr result (λ e. e ≡ ModelError.OutOfMemory) }

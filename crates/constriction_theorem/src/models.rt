@@ -1,9 +1,9 @@
 //! Any model whose rows can be walked through, and what it and the form that is made of it reply.
 
-ghost use Rattle.std.specs.Prelude.{◌≡◌, ◌<◌, ◌≤◌, List, map, false, IfOk, IfErr};
+ghost use Rattle.std.specs.Prelude.{◌≡◌, map, false, IfOk, IfErr};
 ghost use Rattle.std.specs.List.{IsDistinct};
-ghost use Rattle.constriction.specs.Model.{StandForRows, ClonesAreSame, ClonesAreEqual};
-ghost use Rattle.constriction.specs.Rows.{Row, symbols_of};
+ghost use Rattle.constriction.specs.Model.{ClonesAreEqual};
+ghost use Rattle.constriction.specs.Rows.{symbols_of};
 ghost use Rattle.constriction.specs.Precision.{IsPrecision, IsLookupPrecision};
 ghost use Rattle.constriction_client.specs.Chains.{is_lookup};
 ghost use Rattle.constriction_client.specs.Replies.{in_numbers, replies_by_scan, AreRepliesOf};
@@ -38,14 +38,10 @@ where
     requires walked { ClonesAreEqual M.Symbol.eq M.stands_for }
     requires clones { ClonesAreEqual M.Symbol.eq M.Symbol.is_clone }
     requires distinct { IsDistinct M.Symbol.eq (symbols_of (M.rows model)) }
-    ensures answers { IfOk result (λ both. (walked : List (Row M.Symbol)) × StandForRows M.stands_for walked (M.rows model)
-        × AnswersAfter M.Symbol.is_clone (replies_by_scan PRECISION M.Probability.whole M.Symbol.eq queries.now) steps.now false walked
+    ensures answers { IfOk result (λ both. AnswersAfter M.stands_for M.Symbol.is_clone
+        (replies_by_scan PRECISION M.Probability.whole M.Symbol.eq queries.now) steps.now false (M.rows model)
         (is_lookup both.0) (⟦<DecoderForm<M::Symbol, M::Probability, PRECISION> as EntropyModel<PRECISION>>⟧.rows both.0)
         (map (in_numbers M.Probability.whole M.Probability.base) both.1.items)) }
-    ensures exact { IfOk result (λ both. ClonesAreSame M.stands_for → ClonesAreSame M.Symbol.is_clone
-        → (⟦<DecoderForm<M::Symbol, M::Probability, PRECISION> as EntropyModel<PRECISION>>⟧.rows both.0 ≡ M.rows model)
-        × (map (in_numbers M.Probability.whole M.Probability.base) both.1.items
-        ≡ replies_by_scan PRECISION M.Probability.whole M.Symbol.eq queries.now (M.rows model))) }
     ensures refused { IfErr result (λ e. e ≡ ModelError.OutOfMemory) }
 {
     let (decoder, encoder) = both_of::<M, PRECISION>(alloc, model)?;
@@ -116,15 +112,10 @@ where
     ensures by_model { IfOk result (λ answers. AreRepliesOf M.DecoderModel.stands_for
         (replies_by_scan PRECISION M.Probability.whole M.Symbol.eq queries.now (M.rows model))
         (map (in_numbers M.Probability.whole M.Probability.base) answers.by_model.items)) }
-    ensures converted { IfOk result (λ answers. (walked : List (Row M.Symbol))
-        × StandForRows M.IterableEntropyModel.stands_for walked (M.rows model)
-        × AnswersAfter M.Symbol.is_clone (replies_by_scan PRECISION M.Probability.whole M.Symbol.eq queries.now) steps.now false walked
+    ensures converted { IfOk result (λ answers. AnswersAfter M.IterableEntropyModel.stands_for M.Symbol.is_clone
+        (replies_by_scan PRECISION M.Probability.whole M.Symbol.eq queries.now) steps.now false (M.rows model)
         (is_lookup answers.form) (⟦<DecoderForm<M::Symbol, M::Probability, PRECISION> as EntropyModel<PRECISION>>⟧.rows answers.form)
         (map (in_numbers M.Probability.whole M.Probability.base) answers.converted.items)) }
-    ensures exact { IfOk result (λ answers. ClonesAreSame M.IterableEntropyModel.stands_for → ClonesAreSame M.Symbol.is_clone
-        → (⟦<DecoderForm<M::Symbol, M::Probability, PRECISION> as EntropyModel<PRECISION>>⟧.rows answers.form ≡ M.rows model)
-        × (map (in_numbers M.Probability.whole M.Probability.base) answers.converted.items
-        ≡ replies_by_scan PRECISION M.Probability.whole M.Symbol.eq queries.now (M.rows model))) }
     ensures refused { IfErr result (λ e. e ≡ ModelError.OutOfMemory) }
 {
     let by_model = asked_beside_encoder::<M, PRECISION>(alloc, model, queries)?;

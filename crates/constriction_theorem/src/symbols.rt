@@ -43,8 +43,9 @@ pub fn answer_from_symbols_and_weights<
         (completed PRECISION infer_last_probability (map Probability.whole weights.items))) }
     ensures invalid { result ≡ Err ModelError.InvalidTable → ¬ (AreAccepted Symbol.eq Probability.BITS PRECISION symbols.items
         (completed PRECISION infer_last_probability (map Probability.whole weights.items))) }
-    ensures answers { IfOk result (λ both. AnswersAfter Symbol.is_clone (replies_by_scan PRECISION Probability.whole Symbol.eq queries.now)
-        steps.now false (rows_of symbols.items (completed PRECISION infer_last_probability (map Probability.whole weights.items)))
+    ensures answers { IfOk result (λ both. AnswersAfter (λ s t. t ≡ s) Symbol.is_clone
+        (replies_by_scan PRECISION Probability.whole Symbol.eq queries.now) steps.now false
+        (rows_of symbols.items (completed PRECISION infer_last_probability (map Probability.whole weights.items)))
         (is_lookup both.0) (⟦<DecoderForm<Symbol, Probability, PRECISION> as EntropyModel<PRECISION>>⟧.rows both.0)
         (map (in_numbers Probability.whole Probability.base) both.1.items)) }
 {
