@@ -1,8 +1,8 @@
 -- What a cursor replies to a call, and the state that the call leaves; and runs of calls.
 -- A state is the words before the position and those from it on, and a call moves words from one list to the other.
-use Rattle.std.specs.Prelude.{◌≡◌, ◌+◌, ◌-◌, ◌==◌, nat_le, List, [], ◌∷◌, ◌++◌, length, None, if◌then◌else◌}
+use Rattle.std.specs.Prelude.{◌+◌, ◌-◌, ◌==◌, nat_le, List, [], ◌∷◌, ◌++◌, length, None, if◌then◌else◌}
 use Rattle.std.specs.List.{last_or, slice_get}
-use Rattle.constriction_backends.specs.CursorState.{State, state, reversal}
+use Rattle.constriction_backends.specs.CursorState.{State, state}
 use Rattle.constriction_client.specs.declared.cursor_calls.CursorCall.{CursorCall}
 use Rattle.constriction_client.specs.declared.cursor_calls.CursorCall.TheVariants as call
 use Rattle.constriction_client.specs.declared.cursor_calls.CursorReply.{CursorReply}

@@ -9,13 +9,13 @@ mod cursor_runs;
 mod forms;
 mod round_trips;
 
-use crate::cursor_calls::{CursorCall, CursorReply};
 pub use self::cursor_runs::run_cursor_and_reversal;
 pub use self::forms::form_symbols_differ;
 pub use self::round_trips::{
     CursorFault, DecoderAndEncoder, decoder_and_encoder, there_and_back,
     there_and_back_in_a_cursor, there_and_back_of_two,
 };
+use crate::cursor_calls::{CursorCall, CursorReply};
 pub use constriction::laws::{
     each_quantile_in_range_has_a_row, the_row_found_is_the_row_of_the_quantile,
 };

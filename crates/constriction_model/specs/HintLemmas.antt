@@ -1,5 +1,5 @@
 -- What an exact hint of a size tells. No public clause cites this module.
-use Rattle.std.specs.Prelude.{ℕ, ◌-◌, ◌^◌, ◌≤◌, Option, Some, None, IfSome}
+use Rattle.std.specs.Prelude.{ℕ, ◌-◌, ◌^◌, Option, Some, None, IfSome}
 use Rattle.std.proofs.Common.{arith}
 use Rattle.std.proofs.Math.Nat.{min-le_left}
 use Rattle.std.specs.Iterator.{UpTo, at_most}

@@ -1,13 +1,12 @@
 //! What a caller has from the laws of models: over the contiguous model, and over a model of the
 //! caller with a table of its own.
 
-ghost use Rattle.std.specs.Prelude.{◌≡◌, ◌<◌, ◌≤◌, ◌^◌, ◌-◌, [], ◌∷◌, length, map, drop, IfOk};
+ghost use Rattle.std.specs.Prelude.{◌≡◌, ◌↔◌, ◌<◌, ◌≤◌, ◌^◌, ◌-◌, ℕ, [], ◌∷◌, length, map, drop, IfOk};
 ghost use Rattle.std.specs.Iterator.{at_most};
 ghost use Rattle.std.proofs.Common.{rules};
-ghost use Rattle.constriction.specs.Rows.{rows_of};
+ghost use Rattle.constriction.specs.Rows.{Row, IsRowOf, rows_of};
 ghost use Rattle.constriction.specs.Model.{row_of, ClonesAreSame};
 ghost use Rattle.constriction.specs.Tables.{YieldsRow};
-ghost use Rattle.constriction.specs.Laws.{AnswerAlike};
 
 use crate::checks::same;
 use crate::model_checks::small;
@@ -95,7 +94,7 @@ where
     M::Symbol: Drop,
     requires clones { ClonesAreSame M.IterableEntropyModel.stands_for }
     requires other_clones { ClonesAreSame N.IterableEntropyModel.stands_for }
-    requires alike { AnswerAlike PRECISION (M.rows model) (N.rows other) }
+    requires alike { (q : ℕ) (r : Row M.Symbol) → q < 2 ^ PRECISION → IsRowOf (M.rows model) q r ↔ IsRowOf (N.rows other) q r }
     ensures { IfOk result (λ t. map (row_of M.Probability.whole M.Probability.base) t.0.items
         ≡ map (row_of N.Probability.whole N.Probability.base) t.1.items) }
 {

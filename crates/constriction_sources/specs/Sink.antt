@@ -1,6 +1,6 @@
 -- What a sink of words does. `gives s w r t` says that a write of w to s may answer r and leave t, and `tells s ws` that the words ws
 -- were written to s.
-use Rattle.std.specs.Prelude.{◌≡◌, ℕ, ◌+◌, List, [], ◌∷◌, ◌++◌, length, Option, Some, Result, Ok, Err, MatchResult}
+use Rattle.std.specs.Prelude.{◌≡◌, ℕ, ◌+◌, List, [], ◌∷◌, ◌++◌, Option, Some, Result, Ok, Err, MatchResult}
 use Rattle.std.specs.Iterator.{Drains, YieldsThen}
 
 -- A write where the words ws were written before: the word comes after them, or was refused and they stay.

@@ -1,5 +1,5 @@
 -- What a source of words answers. `tells s ws` says that the words ws are still to come from s.
-use Rattle.std.specs.Prelude.{◌≡◌, ◌≢◌, ◌↔◌, ℕ, ◌+◌, ◌≤◌, List, [], ◌∷◌, Option, Some, None, Result, Ok, MatchResult, MatchOption, slice_get}
+use Rattle.std.specs.Prelude.{◌≡◌, ◌≢◌, ℕ, ◌+◌, List, [], ◌∷◌, Option, Some, Result, Ok, MatchResult, MatchOption}
 
 -- A read where the words ws were to come: the first word, and the rest is left; or nothing, where nothing was to come; or an error,
 -- where there was a word, which is still to come.

@@ -93,10 +93,10 @@ module _ {S : Type 0} (bits precision slot_bits : ℕ) (rows : List (Row S)) (t 
       let width : ℕ = slot_width precision slot_bits in
       record {
         exactly = λ i d h. (
-            λ e.
-                (tells.exactly i d h).0
-                (tested-met width j (get_or rows i d) (pow_pos (precision - slot_bits)) (tile-at bits precision rows t i d h).positive e),
-            λ run. met-tested width j (get_or rows i d) ((tells.exactly i d h).1 run),
+          λ e.
+              (tells.exactly i d h).0
+              (tested-met width j (get_or rows i d) (pow_pos (precision - slot_bits)) (tile-at bits precision rows t i d h).positive e),
+          λ run. met-tested width j (get_or rows i d) ((tells.exactly i d h).1 run),
         );
         within = tells.within;
         in_order = tells.in_order;

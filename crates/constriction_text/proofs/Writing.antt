@@ -121,7 +121,7 @@ answered-all a b c input rest text so_far turn none =
 
 -- a beginning of the text was written
 pub answered-stopped : (a b c : Option (List ℕ)) (input rest text : List ℕ) → Answered a b input rest text
-    → WritesBeginning b c text → (whole : List ℕ) × IsTextOf input whole × WritesBeginning a c whole
+    → WritesBeginning b c text → (written rest : List ℕ) × IsTextOf input (written ++ rest) × Appends a c written
 answered-stopped a b c input rest text so_far turn =
     let others = answers_of (lines_of rest) in
     let joined : (so_far.written ++ turn.0) ++ (turn.1 ++ others) ≡ text_of input =
@@ -131,9 +131,10 @@ answered-stopped a b c input rest text so_far turn =
     ∙ ap (λ t. t ++ others) so_far.answers
     ∙ sym (flat_map-append answer_to so_far.first (lines_of rest))
     ∙ ap answers_of so_far.lines in (
-      text_of input,
-      are_answers (lines_of input),
-      (so_far.written ++ turn.0, turn.1 ++ others, joined, Appends-trans a b c so_far.written turn.0 so_far.wrote turn.3),
+      so_far.written ++ turn.0,
+      turn.1 ++ others,
+      subst (IsTextOf input) (sym joined) (are_answers (lines_of input)),
+      Appends-trans a b c so_far.written turn.0 so_far.wrote turn.3,
     )
 
 -- a fault that was handed on

@@ -160,7 +160,7 @@ fn write_answers<W: Write>(alloc: Global, input: &[u8], writer: &mut W) -> Resul
     ensures out_of_memory { result ≡ Err RunFault.OutOfMemory →
         WritesFirstAnswers (W.contents writer.old) (W.contents writer.new) input.now }
     ensures write { result ≡ Err RunFault.Write →
-        (text : List ℕ) × IsTextOf input.now text × WritesBeginning (W.contents writer.old) (W.contents writer.new) text }
+        (written rest : List ℕ) × IsTextOf input.now (written ++ rest) × Appends (W.contents writer.old) (W.contents writer.new) written }
     ensures faults { IfErr result (λ fault. (fault ≢ RunFault.Read) × (fault ≢ RunFault.TooLong)) }
 {
     let mut text = String::new(alloc);
@@ -207,7 +207,7 @@ pub fn run<R: Read, W: Write>(alloc: Global, reader: &mut R, writer: &mut W) -> 
     ensures write { result ≡ Err RunFault.Write →
         HasRead (R.remaining reader.old) (R.remaining reader.new) (λ input.
         IsAtEnd (R.remaining reader.new) × (length input ≤ limit)
-        × ((text : List ℕ) × IsTextOf input text × WritesBeginning (W.contents writer.old) (W.contents writer.new) text)) }
+        × ((written rest : List ℕ) × IsTextOf input (written ++ rest) × Appends (W.contents writer.old) (W.contents writer.new) written)) }
 
     // No turn takes more than one byte past the limit.
     ensures taken { HasRead (R.remaining reader.old) (R.remaining reader.new) (λ input. length input ≤ limit + 1) }

@@ -2,7 +2,8 @@ use Rattle.std.proofs.Common.{◌≡◌, ℕ, List, Some, None, refl, ap, sym, s
 use Rattle.std.specs.Prelude.{nat_eq}
 use Rattle.std.specs.List.{IsDistinct}
 use Rattle.constriction.specs.Rows.{Row, IsRowOf, entry_of, symbols_of}
-use Rattle.constriction.specs.Laws.{PairsAreQuantiles}
+use Rattle.constriction.specs.Entries.{SameEntries}
+use Rattle.constriction.specs.Laws.{IsOneToOne}
 use Rattle.constriction_models_tests.proofs.laws.back.Goals as goal
 
 -- the answer of a model that clones nothing is the row itself
@@ -13,7 +14,9 @@ the-row rows q own symbol left weight is h =
     subst (λ s. IsRowOf rows q (record { symbol = s; left = left; weight = weight })) (sym is) h
 
 module _ {Model : Type 0} (precision : ℕ) (rows : Model → List (Row ℕ)) (m : Model) (q : ℕ) (r : Row ℕ)
-    (law : PairsAreQuantiles nat_eq precision rows rows) (differ : IsDistinct nat_eq (symbols_of (rows m)))
+    (law : (d e : Model) → IsDistinct nat_eq (symbols_of (rows d)) → SameEntries nat_eq (rows e) (rows d)
+    → IsOneToOne nat_eq (entry_of nat_eq (rows e)) precision (rows d))
+    (differ : IsDistinct nat_eq (symbols_of (rows m)))
     (found : IsRowOf (rows m) q r) where
   -- the symbol of a quantile's row has the entry of the row
   its-entry : entry_of nat_eq (rows m) r.symbol ≡ Some (r.left, r.weight)

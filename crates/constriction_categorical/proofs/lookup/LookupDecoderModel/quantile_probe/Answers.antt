@@ -14,8 +14,8 @@ returns g c =
     (map g.Model.Kind.CdfEntry.cumulative c.slot_probe.result.1.entries.now) c.entries.ensures
     c.requires c.slot_probe.ensures.part in
     let tells =
-        tells-tested g.Model.Probability.WholeNumber.BITS g.row.PRECISION g.row.SLOT_BITS (g.Model.EntropyModel.rows c.args.self.now.model)
-        (g.met.Model.StoresRows.stored_law c.args.self.now.model) _ _ _ probed.0 in
+    tells-tested g.Model.Probability.WholeNumber.BITS g.row.PRECISION g.row.SLOT_BITS (g.Model.EntropyModel.rows c.args.self.now.model)
+    (g.met.Model.StoresRows.stored_law c.args.self.now.model) _ _ _ probed.0 in
     record {
       exactly = tells.exactly;
       within = tells.within;

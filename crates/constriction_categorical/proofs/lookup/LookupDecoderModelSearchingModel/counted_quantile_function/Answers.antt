@@ -29,8 +29,7 @@ returns-in-Ok-clause-row g c =
     let at = c.in-Ok.ensures.row in
     let rows = g.Model.EntropyModel.rows c.args.self.now.model in
     let is = get_or_from_slice_get rows c.row_in_slot-index.result.0 at.0 at.0 at.1 in
-    let stands = at.2.0 in
-    (
+    let stands = at.2.0 in (
       stands.0,
       stands.1,
       subst (IsRowOf rows (g.Model.Probability.WholeNumber.whole c.args.quantile)) (is ∙ sym stands.2) (found.row at.0),
