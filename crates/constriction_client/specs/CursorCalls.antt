@@ -1,8 +1,8 @@
 -- What a cursor replies to a call, and the state that the call leaves; and runs of calls.
 -- A state is the words before the position and those from it on, and a call moves words from one list to the other.
-use Rattle.std.specs.Prelude.{◌≡◌, ◌+◌, ◌-◌, ◌==◌, nat_le, List, [], ◌∷◌, ◌++◌, length, None, if◌then◌else◌}
+use Rattle.std.specs.Prelude.{◌+◌, ◌-◌, ◌==◌, nat_le, List, [], ◌∷◌, ◌++◌, length, None, if◌then◌else◌}
 use Rattle.std.specs.List.{last_or, slice_get}
-use Rattle.constriction_backends.specs.CursorState.{State, state, reversal}
+use Rattle.constriction_backends.specs.CursorState.{State, state}
 use Rattle.constriction_client.specs.declared.cursor_calls.CursorCall.{CursorCall}
 use Rattle.constriction_client.specs.declared.cursor_calls.CursorCall.TheVariants as call
 use Rattle.constriction_client.specs.declared.cursor_calls.CursorReply.{CursorReply}
@@ -38,11 +38,3 @@ step (call.Seek position) s =
 abbrev pub run : {W : Type 0} → List (CursorCall W) → State W → List (CursorReply W) × State W
 run [] s = ([], s)
 run (call ∷ calls) s = let now = step call s in let later = run calls now.1 in (now.0 ∷ later.0, later.1)
-
--- a run on a state, and one on the reversal of another, which is its reversal: the replies are the same, and what is left are a state and
--- its reversal
-abbrev pub RunsAlike : Type 0 → Type 0
-RunsAlike W =
-    (calls : List (CursorCall W)) (s t turned left : State W) (replies others : List (CursorReply W))
-    → turned ≡ reversal s → run calls s ≡ (replies, t) → run calls (reversal turned) ≡ (others, reversal left)
-    → (others ≡ replies) × (left ≡ reversal t)

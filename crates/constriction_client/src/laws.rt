@@ -1,7 +1,6 @@
 //! What follows from the definitions that the contracts cite, each law the contract of a function.
 
 ghost use Rattle.std.specs.Prelude.{reverse};
-ghost use Rattle.constriction_client.specs.CursorCalls.{RunsAlike};
 ghost use Rattle.constriction_client.specs.ThereAndBack.{ReadsBack};
 
 mod cursor_runs;
@@ -27,11 +26,4 @@ pub fn reads_back<Symbol, Word>()
 /// of a stack.
 pub fn reads_back_reversed<Symbol, Word>()
     ensures { ReadsBack Symbol Word reverse reverse }
-{}
-
-/// A run of calls in a state and a run of the same calls in its reversal have the same replies, and
-/// leave a state and its reversal. So it is of what [`run_cursor`](crate::run_cursor) and
-/// [`run_reversed`](crate::run_reversed) say of each other.
-pub fn runs_are_alike<Word>()
-    ensures { RunsAlike Word }
 {}

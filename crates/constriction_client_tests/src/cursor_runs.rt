@@ -5,8 +5,9 @@ ghost use Rattle.constriction_backends.specs.Cursor.{state_of};
 ghost use Rattle.constriction_backends.specs.CursorState.{reversal};
 
 use crate::checks::{end_of_requests, holds_at, same, same_at, vec_of};
+use constriction_backends::laws::reversal_twice;
 use constriction_backends::{Cursor, Reverse, SafeBuf, SafeBufMut};
-use constriction_client::laws::{run_cursor_and_reversal, runs_are_alike};
+use constriction_client::laws::run_cursor_and_reversal;
 use constriction_client::{CursorCall, CursorReply, run_cursor, run_reversed};
 use constriction_fixtures::marked::Marked;
 use constriction_words::Pos;
@@ -117,7 +118,8 @@ fn at_1<Buf: SafeBufMut<u8> + Drop>(rt: &impl Abort, buf: Buf) -> Cursor<u8, Buf
     Cursor::<u8, Buf>::new_at_pos_mut(buf, 1).expect(rt, "1 is a position")
 }
 
-/// Two runs that are made one after the other reply the same, by the law, where the one cursor is the reversal of the other.
+/// Two runs that are made one after the other reply the same where the one cursor is the reversal of the other, since a state that is
+/// reversed twice is that state.
 fn one_after_the_other<Buf: SafeBufMut<u8>, Turned: SafeBufMut<u8>>(
     alloc: Global,
     cursor: &mut Cursor<u8, Buf>,
@@ -127,7 +129,7 @@ fn one_after_the_other<Buf: SafeBufMut<u8>, Turned: SafeBufMut<u8>>(
     ensures { IfOk result (λ both. state_of reversed.old.0 ≡ reversal (state_of cursor.old)
         → (both.1.items ≡ both.0.items) × (state_of reversed.new.0 ≡ reversal (state_of cursor.new))) }
 {
-    runs_are_alike::<u8>();
+    reversal_twice::<u8>();
     let replies = run_cursor(alloc, cursor, calls)?;
     let others = run_reversed(alloc, reversed, calls)?;
     Ok((replies, others))
