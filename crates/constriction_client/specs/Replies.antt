@@ -17,8 +17,8 @@ in_numbers whole base (reply.Row symbol left weight) = reply.Row symbol (whole l
 in_numbers whole base reply.OutOfRange = reply.OutOfRange
 in_numbers whole base (reply.Entry entry) = reply.Entry (option_map (entry_in whole base) entry)
 
--- The reply to a query. To a quantile it is the first row that holds it, or that the quantile is not below 2 ^ precision: of rows that tile,
--- one holds each that is (`FindsARow`). To a symbol it is its entry.
+-- The reply to a query. To a quantile it is the first row that holds it, and `OutOfRange` where it is not below 2 ^ precision: of rows that
+-- tile, one holds each quantile below that (`FindsARow`). To a symbol it is its entry.
 abbrev pub reply_to_query : {Symbol Word : Type 0} → ℕ → (Word → ℕ) → List (Row Symbol) → (Symbol → Option (ℕ × ℕ))
     → Query Symbol Word → Reply Symbol ℕ ℕ
 reply_to_query precision whole rows entry (OfQuantile word) =
