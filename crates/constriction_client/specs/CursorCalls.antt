@@ -31,8 +31,7 @@ step call.StackExhausted s = (reply.Flag (length s.before == 0), s)
 step call.QueueExhausted s = (reply.Flag (length s.after == 0), s)
 step call.Full s = (reply.Flag (length s.after == 0), s)
 step call.Position s = (reply.Count (length s.before), s)
-step (call.Seek position) s =
-    if nat_le position (length (words s)) then (reply.Moved, state (words s) position) else (reply.NotMoved, s)
+step (call.Seek position) s = if nat_le position (length (words s)) then (reply.Moved, state (words s) position) else (reply.NotMoved, s)
 
 -- the replies to calls, in order, and the state that they leave
 abbrev pub run : {W : Type 0} → List (CursorCall W) → State W → List (CursorReply W) × State W
