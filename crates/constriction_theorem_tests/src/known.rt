@@ -1,5 +1,5 @@
-//! What contracts alone tell a caller of the client, and of a form that stands already: which words, which items, which replies. No body that
-//! answers otherwise meets them, however a proof of it may be refused.
+//! What contracts alone tell a caller of the client, and of a form that stands already: which words, which items, which
+//! replies. No body that answers otherwise meets them, however a proof of it may be refused.
 
 ghost use Rattle.std.specs.Prelude.{◌≡◌, ◌++◌, [], ◌∷◌, Some, IfOk, IfSome, OnOk, IsTrue, map, nat_eq, true};
 ghost use Rattle.constriction.specs.Entries.{SameEntries};
