@@ -10,7 +10,8 @@ module _ {Symbol Word Weight Refusal : Type 0} (Stands : Symbol → Symbol → T
     (base : Weight → Word) (rows : List (Row Symbol)) (index : ℕ) (h : index < length rows) where
   -- an answer of the row there, or a refusal where a clone of its symbol may be refused, stands for this row
   pub row-stands : (result : Result (Symbol × Word × Weight) Refusal)
-      → IfOk result (λ x. (own : Symbol) × Stands own x.0 × (get_or rows index (row_of whole base (own, x.1, x.2)) ≡ row_of whole base (own, x.1, x.2)))
+      → IfOk result (λ x. (own : Symbol) × Stands own x.0
+      × (get_or rows index (row_of whole base (own, x.1, x.2)) ≡ row_of whole base (own, x.1, x.2)))
       → IfErr result (λ _. (r : Row Symbol) × (get_or rows index r ≡ r) × MayRefuse r.symbol)
       → (r : Row Symbol) × (slice_get rows index ≡ Some r) × StandsFor Stands MayRefuse whole base result r
   row-stands (Ok x) ok err =

@@ -115,8 +115,8 @@ where
     ) -> (usize, CdfProbe<'m, Model::Entry, Model::Kind>)
         requires { Model.Probability.whole quantile < 2 ^ PRECISION }
         ensures { IsProbeFor ⟦<CdfProbe<'m, Model::Entry, Model::Kind> as Probe>⟧ (⟦<Self as EntropyModel<PRECISION>>⟧.rows self.now)
-            (λ r. IsTrue (meets_slot (slot_width PRECISION SLOT_BITS) (Model.Probability.whole quantile / slot_width PRECISION SLOT_BITS) r))
-            (Model.Probability.whole quantile) result.0 result.1 }
+            (λ r. IsTrue (meets_slot (slot_width PRECISION SLOT_BITS)
+            (Model.Probability.whole quantile / slot_width PRECISION SLOT_BITS) r)) (Model.Probability.whole quantile) result.0 result.1 }
     {
         slot_probe::<Model::Entry, Model::Kind, PRECISION, SLOT_BITS>(
             self.model.entries(),

@@ -43,7 +43,8 @@ same-item {Symbol = Symbol} Stands eq entry whole bits precision rows item pair 
 
 -- all items, in order
 stand-one-by-one : {Symbol Word : Type 0} (Stands : Symbol → Symbol → Type 0) (eq : Symbol → Symbol → Bool)
-    (entry : Symbol → Option (ℕ × ℕ)) (whole : Word → ℕ) (bits precision : ℕ) (rows : List (Row Symbol)) (items pairs : List (Symbol × Word)) (words : List Word)
+    (entry : Symbol → Option (ℕ × ℕ)) (whole : Word → ℕ) (bits precision : ℕ) (rows : List (Row Symbol))
+    (items pairs : List (Symbol × Word)) (words : List Word)
     → RowsTile bits precision rows → ((a b : Word) → whole a ≡ whole b → a ≡ b)
     → ((s : Symbol) → entry s ≡ entry_of eq rows s)
     → AreQuantiles entry whole items words → ArePairs Stands rows whole words pairs → StandOneByOne Stands eq items pairs

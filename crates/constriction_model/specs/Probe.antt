@@ -33,8 +33,8 @@ pub record IsRowIndexOf {Symbol : Type 0} (rows : List (Row Symbol)) (q i : ℕ)
 
 -- A probe that was asked nothing yet tells the rows in question for the quantile q: those from `first` on, and no other row. It tells their
 -- left cumulatives, in order, and the greatest index whose cumulative is at most q, plus `first`, is the index of the quantile's row.
-pub record IsProbeFor {Symbol P Word : Type 0} (g : Ghosts P Word) (rows : List (Row Symbol)) (InQuestion : Row Symbol → Type 0) (q first : ℕ)
-    (probe : P) : Type 0 where
+pub record IsProbeFor {Symbol P Word : Type 0} (g : Ghosts P Word) (rows : List (Row Symbol)) (InQuestion : Row Symbol → Type 0)
+    (q first : ℕ) (probe : P) : Type 0 where
   pub exactly : (i : ℕ) (r : Row Symbol) → i < length rows
       → InQuestion (slice_index_or rows i r) ↔ ((first ≤ i) × (i < first + length (g.cumulatives probe)))
   pub within : first + length (g.cumulatives probe) ≤ length rows

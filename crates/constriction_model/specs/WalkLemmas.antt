@@ -129,13 +129,15 @@ module _ {Symbol Word Weight Refusal : Type 0} (Stands : Symbol → Symbol → T
         → AreRows Stands MayRefuse whole base items (rows_left t)
     gives-all-rows t items h = are-rows items (rows_left t) (drained t items h)
 
-    pub gives-as-many : (t : T) (items : List (Result (Symbol × Word × Weight) Refusal)) → Drains steps t items → length items ≡ length (rows_left t)
+    pub gives-as-many : (t : T) (items : List (Result (Symbol × Word × Weight) Refusal)) → Drains steps t items
+        → length items ≡ length (rows_left t)
     gives-as-many t items h =
         sym (AllZip-long (StandsFor Stands MayRefuse whole base) items (rows_left t) (drained t items h))
 
     pub answers-are-in-table : {M : Type 0} (bits precision : ℕ) (rows : M → List (Row Symbol))
         → ((m : M) → RowsTile bits precision (rows m)) → ((a b : Word) → whole a ≡ whole b → a ≡ b)
-        → ((a b : Weight) → base a ≡ base b → a ≡ b) → (m : M) (t : T) (items : List (Result (Symbol × Word × Weight) Refusal)) (q : ℕ) (r : Row Symbol)
+        → ((a b : Weight) → base a ≡ base b → a ≡ b)
+        → (m : M) (t : T) (items : List (Result (Symbol × Word × Weight) Refusal)) (q : ℕ) (r : Row Symbol)
         → rows_left t ≡ rows m → Drains steps t items → IsRowOf (rows m) q r → IsInTable Stands MayRefuse whole base items q r
     answers-are-in-table bits precision rows tile one_word one_weight m t items q r e d found =
         let all = subst (λ (rs : List (Row Symbol)). AllZip (StandsFor Stands MayRefuse whole base) items rs) e (drained t items d) in

@@ -20,9 +20,10 @@ pub leaves-of-itself : {Symbol : Type 0} (IsClone : Symbol → Symbol → Type 0
     → (walked : List (Row Symbol)) × StandForRows (λ s t. t ≡ s) walked rows × ChainLeaves IsClone steps walked made
 leaves-of-itself IsClone steps rows made h = (rows, stand-themselves rows, h)
 
-module _ {Symbol : Type 0} (Stands IsClone : Symbol → Symbol → Type 0) (read rows : List (Row Symbol)) (stand : StandForRows Stands read rows)
-    (scan : List (Row Symbol) → List (Reply Symbol ℕ ℕ)) (steps : List ChainStep)
-    {Given Error : Type 0} (is_lookup : Given → Bool) (rows_of : Given → List (Row Symbol)) (replies : Given → List (Reply Symbol ℕ ℕ)) where
+module _ {Symbol : Type 0} (Stands IsClone : Symbol → Symbol → Type 0) (read rows : List (Row Symbol))
+    (stand : StandForRows Stands read rows) (scan : List (Row Symbol) → List (Reply Symbol ℕ ℕ)) (steps : List ChainStep)
+    {Given Error : Type 0} (is_lookup : Given → Bool) (rows_of : Given → List (Row Symbol))
+    (replies : Given → List (Reply Symbol ℕ ℕ)) where
   -- what the steps leave of the rows that were read, they leave of a walk of the model's
   pub answers-of-table : (r : Result Given Error)
       → IfOk r (λ x. AnswersAfter (λ s t. t ≡ s) IsClone scan steps false read (is_lookup x) (rows_of x) (replies x))

@@ -11,9 +11,9 @@ use Rattle.constriction_client.specs.Replies.{in_numbers, replies_by_scan, AreRe
 use Rattle.constriction_theorem.specs.declared.models.AnswersOfModel.{AnswersOfModel}
 use Rattle.constriction_theorem.specs.declared.weights.RepliesByEncoder.{RepliesByEncoder}
 
--- The form that steps leave of one that was made of the rows `first`, which was a lookup form or not, and what it replies beside an encoder
--- of these rows. `Walks` says what the symbols that a walk of these rows gives are of theirs, `IsClone` what clones of symbols are of these,
--- and `scan` gives the replies of a row list.
+-- The form that steps leave of one that was made of the rows `first`, which was a lookup form or not, and what it replies beside an
+-- encoder of these rows. `Walks` says what the symbols that a walk of these rows gives are of theirs, `IsClone` what clones of symbols
+-- are of these, and `scan` gives the replies of a row list.
 pub record AnswersAfter {Symbol : Type 0} (Walks IsClone : Symbol → Symbol → Type 0) (scan : List (Row Symbol) → List (Reply Symbol ℕ ℕ))
     (steps : List ChainStep) (was_lookup : Bool) (first : List (Row Symbol))
     (now_lookup : Bool) (made : List (Row Symbol)) (given : List (Reply Symbol ℕ ℕ)) : Type 0 where

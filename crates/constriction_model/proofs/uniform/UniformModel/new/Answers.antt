@@ -10,8 +10,8 @@ from_number-last_symbol-requires g c =
 
 pub invariant_of-result : goal.invariant_of-result
 invariant_of-result g c =
-    let last = last-fits g.Probability.WholeNumber.BITS g.row.PRECISION c.args.range _ c.requires.precision.fits c.requires.some c.requires.within
-    c.from_number-last_symbol.ensures in
+    let last = last-fits g.Probability.WholeNumber.BITS g.row.PRECISION c.args.range _ c.requires.precision.fits c.requires.some
+    c.requires.within c.from_number-last_symbol.ensures in
     record {
       fits = c.requires.precision.fits;
       some = last.0;
@@ -24,6 +24,6 @@ invariant_of-result g c =
 
 pub returns : goal.returns
 returns g c =
-    let last = last-fits g.Probability.WholeNumber.BITS g.row.PRECISION c.args.range _ c.requires.precision.fits c.requires.some c.requires.within
-    c.from_number-last_symbol.ensures in
+    let last = last-fits g.Probability.WholeNumber.BITS g.row.PRECISION c.args.range _ c.requires.precision.fits c.requires.some
+    c.requires.within c.from_number-last_symbol.ensures in
     ap (uniform_rows g.row.PRECISION) last.3
