@@ -8,16 +8,16 @@ use std::process::Abort;
 
 /// Stops the test where the two differ, and shows both.
 pub fn same<T: PartialEq + Debug + Drop>(rt: &impl Abort, found: T, expected: T) {
-    same_at(rt, "found, beside expected", found, expected);
+    assert_eq!(rt; found, expected);
 }
 
 /// The same of one case among several, whose name is shown too.
 pub fn same_at<Name, T>(rt: &impl Abort, name: Name, found: T, expected: T)
 where
-    Name: Display + Drop,
+    Name: Copy + PartialEq + Debug,
     T: PartialEq + Debug + Drop,
 {
-    assert_eq!(rt; found, expected, "{name}");
+    same(rt, (name, found), (name, expected));
 }
 
 /// Stops the test where a `Vec` does not hold these items.
@@ -28,7 +28,7 @@ pub fn holds<T: PartialEq + Debug>(rt: &impl Abort, found: &Vec<T>, expected: &[
 /// The same of one case among several, whose name is shown too.
 pub fn holds_at<Name, T>(rt: &impl Abort, name: Name, found: &Vec<T>, expected: &[T])
 where
-    Name: Display + Drop,
+    Name: Copy + PartialEq + Debug,
     T: PartialEq + Debug,
 {
     same_at(rt, name, found.as_slice(), expected);

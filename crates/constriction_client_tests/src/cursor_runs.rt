@@ -160,7 +160,7 @@ fn are_run<Buf: SafeBufMut<u8> + Drop>(
 }
 
 #[test]
-fn a_cursor_over_each_buffer_and_its_reversal_reply_the_same(rt: HostRuntime) {
+fn a_cursor_over_each_owned_buffer_and_its_reversal_reply_the_same(rt: HostRuntime) {
     let words = [10u8, 20, 30];
     let alloc = rt.alloc();
     let first = vec_of(&rt, alloc, &words);
@@ -169,6 +169,12 @@ fn a_cursor_over_each_buffer_and_its_reversal_reply_the_same(rt: HostRuntime) {
     let first = Marked::new(vec_of(&rt, alloc, &words));
     let second = Marked::new(vec_of(&rt, alloc, &words));
     are_run(&rt, alloc, "own", first, second);
+}
+
+#[test]
+fn a_cursor_over_each_lent_buffer_and_its_reversal_reply_the_same(rt: HostRuntime) {
+    let words = [10u8, 20, 30];
+    let alloc = rt.alloc();
     let [mut first, mut second] = [words; 2];
     are_run(&rt, alloc, "array", &mut first, &mut second);
     let [mut first, mut second] = [words; 2];

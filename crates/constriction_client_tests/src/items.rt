@@ -47,85 +47,83 @@ fn back(alloc: Global, model: &Table<6>, items: &[(usize, u8)]) -> Back {
     there_and_back(alloc, model, items)
 }
 
+/// What is wrong with the second of three items, the items, and whether its symbol is impossible: its offset is too large
+/// otherwise.
+type Faulty = (&'static str, &'static [(usize, u8)], bool);
+
+const FAULTS: [Faulty; 3] = [
+    ("an offset of the weight", &[(0, 2), (2, 1), (9, 0)], false),
+    (
+        "a symbol past the last one",
+        &[(0, 2), (4, 0), (2, 1)],
+        true,
+    ),
+    (
+        "a symbol that is no word",
+        &[(0, 2), (usize::MAX, 9), (2, 1)],
+        true,
+    ),
+];
+
 /// The first of these items alone is written, after 7.
-fn stops_after_the_first(
-    rt: &impl Abort,
-    alloc: Global,
-    model: &Table<6>,
-    (name, items, fault): (&str, [(usize, u8); 3], QuantileFault),
-) {
+fn stops_after_the_first(rt: &impl Abort, alloc: Global, model: &Table<6>, case: &Faulty) {
+    let (name, items, impossible) = *case;
+    let fault = if impossible {
+        QuantileFault::ImpossibleSymbol
+    } else {
+        QuantileFault::OffsetTooLarge
+    };
     let mut words = vec_of(rt, alloc, &[7]);
-    let written = write(model, &items, &mut words);
+    let written = write(model, items, &mut words);
     same_at(rt, name, written, Err(CoderError::Frontend(fault)));
     holds_at(rt, name, &words, &[7, 2]);
-    same_at(rt, name, back(alloc, model, &items).is_err(), true);
+    same_at(rt, name, back(alloc, model, items).is_err(), true);
 }
 
 #[test]
 fn the_words_before_a_fault_stay_written(rt: HostRuntime) {
     let model = small(&rt, rt.alloc());
-    let too_large = QuantileFault::OffsetTooLarge;
-    let offset = (
-        "an offset of the weight",
-        [(0, 2), (2, 1), (9, 0)],
-        too_large,
-    );
-    stops_after_the_first(&rt, rt.alloc(), &model, offset);
-    let impossible = QuantileFault::ImpossibleSymbol;
-    let past = (
-        "a symbol past the last one",
-        [(0, 2), (4, 0), (2, 1)],
-        impossible,
-    );
-    stops_after_the_first(&rt, rt.alloc(), &model, past);
-    let impossible = QuantileFault::ImpossibleSymbol;
-    let no_word = (
-        "a symbol that is no word",
-        [(0, 2), (usize::MAX, 9), (2, 1)],
-        impossible,
-    );
-    stops_after_the_first(&rt, rt.alloc(), &model, no_word);
+    for case in &FAULTS {
+        stops_after_the_first(&rt, rt.alloc(), &model, case);
+    }
 }
 
-/// So many reads of words give the answer, and leave these words, and these pairs, of which one was there before.
-fn are_read(
-    rt: &impl Abort,
-    alloc: Global,
-    model: &Table<6>,
-    (count, words): (usize, &[u8]),
-    (answer, left, pairs): (Read, &[u8], &[(usize, u8)]),
-) {
+/// How many reads there are of some words, how many of them give a pair, if none meets a word that is no quantile, the
+/// words that are left, and the pairs, of which the first was there before.
+type Reads = (
+    usize,
+    &'static [u8],
+    Option<usize>,
+    &'static [u8],
+    &'static [(usize, u8)],
+);
+
+const READS: [Reads; 5] = [
+    (0, &[2, 63], Some(0), &[2, 63], &[(2, 0)]),
+    (1, &[2, 63], Some(1), &[2], &[(2, 0), (3, 41)]),
+    (2, &[2, 63], Some(2), &[], &[(2, 0), (3, 41), (0, 2)]),
+    (5, &[2, 63], Some(2), &[], &[(2, 0), (3, 41), (0, 2)]),
+    (3, &[2, 64, 63], None, &[2], &[(2, 0), (3, 41)]),
+];
+
+/// So many reads of the words give the answer, and leave these words and these pairs.
+fn are_read(rt: &impl Abort, alloc: Global, model: &Table<6>, case: &Reads) {
+    let (count, words, given, left, pairs) = *case;
     let mut words = vec_of(rt, alloc, words);
     let mut out = [(2, 0)].to_vec(alloc).expect(rt, "memory");
-    same_at(rt, count, read(model, &mut words, count, &mut out), answer);
+    let answer = read(model, &mut words, count, &mut out);
+    let no_quantile = CoderError::Frontend(ReadFault::QuantileTooLarge);
+    same_at(rt, count, answer, given.ok_or(no_quantile));
     holds_at(rt, count, &words, left);
     holds_at(rt, count, &out, pairs);
 }
 
-/// How many reads there are of 2 and 63, how many of them give a pair, the words that are left, and the pairs.
-const READS: [(usize, usize, &[u8], &[(usize, u8)]); 4] = [
-    (0, 0, &[2, 63], &[(2, 0)]),
-    (1, 1, &[2], &[(2, 0), (3, 41)]),
-    (2, 2, &[], &[(2, 0), (3, 41), (0, 2)]),
-    (5, 2, &[], &[(2, 0), (3, 41), (0, 2)]),
-];
-
 #[test]
 fn words_are_read_up_to_the_count_or_to_one_that_is_no_quantile(rt: HostRuntime) {
     let model = small(&rt, rt.alloc());
-    for each in &READS {
-        let (count, read, left, pairs) = *each;
-        are_read(
-            &rt,
-            rt.alloc(),
-            &model,
-            (count, &[2, 63]),
-            (Ok(read), left, pairs),
-        );
+    for case in &READS {
+        are_read(&rt, rt.alloc(), &model, case);
     }
-    let refused = Err(CoderError::Frontend(ReadFault::QuantileTooLarge));
-    let left = (refused, [2].as_slice(), [(2, 0), (3, 41)].as_slice());
-    are_read(&rt, rt.alloc(), &model, (3, &[2, 64, 63]), left);
 }
 
 #[test]

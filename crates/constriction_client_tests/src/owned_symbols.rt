@@ -170,13 +170,26 @@ fn models_of_texts_are_looked_up(rt: HostRuntime) {
     is_looking_up(&rt, model.to_lookup_decoder_model(alloc));
 }
 
+/// Whether a step is from the back, and the row that it gives.
+const STEPS: [(bool, (&str, u8, u8)); 3] = [
+    (false, ("a", 0, 3)),
+    (true, ("", 21, 43)),
+    (true, ("be", 3, 18)),
+];
+
 #[test]
 fn a_table_of_texts_is_walked_from_both_ends(rt: HostRuntime) {
     let model = decoder(&rt, rt.alloc());
     let mut table = model.symbol_table();
-    is_row(&rt, table.next().expect(&rt, "a row"), ("a", 0, 3));
-    is_row(&rt, table.next_back().expect(&rt, "a row"), ("", 21, 43));
-    is_row(&rt, table.next_back().expect(&rt, "a row"), ("be", 3, 18));
+    for each in &STEPS {
+        let (from_the_back, row) = *each;
+        let step = if from_the_back {
+            table.next_back()
+        } else {
+            table.next()
+        };
+        is_row(&rt, step.expect(&rt, "a row"), row);
+    }
     same(&rt, table.next().is_none(), true);
 }
 

@@ -3,21 +3,21 @@
 //! A proof of `assert_eq!` costs much and a call of these costs nothing, so tests call these.
 
 use std::alloc::{AllocError, Global};
-use std::fmt::{Debug, Display};
+use std::fmt::Debug;
 use std::process::Abort;
 
 /// Stops the test where the two differ, and shows both.
 pub fn same<T: PartialEq + Debug + Drop>(rt: &impl Abort, found: T, expected: T) {
-    same_at(rt, "found, beside expected", found, expected);
+    assert_eq!(rt; found, expected);
 }
 
 /// The same of one case among several, whose name is shown too.
 pub fn same_at<Name, T>(rt: &impl Abort, name: Name, found: T, expected: T)
 where
-    Name: Display + Drop,
+    Name: Copy + PartialEq + Debug,
     T: PartialEq + Debug + Drop,
 {
-    assert_eq!(rt; found, expected, "{name}");
+    same(rt, (name, found), (name, expected));
 }
 
 /// Stops the test where the text that shows the value to a programmer has no such part.

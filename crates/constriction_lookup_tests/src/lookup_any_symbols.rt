@@ -4,7 +4,7 @@ ghost use Rattle.std.specs.Prelude.{◌<◌, ◌≤◌};
 
 use crate::checks::{same, same_at, shows};
 use crate::lookup_contiguous;
-use crate::model_checks::{has_letters, has_weights, walks};
+use crate::model_checks::{decodes, walks_rows};
 use crate::slot_bits::looked;
 use constriction::laws::non_contiguous_lookup_symbols_differ;
 use constriction::stream::model::{
@@ -12,9 +12,8 @@ use constriction::stream::model::{
     NonContiguousLookupDecoderModel, UniformModel,
 };
 use constriction_fixtures::any_symbols::{
-    FULL_REFUSED, REFUSED, ROWS, Row, STEPS, SYMBOLS, WEIGHTS, decoder,
+    FULL_REFUSED, REFUSED, ROWS, Row, SYMBOLS, WEIGHTS, decoder,
 };
-use constriction_fixtures::contiguous::table;
 use constriction_fixtures::lookup_any_symbols::{Lookup, looked_up, lookup};
 use constriction_fixtures::own_model::three;
 use std::alloc::Global;
@@ -29,7 +28,8 @@ pub fn has_rows<const PRECISION: usize>(
     requires positive { 0 < PRECISION }
     requires fits { PRECISION ≤ 8 }
 {
-    has_letters::<_, PRECISION>(rt, model, rows);
+    decodes::<_, PRECISION>(rt, model, rows);
+    walks_rows(rt, model.symbol_table(), rows);
 }
 
 /// Stops the test where no model was made, or it has not these rows.
@@ -90,7 +90,8 @@ type View<'m> = NonContiguousLookupDecoderModel<char, u8, &'m [(u8, char)], &'m 
 
 /// Stops the test where the view has not the rows of the worked table.
 fn view_has_rows(rt: &impl Abort, view: &View<'_>) {
-    has_letters::<_, 6>(rt, view, &ROWS);
+    decodes::<_, 6>(rt, view, &ROWS);
+    walks_rows(rt, view.symbol_table(), &ROWS);
 }
 
 /// Stops the test where the view of a model that searches has not the rows of the worked table.
@@ -98,7 +99,8 @@ pub fn searching_has_rows(
     rt: &impl Abort,
     view: &NonContiguousCategoricalDecoderModel<char, u8, &[(u8, char)], 6>,
 ) {
-    has_letters::<_, 6>(rt, view, &ROWS);
+    decodes::<_, 6>(rt, view, &ROWS);
+    walks_rows(rt, view.symbol_table(), &ROWS);
 }
 
 #[test]
@@ -121,14 +123,11 @@ const ANSWERS: [(u8, Row, usize); 3] = [
     (63, ('y', 22, 42), 3),
 ];
 
-/// The walk gives each letter once, from both ends. A slot holds one quantile, so that one letter meets it.
+/// A slot holds one quantile, so that one letter meets it.
 #[test]
-fn a_model_of_letters_is_walked_and_no_slot_is_searched(rt: HostRuntime) {
+fn no_slot_of_a_model_of_letters_is_searched(rt: HostRuntime) {
     let model = small(&rt, rt.alloc());
     same(&rt, model.symbol_table().len(), 4);
-    for steps in &STEPS {
-        walks(&rt, model.symbol_table(), steps);
-    }
     for each in &ANSWERS {
         let (quantile, row, index) = *each;
         assert!(rt; quantile < 64);
@@ -138,34 +137,50 @@ fn a_model_of_letters_is_walked_and_no_slot_is_searched(rt: HostRuntime) {
     non_contiguous_lookup_symbols_differ::<char, u8, Vec<(u8, char)>, Vec<u8>, 6>();
 }
 
-/// Stops the test where no model was made, or it has not the rows of these weights.
-fn is_of_weights(rt: &impl Abort, made: Result<Lookup<usize, 6>, ModelError>, weights: &[u8]) {
-    has_weights::<_, 6>(rt, &made.expect(rt, "a model"), weights);
+/// A row of a model of numbers, as tests write it down.
+type Numbered = (usize, u8, u8);
+
+/// Stops the test where no model was made, or it has not these rows.
+fn is_of_numbers(rt: &impl Abort, made: Result<Lookup<usize, 6>, ModelError>, rows: &[Numbered]) {
+    let model = made.expect(rt, "a model");
+    decodes::<_, 6>(rt, &model, rows);
+    walks_rows(rt, model.symbol_table(), rows);
 }
 
-/// Stops the test where no lookup model is made of a model, by the function or by the method, or it has not the rows of
-/// these weights.
-fn gives_weights<M>(rt: &impl Abort, alloc: Global, source: M, weights: &[u8])
+/// Stops the test where no lookup model is made of a model, by the function or by the method, or it has not these rows.
+fn gives_numbers<M>(rt: &impl Abort, alloc: Global, source: M, rows: &[Numbered])
 where
     M: IterableEntropyModel<6, Symbol = usize, Probability = u8> + Copy,
 {
     let (by_function, by_method) = looked_up::<M, 6>(alloc, source);
-    is_of_weights(rt, by_function, weights);
-    is_of_weights(rt, by_method, weights);
+    is_of_numbers(rt, by_function, rows);
+    is_of_numbers(rt, by_method, rows);
 }
 
-#[test]
-fn a_lookup_model_is_made_of_a_model_of_numbers_and_of_a_uniform_one(rt: HostRuntime) {
-    let model = table::<6>(rt.alloc(), &WEIGHTS, false).expect(&rt, "accepted");
-    gives_weights(&rt, rt.alloc(), &model, &WEIGHTS);
-    let uniform = UniformModel::<u8, 6>::new(5);
-    gives_weights(&rt, rt.alloc(), uniform, &[12, 12, 12, 12, 16]);
-}
+/// The rows of the weights 3, 18, 1 and 42, and those of the uniform model of five symbols.
+const OF_WEIGHTS: [Numbered; 4] = [(0, 0, 3), (1, 3, 18), (2, 21, 1), (3, 22, 42)];
 
+const OF_FIVE: [Numbered; 5] = [
+    (0, 0, 12),
+    (1, 12, 12),
+    (2, 24, 12),
+    (3, 36, 12),
+    (4, 48, 16),
+];
+
+/// Of a view of a model that searches, of a lookup model and of a uniform one.
 #[test]
-fn a_lookup_model_of_numbers_is_made_of_a_contiguous_one(rt: HostRuntime) {
+fn a_lookup_model_is_made_of_each_model_of_numbers(rt: HostRuntime) {
     let model = lookup_contiguous::small(&rt, rt.alloc());
-    gives_weights(&rt, rt.alloc(), &model, &WEIGHTS);
+    gives_numbers(
+        &rt,
+        rt.alloc(),
+        &model.as_contiguous_categorical(),
+        &OF_WEIGHTS,
+    );
+    gives_numbers(&rt, rt.alloc(), &model, &OF_WEIGHTS);
+    let uniform = UniformModel::<u8, 6>::new(5);
+    gives_numbers(&rt, rt.alloc(), uniform, &OF_FIVE);
 }
 
 /// The same of letters.
@@ -184,17 +199,14 @@ where
 fn a_lookup_model_of_letters_is_made_of_a_searching_one(rt: HostRuntime) {
     let model = decoder::<6>(rt.alloc(), &SYMBOLS, &WEIGHTS, false).expect(&rt, "accepted");
     is_of_letters(&rt, model.to_lookup_decoder_model(rt.alloc()), &ROWS);
-    is_of_letters(
-        &rt,
-        model.as_view().to_lookup_decoder_model(rt.alloc()),
-        &ROWS,
-    );
     gives_letters::<_, 6>(&rt, rt.alloc(), &model, &ROWS);
 }
 
 #[test]
-fn a_lookup_model_of_letters_is_made_of_another_and_of_a_view(rt: HostRuntime) {
+fn a_lookup_model_of_letters_is_made_of_another_and_of_its_views(rt: HostRuntime) {
     let model = small(&rt, rt.alloc());
+    let searching = model.as_non_contiguous_categorical();
+    is_of_letters(&rt, searching.to_lookup_decoder_model(rt.alloc()), &ROWS);
     gives_letters::<_, 6>(&rt, rt.alloc(), &model, &ROWS);
     gives_letters::<_, 6>(&rt, rt.alloc(), &model.as_view(), &ROWS);
 }

@@ -3,13 +3,13 @@
 ghost use Rattle.std.specs.Prelude.{◌<◌, ◌≤◌};
 
 use crate::checks::{same, same_at};
-use crate::model_checks::has_weights;
+use crate::model_checks::{has_weights, walks_weights};
 use constriction::stream::model::{
     ContiguousCategoricalEntropyModel, ContiguousLookupDecoderModel, IterableEntropyModel,
     ModelError,
 };
 use constriction_fixtures::contiguous::{FULL_TABLES, TABLES, WEIGHTS, table};
-use constriction_fixtures::tables::{STEPS, Walk, entry, left, step};
+use constriction_fixtures::tables::entry;
 use std::alloc::Global;
 use std::fmt::Debug;
 use std::process::Abort;
@@ -66,6 +66,7 @@ pub fn has_rows<const PRECISION: usize>(rt: &impl Abort, model: &Lookup<PRECISIO
     requires fits { PRECISION ≤ 8 }
 {
     has_weights::<_, PRECISION>(rt, model, weights);
+    walks_weights(rt, model.symbol_table(), weights);
 }
 
 /// Stops the test where the lookup model of the given weights has other rows than those of all weights.
@@ -139,15 +140,11 @@ type View<'m> = ContiguousLookupDecoderModel<u8, &'m [u8], &'m [u8], 6>;
 /// Stops the test where the view has other rows than the worked table.
 fn view_has_rows(rt: &impl Abort, view: &View<'_>) {
     has_weights::<_, 6>(rt, view, &WEIGHTS);
+    walks_weights(rt, view.symbol_table(), &WEIGHTS);
 }
 
 /// A view of a model that searches.
 type SearchingView<'m> = ContiguousCategoricalEntropyModel<u8, &'m [u8], 6>;
-
-/// Stops the test where the view of a model that searches has other rows than the worked table.
-pub fn searching_has_rows(rt: &impl Abort, view: &SearchingView<'_>) {
-    has_weights::<_, 6>(rt, view, &WEIGHTS);
-}
 
 /// Symbols, and what a model of the worked table answers for them.
 const ENTRIES: [(usize, Option<(usize, u8, u8)>); 5] = [
@@ -159,8 +156,9 @@ const ENTRIES: [(usize, Option<(usize, u8, u8)>); 5] = [
 ];
 
 /// Stops the test where the view of a model that searches has not the rows of the worked table, or has other entries.
-fn is_searching(rt: &impl Abort, view: &SearchingView<'_>) {
-    searching_has_rows(rt, view);
+pub fn is_searching(rt: &impl Abort, view: &SearchingView<'_>) {
+    has_weights::<_, 6>(rt, view, &WEIGHTS);
+    walks_weights(rt, view.symbol_table(), &WEIGHTS);
     for each in &ENTRIES {
         let (symbol, row) = *each;
         same_at(rt, symbol, entry::<_, 6>(view, symbol), row);
@@ -176,15 +174,4 @@ fn a_lookup_model_is_cloned_and_viewed_and_gives_the_searching_one_of_its_rows(r
     let searching = model.into_contiguous_categorical();
     is_searching(&rt, &searching.as_view());
     same(&rt, searching.support_size(), 4);
-}
-
-#[test]
-fn both_ends_of_a_lookup_model_give_each_row_once(rt: HostRuntime) {
-    let model = small(&rt, rt.alloc());
-    let mut table: Walk = model.symbol_table();
-    for each in &STEPS {
-        let (from_the_back, rows, expected) = *each;
-        same(&rt, left(&table), (rows, (rows, Some(rows))));
-        same_at(&rt, rows, step(&mut table, from_the_back), expected);
-    }
 }

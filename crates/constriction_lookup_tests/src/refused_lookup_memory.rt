@@ -18,25 +18,25 @@ type Contiguous = lookup_contiguous::Lookup<6>;
 type Letters = Lookup<char, 6>;
 
 /// Stops the test where the answer is neither a model of the rows nor a refusal of memory.
-fn is_contiguous(rt: &impl Abort, made: &Result<Contiguous, ModelError>) {
+fn is_contiguous(rt: &impl Abort, made: Result<Contiguous, ModelError>) {
     match made {
-        Ok(model) => lookup_contiguous::has_rows(rt, model, &WEIGHTS),
-        Err(error) => same(rt, error, &ModelError::OutOfMemory),
+        Ok(model) => lookup_contiguous::has_rows(rt, &model, &WEIGHTS),
+        Err(error) => same(rt, error, ModelError::OutOfMemory),
     }
 }
 
 /// The same of these letters.
 fn is_of_letters<const PRECISION: usize>(
     rt: &impl Abort,
-    made: &Result<Lookup<char, PRECISION>, ModelError>,
+    made: Result<Lookup<char, PRECISION>, ModelError>,
     rows: &[Row],
 )
     requires positive { 0 < PRECISION }
     requires fits { PRECISION ≤ 8 }
 {
     match made {
-        Ok(model) => lookup_any_symbols::has_rows(rt, model, rows),
-        Err(error) => same(rt, error, &ModelError::OutOfMemory),
+        Ok(model) => lookup_any_symbols::has_rows(rt, &model, rows),
+        Err(error) => same(rt, error, ModelError::OutOfMemory),
     }
 }
 
@@ -45,13 +45,12 @@ fn is_of_letters<const PRECISION: usize>(
 fn a_refusal_of_memory_leaves_no_contiguous_model(rt: HostRuntime) {
     let weights = WEIGHTS.iter().copied().filter(|weight| *weight > 0);
     let made = Contiguous::from_nonzero_fixed_point_probabilities(rt.alloc(), weights, false);
-    is_contiguous(&rt, &made);
     if let Ok(model) = &made {
         if let Ok(clone) = model.clone() {
             lookup_contiguous::has_rows(&rt, &clone, &WEIGHTS);
         }
-        lookup_contiguous::has_rows(&rt, model, &WEIGHTS);
     }
+    is_contiguous(&rt, made);
     end_of_requests(&rt);
 }
 
@@ -64,13 +63,12 @@ fn a_refusal_of_memory_leaves_no_model_of_letters(rt: HostRuntime) {
         WEIGHTS,
         false,
     );
-    is_of_letters(&rt, &made, &ROWS);
     if let Ok(model) = &made {
         if let Ok(clone) = model.clone() {
             lookup_any_symbols::has_rows(&rt, &clone, &ROWS);
         }
-        lookup_any_symbols::has_rows(&rt, model, &ROWS);
     }
+    is_of_letters(&rt, made, &ROWS);
     end_of_requests(&rt);
 }
 
@@ -78,8 +76,8 @@ fn a_refusal_of_memory_leaves_no_model_of_letters(rt: HostRuntime) {
 fn a_refusal_of_memory_leaves_the_searching_model(rt: HostRuntime) {
     if let Ok(model) = table::<6>(rt.alloc(), &WEIGHTS, false) {
         let made = model.to_lookup_decoder_model(rt.alloc());
-        is_contiguous(&rt, &made);
-        lookup_contiguous::searching_has_rows(&rt, &model.as_view());
+        is_contiguous(&rt, made);
+        lookup_contiguous::is_searching(&rt, &model.as_view());
     }
     end_of_requests(&rt);
 }
@@ -88,10 +86,10 @@ fn a_refusal_of_memory_leaves_the_searching_model(rt: HostRuntime) {
 fn a_refusal_of_memory_leaves_the_searching_model_of_letters(rt: HostRuntime) {
     if let Ok(model) = decoder::<6>(rt.alloc(), &SYMBOLS, &WEIGHTS, false) {
         let made = model.to_lookup_decoder_model(rt.alloc());
-        is_of_letters(&rt, &made, &ROWS);
+        is_of_letters(&rt, made, &ROWS);
         let (by_function, by_method) = looked_up::<_, 6>(rt.alloc(), &model);
-        is_of_letters(&rt, &by_function, &ROWS);
-        is_of_letters(&rt, &by_method, &ROWS);
+        is_of_letters(&rt, by_function, &ROWS);
+        is_of_letters(&rt, by_method, &ROWS);
         lookup_any_symbols::searching_has_rows(&rt, &model.as_view());
     }
     end_of_requests(&rt);
@@ -101,7 +99,7 @@ fn a_refusal_of_memory_leaves_the_searching_model_of_letters(rt: HostRuntime) {
 #[test]
 fn a_refusal_of_memory_leaves_a_model_of_the_caller(rt: HostRuntime) {
     let (by_function, by_method) = looked_up::<_, 3>(rt.alloc(), &three('p', 'q', 'r'));
-    is_of_letters(&rt, &by_function, &THREE);
-    is_of_letters(&rt, &by_method, &THREE);
+    is_of_letters(&rt, by_function, &THREE);
+    is_of_letters(&rt, by_method, &THREE);
     end_of_requests(&rt);
 }

@@ -235,11 +235,10 @@ fn models_of_letters_are_made_of_each_source(rt: HostRuntime) {
 #[test]
 fn a_direct_model_of_letters_is_cloned_and_viewed(rt: HostRuntime) {
     let model = five_letters::<12>(rt.alloc()).expect(&rt, "accepted");
-    let clone = model.clone().expect(&rt, "a clone");
+    has_five_letters::<12>(&rt, Ok(model.clone().expect(&rt, "a clone")), 1, 1);
     same(&rt, model.as_view().symbol_table().len(), 5);
     let lent = model.as_view().into_non_contiguous_categorical();
     same(&rt, lent.support_size(), 5);
-    has_five_letters::<12>(&rt, Ok(clone), 1, 1);
     slotted_non_contiguous_lookup_symbols_differ::<char, u16, Vec<(u16, char)>, Vec<u16>, 12, 12>();
 }
 

@@ -13,7 +13,7 @@ use constriction_fixtures::tables;
 use constriction_fixtures::widths::model_of;
 use constriction_words::IndexWord;
 use std::alloc::Global;
-use std::fmt::{Debug, Display};
+use std::fmt::Debug;
 use std::iter;
 use std::process::Abort;
 
@@ -85,7 +85,7 @@ fn finds<Word, const PRECISION: usize, const SLOT_BITS: usize>(
     cases: &[Case<Word>],
 )
 where
-    Word: IndexWord + PartialEq + Debug + Display + Drop,
+    Word: IndexWord + PartialEq + Debug,
     requires positive { 0 < PRECISION }
     requires narrow { PRECISION ≤ 63 }
     requires fits { PRECISION ≤ Word.BITS }

@@ -1,33 +1,59 @@
 //! The names that stand for models over some words at some precision.
 
 use constriction::stream::model::{
+    ContiguousCategoricalEntropyModel, ContiguousLookupDecoderModel,
     DefaultContiguousCategoricalEntropyModel, DefaultNonContiguousCategoricalDecoderModel,
-    DefaultNonContiguousCategoricalEncoderModel, DefaultUniformModel, EntropyModel,
-    SmallContiguousCategoricalEntropyModel, SmallContiguousDirectLookupDecoderModel,
-    SmallContiguousLookupDecoderModel, SmallNonContiguousCategoricalDecoderModel,
-    SmallNonContiguousCategoricalEncoderModel, SmallNonContiguousDirectLookupDecoderModel,
-    SmallNonContiguousLookupDecoderModel, SmallUniformModel,
+    DefaultNonContiguousCategoricalEncoderModel, DefaultUniformModel,
+    NonContiguousCategoricalDecoderModel, NonContiguousCategoricalEncoderModel,
+    NonContiguousLookupDecoderModel, SlottedContiguousLookupDecoderModel,
+    SlottedNonContiguousLookupDecoderModel, SmallContiguousCategoricalEntropyModel,
+    SmallContiguousDirectLookupDecoderModel, SmallContiguousLookupDecoderModel,
+    SmallNonContiguousCategoricalDecoderModel, SmallNonContiguousCategoricalEncoderModel,
+    SmallNonContiguousDirectLookupDecoderModel, SmallNonContiguousLookupDecoderModel,
+    SmallUniformModel, UniformModel,
 };
 
-/// A model over 24 bits of `u32`, and no other: the test is not built where a name stands for another.
-fn is_default<M: EntropyModel<24, Probability = u32>>() {}
+/// The entries of a model of letters over 24 bits, and over 12.
+type Default = Vec<(u32, char)>;
 
-/// The same of 12 bits of `u16`.
-fn is_small<M: EntropyModel<12, Probability = u16>>() {}
+type Small = Vec<(u16, char)>;
 
+/// The test is not built where a name stands for another type than the one that is written beside it.
 #[test]
 fn names_are_over_their_words_at_their_precision() {
-    is_default::<DefaultContiguousCategoricalEntropyModel>();
-    is_default::<DefaultContiguousCategoricalEntropyModel<&[u32]>>();
-    is_default::<DefaultNonContiguousCategoricalDecoderModel<char>>();
-    is_default::<DefaultNonContiguousCategoricalEncoderModel<char>>();
-    is_default::<DefaultUniformModel>();
-    is_small::<SmallContiguousCategoricalEntropyModel>();
-    is_small::<SmallNonContiguousCategoricalDecoderModel<char>>();
-    is_small::<SmallNonContiguousCategoricalEncoderModel<char>>();
-    is_small::<SmallContiguousLookupDecoderModel>();
-    is_small::<SmallNonContiguousLookupDecoderModel<char>>();
-    is_small::<SmallContiguousDirectLookupDecoderModel>();
-    is_small::<SmallNonContiguousDirectLookupDecoderModel<char>>();
-    is_small::<SmallUniformModel>();
+    let _: Option<&DefaultContiguousCategoricalEntropyModel> = None::<
+        &ContiguousCategoricalEntropyModel<u32, Vec<u32>, 24>,
+    >;
+    let _: Option<&DefaultContiguousCategoricalEntropyModel<&[u32]>> = None::<
+        &ContiguousCategoricalEntropyModel<u32, &[u32], 24>,
+    >;
+    let _: Option<&DefaultNonContiguousCategoricalDecoderModel<char>> = None::<
+        &NonContiguousCategoricalDecoderModel<char, u32, Default, 24>,
+    >;
+    let _: Option<&DefaultNonContiguousCategoricalEncoderModel<char>> = None::<
+        &NonContiguousCategoricalEncoderModel<char, u32, 24>,
+    >;
+    let _: Option<&DefaultUniformModel> = None::<&UniformModel<u32, 24>>;
+    let _: Option<&SmallContiguousCategoricalEntropyModel> = None::<
+        &ContiguousCategoricalEntropyModel<u16, Vec<u16>, 12>,
+    >;
+    let _: Option<&SmallNonContiguousCategoricalDecoderModel<char>> = None::<
+        &NonContiguousCategoricalDecoderModel<char, u16, Small, 12>,
+    >;
+    let _: Option<&SmallNonContiguousCategoricalEncoderModel<char>> = None::<
+        &NonContiguousCategoricalEncoderModel<char, u16, 12>,
+    >;
+    let _: Option<&SmallContiguousLookupDecoderModel> = None::<
+        &ContiguousLookupDecoderModel<u16, Vec<u16>, Vec<u16>, 12>,
+    >;
+    let _: Option<&SmallNonContiguousLookupDecoderModel<char>> = None::<
+        &NonContiguousLookupDecoderModel<char, u16, Small, Vec<u16>, 12>,
+    >;
+    let _: Option<&SmallContiguousDirectLookupDecoderModel> = None::<
+        &SlottedContiguousLookupDecoderModel<u16, Vec<u16>, Vec<u16>, 12, 12>,
+    >;
+    let _: Option<&SmallNonContiguousDirectLookupDecoderModel<char>> = None::<
+        &SlottedNonContiguousLookupDecoderModel<char, u16, Small, Vec<u16>, 12, 12>,
+    >;
+    let _: Option<&SmallUniformModel> = None::<&UniformModel<u16, 12>>;
 }

@@ -58,16 +58,26 @@ fn finds<const PRECISION: usize>(
 
 #[test]
 fn a_search_of_1_4_and_256_rows_asks_at_most_0_2_and_8_questions(rt: HostRuntime) {
-    let one = made::<6>(&rt, rt.alloc(), &[64], false);
-    finds(&rt, &one, 63, (0, 0, 64), (1, 0));
+    finds::<6>(
+        &rt,
+        &made(&rt, rt.alloc(), &[64], false),
+        63,
+        (0, 0, 64),
+        (1, 0),
+    );
     let four = small(&rt, rt.alloc());
     for each in &ROWS {
         let (quantile, expected) = *each;
         assert!(rt; quantile < 64);
         finds(&rt, &four, quantile, expected, (4, 2));
     }
-    let many = made::<8>(&rt, rt.alloc(), &[1; 256], false);
-    finds(&rt, &many, 200, (200, 200, 1), (256, 8));
+    finds::<8>(
+        &rt,
+        &made(&rt, rt.alloc(), &[1; 256], false),
+        200,
+        (200, 200, 1),
+        (256, 8),
+    );
 }
 
 fn are_accepted<const PRECISION: usize>(

@@ -11,11 +11,10 @@ use constriction::stream::model::{
     to_generic_encoder_model,
 };
 use constriction_fixtures::any_symbols;
-use constriction_fixtures::any_symbols::{ROWS, SYMBOLS, WEIGHTS};
+use constriction_fixtures::any_symbols::{ROWS, SYMBOLS, WEIGHTS, plain};
 use constriction_fixtures::contiguous::{row_by_scan, table};
 use constriction_fixtures::conversions::Decoder;
 use constriction_fixtures::tables::{entry, look_up};
-use constriction_words::NonZeroBitArray;
 use std::alloc::Global;
 use std::hash::Hash;
 use std::process::Abort;
@@ -118,20 +117,18 @@ fn have_rows(rt: &impl Abort, made: Made<char, 6>) {
     encodes(rt, &made.1.expect(rt, "a model"), &ROWS);
 }
 
-/// The letters and the weights of a model, as its table gives them. It stops the test where memory is refused.
-fn columns(
-    rt: &impl Abort,
-    alloc: Global,
-    model: &any_symbols::Decoder<6>,
-) -> (Vec<char>, Vec<u8>) {
-    let mut symbols = Vec::new(alloc);
-    let mut weights = Vec::new(alloc);
+/// The letters and the weights of a model of four, as its table gives them.
+fn columns(rt: &impl Abort, model: &any_symbols::Decoder<6>) -> ([char; 4], [u8; 4]) {
+    let mut columns = ([' '; 4], [0u8; 4]);
+    let mut at = 0usize;
     for item in model.symbol_table() {
-        let (symbol, _, weight) = item.expect(rt, "a row");
-        symbols.push(symbol).expect(rt, "memory");
-        weights.push(weight.get()).expect(rt, "memory");
+        let (symbol, _, weight) = plain(item).expect(rt, "a row");
+        assert!(rt; at < 4);
+        columns.0[at] = symbol;
+        columns.1[at] = weight;
+        at += 1;
     }
-    (symbols, weights)
+    columns
 }
 
 #[test]
@@ -141,7 +138,7 @@ fn models_that_are_made_from_a_decoder_or_its_columns_answer_as_it_does(rt: Host
     let (by_function, by_method) = made::<_, 6>(rt.alloc(), &model);
     have_rows(&rt, by_function);
     have_rows(&rt, by_method);
-    let (symbols, weights) = columns(&rt, rt.alloc(), &model);
+    let (symbols, weights) = columns(&rt, &model);
     let decoder = any_symbols::decoder::<6>(rt.alloc(), &symbols, &weights, false);
     let encoder = any_symbols::encoder::<6>(rt.alloc(), &symbols, &weights, false);
     have_rows(&rt, (decoder, encoder));

@@ -59,23 +59,21 @@ const IN_ORDER: [char; 4] = ['a', 'c', 'x', 'y'];
 
 const ROWS_IN_ORDER: [Row; 4] = [('a', 0, 3), ('c', 3, 18), ('x', 21, 1), ('y', 22, 42)];
 
-/// Whether letters are in order and not hashed, the letters, their weights, whether the last one is inferred, and the
-/// rows.
-const ACCEPTED: [(bool, &[char], &[u8], bool, &[Row]); 5] = [
-    (false, &SYMBOLS, &WEIGHTS, false, &ROWS),
-    (false, &SYMBOLS, &[3, 18, 1], true, &ROWS),
-    (true, &IN_ORDER, &WEIGHTS, false, &ROWS_IN_ORDER),
-    (true, &IN_ORDER, &[3, 18, 1], true, &ROWS_IN_ORDER),
-    (true, &['a'], &[64], false, &[('a', 0, 64)]),
-];
+/// Stops the test where no model of these letters was made, or it has not these rows.
+fn has_letters(rt: &impl Abort, made: Result<Decoder<6>, ModelError>, rows: &[Row]) {
+    decodes_letters(rt, &made.expect(rt, "a model"), rows);
+}
 
 #[test]
 fn letters_are_told_apart_by_their_hashes_or_their_order(rt: HostRuntime) {
-    for each in &ACCEPTED {
-        let (in_order, symbols, weights, infer, rows) = *each;
-        let model = letters(rt.alloc(), in_order, symbols, weights, infer).expect(&rt, "a model");
-        decodes_letters(&rt, &model, rows);
+    for (weights, infer) in [(WEIGHTS.as_slice(), false), (&[3, 18, 1], true)] {
+        let hashed = letters(rt.alloc(), false, &SYMBOLS, weights, infer);
+        has_letters(&rt, hashed, &ROWS);
+        let sorted = letters(rt.alloc(), true, &IN_ORDER, weights, infer);
+        has_letters(&rt, sorted, &ROWS_IN_ORDER);
     }
+    let one = letters(rt.alloc(), true, &['a'], &[64], false);
+    has_letters(&rt, one, &[('a', 0, 64)]);
 }
 
 /// What is wrong, whether letters are in order and not hashed, the letters, and their weights.
@@ -143,22 +141,20 @@ fn an_enum_is_hashed_and_ordered(rt: HostRuntime) {
     has_moves(&rt, sorted);
 }
 
-/// Texts, each in memory of its own. It stops the test where memory is refused.
-fn owned(rt: &impl Abort, alloc: Global, texts: &[&str]) -> Vec<String> {
-    let mut made = Vec::new(alloc);
-    for text in texts {
-        let text = String::from_str(alloc, text).expect(rt, "memory");
-        made.push(text).expect(rt, "memory");
-    }
-    made
+/// A text in memory of its own. It stops the test where memory is refused.
+fn owned(rt: &impl Abort, alloc: Global, text: &str) -> String {
+    String::from_str(alloc, text).expect(rt, "memory")
 }
 
-/// Stops the test where the quantile has not this text.
-fn has_text(rt: &impl Abort, model: &Texts, quantile: u8, text: &str)
-    requires { quantile < 64 }
-{
-    let (found, _left, _weight) = model.quantile_function(quantile).expect(rt, "memory");
-    same_at(rt, quantile, found.as_str(), text);
+/// Stops the test where no model was made, or one of the quantiles has not the text beside it.
+fn has_texts(rt: &impl Abort, made: Result<Texts, ModelError>, texts: &[(u8, &str)]) {
+    let model = made.expect(rt, "a model");
+    for each in texts {
+        let (quantile, text) = *each;
+        assert!(rt; quantile < 64);
+        let (found, _left, _weight) = model.quantile_function(quantile).expect(rt, "memory");
+        same_at(rt, quantile, found.as_str(), text);
+    }
 }
 
 /// The model of three texts in order, or by one hash of each.
@@ -166,9 +162,13 @@ fn texts(
     rt: &impl Abort,
     alloc: Global,
     in_order: bool,
-    texts: &[&str],
+    [first, second, third]: [&str; 3],
 ) -> Result<Texts, ModelError> {
-    let texts = owned(rt, alloc, texts);
+    let texts = [
+        owned(rt, alloc, first),
+        owned(rt, alloc, second),
+        owned(rt, alloc, third),
+    ];
     let weights = [3, 18, 43];
     if in_order {
         Texts::from_sorted_symbols_and_nonzero_fixed_point_probabilities(
@@ -183,14 +183,12 @@ fn texts(
 
 #[test]
 fn texts_are_hashed_and_ordered(rt: HostRuntime) {
-    let hashed = texts(&rt, rt.alloc(), false, &["b", "", "ab"]).expect(&rt, "a model");
-    has_text(&rt, &hashed, 2, "b");
-    has_text(&rt, &hashed, 21, "ab");
-    let repeat = texts(&rt, rt.alloc(), false, &["b", "", "b"]).err();
+    let hashed = texts(&rt, rt.alloc(), false, ["b", "", "ab"]);
+    has_texts(&rt, hashed, &[(2, "b"), (21, "ab")]);
+    let repeat = texts(&rt, rt.alloc(), false, ["b", "", "b"]).err();
     same(&rt, repeat, Some(ModelError::InvalidTable));
-    let sorted = texts(&rt, rt.alloc(), true, &["", "ab", "b"]).expect(&rt, "a model");
-    has_text(&rt, &sorted, 3, "ab");
-    has_text(&rt, &sorted, 63, "b");
+    let sorted = texts(&rt, rt.alloc(), true, ["", "ab", "b"]);
+    has_texts(&rt, sorted, &[(3, "ab"), (63, "b")]);
 }
 
 /// The model of four numbers of which the caller knows that they differ.
@@ -260,8 +258,7 @@ fn models_whose_symbols_differ_are_converted_without_comparing(rt: HostRuntime) 
     let looks_up = of_contiguous(rt.alloc(), &small(&rt, rt.alloc()));
     looks_up_numbers(&rt, looks_up, &INDICES);
     let model = letters(rt.alloc(), false, &SYMBOLS, &WEIGHTS, false).expect(&rt, "a model");
-    let made = again(rt.alloc(), &model).expect(&rt, "a model");
-    decodes_letters(&rt, &made, &ROWS);
+    has_letters(&rt, again(rt.alloc(), &model), &ROWS);
 }
 
 #[test]
@@ -273,7 +270,9 @@ fn a_refusal_of_memory_leaves_no_model_of_symbols_that_are_not_compared(rt: Host
     if let Ok(model) = hashed {
         decodes_or_is_refused(&rt, &again(rt.alloc(), &model), &ROWS);
         match model.into_lookup_decoder_model(rt.alloc()) {
-            Ok(looks_up) => decodes::<_, 6>(&rt, &looks_up, &ROWS),
+            Ok(looks_up) => {
+                decodes_letters(&rt, &looks_up.into_non_contiguous_categorical(), &ROWS)
+            }
             Err(error) => same(&rt, error, ModelError::OutOfMemory),
         }
     }

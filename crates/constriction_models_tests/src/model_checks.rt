@@ -12,7 +12,7 @@ use constriction_fixtures::contiguous::{Small, Table, WEIGHTS, row_by_scan, tabl
 use constriction_fixtures::tables::{look_up, row};
 use constriction_words::WholeNumber;
 use std::alloc::Global;
-use std::fmt::{Debug, Display};
+use std::fmt::Debug;
 use std::process::Abort;
 
 /// Stops the test where the model does not answer each quantile of each of these rows with the row.
@@ -83,7 +83,7 @@ pub fn answers<M, const PRECISION: usize>(
 )
 where
     M: DecoderModel<PRECISION, Symbol = usize> + EncoderModel<PRECISION>,
-    M::Probability: PartialEq + Debug + Display,
+    M::Probability: PartialEq + Debug,
     requires positive { 0 < PRECISION }
     requires fits { PRECISION ≤ M.Probability.BITS }
 {
@@ -180,26 +180,28 @@ where
     same(rt, next.1, 1u64 << PRECISION);
 }
 
-/// Stops the test where the rows do not tile, as above, or where a row of the table is not what the
-/// model answers for its symbol, and for the first, the middle and the last quantile of it.
-pub fn tile_and_are_answered<M, const PRECISION: usize>(rt: &impl Abort, model: M)
+/// Stops the test where the rows of a model do not tile, as above, or where one of them is not what a model
+/// answers for its symbol, and for the first, the middle and the last quantile of it.
+pub fn tile_and_are_answered<Rows, M, const PRECISION: usize>(
+    rt: &impl Abort,
+    rows: Rows,
+    model: &M,
+)
 where
-    M: IterableEntropyModel<PRECISION, Symbol = usize, Probability = u8>
-        + EncoderModel<PRECISION>
-        + DecoderModel<PRECISION>
-        + Copy,
+    Rows: IterableEntropyModel<PRECISION, Symbol = usize, Probability = u8>,
+    M: EncoderModel<PRECISION, Symbol = usize, Probability = u8> + DecoderModel<PRECISION>,
     requires positive { 0 < PRECISION }
     requires fits { PRECISION ≤ 8 }
 {
     let mut next = (0usize, 0u64);
-    'rows: for item in model.symbol_table() {
+    'rows: for item in rows.symbol_table() {
         let found = plain(item).expect(rt, "a row");
         next = follows(rt, next, found);
         let (_, left, weight) = found;
         let middle = left.wrapping_add(weight / 2);
         let last = left.wrapping_add(weight.wrapping_sub(1));
         let rows = [(left, found), (middle, found), (last, found)];
-        answers::<M, PRECISION>(rt, &model, &rows, &[]);
+        answers::<M, PRECISION>(rt, model, &rows, &[]);
     }
     same(rt, next.1, 1u64 << PRECISION);
 }

@@ -99,14 +99,15 @@ fn a_refusal_of_memory_leaves_no_encoder(rt: HostRuntime) {
 /// Stops the test where an answer is neither a model of these rows nor a refusal of memory.
 fn have_rows_or_are_refused<const PRECISION: usize>(
     rt: &impl Abort,
-    made: &Made<char, PRECISION>,
+    made: Made<char, PRECISION>,
     rows: &[Row],
 )
     requires positive { 0 < PRECISION }
     requires fits { PRECISION ≤ 8 }
 {
-    decodes_or_is_refused(rt, &made.0, rows);
-    encodes_or_is_refused(rt, &made.1, rows);
+    let (decoder, encoder) = made;
+    decodes_or_is_refused(rt, &decoder, rows);
+    encodes_or_is_refused(rt, &encoder, rows);
 }
 
 #[test]
@@ -114,8 +115,8 @@ fn a_refusal_of_memory_leaves_the_model_that_others_are_made_from(rt: HostRuntim
     let source = decoder::<6>(rt.alloc(), &SYMBOLS, &WEIGHTS, false);
     if let Ok(model) = &source {
         let (by_function, by_method) = made::<_, 6>(rt.alloc(), model);
-        have_rows_or_are_refused(&rt, &by_function, &ROWS);
-        have_rows_or_are_refused(&rt, &by_method, &ROWS);
+        have_rows_or_are_refused(&rt, by_function, &ROWS);
+        have_rows_or_are_refused(&rt, by_method, &ROWS);
     }
     decodes_or_is_refused(&rt, &source, &ROWS);
     end_of_requests(&rt);
@@ -125,8 +126,8 @@ fn a_refusal_of_memory_leaves_the_model_that_others_are_made_from(rt: HostRuntim
 #[test]
 fn a_refusal_of_memory_leaves_a_model_of_the_caller(rt: HostRuntime) {
     let (by_function, by_method) = made::<_, 3>(rt.alloc(), &three('p', 'q', 'r'));
-    have_rows_or_are_refused(&rt, &by_function, &THREE);
-    have_rows_or_are_refused(&rt, &by_method, &THREE);
+    have_rows_or_are_refused(&rt, by_function, &THREE);
+    have_rows_or_are_refused(&rt, by_method, &THREE);
     end_of_requests(&rt);
 }
 

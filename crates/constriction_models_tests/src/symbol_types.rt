@@ -68,8 +68,9 @@ fn tagged(
     )
 }
 
-/// Stops the test where the model has not the tags 12 and 3 as they were given.
-fn has_tags<M: DecoderModel<6, Symbol = Tag, Probability = u8>>(rt: &impl Abort, model: &M) {
+/// Stops the test where no model was made, or it has not the tags 12 and 3 as they were given.
+fn has_tags(rt: &impl Abort, made: Result<TagDecoder, ModelError>) {
+    let model = made.expect(rt, "accepted");
     let (first, left, weight) = plain(model.quantile_function(31)).expect(rt, "a row");
     same(rt, (first.0, left, weight), (12, 0, 32));
     let (second, left, weight) = plain(model.quantile_function(32)).expect(rt, "a row");
@@ -82,8 +83,9 @@ const ENTRIES: [(u32, Option<(u8, u8)>); 3] = [(2, Some((0, 32))), (13, Some((32
 #[test]
 fn tags_are_told_by_their_own_equality(rt: HostRuntime) {
     let (decoder, encoder, looks_up) = tagged(rt.alloc(), [12, 3]);
-    has_tags(&rt, &decoder.expect(&rt, "accepted"));
-    has_tags(&rt, &looks_up.expect(&rt, "accepted"));
+    has_tags(&rt, decoder);
+    let looks_up = looks_up.expect(&rt, "accepted");
+    has_tags(&rt, Ok(looks_up.into_non_contiguous_categorical()));
     let encoder = encoder.expect(&rt, "accepted");
     for each in &ENTRIES {
         let (tag, expected) = *each;
@@ -103,11 +105,6 @@ fn tags_of_one_last_digit_are_refused(rt: HostRuntime) {
 /// Stops the test where there is an answer, or it is refused for another reason.
 fn is_refused<T: Drop>(rt: &impl Abort, made: Result<T, ModelError>, why: ModelError) {
     same(rt, made.err(), Some(why));
-}
-
-/// The lookup model of `a`, `r` and `c`, which takes the letters from the searching one and clones none.
-fn lookup_of_letters(alloc: Global) -> Result<Lookup<Letter, 6>, ModelError> {
-    letters(alloc)?.into_lookup_decoder_model(alloc)
 }
 
 /// The row of an answer, with the character of its letter.
@@ -160,16 +157,20 @@ where
     same(rt, (first, second), (Ok(('a', 0, 16)), Err(AllocError)));
 }
 
+/// The lookup model takes the letters from the searching one and clones none.
 #[test]
 fn a_refused_clone_stands_in_the_place_of_its_row(rt: HostRuntime) {
-    let searching = letters(rt.alloc()).expect(&rt, "accepted");
-    let looks_up = lookup_of_letters(rt.alloc()).expect(&rt, "accepted");
-    for steps in &STEPS {
-        walks(&rt, searching.symbol_table(), steps);
-        walks(&rt, looks_up.symbol_table(), steps);
-    }
-    answers_a_refusal(&rt, &searching);
-    answers_a_refusal(&rt, &looks_up);
+    let model = letters(rt.alloc()).expect(&rt, "accepted");
+    answers_a_refusal(&rt, &model);
+    let [first, second] = &STEPS;
+    walks(&rt, model.symbol_table(), first);
+    walks(&rt, model.symbol_table(), second);
+    let model = model
+        .into_lookup_decoder_model(rt.alloc())
+        .expect(&rt, "a table");
+    answers_a_refusal(&rt, &model);
+    walks(&rt, model.symbol_table(), first);
+    walks(&rt, model.symbol_table(), second);
 }
 
 /// Stops the test where memory for what is made was not refused.
@@ -185,16 +186,11 @@ fn a_refused_clone_is_want_of_memory(rt: HostRuntime) {
     let (by_function, by_method) = made::<_, 6>(rt.alloc(), &model);
     are_refused(&rt, by_function);
     are_refused(&rt, by_method);
-    is_refused(
-        &rt,
-        model.to_lookup_decoder_model(rt.alloc()),
-        ModelError::OutOfMemory,
-    );
-}
-
-#[test]
-fn a_refused_clone_is_want_of_memory_for_a_lookup_model(rt: HostRuntime) {
-    let model = lookup_of_letters(rt.alloc()).expect(&rt, "accepted");
+    let looks_up = model.to_lookup_decoder_model(rt.alloc());
+    is_refused(&rt, looks_up, ModelError::OutOfMemory);
+    let model = model
+        .into_lookup_decoder_model(rt.alloc())
+        .expect(&rt, "a table");
     same(&rt, model.clone().err(), Some(AllocError));
     let (by_function, by_method) = looked_up::<_, 6>(rt.alloc(), &model);
     is_refused(&rt, by_function, ModelError::OutOfMemory);

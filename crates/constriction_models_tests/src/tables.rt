@@ -42,29 +42,28 @@ fn the_last_row_at_the_full_width_of_u64_is_given_from_the_back(rt: HostRuntime)
 
 /// Stops the test where the rows of a reference to the model do not tile or are not what the model answers, or are not
 /// so many.
-fn rows_tile<const PRECISION: usize>(rt: &impl Abort, model: &Table<PRECISION>, count: usize)
+fn rows_tile<const PRECISION: usize>(rt: &impl Abort, model: Table<PRECISION>, count: usize)
     requires positive { 0 < PRECISION }
     requires fits { PRECISION ≤ 8 }
 {
-    tile_and_are_answered::<_, PRECISION>(rt, model);
+    tile_and_are_answered::<_, _, PRECISION>(rt, &model, &model);
     same(
         rt,
-        (model.symbol_table().len(), counts(model)),
+        (model.symbol_table().len(), counts(&model)),
         (count, (count, count)),
     );
 }
 
+/// Weights, whether the last one is inferred, and how many rows there are.
+const COUNTS: [(&[u8], bool, usize); 3] = [(&WEIGHTS, false, 4), (&[], true, 1), (&[63], true, 2)];
+
 #[test]
 fn rows_of_a_contiguous_model_tile_and_are_what_it_answers(rt: HostRuntime) {
-    for (weights, infer_last, count) in [
-        (WEIGHTS.as_slice(), false, 4),
-        (&[], true, 1),
-        (&[63], true, 2),
-    ] {
-        let model = made::<6>(&rt, rt.alloc(), weights, infer_last);
-        rows_tile(&rt, &model, count);
+    for each in &COUNTS {
+        let (weights, infer_last, count) = *each;
+        rows_tile::<6>(&rt, made(&rt, rt.alloc(), weights, infer_last), count);
     }
-    rows_tile(&rt, &made::<8>(&rt, rt.alloc(), &[200], true), 2);
+    rows_tile::<8>(&rt, made(&rt, rt.alloc(), &[200], true), 2);
 }
 
 /// Stops the test where the rows of the uniform model of so many symbols do not tile or are not what it answers.
@@ -74,7 +73,8 @@ fn uniform_rows_tile<const PRECISION: usize>(rt: &impl Abort, range: usize)
     requires some { 2 ≤ range }
     requires within { range ≤ 2 ^ PRECISION }
 {
-    tile_and_are_answered::<_, PRECISION>(rt, UniformModel::<u8, PRECISION>::new(range));
+    let model = UniformModel::<u8, PRECISION>::new(range);
+    tile_and_are_answered::<_, _, PRECISION>(rt, model, &model);
 }
 
 #[test]

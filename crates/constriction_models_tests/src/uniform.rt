@@ -140,6 +140,6 @@ fn a_model_is_copied_and_a_reference_to_it_has_a_table(rt: HostRuntime) {
     let copy = model;
     is_of_seven(&rt, &copy);
     is_of_seven(&rt, &model.clone().expect(&rt, "a clone"));
-    tile_and_are_answered::<_, 6>(&rt, &model);
+    tile_and_are_answered::<_, _, 6>(&rt, &model, &model);
     shows(&rt, rt.alloc(), &model, "UniformModel");
 }
