@@ -1,5 +1,5 @@
 -- How the words of items are written, turn by turn.
-use Rattle.std.proofs.Common.{◌≡◌, ℕ, ◌+◌, ◌<◌, ◌≤◌, List, [], ◌∷◌, ◌++◌, length, take, drop, get_or, Option, Result, Ok, Err, refl, ap, sym, ◌∙◌, subst, suc, append_assoc, append-nil, drop-cons, take-append-drop}
+use Rattle.std.proofs.Common.{◌≡◌, ℕ, ◌+◌, ◌<◌, ◌≤◌, List, [], ◌∷◌, ◌++◌, length, take, drop, get_or, Option, Result, Ok, Err, refl, ap, sym, ◌∙◌, subst, suc, append_assoc, drop-cons, take-append-drop}
 use Rattle.std.proofs.lemmas.List.{take_more, take_all}
 use Rattle.std.proofs.lemmas.Slice.Zip.{all_zipped_more}
 use Rattle.constriction_words.specs.declared.coder_error.CoderError.TheVariants.{Frontend, Backend}
@@ -18,14 +18,6 @@ module _ {Symbol Word Sink Error : Type 0} (entry : Symbol → Option (ℕ × �
     (gives : Sink → Word → Result (Unit {0}) Error → Sink → Type 0) (tells : Sink → List Word → Type 0)
     (law : (s : Sink) (w : Word) (r : Result (Unit {0}) Error) (t : Sink) → gives s w r t
     → (ws : List Word) → tells s ws → WritesTold tells ws w r t) where
-  pub wrote-none : (s : Sink) → WritesItems entry whole gives tells [] s s
-  wrote-none s = record {
-    words = [];
-    quantiles = tt;
-    written = refl;
-    told = λ old h. subst (λ (ws : List Word). tells s ws) (sym (append-nil old)) h;
-  }
-
   pub wrote-more : (items : List (Symbol × Word)) (i : ℕ) (item : Symbol × Word) (word : Word) (s j t : Sink)
       → i < length items → item ≡ get_or items i item → WritesItems entry whole gives tells (take i items) s j
       → IsQuantileOf entry whole item (whole word) → gives j word (Ok tt) t

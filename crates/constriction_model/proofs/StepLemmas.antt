@@ -1,6 +1,6 @@
 -- Walking through rows, from either end.
 use Rattle.std.specs.Prelude.{take, drop}
-use Rattle.std.proofs.Common.{◌≡◌, ℕ, ◌+◌, ◌-◌, ◌<◌, ◌≤◌, List, [], ◌∷◌, ◌++◌, length, get_or, ap, sym, ◌∙◌, arith}
+use Rattle.std.proofs.Common.{◌≡◌, ℕ, ◌+◌, ◌-◌, ◌<◌, ◌≤◌, List, [], ◌∷◌, ◌++◌, length, get_or, ap, ◌∙◌, arith}
 use Rattle.std.proofs.lemmas.List.{length-drop, drop_all, drop_more, length-take-le, take_all, get_or-take, take_more}
 use Rattle.std.proofs.lemmas.List.{drop-append-le, length-append, length-take}
 use Rattle.constriction_model.specs.Rows.{Row}
@@ -62,7 +62,3 @@ fewer-last before after x e = omega (arith, one-fewer-last before after x e)
 -- nor more of them
 pub same-most : {A : Type 0} (xs ys : List A) → xs ≡ ys → length xs ≤ length ys
 same-most xs ys e = omega (arith, same-length xs ys e)
-
--- all but the last of a list are one fewer
-pub length-front : {A : Type 0} (xs : List A) → length xs - 1 ≡ length (take (length xs - 1) xs)
-length-front xs = sym (length-take-le (length xs - 1) xs (omega arith))

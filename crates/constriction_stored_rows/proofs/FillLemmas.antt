@@ -75,13 +75,6 @@ module _ {W : Type 0} (whole : W → ℕ) (bits precision : ℕ) where
       → IsAccepted bits precision (map whole ws) × (map whole table ≡ lefts_from 0 (map whole ws))
   good-given ws table f = (record { tiles = record { positive = f.positive; total = sym f.is }; fit = f.fit }, f.lefts)
 
-  pub bad-full : (ws table : List W) → IsFilled whole bits precision ws table None
-      → ¬ (IsAccepted bits precision (completed precision true (map whole ws)))
-  bad-full ws table f a =
-      let last : 0 < 2 ^ precision - sum (map whole ws) =
-      All-contains (λ x. 0 < x) _ _ a.tiles.positive (Contains-push (map whole ws) (2 ^ precision - sum (map whole ws))) in
-      omega (arith, f.is)
-
   pub bad-wide : (ws table : List W) (left : W) → IsFilled whole bits precision ws table (Some left)
       → 2 ^ bits + whole left ≤ 2 ^ precision
       → ¬ (IsAccepted bits precision (completed precision true (map whole ws)))

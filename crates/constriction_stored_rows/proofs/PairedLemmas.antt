@@ -18,7 +18,7 @@ use Rattle.constriction_model.specs.Tables.{rows_between}
 use Rattle.constriction_stored_rows.proofs.ProbeLemmas.{symbol-lefts}
 use Rattle.constriction_model.proofs.StepLemmas.{all-between, length-between, first-between, last-between}
 use Rattle.constriction_stored_rows.proofs.TableLemmas.{all-but_last, table-long}
-use Rattle.constriction_stored_rows.proofs.TileLemmas.{tiles-probed, tiles-lefts}
+use Rattle.constriction_stored_rows.proofs.TileLemmas.{tiles-probed}
 
 module _ {Symbol Word : Type 0} (whole : Word → ℕ) (bits precision : ℕ) (entries : List (Word × Symbol))
     (t : IsStored bits precision (map (λ x. whole x.0) entries)) where
@@ -52,13 +52,6 @@ module _ {Symbol Word : Type 0} (whole : Word → ℕ) (bits precision : ℕ) (e
         let found : IsRowIndexOf (rows_paired whole precision entries) q i = rw same at (paired-probed.2 q i below f) in
         (found, omega (arith, found.in_bounds, paired-many))
 
-    -- what a table of slots is made from
-    pub paired-search : IsSearchable (map (λ x. whole x.0) lent) 0
-        × ((i : ℕ) → i < length (map (λ x. whole x.0) lent) → get_or (map (λ x. whole x.0) lent) i 0 < 2 ^ precision)
-    paired-search =
-        tiles-lefts bits precision (rows_paired whole precision entries) (paired-tiles whole bits precision entries t)
-        (map (λ x. whole x.0) lent) lent-lefts
-
   symbol-here : (i : ℕ) (s : Symbol) (x : Word × Symbol) → i < length entries → x ≡ get_or entries i x → s ≡ x.1
       → s ≡ get_or (map (λ y. y.1) entries) i s
   symbol-here i s x h is se = se ∙ ap (λ y. y.1) is ∙ sym (get_or-map (λ y. y.1) entries i x s h)
@@ -84,10 +77,6 @@ module _ {Symbol Word : Type 0} (whole : Word → ℕ) (bits precision : ℕ) (e
   pub paired-row : (i : ℕ) → i < length entries
       → IsRowAt bits precision (map (λ x. whole x.0) entries) i (get_or (weights_of precision (map (λ x. whole x.0) entries)) i 0)
   paired-row i h = stored-row bits precision (map (λ x. whole x.0) entries) i t (omega (arith, h, length-map entries (λ x. whole x.0)))
-
-  -- walks through the rows
-  pub paired-all : rows_between 0 (length entries) (rows_paired whole precision entries) ≡ rows_paired whole precision entries
-  paired-all = all-between (rows_paired whole precision entries) (length entries) (sym paired-many)
 
   pub paired-left : (i j : ℕ) → j ≤ length entries → length (rows_between i j (rows_paired whole precision entries)) ≡ j - i
   paired-left i j h = length-between (rows_paired whole precision entries) i j (omega (arith, paired-many))

@@ -93,9 +93,3 @@ module _ (bits precision : ℕ) (table lefts : List ℕ) (t : IsTable bits preci
       let same : 0 + i ≡ i = omega arith in
       let found : IsRowIndexOf (contiguous_rows (weights_of precision (lefts_in table))) q i = rw same at (table-probed.2 q i below f) in
       (found, omega (arith, found.in_bounds, table-rows bits precision table t))
-
-  -- what a table of slots is made from
-  pub table-search : IsSearchable lefts 0 × ((i : ℕ) → i < length lefts → get_or lefts i 0 < 2 ^ precision)
-  table-search =
-      tiles-lefts bits precision (contiguous_rows (weights_of precision (lefts_in table)))
-      (stored-tiles bits precision (lefts_in table) t.stored) lefts table-lefts

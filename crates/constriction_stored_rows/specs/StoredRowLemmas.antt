@@ -2,11 +2,11 @@
 use Rattle.std.specs.Prelude.{◌≡◌, ℕ, ◌+◌, ◌^◌, ◌<◌, ◌≤◌, List, length, All, sum, take, Some, None, nat_eq}
 use Rattle.std.proofs.Common.{get_or, ap, sym, ◌∙◌, arith, subst, inr}
 use Rattle.std.proofs.lemmas.List.FromFn.{length-range_with_len, get_or-range_with_len}
-use Rattle.constriction_model.specs.Rows.{Row, contiguous_rows, RowsTile, IsRowOf, entry_of}
+use Rattle.constriction_model.specs.Rows.{Row, contiguous_rows, RowsTile, entry_of}
 use Rattle.constriction_stored_rows.specs.Stored.{IsStored, weights_of}
 use Rattle.constriction_model.specs.RowLemmas.{indices, length-rows_from, contiguous-at, contiguous-past}
 use Rattle.constriction_stored_rows.specs.StoredLemmas.{stored-row, length-gaps, lefts_from-at}
-use Rattle.constriction_stored_rows.specs.SymbolRowLemmas.{symbol-row_at, symbol-rows_tile, symbol-row_of}
+use Rattle.constriction_stored_rows.specs.SymbolRowLemmas.{symbol-row_at, symbol-rows_tile}
 
 pub length-rows : (ws : List ℕ) → length (contiguous_rows ws) ≡ length ws
 length-rows ws = length-rows_from 0 (indices (length ws)) ws (length-range_with_len 0 (length ws))
@@ -45,13 +45,6 @@ module _ (bits precision : ℕ) (lefts : List ℕ) (t : IsStored bits precision 
 
   pub stored-tiles : RowsTile bits precision (contiguous_rows (weights_of precision lefts))
   stored-tiles = symbol-rows_tile bits precision symbols lefts t symbols-long
-
-  -- the row of a quantile, as a search finds it
-  pub stored-row_of : (q i l w : ℕ) → i < length lefts → l ≡ get_or lefts i 0 → w ≡ get_or (weights_of precision lefts) i 0
-      → l ≤ q → (i + 1 < length lefts → q < get_or lefts (i + 1) 0) → q < 2 ^ precision
-      → IsRowOf (contiguous_rows (weights_of precision lefts)) q (record { symbol = i; left = l; weight = w })
-  stored-row_of q i l w h le we from to below =
-      symbol-row_of bits precision symbols lefts t symbols-long q i l w i h (sym (symbol-at i i h)) le we from to below
 
   -- the entry of a symbol, and of what is none
   pub stored-entry : (i l w : ℕ) → i < length lefts → l ≡ get_or lefts i 0 → w ≡ get_or (weights_of precision lefts) i 0
