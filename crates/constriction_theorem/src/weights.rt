@@ -127,14 +127,17 @@ fn asked_by_slots<Probability: IndexWord, const PRECISION: usize, const SLOT_BIT
     Ok(replies)
 }
 
-/// The replies of the model that searches, of the one with a table and of the one with a slot for each quantile.
+/// The replies of the model that searches, of the one with a table, of the one with a slot for each quantile and of a form
+/// of the same rows.
 fn asked_by_each<Probability: IndexWord, const PRECISION: usize>(
     alloc: Global,
     model: &Contiguous<Probability, PRECISION>,
+    form: &DecoderForm<usize, Probability, PRECISION>,
     hashed: &NonContiguousCategoricalEncoderModel<usize, Probability, PRECISION>,
     queries: &[Query<usize, Probability>],
 ) -> Result<
     (
+        RepliesByEncoder<Probability>,
         RepliesByEncoder<Probability>,
         RepliesByEncoder<Probability>,
         RepliesByEncoder<Probability>,
@@ -144,13 +147,15 @@ fn asked_by_each<Probability: IndexWord, const PRECISION: usize>(
     requires positive { 0 < PRECISION }
     requires fits { PRECISION ≤ Probability.BITS }
     requires narrow { PRECISION ≤ 63 }
+    requires form { ⟦<DecoderForm<usize, Probability, PRECISION> as EntropyModel<PRECISION>>⟧.rows form.now
+        ≡ ⟦<Contiguous<Probability, PRECISION> as EntropyModel<PRECISION>>⟧.rows model.now }
     requires hashed { (s : ℕ) → entry_of nat_eq
         (⟦<NonContiguousCategoricalEncoderModel<usize, Probability, PRECISION> as EntropyModel<PRECISION>>⟧.rows hashed.now) s
         ≡ entry_of nat_eq (⟦<Contiguous<Probability, PRECISION> as EntropyModel<PRECISION>>⟧.rows model.now) s }
-    ensures ok { IfOk result (λ three. let AsScan = ReplyAsScan (in_numbers Probability.whole Probability.base)
+    ensures ok { IfOk result (λ four. let AsScan = ReplyAsScan (in_numbers Probability.whole Probability.base)
         (replies_by_scan PRECISION Probability.whole nat_eq queries.now
         (⟦<Contiguous<Probability, PRECISION> as EntropyModel<PRECISION>>⟧.rows model.now)) in
-        AsScan three.0 × AsScan three.1 × AsScan three.2) }
+        AsScan four.0 × AsScan four.1 × AsScan four.2 × AsScan four.3) }
     ensures refused { IfErr result (λ e. e ≡ ModelError.OutOfMemory) }
 {
     let by_search = asked_beside_both::<_, _, _, _, PRECISION>(
@@ -158,7 +163,8 @@ fn asked_by_each<Probability: IndexWord, const PRECISION: usize>(
     )?;
     let by_table = asked_by_slots::<_, PRECISION, 8>(alloc, model, hashed, queries)?;
     let by_slot = asked_by_slots::<_, PRECISION, PRECISION>(alloc, model, hashed, queries)?;
-    Ok((by_search, by_table, by_slot))
+    let by_form = asked_beside_both::<_, _, _, _, PRECISION>(alloc, form, model, hashed, queries)?;
+    Ok((by_search, by_table, by_slot, by_form))
 }
 
 /// The replies of all models of a model's rows.
@@ -182,10 +188,9 @@ fn answers_of<Probability: IndexWord, const PRECISION: usize>(
     ensures refused { IfErr result (λ e. e ≡ ModelError.OutOfMemory) }
 {
     let (form, hashed) = converted_from(alloc, model, steps)?;
-    let converted = asked_beside_both::<_, _, _, _, PRECISION>(
-        alloc, &form, model, &hashed, queries,
+    let (searching, tabled, direct, converted) = asked_by_each(
+        alloc, model, &form, &hashed, queries,
     )?;
-    let (searching, tabled, direct) = asked_by_each(alloc, model, &hashed, queries)?;
     Ok(AnswersOfWeights {
         searching,
         tabled,
