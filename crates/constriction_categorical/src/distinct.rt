@@ -12,7 +12,7 @@ ghost use Rattle.constriction_model.specs.Precision.{IsPrecision};
 ghost use Rattle.constriction_model.specs.Rows.{rows_of};
 ghost use Rattle.constriction_stored_rows.specs.Stored.{IsStored, rows_paired};
 
-use crate::non_contiguous::NonContiguousCategoricalDecoderModel;
+use crate::non_contiguous::{NonContiguousCategoricalDecoderModel, decoder_over};
 use constriction_model::{EntropyModel, ModelError};
 use constriction_numbers::WholeNumber;
 use constriction_stored_rows::{are_apart, are_in_order, entries_read};
@@ -133,7 +133,7 @@ impl<
             probabilities,
             infer_last_probability,
         ) {
-            Ok(entries) => Self::over_entries(entries),
+            Ok(entries) => decoder_over(entries),
             Err(refused) => Err(refused),
         }
     }
@@ -176,7 +176,7 @@ impl<
             probabilities,
             infer_last_probability,
         ) {
-            Ok(entries) => Self::over_entries(entries),
+            Ok(entries) => decoder_over(entries),
             Err(refused) => Err(refused),
         }
     }
@@ -220,7 +220,7 @@ impl<
             probabilities,
             infer_last_probability,
         ) {
-            Ok(entries) => Self::over_entries(entries),
+            Ok(entries) => decoder_over(entries),
             Err(refused) => Err(refused),
         }
     }

@@ -31,6 +31,7 @@ pub use crate::lookup_contiguous::{
 pub use crate::lookup_non_contiguous::{
     NonContiguousLookupDecoderModel, SlottedNonContiguousLookupDecoderModel,
     SmallNonContiguousDirectLookupDecoderModel, SmallNonContiguousLookupDecoderModel,
+    lookup_over_decoder,
 };
 pub use crate::non_contiguous::{
     DefaultNonContiguousCategoricalDecoderModel, NonContiguousCategoricalDecoderModel,

@@ -1,7 +1,7 @@
 //! Models that look up where to search for the row of a quantile.
 
-ghost use Rattle.std.specs.Prelude.{◌≡◌, ◌/◌, ◌^◌, ◌<◌, ◌≤◌, map, min, count_by, IsTrue, IfOk, IfErr};
-ghost use Rattle.constriction_model.specs.Probe.{IsProbeFor};
+ghost use Rattle.std.specs.Prelude.{◌≡◌, ◌/◌, ◌-◌, ◌^◌, ◌<◌, ◌≤◌, length, map, min, count_by, IsTrue, IfOk, IfErr};
+ghost use Rattle.constriction_model.specs.Probe.{digits, IsProbeFor, IsRowIndexOf};
 ghost use Rattle.constriction_stored_rows.specs.Slots.{meets_slot, slot_width};
 ghost use Rattle.constriction_stored_rows.specs.SlotTable.{HasSlots};
 
@@ -78,18 +78,23 @@ impl<
             lookup_table,
         })
     }
+}
 
-    /// The same, with the refusal of a constructor.
-    #[inline]
-    pub(crate) fn made_with_table(alloc: Global, model: Model) -> Result<Self, ModelError>
-    where
-        Model: Drop,
-        requires narrow { PRECISION ≤ 63 }
-        ensures ok { IfOk result (λ m. ⟦<Self as EntropyModel<PRECISION>>⟧.rows m ≡ Model.rows model) }
-        ensures refused { IfErr result (λ e. e ≡ ModelError.OutOfMemory) }
-    {
-        Ok(Self::with_table(alloc, model)?)
-    }
+/// The model that [`LookupDecoderModel::with_table`] makes, with the refusal of a constructor.
+#[inline]
+pub(crate) fn lookup_over<Model, const PRECISION: usize, const SLOT_BITS: usize>(
+    alloc: Global,
+    model: Model,
+) -> Result<LookupDecoderModel<Model, Vec<Model::Probability>, PRECISION, SLOT_BITS>, ModelError>
+where
+    Model: StoresRows<PRECISION> + Drop,
+    requires narrow { PRECISION ≤ 63 }
+    ensures ok { IfOk result (λ m.
+        ⟦<LookupDecoderModel<Model, Vec<Model::Probability>, PRECISION, SLOT_BITS> as EntropyModel<PRECISION>>⟧.rows m
+        ≡ Model.rows model) }
+    ensures refused { IfErr result (λ e. e ≡ ModelError.OutOfMemory) }
+{
+    Ok(LookupDecoderModel::with_table(alloc, model)?)
 }
 
 impl<Model, LookupTable, const PRECISION: usize, const SLOT_BITS: usize> LookupDecoderModel<
@@ -119,6 +124,24 @@ where
             (Model.Probability.whole quantile / slot_width PRECISION SLOT_BITS) r)) (Model.Probability.whole quantile) result.0 result.1 }
     {
         slot_probe::<Model::Entry, Model::Kind, PRECISION, SLOT_BITS>(
+            self.model.entries(),
+            self.lookup_table.words(),
+            quantile,
+        )
+    }
+
+    /// The index of a quantile's row, and how many of the rows that meet its slot were compared with the quantile.
+    #[inline(always)]
+    fn row_index(&self, quantile: Model::Probability) -> (usize, usize)
+        requires { Model.Probability.whole quantile < 2 ^ PRECISION }
+        ensures index { IsRowIndexOf (Model.rows self.now.model) (Model.Probability.whole quantile) result.0 }
+        ensures few { result.1 ≤ digits (length (Model.rows self.now.model) - 1) }
+        ensures among { result.1 ≤ digits (count_by (meets_slot (slot_width PRECISION SLOT_BITS)
+            (Model.Probability.whole quantile / slot_width PRECISION SLOT_BITS)) (Model.rows self.now.model) - 1) }
+        ensures some { 1 < count_by (meets_slot (slot_width PRECISION SLOT_BITS)
+            (Model.Probability.whole quantile / slot_width PRECISION SLOT_BITS)) (Model.rows self.now.model) → 0 < result.1 }
+    {
+        row_in_slot::<Model::Entry, Model::Kind, PRECISION, SLOT_BITS>(
             self.model.entries(),
             self.lookup_table.words(),
             quantile,
@@ -185,11 +208,7 @@ where
         ),
         AllocError,
     > {
-        let (index, compared) = row_in_slot::<Model::Entry, Model::Kind, PRECISION, SLOT_BITS>(
-            self.model.entries(),
-            self.lookup_table.words(),
-            quantile,
-        );
+        let (index, compared) = self.row_index(quantile);
         match self.model.row_at(index) {
             Ok(row) => Ok((row, compared)),
             Err(refused) => Err(refused),

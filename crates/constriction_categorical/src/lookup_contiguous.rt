@@ -10,7 +10,7 @@ ghost use Rattle.constriction_stored_rows.specs.Stored.{rows_stored};
 
 use crate::contiguous::ContiguousCategoricalEntropyModel;
 use crate::iterable::IterableEntropyModel;
-use crate::lookup::LookupDecoderModel;
+use crate::lookup::{LookupDecoderModel, lookup_over};
 use crate::symbol_table::ContiguousSymbolTable;
 use constriction_buffers::SafeBuf;
 use constriction_model::{EntropyModel, ModelError};
@@ -85,7 +85,7 @@ impl<
             PRECISION,
         >::from_nonzero_fixed_point_probabilities(alloc, probabilities, infer_last_probability)
         {
-            Ok(model) => Self::made_with_table(alloc, model),
+            Ok(model) => lookup_over(alloc, model),
             Err(refused) => Err(refused),
         }
     }
@@ -96,12 +96,14 @@ impl<
     pub fn clone(&self) -> Result<Self, AllocError>
         ensures { IfOk result (λ m. ⟦<Self as EntropyModel<PRECISION>>⟧.rows m ≡ ⟦<Self as EntropyModel<PRECISION>>⟧.rows self.now) }
     {
-        let model = self.model.clone()?;
         let lookup_table = copied(*self.lookup_table.allocator(), self.lookup_table.as_slice())?;
-        Ok(Self {
-            model,
-            lookup_table,
-        })
+        match self.model.clone() {
+            Ok(model) => Ok(Self {
+                model,
+                lookup_table,
+            }),
+            Err(refused) => Err(refused),
+        }
     }
 }
 
@@ -152,7 +154,7 @@ impl<
         ensures refused { IfErr result (λ e. e ≡ ModelError.OutOfMemory) }
     {
         match self.in_vec(alloc) {
-            Ok(model) => LookupDecoderModel::made_with_table(alloc, model),
+            Ok(copy) => lookup_over(alloc, copy),
             Err(_) => Err(ModelError::OutOfMemory),
         }
     }

@@ -11,7 +11,7 @@ ghost use Rattle.constriction_stored_rows.specs.Stored.{entries_in, rows_paired}
 ghost use Rattle.constriction_model.specs.Tables.{rows_between};
 
 use crate::iterable::IterableEntropyModel;
-use crate::lookup::LookupDecoderModel;
+use crate::lookup::{LookupDecoderModel, lookup_over};
 use crate::non_contiguous::NonContiguousCategoricalDecoderModel;
 use crate::non_contiguous_table::NonContiguousSymbolTable;
 use constriction_buffers::SafeBuf;
@@ -63,6 +63,43 @@ pub type SmallNonContiguousDirectLookupDecoderModel<
     LookupTable = Vec<u16>,
 > = SlottedNonContiguousLookupDecoderModel<Symbol, u16, Cdf, LookupTable, 12, 12>;
 
+/// The model of the same rows as a searching one, with its entries and a table of `2^min(PRECISION, SLOT_BITS)` slots.
+/// Its only refusal is `OutOfMemory`, where memory for the table is refused, and then the searching model is given up.
+/// Crates above call it that have made one.
+#[inline]
+pub fn lookup_over_decoder<
+    Symbol: Eq + Drop,
+    Probability: IndexWord,
+    const PRECISION: usize,
+    const SLOT_BITS: usize,
+>(
+    alloc: Global,
+    model: NonContiguousCategoricalDecoderModel<
+        Symbol,
+        Probability,
+        Vec<(Probability, Symbol)>,
+        PRECISION,
+    >,
+) -> Result<
+    SlottedNonContiguousLookupDecoderModel<
+        Symbol,
+        Probability,
+        Vec<(Probability, Symbol)>,
+        Vec<Probability>,
+        PRECISION,
+        SLOT_BITS,
+    >,
+    ModelError,
+>
+    requires narrow { PRECISION ≤ 63 }
+    ensures ok { IfOk result (λ m.
+        ⟦<SlottedNonContiguousLookupDecoderModel<Symbol, Probability, Vec<(Probability, Symbol)>, Vec<Probability>, PRECISION, SLOT_BITS> as EntropyModel<PRECISION>>⟧.rows m
+        ≡ ⟦<NonContiguousCategoricalDecoderModel<Symbol, Probability, Vec<(Probability, Symbol)>, PRECISION> as EntropyModel<PRECISION>>⟧.rows model) }
+    ensures refused { IfErr result (λ e. e ≡ ModelError.OutOfMemory) }
+{
+    lookup_over(alloc, model)
+}
+
 impl<
     Symbol: Eq + Clone,
     Probability: IndexWord,
@@ -112,7 +149,7 @@ impl<
             probabilities,
             infer_last_probability,
         ) {
-            Ok(model) => Self::made_with_table(alloc, model),
+            Ok(model) => lookup_over_decoder(alloc, model),
             Err(refused) => Err(refused),
         }
     }
@@ -141,12 +178,14 @@ impl<
         ensures { IfOk result (λ m. StandForRows Symbol.is_clone (⟦<Self as EntropyModel<PRECISION>>⟧.rows m)
             (⟦<Self as EntropyModel<PRECISION>>⟧.rows self.now)) }
     {
-        let model = self.model.clone()?;
         let lookup_table = copied(*self.lookup_table.allocator(), self.lookup_table.as_slice())?;
-        Ok(Self {
-            model,
-            lookup_table,
-        })
+        match self.model.clone() {
+            Ok(model) => Ok(Self {
+                model,
+                lookup_table,
+            }),
+            Err(refused) => Err(refused),
+        }
     }
 }
 
@@ -209,7 +248,7 @@ impl<
         ensures refused { IfErr result (λ e. e ≡ ModelError.OutOfMemory) }
     {
         match self.in_vec(alloc) {
-            Ok(model) => LookupDecoderModel::made_with_table(alloc, model),
+            Ok(copy) => lookup_over_decoder(alloc, copy),
             Err(_) => Err(ModelError::OutOfMemory),
         }
     }
@@ -244,7 +283,7 @@ impl<
             ≡ ⟦<Self as EntropyModel<PRECISION>>⟧.rows self) }
         ensures refused { IfErr result (λ e. e ≡ ModelError.OutOfMemory) }
     {
-        NonContiguousLookupDecoderModel::made_with_table(alloc, self)
+        lookup_over_decoder(alloc, self)
     }
 }
 

@@ -109,15 +109,16 @@ pub fn decoder_over<Symbol: Eq + Clone, Probability: WholeNumber, const PRECISIO
         Vec<(Probability, Symbol)>,
         PRECISION,
     >,
-    AllocError,
+    ModelError,
 >
     requires positive { 0 < PRECISION }
     requires fits { PRECISION ≤ Probability.BITS }
     requires stored { IsStored Probability.BITS PRECISION (map (λ x. Probability.whole x.0) entries.items) }
     requires distinct { IsDistinct Symbol.eq (map (λ x. x.1) entries.items) }
-    ensures { IfOk result (λ m.
+    ensures ok { IfOk result (λ m.
         ⟦<NonContiguousCategoricalDecoderModel<Symbol, Probability, Vec<(Probability, Symbol)>, PRECISION> as EntropyModel<PRECISION>>⟧.rows m
         ≡ rows_paired Probability.whole PRECISION entries.items) }
+    ensures refused { IfErr result (λ e. e ≡ ModelError.OutOfMemory) }
 {
     let cdf = with_total::<Probability, Symbol, PRECISION>(entries)?;
     Ok(NonContiguousCategoricalDecoderModel {
@@ -174,22 +175,9 @@ impl<
             probabilities,
             infer_last_probability,
         ) {
-            Ok(entries) => Self::over_entries(entries),
+            Ok(entries) => decoder_over(entries),
             Err(refused) => Err(refused),
         }
-    }
-
-    /// The model over these entries, as [`decoder_over`] makes it, with the refusal of a constructor.
-    #[inline]
-    pub(crate) fn over_entries(entries: Vec<(Probability, Symbol)>) -> Result<Self, ModelError>
-        requires positive { 0 < PRECISION }
-        requires fits { PRECISION ≤ Probability.BITS }
-        requires stored { IsStored Probability.BITS PRECISION (map (λ x. Probability.whole x.0) entries.items) }
-        requires distinct { IsDistinct Symbol.eq (map (λ x. x.1) entries.items) }
-        ensures ok { IfOk result (λ m. ⟦<Self as EntropyModel<PRECISION>>⟧.rows m ≡ rows_paired Probability.whole PRECISION entries.items) }
-        ensures refused { IfErr result (λ e. e ≡ ModelError.OutOfMemory) }
-    {
-        Ok(decoder_over(entries)?)
     }
 
     /// A model of the same rows with clones of the symbols, and with entries of its own from the allocator of
@@ -304,7 +292,10 @@ impl<
             (⟦<Self as EntropyModel<PRECISION>>⟧.rows self.now)) }
     {
         match self.entries_in_vec(alloc) {
-            Ok(entries) => decoder_over(entries),
+            Ok(entries) => match decoder_over(entries) {
+                Ok(model) => Ok(model),
+                Err(_) => Err(AllocError),
+            },
             Err(refused) => Err(refused),
         }
     }

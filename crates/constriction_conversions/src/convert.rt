@@ -11,7 +11,7 @@ use crate::hashed::NonContiguousCategoricalEncoderModel;
 use crate::walking::{entries_walked, table_walked};
 use constriction_categorical::{
     IterableEntropyModel, LookupDecoderModel, NonContiguousCategoricalDecoderModel,
-    SlottedNonContiguousLookupDecoderModel, decoder_over,
+    SlottedNonContiguousLookupDecoderModel, decoder_over, lookup_over_decoder,
 };
 use constriction_model::{EntropyModel, ModelError};
 use constriction_numbers::IndexWord;
@@ -187,8 +187,10 @@ where
         (⟦<DecoderMadeOf<M, PRECISION> as EntropyModel<PRECISION>>⟧.rows d) (M.rows model)) }
     ensures invalid { result ≡ Err ModelError.InvalidTable → ClonesRepeat M.Symbol.eq M.stands_for (M.rows model) }
 {
-    let cdf = entries_apart::<_, PRECISION>(alloc, model)?;
-    Ok(decoder_over(cdf)?)
+    match entries_apart::<_, PRECISION>(alloc, model) {
+        Ok(entries) => decoder_over(entries),
+        Err(refused) => Err(refused),
+    }
 }
 
 /// The lookup model of the same rows as any model that can be walked through.
@@ -232,8 +234,10 @@ where
         (⟦<LookupMadeOf<M, PRECISION, SLOT_BITS> as EntropyModel<PRECISION>>⟧.rows d) (M.rows model)) }
     ensures invalid { result ≡ Err ModelError.InvalidTable → ClonesRepeat M.Symbol.eq M.stands_for (M.rows model) }
 {
-    let searching = to_generic_decoder_model::<M, PRECISION>(alloc, model)?;
-    Ok(LookupDecoderModel::with_table(alloc, searching)?)
+    match to_generic_decoder_model::<M, PRECISION>(alloc, model) {
+        Ok(searching) => lookup_over_decoder(alloc, searching),
+        Err(fault) => Err(fault),
+    }
 }
 
 /// The encoder model of the same entries as any model that can be walked through: of each symbol that the

@@ -60,8 +60,10 @@ where
         (⟦<DecoderMadeOf<M, PRECISION> as EntropyModel<PRECISION>>⟧.rows d) (M.rows model)) }
     ensures refused { IfErr result (λ e. e ≡ ModelError.OutOfMemory) }
 {
-    let cdf = entries_of_distinct::<_, PRECISION>(alloc, model)?;
-    Ok(decoder_over(cdf)?)
+    match entries_of_distinct::<_, PRECISION>(alloc, model) {
+        Ok(entries) => decoder_over(entries),
+        Err(refused) => Err(refused),
+    }
 }
 
 /// The lookup model of the same rows as a model that can be walked through and no two symbols of which are
@@ -86,6 +88,8 @@ where
         (⟦<LookupMadeOf<M, PRECISION, 8> as EntropyModel<PRECISION>>⟧.rows d) (M.rows model)) }
     ensures refused { IfErr result (λ e. e ≡ ModelError.OutOfMemory) }
 {
-    let searching = to_generic_decoder_model_of_distinct::<M, PRECISION>(alloc, model)?;
-    searching.into_lookup_decoder_model(alloc)
+    match to_generic_decoder_model_of_distinct::<M, PRECISION>(alloc, model) {
+        Ok(searching) => searching.into_lookup_decoder_model(alloc),
+        Err(refused) => Err(refused),
+    }
 }

@@ -14,8 +14,8 @@ invariant_of-result g c =
     c.in_ok-cdf.cdf.items made.0 c.requires.stored made.1 made.2 in
     record { precise = (c.requires.positive, c.requires.fits); stored = table.0; distinct = rw table.1 c.requires.distinct }
 
-pub returns : goal.returns
-returns g c =
+pub returns-clause-ok : goal.returns-clause-ok
+returns-clause-ok g c =
     let made = c.in_ok-cdf.ensures in
     let table = total-table g.Probability.WholeNumber.whole g.Probability.WholeNumber.BITS g.row.PRECISION c.args.entries.items
     c.in_ok-cdf.cdf.items made.0 c.requires.stored made.1 made.2 in

@@ -1,4 +1,4 @@
-use Rattle.std.proofs.Common.{◌+◌, ◌<◌, length, map, refl, sym, arith}
+use Rattle.std.proofs.Common.{◌+◌, ◌<◌, length, get_or, map, refl, sym, arith}
 use Rattle.std.proofs.lemmas.Option.{slice_get_read}
 use Rattle.constriction_model.specs.Model.{row_of}
 use Rattle.constriction_model.specs.Rows.{contiguous_rows}
@@ -28,4 +28,5 @@ returns-clause-row g c =
     let rows = contiguous_rows (weights_of g.row.PRECISION (lefts_in (map whole (g.Cdf.SafeBuf.words_of c.args.self.now.cdf)))) in
     let row = row_of whole g.Probability.WholeNumber.base c.contiguous_row_at.result in
     let at = rw c.words.ensures at c.contiguous_row_at.ensures.row in
-    (row, slice_get_read rows (length rows) c.args.index row refl c.requires (sym at), ((c.contiguous_row_at.result.0, refl, refl), tt))
+    let is = sym {a = get_or rows c.args.index row} at in
+    (row, slice_get_read rows (length rows) c.args.index row refl c.requires is, ((c.contiguous_row_at.result.0, refl, refl), tt))
