@@ -1,0 +1,117 @@
+//! Sources over iterators, sinks over callbacks, and buffers as sources.
+use crate::cursors::{moved, reply_word};
+use crate::fields::{by, commas, index, said, word, Fields, Said};
+use constriction::backends::{
+    AsReadWords, AsSeekReadWords, BoundedReadWords, FallibleCallbackWriteWords, FallibleIteratorReadWords, InfallibleCallbackWriteWords,
+    InfallibleIteratorReadWords, IntoReadWords, IntoSeekReadWords, ReadWords, WriteWords,
+};
+use constriction::{Queue, Seek, Semantics, Stack, UnwrapInfallible};
+use std::convert::Infallible;
+
+pub fn answer(kind: &str, mut fields: Fields) -> Result<Said, String> {
+    match kind {
+        "iter" => items(fields),
+        "words" => words(fields),
+        "sink" => {
+            let refused = fields.index()?;
+            let more = fields.words::<u32>()?;
+            let mut seen = vec![];
+            let mut sink = FallibleCallbackWriteWords::new(|word: u32| {
+                seen.push(word);
+                if seen.len() == refused { Err(()) } else { Ok(()) }
+            });
+            let end = if sink.extend_from_iter(more.into_iter()).is_ok() { "ok" } else { "refused" };
+            said(format!("{end} | {}", commas(&seen)))
+        }
+        "calls" => {
+            let more = fields.words::<u32>()?;
+            let mut seen = vec![];
+            let mut sink = InfallibleCallbackWriteWords::new(|word: u32| seen.push(word));
+            for word in &more {
+                sink.write(*word).unwrap_infallible();
+            }
+            sink.extend_from_iter(more.into_iter()).unwrap_infallible();
+            said(format!("| {}", commas(&seen)))
+        }
+        _ => buffers(kind, fields),
+    }
+}
+
+fn items(mut fields: Fields) -> Result<Said, String> {
+    let count = fields.index()?;
+    let items: Vec<Result<u32, u32>> = fields
+        .rest()
+        .into_iter()
+        .map(|it| match it.strip_prefix('e') {
+            Some(error) => Ok(Err(word(error)?)),
+            None => Ok(Ok(word(it)?)),
+        })
+        .collect::<Result<_, String>>()?;
+    let mut source = FallibleIteratorReadWords::new(items);
+    let mut replies = vec![];
+    for _ in 0..count {
+        replies.push(format!("#{}", BoundedReadWords::<u32, Queue>::remaining(&source)));
+        replies.push(match ReadWords::<u32, Queue>::read(&mut source) {
+            Ok(word) => reply_word(word),
+            Err(error) => format!("e{error}"),
+        });
+    }
+    let left = source.into_iter().map(|it| it.map_or_else(|error| format!("e{error}"), |word| format!("w{word}"))).collect::<Vec<_>>();
+    replies.push(format!("| {}", commas(&left)));
+    said(replies.join(" "))
+}
+
+/// The crate's constructor takes items that are `Result`s, though its source reads words of any type: so its words are these.
+fn words(mut fields: Fields) -> Result<Said, String> {
+    let count = fields.index()?;
+    let given: Vec<Result<u32, Infallible>> = fields.words::<u32>()?.into_iter().map(Ok).collect();
+    let mut source = InfallibleIteratorReadWords::new(given);
+    let mut replies = vec![];
+    for turn in 0..count {
+        replies.push(format!("#{}", BoundedReadWords::<_, Stack>::remaining(&source)));
+        let read = if turn % 2 == 0 { ReadWords::<_, Stack>::read(&mut source) } else { ReadWords::<_, Queue>::read(&mut source) };
+        replies.push(reply_word(read.unwrap_infallible().map(UnwrapInfallible::unwrap_infallible)));
+    }
+    let left: Vec<u32> = source.into_iter().map(UnwrapInfallible::unwrap_infallible).collect();
+    replies.push(format!("| {}", commas(&left)));
+    by("items that are words", replies.join(" "))
+}
+
+fn reads<S: Semantics>(source: &mut impl ReadWords<u32, S, ReadError = Infallible>, count: usize) -> Vec<String> {
+    (0..count).map(|_| reply_word(source.read().unwrap_infallible())).collect()
+}
+
+/// `asread` and `intoread`.
+fn buffers(kind: &str, mut fields: Fields) -> Result<Said, String> {
+    let order = fields.word()?;
+    let buf = fields.list::<u32>()?;
+    let count = fields.index()?;
+    let to = fields.rest().first().map(|it| index(it)).transpose()?;
+    let mut replies = vec![];
+    let lends = kind == "asread";
+    macro_rules! read {
+        ($order:ty) => {
+            match (lends, to) {
+                (true, None) => replies.extend(reads::<$order>(&mut AsReadWords::<u32, $order>::as_read_words(&buf), count)),
+                (false, None) => replies.extend(reads::<$order>(&mut IntoReadWords::<u32, $order>::into_read_words(buf.clone()), count)),
+                (true, Some(to)) => {
+                    let mut source = AsSeekReadWords::<u32, $order>::as_seek_read_words(&buf);
+                    replies.push(moved(source.seek(to)));
+                    replies.extend(reads::<$order>(&mut source, count));
+                }
+                (false, Some(to)) => {
+                    let mut source = IntoSeekReadWords::<u32, $order>::into_seek_read_words(buf.clone());
+                    replies.push(moved(source.seek(to)));
+                    replies.extend(reads::<$order>(&mut source, count));
+                }
+            }
+        };
+    }
+    match order {
+        "s" => read!(Stack),
+        "q" => read!(Queue),
+        _ => return Err("an order is s or q".into()),
+    }
+    replies.push(if lends { format!("| {}", commas(&buf)) } else { "|".into() });
+    said(replies.join(" "))
+}

@@ -1,0 +1,107 @@
+//! Cursors and their reversals.
+use crate::fields::{by, commas, index, said, word, Fields, Said, Word};
+use constriction::backends::{BoundedReadWords, BoundedWriteError, BoundedWriteWords, Cursor, ReadWords, Reverse, WriteWords};
+use constriction::{Pos, PosSeek, Queue, Seek, Stack, UnwrapInfallible};
+use std::convert::Infallible;
+
+pub fn reply_word<W: Word>(found: Option<W>) -> String {
+    found.map_or("-".into(), |it| format!("w{it}"))
+}
+
+pub fn flag(is: bool) -> String {
+    if is { "t".into() } else { "f".into() }
+}
+
+pub fn moved(answer: Result<(), ()>) -> String {
+    if answer.is_ok() { "mv".into() } else { "no".into() }
+}
+
+/// One call of a backend. Of a reversal the length is given: then positions count from its other end where the line says so,
+/// and the free places are the inner position, since the crate answers the length.
+fn reply<W: Word, B>(backend: &mut B, call: &str, len: Option<usize>, free: Option<usize>) -> Result<String, String>
+where
+    B: BoundedReadWords<W, Stack, ReadError = Infallible>
+        + BoundedReadWords<W, Queue, ReadError = Infallible>
+        + BoundedWriteWords<W, WriteError = BoundedWriteError>
+        + PosSeek<Position = usize>
+        + Pos
+        + Seek,
+{
+    Ok(match call {
+        "sr" => reply_word(ReadWords::<W, Stack>::read(backend).unwrap_infallible()),
+        "qr" => reply_word(ReadWords::<W, Queue>::read(backend).unwrap_infallible()),
+        "sn" => format!("#{}", BoundedReadWords::<W, Stack>::remaining(backend)),
+        "qn" => format!("#{}", BoundedReadWords::<W, Queue>::remaining(backend)),
+        "sl" => format!("#{}", free.unwrap_or_else(|| backend.space_left())),
+        "sx" => flag(BoundedReadWords::<W, Stack>::is_exhausted(backend)),
+        "qx" => flag(BoundedReadWords::<W, Queue>::is_exhausted(backend)),
+        "fu" => flag(free.map_or_else(|| backend.is_full(), |free| free == 0)),
+        "po" => format!("#{}", len.map_or(backend.pos(), |len| len - backend.pos())),
+        _ => match (call.split_once(':'), len) {
+            (Some(("w", given)), _) => match backend.write(word(given)?) {
+                Ok(()) => "ok".into(),
+                Err(BoundedWriteError::OutOfSpace) => "oos".into(),
+            },
+            (Some(("k", to)), None) => moved(backend.seek(index(to)?)),
+            (Some(("k", to)), Some(len)) => match len.checked_sub(index(to)?) {
+                Some(to) => moved(backend.seek(to)),
+                None => "no".into(),
+            },
+            _ => return Err(format!("{call} is no call")),
+        },
+    })
+}
+
+fn end<W: Word>(cursor: Cursor<W, Vec<W>>) -> String {
+    let (buf, pos) = cursor.into_buf_and_pos();
+    format!("| {} @{pos}", commas(&buf))
+}
+
+fn of_reversal<W: Word>(mut reversed: Reverse<Cursor<W, Vec<W>>>, calls: &[&str], len: Option<usize>) -> Result<(Vec<String>, Reverse<Cursor<W, Vec<W>>>), String> {
+    let mut replies = vec![];
+    for call in calls {
+        let free = Some(reversed.0.pos());
+        replies.push(reply::<W, _>(&mut reversed, call, len, free)?);
+    }
+    Ok((replies, reversed))
+}
+
+pub fn answer<W: Word>(kind: &str, mut fields: Fields) -> Result<Said, String> {
+    let pos = fields.index()?;
+    let buf = fields.list::<W>()?;
+    let len = buf.len();
+    let Ok(mut cursor) = Cursor::<W, Vec<W>>::new_at_pos(buf, pos) else { return said("notpos") };
+    if kind == "extend" || kind == "rextend" {
+        let more = fields.words::<W>()?;
+        let (answer, cursor) = if kind == "extend" {
+            (cursor.extend_from_iter(more.into_iter()), cursor)
+        } else {
+            let mut reversed = Reverse(cursor);
+            (reversed.extend_from_iter(more.into_iter()), reversed.0)
+        };
+        return said(format!("{} {}", if answer.is_ok() { "ok" } else { "oos" }, end(cursor)));
+    }
+    let calls = fields.rest();
+    let rule = if kind != "cursor" && calls.iter().any(|it| matches!(*it, "sl" | "fu")) { "free places of a reversal" } else { "" };
+    let (replies, cursor) = match kind {
+        "cursor" => {
+            let replies = calls.iter().map(|call| reply::<W, _>(&mut cursor, call, None, None)).collect::<Result<Vec<_>, String>>()?;
+            (replies, cursor)
+        }
+        "turned" => {
+            let (replies, turned) = of_reversal(cursor.into_reversed(), &calls, Some(len))?;
+            (replies, turned.into_reversed())
+        }
+        "reversed" => {
+            let (replies, reversed) = of_reversal(Reverse(cursor), &calls, Some(len))?;
+            (replies, reversed.0)
+        }
+        "inner" => {
+            let (replies, reversed) = of_reversal(Reverse(cursor), &calls, None)?;
+            (replies, reversed.0)
+        }
+        _ => return Err("no kind of line".into()),
+    };
+    let said = replies.into_iter().chain([end(cursor)]).collect::<Vec<_>>().join(" ");
+    by(rule, said)
+}
