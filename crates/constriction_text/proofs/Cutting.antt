@@ -1,4 +1,4 @@
--- How bytes are cut at a separator, and an input into lines.
+-- How an input is cut into lines.
 use Rattle.std.proofs.Common.{refl, ◌≡◌, ℕ, ◌+◌, ◌-◌, ◌<◌, ◌≤◌, Bool, true, false, List, [], ◌∷◌, Some, None, ap, sym, ◌∙◌, length, take, drop, arith, eqb, nat_lt, cond, take_all, length-drop}
 use Rattle.std.specs.List.{position, position_or_len, slice_split}
 use Rattle.std.proofs.lemmas.Bool.{ltb-true, ltb-false}
@@ -6,35 +6,6 @@ use Rattle.std.proofs.lemmas.List.Splits.{slice_split_first, slice_split_none, l
 use Rattle.std.proofs.lemmas.Grind.{common_steps}
 use Rattle.std.proofs.lemmas.List.Sums.{fails_before_first}
 use Rattle.constriction_text.specs.Text.{lines_of, without_last_empty}
-
-some_inj : {A : Type 0} (x y : A) → Some x ≡ Some y → x ≡ y
-some_inj x y e = cc
-
--- a position that was found is the first, and stands in the list
-found_position : (n i at : ℕ) (b : Bool) → nat_lt i n ≡ b → Some at ≡ cond b (Some i) None → (at ≡ i) × (i < n)
-found_position n i at true t e = (some_inj at i e, ltb-true i n t)
-found_position n i at false t e = absurd (cc)
-
-no_position : (n i : ℕ) (b : Bool) → nat_lt i n ≡ b → None ≡ cond b (Some i) None → n ≤ i
-no_position n i true t e = absurd (cc)
-no_position n i false t e = ltb-false i n t
-
--- where a separator stands, the first part ends, and the others are those of what follows
-pub cut_at : (p : ℕ → Bool) (bytes : List ℕ) (at : ℕ) → Some at ≡ position p bytes
-    → slice_split p bytes ≡ take at bytes ∷ slice_split p (take (length bytes - (at + 1)) (drop (at + 1) bytes))
-cut_at p bytes at e =
-    let found = found_position (length bytes) (position_or_len p bytes) at (nat_lt (position_or_len p bytes) (length bytes)) refl e in
-    let rest : take (length bytes - (at + 1)) (drop (at + 1) bytes) ≡ drop (at + 1) bytes =
-    take_all (length bytes - (at + 1)) (drop (at + 1) bytes) (omega (arith, length-drop (at + 1) bytes)) in
-    slice_split_first p bytes 0 found.1 ∙ ap (λ i. take i bytes ∷ slice_split p (drop (i + 1) bytes)) (sym found.0)
-    ∙ ap (λ r. take at bytes ∷ slice_split p r) (sym rest)
-
--- where none stands, there is one part
-pub cut_nowhere : (p : ℕ → Bool) (bytes : List ℕ) → None ≡ position p bytes → slice_split p bytes ≡ bytes ∷ []
-cut_nowhere p bytes e =
-    let past = no_position (length bytes) (position_or_len p bytes) (nat_lt (position_or_len p bytes) (length bytes)) refl e in
-    slice_split_none p bytes (λ k x h. let fails = fails_before_first p bytes k x (grind (arith, common_steps)) in
-    grind (arith, common_steps))
 
 -- a part before others is a line
 before_others : (line : List ℕ) (parts : List (List ℕ)) → 0 < length parts

@@ -1,8 +1,5 @@
 mod Accepting
 mod Cutting
-pub mod Exactly
-mod LineReading
-mod Numbers
 mod OneAnswer
 mod RowTexts
 mod Writing

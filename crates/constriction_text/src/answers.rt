@@ -4,10 +4,10 @@ ghost use Rattle.std.specs.Prelude.{◌≡◌, ◌<◌, ◌≤◌, ◌++◌, fal
 ghost use Rattle.std.specs.Prelude.{IfOk, OnOk, string_bytes};
 ghost use Rattle.constriction_model.specs.Acceptance.{completed};
 ghost use Rattle.constriction_text.specs.Answering.{answer_of, answer_to, text_of_model};
-ghost use Rattle.constriction_text.specs.Grammar.{bits_of, form_of, precision_of, view};
+ghost use Rattle.constriction_lines.specs.Grammar.{bits_of, form_of, precision_of, view};
 ghost use Rattle.constriction_text.specs.Text.{IsAnswer, rows_text, quantile_text, symbol_text, uniform_text};
 
-use crate::line::{Command, Form, parse};
+use constriction_lines::{Command, Form, parse};
 use crate::line_model::{LineModel, model_of};
 use crate::rows::{push_row, push_rows};
 use crate::uniform::UniformRows;

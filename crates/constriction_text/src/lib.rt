@@ -6,11 +6,9 @@
 
 mod answers;
 mod contiguous;
-mod cut;
 mod fault;
 mod form_word;
 pub mod laws;
-mod line;
 mod line_model;
 mod program;
 mod rows;
@@ -18,5 +16,5 @@ mod uniform;
 
 pub use crate::answers::answer;
 pub use crate::fault::RunFault;
-pub use crate::line::{Command, Form, parse};
 pub use crate::program::run;
+pub use constriction_lines::{Command, Form, parse};

@@ -9,7 +9,7 @@ ghost use Rattle.constriction_text.specs.Answering.{answer_to};
 ghost use Rattle.constriction_text.specs.Text.{IsTextOf, lines_of};
 
 use crate::answers::push_answer;
-use crate::cut::cut;
+use constriction_lines::cut;
 use crate::fault::RunFault;
 use std::alloc::{AllocError, Global};
 use std::io::{Read, Write};

@@ -1,5 +1,5 @@
-use Rattle.constriction_text.proofs.Numbers.{only_of_more}
-use Rattle.constriction_text.proofs.line.parse_only_number.Goals as goal
+use Rattle.constriction_lines.proofs.Numbers.{only_of_more}
+use Rattle.constriction_lines.proofs.line.parse_only_number.Goals as goal
 
 pub returns-in-Some-after : goal.returns-in-Some-after
 returns-in-Some-after c =

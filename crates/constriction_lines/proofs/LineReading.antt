@@ -4,10 +4,10 @@ use Rattle.std.specs.Prelude.{◌==◌}
 use Rattle.std.specs.List.{slice_split}
 use Rattle.std.specs.Option.{option_map}
 use Rattle.std.specs.Result.{IfOk}
-use Rattle.constriction_text.specs.declared.line.Command.{Command}
-use Rattle.constriction_text.specs.declared.line.Form.{Form}
-use Rattle.constriction_text.specs.Grammar.{view}
-use Rattle.constriction_text.specs.Reading.{read_form, read_line, read_numbers, read_request, read_words, ◌>>=◌}
+use Rattle.constriction_lines.specs.declared.line.Command.{Command}
+use Rattle.constriction_lines.specs.declared.line.Form.{Form}
+use Rattle.constriction_lines.specs.Grammar.{view}
+use Rattle.constriction_lines.specs.Reading.{read_form, read_line, read_numbers, read_request, read_words, ◌>>=◌}
 
 -- a line of one word asks for nothing
 pub one_word : (line word : List ℕ) → slice_split (λ byte. byte == 32) line ≡ word ∷ [] → None ≡ read_line line

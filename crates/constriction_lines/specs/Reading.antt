@@ -4,10 +4,10 @@ use Rattle.std.specs.Prelude.{nat_lt, nat_le, ◌==◌, ◌&&◌, if◌then◌el
 use Rattle.std.specs.List.{slice_split}
 use Rattle.std.specs.Str.{all_ascii_digits, bytes_eq}
 use Rattle.std.specs.Str.Parse.{digits_value}
-use Rattle.constriction_text.specs.declared.line.Form.{Form}
-use Rattle.constriction_text.specs.declared.line.Form.TheVariants.{U8Precision6, U8Precision8, U16Precision12}
-use Rattle.constriction_text.specs.Grammar.{Request, table, infer, quantile, symbol, uniform}
-use Rattle.constriction_text.specs.Grammar.{form_word}
+use Rattle.constriction_lines.specs.declared.line.Form.{Form}
+use Rattle.constriction_lines.specs.declared.line.Form.TheVariants.{U8Precision6, U8Precision8, U16Precision12}
+use Rattle.constriction_lines.specs.Grammar.{Request, table, infer, quantile, symbol, uniform}
+use Rattle.constriction_lines.specs.Grammar.{form_word}
 
 infixl 10 ◌>>=◌
 -- the next step, where the one before found something

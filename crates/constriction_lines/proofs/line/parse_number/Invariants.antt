@@ -1,7 +1,7 @@
 use Rattle.std.proofs.Common.{◌≡◌, ◌<◌, ◌^◌, drop}
 use Rattle.std.specs.Str.{all_ascii_digits}
 use Rattle.std.specs.Str.Parse.{digits_value, digits_value_after}
-use Rattle.constriction_text.proofs.line.parse_number.Given as goal
+use Rattle.constriction_lines.proofs.line.parse_number.Given as goal
 
 -- the value so far, and the digits of the rest after it, make the whole
 abbrev pub invariant-loop-byte : goal.invariant-loop-byte

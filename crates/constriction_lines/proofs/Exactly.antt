@@ -11,13 +11,13 @@ use Rattle.std.specs.Cmp.Lexicographic.{same_text}
 use Rattle.std.specs.List.{AllByRecursion, AllZip, slice_split, join_with_byte, onto_first}
 use Rattle.std.specs.Str.{all_ascii_digits, bytes_eq}
 use Rattle.std.specs.Str.Parse.{AllDigits, digits_value}
-use Rattle.constriction_text.specs.declared.line.Command.{Command}
-use Rattle.constriction_text.specs.declared.line.Form.{Form}
-use Rattle.constriction_text.specs.declared.line.Form.TheVariants.{U8Precision6, U8Precision8, U16Precision12}
-use Rattle.constriction_text.specs.Grammar.{Request, table, infer, quantile, symbol, uniform, form_of, form_word, view, IsNumber, IsLineOf, Spells}
-use Rattle.constriction_text.specs.Parts.{only_number}
-use Rattle.constriction_text.specs.Reading.{keyword, numbers_of, forms, requests_of, read_number, read_numbers, read_form, read_request, read_words, read_line, ◌>>=◌}
-use Rattle.constriction_text.proofs.Numbers.{read_number-some}
+use Rattle.constriction_lines.specs.declared.line.Command.{Command}
+use Rattle.constriction_lines.specs.declared.line.Form.{Form}
+use Rattle.constriction_lines.specs.declared.line.Form.TheVariants.{U8Precision6, U8Precision8, U16Precision12}
+use Rattle.constriction_lines.specs.Grammar.{Request, table, infer, quantile, symbol, uniform, form_of, form_word, view, IsNumber, IsLineOf, Spells}
+use Rattle.constriction_lines.specs.Parts.{only_number}
+use Rattle.constriction_lines.specs.Reading.{keyword, numbers_of, forms, requests_of, read_number, read_numbers, read_form, read_request, read_words, read_line, ◌>>=◌}
+use Rattle.constriction_lines.proofs.Numbers.{read_number-some}
 
 pub none_is_none : {A : Type 0} (x : A) → None ≡ Some x → ⊥
 none_is_none x e = cc

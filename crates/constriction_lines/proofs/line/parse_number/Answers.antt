@@ -2,8 +2,8 @@ use Rattle.std.proofs.Common.{◌≡◌, ◌-◌, sym, arith, get_or, length}
 use Rattle.std.proofs.lemmas.Bool.{eqb-false}
 use Rattle.std.proofs.lemmas.Grind.{common_steps}
 use Rattle.std.specs.Char.{digit_value}
-use Rattle.constriction_text.proofs.Numbers.{value_grows_by, read_number-large, read_number-end}
-use Rattle.constriction_text.proofs.line.parse_number.Goals as goal
+use Rattle.constriction_lines.proofs.Numbers.{value_grows_by, read_number-large, read_number-end}
+use Rattle.constriction_lines.proofs.line.parse_number.Goals as goal
 
 pub returns-in_err-checked_mul : goal.returns-in_err-checked_mul
 returns-in_err-checked_mul c =

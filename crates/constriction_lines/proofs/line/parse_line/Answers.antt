@@ -1,6 +1,6 @@
 use Rattle.std.proofs.Common.{sym, ◌∙◌}
-use Rattle.constriction_text.proofs.LineReading.{one_word, no_form, with_form}
-use Rattle.constriction_text.proofs.line.parse_line.Goals as goal
+use Rattle.constriction_lines.proofs.LineReading.{one_word, no_form, with_form}
+use Rattle.constriction_lines.proofs.line.parse_line.Goals as goal
 
 pub returns-in_default : goal.returns-in_default
 returns-in_default c = one_word c.args.line.now c.cut.result.0.now (rw c.in_default.is at c.cut.ensures.parts)

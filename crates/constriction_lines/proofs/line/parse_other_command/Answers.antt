@@ -1,7 +1,7 @@
 use Rattle.std.proofs.Common.{◌≡◌, Some, None, false, codes, rules}
 use Rattle.std.specs.Str.{bytes_eq}
-use Rattle.constriction_text.proofs.Exactly.{no_request, uniform_read}
-use Rattle.constriction_text.proofs.line.parse_other_command.Goals as goal
+use Rattle.constriction_lines.proofs.Exactly.{no_request, uniform_read}
+use Rattle.constriction_lines.proofs.line.parse_other_command.Goals as goal
 
 pub returns : goal.returns
 returns c =

@@ -1,5 +1,5 @@
-use Rattle.constriction_text.proofs.Numbers.{numbers_none, numbers_some, numbers_end, after_nothing}
-use Rattle.constriction_text.proofs.line.parse_numbers.Goals as goal
+use Rattle.constriction_lines.proofs.Numbers.{numbers_none, numbers_some, numbers_end, after_nothing}
+use Rattle.constriction_lines.proofs.line.parse_numbers.Goals as goal
 
 pub loop-rest-init : goal.loop-rest-init
 loop-rest-init c = rw c.new-numbers.ensures.items (after_nothing _)

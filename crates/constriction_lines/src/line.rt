@@ -3,12 +3,12 @@
 ghost use Rattle.std.specs.Prelude.{◌≡◌, ◌∷◌, IfOk, IfSome, IfNone, codes, false, option_and_then};
 ghost use Rattle.std.specs.Option.{option_copied, option_map};
 ghost use Rattle.std.specs.Str.{bytes_eq};
-ghost use Rattle.constriction_text.specs.Grammar.{Request, Spells, form_of, view};
-ghost use Rattle.constriction_text.specs.Parts.{parts_of, first_and_others, only_number};
-ghost use Rattle.constriction_text.specs.Reading.{read_form, read_line};
-ghost use Rattle.constriction_text.specs.Reading.{read_number, read_numbers, read_request};
+ghost use Rattle.constriction_lines.specs.Grammar.{Request, Spells, form_of, view};
+ghost use Rattle.constriction_lines.specs.Parts.{parts_of, first_and_others, only_number};
+ghost use Rattle.constriction_lines.specs.Reading.{read_form, read_line};
+ghost use Rattle.constriction_lines.specs.Reading.{read_number, read_numbers, read_request};
 
-use crate::cut::cut;
+use crate::separator::cut;
 use std::alloc::{AllocError, Global};
 
 /// The type of the probabilities of a model, and its precision.

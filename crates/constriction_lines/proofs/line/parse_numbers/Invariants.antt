@@ -1,9 +1,9 @@
 use Rattle.std.proofs.Common.{◌≡◌, ◌+◌, length}
 use Rattle.std.specs.Option.{option_copied, option_map_or}
-use Rattle.constriction_text.specs.Parts.{parts_of}
-use Rattle.constriction_text.specs.Reading.{read_numbers}
-use Rattle.constriction_text.proofs.Numbers.{after}
-use Rattle.constriction_text.proofs.line.parse_numbers.Given as goal
+use Rattle.constriction_lines.specs.Parts.{parts_of}
+use Rattle.constriction_lines.specs.Reading.{read_numbers}
+use Rattle.constriction_lines.proofs.Numbers.{after}
+use Rattle.constriction_lines.proofs.line.parse_numbers.Given as goal
 
 -- the numbers so far, and those of the rest, are those of all
 abbrev pub invariant-loop-rest : goal.invariant-loop-rest

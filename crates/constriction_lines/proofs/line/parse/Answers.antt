@@ -1,5 +1,5 @@
-use Rattle.constriction_text.proofs.Exactly.{line_found, line_none}
-use Rattle.constriction_text.proofs.line.parse.Goals as goal
+use Rattle.constriction_lines.proofs.Exactly.{line_found, line_none}
+use Rattle.constriction_lines.proofs.line.parse.Goals as goal
 
 pub returns-clause-found : goal.returns-clause-found
 returns-clause-found c = line_found c.args.line.now c.parse_line.result c.parse_line.ensures

@@ -2,10 +2,10 @@
 use Rattle.std.specs.Prelude.{◌≡◌, ℕ, ◌<◌, ◌≤◌, ◌^◌, List, [], ◌∷◌, length, codes}
 use Rattle.std.specs.List.{AllZip, join_with_byte}
 use Rattle.std.specs.Str.Parse.{IsNumeral, digits_value}
-use Rattle.constriction_text.specs.declared.line.Form.{Form}
-use Rattle.constriction_text.specs.declared.line.Form.TheVariants.{U8Precision6, U8Precision8, U16Precision12}
-use Rattle.constriction_text.specs.declared.line.Command.{Command}
-use Rattle.constriction_text.specs.declared.line.Command.TheVariants as command
+use Rattle.constriction_lines.specs.declared.line.Form.{Form}
+use Rattle.constriction_lines.specs.declared.line.Form.TheVariants.{U8Precision6, U8Precision8, U16Precision12}
+use Rattle.constriction_lines.specs.declared.line.Command.{Command}
+use Rattle.constriction_lines.specs.declared.line.Command.TheVariants as command
 
 -- the word of a form: the type of its probabilities, and its precision
 abbrev pub form_word : Form → List ℕ

@@ -1,0 +1,4 @@
+pub mod Exactly
+mod LineReading
+mod Numbers
+mod Separating
