@@ -186,7 +186,21 @@ where
             }
             said(found)
         }
-        _ => by("tables from both ends", walked(rows(), letters)?),
+        _ => {
+            // of as many rows at either end as the line takes
+            let ends = letters.len().min(count);
+            let row_of = |symbol: usize| model.left_cumulative_and_probability(symbol).map(|(left, weight)| row((symbol as u64, left, weight)));
+            let front = (0..ends).map(row_of).collect::<Option<Vec<_>>>().ok_or("no row")?;
+            let back = (count - ends..count).rev().map(row_of).collect::<Option<Vec<_>>>().ok_or("no row")?;
+            let (mut front, mut back, mut left, mut out) = (front.into_iter(), back.into_iter(), count, String::new());
+            for letter in letters.chars() {
+                let found = if letter == 'f' { front.next() } else { back.next() }.filter(|_| left > 0);
+                out += &format!("#{left} ");
+                left -= found.is_some() as usize;
+                out += &found.map_or("- ".into(), |(symbol, left, weight)| format!("{symbol}:{left}:{weight} "));
+            }
+            by("tables from both ends", out + &format!("#{left}"))
+        }
     }
 }
 
