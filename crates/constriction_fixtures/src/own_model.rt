@@ -1,4 +1,4 @@
-//! A model of the caller: its rows, what it answers for a symbol, and the walk through its rows.
+//! A model of the caller: its rows, what it answers for a symbol and for a quantile, and the walk through its rows.
 
 ghost use Rattle.std.specs.Prelude.{◌≡◌, ◌<◌, ◌-◌, ◌∷◌, [], drop, nat_eq};
 ghost use Rattle.std.specs.Iterator.{at_most};
@@ -8,7 +8,9 @@ ghost use Rattle.std.proofs.lemmas.Grind.{common_steps};
 ghost use Rattle.constriction.specs.Rows.{rows_of};
 ghost use Rattle.constriction.specs.Tables.{YieldsRow};
 
-use constriction::stream::model::{EncoderModel, EntropyModel, IterableEntropyModel, Weight};
+use constriction::stream::model::{
+    DecoderModel, EncoderModel, EntropyModel, IterableEntropyModel, Weight,
+};
 use constriction_words::{BitArray, WholeNumber};
 use std::alloc::AllocError;
 
@@ -49,6 +51,31 @@ impl EncoderModel<3> for Triple {
     ghost equality_law = { nat_eq_equiv };
 
     ghost within_law = { λ m. Prim.search rules };
+}
+
+/// The row of a quantile is told by where rows begin.
+impl DecoderModel<3> for Triple {
+    ghost stands_for = { λ s t. t ≡ s };
+
+    ghost may_refuse = { λ _. ⊥ };
+
+    fn quantile_function(&self, quantile: u8) -> Result<(char, u8, Weight<u8>), AllocError> {
+        if quantile < 2 {
+            return Ok((self.first, 0, 2u8.into_nonzero_unchecked()));
+        }
+        if quantile < 7 {
+            return Ok((self.second, 2, 5u8.into_nonzero_unchecked()));
+        }
+        Ok((self.third, 7, 1u8.into_nonzero_unchecked()))
+    }
+
+    ghost tile_law = { λ m. record {
+      accepted = record {
+        tiles = record { positive = Prim.search (rules, common_steps); total = refl };
+        fit = Prim.search (rules, common_steps);
+      };
+      in_order = refl;
+    } };
 }
 
 /// The model of these letters.
