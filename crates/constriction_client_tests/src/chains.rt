@@ -11,16 +11,20 @@ use constriction::stream::model::{
 };
 use constriction_client::{ChainStep, DecoderForm, convert_chain};
 use constriction_fixtures::any_symbols::{SYMBOLS, WEIGHTS, decoder};
-use constriction_fixtures::symbol_types::{Letter, letters};
+use constriction_fixtures::symbol_types::letters;
 use constriction_words::{IndexWord, NonZeroBitArray};
 use std::alloc::Global;
 
-/// A decoder of letters in one of two forms.
-type Form = DecoderForm<char, u8, 6>;
-
-/// Takes a form through a chain.
-fn converted(alloc: Global, form: Form, steps: &[ChainStep]) -> Result<Form, ModelError> {
-    convert_chain(alloc, form, steps)
+/// Whether a chain leaves a form of letters that searches, if it is not refused.
+fn is_searching_after(
+    alloc: Global,
+    form: DecoderForm<char, u8, 6>,
+    steps: &[ChainStep],
+) -> Result<bool, ModelError> {
+    match convert_chain(alloc, form, steps) {
+        Ok(made) => Ok(matches!(made, DecoderForm::Search(_))),
+        Err(refusal) => Err(refusal),
+    }
 }
 
 /// A caller over any symbols and words: it has a form looked up, made anew and searched, and knows its rows.
@@ -62,13 +66,16 @@ fn a_form_of_words_of_16_bits_is_searched_again(rt: HostRuntime) {
     same(&rt, (symbol, left, weight.get()), (30, 1, 4094));
 }
 
-/// Takes the form of letters whose clones may be refused through a chain.
-fn converted_letters(
-    alloc: Global,
-    steps: &[ChainStep],
-) -> Result<DecoderForm<Letter, u8, 6>, ModelError> {
-    let searching = letters(alloc)?;
-    convert_chain(alloc, DecoderForm::Search(searching), steps)
+/// How a chain of the form of letters whose clones may be refused is refused, if it is.
+fn refusal_of(alloc: Global, steps: &[ChainStep]) -> Option<ModelError> {
+    let searching = match letters(alloc) {
+        Ok(model) => model,
+        Err(refusal) => return Some(refusal),
+    };
+    match convert_chain(alloc, DecoderForm::Search(searching), steps) {
+        Ok(_) => None,
+        Err(refusal) => Some(refusal),
+    }
 }
 
 /// The chains of one step that clones symbols.
@@ -80,11 +87,10 @@ const CLONING: [[ChainStep; 1]; 3] = [
 
 #[test]
 fn a_refused_clone_refuses_a_chain(rt: HostRuntime) {
-    let kept = converted_letters(rt.alloc(), &[ChainStep::IntoSearch]);
-    same(&rt, kept.is_ok(), true);
+    same(&rt, refusal_of(rt.alloc(), &[ChainStep::IntoSearch]), None);
     for steps in &CLONING {
-        let refused = converted_letters(rt.alloc(), steps).err();
-        same(&rt, refused, Some(ModelError::OutOfMemory));
+        let refusal = refusal_of(rt.alloc(), steps);
+        same(&rt, refusal, Some(ModelError::OutOfMemory));
     }
 }
 
@@ -103,8 +109,8 @@ fn a_refusal_of_memory_gives_up_the_form(rt: HostRuntime) {
     let Ok(searching) = decoder::<6>(rt.alloc(), &SYMBOLS, &WEIGHTS, false) else {
         return;
     };
-    match converted(rt.alloc(), DecoderForm::Search(searching), &EACH_STEP) {
-        Ok(made) => same(&rt, matches!(made, DecoderForm::Search(_)), true),
+    match is_searching_after(rt.alloc(), DecoderForm::Search(searching), &EACH_STEP) {
+        Ok(is_searching) => same(&rt, is_searching, true),
         Err(error) => same(&rt, error, ModelError::OutOfMemory),
     }
     end_of_requests(&rt);

@@ -69,8 +69,10 @@ fn is_row(
     answer: Result<(String, u8, Weight<u8>), AllocError>,
     expected: (&str, u8, u8),
 ) {
-    let (text, left, weight) = answer.expect(rt, "memory");
-    same(rt, (text.as_str(), left, weight.get()), expected);
+    match answer {
+        Ok((text, left, weight)) => same(rt, (text.as_str(), left, weight.get()), expected),
+        Err(AllocError) => panic!(rt; "memory was refused"),
+    }
 }
 
 /// The quantiles at both ends of each row, and the row.

@@ -89,10 +89,10 @@ fn run_over_letters(alloc: Global, written: &mut Vec<u8>) -> Result<(), RunFault
     run(alloc, &mut input, written)
 }
 
-/// Whether a line asks for something. It stops the test where memory is refused.
-fn asks(rt: &impl Abort, found: Result<Option<Command>, AllocError>) -> bool {
+/// Stops the test where a line asks for something, or for nothing, and is not to.
+fn asks(rt: &impl Abort, found: Result<Option<Command>, AllocError>, is_request: bool) {
     match found {
-        Ok(command) => command.is_some(),
+        Ok(command) => same(rt, command.is_some(), is_request),
         Err(AllocError) => panic!(rt; "memory was refused"),
     }
 }
@@ -100,11 +100,11 @@ fn asks(rt: &impl Abort, found: Result<Option<Command>, AllocError>) -> bool {
 #[test]
 fn contracts_leave_one_request(rt: HostRuntime) {
     let alloc = rt.alloc();
-    same(&rt, asks(&rt, of_a_letter(alloc)), false);
-    same(&rt, asks(&rt, of_two_ranges(alloc)), false);
-    same(&rt, asks(&rt, of_two_spaces(alloc)), false);
-    same(&rt, asks(&rt, of_many_digits(alloc)), false);
-    same(&rt, asks(&rt, of_a_range(alloc)), true);
+    asks(&rt, of_a_letter(alloc), false);
+    asks(&rt, of_two_ranges(alloc), false);
+    asks(&rt, of_two_spaces(alloc), false);
+    asks(&rt, of_many_digits(alloc), false);
+    asks(&rt, of_a_range(alloc), true);
 }
 
 /// Stops the test where an answer is not this text.

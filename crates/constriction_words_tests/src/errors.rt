@@ -30,25 +30,21 @@ fn each_side_is_mapped_alone(rt: HostRuntime) {
         requires { x < 200 }
         ensures { result ≡ x + 1 }
     { x + 1 };
-    let front: CoderError<u8, u8> = CoderError::Frontend(3);
-    let back: CoderError<u8, u8> = CoderError::Backend(3);
+    let found: [CoderError<u8, u8>; 4] = [
+        CoderError::<u8, u8>::Frontend(3).map_frontend(next),
+        CoderError::<u8, u8>::Backend(3).map_backend(next),
+        CoderError::<u8, u8>::Frontend(3).map_backend(next),
+        CoderError::<u8, u8>::Backend(3).map_frontend(next),
+    ];
     same(
         &rt,
-        (front.map_frontend(next), back.map_backend(next)),
-        (
-            CoderError::<u8, u8>::Frontend(4),
-            CoderError::<u8, u8>::Backend(4),
-        ),
-    );
-    let front: CoderError<u8, u8> = CoderError::Frontend(3);
-    let back: CoderError<u8, u8> = CoderError::Backend(3);
-    same(
-        &rt,
-        (front.map_backend(next), back.map_frontend(next)),
-        (
-            CoderError::<u8, u8>::Frontend(3),
-            CoderError::<u8, u8>::Backend(3),
-        ),
+        found,
+        [
+            CoderError::Frontend(4),
+            CoderError::Backend(4),
+            CoderError::Frontend(3),
+            CoderError::Backend(3),
+        ],
     );
 }
 
