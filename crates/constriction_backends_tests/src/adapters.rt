@@ -3,18 +3,15 @@
 ghost use Rattle.std.specs.Prelude.{◌≡◌, ◌↔◌, ◌+◌, ◌-◌, ◌/◌, ◌≤◌, length, slice_get, None, Ok, Err};
 ghost use Rattle.std.specs.Option.{option_map};
 
-use crate::checks::{next_of, same, vec_of};
+use crate::checks::{same, vec_of};
 use constriction_backends::{
     AsSeekReadWords, BoundedReadWords, FallibleCallbackWriteWords, FallibleIteratorReadWords,
     FusedWords, InfallibleCallbackWriteWords, InfallibleIteratorReadWords, IntoReadWords,
-    ReadWords, Reverse, WriteWords, laws,
+    ReadWords, WriteWords, laws,
 };
-use constriction_words::{Queue, Stack, UnwrapInfallible};
+use constriction_words::{Queue, UnwrapInfallible};
 use std::convert::Infallible;
-use std::iter::Copied;
 use std::ops::Range;
-use std::process::Abort;
-use std::slice::Iter;
 
 /// The first word of a slice, by a source over its iterator.
 fn first_of(words: &[u8]) -> Option<u8>
@@ -122,32 +119,6 @@ impl Iterator for Gapped {
 type Read = Result<Option<u8>, Infallible>;
 
 #[test]
-fn an_iterator_of_words_is_read_in_its_order(rt: HostRuntime) {
-    let words = [5u8, 6];
-    let mut source = InfallibleIteratorReadWords::new(words.iter().copied());
-    same(
-        &rt,
-        next_of::<Stack, _>(&mut source),
-        (2, false, true, Ok(Some(5))),
-    );
-    same(
-        &rt,
-        next_of::<Queue, _>(&mut source),
-        (1, false, true, Ok(Some(6))),
-    );
-    same(
-        &rt,
-        next_of::<Stack, _>(&mut source),
-        (0, true, true, Ok(None)),
-    );
-    same(
-        &rt,
-        next_of::<Queue, _>(&mut source),
-        (0, true, true, Ok(None)),
-    );
-}
-
-#[test]
 fn the_end_of_an_iterator_is_for_good(rt: HostRuntime) {
     let mut source = InfallibleIteratorReadWords::new(Gapped { calls: 0 });
     for expected in [Some(1), None, None, None] {
@@ -157,46 +128,10 @@ fn the_end_of_an_iterator_is_for_good(rt: HostRuntime) {
     same(&rt, left.next(), None);
 }
 
-/// A source over words, and an error in the place of one.
-type Items<'a> = FallibleIteratorReadWords<Copied<Iter<'a, Result<u8, char>>>>;
-
+/// Words, and an error in the place of one.
 const ITEMS: [Result<u8, char>; 3] = [Ok(1), Err('x'), Ok(2)];
 
 type ReadItem = Result<Option<u8>, char>;
-
-/// What such a source says of what is left: how many items, whether none is and whether none may be; and its next item.
-type Next = (usize, bool, bool, ReadItem);
-
-/// The source is read in either order, and once more after two reads in either order while it was turned round.
-fn all_items(mut source: Items) -> ([Next; 3], [ReadItem; 2]) {
-    let first = next_of::<Queue, _>(&mut source);
-    let second = next_of::<Stack, _>(&mut source);
-    let mut turned = Reverse(source);
-    let read = [
-        ReadWords::<u8, Queue>::read(&mut turned),
-        ReadWords::<u8, Stack>::read(&mut turned),
-    ];
-    ([first, second, next_of::<Queue, _>(&mut turned.0)], read)
-}
-
-#[test]
-fn an_error_stands_in_the_place_of_a_word(rt: HostRuntime) {
-    same(
-        &rt,
-        all_items(FallibleIteratorReadWords::new(ITEMS.iter().copied())),
-        (
-            [
-                (3, false, true, Ok(Some(1))),
-                (2, false, true, Err('x')),
-                (0, true, true, Ok(None)),
-            ],
-            [Ok(Some(2)), Ok(None)],
-        ),
-    );
-    let source: Items = FallibleIteratorReadWords::new(ITEMS.iter().copied());
-    let mut left = source.into_iter();
-    same(&rt, (left.next(), left.len()), (Some(Ok(1)), 2));
-}
 
 /// Two reads of a source whose count is right: the second one finds an item where two were left.
 fn two_reads<Source: BoundedReadWords<u8, Queue>>(
@@ -241,22 +176,6 @@ fn the_second_read_ends_where_one_item_was_left(rt: HostRuntime) {
     same(&rt, two_of_items(&ITEMS), (Ok(Some(1)), Err('x')));
 }
 
-/// Whether a sink may be full before it is given words, what it answers to them, what its callback,
-/// taken out, answers to 9, and how often it was called: it refuses what the third call hands it.
-fn calls_until_refused(words: &[u8]) -> (bool, Result<(), u8>, Result<(), u8>, u32) {
-    let mut calls = 0u32;
-    let mut sink = FallibleCallbackWriteWords::new(|word: u8| -> Result<(), u8> {
-        calls = calls.saturating_add(1);
-        if calls == 3 { Err(word) } else { Ok(()) }
-    });
-    let may_be_full = sink.maybe_full();
-    let answer = sink.extend_from_iter(words.iter().copied());
-    let mut callback = sink.into_inner();
-    let after = callback(9);
-    drop(callback);
-    (may_be_full, answer, after, calls)
-}
-
 /// The number of calls that a callback answers once it was taken out of its sink.
 fn calls_of_three(word: u8) -> Result<(), u8>
     ensures { result ≡ Err 3 }
@@ -272,35 +191,9 @@ fn calls_of_three(word: u8) -> Result<(), u8>
     callback(word)
 }
 
-/// What a callback adds up of words and one more, what the sink answers to each, and whether it may
-/// be full.
-fn sum_of(words: &[u32], last: u32) -> ([Result<(), Infallible>; 2], bool, u32) {
-    let mut total = 0u32;
-    let mut sink = InfallibleCallbackWriteWords::new(|word: u32| total = total.saturating_add(
-        word,
-    ));
-    let answers = [
-        sink.extend_from_iter(words.iter().copied()),
-        sink.write(last),
-    ];
-    let may_be_full = sink.maybe_full();
-    drop(sink.into_inner());
-    (answers, may_be_full, total)
-}
-
-#[test]
-fn a_callback_is_given_each_word_until_it_refuses(rt: HostRuntime) {
-    same(&rt, sum_of(&[1, 2, 3], 4), ([Ok(()), Ok(())], true, 10));
-    let refused = calls_until_refused(&[1, 2, 3, 4]);
-    same(&rt, refused, (true, Err(3), Ok(()), 4));
-}
-
 #[test]
 fn callers_know_what_their_callbacks_did(rt: HostRuntime) {
-    same(
-        &rt,
-        (sum_of_two(250, 9), calls_of_two(1, 2)),
-        (259, (2, true)),
-    );
+    same(&rt, sum_of_two(250, 9), 259);
+    same(&rt, calls_of_two(1, 2), (2, true));
     same(&rt, calls_of_three(7), Err(3));
 }

@@ -2,25 +2,15 @@
 //!
 //! A proof of `assert_eq!` costs much and a call of these costs nothing, so tests call these.
 
-use constriction_backends::{BoundedReadWords, Cursor, SafeBuf};
-use constriction_words::{Pos, Semantics};
+use constriction_backends::{Cursor, SafeBuf};
+use constriction_words::Pos;
 use std::alloc::{AllocError, Global};
-use std::boxed::BoxedSlice;
-use std::fmt::{Debug, Display};
+use std::fmt::Debug;
 use std::process::Abort;
 
 /// Stops the test where the two differ, and shows both.
 pub fn same<T: PartialEq + Debug + Drop>(rt: &impl Abort, found: T, expected: T) {
-    same_at(rt, "found, beside expected", found, expected);
-}
-
-/// The same of one case among several, whose name is shown too.
-pub fn same_at<Name, T>(rt: &impl Abort, name: Name, found: T, expected: T)
-where
-    Name: Display + Drop,
-    T: PartialEq + Debug + Drop,
-{
-    assert_eq!(rt; found, expected, "{name}");
+    assert_eq!(rt; found, expected);
 }
 
 /// Stops the test where a `Vec` does not hold these words.
@@ -31,26 +21,6 @@ pub fn holds(rt: &impl Abort, found: &Vec<u8>, expected: &[u8]) {
 /// These words in memory of their own. It stops the test where memory is refused.
 pub fn vec_of(rt: &impl Abort, alloc: Global, words: &[u8]) -> Vec<u8> {
     words.to_vec(alloc).expect(rt, "memory")
-}
-
-/// The same as a boxed slice.
-pub fn boxed_of(rt: &impl Abort, alloc: Global, words: &[u8]) -> BoxedSlice<u8> {
-    vec_of(rt, alloc, words).into_boxed_slice()
-}
-
-/// How many items a source has left, whether it has none, whether it may have none, and its next word then.
-pub fn next_of<S: Semantics, Source: BoundedReadWords<u8, S>>(
-    source: &mut Source,
-) -> (usize, bool, bool, Result<Option<u8>, Source::ReadError>)
-    requires { Source.can_read source.old }
-    ensures { Source.can_read source.new }
-{
-    (
-        source.remaining(),
-        source.is_exhausted(),
-        source.maybe_exhausted(),
-        source.read(),
-    )
 }
 
 /// Stops the test where a cursor does not stand at this position, or does not hold these words.

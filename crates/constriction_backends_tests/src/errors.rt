@@ -1,8 +1,7 @@
-//! What errors print, and how they compare.
+//! What is an error, and how it compares.
 
 use crate::checks::same;
-use constriction::backends::BoundedWriteError;
-use constriction_words::CoderError;
+use constriction_backends::BoundedWriteError;
 use std::error::Error;
 
 fn is_an_error<E: Error>(_error: &E) {}
@@ -13,11 +12,4 @@ fn a_full_sink_is_out_of_space(rt: HostRuntime) {
     is_an_error(&error);
     let clone = error.clone().expect(&rt, "a clone");
     same(&rt, &clone, &error);
-    let nested: CoderError<u8, BoundedWriteError> = CoderError::Backend(clone);
-    let text = format!(in rt.alloc(); "{error} {error:?} {nested}").expect(&rt, "memory");
-    same(
-        &rt,
-        text.as_str(),
-        "Out of space. OutOfSpace Error while reading compressed data: Out of space.",
-    );
 }

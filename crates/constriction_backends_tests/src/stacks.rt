@@ -2,11 +2,9 @@
 
 ghost use Rattle.std.specs.Prelude.{◌≡◌, ◌<◌, List, [], Some, None, Ok, IfSome, IsOk, length, vec_capacity};
 
-use crate::checks::{end_of_requests, holds, next_of, same, same_at, vec_of};
-use constriction_backends::{
-    BoundedReadWords, Cursor, ReadWords, Reverse, StackBackend, WriteWords, laws,
-};
-use constriction_words::{Pos, PosSeek, Queue, ReadWriteError, Seek, Stack};
+use crate::checks::{end_of_requests, holds, same, vec_of};
+use constriction_backends::{Cursor, ReadWords, Reverse, StackBackend, WriteWords, laws};
+use constriction_words::{Queue, ReadWriteError, Stack};
 use smallvec::SmallVec;
 use std::alloc::AllocError;
 use std::convert::Infallible;
@@ -14,95 +12,8 @@ use std::iter::Copied;
 use std::process::Abort;
 use std::slice::Iter;
 
-/// A stack that is empty takes 1, 2 and 3. It is then not exhausted, and never full.
-fn is_filled<W>(rt: &impl Abort, words: &mut W)
-where
-    W: ReadWords<u8, Stack> + WriteWords<u8, WriteError = AllocError>,
-    requires { W.can_write words.old }
-{
-    let was_exhausted = words.maybe_exhausted();
-    same(rt, words.write(1), Ok(()));
-    same(rt, words.extend_from_iter([2u8, 3].iter().copied()), Ok(()));
-    same(
-        rt,
-        [was_exhausted, words.maybe_exhausted(), words.maybe_full()],
-        [true, false, false],
-    );
-}
-
-/// A stack of 1, 2 and 3 is read to its end, and once more.
-fn is_emptied<W>(rt: &impl Abort, words: &mut W)
-where
-    W: BoundedReadWords<u8, Stack, ReadError = Infallible>,
-    requires { W.can_read words.old }
-{
-    same(
-        rt,
-        [
-            next_of::<Stack, W>(words),
-            next_of::<Stack, W>(words),
-            next_of::<Stack, W>(words),
-            next_of::<Stack, W>(words),
-            next_of::<Stack, W>(words),
-        ],
-        [
-            (3, false, false, Ok(Some(3))),
-            (2, false, false, Ok(Some(2))),
-            (1, false, false, Ok(Some(1))),
-            (0, true, true, Ok(None)),
-            (0, true, true, Ok(None)),
-        ],
-    );
-}
-
-/// Seeks in a stack of three words, and where each leaves it.
-const SEEKS: [(usize, Result<(), ()>, usize); 4] = [
-    (4, Err(()), 3),
-    (3, Ok(()), 3),
-    (1, Ok(()), 1),
-    (2, Err(()), 1),
-];
-
-/// A stack of three words is cut by seeks.
-fn goes_back<W>(rt: &impl Abort, words: &mut W)
-where
-    W: PosSeek<Position = usize> + Pos + Seek,
-{
-    same(rt, words.pos(), 3);
-    for (pos, answer, after) in SEEKS {
-        same_at(rt, pos, (words.seek(pos), words.pos()), (answer, after));
-    }
-}
-
-#[test]
-fn a_vec_is_a_stack(rt: HostRuntime) {
-    let mut words = Vec::new(rt.alloc());
-    is_filled(&rt, &mut words);
-    holds(&rt, &words, &[1, 2, 3]);
-    is_emptied(&rt, &mut words);
-    is_filled(&rt, &mut words);
-    goes_back(&rt, &mut words);
-    holds(&rt, &words, &[1]);
-}
-
 /// A stack whose first two words stand in the value itself.
 type Two = SmallVec<u8, 2>;
-
-/// It holds these words.
-fn two_hold(rt: &impl Abort, words: &Two, expected: &[u8]) {
-    same(rt, words.as_slice(), expected);
-}
-
-#[test]
-fn a_small_vec_is_a_stack(rt: HostRuntime) {
-    let mut words: Two = SmallVec::new(rt.alloc());
-    is_filled(&rt, &mut words);
-    two_hold(&rt, &words, &[1, 2, 3]);
-    is_emptied(&rt, &mut words);
-    is_filled(&rt, &mut words);
-    goes_back(&rt, &mut words);
-    two_hold(&rt, &words, &[1]);
-}
 
 /// What a stack answers to the words of an iterator.
 fn extended<W>(words: &mut W, more: &[u8]) -> Result<(), AllocError>
@@ -116,8 +27,8 @@ where
 /// It holds 1, 2, 3 and 4, or the first two where memory for the others was refused.
 fn holds_all_or_two(rt: &impl Abort, words: &Two, answer: Result<(), AllocError>) {
     match answer {
-        Ok(()) => two_hold(rt, words, &[1, 2, 3, 4]),
-        Err(AllocError) => two_hold(rt, words, &[1, 2]),
+        Ok(()) => same(rt, words.as_slice(), [1, 2, 3, 4].as_slice()),
+        Err(AllocError) => same(rt, words.as_slice(), [1, 2].as_slice()),
     }
 }
 
@@ -264,8 +175,12 @@ where
 #[test]
 fn any_stack_gives_back_what_was_written(rt: HostRuntime) {
     let alloc = rt.alloc();
-    gives_back(&rt, vec_of(&rt, alloc, &[0; 3]));
-    gives_back::<Two>(&rt, SmallVec::new(alloc));
+    let mut words = Vec::new(alloc);
+    same(&rt, extended(&mut words, &NINE), Ok(()));
+    gives_back(&rt, words);
+    let mut words: Two = SmallVec::new(alloc);
+    same(&rt, extended(&mut words, &NINE), Ok(()));
+    gives_back(&rt, words);
     let cursor = Cursor::<u8, _>::new_at_write_beginning(vec_of(&rt, alloc, &[0; 3]));
     gives_back(&rt, cursor);
     let cursor = Cursor::<u8, _>::new_at_write_end(vec_of(&rt, alloc, &[0; 3]));

@@ -3,12 +3,11 @@
 ghost use Rattle.std.specs.Prelude.{◌≡◌, ◌++◌, List, take, IfOk};
 ghost use Rattle.constriction_client.specs.Quantiles.{ArePairs};
 
-use crate::checks::{holds, same};
-use crate::model_checks::small;
+use crate::checks::{holds, same, small};
 use constriction::stream::model::{ContiguousCategoricalEntropyModel, EntropyModel};
-use constriction_backends::{InfallibleIteratorReadWords, Reverse};
+use constriction_backends::InfallibleIteratorReadWords;
 use constriction_client::{ReadFault, read_symbols};
-use constriction_words::{CoderError, Queue, Stack};
+use constriction_words::{CoderError, Queue};
 use std::convert::Infallible;
 
 type Small = ContiguousCategoricalEntropyModel<u8, Vec<u8>, 6>;
@@ -26,12 +25,6 @@ fn read_slice(model: &Small, words: &[u8], count: usize, out: &mut Vec<(usize, u
     read_symbols::<Queue, _, _, _, _, 6>(model, &mut source, count, out)
 }
 
-/// Reads the pairs of the words of a slice, by such a source turned round.
-fn read_turned(model: &Small, words: &[u8], count: usize, out: &mut Vec<(usize, u8)>) -> Read {
-    let mut source = Reverse(InfallibleIteratorReadWords::new(words.iter().copied()));
-    read_symbols::<Stack, _, _, _, _, 6>(model, &mut source, count, out)
-}
-
 #[test]
 fn words_of_an_iterator_are_read_as_pairs(rt: HostRuntime) {
     let model = small(&rt, rt.alloc());
@@ -40,7 +33,4 @@ fn words_of_an_iterator_are_read_as_pairs(rt: HostRuntime) {
     let refused = Err(CoderError::Frontend(ReadFault::QuantileTooLarge));
     same(&rt, read_slice(&model, &[3, 64], 5, &mut out), refused);
     holds(&rt, &out, &[(0, 2), (3, 41), (1, 0)]);
-    let mut back = Vec::new(rt.alloc());
-    same(&rt, read_turned(&model, &[2, 63], 5, &mut back), Ok(2));
-    holds(&rt, &back, &[(0, 2), (3, 41)]);
 }

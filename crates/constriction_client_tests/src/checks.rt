@@ -2,6 +2,7 @@
 //!
 //! A proof of `assert_eq!` costs much and a call of these costs nothing, so tests call these.
 
+use constriction_fixtures::contiguous::{Table, WEIGHTS, table};
 use std::alloc::{AllocError, Global};
 use std::fmt::{Debug, Display};
 use std::process::Abort;
@@ -11,32 +12,19 @@ pub fn same<T: PartialEq + Debug + Drop>(rt: &impl Abort, found: T, expected: T)
     assert_eq!(rt; found, expected);
 }
 
-/// The same of one case among several, whose name is shown too.
-pub fn same_at<Name, T>(rt: &impl Abort, name: Name, found: T, expected: T)
-where
-    Name: Copy + PartialEq + Debug,
-    T: PartialEq + Debug + Drop,
-{
-    same(rt, (name, found), (name, expected));
-}
-
 /// Stops the test where a `Vec` does not hold these items.
 pub fn holds<T: PartialEq + Debug>(rt: &impl Abort, found: &Vec<T>, expected: &[T]) {
     same(rt, found.as_slice(), expected);
 }
 
-/// The same of one case among several, whose name is shown too.
-pub fn holds_at<Name, T>(rt: &impl Abort, name: Name, found: &Vec<T>, expected: &[T])
-where
-    Name: Copy + PartialEq + Debug,
-    T: PartialEq + Debug,
-{
-    same_at(rt, name, found.as_slice(), expected);
-}
-
 /// These words in memory of their own. It stops the test where memory is refused.
 pub fn vec_of(rt: &impl Abort, alloc: Global, words: &[u8]) -> Vec<u8> {
     words.to_vec(alloc).expect(rt, "memory")
+}
+
+/// The model of the weights 3, 18, 1 and 42. It stops the test where memory is refused.
+pub fn small(rt: &impl Abort, alloc: Global) -> Table<6> {
+    table::<6>(alloc, &WEIGHTS, false).expect(rt, "accepted")
 }
 
 /// Stops the test where the value is not printed as this text.

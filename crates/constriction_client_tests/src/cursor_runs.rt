@@ -4,7 +4,7 @@ ghost use Rattle.std.specs.Prelude.{◌≡◌, IfOk};
 ghost use Rattle.constriction_backends.specs.Cursor.{state_of};
 ghost use Rattle.constriction_backends.specs.CursorState.{reversal};
 
-use crate::checks::{end_of_requests, holds_at, same, same_at, vec_of};
+use crate::checks::{end_of_requests, holds, same, vec_of};
 use constriction_backends::{Cursor, Reverse, SafeBuf, SafeBufMut};
 use constriction_client::laws::{run_cursor_and_reversal, runs_are_alike};
 use constriction_client::{CursorCall, CursorReply, run_cursor, run_reversed};
@@ -40,78 +40,6 @@ const REPLIES: [CursorReply<u8>; 9] = [
     CursorReply::OutOfSpace,
 ];
 
-/// Calls at both ends of three words and one past them, and the replies.
-const CALLS_AT_ENDS: [CursorCall<u8>; 17] = [
-    CursorCall::Seek(0),
-    CursorCall::Position,
-    CursorCall::StackRead,
-    CursorCall::StackExhausted,
-    CursorCall::QueueExhausted,
-    CursorCall::Full,
-    CursorCall::Write(7),
-    CursorCall::Position,
-    CursorCall::Seek(3),
-    CursorCall::Position,
-    CursorCall::StackExhausted,
-    CursorCall::Full,
-    CursorCall::Write(8),
-    CursorCall::QueueRead,
-    CursorCall::Seek(4),
-    CursorCall::Seek(usize::MAX),
-    CursorCall::Position,
-];
-
-const REPLIES_AT_ENDS: [CursorReply<u8>; 17] = [
-    CursorReply::Moved,
-    CursorReply::Count(0),
-    CursorReply::Word(None),
-    CursorReply::Flag(true),
-    CursorReply::Flag(false),
-    CursorReply::Flag(false),
-    CursorReply::Written,
-    CursorReply::Count(1),
-    CursorReply::Moved,
-    CursorReply::Count(3),
-    CursorReply::Flag(false),
-    CursorReply::Flag(true),
-    CursorReply::OutOfSpace,
-    CursorReply::Word(None),
-    CursorReply::NotMoved,
-    CursorReply::NotMoved,
-    CursorReply::Count(3),
-];
-
-/// Calls of a cursor that has no words, and the replies.
-const CALLS_OF_NONE: [CursorCall<u8>; 12] = [
-    CursorCall::StackRead,
-    CursorCall::QueueRead,
-    CursorCall::Write(1),
-    CursorCall::Full,
-    CursorCall::Position,
-    CursorCall::Seek(0),
-    CursorCall::Seek(1),
-    CursorCall::StackRemaining,
-    CursorCall::QueueRemaining,
-    CursorCall::SpaceLeft,
-    CursorCall::StackExhausted,
-    CursorCall::QueueExhausted,
-];
-
-const REPLIES_OF_NONE: [CursorReply<u8>; 12] = [
-    CursorReply::Word(None),
-    CursorReply::Word(None),
-    CursorReply::OutOfSpace,
-    CursorReply::Flag(true),
-    CursorReply::Count(0),
-    CursorReply::Moved,
-    CursorReply::NotMoved,
-    CursorReply::Count(0),
-    CursorReply::Count(0),
-    CursorReply::Count(0),
-    CursorReply::Flag(true),
-    CursorReply::Flag(true),
-];
-
 /// A cursor over these words at 1.
 fn at_1<Buf: SafeBufMut<u8> + Drop>(rt: &impl Abort, buf: Buf) -> Cursor<u8, Buf> {
     Cursor::<u8, Buf>::new_at_pos_mut(buf, 1).expect(rt, "1 is a position")
@@ -134,103 +62,33 @@ fn one_after_the_other<Buf: SafeBufMut<u8>, Turned: SafeBufMut<u8>>(
 }
 
 /// Stops the test where the replies of both are not these.
-fn both_are(rt: &impl Abort, name: &str, found: BothReplies, expected: &[CursorReply<u8>]) {
+fn both_are(rt: &impl Abort, found: BothReplies, expected: &[CursorReply<u8>]) {
     let (replies, others) = found.expect(rt, "memory");
-    holds_at(rt, name, &replies, expected);
-    holds_at(rt, name, &others, expected);
+    holds(rt, &replies, expected);
+    holds(rt, &others, expected);
+}
+
+/// The buffer of a caller's own of 10, 20, 30.
+fn marked(rt: &impl Abort, alloc: Global) -> Marked {
+    Marked::new(vec_of(rt, alloc, &[10, 20, 30]))
 }
 
 /// Stops the test where a cursor over 10, 20, 30 at 1, or the reversal of one over a copy of them, replies otherwise to the
 /// calls, or leaves other words or another position.
-fn are_run<Buf: SafeBufMut<u8> + Drop>(
-    rt: &impl Abort,
-    alloc: Global,
-    name: &str,
-    buf: Buf,
-    copy: Buf,
-) {
+fn are_run<Buf: SafeBufMut<u8> + Drop>(rt: &impl Abort, alloc: Global, buf: Buf, copy: Buf) {
     let mut cursor = at_1(rt, buf);
     let mut reversed = at_1(rt, copy).into_reversed();
     let found = one_after_the_other(alloc, &mut cursor, &mut reversed, &CALLS);
-    both_are(rt, name, found, &REPLIES);
-    let (buf, pos) = cursor.into_buf_and_pos();
-    same_at(rt, name, (buf.words(), pos), ([10, 99, 30].as_slice(), 3));
-    let (buf, pos) = reversed.0.into_buf_and_pos();
-    same_at(rt, name, (buf.words(), pos), ([30, 99, 10].as_slice(), 0));
+    both_are(rt, found, &REPLIES);
+    same(rt, cursor.buf().words(), [10, 99, 30].as_slice());
+    same(rt, reversed.0.buf().words(), [30, 99, 10].as_slice());
+    same(rt, [cursor.pos(), reversed.0.pos()], [3, 0]);
 }
 
 #[test]
-fn a_cursor_over_each_owned_buffer_and_its_reversal_reply_the_same(rt: HostRuntime) {
-    let words = [10u8, 20, 30];
+fn a_cursor_over_a_buffer_of_the_caller_and_its_reversal_reply_the_same(rt: HostRuntime) {
     let alloc = rt.alloc();
-    let first = vec_of(&rt, alloc, &words);
-    let second = vec_of(&rt, alloc, &words);
-    are_run(&rt, alloc, "vec", first, second);
-    let first = Marked::new(vec_of(&rt, alloc, &words));
-    let second = Marked::new(vec_of(&rt, alloc, &words));
-    are_run(&rt, alloc, "own", first, second);
-}
-
-#[test]
-fn a_cursor_over_each_lent_buffer_and_its_reversal_reply_the_same(rt: HostRuntime) {
-    let words = [10u8, 20, 30];
-    let alloc = rt.alloc();
-    let [mut first, mut second] = [words; 2];
-    are_run(&rt, alloc, "array", &mut first, &mut second);
-    let [mut first, mut second] = [words; 2];
-    are_run(
-        &rt,
-        alloc,
-        "slice",
-        first.as_mut_slice(),
-        second.as_mut_slice(),
-    );
-    same(&rt, [first, second], [[10, 99, 30], [30, 99, 10]]);
-}
-
-/// Words, calls of a cursor that stands before them, the replies, and the words and the position
-/// that are left.
-type Case<'a> = (
-    &'a str,
-    &'a [u8],
-    &'a [CursorCall<u8>],
-    &'a [CursorReply<u8>],
-    &'a [u8],
-    usize,
-);
-
-/// A case on a cursor over a copy of its words, and on the reversal of such a cursor, which is turned back afterwards.
-fn is_case(rt: &impl Abort, alloc: Global, (name, words, calls, replies, left, pos): Case) {
-    let mut cursor = Cursor::<u8, _>::new_at_write_beginning(vec_of(rt, alloc, words));
-    let turned = Cursor::<u8, _>::new_at_write_beginning(vec_of(rt, alloc, words));
-    let mut reversed = turned.into_reversed();
-    let found = one_after_the_other(alloc, &mut cursor, &mut reversed, calls);
-    both_are(rt, name, found, replies);
-    let back = reversed.into_reversed();
-    same_at(rt, name, [cursor.pos(), back.pos()], [pos, pos]);
-    holds_at(rt, name, cursor.buf(), left);
-    holds_at(rt, name, back.buf(), left);
-}
-
-const CASES: [Case; 4] = [
-    ("no words", &[], &CALLS_OF_NONE, &REPLIES_OF_NONE, &[], 0),
-    ("no calls", &[1, 2, 3], &[], &[], &[1, 2, 3], 0),
-    ("neither", &[], &[], &[], &[], 0),
-    (
-        "ends",
-        &[1, 2, 3],
-        &CALLS_AT_ENDS,
-        &REPLIES_AT_ENDS,
-        &[7, 2, 3],
-        3,
-    ),
-];
-
-#[test]
-fn runs_at_the_ends_and_of_nothing(rt: HostRuntime) {
-    for case in &CASES {
-        is_case(&rt, rt.alloc(), *case);
-    }
+    are_run(&rt, alloc, marked(&rt, alloc), marked(&rt, alloc));
 }
 
 /// A cursor and the reversal of a copy of it reply the same, whatever the calls are.
@@ -251,7 +109,7 @@ fn a_cursor_and_its_reversal_are_run_together(rt: HostRuntime) {
     let slice: &mut [u8] = &mut words;
     let mut cursor = at_1(&rt, slice);
     let found = replies_of_both(rt.alloc(), &mut cursor, &CALLS);
-    both_are(&rt, "slice", found, &REPLIES);
+    both_are(&rt, found, &REPLIES);
     same(&rt, words, [10, 99, 30]);
 }
 

@@ -1,7 +1,6 @@
 //! Items that a model or a sink refuses, and what was written before them.
 
-use crate::checks::{holds, same};
-use crate::model_checks::small;
+use crate::checks::{holds, same, small};
 use constriction_backends::{BoundedWriteError, Cursor, FallibleCallbackWriteWords};
 use constriction_client::{QuantileFault, write_quantiles};
 use constriction_fixtures::contiguous::Table;

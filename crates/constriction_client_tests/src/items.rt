@@ -5,8 +5,7 @@ ghost use Rattle.std.specs.Cmp.{nat_eq_equiv};
 ghost use Rattle.std.proofs.Common.{rules};
 ghost use Rattle.constriction.specs.Rows.{rows_of};
 
-use crate::checks::{end_of_requests, holds, holds_at, prints, same, same_at, vec_of};
-use crate::model_checks::{made, small};
+use crate::checks::{end_of_requests, holds, prints, same};
 use constriction::stream::model::{DecoderModel, EncoderModel, EntropyModel, Weight};
 use constriction_client::laws::{
     each_quantile_in_range_has_a_row, form_symbols_differ, reads_back, reads_back_reversed,
@@ -17,27 +16,19 @@ use constriction_fixtures::contiguous::{Table, WEIGHTS, table};
 use constriction_words::{BitArray, CoderError, Stack};
 use std::alloc::{AllocError, Global};
 use std::convert::Infallible;
+use std::error::Error;
 use std::process::Abort;
 
 type Written = Result<(), CoderError<QuantileFault, AllocError>>;
 
 type Read = Result<usize, CoderError<ReadFault, Infallible>>;
 
-fn write<const PRECISION: usize>(
-    model: &Table<PRECISION>,
-    items: &[(usize, u8)],
-    words: &mut Vec<u8>,
-) -> Written {
+fn write(model: &Table<6>, items: &[(usize, u8)], words: &mut Vec<u8>) -> Written {
     write_quantiles(model, items, words)
 }
 
-fn read<const PRECISION: usize>(
-    model: &Table<PRECISION>,
-    words: &mut Vec<u8>,
-    count: usize,
-    out: &mut Vec<(usize, u8)>,
-) -> Read {
-    read_symbols::<Stack, _, _, _, _, PRECISION>(model, words, count, out)
+fn read(model: &Table<6>, words: &mut Vec<u8>, count: usize, out: &mut Vec<(usize, u8)>) -> Read {
+    read_symbols::<Stack, _, _, _, _, 6>(model, words, count, out)
 }
 
 type Back = Result<Vec<(usize, u8)>, CoderError<QuantileFault, AllocError>>;
@@ -45,98 +36,6 @@ type Back = Result<Vec<(usize, u8)>, CoderError<QuantileFault, AllocError>>;
 /// The items, as they come back.
 fn back(alloc: Global, model: &Table<6>, items: &[(usize, u8)]) -> Back {
     there_and_back(alloc, model, items)
-}
-
-/// What is wrong with the second of three items, the items, and whether its symbol is impossible: its offset is too large
-/// otherwise.
-type Faulty = (&'static str, &'static [(usize, u8)], bool);
-
-const FAULTS: [Faulty; 3] = [
-    ("an offset of the weight", &[(0, 2), (2, 1), (9, 0)], false),
-    (
-        "a symbol past the last one",
-        &[(0, 2), (4, 0), (2, 1)],
-        true,
-    ),
-    (
-        "a symbol that is no word",
-        &[(0, 2), (usize::MAX, 9), (2, 1)],
-        true,
-    ),
-];
-
-/// The first of these items alone is written, after 7.
-fn stops_after_the_first(rt: &impl Abort, alloc: Global, model: &Table<6>, case: &Faulty) {
-    let (name, items, impossible) = *case;
-    let fault = if impossible {
-        QuantileFault::ImpossibleSymbol
-    } else {
-        QuantileFault::OffsetTooLarge
-    };
-    let mut words = vec_of(rt, alloc, &[7]);
-    let written = write(model, items, &mut words);
-    same_at(rt, name, written, Err(CoderError::Frontend(fault)));
-    holds_at(rt, name, &words, &[7, 2]);
-    same_at(rt, name, back(alloc, model, items).is_err(), true);
-}
-
-#[test]
-fn the_words_before_a_fault_stay_written(rt: HostRuntime) {
-    let model = small(&rt, rt.alloc());
-    for case in &FAULTS {
-        stops_after_the_first(&rt, rt.alloc(), &model, case);
-    }
-}
-
-/// How many reads there are of some words, how many of them give a pair, if none meets a word that is no quantile, the
-/// words that are left, and the pairs, of which the first was there before.
-type Reads = (
-    usize,
-    &'static [u8],
-    Option<usize>,
-    &'static [u8],
-    &'static [(usize, u8)],
-);
-
-const READS: [Reads; 5] = [
-    (0, &[2, 63], Some(0), &[2, 63], &[(2, 0)]),
-    (1, &[2, 63], Some(1), &[2], &[(2, 0), (3, 41)]),
-    (2, &[2, 63], Some(2), &[], &[(2, 0), (3, 41), (0, 2)]),
-    (5, &[2, 63], Some(2), &[], &[(2, 0), (3, 41), (0, 2)]),
-    (3, &[2, 64, 63], None, &[2], &[(2, 0), (3, 41)]),
-];
-
-/// So many reads of the words give the answer, and leave these words and these pairs.
-fn are_read(rt: &impl Abort, alloc: Global, model: &Table<6>, case: &Reads) {
-    let (count, words, given, left, pairs) = *case;
-    let mut words = vec_of(rt, alloc, words);
-    let mut out = [(2, 0)].to_vec(alloc).expect(rt, "memory");
-    let answer = read(model, &mut words, count, &mut out);
-    let no_quantile = CoderError::Frontend(ReadFault::QuantileTooLarge);
-    same_at(rt, count, answer, given.ok_or(no_quantile));
-    holds_at(rt, count, &words, left);
-    holds_at(rt, count, &out, pairs);
-}
-
-#[test]
-fn words_are_read_up_to_the_count_or_to_one_that_is_no_quantile(rt: HostRuntime) {
-    let model = small(&rt, rt.alloc());
-    for case in &READS {
-        are_read(&rt, rt.alloc(), &model, case);
-    }
-}
-
-#[test]
-fn at_the_full_width_each_word_is_a_quantile(rt: HostRuntime) {
-    let model = made::<8>(&rt, rt.alloc(), &[200], true);
-    let mut words = Vec::new(rt.alloc());
-    let items = [(1, 55), (0, 199), (1, 0)];
-    same(&rt, write(&model, &items, &mut words), Ok(()));
-    holds(&rt, &words, &[255, 199, 200]);
-    let mut out = Vec::new(rt.alloc());
-    same(&rt, read(&model, &mut words, 4, &mut out), Ok(3));
-    holds(&rt, &out, &[(1, 0), (0, 199), (1, 55)]);
-    same(&rt, words.is_empty(), true);
 }
 
 /// Six items, their quantiles, and the items from the last to the first.
@@ -247,23 +146,39 @@ impl DecoderModel<2> for Letters {
 fn a_model_of_the_caller_may_name_a_symbol_twice(rt: HostRuntime) {
     let back = there_and_back(rt.alloc(), &Letters, &[(b'a', 0), (b'b', 1)]);
     holds(&rt, &back.expect(&rt, "pairs"), &[(b'b', 1), (b'a', 0)]);
+    let refused = there_and_back(rt.alloc(), &Letters, &[(b'a', 0), (b'c', 0)]);
+    same(&rt, refused.is_err(), true);
 }
+
+fn is_an_error<E: Error>(_error: &E) {}
 
 #[test]
 fn faults_of_items_are_sentences(rt: HostRuntime) {
-    let impossible = "The model has no entry of the symbol.";
+    let alloc = rt.alloc();
+    let impossible = QuantileFault::ImpossibleSymbol;
+    let too_large = QuantileFault::OffsetTooLarge;
+    let no_quantile = ReadFault::QuantileTooLarge;
+    is_an_error(&impossible);
+    is_an_error(&no_quantile);
     prints(
         &rt,
-        rt.alloc(),
-        &QuantileFault::ImpossibleSymbol,
-        impossible,
+        alloc,
+        &impossible,
+        "The model has no entry of the symbol.",
     );
-    let too_large = "The offset is not below the weight of the symbol.";
-    prints(&rt, rt.alloc(), &QuantileFault::OffsetTooLarge, too_large);
-    let refused = "Memory for a pair was refused.";
-    prints(&rt, rt.alloc(), &ReadFault::OutOfMemory, refused);
-    let no_quantile = "The word is no quantile.";
-    prints(&rt, rt.alloc(), &ReadFault::QuantileTooLarge, no_quantile);
+    prints(
+        &rt,
+        alloc,
+        &too_large,
+        "The offset is not below the weight of the symbol.",
+    );
+    prints(&rt, alloc, &no_quantile, "The word is no quantile.");
+    prints(
+        &rt,
+        alloc,
+        &ReadFault::OutOfMemory,
+        "Memory for a pair was refused.",
+    );
 }
 
 #[test]

@@ -19,10 +19,6 @@ mod failing_sources;
 #[cfg(test)]
 mod items;
 #[cfg(test)]
-mod message;
-#[cfg(test)]
-mod model_checks;
-#[cfg(test)]
 mod own_ends;
 #[cfg(test)]
 mod owned_symbols;

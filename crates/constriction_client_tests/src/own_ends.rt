@@ -4,8 +4,7 @@ ghost use Rattle.std.specs.Prelude.{◌≡◌};
 ghost use Rattle.constriction_backends.specs.Stack.{Pushes};
 ghost use Rattle.constriction_backends.specs.StackLaws.{Pushes-told};
 
-use crate::checks::{holds, same};
-use crate::model_checks::small;
+use crate::checks::{holds, same, small};
 use constriction_backends::{ReadWords, WriteWords};
 use constriction_client::{ReadFault, read_symbols, write_quantiles};
 use constriction_fixtures::contiguous::Table;

@@ -3,11 +3,10 @@
 ghost use Rattle.std.specs.Prelude.{◌≡◌, ◌<◌, IfOk, string_bytes};
 ghost use Rattle.constriction.specs.Rows.{Row, IsRowOf};
 
-use crate::checks::{holds, same, same_at};
+use crate::checks::{holds, same};
 use constriction::stream::model::{
-    DecoderModel, EncoderModel, EntropyModel, FromIterableEntropyModel, IterableEntropyModel,
-    ModelError, NonContiguousCategoricalDecoderModel, NonContiguousCategoricalEncoderModel,
-    NonContiguousLookupDecoderModel, Weight,
+    DecoderModel, EncoderModel, EntropyModel, ModelError, NonContiguousCategoricalDecoderModel,
+    NonContiguousCategoricalEncoderModel, NonContiguousLookupDecoderModel, Weight,
 };
 use constriction_client::laws::{decoder_and_encoder, there_and_back_of_two};
 use constriction_client::{
@@ -48,11 +47,6 @@ fn decoder(rt: &impl Abort, alloc: Global) -> Decoder {
     made.expect(rt, "accepted")
 }
 
-fn lookup(rt: &impl Abort, alloc: Global) -> Result<Lookup, ModelError> {
-    let texts = texts(rt, alloc);
-    Lookup::from_symbols_and_nonzero_fixed_point_probabilities(alloc, texts, WEIGHTS, false)
-}
-
 fn encoder(rt: &impl Abort, alloc: Global) -> Result<Encoder, ModelError> {
     let texts = texts(rt, alloc);
     Encoder::from_symbols_and_nonzero_fixed_point_probabilities(alloc, texts, WEIGHTS, false)
@@ -75,8 +69,10 @@ fn is_row(
     answer: Result<(String, u8, Weight<u8>), AllocError>,
     expected: (&str, u8, u8),
 ) {
-    let (text, left, weight) = answer.expect(rt, "memory");
-    same(rt, (text.as_str(), left, weight.get()), expected);
+    match answer {
+        Ok((text, left, weight)) => same(rt, (text.as_str(), left, weight.get()), expected),
+        Err(AllocError) => panic!(rt; "memory was refused"),
+    }
 }
 
 /// The quantiles at both ends of each row, and the row.
@@ -109,88 +105,42 @@ const ENTRIES: [(&str, Option<(u8, u8)>); 4] = [
     ("b", None),
 ];
 
-/// Stops the test where the model does not have these entries.
-fn encodes(rt: &impl Abort, alloc: Global, model: &Encoder) {
+/// Stops the test where a clone of the model does not have these entries.
+fn clone_encodes(rt: &impl Abort, alloc: Global, model: &Encoder) {
+    let clone = model.clone().expect(rt, "memory");
     for each in &ENTRIES {
         let (symbol, expected) = *each;
-        let found = model.left_cumulative_and_probability(&text(rt, alloc, symbol));
-        same_at(rt, symbol, plain_entry(found), expected);
+        let found = clone.left_cumulative_and_probability(&text(rt, alloc, symbol));
+        same(rt, (symbol, plain_entry(found)), (symbol, expected));
     }
-    same(rt, model.support_size(), 3);
+    same(rt, clone.support_size(), 3);
 }
 
-/// Stops the test where a model that searches does not answer the rows.
-fn searching_answers(rt: &impl Abort, model: &Decoder) {
-    answers(rt, model);
+/// Stops the test where a clone of a model that searches does not answer the rows.
+fn clone_searches(rt: &impl Abort, model: &Decoder) {
+    answers(rt, &model.clone().expect(rt, "memory"));
 }
 
 /// The same of a model with a table.
-fn looking_up_answers(rt: &impl Abort, model: &Lookup) {
-    answers(rt, model);
-}
-
-/// Stops the test where a model that searches, or its clone, does not answer the rows.
-fn is_searching(rt: &impl Abort, made: Result<Decoder, ModelError>) {
+fn clone_looks_up(rt: &impl Abort, made: Result<Lookup, ModelError>) {
     let made = made.expect(rt, "a model");
-    searching_answers(rt, &made);
-    searching_answers(rt, &made.clone().expect(rt, "memory"));
-    let text = text_of(&made, 20).expect(rt, "a text");
-    same(rt, text.as_str(), "be");
-}
-
-/// The same of a model with a table, of its clone, and of the searching one in it, lent and taken out.
-fn is_looking_up(rt: &impl Abort, made: Result<Lookup, ModelError>) {
-    let made = made.expect(rt, "a model");
-    looking_up_answers(rt, &made);
-    looking_up_answers(rt, &made.clone().expect(rt, "memory"));
-    answers(rt, &made.as_non_contiguous_categorical());
-    searching_answers(rt, &made.into_non_contiguous_categorical());
-}
-
-/// Stops the test where an encoder, or its clone, does not have the entries.
-fn is_encoding(rt: &impl Abort, alloc: Global, made: Result<Encoder, ModelError>) {
-    let made = made.expect(rt, "a model");
-    encodes(rt, alloc, &made);
-    encodes(rt, alloc, &made.clone().expect(rt, "memory"));
+    answers(rt, &made.clone().expect(rt, "memory"));
 }
 
 #[test]
-fn models_of_texts_answer_and_are_cloned(rt: HostRuntime) {
-    let alloc = rt.alloc();
-    is_searching(&rt, Ok(decoder(&rt, alloc)));
-    is_looking_up(&rt, lookup(&rt, alloc));
-    is_encoding(&rt, alloc, encoder(&rt, alloc));
-}
-
-#[test]
-fn models_of_texts_are_looked_up(rt: HostRuntime) {
+fn models_of_texts_are_cloned_and_answer(rt: HostRuntime) {
     let alloc = rt.alloc();
     let model = decoder(&rt, alloc);
-    is_looking_up(&rt, Lookup::from_iterable_entropy_model(alloc, &model));
-    is_looking_up(&rt, model.to_lookup_decoder_model(alloc));
+    clone_searches(&rt, &model);
+    clone_looks_up(&rt, model.to_lookup_decoder_model(alloc));
+    let text = text_of(&model, 20).expect(&rt, "a text");
+    same(&rt, text.as_str(), "be");
 }
 
-/// Whether a step is from the back, and the row that it gives.
-const STEPS: [(bool, (&str, u8, u8)); 3] = [
-    (false, ("a", 0, 3)),
-    (true, ("", 21, 43)),
-    (true, ("be", 3, 18)),
-];
-
 #[test]
-fn a_table_of_texts_is_walked_from_both_ends(rt: HostRuntime) {
-    let model = decoder(&rt, rt.alloc());
-    let mut table = model.symbol_table();
-    for each in &STEPS {
-        let (from_the_back, row) = *each;
-        let step = if from_the_back {
-            table.next_back()
-        } else {
-            table.next()
-        };
-        is_row(&rt, step.expect(&rt, "a row"), row);
-    }
-    same(&rt, table.next().is_none(), true);
+fn an_encoder_of_texts_is_cloned_and_answers(rt: HostRuntime) {
+    let made = encoder(&rt, rt.alloc()).expect(&rt, "accepted");
+    clone_encodes(&rt, rt.alloc(), &made);
 }
 
 /// The form that each kind of step leaves of a decoder of texts.
@@ -240,7 +190,6 @@ fn replies(rt: &impl Abort, alloc: Global, form: &DecoderForm<String, u8, 6>) {
 fn a_chain_of_texts_replies(rt: HostRuntime) {
     let model = decoder(&rt, rt.alloc());
     let form = converted(rt.alloc(), model).expect(&rt, "a form");
-    answers(&rt, &form);
     replies(&rt, rt.alloc(), &form);
 }
 

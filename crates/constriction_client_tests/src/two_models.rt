@@ -1,37 +1,25 @@
 //! Items that one model writes and another one reads back: through a stack, and in a cursor.
 
-ghost use Rattle.std.specs.Prelude.{◌≡◌, ◌<◌, ◌≤◌, [], ◌∷◌, nat_eq, IfOk};
+ghost use Rattle.std.specs.Prelude.{◌≡◌, ◌<◌, ◌≤◌, [], ◌∷◌, nat_eq};
 ghost use Rattle.std.specs.Cmp.{nat_eq_equiv};
 ghost use Rattle.std.proofs.Common.{rules};
-ghost use Rattle.constriction.specs.Rows.{contiguous_rows, entry_of};
+ghost use Rattle.constriction.specs.Rows.{entry_of};
 
-use crate::checks::{end_of_requests, holds, holds_at, same, same_at, vec_of};
+use crate::checks::{end_of_requests, holds, same, small};
 use crate::items::Letters;
-use crate::model_checks::{self, answers_as_a_scan};
 use constriction::stream::model::{
-    ContiguousCategoricalEntropyModel, DecoderModel, EncoderModel, EncodesOver, EntropyModel,
-    ModelError, Weight,
+    DecoderModel, EncoderModel, EncodesOver, EntropyModel, ModelError, Weight,
 };
 use constriction_backends::{BoundedWriteError, Cursor};
 use constriction_client::QuantileFault;
 use constriction_client::laws::{
     CursorFault, decoder_and_encoder, there_and_back_in_a_cursor, there_and_back_of_two,
 };
-use constriction_fixtures::contiguous::{WEIGHTS, table};
-use constriction_words::{BitArray, CoderError, ReadWriteError, Seek};
+use constriction_fixtures::contiguous::{Table, WEIGHTS, table};
+use constriction_fixtures::given::of_four;
+use constriction_words::{BitArray, CoderError, Pos, ReadWriteError, Seek};
 use std::alloc::{AllocError, Global};
 use std::process::Abort;
-
-type Small = ContiguousCategoricalEntropyModel<u8, Vec<u8>, 6>;
-
-type Items = Vec<(usize, u8)>;
-
-/// The model of these weights.
-fn small(alloc: Global, weights: &[u8]) -> Result<Small, ModelError>
-    ensures { IfOk result (λ m. ⟦<Small as EntropyModel<6>>⟧.rows m ≡ contiguous_rows weights.now) }
-{
-    Small::from_nonzero_fixed_point_probabilities(alloc, weights.iter().copied(), false)
-}
 
 /// The entries of [`Letters`], and no more: `b` and the later `a`. They leave a quantile out, so no
 /// decoder has these rows.
@@ -108,79 +96,62 @@ const REVERSED: [(usize, u8); 3] = [(1, 0), (3, 41), (0, 2)];
 /// The same by two models of the same rows.
 fn back_of_two(
     alloc: Global,
-    decoder: &Small,
-    encoder: &Small,
+    decoder: &Table<6>,
+    encoder: &Table<6>,
     items: &[(usize, u8)],
 ) -> Back<usize, u8>
-    requires { ⟦<Small as EntropyModel<6>>⟧.rows encoder.now ≡ ⟦<Small as EntropyModel<6>>⟧.rows decoder.now }
+    requires { ⟦<Table<6> as EntropyModel<6>>⟧.rows encoder.now ≡ ⟦<Table<6> as EntropyModel<6>>⟧.rows decoder.now }
 {
     back_of_bytes(alloc, decoder, encoder, items)
 }
 
 #[test]
 fn two_models_of_one_table_give_items_back(rt: HostRuntime) {
-    let decoder = small(rt.alloc(), &WEIGHTS).expect(&rt, "accepted");
-    let encoder = small(rt.alloc(), &WEIGHTS).expect(&rt, "accepted");
+    let decoder = of_four(rt.alloc(), WEIGHTS).expect(&rt, "accepted");
+    let encoder = of_four(rt.alloc(), WEIGHTS).expect(&rt, "accepted");
     let back = back_of_two(rt.alloc(), &decoder, &encoder, &ITEMS).expect(&rt, "items");
     holds(&rt, &back, &REVERSED);
 }
 
 /// The way in a cursor that stands after the first of these words, by a model and a reference to it. It gives what comes
-/// back, and the words and the position that are left.
+/// back, and the position that is left.
 fn in_a_cursor(
     alloc: Global,
-    model: &Small,
+    model: &Table<6>,
     items: &[(usize, u8)],
-    words: Vec<u8>,
-) -> (Result<Items, CursorFault>, Vec<u8>, usize) {
-    let mut cursor = Cursor::new_at_write_end_mut(words);
+    words: &mut [u8],
+) -> (Result<Vec<(usize, u8)>, CursorFault>, usize) {
+    let mut cursor = Cursor::<u8, &mut [u8]>::new_at_write_end_mut(words);
     let _ = cursor.seek(1);
     let back = there_and_back_in_a_cursor(alloc, model, &model, items, &mut cursor);
-    let (words, pos) = cursor.into_buf_and_pos();
-    (back, words, pos)
+    (back, cursor.pos())
 }
 
 /// Items are refused in a cursor over 7, 8 and 9 that stands after the first, and these words and the position stay.
 fn keeps_the_words(
     rt: &impl Abort,
     alloc: Global,
-    model: &Small,
-    (name, items, fault, left, end): (&str, [(usize, u8); 3], CursorFault, [u8; 3], usize),
+    model: &Table<6>,
+    items: &[(usize, u8)],
+    (fault, left, end): (CursorFault, [u8; 3], usize),
 ) {
-    let (back, words, pos) = in_a_cursor(alloc, model, &items, vec_of(rt, alloc, &[7, 8, 9]));
-    same_at(rt, name, back.err(), Some(fault));
-    holds_at(rt, name, &words, &left);
-    same_at(rt, name, pos, end);
+    let mut words = [7u8, 8, 9];
+    let (back, pos) = in_a_cursor(alloc, model, items, &mut words);
+    same(rt, back.err(), Some(fault));
+    same(rt, (words, pos), (left, end));
 }
 
 #[test]
 fn a_cursor_keeps_the_words_before_a_refusal(rt: HostRuntime) {
-    let model = model_checks::small(&rt, rt.alloc());
+    let model = small(&rt, rt.alloc());
     let impossible = CoderError::Frontend(QuantileFault::ImpossibleSymbol);
+    let items = [(0, 2), (4, 0), (1, 0)];
+    keeps_the_words(&rt, rt.alloc(), &model, &items, (impossible, [7, 2, 9], 2));
     let too_large = CoderError::Frontend(QuantileFault::OffsetTooLarge);
+    let items = [(0, 2), (2, 1), (1, 0)];
+    keeps_the_words(&rt, rt.alloc(), &model, &items, (too_large, [7, 2, 9], 2));
     let full = CoderError::Backend(ReadWriteError::Write(BoundedWriteError::OutOfSpace));
-    let case = (
-        "an impossible symbol",
-        [(0, 2), (4, 0), (1, 0)],
-        impossible,
-        [7, 2, 9],
-        2,
-    );
-    keeps_the_words(&rt, rt.alloc(), &model, case);
-    let case = (
-        "an offset of the weight",
-        [(0, 2), (2, 1), (1, 0)],
-        too_large,
-        [7, 2, 9],
-        2,
-    );
-    keeps_the_words(&rt, rt.alloc(), &model, case);
-    keeps_the_words(
-        &rt,
-        rt.alloc(),
-        &model,
-        ("no place", ITEMS, full, [7, 2, 63], 3),
-    );
+    keeps_the_words(&rt, rt.alloc(), &model, &ITEMS, (full, [7, 2, 63], 3));
 }
 
 /// The items come back in their order. Whichever request is refused, the words of all items stand then.
@@ -189,10 +160,8 @@ fn a_refusal_of_memory_leaves_the_words_in_a_cursor(rt: HostRuntime) {
     let Ok(model) = table::<6>(rt.alloc(), &WEIGHTS, false) else {
         return;
     };
-    let Ok(words) = [7u8, 8, 9, 10, 11, 12].to_vec(rt.alloc()) else {
-        return;
-    };
-    let (back, words, pos) = in_a_cursor(rt.alloc(), &model, &ITEMS, words);
+    let mut words = [7u8, 8, 9, 10, 11, 12];
+    let (back, pos) = in_a_cursor(rt.alloc(), &model, &ITEMS, &mut words);
     match back {
         Ok(items) => {
             holds(&rt, &items, &ITEMS);
@@ -204,7 +173,7 @@ fn a_refusal_of_memory_leaves_the_words_in_a_cursor(rt: HostRuntime) {
             CoderError::Backend(ReadWriteError::Read(AllocError)),
         ),
     }
-    holds(&rt, &words, &[7, 2, 63, 3, 11, 12]);
+    same(&rt, words, [7, 2, 63, 3, 11, 12]);
     end_of_requests(&rt);
 }
 
@@ -229,8 +198,8 @@ fn a_refusal_of_memory_leaves_no_decoder_and_no_encoder(rt: HostRuntime) {
     };
     match decoder_and_encoder::<_, 6>(rt.alloc(), &model) {
         Ok((decoder, encoder)) => {
-            answers_as_a_scan::<_, 6>(&rt, &decoder, &WEIGHTS);
-            same(&rt, encoder.support_size(), 4);
+            let sizes = [decoder.support_size(), encoder.support_size()];
+            same(&rt, sizes, [4, 4]);
         }
         Err(error) => same(&rt, error, ModelError::OutOfMemory),
     }

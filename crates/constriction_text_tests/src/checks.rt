@@ -11,27 +11,9 @@ pub fn same<T: PartialEq + Debug + Drop>(rt: &impl Abort, found: T, expected: T)
     assert_eq!(rt; found, expected);
 }
 
-/// The same of one case among several, whose name is shown too.
-pub fn same_at<Name, T>(rt: &impl Abort, name: Name, found: T, expected: T)
-where
-    Name: Display + Drop,
-    T: PartialEq + Debug + Drop,
-{
-    assert_eq!(rt; found, expected, "{name}");
-}
-
 /// Stops the test where a `Vec` does not hold these items.
 pub fn holds<T: PartialEq + Debug>(rt: &impl Abort, found: &Vec<T>, expected: &[T]) {
     same(rt, found.as_slice(), expected);
-}
-
-/// The same of one case among several, whose name is shown too.
-pub fn holds_at<Name, T>(rt: &impl Abort, name: Name, found: &Vec<T>, expected: &[T])
-where
-    Name: Display + Drop,
-    T: PartialEq + Debug,
-{
-    same_at(rt, name, found.as_slice(), expected);
 }
 
 /// Stops the test where the value is not printed as this text.
@@ -40,14 +22,6 @@ pub fn prints<T: Display>(rt: &impl Abort, alloc: Global, value: &T, text: &str)
         panic!(rt; "memory was refused");
     };
     same(rt, printed.as_str(), text);
-}
-
-/// Stops the test where the value is not shown to a programmer as this text.
-pub fn shows<T: Debug>(rt: &impl Abort, alloc: Global, value: &T, text: &str) {
-    let Ok(shown) = format!(in alloc; "{value:?}") else {
-        panic!(rt; "memory was refused");
-    };
-    same(rt, shown.as_str(), text);
 }
 
 /// More requests for memory than any test makes.

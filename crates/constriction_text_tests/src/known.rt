@@ -11,7 +11,7 @@ use constriction_text::laws::{
 };
 use constriction_text::{Command, Form, RunFault, answer, parse, run};
 use std::alloc::{AllocError, Global};
-use std::test::Fail;
+use std::process::Abort;
 
 /// What a line of one letter asks for.
 fn of_a_letter(alloc: Global) -> Result<Option<Command>, AllocError>
@@ -89,30 +89,38 @@ fn run_over_letters(alloc: Global, written: &mut Vec<u8>) -> Result<(), RunFault
     run(alloc, &mut input, written)
 }
 
-#[test]
-fn contracts_leave_one_request(rt: HostRuntime) -> Result<(), Fail> {
-    same(&rt, of_a_letter(rt.alloc())?.is_none(), true);
-    same(&rt, of_two_ranges(rt.alloc())?.is_none(), true);
-    same(&rt, of_two_spaces(rt.alloc())?.is_none(), true);
-    same(&rt, of_many_digits(rt.alloc())?.is_none(), true);
-    same(&rt, of_a_range(rt.alloc())?.is_some(), true);
-    Ok(())
+/// Stops the test where a line asks for something, or for nothing, and is not to.
+fn asks(rt: &impl Abort, found: Result<Option<Command>, AllocError>, is_request: bool) {
+    match found {
+        Ok(command) => same(rt, command.is_some(), is_request),
+        Err(AllocError) => panic!(rt; "memory was refused"),
+    }
 }
 
 #[test]
-fn contracts_leave_one_answer(rt: HostRuntime) -> Result<(), Fail> {
-    same(&rt, answer_to_a_letter(rt.alloc())?.as_str(), "bad line\n");
-    same(
-        &rt,
-        answer_to_weights(rt.alloc())?.as_str(),
-        "0 0 1\n1 1 63\n",
-    );
-    same(
-        &rt,
-        answer_to_few_weights(rt.alloc())?.as_str(),
-        "invalid\n",
-    );
-    Ok(())
+fn contracts_leave_one_request(rt: HostRuntime) {
+    let alloc = rt.alloc();
+    asks(&rt, of_a_letter(alloc), false);
+    asks(&rt, of_two_ranges(alloc), false);
+    asks(&rt, of_two_spaces(alloc), false);
+    asks(&rt, of_many_digits(alloc), false);
+    asks(&rt, of_a_range(alloc), true);
+}
+
+/// Stops the test where an answer is not this text.
+fn says(rt: &impl Abort, answer: Result<String, AllocError>, text: &str) {
+    match answer {
+        Ok(found) => same(rt, found.as_str(), text),
+        Err(AllocError) => panic!(rt; "memory was refused"),
+    }
+}
+
+#[test]
+fn contracts_leave_one_answer(rt: HostRuntime) {
+    let alloc = rt.alloc();
+    says(&rt, answer_to_a_letter(alloc), "bad line\n");
+    says(&rt, answer_to_weights(alloc), "0 0 1\n1 1 63\n");
+    says(&rt, answer_to_few_weights(alloc), "invalid\n");
 }
 
 #[test]

@@ -1,5 +1,7 @@
 //! The tests of lines and whole inputs.
 //!
+//! What lines are answered is compared by the input and the output of `constriction_rows`.
+//!
 //! A library that has tests of its own is proved twice, so none of them has any. Tests use the
 //! public interface alone.
 #![tactic(auto)]
@@ -9,10 +11,6 @@ mod checks;
 #[cfg(test)]
 mod known;
 #[cfg(test)]
-mod lines;
-#[cfg(test)]
 mod refused_lines;
 #[cfg(test)]
 mod runs;
-#[cfg(test)]
-mod tables;

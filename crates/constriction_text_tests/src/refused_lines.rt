@@ -3,29 +3,30 @@
 
 use crate::checks::{end_of_requests, same};
 use crate::runs::run_into;
-use constriction_text::{Command, RunFault, answer, parse};
+use constriction_text::{Command, Form, RunFault, answer, parse};
 use std::alloc::{AllocError, Global};
 use std::process::Abort;
 
-/// A keyword, the number that stands before the weights or alone, and the weights.
-type Asked<'a> = (&'static str, Option<u64>, &'a [u64]);
+/// A keyword, the form, the number that stands before the weights or alone, and the weights.
+type Asked<'a> = (&'static str, Form, Option<u64>, &'a [u64]);
 
 /// What a command asks for.
 fn asked(command: &Command) -> Asked<'_> {
+    let form = command.form();
     match command {
-        Command::Table { weights, .. } => ("table", None, weights),
-        Command::Infer { weights, .. } => ("infer", None, weights),
+        Command::Table { weights, .. } => ("table", form, None, weights),
+        Command::Infer { weights, .. } => ("infer", form, None, weights),
         Command::Quantile {
             quantile,
             weights,
             ..
-        } => ("quantile", Some(*quantile), weights),
+        } => ("quantile", form, Some(*quantile), weights),
         Command::Symbol {
             symbol,
             weights,
             ..
-        } => ("symbol", Some(*symbol), weights),
-        Command::Uniform { range, .. } => ("uniform", Some(*range), &[]),
+        } => ("symbol", form, Some(*symbol), weights),
+        Command::Uniform { range, .. } => ("uniform", form, Some(*range), &[]),
     }
 }
 
@@ -38,19 +39,40 @@ fn is_parsed(rt: &impl Abort, alloc: Global, line: &[u8], expected: Option<Asked
     }
 }
 
+/// Lines, and what they ask for.
+const LINES: [(&[u8], Option<Asked<'static>>); 6] = [
+    (
+        b"table u8/6 3 018 18446744073709551615",
+        Some((
+            "table",
+            Form::U8Precision6,
+            None,
+            &[3, 18, 18446744073709551615],
+        )),
+    ),
+    (
+        b"infer u8/8 200",
+        Some(("infer", Form::U8Precision8, None, &[200])),
+    ),
+    (
+        b"quantile u8/6 21 64",
+        Some(("quantile", Form::U8Precision6, Some(21), &[64])),
+    ),
+    (
+        b"symbol u16/12 4",
+        Some(("symbol", Form::U16Precision12, Some(4), &[])),
+    ),
+    (
+        b"uniform u8/8 3",
+        Some(("uniform", Form::U8Precision8, Some(3), &[])),
+    ),
+    (b"table u8/6 3 x", None),
+];
+
 #[test]
 fn a_refusal_of_memory_parses_no_line(rt: HostRuntime) {
-    for (line, expected) in [
-        (
-            b"table u8/6 3 18".as_slice(),
-            Some(("table", None, [3u64, 18].as_slice())),
-        ),
-        (b"infer u8/8 200", Some(("infer", None, &[200]))),
-        (b"quantile u8/6 21 64", Some(("quantile", Some(21), &[64]))),
-        (b"symbol u8/6 1 64", Some(("symbol", Some(1), &[64]))),
-        (b"uniform u8/8 3", Some(("uniform", Some(3), &[]))),
-        (b"table u8/6 3 x", None),
-    ] {
+    for each in &LINES {
+        let (line, expected) = *each;
         is_parsed(&rt, rt.alloc(), line, expected);
     }
     end_of_requests(&rt);

@@ -1,7 +1,7 @@
 //! Runs over whole inputs, and over readers and writers that give or take little, fail, or end.
 
-use crate::checks::{end_of_requests, holds, holds_at, prints, same, same_at};
-use constriction_text::{RunFault, answer, run};
+use crate::checks::{end_of_requests, holds, prints, same};
+use constriction_text::{RunFault, run};
 use std::alloc::Global;
 use std::io::{self, Read, Write};
 use std::process::Abort;
@@ -80,69 +80,10 @@ impl Write for CountingWriter {
     }
 }
 
-/// Inputs, and what is answered to them.
-const CASES: [(&str, &str); 62] = [
+/// Inputs that end in no line, in an empty one, and in one that is not ended, and what is answered to them.
+const CASES: [(&str, &str); 3] = [
     ("", ""),
-    ("table u8/6", "invalid\n"),
-    ("table u8/6\n", "invalid\n"),
-    ("table u8/6 064\n", "0 0 64\n"),
-    ("\n", "bad line\n"),
     ("\n\n", "bad line\nbad line\n"),
-    ("table\n", "bad line\n"),
-    ("quantile u8/6\n", "bad line\n"),
-    ("symbol u8/6\n", "bad line\n"),
-    ("table  u8/6 64\n", "bad line\n"),
-    (" table u8/6 64\n", "bad line\n"),
-    ("table u8/6 64 \n", "bad line\n"),
-    ("table u8/6 64\r\n", "bad line\n"),
-    ("table u8/6 +64\n", "bad line\n"),
-    ("table u8/6 00000000000000000064\n", "0 0 64\n"),
-    ("table u8/6 000000000000000000064\n", "bad line\n"),
-    ("table u8/6 18446744073709551616\n", "bad line\n"),
-    ("table u8/6 18446744073709551615\n", "invalid\n"),
-    ("table u8/6 320\n", "invalid\n"),
-    ("table u8/6 3 18 1 43\n", "invalid\n"),
-    ("table u8/6 3 0 61\n", "invalid\n"),
-    ("table u7/6 1\n", "bad line\n"),
-    ("table u8/6 3 18 1 42\n", "0 0 3\n1 3 18\n2 21 1\n3 22 42\n"),
-    ("table u8/8 128 128\n", "0 0 128\n1 128 128\n"),
-    ("table u8/8 256\n", "invalid\n"),
-    ("table u8/8 0\n", "invalid\n"),
-    ("table u8/8 128 128 128 128\n", "invalid\n"),
-    ("table u16/12 1 4095\n", "0 0 1\n1 1 4095\n"),
-    ("table u16/12 4096\n", "0 0 4096\n"),
-    ("table u16/12 69632\n", "invalid\n"),
-    ("infer u8/6\n", "0 0 64\n"),
-    ("infer u8/6 64\n", "invalid\n"),
-    ("infer u8/6 3 18 1\n", "0 0 3\n1 3 18\n2 21 1\n3 22 42\n"),
-    ("infer u8/8\n", "invalid\n"),
-    ("infer u8/8 200\n", "0 0 200\n1 200 56\n"),
-    ("infer u8/8 255\n", "0 0 255\n1 255 1\n"),
-    ("infer u8/8 256\n", "invalid\n"),
-    ("infer u8/8 128 128\n", "invalid\n"),
-    ("infer u8/8 257\n", "invalid\n"),
-    ("infer u16/12\n", "0 0 4096\n"),
-    ("infer u16/12 65537\n", "invalid\n"),
-    ("quantile u8/6 21 3 18 1 42\n", "2 21 1\n"),
-    ("quantile u8/6 63 3 18 1 42\n", "3 22 42\n"),
-    ("quantile u8/6 64 64\n", "range\n"),
-    ("quantile u8/6 256 64\n", "range\n"),
-    ("quantile u8/6 64 63\n", "invalid\n"),
-    ("quantile u8/6 3\n", "invalid\n"),
-    ("quantile u8/8 255 128 128\n", "1 128 128\n"),
-    ("symbol u8/6 1 3 18 1 42\n", "1 3 18\n"),
-    ("symbol u8/6 4 3 18 1 42\n", "none\n"),
-    ("symbol u8/6 18446744073709551615 64\n", "none\n"),
-    ("symbol u8/6 5 63\n", "invalid\n"),
-    ("uniform u8/6\n", "bad line\n"),
-    ("uniform u8/6 2 3\n", "bad line\n"),
-    ("uniform u8/6 2", "0 0 32\n1 32 32\n"),
-    ("uniform u8/8 1\n", "range\n"),
-    ("uniform u8/8 3\n", "0 0 85\n1 85 85\n2 170 86\n"),
-    ("uniform u8/8 257\n", "range\n"),
-    ("uniform u16/12 0\n", "range\n"),
-    ("uniform u16/12 4097\n", "range\n"),
-    ("uniform u8/6 18446744073709551615\n", "range\n"),
     (
         "table u8/6 64\n\nsymbol u8/6 0 64",
         "0 0 64\nbad line\n0 0 64\n",
@@ -163,14 +104,7 @@ fn run_slowly(
     run(alloc, reader, written)
 }
 
-/// An input is answered by this text, read at once, and read byte by byte.
-fn is_answered(rt: &impl Abort, alloc: Global, input: &str, text: &str) {
-    let mut written = Vec::new(alloc);
-    let result = run_at_once(alloc, input.as_bytes(), &mut written);
-    same_at(rt, input, result, Ok(()));
-    holds_at(rt, input, &written, text.as_bytes());
-}
-
+/// An input that is read byte by byte is answered by this text.
 fn is_answered_slowly(rt: &impl Abort, alloc: Global, input: &str, text: &str) {
     let mut reader = SlowReader {
         rest: input.as_bytes(),
@@ -178,21 +112,16 @@ fn is_answered_slowly(rt: &impl Abort, alloc: Global, input: &str, text: &str) {
     };
     let mut written = Vec::new(alloc);
     let result = run_slowly(alloc, &mut reader, &mut written);
-    same_at(rt, input, result, Ok(()));
-    holds_at(rt, input, &written, text.as_bytes());
-}
-
-fn are_answered(rt: &impl Abort, alloc: Global, cases: &[(&str, &str)]) {
-    for case in cases {
-        let (input, text) = *case;
-        is_answered(rt, alloc, input, text);
-        is_answered_slowly(rt, alloc, input, text);
-    }
+    same(rt, result, Ok(()));
+    holds(rt, &written, text.as_bytes());
 }
 
 #[test]
-fn lines_are_answered(rt: HostRuntime) {
-    are_answered(&rt, rt.alloc(), &CASES);
+fn an_input_is_read_byte_by_byte(rt: HostRuntime) {
+    for case in &CASES {
+        let (input, text) = *case;
+        is_answered_slowly(&rt, rt.alloc(), input, text);
+    }
 }
 
 #[test]
@@ -298,19 +227,6 @@ fn faults_have_their_status(rt: HostRuntime) {
     );
 }
 
-/// The answer to a line.
-fn answered(rt: &impl Abort, alloc: Global, line: &[u8], text: &str) {
-    let Ok(found) = answer(alloc, line) else {
-        panic!(rt; "memory was refused");
-    };
-    same(rt, found.as_str(), text);
-}
-
-#[test]
-fn a_line_is_answered(rt: HostRuntime) {
-    answered(&rt, rt.alloc(), b"table u8/6 1 63", "0 0 1\n1 1 63\n");
-}
-
 /// What a run over an input answers, and what it writes in which turns.
 fn run_counted(alloc: Global, mut input: &[u8]) -> (Result<(), RunFault>, usize, usize) {
     let mut writer = CountingWriter { bytes: 0, turns: 0 };
@@ -354,19 +270,16 @@ fn answers_before_a_refusal_of_memory_are_written(rt: HostRuntime) {
     end_of_requests(&rt);
 }
 
-fn run_faults_are_sentences(rt: &impl Abort, alloc: Global) {
-    prints(rt, alloc, &RunFault::Read, "The input could not be read.");
+#[test]
+fn faults_are_sentences(rt: HostRuntime) {
+    let alloc = rt.alloc();
+    prints(&rt, alloc, &RunFault::Read, "The input could not be read.");
     prints(
-        rt,
+        &rt,
         alloc,
         &RunFault::Write,
         "The answers could not be written.",
     );
-    prints(rt, alloc, &RunFault::TooLong, "The input is too long.");
-    prints(rt, alloc, &RunFault::OutOfMemory, "Memory was refused.");
-}
-
-#[test]
-fn faults_are_sentences(rt: HostRuntime) {
-    run_faults_are_sentences(&rt, rt.alloc());
+    prints(&rt, alloc, &RunFault::TooLong, "The input is too long.");
+    prints(&rt, alloc, &RunFault::OutOfMemory, "Memory was refused.");
 }

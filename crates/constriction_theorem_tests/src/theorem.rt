@@ -65,18 +65,22 @@ fn replies_of_letters() -> [Reply<char, u8>; 5] {
 }
 
 /// Asks what is made of the letters and of some weights.
-fn of_letters(alloc: Global, weights: &[u8]) -> Result<FormAndReplies<char, u8, 6>, ModelError> {
-    let symbols = SYMBOLS.to_vec(alloc)?;
-    let weights = weights.to_vec(alloc)?;
+fn of_letters(
+    rt: &impl Abort,
+    alloc: Global,
+    weights: &[u8],
+) -> Result<FormAndReplies<char, u8, 6>, ModelError> {
+    let symbols = SYMBOLS.to_vec(alloc).expect(rt, "memory");
+    let weights = weights.to_vec(alloc).expect(rt, "memory");
     answer_from_symbols_and_weights::<_, _, 6>(alloc, symbols, weights, false, &STEPS, &LETTERS)
 }
 
 #[test]
 fn what_is_made_of_letters_and_weights_replies(rt: HostRuntime) {
-    let (form, found) = of_letters(rt.alloc(), &WEIGHTS).expect(&rt, "accepted");
+    let (form, found) = of_letters(&rt, rt.alloc(), &WEIGHTS).expect(&rt, "accepted");
     has_table(&rt, &form);
     holds(&rt, &found, &replies_of_letters());
-    let refused = of_letters(rt.alloc(), &WEIGHTS[1..]).err();
+    let refused = of_letters(&rt, rt.alloc(), &WEIGHTS[1..]).err();
     same(&rt, refused, Some(ModelError::InvalidTable));
 }
 
@@ -92,13 +96,6 @@ fn of_form(alloc: Global) -> Result<FormAndReplies<char, u8, 6>, ModelError> {
         &encoder,
         &LETTERS,
     )
-}
-
-#[test]
-fn what_is_left_of_a_form_replies(rt: HostRuntime) {
-    let (form, found) = of_form(rt.alloc()).expect(&rt, "replies");
-    has_table(&rt, &form);
-    holds(&rt, &found, &replies_of_letters());
 }
 
 /// Whichever request for memory is refused, there are no replies then.

@@ -1,4 +1,4 @@
-//! The tests of words: worked values, texts, calls through a bound, and those at a word type of a caller's own.
+//! The tests of words: calls through a bound, and those at a word type of a caller's own.
 //!
 //! A library that has tests of its own is proved twice, so none of them has any. Tests use the
 //! public interface alone.

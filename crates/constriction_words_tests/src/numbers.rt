@@ -1,10 +1,9 @@
-//! Words: what generic code learns of an operation from the bound alone, and worked values.
+//! Words: what generic code learns of an operation from the bound alone, and words that are indices.
 
 ghost use Rattle.std.specs.Prelude.{◌≡◌, ◌+◌, ◌-◌, ◌*◌, ◌/◌, ◌%◌, ◌<◌, ◌≤◌, ◌^◌};
 
 use crate::checks::same;
-use constriction_words::{BitArray, IndexWord, NonZeroBitArray, WholeNumber};
-use std::process::Abort;
+use constriction_words::{BitArray, IndexWord};
 
 /// The sum of two words.
 fn plus<P: BitArray>(a: P, b: P) -> P
@@ -85,79 +84,8 @@ fn operations_give_the_exact_number(rt: HostRuntime) {
     );
 }
 
-/// The number of the word that a word which is not 0 holds, where there is one.
-fn held<P: BitArray>(word: Option<P::NonZero>) -> Option<u128> {
-    word?.get().to_u128()
-}
-
-/// Stops the test where this number is not that of the greatest word, where a call does not wrap after it and before 0, or
-/// where a word that is not 0 is not made of 1 and of the greatest word alone, and holds it.
-pub fn has_ends<P: BitArray>(rt: &impl Abort, greatest_number: u128) {
-    let (zero, one, greatest) = (P::zero(), P::one(), P::max_value());
-    let last = Some(greatest_number);
-    same(
-        rt,
-        [
-            P::default().to_u128(),
-            greatest.wrapping_add(&one).to_u128(),
-            zero.wrapping_sub(&one).to_u128(),
-            greatest.wrapping_mul(&greatest).to_u128(),
-            held::<P>(one.into_nonzero()),
-            held::<P>(greatest.into_nonzero()),
-            held::<P>(P::NonZero::new(greatest)),
-            held::<P>(Some(one.into_nonzero_unchecked())),
-            held::<P>(Some(P::NonZero::new_unchecked(one))),
-            held::<P>(zero.into_nonzero()),
-            held::<P>(P::NonZero::new(zero)),
-        ],
-        [
-            Some(0),
-            Some(0),
-            last,
-            Some(1),
-            Some(1),
-            last,
-            last,
-            Some(1),
-            Some(1),
-            None,
-            None,
-        ],
-    );
-}
-
 #[test]
-fn words_wrap_at_their_width_and_are_nonzero_unless_0(rt: HostRuntime) {
-    has_ends::<u8>(&rt, u128::from(u8::MAX));
-    has_ends::<u16>(&rt, u128::from(u16::MAX));
-    has_ends::<u32>(&rt, u128::from(u32::MAX));
-    has_ends::<u64>(&rt, u128::from(u64::MAX));
-    has_ends::<usize>(&rt, usize::MAX as u128);
-    has_ends::<u128>(&rt, u128::MAX);
-    same(
-        &rt,
-        (
-            BitArray::wrapping_mul(&16u8, &17),
-            BitArray::wrapping_mul(&(1u128 << 127), &2),
-        ),
-        (16, 0),
-    );
-}
-
-#[test]
-fn words_have_their_width_and_indices(rt: HostRuntime) {
-    same(
-        &rt,
-        [
-            <u8 as WholeNumber>::BITS,
-            <u16 as WholeNumber>::BITS,
-            <u32 as WholeNumber>::BITS,
-            <u64 as WholeNumber>::BITS,
-            <usize as WholeNumber>::BITS,
-            <u128 as WholeNumber>::BITS,
-        ],
-        [8, 16, 32, 64, 64, 128],
-    );
+fn words_of_index_types_are_indices(rt: HostRuntime) {
     same(
         &rt,
         [255u8.to_index(), 65535u16.to_index(), usize::MAX.to_index()],

@@ -1,4 +1,4 @@
-//! Words as whole numbers: what code over that bound alone learns, and worked values.
+//! Words as whole numbers: what code over that bound alone learns, and the ends of each width.
 
 ghost use Rattle.std.specs.Prelude.{◌≡◌, ◌+◌, ◌-◌, ◌<◌, ◌%◌, ◌^◌};
 
@@ -30,40 +30,6 @@ fn ways() -> [u8; 4] {
         distance(250, 3),
         way_up(3, 250),
         way_up(250, 3),
-    ]
-}
-
-/// Powers of 2 and greatest numbers of a byte.
-fn powers() -> [u8; 4] {
-    [
-        u8::wrapping_pow2(7),
-        u8::wrapping_pow2(8),
-        u8::greatest(8),
-        u8::greatest(1),
-    ]
-}
-
-/// A sum, a difference, a product, a quotient and a number as a byte.
-fn results() -> [u8; 5] {
-    [
-        200u8.plus(55),
-        200u8.minus(55),
-        15u8.times(17),
-        255u8.divided_by(16),
-        u8::from_number(255),
-    ]
-}
-
-/// Which words are at an end, and how two are ordered.
-fn orders() -> [bool; 7] {
-    [
-        u128::least().is_least(),
-        1u128.is_least(),
-        255u8.is_greatest(),
-        254u8.is_greatest(),
-        3u64.is_at_most(3),
-        4u64.is_at_most(3),
-        3usize.is_below(3),
     ]
 }
 
@@ -106,23 +72,6 @@ fn each_width_has_its_ends(rt: HostRuntime) {
 }
 
 #[test]
-fn words_are_whole_numbers(rt: HostRuntime) {
+fn distances_are_whole_numbers(rt: HostRuntime) {
     same(&rt, ways(), [247, 247, 247, 9]);
-    same(&rt, powers(), [128, 0, 255, 1]);
-    same(&rt, results(), [255, 145, 255, 15, 255]);
-    same(
-        &rt,
-        (u16::greatest(12), u32::wrapping_pow2(24)),
-        (4095, 16777216),
-    );
-    same(
-        &rt,
-        (u128::from_number(usize::MAX), u64::MAX.to_number()),
-        (u128::from(u64::MAX), usize::MAX),
-    );
-    same(
-        &rt,
-        orders(),
-        [true, false, true, false, true, false, false],
-    );
 }
