@@ -8,14 +8,13 @@ ghost use Rattle.std.proofs.lemmas.Grind.{common_steps};
 ghost use Rattle.constriction.specs.Rows.{rows_of};
 ghost use Rattle.constriction.specs.Tables.{YieldsRow};
 
-use crate::any_symbols::encodes;
 use crate::checks::{same, same_at};
-use crate::conversions::{Made, made};
-use crate::model_checks::{decodes_letters, walks};
+use crate::conversions::refusals;
 use constriction::stream::model::{
     EncoderModel, EntropyModel, IterableEntropyModel, ModelError, Weight, to_generic_decoder_model,
+    to_generic_encoder_model,
 };
-use constriction_fixtures::any_symbols::{Row, Step, plain_entry};
+use constriction_fixtures::any_symbols::{Encoder, Row, entry, plain, plain_entry};
 use constriction_fixtures::conversions::Decoder;
 use constriction_fixtures::own_model::{Triple, three};
 use constriction_words::{BitArray, WholeNumber};
@@ -32,10 +31,14 @@ fn decoder_of(alloc: Global, model: &Triple) -> Result<Decoder<char, 3>, ModelEr
     to_generic_decoder_model::<_, 3>(alloc, model)
 }
 
-/// Stops the test where a decoder's model was made, or the encoder's one has other entries.
-fn is_encoder<const PRECISION: usize>(rt: &impl Abort, made: Made<char, PRECISION>, rows: &[Row]) {
-    same(rt, made.0.err(), Some(ModelError::InvalidTable));
-    encodes(rt, &made.1.expect(rt, "a model"), rows);
+/// Stops the test where what the functions and then the methods make are not encoders alone.
+fn are_encoders_alone(rt: &impl Abort, refusals: [Option<ModelError>; 4]) {
+    let invalid = Some(ModelError::InvalidTable);
+    same(
+        rt,
+        refusals,
+        [Some(ModelError::InvalidTable), None, invalid, None],
+    );
 }
 
 /// Letters, and their entries in the model of `p`, `q` and `p`.
@@ -45,37 +48,36 @@ const ENTRIES: [(char, Option<(u8, u8)>); 3] = [
     ('r', None),
 ];
 
+/// Stops the test where the caller's model, or the encoder that is made of it, has other entries.
+fn have_entries(rt: &impl Abort, model: &Triple, made: &Encoder<3>) {
+    for each in &ENTRIES {
+        let (symbol, expected) = *each;
+        let found = plain_entry(model.left_cumulative_and_probability(&symbol));
+        same_at(rt, symbol, [found, entry(made, symbol)], [expected; 2]);
+    }
+}
+
 #[test]
 fn two_rows_of_one_letter_make_an_encoder_and_no_decoder(rt: HostRuntime) {
     let model = three('p', 'q', 'p');
     let refused = decoder_of(rt.alloc(), &model).err();
     same(&rt, refused, Some(ModelError::InvalidTable));
-    for each in &ENTRIES {
-        let (symbol, entry) = *each;
-        let found = plain_entry(model.left_cumulative_and_probability(&symbol));
-        same_at(&rt, symbol, found, entry);
-    }
-    let (by_function, by_method) = made::<_, 3>(rt.alloc(), &model);
-    is_encoder(&rt, by_function, &[('p', 7, 1), ('q', 2, 5)]);
-    is_encoder(&rt, by_method, &[('p', 7, 1), ('q', 2, 5)]);
+    are_encoders_alone(&rt, refusals::<_, 3>(rt.alloc(), &model));
+    let encoder = to_generic_encoder_model::<_, 3>(rt.alloc(), &model);
+    have_entries(&rt, &model, &encoder.expect(&rt, "a model"));
 }
 
 /// The rows of the caller's model of `p`, `q` and `r`.
-pub const THREE: [Row; 3] = [('p', 0, 2), ('q', 2, 5), ('r', 7, 1)];
-
-/// The walk through them.
-const STEPS: [Step; 4] = [
-    (false, 3, Some(Ok(('p', 0, 2)))),
-    (false, 2, Some(Ok(('q', 2, 5)))),
-    (false, 1, Some(Ok(('r', 7, 1)))),
-    (false, 0, None),
-];
+const THREE: [Row; 3] = [('p', 0, 2), ('q', 2, 5), ('r', 7, 1)];
 
 #[test]
 fn a_decoder_has_the_rows_of_three_letters_of_the_caller(rt: HostRuntime) {
     let model = decoder_of(rt.alloc(), &three('p', 'q', 'r')).expect(&rt, "a model");
-    walks(&rt, model.symbol_table(), &STEPS);
-    decodes_letters(&rt, &model, &THREE);
+    let mut table = model.symbol_table();
+    for row in &THREE {
+        same(&rt, table.next().map(plain), Some(Ok(*row)));
+    }
+    same(&rt, table.next().map(plain), None);
 }
 
 /// A model of one letter, which has two rows of the same weight. It is copied into its table.
@@ -145,7 +147,11 @@ impl IterableEntropyModel<6> for Twice {
 
 #[test]
 fn an_encoder_has_the_second_row_of_one_letter(rt: HostRuntime) {
-    let (by_function, by_method) = made::<_, 6>(rt.alloc(), Twice('a'));
-    is_encoder(&rt, by_function, &[('a', 32, 32)]);
-    is_encoder(&rt, by_method, &[('a', 32, 32)]);
+    are_encoders_alone(&rt, refusals::<_, 6>(rt.alloc(), Twice('a')));
+    let encoder = to_generic_encoder_model::<_, 6>(rt.alloc(), Twice('a'));
+    same(
+        &rt,
+        entry(&encoder.expect(&rt, "a model"), 'a'),
+        Some((32, 32)),
+    );
 }
