@@ -21,11 +21,13 @@ where
     M::Symbol: Drop,
     requires in_range { M.Probability.whole quantile < 2 ^ 6 }
 {
-    let (symbol, _, _) = model.quantile_function(quantile).ok()?;
-    if model.left_cumulative_and_probability(&symbol).is_none() {
-        return None;
+    match model.quantile_function(quantile) {
+        Ok((symbol, _, _)) => match model.left_cumulative_and_probability(&symbol) {
+            Some(_) => Some(symbol),
+            None => None,
+        },
+        Err(_) => None,
     }
-    Some(symbol)
 }
 
 #[test]

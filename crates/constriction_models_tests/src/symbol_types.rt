@@ -9,10 +9,10 @@ use crate::checks::same;
 use crate::conversions::{Encoder, refusals};
 use constriction::stream::model::{
     DecoderModel, EncoderModel, IterableEntropyModel, ModelError, NonContiguousSymbolTable, Weight,
+    to_generic_lookup_decoder_model,
 };
 use constriction_fixtures::any_symbols::{Row, plain, plain_entry};
 use constriction_fixtures::conversions::Decoder;
-use constriction_fixtures::lookup_any_symbols::{Lookup, looked_up};
 use constriction_fixtures::symbol_types::{Letter, letters};
 use std::alloc::{AllocError, Global};
 use std::hash::{Hash, Hasher};
@@ -48,8 +48,6 @@ impl Hash for Tag {
 
 type TagDecoder = Decoder<Tag, 6>;
 
-type TagLookup = Lookup<Tag, 6>;
-
 type TagEncoder = Encoder<Tag, 6>;
 
 /// The row of an answer, with the number of its tag.
@@ -68,21 +66,6 @@ fn decoded(alloc: Global, [first, second]: [u32; 2]) -> Result<TagRows, ModelErr
     let tags = [Tag(first), Tag(second)];
     let weights = [32, 32];
     match TagDecoder::from_symbols_and_nonzero_fixed_point_probabilities(
-        alloc, tags, weights, false,
-    ) {
-        Ok(model) => Ok([
-            tag_row(model.quantile_function(31)),
-            tag_row(model.quantile_function(32)),
-        ]),
-        Err(error) => Err(error),
-    }
-}
-
-/// The rows of the lookup model of the same tags.
-fn tags_looked_up(alloc: Global, [first, second]: [u32; 2]) -> Result<TagRows, ModelError> {
-    let tags = [Tag(first), Tag(second)];
-    let weights = [32, 32];
-    match TagLookup::from_symbols_and_nonzero_fixed_point_probabilities(
         alloc, tags, weights, false,
     ) {
         Ok(model) => Ok([
@@ -115,7 +98,6 @@ const TAG_ROWS: TagRows = [Some((12, 0, 32)), Some((3, 32, 32))];
 #[test]
 fn tags_are_told_by_their_own_equality(rt: HostRuntime) {
     same(&rt, decoded(rt.alloc(), [12, 3]), Ok(TAG_ROWS));
-    same(&rt, tags_looked_up(rt.alloc(), [12, 3]), Ok(TAG_ROWS));
     same(&rt, encoded(rt.alloc(), [12, 3], 13), Ok(Some((32, 32))));
     same(&rt, encoded(rt.alloc(), [12, 3], 4), Ok(None));
 }
@@ -124,8 +106,6 @@ fn tags_are_told_by_their_own_equality(rt: HostRuntime) {
 fn tags_of_one_last_digit_are_refused(rt: HostRuntime) {
     let invalid = ModelError::InvalidTable;
     same(&rt, decoded(rt.alloc(), [12, 2]), Err(invalid));
-    let invalid = ModelError::InvalidTable;
-    same(&rt, tags_looked_up(rt.alloc(), [12, 2]), Err(invalid));
     let invalid = ModelError::InvalidTable;
     same(&rt, encoded(rt.alloc(), [12, 2], 2), Err(invalid));
 }
@@ -194,8 +174,6 @@ fn a_refused_clone_stands_in_the_place_of_the_row_that_is_looked_up(rt: HostRunt
     let second = letter_row(model.quantile_function(16));
     same(&rt, [first, second], ANSWERS);
     same(&rt, model.clone().err(), Some(AllocError));
-    let [forth, _] = &STEPS;
-    walks(&rt, model.symbol_table(), forth);
 }
 
 /// Stops the test where something was not refused for want of memory.
@@ -210,8 +188,7 @@ fn a_refused_clone_is_want_of_memory(rt: HostRuntime) {
     let model = letters(rt.alloc()).expect(&rt, "accepted");
     same(&rt, model.clone().err(), Some(AllocError));
     are_refused(&rt, &refusals::<_, 6>(rt.alloc(), &model));
-    let (by_function, by_method) = looked_up::<_, 6>(rt.alloc(), &model);
-    are_refused(&rt, &[by_function.err(), by_method.err()]);
-    let looks_up = model.to_lookup_decoder_model(rt.alloc());
-    are_refused(&rt, &[looks_up.err()]);
+    let by_function = to_generic_lookup_decoder_model::<_, 6>(rt.alloc(), &model).err();
+    let by_method = model.to_lookup_decoder_model(rt.alloc()).err();
+    are_refused(&rt, &[by_function, by_method]);
 }
