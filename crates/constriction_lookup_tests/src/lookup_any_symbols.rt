@@ -1,32 +1,50 @@
 //! The lookup model of any symbols: made of a model of the caller, and shown.
 
+ghost use Rattle.std.specs.Prelude.{◌<◌, ◌≤◌};
+
 use crate::checks::{same, shows};
 use constriction::laws::{
     non_contiguous_lookup_symbols_differ, slotted_non_contiguous_lookup_symbols_differ,
 };
 use constriction::stream::model::{
-    DecoderModel, ModelError, to_generic_slotted_lookup_decoder_model,
+    DecoderModel, FromIterableEntropyModel, IterableEntropyModel, ModelError,
+    to_generic_lookup_decoder_model, to_generic_slotted_lookup_decoder_model,
 };
 use constriction_fixtures::any_symbols::plain;
-use constriction_fixtures::lookup_any_symbols::{Lookup, looked_up, lookup};
+use constriction_fixtures::lookup_any_symbols::{Lookup, lookup};
 use constriction_fixtures::own_model::three;
+use std::alloc::Global;
 use std::process::Abort;
 
-/// Stops the test where no model was made, or it does not have `q` from 2 to 6.
-fn has_q(rt: &impl Abort, made: Result<Lookup<char, 3>, ModelError>) {
-    let model = made.expect(rt, "a model");
-    same(rt, plain(model.quantile_function(6)), Ok(('q', 2, 5)));
+/// Why the function makes no lookup model of a model, and why the method makes none.
+pub fn refusals<M, const PRECISION: usize>(alloc: Global, source: M) -> [Option<ModelError>; 2]
+where
+    M: IterableEntropyModel<PRECISION, Probability = u8> + Copy,
+    M::Symbol: Eq + Clone + Drop,
+    requires positive { 0 < PRECISION }
+    requires fits { PRECISION ≤ 8 }
+{
+    [
+        to_generic_lookup_decoder_model::<M, PRECISION>(alloc, source).err(),
+        Lookup::from_iterable_entropy_model(alloc, source).err(),
+    ]
 }
 
 #[test]
 fn a_lookup_model_is_made_of_a_model_of_the_caller(rt: HostRuntime) {
-    let (by_function, by_method) = looked_up::<_, 3>(rt.alloc(), &three('p', 'q', 'r'));
-    has_q(&rt, by_function);
-    has_q(&rt, by_method);
-    let (by_function, by_method) = looked_up::<_, 3>(rt.alloc(), &three('p', 'q', 'p'));
-    same(&rt, by_function.err(), Some(ModelError::InvalidTable));
-    same(&rt, by_method.err(), Some(ModelError::InvalidTable));
+    let model = three('p', 'q', 'r');
+    same(&rt, refusals::<_, 3>(rt.alloc(), &model), [None, None]);
+    let made = to_generic_lookup_decoder_model::<_, 3>(rt.alloc(), &model);
+    let found = made.expect(&rt, "a model").quantile_function(6);
+    same(&rt, plain(found), Ok(('q', 2, 5)));
     non_contiguous_lookup_symbols_differ::<char, u8, Vec<(u8, char)>, Vec<u8>, 3>();
+}
+
+#[test]
+fn two_rows_of_one_letter_make_no_lookup_model(rt: HostRuntime) {
+    let refused = refusals::<_, 3>(rt.alloc(), &three('p', 'q', 'p'));
+    let invalid = Some(ModelError::InvalidTable);
+    same(&rt, refused, [Some(ModelError::InvalidTable), invalid]);
 }
 
 /// It has four slots of two quantiles each.

@@ -5,7 +5,7 @@ ghost use Rattle.std.specs.List.{IsDistinct};
 ghost use Rattle.constriction.specs.Rows.{symbols_of};
 
 use crate::checks::{end_of_requests, same, same_at};
-use crate::model_checks::{is_made_or_refused, small};
+use crate::model_checks::{has_row, is_made_or_refused, small};
 use constriction::laws::{
     contiguous_symbols_differ, non_contiguous_symbols_differ, symbols_and_weights_rebuild,
 };
@@ -160,11 +160,6 @@ fn hashed(alloc: Global) -> Result<Decoder<6>, ModelError> {
     Decoder::from_hashable_symbols_and_nonzero_fixed_point_probabilities(
         alloc, SYMBOLS, WEIGHTS, false,
     )
-}
-
-/// Stops the test where the model of letters has another row of 21.
-fn has_row(rt: &impl Abort, model: &Decoder<6>) {
-    same(rt, plain(model.quantile_function(21)), Ok(('c', 21, 1)));
 }
 
 #[test]

@@ -1,7 +1,8 @@
 //! A model that several tests ask, and what they do with an answer.
 
 use crate::checks::same;
-use constriction::stream::model::ModelError;
+use constriction::stream::model::{DecoderModel, ModelError};
+use constriction_fixtures::any_symbols::{Decoder, plain};
 use constriction_fixtures::contiguous::{Small, WEIGHTS, table};
 use std::alloc::Global;
 use std::process::Abort;
@@ -9,6 +10,11 @@ use std::process::Abort;
 /// The model of the weights 3, 18, 1 and 42.
 pub fn small(rt: &impl Abort, alloc: Global) -> Small {
     table(alloc, &WEIGHTS, false).expect(rt, "accepted")
+}
+
+/// Stops the test where the model of letters has another row of 21.
+pub fn has_row(rt: &impl Abort, model: &Decoder<6>) {
+    same(rt, plain(model.quantile_function(21)), Ok(('c', 21, 1)));
 }
 
 /// Whether there is a model, or memory was refused for it.

@@ -112,8 +112,10 @@ fn tags_of_one_last_digit_are_refused(rt: HostRuntime) {
 
 /// The row of an answer, with the character of its letter.
 fn letter_row(answer: Result<(Letter, u8, Weight<u8>), AllocError>) -> Result<Row, AllocError> {
-    let (letter, left, weight) = plain(answer)?;
-    Ok((letter.0, left, weight))
+    match plain(answer) {
+        Ok((letter, left, weight)) => Ok((letter.0, left, weight)),
+        Err(refusal) => Err(refusal),
+    }
 }
 
 /// Whether a step is from the back, and the row that it gives, or the refusal in its place.
@@ -146,7 +148,11 @@ fn walks(rt: &impl Abort, table: NonContiguousSymbolTable<'_, Letter, u8, 6>, st
         } else {
             table.next()
         };
-        same(rt, step.map(letter_row), expected);
+        let found = match step {
+            Some(answer) => Some(letter_row(answer)),
+            None => None,
+        };
+        same(rt, found, expected);
     }
 }
 
