@@ -3,13 +3,11 @@
 ghost use Rattle.std.specs.Prelude.{◌<◌, ◌≤◌};
 
 use constriction::stream::model::{
-    DecoderModel, EncoderModel, IterableEntropyModel, ModelError,
-    NonContiguousCategoricalDecoderModel, NonContiguousCategoricalEncoderModel,
-    NonContiguousSymbolTable, Probe, Weight,
+    EncoderModel, ModelError, NonContiguousCategoricalDecoderModel,
+    NonContiguousCategoricalEncoderModel, Weight,
 };
 use constriction_words::NonZeroBitArray;
 use std::alloc::{AllocError, Global};
-use std::process::Abort;
 
 /// A decoder's model of letters.
 pub type Decoder<const PRECISION: usize> = NonContiguousCategoricalDecoderModel<
@@ -89,73 +87,6 @@ pub fn plain_entry(answer: Option<(u8, Weight<u8>)>) -> Option<(u8, u8)> {
 pub fn entry<const PRECISION: usize>(model: &Encoder<PRECISION>, symbol: char) -> Option<(u8, u8)> {
     plain_entry(model.left_cumulative_and_probability(&symbol))
 }
-
-/// Letters and weights that are not accepted, and whether the last weight is inferred.
-pub const REFUSED: [(&str, &[char], &[u8], bool); 15] = [
-    ("one symbol too few", &['a', 'x', 'c'], &WEIGHTS, false),
-    (
-        "one symbol too many",
-        &['a', 'x', 'c', 'y', 'z'],
-        &WEIGHTS,
-        false,
-    ),
-    (
-        "no symbol for the inferred weight",
-        &['a', 'x', 'c'],
-        &[3, 18, 1],
-        true,
-    ),
-    (
-        "one symbol too many after it",
-        &['a', 'x', 'c', 'y', 'z'],
-        &[3, 18, 1],
-        true,
-    ),
-    ("equal neighbours", &['a', 'a'], &[32, 32], false),
-    (
-        "equal symbols that are no neighbours",
-        &['a', 'b', 'a'],
-        &[16, 16, 32],
-        false,
-    ),
-    (
-        "an equal symbol for the inferred weight",
-        &['a', 'a'],
-        &[32],
-        true,
-    ),
-    ("the sum is one too many", &SYMBOLS, &[3, 18, 1, 43], false),
-    ("the sum is one too few", &SYMBOLS, &[3, 18, 1, 41], false),
-    ("a weight of 0", &['a', 'x', 'c'], &[3, 0, 61], false),
-    ("no symbol", &[], &[], false),
-    ("one weight too few", &SYMBOLS, &[3, 18, 1], false),
-    ("the wrapped sum is 64", &['a', 'x'], &[255, 65], false),
-    ("nothing is left to infer", &['a', 'x'], &[64], true),
-    (
-        "less than nothing is left",
-        &['a', 'x', 'c'],
-        &[60, 5],
-        true,
-    ),
-];
-
-/// The same at the full width.
-pub const FULL_REFUSED: [(&str, &[char], &[u8], bool); 4] = [
-    (
-        "the wrapped sum is 0",
-        &SYMBOLS,
-        &[128, 128, 128, 128],
-        false,
-    ),
-    ("256 is no word", &['a'], &[], true),
-    (
-        "nothing is left to infer",
-        &['a', 'x', 'c'],
-        &[128, 128],
-        true,
-    ),
-    ("equal symbols", &['a', 'a'], &[128, 128], false),
-];
 
 /// Whether a step is from the back, how many rows are left before it, and the row that it gives.
 pub type Step = (bool, usize, Option<Result<Row, AllocError>>);

@@ -2,12 +2,9 @@
 
 ghost use Rattle.std.specs.Prelude.{◌<◌, ◌≤◌};
 
-use constriction::stream::model::{
-    CdfEntry, ContiguousCategoricalEntropyModel, DecoderModel, EncoderModel, ModelError, Probe,
-};
-use constriction_words::{NonZeroBitArray, WholeNumber};
+use constriction::stream::model::{ContiguousCategoricalEntropyModel, ModelError};
+use constriction_words::WholeNumber;
 use std::alloc::Global;
-use std::iter;
 
 /// A model over words, of which only the word and the precision are named.
 pub type Model<Word, const PRECISION: usize> = ContiguousCategoricalEntropyModel<

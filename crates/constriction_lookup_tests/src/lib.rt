@@ -1,4 +1,5 @@
-//! The tests of models that look up where to search.
+//! The tests of models that look up where to search: how many rows they compare, how large their tables are, models of a
+//! caller's own, refused memory, and time.
 //!
 //! A library that has tests of its own is proved twice, so none of them has any. Tests use the
 //! public interface alone.
@@ -10,10 +11,6 @@ mod checks;
 mod compared;
 #[cfg(test)]
 mod lookup_any_symbols;
-#[cfg(test)]
-mod lookup_contiguous;
-#[cfg(test)]
-mod model_checks;
 #[cfg(test)]
 mod refused_lookup_memory;
 #[cfg(test)]

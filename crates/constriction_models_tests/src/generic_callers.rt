@@ -23,8 +23,10 @@ where
     ensures { IfOk result (λ end. (row : Row Symbol) × IsRowOf (D.rows model.now) (Word.whole quantile) row
         × (Word.whole end ≡ (row.left + row.weight) % 2 ^ Word.BITS)) }
 {
-    let (_symbol, left, weight) = model.row(quantile)?;
-    Ok(left.wrapping_add(&weight.get()))
+    match model.row(quantile) {
+        Ok((_symbol, left, weight)) => Ok(left.wrapping_add(&weight.get())),
+        Err(refusal) => Err(refusal),
+    }
 }
 
 /// The number of quantiles of a quantile's row, by a decoder over any words that compute.
@@ -38,8 +40,10 @@ where
     requires in_range { M.Probability.whole quantile < 2 ^ PRECISION }
     ensures { IfOk result (λ weight. M.Probability.whole weight ≤ 2 ^ PRECISION) }
 {
-    let (_symbol, _left, weight) = model.quantile_function(quantile)?;
-    Ok(weight.get())
+    match model.quantile_function(quantile) {
+        Ok((_symbol, _left, weight)) => Ok(weight.get()),
+        Err(refusal) => Err(refusal),
+    }
 }
 
 /// The weight of a symbol as a word, by any encoder over these words: 0 where it has none.
@@ -63,8 +67,10 @@ pub fn after_the_first<Word: BitArray, const PRECISION: usize>(
 ) -> Result<Word, AllocError>
     requires { Word.whole quantile < 2 ^ PRECISION }
 {
-    let (_symbol, left, _weight) = model.quantile_function(quantile)?;
-    Ok(left.wrapping_add(&Word::one()))
+    match model.quantile_function(quantile) {
+        Ok((_symbol, left, _weight)) => Ok(left.wrapping_add(&Word::one())),
+        Err(refusal) => Err(refusal),
+    }
 }
 
 /// The last quantile of a quantile's row, by any decoder over `u16`.
@@ -76,8 +82,10 @@ where
     M::Symbol: Drop,
     requires in_range { quantile < 2 ^ 12 }
 {
-    let (_symbol, left, weight) = model.quantile_function(quantile)?;
-    Ok(left.wrapping_add(weight.get() - 1))
+    match model.quantile_function(quantile) {
+        Ok((_symbol, left, weight)) => Ok(left.wrapping_add(weight.get() - 1)),
+        Err(refusal) => Err(refusal),
+    }
 }
 
 #[test]

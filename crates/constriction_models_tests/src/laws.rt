@@ -99,9 +99,10 @@ where
         ≡ map (row_of N.Probability.whole N.Probability.base) t.1.items) }
 {
     equal_answers::<M, N, PRECISION>();
-    let rows = read_table(alloc, model)?;
-    let others = read_table(alloc, other)?;
-    Ok((rows, others))
+    match (read_table(alloc, model), read_table(alloc, other)) {
+        (Ok(rows), Ok(others)) => Ok((rows, others)),
+        _ => Err(AllocError),
+    }
 }
 
 /// A model of the caller: `a` at 0, `b` at 1 and 2, `c` at 3.

@@ -1,4 +1,5 @@
-//! The tests of entropy models and of the counted search, over worked tables and a caller's own.
+//! The tests of entropy models and of the counted search: callers that know contracts alone, types of a caller's own,
+//! refused memory, and time.
 //!
 //! A library that has tests of its own is proved twice, so none of them has any. Tests use the
 //! public interface alone.
@@ -6,8 +7,6 @@
 
 #[cfg(test)]
 mod aliases;
-#[cfg(test)]
-mod any_symbols;
 #[cfg(test)]
 mod checks;
 #[cfg(test)]
@@ -32,9 +31,3 @@ mod refused_memory;
 mod search;
 #[cfg(test)]
 mod symbol_types;
-#[cfg(test)]
-mod tables;
-#[cfg(test)]
-mod uniform;
-#[cfg(test)]
-mod widths;

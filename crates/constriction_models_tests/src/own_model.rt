@@ -1,25 +1,19 @@
-//! A model of the caller, which stands in `constriction_fixtures`: its rows, what it answers for a symbol, the walk
-//! through its rows, and what the caller knows of the models that are made from it.
+//! A model of the caller, which stands in `constriction_fixtures`: what it answers for a symbol, and what the caller knows
+//! of the models that are made from it.
 
-ghost use Rattle.std.specs.Prelude.{◌≡◌, ◌<◌, ◌-◌, ◌∷◌, [], drop, IfOk, IsErr};
-ghost use Rattle.std.specs.Iterator.{at_most};
-ghost use Rattle.std.proofs.Common.{refl, rules};
-ghost use Rattle.std.proofs.lemmas.Grind.{common_steps};
+ghost use Rattle.std.specs.Prelude.{◌≡◌, ◌∷◌, [], IfOk, IsErr};
 ghost use Rattle.constriction.specs.Rows.{rows_of};
-ghost use Rattle.constriction.specs.Tables.{YieldsRow};
 
-use crate::any_symbols::encodes;
 use crate::checks::{same, same_at};
-use crate::conversions::{Made, made};
-use crate::model_checks::{decodes_letters, walks};
+use crate::conversions::refusals;
 use constriction::stream::model::{
-    EncoderModel, EntropyModel, IterableEntropyModel, ModelError, Weight, to_generic_decoder_model,
+    DecoderModel, EncoderModel, EntropyModel, ModelError, to_generic_decoder_model,
+    to_generic_encoder_model,
 };
-use constriction_fixtures::any_symbols::{Row, Step, plain_entry};
+use constriction_fixtures::any_symbols::{Encoder, entry, plain, plain_entry};
 use constriction_fixtures::conversions::Decoder;
 use constriction_fixtures::own_model::{Triple, three};
-use constriction_words::{BitArray, WholeNumber};
-use std::alloc::{AllocError, Global};
+use std::alloc::Global;
 use std::process::Abort;
 
 /// The decoder's model of three letters: it has exactly their rows, and there is none where the first
@@ -32,12 +26,6 @@ fn decoder_of(alloc: Global, model: &Triple) -> Result<Decoder<char, 3>, ModelEr
     to_generic_decoder_model::<_, 3>(alloc, model)
 }
 
-/// Stops the test where a decoder's model was made, or the encoder's one has other entries.
-fn is_encoder<const PRECISION: usize>(rt: &impl Abort, made: Made<char, PRECISION>, rows: &[Row]) {
-    same(rt, made.0.err(), Some(ModelError::InvalidTable));
-    encodes(rt, &made.1.expect(rt, "a model"), rows);
-}
-
 /// Letters, and their entries in the model of `p`, `q` and `p`.
 const ENTRIES: [(char, Option<(u8, u8)>); 3] = [
     ('p', Some((7, 1))),
@@ -45,107 +33,31 @@ const ENTRIES: [(char, Option<(u8, u8)>); 3] = [
     ('r', None),
 ];
 
+/// Stops the test where the caller's model, or the encoder that is made of it, has other entries.
+fn have_entries(rt: &impl Abort, model: &Triple, made: &Encoder<3>) {
+    for each in &ENTRIES {
+        let (symbol, expected) = *each;
+        let found = plain_entry(model.left_cumulative_and_probability(&symbol));
+        same_at(rt, symbol, [found, entry(made, symbol)], [expected; 2]);
+    }
+}
+
 #[test]
 fn two_rows_of_one_letter_make_an_encoder_and_no_decoder(rt: HostRuntime) {
     let model = three('p', 'q', 'p');
-    let refused = decoder_of(rt.alloc(), &model).err();
-    same(&rt, refused, Some(ModelError::InvalidTable));
-    for each in &ENTRIES {
-        let (symbol, entry) = *each;
-        let found = plain_entry(model.left_cumulative_and_probability(&symbol));
-        same_at(&rt, symbol, found, entry);
-    }
-    let (by_function, by_method) = made::<_, 3>(rt.alloc(), &model);
-    is_encoder(&rt, by_function, &[('p', 7, 1), ('q', 2, 5)]);
-    is_encoder(&rt, by_method, &[('p', 7, 1), ('q', 2, 5)]);
+    let refused = refusals::<_, 3>(rt.alloc(), &model);
+    let invalid = Some(ModelError::InvalidTable);
+    same(
+        &rt,
+        refused,
+        [Some(ModelError::InvalidTable), None, invalid, None],
+    );
+    let encoder = to_generic_encoder_model::<_, 3>(rt.alloc(), &model);
+    have_entries(&rt, &model, &encoder.expect(&rt, "a model"));
 }
-
-/// The rows of the caller's model of `p`, `q` and `r`.
-pub const THREE: [Row; 3] = [('p', 0, 2), ('q', 2, 5), ('r', 7, 1)];
-
-/// The walk through them.
-const STEPS: [Step; 4] = [
-    (false, 3, Some(Ok(('p', 0, 2)))),
-    (false, 2, Some(Ok(('q', 2, 5)))),
-    (false, 1, Some(Ok(('r', 7, 1)))),
-    (false, 0, None),
-];
 
 #[test]
 fn a_decoder_has_the_rows_of_three_letters_of_the_caller(rt: HostRuntime) {
     let model = decoder_of(rt.alloc(), &three('p', 'q', 'r')).expect(&rt, "a model");
-    walks(&rt, model.symbol_table(), &STEPS);
-    decodes_letters(&rt, &model, &THREE);
-}
-
-/// A model of one letter, which has two rows of the same weight. It is copied into its table.
-#[derive(Clone, Copy)]
-struct Twice(char);
-
-impl EntropyModel<6> for Twice {
-    type Symbol = char;
-
-    type Probability = u8;
-
-    ghost rows = { λ m. rows_of (m.0 ∷ m.0 ∷ []) (32 ∷ 32 ∷ []) };
-}
-
-/// The walk through these rows, from the one at `next` on.
-#[derive(Drop)]
-struct TwiceTable {
-    symbol: char,
-    next: usize,
-}
-
-impl Iterator for TwiceTable {
-    type Item = Result<(char, u8, Weight<u8>), AllocError>;
-
-    ghost next_gives = { YieldsRow (λ s t. t ≡ s) (λ _. ⊥) ⟦<u8 as WholeNumber>⟧.whole ⟦<u8 as WholeNumber>⟧.base
-        (λ t. drop t.next (rows_of (t.symbol ∷ t.symbol ∷ []) (32 ∷ 32 ∷ []))) };
-
-    ghost remaining = { λ t. at_most (2 - t.next) };
-
-    fn next(&mut self) -> Option<Result<(char, u8, Weight<u8>), AllocError>> {
-        let left = match self.next {
-            0 => 0,
-            1 => 32,
-            _ => return None,
-        };
-        self.next += 1;
-        Some(Ok((self.symbol, left, 32u8.into_nonzero_unchecked())))
-    }
-}
-
-impl IterableEntropyModel<6> for Twice {
-    type SymbolTable = TwiceTable;
-
-    ghost stands_for = { λ s t. t ≡ s };
-
-    ghost may_refuse = { λ _. ⊥ };
-
-    ghost rows_left = { λ t. drop t.next (rows_of (t.symbol ∷ t.symbol ∷ []) (32 ∷ 32 ∷ [])) };
-
-    fn symbol_table(self) -> TwiceTable {
-        TwiceTable {
-            symbol: self.0,
-            next: 0,
-        }
-    }
-
-    ghost steps_law = { λ t r u step. step };
-
-    ghost tile_law = { λ _. record {
-      accepted = record {
-        tiles = record { positive = Prim.search (rules, common_steps); total = refl };
-        fit = Prim.search (rules, common_steps);
-      };
-      in_order = refl;
-    } };
-}
-
-#[test]
-fn an_encoder_has_the_second_row_of_one_letter(rt: HostRuntime) {
-    let (by_function, by_method) = made::<_, 6>(rt.alloc(), Twice('a'));
-    is_encoder(&rt, by_function, &[('a', 32, 32)]);
-    is_encoder(&rt, by_method, &[('a', 32, 32)]);
+    same(&rt, plain(model.quantile_function(6)), Ok(('q', 2, 5)));
 }

@@ -70,11 +70,11 @@ fn entries_tell_their_cumulatives(rt: HostRuntime) {
 fn a_probe_of_entries_counts_its_questions(rt: HostRuntime) {
     let entries: [u8; 4] = [0, 3, 21, 22];
     let mut rows = CdfProbe::<u8, Alone>::new(entries.as_slice());
-    same(&rt, (rows.len(), rows.asked()), (4, 0));
+    same(&rt, [rows.len(), rows.asked()], [4, 0]);
     same(
         &rt,
-        (rows.at_most(1, 3), rows.at_most(2, 20)),
-        (true, false),
+        [rows.at_most(1, 3), rows.at_most(2, 20)],
+        [true, false],
     );
     same(&rt, rows.asked(), 2);
 }

@@ -5,14 +5,14 @@ ghost use Rattle.std.specs.Cmp.Rules.{comparing, hashing};
 ghost use Rattle.std.specs.Hash as fed;
 ghost use Rattle.std.proofs.Common.{rules};
 
-use crate::checks::{same, same_at};
-use crate::conversions::{Encoder, Made, made};
+use crate::checks::same;
+use crate::conversions::{Encoder, refusals};
 use constriction::stream::model::{
     DecoderModel, EncoderModel, IterableEntropyModel, ModelError, NonContiguousSymbolTable, Weight,
+    to_generic_lookup_decoder_model,
 };
 use constriction_fixtures::any_symbols::{Row, plain, plain_entry};
 use constriction_fixtures::conversions::Decoder;
-use constriction_fixtures::lookup_any_symbols::{Lookup, looked_up};
 use constriction_fixtures::symbol_types::{Letter, letters};
 use std::alloc::{AllocError, Global};
 use std::hash::{Hash, Hasher};
@@ -50,67 +50,72 @@ type TagDecoder = Decoder<Tag, 6>;
 
 type TagEncoder = Encoder<Tag, 6>;
 
-/// The decoder's, the encoder's and the lookup model of these tags, 32 quantiles each.
-fn tagged(
-    alloc: Global,
-    [first, second]: [u32; 2],
-) -> (
-    Result<TagDecoder, ModelError>,
-    Result<TagEncoder, ModelError>,
-    Result<Lookup<Tag, 6>, ModelError>,
-) {
+/// The row of an answer, with the number of its tag.
+fn tag_row(answer: Result<(Tag, u8, Weight<u8>), AllocError>) -> Option<(u32, u8, u8)> {
+    match plain(answer) {
+        Ok((tag, left, weight)) => Some((tag.0, left, weight)),
+        Err(_) => None,
+    }
+}
+
+/// Two rows of tags, of the quantiles 31 and 32.
+type TagRows = [Option<(u32, u8, u8)>; 2];
+
+/// The rows of the decoder's model of two tags, 32 quantiles each.
+fn decoded(alloc: Global, [first, second]: [u32; 2]) -> Result<TagRows, ModelError> {
     let tags = [Tag(first), Tag(second)];
     let weights = [32, 32];
-    (
-        TagDecoder::from_symbols_and_nonzero_fixed_point_probabilities(alloc, tags, weights, false),
-        TagEncoder::from_symbols_and_nonzero_fixed_point_probabilities(alloc, tags, weights, false),
-        Lookup::from_symbols_and_nonzero_fixed_point_probabilities(alloc, tags, weights, false),
-    )
+    match TagDecoder::from_symbols_and_nonzero_fixed_point_probabilities(
+        alloc, tags, weights, false,
+    ) {
+        Ok(model) => Ok([
+            tag_row(model.quantile_function(31)),
+            tag_row(model.quantile_function(32)),
+        ]),
+        Err(error) => Err(error),
+    }
 }
 
-/// Stops the test where no model was made, or it has not the tags 12 and 3 as they were given.
-fn has_tags(rt: &impl Abort, made: Result<TagDecoder, ModelError>) {
-    let model = made.expect(rt, "accepted");
-    let (first, left, weight) = plain(model.quantile_function(31)).expect(rt, "a row");
-    same(rt, (first.0, left, weight), (12, 0, 32));
-    let (second, left, weight) = plain(model.quantile_function(32)).expect(rt, "a row");
-    same(rt, (second.0, left, weight), (3, 32, 32));
+/// The entry of a tag in the encoder's model of the same tags.
+fn encoded(
+    alloc: Global,
+    [first, second]: [u32; 2],
+    tag: u32,
+) -> Result<Option<(u8, u8)>, ModelError> {
+    let tags = [Tag(first), Tag(second)];
+    let weights = [32, 32];
+    match TagEncoder::from_symbols_and_nonzero_fixed_point_probabilities(
+        alloc, tags, weights, false,
+    ) {
+        Ok(model) => Ok(plain_entry(model.left_cumulative_and_probability(&Tag(tag)))),
+        Err(error) => Err(error),
+    }
 }
 
-/// Tags and their entries in the model of the tags 12 and 3.
-const ENTRIES: [(u32, Option<(u8, u8)>); 3] = [(2, Some((0, 32))), (13, Some((32, 32))), (4, None)];
+/// The rows of the tags 12 and 3, as they were given.
+const TAG_ROWS: TagRows = [Some((12, 0, 32)), Some((3, 32, 32))];
 
 #[test]
 fn tags_are_told_by_their_own_equality(rt: HostRuntime) {
-    let (decoder, encoder, looks_up) = tagged(rt.alloc(), [12, 3]);
-    has_tags(&rt, decoder);
-    let looks_up = looks_up.expect(&rt, "accepted");
-    has_tags(&rt, Ok(looks_up.into_non_contiguous_categorical()));
-    let encoder = encoder.expect(&rt, "accepted");
-    for each in &ENTRIES {
-        let (tag, expected) = *each;
-        let entry = plain_entry(encoder.left_cumulative_and_probability(&Tag(tag)));
-        same_at(&rt, tag, entry, expected);
-    }
+    same(&rt, decoded(rt.alloc(), [12, 3]), Ok(TAG_ROWS));
+    same(&rt, encoded(rt.alloc(), [12, 3], 13), Ok(Some((32, 32))));
+    same(&rt, encoded(rt.alloc(), [12, 3], 4), Ok(None));
 }
 
 #[test]
 fn tags_of_one_last_digit_are_refused(rt: HostRuntime) {
-    let (decoder, encoder, looks_up) = tagged(rt.alloc(), [12, 2]);
-    is_refused(&rt, decoder, ModelError::InvalidTable);
-    is_refused(&rt, encoder, ModelError::InvalidTable);
-    is_refused(&rt, looks_up, ModelError::InvalidTable);
-}
-
-/// Stops the test where there is an answer, or it is refused for another reason.
-fn is_refused<T: Drop>(rt: &impl Abort, made: Result<T, ModelError>, why: ModelError) {
-    same(rt, made.err(), Some(why));
+    let invalid = ModelError::InvalidTable;
+    same(&rt, decoded(rt.alloc(), [12, 2]), Err(invalid));
+    let invalid = ModelError::InvalidTable;
+    same(&rt, encoded(rt.alloc(), [12, 2], 2), Err(invalid));
 }
 
 /// The row of an answer, with the character of its letter.
 fn letter_row(answer: Result<(Letter, u8, Weight<u8>), AllocError>) -> Result<Row, AllocError> {
-    let (letter, left, weight) = plain(answer)?;
-    Ok((letter.0, left, weight))
+    match plain(answer) {
+        Ok((letter, left, weight)) => Ok((letter.0, left, weight)),
+        Err(refusal) => Err(refusal),
+    }
 }
 
 /// Whether a step is from the back, and the row that it gives, or the refusal in its place.
@@ -143,56 +148,53 @@ fn walks(rt: &impl Abort, table: NonContiguousSymbolTable<'_, Letter, u8, 6>, st
         } else {
             table.next()
         };
-        same(rt, step.map(letter_row), expected);
+        let found = match step {
+            Some(answer) => Some(letter_row(answer)),
+            None => None,
+        };
+        same(rt, found, expected);
     }
 }
 
-/// Stops the test where the model does not answer the first letter, and a refusal for the second one.
-fn answers_a_refusal<M>(rt: &impl Abort, model: &M)
-where
-    M: DecoderModel<6, Symbol = Letter, Probability = u8>,
-{
+/// What is answered for the first letter, and for the second one.
+const ANSWERS: [Result<Row, AllocError>; 2] = [Ok(('a', 0, 16)), Err(AllocError)];
+
+#[test]
+fn a_refused_clone_stands_in_the_place_of_its_row(rt: HostRuntime) {
+    let model = letters(rt.alloc()).expect(&rt, "accepted");
     let first = letter_row(model.quantile_function(15));
     let second = letter_row(model.quantile_function(16));
-    same(rt, (first, second), (Ok(('a', 0, 16)), Err(AllocError)));
+    same(&rt, [first, second], ANSWERS);
+    let [forth, back] = &STEPS;
+    walks(&rt, model.symbol_table(), forth);
+    walks(&rt, model.symbol_table(), back);
 }
 
 /// The lookup model takes the letters from the searching one and clones none.
 #[test]
-fn a_refused_clone_stands_in_the_place_of_its_row(rt: HostRuntime) {
+fn a_refused_clone_stands_in_the_place_of_the_row_that_is_looked_up(rt: HostRuntime) {
     let model = letters(rt.alloc()).expect(&rt, "accepted");
-    answers_a_refusal(&rt, &model);
-    let [first, second] = &STEPS;
-    walks(&rt, model.symbol_table(), first);
-    walks(&rt, model.symbol_table(), second);
-    let model = model
-        .into_lookup_decoder_model(rt.alloc())
-        .expect(&rt, "a table");
-    answers_a_refusal(&rt, &model);
-    walks(&rt, model.symbol_table(), first);
-    walks(&rt, model.symbol_table(), second);
+    let made = model.into_lookup_decoder_model(rt.alloc());
+    let model = made.expect(&rt, "a table");
+    let first = letter_row(model.quantile_function(15));
+    let second = letter_row(model.quantile_function(16));
+    same(&rt, [first, second], ANSWERS);
+    same(&rt, model.clone().err(), Some(AllocError));
 }
 
-/// Stops the test where memory for what is made was not refused.
-fn are_refused(rt: &impl Abort, (decoder, encoder): Made<Letter, 6>) {
-    is_refused(rt, decoder, ModelError::OutOfMemory);
-    is_refused(rt, encoder, ModelError::OutOfMemory);
+/// Stops the test where something was not refused for want of memory.
+fn are_refused(rt: &impl Abort, refusals: &[Option<ModelError>]) {
+    for refusal in refusals {
+        same(rt, refusal, &Some(ModelError::OutOfMemory));
+    }
 }
 
 #[test]
 fn a_refused_clone_is_want_of_memory(rt: HostRuntime) {
     let model = letters(rt.alloc()).expect(&rt, "accepted");
     same(&rt, model.clone().err(), Some(AllocError));
-    let (by_function, by_method) = made::<_, 6>(rt.alloc(), &model);
-    are_refused(&rt, by_function);
-    are_refused(&rt, by_method);
-    let looks_up = model.to_lookup_decoder_model(rt.alloc());
-    is_refused(&rt, looks_up, ModelError::OutOfMemory);
-    let model = model
-        .into_lookup_decoder_model(rt.alloc())
-        .expect(&rt, "a table");
-    same(&rt, model.clone().err(), Some(AllocError));
-    let (by_function, by_method) = looked_up::<_, 6>(rt.alloc(), &model);
-    is_refused(&rt, by_function, ModelError::OutOfMemory);
-    is_refused(&rt, by_method, ModelError::OutOfMemory);
+    are_refused(&rt, &refusals::<_, 6>(rt.alloc(), &model));
+    let by_function = to_generic_lookup_decoder_model::<_, 6>(rt.alloc(), &model).err();
+    let by_method = model.to_lookup_decoder_model(rt.alloc()).err();
+    are_refused(&rt, &[by_function, by_method]);
 }

@@ -10,6 +10,3 @@ differ = ((refl, (refl, (refl, tt))), ((refl, (refl, tt)), ((refl, tt), (tt, tt)
 
 pub of_distinct-requires : goal.of_distinct-requires
 of_distinct-requires g c = differ
-
-pub of_distinct-refused-requires : goal.of_distinct-refused-requires
-of_distinct-refused-requires g c = differ
