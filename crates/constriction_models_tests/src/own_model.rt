@@ -58,6 +58,8 @@ fn two_rows_of_one_letter_make_an_encoder_and_no_decoder(rt: HostRuntime) {
 
 #[test]
 fn a_decoder_has_the_rows_of_three_letters_of_the_caller(rt: HostRuntime) {
-    let model = decoder_of(rt.alloc(), &three('p', 'q', 'r')).expect(&rt, "a model");
+    let own = three('p', 'q', 'r');
+    same(&rt, plain(own.quantile_function(6)), Ok(('q', 2, 5)));
+    let model = decoder_of(rt.alloc(), &own).expect(&rt, "a model");
     same(&rt, plain(model.quantile_function(6)), Ok(('q', 2, 5)));
 }
