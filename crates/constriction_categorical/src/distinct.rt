@@ -98,7 +98,7 @@ fn entries_in_order<
 }
 
 impl<
-    Symbol: Eq,
+    Symbol: Eq + Drop,
     Probability: WholeNumber,
     const PRECISION: usize,
 > NonContiguousCategoricalDecoderModel<Symbol, Probability, Vec<(Probability, Symbol)>, PRECISION> {
@@ -140,7 +140,7 @@ impl<
 }
 
 impl<
-    Symbol: Hash + Eq,
+    Symbol: Hash + Eq + Drop,
     Probability: WholeNumber,
     const PRECISION: usize,
 > NonContiguousCategoricalDecoderModel<Symbol, Probability, Vec<(Probability, Symbol)>, PRECISION> {
@@ -183,7 +183,7 @@ impl<
 }
 
 impl<
-    Symbol: Ord,
+    Symbol: Ord + Drop,
     Probability: WholeNumber,
     const PRECISION: usize,
 > NonContiguousCategoricalDecoderModel<Symbol, Probability, Vec<(Probability, Symbol)>, PRECISION> {
@@ -192,8 +192,8 @@ impl<
     /// than the next one, they are refused: `InvalidTable` then says that the list is invalid or not in order,
     /// and another constructor may accept it.
     ///
-    /// One pass over both, one entry a symbol and one more, one comparison of neighbours for each symbol after
-    /// it, and one clone, of the last symbol.
+    /// One pass over both, one entry a symbol, and one comparison of neighbours for each symbol after it. No symbol
+    /// is cloned.
     ///
     /// [`from_symbols_and_nonzero_fixed_point_probabilities`]: Self::from_symbols_and_nonzero_fixed_point_probabilities
     #[tactic(auto, using(crate::proofs::Remade::made_of_both, crate::proofs::Remade::refused_both))]

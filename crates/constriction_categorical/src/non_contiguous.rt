@@ -39,7 +39,7 @@ pub struct NonContiguousCategoricalDecoderModel<
     const PRECISION: usize,
 > {
     pub(crate) cdf: Cdf,
-    ends: [Probability; 2],
+    pub(crate) ends: [Probability; 2],
     pub(crate) entries: PhantomData<(Probability, Symbol)>,
     ghost precise: { (0 < PRECISION) × (PRECISION ≤ Probability.BITS) },
     ghost stored: { IsStored Probability.BITS PRECISION (map (λ x. Probability.whole x.0) (Cdf.words_of cdf)) },
@@ -113,8 +113,7 @@ pub fn decoder_over<Symbol: Eq, Probability: WholeNumber, const PRECISION: usize
     requires fits { PRECISION ≤ Probability.BITS }
     requires stored { IsStored Probability.BITS PRECISION (map (λ x. Probability.whole x.0) entries.items) }
     requires distinct { IsDistinct Symbol.eq (map (λ x. x.1) entries.items) }
-    ensures {
-        ⟦<NonContiguousCategoricalDecoderModel<Symbol, Probability, Vec<(Probability, Symbol)>, PRECISION> as EntropyModel<PRECISION>>⟧.rows result
+    ensures { ⟦<NonContiguousCategoricalDecoderModel<Symbol, Probability, Vec<(Probability, Symbol)>, PRECISION> as EntropyModel<PRECISION>>⟧.rows result
         ≡ rows_paired Probability.whole PRECISION entries.items }
 {
     let ends = row_ends::<Probability, Symbol, PRECISION>(&entries);
@@ -126,7 +125,7 @@ pub fn decoder_over<Symbol: Eq, Probability: WholeNumber, const PRECISION: usize
 }
 
 impl<
-    Symbol: Eq,
+    Symbol: Eq + Drop,
     Probability: WholeNumber,
     const PRECISION: usize,
 > NonContiguousCategoricalDecoderModel<Symbol, Probability, Vec<(Probability, Symbol)>, PRECISION> {
@@ -341,15 +340,9 @@ impl<
         &self,
         quantile: Probability,
     ) -> Result<((Symbol, Probability, Weight<Probability>), usize), AllocError> {
-        let (index, asked) = row_in_entries::<(Probability, Symbol), WithSymbol>(
-            self.cdf_entries(),
-            quantile,
-        );
-        match cloned_row_at::<Probability, Symbol, PRECISION>(
-            self.cdf_entries(),
-            &self.ends,
-            index,
-        ) {
+        let entries = self.cdf_entries();
+        let (index, asked) = row_in_entries::<(Probability, Symbol), WithSymbol>(entries, quantile);
+        match cloned_row_at::<Probability, Symbol, PRECISION>(entries, &self.ends, index) {
             Ok(row) => Ok((row, asked)),
             Err(refused) => Err(refused),
         }

@@ -1,5 +1,5 @@
 -- How lookup models store which rows meet a slot. No public clause cites this module, but a ghost field of the model does.
-use Rattle.std.specs.Prelude.{◌≡◌, ◌↔◌, ◌⊎◌, ℕ, ◌+◌, ◌-◌, ◌*◌, ◌<◌, ◌≤◌, min, List, [], length, take, drop, slice_index}
+use Rattle.std.specs.Prelude.{◌≡◌, ◌↔◌, ℕ, ◌+◌, ◌-◌, ◌*◌, ◌<◌, ◌≤◌, min, List, length, take, drop, slice_index}
 use Rattle.constriction_model.specs.Probe.{IsLastAtMost, digits}
 use Rattle.constriction_stored_rows.specs.Stored.{with_total}
 
@@ -24,9 +24,9 @@ pub record HasSlots (width count : ℕ) (lefts table : List ℕ) : Type 0 where
   pub long : length table ≡ words_a_slot width * count
   pub words : HasWords width lefts table
 
--- what stands after the words of the slots: nothing, or where each row begins and after that the total
+-- what stands after the words of the slots, if anything does: where each row begins, and after that the total
 abbrev pub MayFollow : (bits precision : ℕ) → (lefts words : List ℕ) → Type 0
-MayFollow bits precision lefts words = (words ≡ []) ⊎ (words ≡ with_total bits precision lefts)
+MayFollow bits precision lefts words = 0 < length words → words ≡ with_total bits precision lefts
 
 -- the table begins with the words of so many slots
 pub record BeginsWithSlots (bits precision width count : ℕ) (lefts table : List ℕ) : Type 0 where

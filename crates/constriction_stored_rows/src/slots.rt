@@ -101,13 +101,12 @@ fn slots_of<Entry, Kind: CdfEntry<Entry>, const PRECISION: usize, const SLOT_BIT
 }
 
 /// The table of the rows that meet each slot, and after it, where that is asked for, where each row begins and the
-/// total, so that who looks up a row has these words side by side.
+/// total, so that who looks up a row has these words side by side. A model of one quantile never has them.
 pub fn table_of_slots<Entry, Kind: CdfEntry<Entry>, const PRECISION: usize, const SLOT_BITS: usize>(
     alloc: Global,
     entries: &[Entry],
     has_ends: bool,
 ) -> Result<Vec<Kind::Word>, AllocError>
-    requires positive { 0 < PRECISION }
     requires narrow { PRECISION ≤ 63 }
     requires fits { PRECISION ≤ Kind.Word.BITS }
     requires searchable { IsSearchable (map Kind.cumulative entries.now) 0 }
@@ -116,7 +115,7 @@ pub fn table_of_slots<Entry, Kind: CdfEntry<Entry>, const PRECISION: usize, cons
     ensures { IfOk result (λ table. BeginsWithSlots Kind.Word.BITS PRECISION (slot_width PRECISION SLOT_BITS)
         (slot_count PRECISION SLOT_BITS) (map Kind.cumulative entries.now) (map Kind.Word.whole table.items)) }
 {
-    if !has_ends {
+    if PRECISION == 0 || !has_ends {
         return slots_of::<Entry, Kind, PRECISION, SLOT_BITS>(alloc, entries, 0);
     }
     let more = entries.len().saturating_add(1);
