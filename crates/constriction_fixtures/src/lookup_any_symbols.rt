@@ -47,7 +47,7 @@ pub type Made<Symbol, const PRECISION: usize> = (
 pub fn looked_up<M, const PRECISION: usize>(alloc: Global, source: M) -> Made<M::Symbol, PRECISION>
 where
     M: IterableEntropyModel<PRECISION, Probability = u8> + Copy,
-    M::Symbol: Eq + Clone,
+    M::Symbol: Eq + Drop,
     requires positive { 0 < PRECISION }
     requires fits { PRECISION ≤ 8 }
 {
