@@ -35,6 +35,8 @@ mod symbol_types;
 #[cfg(test)]
 mod tables;
 #[cfg(test)]
+mod uncloned_symbols;
+#[cfg(test)]
 mod uniform;
 #[cfg(test)]
 mod widths;
