@@ -92,7 +92,20 @@ impl Inputs {
     }
 
     pub fn small_table(&mut self, rows: usize) -> SmallTable {
-        let weights = keep(self.random.weights(rows, 12).into_iter().map(|weight| weight as u16).collect());
+        let weights = self.random.weights(rows, 12);
+        self.small_table_of(weights)
+    }
+
+    /// A table whose last row has half of the quantiles, so of 2 to 2,049 rows.
+    pub fn small_table_with_a_wide_end(&mut self, rows: usize) -> SmallTable {
+        let mut weights = self.random.weights(rows - 1, 11);
+        weights.push(1 << 11);
+        self.small_table_of(weights)
+    }
+
+    fn small_table_of(&mut self, weights: Vec<u64>) -> SmallTable {
+        let rows = weights.len();
+        let weights = keep(weights.into_iter().map(|weight| weight as u16).collect());
         let symbols = keep(self.random.symbols(rows));
         SmallTable { rows, weights, symbols }
     }

@@ -61,6 +61,7 @@ pub fn usual() -> Vec<Kernel> {
     let mut inputs = Inputs::new();
     let tables: Vec<Table> = [2, 16, 256, 4096, 65536].into_iter().map(|rows| inputs.table(rows)).collect();
     let small: Vec<SmallTable> = [2, 16, 256, 4096].into_iter().map(|rows| inputs.small_table(rows)).collect();
+    let wide: Vec<SmallTable> = [2, 16, 256, 2048].into_iter().map(|rows| inputs.small_table_with_a_wide_end(rows)).collect();
     let words = inputs.words;
     let mut kernels = vec![kernel!("nothing but the loop", "u32", 0, MANY, nothing(words))];
     for rows in [10, 1000] {
@@ -98,6 +99,14 @@ pub fn usual() -> Vec<Kernel> {
     for table in &small {
         let (weights, symbols, quantiles) = (table.weights, table.symbols, inputs.small_quantiles);
         kernels.push(kernel!("256-slot lookup of symbols quantile_function", "u16/12", table.rows, MANY, slotted_symbol_lookup_quantile(weights, symbols, quantiles)));
+    }
+    for table in &wide {
+        let (weights, symbols, quantiles) = (table.weights, table.symbols, inputs.small_quantiles);
+        kernels.push(kernel!("decoder of symbols quantile_function, a wide end", "u16/12", table.rows, MANY, small_decoder_quantile(weights, symbols, quantiles)));
+    }
+    for table in &wide {
+        let (weights, symbols, quantiles) = (table.weights, table.symbols, inputs.small_quantiles);
+        kernels.push(kernel!("direct lookup of symbols quantile_function, a wide end", "u16/12", table.rows, MANY, direct_symbol_lookup_quantile(weights, symbols, quantiles)));
     }
     for table in &tables[..4] {
         let (weights, symbols, quantiles) = (table.weights, table.symbols, inputs.quantiles);

@@ -98,15 +98,15 @@ fn entries_in_order<
 }
 
 impl<
-    Symbol: Eq + Clone,
+    Symbol: Eq + Drop,
     Probability: WholeNumber,
     const PRECISION: usize,
 > NonContiguousCategoricalDecoderModel<Symbol, Probability, Vec<(Probability, Symbol)>, PRECISION> {
     /// The model of these symbols and weights, for a caller who knows that no two of the symbols are equal. It
     /// accepts and refuses what [`from_symbols_and_nonzero_fixed_point_probabilities`] does.
     ///
-    /// One pass over both, one entry a symbol and one more, one allocation where the symbols' iterator
-    /// announces how many there are, and one clone, of the last symbol. No symbols are compared.
+    /// One pass over both, one entry a symbol, and one allocation where the symbols' iterator announces how many
+    /// there are. No symbol is compared or cloned.
     ///
     /// [`from_symbols_and_nonzero_fixed_point_probabilities`]: Self::from_symbols_and_nonzero_fixed_point_probabilities
     #[tactic(auto, using(crate::proofs::Remade::made_of_both, crate::proofs::Remade::refused_both))]
@@ -133,24 +133,24 @@ impl<
             probabilities,
             infer_last_probability,
         ) {
-            Ok(entries) => decoder_over(entries),
+            Ok(entries) => Ok(decoder_over(entries)),
             Err(refused) => Err(refused),
         }
     }
 }
 
 impl<
-    Symbol: Hash + Eq + Clone,
+    Symbol: Hash + Eq + Drop,
     Probability: WholeNumber,
     const PRECISION: usize,
 > NonContiguousCategoricalDecoderModel<Symbol, Probability, Vec<(Probability, Symbol)>, PRECISION> {
     /// The model of these symbols and weights, for symbols that have a hash. It accepts and refuses what
     /// [`from_symbols_and_nonzero_fixed_point_probabilities`] does. Two equal symbols are found once both
-    /// iterators were read to their ends. `OutOfMemory` comes where memory for the entries, for a set of
-    /// references to the symbols, or for a clone of the last symbol, is refused.
+    /// iterators were read to their ends. `OutOfMemory` comes where memory for the entries, or for a set of
+    /// references to the symbols, is refused.
     ///
-    /// One pass over both, one hash a symbol after it, and one clone, of the last symbol. The set has as many
-    /// places as there are symbols, and is let go before the call answers.
+    /// One pass over both, and one hash a symbol after it. No symbol is cloned. The set has as many places as there
+    /// are symbols, and is let go before the call answers.
     ///
     /// [`from_symbols_and_nonzero_fixed_point_probabilities`]: Self::from_symbols_and_nonzero_fixed_point_probabilities
     #[tactic(auto, using(crate::proofs::Remade::made_of_both, crate::proofs::Remade::refused_both))]
@@ -176,14 +176,14 @@ impl<
             probabilities,
             infer_last_probability,
         ) {
-            Ok(entries) => decoder_over(entries),
+            Ok(entries) => Ok(decoder_over(entries)),
             Err(refused) => Err(refused),
         }
     }
 }
 
 impl<
-    Symbol: Ord + Clone,
+    Symbol: Ord + Drop,
     Probability: WholeNumber,
     const PRECISION: usize,
 > NonContiguousCategoricalDecoderModel<Symbol, Probability, Vec<(Probability, Symbol)>, PRECISION> {
@@ -192,8 +192,8 @@ impl<
     /// than the next one, they are refused: `InvalidTable` then says that the list is invalid or not in order,
     /// and another constructor may accept it.
     ///
-    /// One pass over both, one entry a symbol and one more, one comparison of neighbours for each symbol after
-    /// it, and one clone, of the last symbol.
+    /// One pass over both, one entry a symbol, and one comparison of neighbours for each symbol after it. No symbol
+    /// is cloned.
     ///
     /// [`from_symbols_and_nonzero_fixed_point_probabilities`]: Self::from_symbols_and_nonzero_fixed_point_probabilities
     #[tactic(auto, using(crate::proofs::Remade::made_of_both, crate::proofs::Remade::refused_both))]
@@ -220,7 +220,7 @@ impl<
             probabilities,
             infer_last_probability,
         ) {
-            Ok(entries) => decoder_over(entries),
+            Ok(entries) => Ok(decoder_over(entries)),
             Err(refused) => Err(refused),
         }
     }

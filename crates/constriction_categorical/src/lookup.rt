@@ -1,16 +1,16 @@
 //! Models that look up where to search for the row of a quantile.
 
-ghost use Rattle.std.specs.Prelude.{◌≡◌, ◌/◌, ◌-◌, ◌^◌, ◌<◌, ◌≤◌, length, map, min, count_by, IsTrue, IfOk, IfErr};
+ghost use Rattle.std.specs.Prelude.{◌≡◌, ◌/◌, ◌-◌, ◌*◌, ◌^◌, ◌<◌, ◌≤◌, length, map, min, take, drop, count_by, IsTrue, IfOk, IfErr};
 ghost use Rattle.constriction_model.specs.Probe.{digits, IsProbeFor, IsRowIndexOf};
 ghost use Rattle.constriction_stored_rows.specs.Slots.{meets_slot, slot_width};
-ghost use Rattle.constriction_stored_rows.specs.SlotTable.{HasSlots};
+ghost use Rattle.constriction_stored_rows.specs.SlotTable.{BeginsWithSlots, HasSlots, MayFollow};
 
 use crate::stores_rows::{AnswersRows, OfAnySymbols, OfNumbers, StoresRows};
 use constriction_buffers::SafeBuf;
 use constriction_model::{
     CdfProbe, DecoderModel, EntropyModel, ModelError, Probe, SearchingModel, Weight,
 };
-use constriction_stored_rows::{row_in_slot, slot_probe, slots_of};
+use constriction_stored_rows::{row_in_slot, slot_probe, table_of_slots, words_of_table};
 use std::alloc::{AllocError, Global};
 
 /// A searching model with a table, for decoders: the table tells where to search for the row of a
@@ -20,7 +20,8 @@ use std::alloc::{AllocError, Global};
 /// words a slot, the first and the last row that meet it, so a look-up searches the rows between these
 /// alone, and nothing at all where one row meets the slot. Where `SLOT_BITS` is at least `PRECISION`, a slot
 /// holds one quantile: the table has one word a slot, the quantile's row, and a look-up searches nothing.
-/// Beside the table stands the searching model.
+/// Beside the table stands the searching model. Of a model over any symbols the table has, after its slots, where
+/// each row begins and the total, so that the words of a row stand side by side.
 ///
 /// [`ContiguousLookupDecoderModel`] and [`NonContiguousLookupDecoderModel`] are names of it with 8
 /// `SLOT_BITS`. A caller's own model that [`StoresRows`] gets a table by [`with_table`](Self::with_table).
@@ -36,8 +37,8 @@ where
     pub(crate) model: Model,
     pub(crate) lookup_table: LookupTable,
     ghost narrow: { PRECISION ≤ 63 },
-    ghost slots: { HasSlots (slot_width PRECISION SLOT_BITS) (2 ^ min PRECISION SLOT_BITS)
-        (map (λ r. r.left) (Model.rows model))
+    ghost slots: { BeginsWithSlots Model.Probability.BITS PRECISION (slot_width PRECISION SLOT_BITS)
+        (2 ^ min PRECISION SLOT_BITS) (map (λ r. r.left) (Model.rows model))
         (map Model.Probability.whole (LookupTable.words_of lookup_table)) },
 }
 
@@ -61,17 +62,18 @@ impl<
 > LookupDecoderModel<Model, Vec<Model::Probability>, PRECISION, SLOT_BITS> {
     /// The model of the same rows, with a table. Want of memory for the table is its only refusal.
     ///
-    /// One pass over the rows, and one allocation: of two words a slot, or of one where a slot holds one
-    /// quantile.
+    /// One pass over the rows, or two where the table has where each row begins, and one allocation: of two words a
+    /// slot, or of one where a slot holds one quantile, and of one word a row and one more where the table has these.
     pub fn with_table(alloc: Global, model: Model) -> Result<Self, AllocError>
     where
         Model: Drop,
         requires narrow { PRECISION ≤ 63 }
         ensures { IfOk result (λ m. ⟦<Self as EntropyModel<PRECISION>>⟧.rows m ≡ Model.rows model) }
     {
-        let lookup_table = slots_of::<Model::Entry, Model::Kind, PRECISION, SLOT_BITS>(
+        let lookup_table = table_of_slots::<Model::Entry, Model::Kind, PRECISION, SLOT_BITS>(
             alloc,
             model.entries(),
+            model.wants_ends(),
         )?;
         Ok(Self {
             model,
@@ -107,6 +109,24 @@ where
     Model: StoresRows<PRECISION>,
     LookupTable: SafeBuf<Model::Probability>,
 {
+    /// The words of the slots.
+    #[inline(always)]
+    fn slots<'m>(&'m self) -> &'m [Model::Probability]
+        ensures { HasSlots (slot_width PRECISION SLOT_BITS) (2 ^ min PRECISION SLOT_BITS)
+            (map (λ r. r.left) (Model.rows self.now.model)) (map Model.Probability.whole result.now) }
+    {
+        &self.lookup_table.words()[..words_of_table::<PRECISION, SLOT_BITS>()]
+    }
+
+    /// What stands after these.
+    #[inline(always)]
+    fn after_slots<'m>(&'m self) -> &'m [Model::Probability]
+        ensures { MayFollow Model.Probability.BITS PRECISION (map (λ r. r.left) (Model.rows self.now.model))
+            (map Model.Probability.whole result.now) }
+    {
+        &self.lookup_table.words()[words_of_table::<PRECISION, SLOT_BITS>()..]
+    }
+
     /// A probe of the rows in question for a quantile, which are those that meet its slot, and the
     /// index of the first of them. What [`row_of_quantile`] answers on it, plus that index, is the
     /// index of the quantile's row. Where `m` rows meet the slot it asks as many questions at most as
@@ -125,7 +145,7 @@ where
     {
         slot_probe::<Model::Entry, Model::Kind, PRECISION, SLOT_BITS>(
             self.model.entries(),
-            self.lookup_table.words(),
+            self.slots(),
             quantile,
         )
     }
@@ -143,7 +163,7 @@ where
     {
         row_in_slot::<Model::Entry, Model::Kind, PRECISION, SLOT_BITS>(
             self.model.entries(),
-            self.lookup_table.words(),
+            self.slots(),
             quantile,
         )
     }
@@ -209,7 +229,7 @@ where
         AllocError,
     > {
         let (index, compared) = self.row_index(quantile);
-        match self.model.row_at(index) {
+        match self.model.row_beside(self.after_slots(), index) {
             Ok(row) => Ok((row, compared)),
             Err(refused) => Err(refused),
         }

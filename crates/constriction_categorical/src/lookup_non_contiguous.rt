@@ -6,8 +6,8 @@ ghost use Rattle.constriction_model.specs.Acceptance.{completed, AreAccepted, Wa
 ghost use Rattle.constriction_model.specs.Model.{StandForRows, ClonesAreEqual};
 ghost use Rattle.constriction_model.specs.Precision.{IsLookupPrecision};
 ghost use Rattle.constriction_model.specs.Rows.{rows_of};
-ghost use Rattle.constriction_stored_rows.specs.SymbolRowLemmas.{entries-tile};
-ghost use Rattle.constriction_stored_rows.specs.Stored.{entries_in, rows_paired};
+ghost use Rattle.constriction_stored_rows.specs.SymbolRowLemmas.{paired-tiles};
+ghost use Rattle.constriction_stored_rows.specs.Stored.{rows_paired};
 ghost use Rattle.constriction_model.specs.Tables.{rows_between};
 
 use crate::iterable::IterableEntropyModel;
@@ -23,8 +23,8 @@ use std::alloc::{AllocError, Global};
 /// A model of any symbols, no two of which are equal, for decoders: a table of
 /// `2^min(PRECISION, SLOT_BITS)` slots tells where to search for the row of a quantile.
 ///
-/// Beside the table of a [`LookupDecoderModel`] stands what a [`NonContiguousCategoricalDecoderModel`]
-/// stores, one entry a symbol and one more.
+/// Beside the table of a [`LookupDecoderModel`] stands what a [`NonContiguousCategoricalDecoderModel`] stores, one
+/// entry a symbol. The table has one word a symbol and one more after its slots.
 pub type SlottedNonContiguousLookupDecoderModel<
     Symbol,
     Probability,
@@ -39,7 +39,7 @@ pub type SlottedNonContiguousLookupDecoderModel<
     SLOT_BITS,
 >;
 
-/// The model with `2^min(PRECISION, 8)` slots, whose table has 512 words at most.
+/// The model with `2^min(PRECISION, 8)` slots, which are 512 words of its table at most.
 pub type NonContiguousLookupDecoderModel<
     Symbol,
     Probability,
@@ -55,7 +55,7 @@ pub type SmallNonContiguousLookupDecoderModel<
     LookupTable = Vec<u16>,
 > = NonContiguousLookupDecoderModel<Symbol, u16, Cdf, LookupTable, 12>;
 
-/// The model over 12 bits of `u16` with a slot for each quantile: its table has 4,096 words, and a look-up
+/// The model over 12 bits of `u16` with a slot for each quantile, which are 4,096 words of its table: a look-up
 /// searches nothing.
 pub type SmallNonContiguousDirectLookupDecoderModel<
     Symbol,
@@ -101,7 +101,7 @@ pub fn lookup_over_decoder<
 }
 
 impl<
-    Symbol: Eq + Clone,
+    Symbol: Eq + Drop,
     Probability: IndexWord,
     const PRECISION: usize,
     const SLOT_BITS: usize,
@@ -116,11 +116,12 @@ impl<
     /// The model of these symbols and weights. It accepts what
     /// [`NonContiguousCategoricalDecoderModel::from_symbols_and_nonzero_fixed_point_probabilities`]
     /// accepts, so distinct symbols alone, and refuses the others with `InvalidTable` as soon as that is
-    /// known, before there is a table of slots. `OutOfMemory` comes where memory for the rows, for a clone of
-    /// the last symbol, or for the table is refused.
+    /// known, before there is a table of slots. `OutOfMemory` comes where memory for the rows or for the table is
+    /// refused.
     ///
-    /// One pass over both, in which each symbol is compared with those before it, and one over the rows.
-    /// Beside the rows it takes one allocation for the table, with 8 `SLOT_BITS` of 512 words at most.
+    /// One pass over both, in which each symbol is compared with those before it, and two over the rows. No symbol is
+    /// cloned. Beside the rows it takes one allocation for the table, with 8 `SLOT_BITS` of 512 words at most and
+    /// one word a symbol and one more.
     #[tactic(auto, using(crate::proofs::Remade::made_of_both, crate::proofs::Remade::refused_both))]
     pub fn from_symbols_and_nonzero_fixed_point_probabilities<
         S: IntoIterator<Item = Symbol>,
@@ -171,8 +172,7 @@ impl<
     /// A model of the same rows with clones of the symbols, and with rows and a table of its own from the
     /// allocators of this one's. A clone has to be equal to its symbol, so that no two are equal.
     ///
-    /// Two allocations, a clone of each symbol and one more of the last one. It is refused where memory for one
-    /// of these is.
+    /// Two allocations, and a clone of each symbol. It is refused where memory for one of these is.
     pub fn clone(&self) -> Result<Self, AllocError>
         requires { ClonesAreEqual Symbol.eq Symbol.is_clone }
         ensures { IfOk result (λ m. StandForRows Symbol.is_clone (⟦<Self as EntropyModel<PRECISION>>⟧.rows m)
@@ -199,8 +199,7 @@ impl<
     /// equal to its symbol, so that no two are equal. Its only refusal is `OutOfMemory`, where memory for the
     /// rows, for a clone of a symbol, or for the table is refused.
     ///
-    /// Two allocations, a clone of each symbol and one more of the last one, and one pass over the rows. No
-    /// symbols are compared.
+    /// Two allocations, a clone of each symbol, and two passes over the rows. No symbols are compared.
     pub fn to_lookup_decoder_model(
         &self,
         alloc: Global,
@@ -263,7 +262,7 @@ impl<
     /// constructor of this type is one of a lookup model too. Its only refusal is `OutOfMemory`, where memory
     /// for the table is refused, and then the model is given up.
     ///
-    /// One allocation and one pass over the rows. No symbol is cloned or compared.
+    /// One allocation and two passes over the rows. No symbol is cloned or compared.
     pub fn into_lookup_decoder_model(
         self,
         alloc: Global,
@@ -363,7 +362,7 @@ impl<
 
     ghost may_refuse = { λ s. ¬ (Symbol.is_infallible s) };
 
-    ghost rows_left = { λ t. rows_between t.from t.to (rows_paired Probability.whole PRECISION (entries_in t.cdf.now)) };
+    ghost rows_left = { λ t. rows_between t.from t.to (rows_paired Probability.whole PRECISION t.cdf.now) };
 
     /// All rows in order, each once: symbol, left cumulative and weight, the symbol by a clone. Where
     /// memory for a clone is refused, the refusal stands in the row's place.
@@ -374,5 +373,5 @@ impl<
 
     ghost steps_law = { λ t r u step. step };
 
-    ghost tile_law = { λ m. entries-tile Probability.whole _ _ _ m.now.model.stored };
+    ghost tile_law = { λ m. paired-tiles Probability.whole _ _ _ m.now.model.stored };
 }

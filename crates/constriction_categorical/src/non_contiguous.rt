@@ -1,6 +1,6 @@
 //! Models of any symbols, which find the row of a quantile by a search.
 
-ghost use Rattle.std.specs.Prelude.{◌≡◌, ◌+◌, ◌^◌, ◌<◌, ◌≤◌, length, map, IfOk, IfErr, ⊤};
+ghost use Rattle.std.specs.Prelude.{◌≡◌, ◌+◌, ◌^◌, ◌<◌, ◌≤◌, length, map, IfOk, ⊤};
 ghost use Rattle.std.specs.Iterator.{IsFiniteIterable};
 ghost use Rattle.std.specs.List.{IsDistinct};
 ghost use Rattle.std.proofs.Props.{props};
@@ -9,9 +9,8 @@ ghost use Rattle.constriction_model.specs.Model.{StandForRows, ClonesAreEqual};
 ghost use Rattle.constriction_model.specs.Precision.{IsPrecision};
 ghost use Rattle.constriction_model.specs.Probe.{IsProbeFor};
 ghost use Rattle.constriction_model.specs.Rows.{rows_of};
-ghost use Rattle.constriction_stored_rows.specs.Stored.{IsStored, IsTable, entries_in};
-ghost use Rattle.constriction_stored_rows.specs.SymbolRowLemmas.{entries-tile};
-ghost use Rattle.constriction_stored_rows.specs.Stored.{rows_paired};
+ghost use Rattle.constriction_stored_rows.specs.Stored.{IsStored, ends_of, rows_paired};
+ghost use Rattle.constriction_stored_rows.specs.SymbolRowLemmas.{paired-tiles};
 ghost use Rattle.constriction_model.specs.Tables.{rows_between};
 
 use crate::iterable::IterableEntropyModel;
@@ -23,15 +22,15 @@ use constriction_model::{
 };
 use constriction_numbers::WholeNumber;
 use constriction_stored_rows::{
-    cloned_row_at, entries_announced, entries_cloned, room_for, rows_read, with_total,
+    cloned_row_at, entries_announced, entries_cloned, room_for, row_ends, rows_read,
 };
 use std::alloc::{AllocError, Global};
 use std::marker::PhantomData;
 
 /// A model of any symbols, no two of which are equal, for decoders: it finds the row of a quantile.
 ///
-/// It stores one entry a symbol, the left cumulative and the symbol, and one entry more, the total and
-/// a clone of the last symbol, in a buffer of the caller's choice.
+/// It stores one entry a symbol, the left cumulative and the symbol, in a buffer of the caller's choice, and
+/// beside it two words, where the first row ends and where the last one does.
 #[derive(Debug, Drop)]
 pub struct NonContiguousCategoricalDecoderModel<
     Symbol: Eq,
@@ -40,10 +39,13 @@ pub struct NonContiguousCategoricalDecoderModel<
     const PRECISION: usize,
 > {
     pub(crate) cdf: Cdf,
+    pub(crate) ends: [Probability; 2],
     pub(crate) entries: PhantomData<(Probability, Symbol)>,
     ghost precise: { (0 < PRECISION) × (PRECISION ≤ Probability.BITS) },
-    ghost stored: { IsTable Probability.BITS PRECISION (map (λ x. Probability.whole x.0) (Cdf.words_of cdf)) },
-    ghost distinct: { IsDistinct Symbol.eq (map (λ x. x.1) (entries_in (Cdf.words_of cdf))) } by { Prim.hlevel props },
+    ghost stored: { IsStored Probability.BITS PRECISION (map (λ x. Probability.whole x.0) (Cdf.words_of cdf)) },
+    ghost ended: { map Probability.whole ends ≡ ends_of Probability.BITS PRECISION
+        (map (λ x. Probability.whole x.0) (Cdf.words_of cdf)) },
+    ghost distinct: { IsDistinct Symbol.eq (map (λ x. x.1) (Cdf.words_of cdf)) } by { Prim.hlevel props },
 }
 
 /// The model over 24 bits of `u32`, which suits most uses.
@@ -65,7 +67,7 @@ impl<
 
     type Probability = Probability;
 
-    ghost rows = { λ m. rows_paired Probability.whole PRECISION (entries_in (Cdf.words_of m.cdf)) };
+    ghost rows = { λ m. rows_paired Probability.whole PRECISION (Cdf.words_of m.cdf) };
 }
 
 /// The entries of these symbols and weights, if no symbol is equal to one before it.
@@ -97,38 +99,33 @@ fn entries_compared<
     )
 }
 
-/// The model over these entries: a model's left cumulatives, each with a symbol, no two of which are equal. The
-/// total and a clone of the last symbol are put after them, and want of memory, for the clone or for one entry
-/// more, is the only refusal. Crates above call it that have collected entries.
-pub fn decoder_over<Symbol: Eq + Clone, Probability: WholeNumber, const PRECISION: usize>(
+/// The model over these entries: a model's left cumulatives, each with a symbol, no two of which are equal. It takes
+/// no memory. Crates above call it that have collected entries.
+pub fn decoder_over<Symbol: Eq, Probability: WholeNumber, const PRECISION: usize>(
     entries: Vec<(Probability, Symbol)>,
-) -> Result<
-    NonContiguousCategoricalDecoderModel<
-        Symbol,
-        Probability,
-        Vec<(Probability, Symbol)>,
-        PRECISION,
-    >,
-    ModelError,
+) -> NonContiguousCategoricalDecoderModel<
+    Symbol,
+    Probability,
+    Vec<(Probability, Symbol)>,
+    PRECISION,
 >
     requires positive { 0 < PRECISION }
     requires fits { PRECISION ≤ Probability.BITS }
     requires stored { IsStored Probability.BITS PRECISION (map (λ x. Probability.whole x.0) entries.items) }
     requires distinct { IsDistinct Symbol.eq (map (λ x. x.1) entries.items) }
-    ensures ok { IfOk result (λ m.
-        ⟦<NonContiguousCategoricalDecoderModel<Symbol, Probability, Vec<(Probability, Symbol)>, PRECISION> as EntropyModel<PRECISION>>⟧.rows m
-        ≡ rows_paired Probability.whole PRECISION entries.items) }
-    ensures refused { IfErr result (λ e. e ≡ ModelError.OutOfMemory) }
+    ensures { ⟦<NonContiguousCategoricalDecoderModel<Symbol, Probability, Vec<(Probability, Symbol)>, PRECISION> as EntropyModel<PRECISION>>⟧.rows result
+        ≡ rows_paired Probability.whole PRECISION entries.items }
 {
-    let cdf = with_total::<Probability, Symbol, PRECISION>(entries)?;
-    Ok(NonContiguousCategoricalDecoderModel {
-        cdf,
+    let ends = row_ends::<Probability, Symbol, PRECISION>(&entries);
+    NonContiguousCategoricalDecoderModel {
+        cdf: entries,
+        ends,
         entries: PhantomData,
-    })
+    }
 }
 
 impl<
-    Symbol: Eq + Clone,
+    Symbol: Eq + Drop,
     Probability: WholeNumber,
     const PRECISION: usize,
 > NonContiguousCategoricalDecoderModel<Symbol, Probability, Vec<(Probability, Symbol)>, PRECISION> {
@@ -139,12 +136,11 @@ impl<
     /// sum is `2^PRECISION`, each of them is a word, there is exactly one symbol for each weight, and no
     /// two symbols are equal. `InvalidTable` comes where they are not accepted, whether both iterators
     /// were read to their ends or only so far that no lists that begin so are accepted. `OutOfMemory`
-    /// comes where memory for the entries, or for a clone of the last symbol, is refused.
+    /// comes where memory for the entries is refused.
     ///
-    /// One pass over both, one entry a symbol and one more, one allocation where the symbols' iterator
-    /// announces how many there are, and one clone, of the last symbol. Each symbol is compared with those
-    /// before it, which takes no memory and `n * (n - 1) / 2` comparisons for `n` symbols. Where that is too
-    /// much, take
+    /// One pass over both, one entry a symbol, and one allocation where the symbols' iterator announces how many
+    /// there are. No symbol is cloned. Each symbol is compared with those before it, which takes no memory and
+    /// `n * (n - 1) / 2` comparisons for `n` symbols. Where that is too much, take
     /// [`from_hashable_symbols_and_nonzero_fixed_point_probabilities`],
     /// [`from_sorted_symbols_and_nonzero_fixed_point_probabilities`], or, where symbols are known to differ,
     /// [`from_distinct_symbols_and_nonzero_fixed_point_probabilities`].
@@ -175,16 +171,21 @@ impl<
             probabilities,
             infer_last_probability,
         ) {
-            Ok(entries) => decoder_over(entries),
+            Ok(entries) => Ok(decoder_over(entries)),
             Err(refused) => Err(refused),
         }
     }
+}
 
+impl<
+    Symbol: Eq + Clone,
+    Probability: WholeNumber,
+    const PRECISION: usize,
+> NonContiguousCategoricalDecoderModel<Symbol, Probability, Vec<(Probability, Symbol)>, PRECISION> {
     /// A model of the same rows with clones of the symbols, and with entries of its own from the allocator of
     /// this one's. A clone has to be equal to its symbol, so that no two are equal.
     ///
-    /// One allocation, a clone of each symbol and one more of the last one. It is refused where memory for one
-    /// of these is.
+    /// One allocation, and a clone of each symbol. It is refused where memory for one of these is.
     pub fn clone(&self) -> Result<Self, AllocError>
         requires { ClonesAreEqual Symbol.eq Symbol.is_clone }
         ensures { IfOk result (λ m. StandForRows Symbol.is_clone (⟦<Self as EntropyModel<PRECISION>>⟧.rows m)
@@ -205,16 +206,15 @@ impl<
     pub fn support_size(&self) -> usize
         ensures { result ≡ length (⟦<Self as EntropyModel<PRECISION>>⟧.rows self.now) }
     {
-        self.cdf.words().len() - 1
+        self.cdf.words().len()
     }
 
     /// The entries: left cumulative and symbol of each row.
     #[inline]
     pub(crate) fn cdf_entries<'m>(&'m self) -> &'m [(Probability, Symbol)]
-        ensures { result.now ≡ entries_in (Cdf.words_of self.now.cdf) }
+        ensures { result.now ≡ Cdf.words_of self.now.cdf }
     {
-        let cdf = self.cdf.words();
-        &cdf[..cdf.len() - 1]
+        self.cdf.words()
     }
 
     /// The same model over the entries of this one.
@@ -232,6 +232,7 @@ impl<
     {
         NonContiguousCategoricalDecoderModel {
             cdf: self.cdf.words(),
+            ends: self.ends,
             entries: PhantomData,
         }
     }
@@ -292,10 +293,7 @@ impl<
             (⟦<Self as EntropyModel<PRECISION>>⟧.rows self.now)) }
     {
         match self.entries_in_vec(alloc) {
-            Ok(entries) => match decoder_over(entries) {
-                Ok(model) => Ok(model),
-                Err(_) => Err(AllocError),
-            },
+            Ok(entries) => Ok(decoder_over(entries)),
             Err(refused) => Err(refused),
         }
     }
@@ -324,7 +322,7 @@ impl<
         }
     }
 
-    ghost tile_law = { λ m. entries-tile Probability.whole _ _ _ m.stored };
+    ghost tile_law = { λ m. paired-tiles Probability.whole _ _ _ m.stored };
 }
 
 impl<
@@ -342,11 +340,9 @@ impl<
         &self,
         quantile: Probability,
     ) -> Result<((Symbol, Probability, Weight<Probability>), usize), AllocError> {
-        let (index, asked) = row_in_entries::<(Probability, Symbol), WithSymbol>(
-            self.cdf_entries(),
-            quantile,
-        );
-        match cloned_row_at::<Probability, Symbol, PRECISION>(self.cdf.words(), index) {
+        let entries = self.cdf_entries();
+        let (index, asked) = row_in_entries::<(Probability, Symbol), WithSymbol>(entries, quantile);
+        match cloned_row_at::<Probability, Symbol, PRECISION>(entries, &self.ends, index) {
             Ok(row) => Ok((row, asked)),
             Err(refused) => Err(refused),
         }
@@ -367,7 +363,7 @@ impl<
 
     ghost may_refuse = { λ s. ¬ (Symbol.is_infallible s) };
 
-    ghost rows_left = { λ t. rows_between t.from t.to (rows_paired Probability.whole PRECISION (entries_in t.cdf.now)) };
+    ghost rows_left = { λ t. rows_between t.from t.to (rows_paired Probability.whole PRECISION t.cdf.now) };
 
     /// All rows in order, each once: symbol, left cumulative and weight, the symbol by a clone. Where
     /// memory for a clone is refused, the refusal stands in the row's place.
@@ -377,11 +373,11 @@ impl<
         NonContiguousSymbolTable {
             cdf,
             from: 0,
-            to: cdf.len() - 1,
+            to: cdf.len(),
         }
     }
 
     ghost steps_law = { λ t r u step. step };
 
-    ghost tile_law = { λ m. entries-tile Probability.whole _ _ _ m.now.stored };
+    ghost tile_law = { λ m. paired-tiles Probability.whole _ _ _ m.now.stored };
 }

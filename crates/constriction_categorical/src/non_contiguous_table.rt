@@ -3,9 +3,8 @@
 ghost use Rattle.std.specs.Prelude.{◌≡◌, ◌^◌, ◌<◌, ◌≤◌, length, map};
 ghost use Rattle.std.specs.Iterator.{at_most, size};
 ghost use Rattle.std.specs.Iterator.SizeHint.{IsExactHint};
-ghost use Rattle.constriction_stored_rows.specs.Stored.{IsTable, entries_in};
+ghost use Rattle.constriction_stored_rows.specs.Stored.{IsStored, rows_paired};
 ghost use Rattle.constriction_model.specs.Tables.{YieldsRow, YieldsLastRow, rows_between};
-ghost use Rattle.constriction_stored_rows.specs.Stored.{rows_paired};
 
 use constriction_model::Weight;
 use constriction_numbers::WholeNumber;
@@ -25,10 +24,10 @@ pub struct NonContiguousSymbolTable<'m, Symbol, Probability: WholeNumber, const 
     pub(crate) cdf: &'m [(Probability, Symbol)],
     pub(crate) from: usize,
     pub(crate) to: usize,
-    ghost narrow: { PRECISION ≤ Probability.BITS },
-    ghost stored: { IsTable Probability.BITS PRECISION (map (λ x. Probability.whole x.0) cdf.now) },
+    ghost precise: { (0 < PRECISION) × (PRECISION ≤ Probability.BITS) },
+    ghost stored: { IsStored Probability.BITS PRECISION (map (λ x. Probability.whole x.0) cdf.now) },
     ghost in_order: { from ≤ to },
-    ghost in_bounds: { to < length cdf.now },
+    ghost in_bounds: { to ≤ length cdf.now },
 }
 
 impl<'m, Symbol: Clone, Probability: WholeNumber, const PRECISION: usize> Iterator
@@ -36,9 +35,9 @@ impl<'m, Symbol: Clone, Probability: WholeNumber, const PRECISION: usize> Iterat
     type Item = Result<(Symbol, Probability, Weight<Probability>), AllocError>;
 
     ghost next_gives = { YieldsRow Symbol.is_clone (λ s. ¬ (Symbol.is_infallible s)) Probability.whole Probability.base
-        (λ t. rows_between t.from t.to (rows_paired Probability.whole PRECISION (entries_in t.cdf.now))) };
+        (λ t. rows_between t.from t.to (rows_paired Probability.whole PRECISION t.cdf.now)) };
 
-    ghost remaining = { λ t. at_most (length (rows_between t.from t.to (rows_paired Probability.whole PRECISION (entries_in t.cdf.now)))) };
+    ghost remaining = { λ t. at_most (length (rows_between t.from t.to (rows_paired Probability.whole PRECISION t.cdf.now))) };
 
     #[inline]
     fn next(&mut self) -> Option<Result<(Symbol, Probability, Weight<Probability>), AllocError>> {
@@ -67,7 +66,7 @@ impl<'m, Symbol: Clone, Probability: WholeNumber, const PRECISION: usize> Iterat
 impl<'m, Symbol: Clone, Probability: WholeNumber, const PRECISION: usize> DoubleEndedIterator
     for NonContiguousSymbolTable<'m, Symbol, Probability, PRECISION> {
     ghost next_back_gives = { YieldsLastRow Symbol.is_clone (λ s. ¬ (Symbol.is_infallible s)) Probability.whole Probability.base
-        (λ t. rows_between t.from t.to (rows_paired Probability.whole PRECISION (entries_in t.cdf.now))) };
+        (λ t. rows_between t.from t.to (rows_paired Probability.whole PRECISION t.cdf.now)) };
 
     #[inline]
     fn next_back(

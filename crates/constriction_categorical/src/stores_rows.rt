@@ -5,14 +5,15 @@ ghost use Rattle.constriction_model.specs.Model.{row_of, LiesWithin};
 ghost use Rattle.constriction_model.specs.Rows.{Row, RowsTile};
 ghost use Rattle.constriction_model.specs.Tables.{StandsFor};
 ghost use Rattle.constriction_stored_rows.specs.StoredRowLemmas.{stored-tiles};
-ghost use Rattle.constriction_stored_rows.specs.SymbolRowLemmas.{entries-tile};
+ghost use Rattle.constriction_stored_rows.specs.SlotTable.{MayFollow};
+ghost use Rattle.constriction_stored_rows.specs.SymbolRowLemmas.{paired-tiles};
 
 use crate::contiguous::ContiguousCategoricalEntropyModel;
 use crate::non_contiguous::NonContiguousCategoricalDecoderModel;
 use constriction_buffers::SafeBuf;
 use constriction_model::{Alone, CdfEntry, DecoderModel, EntropyModel, Weight, WithSymbol};
 use constriction_numbers::WholeNumber;
-use constriction_stored_rows::{cloned_row_at, contiguous_row_at};
+use constriction_stored_rows::{cloned_row_at, cloned_row_beside, contiguous_row_at};
 use std::alloc::AllocError;
 
 /// A model that stores an entry a row, in order, and lends them. A caller's own model may be one.
@@ -26,6 +27,13 @@ pub trait StoresRows<const PRECISION: usize>: EntropyModel<PRECISION> {
     /// The entries, one a row.
     fn entries(&self) -> &[Self::Entry]
         ensures { map Self.Kind.cumulative result.now ≡ map (λ r. r.left) (Self.rows self.now) };
+
+    /// Whether a table of slots beside the model has, after its slots, where each row begins and the total, which
+    /// [`AnswersRows::row_beside`] then reads. A model that tells where each row ends by itself wants none.
+    #[inline]
+    fn wants_ends(&self) -> bool {
+        false
+    }
 
     // The precision is one of the words.
     ghost precise_law: { (m : Self) → PRECISION ≤ Self.Probability.BITS };
@@ -46,6 +54,25 @@ pub trait AnswersRows<const PRECISION: usize>: StoresRows<PRECISION> + DecoderMo
             × StandsFor Self.stands_for Self.may_refuse Self.Probability.whole Self.Probability.base result r }
         ensures within { IfOk result (λ x. LiesWithin PRECISION
             (row_of Self.Probability.whole Self.Probability.base x)) };
+
+    /// The same, where what stands after the slots of a table is at hand: nothing, or where each row begins and after
+    /// that the total.
+    #[inline]
+    fn row_beside(
+        &self,
+        cdf: &[Self::Probability],
+        index: usize,
+    ) -> Result<(Self::Symbol, Self::Probability, Weight<Self::Probability>), AllocError>
+        requires in_bounds { index < length (Self.rows self.now) }
+        requires cdf { MayFollow Self.Probability.BITS PRECISION (map (λ r. r.left) (Self.rows self.now))
+            (map Self.Probability.whole cdf.now) }
+        ensures row { (r : Row Self.Symbol) × (slice_get (Self.rows self.now) index ≡ Some r)
+            × StandsFor Self.stands_for Self.may_refuse Self.Probability.whole Self.Probability.base result r }
+        ensures within { IfOk result (λ x. LiesWithin PRECISION
+            (row_of Self.Probability.whole Self.Probability.base x)) }
+    {
+        self.row_at(index)
+    }
 }
 
 impl<Probability: WholeNumber, Cdf: SafeBuf<Probability>, const PRECISION: usize> StoresRows<
@@ -93,9 +120,14 @@ impl<
         self.cdf_entries()
     }
 
+    #[inline]
+    fn wants_ends(&self) -> bool {
+        true
+    }
+
     ghost precise_law = { λ m. m.precise.1 };
 
-    ghost stored_law = { λ m. entries-tile Probability.whole _ _ _ m.stored };
+    ghost stored_law = { λ m. paired-tiles Probability.whole _ _ _ m.stored };
 }
 
 impl<
@@ -110,7 +142,19 @@ impl<
         &self,
         index: usize,
     ) -> Result<(Symbol, Probability, Weight<Probability>), AllocError> {
-        cloned_row_at::<Probability, Symbol, PRECISION>(self.cdf.words(), index)
+        cloned_row_at::<Probability, Symbol, PRECISION>(self.cdf_entries(), &self.ends, index)
+    }
+
+    #[inline]
+    fn row_beside(
+        &self,
+        cdf: &[Probability],
+        index: usize,
+    ) -> Result<(Symbol, Probability, Weight<Probability>), AllocError> {
+        if cdf.is_empty() {
+            return self.row_at(index);
+        }
+        cloned_row_beside::<Probability, Symbol, PRECISION>(self.cdf_entries(), cdf, index)
     }
 }
 

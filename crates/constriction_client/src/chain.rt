@@ -81,7 +81,7 @@ where
 
 /// The searching model of two lists, as its constructor tells it of the iterators that they become. So what follows
 /// of it for the lists is proved apart, over plain terms.
-fn from_lists<Symbol: Eq + Clone, Probability: WholeNumber, const PRECISION: usize>(
+fn from_lists<Symbol: Eq + Drop, Probability: WholeNumber, const PRECISION: usize>(
     alloc: Global,
     symbols: Vec<Symbol>,
     weights: Vec<Probability>,
@@ -102,7 +102,7 @@ fn from_lists<Symbol: Eq + Clone, Probability: WholeNumber, const PRECISION: usi
 }
 
 /// The searching model of symbols and weights that are accepted. The symbols are not compared.
-fn searching_of<Symbol: Eq + Clone, Probability: WholeNumber, const PRECISION: usize>(
+fn searching_of<Symbol: Eq + Drop, Probability: WholeNumber, const PRECISION: usize>(
     alloc: Global,
     symbols: Vec<Symbol>,
     weights: Vec<Probability>,

@@ -58,7 +58,7 @@ impl<Symbol: Eq, Probability: IndexWord, const PRECISION: usize> EntropyModel<PR
 impl<Symbol: Eq + Clone, Probability: IndexWord, const PRECISION: usize> DecoderModel<PRECISION>
     for DecoderForm<Symbol, Probability, PRECISION> {
     ghost use Rattle.constriction.specs.Rows.{RowsTile};
-    ghost use Rattle.constriction.specs.SymbolRowLemmas.{entries-tile};
+    ghost use Rattle.constriction.specs.SymbolRowLemmas.{paired-tiles};
     ghost use Rattle.constriction_client.specs.declared.decoder_form.SearchOrLookup.TheVariants as form;
 
     ghost stands_for = { Symbol.is_clone };
@@ -77,8 +77,8 @@ impl<Symbol: Eq + Clone, Probability: IndexWord, const PRECISION: usize> Decoder
 
     ghost tile_law = { λ m. elim m as (λ f. RowsTile Probability.BITS PRECISION
         (⟦<DecoderForm<Symbol, Probability, PRECISION> as EntropyModel<PRECISION>>⟧.rows f)) [
-          | form.Search s ↦ entries-tile Probability.whole _ _ _ s.stored
-          | form.Lookup s ↦ entries-tile Probability.whole _ _ _ s.model.stored
+          | form.Search s ↦ paired-tiles Probability.whole _ _ _ s.stored
+          | form.Lookup s ↦ paired-tiles Probability.whole _ _ _ s.model.stored
         ] };
 }
 
@@ -89,8 +89,8 @@ impl<
     const PRECISION: usize,
 > IterableEntropyModel<PRECISION> for &'m DecoderForm<Symbol, Probability, PRECISION> {
     ghost use Rattle.constriction.specs.Rows.{RowsTile};
-    ghost use Rattle.constriction.specs.SymbolRowLemmas.{entries-tile};
-    ghost use Rattle.constriction.specs.Stored.{entries_in, rows_paired};
+    ghost use Rattle.constriction.specs.SymbolRowLemmas.{paired-tiles};
+    ghost use Rattle.constriction.specs.Stored.{rows_paired};
     ghost use Rattle.constriction.specs.Tables.{rows_between};
     ghost use Rattle.constriction_client.specs.declared.decoder_form.SearchOrLookup.TheVariants as form;
 
@@ -100,7 +100,7 @@ impl<
 
     ghost may_refuse = { λ s. ¬ (Symbol.is_infallible s) };
 
-    ghost rows_left = { λ t. rows_between t.from t.to (rows_paired Probability.whole PRECISION (entries_in t.cdf.now)) };
+    ghost rows_left = { λ t. rows_between t.from t.to (rows_paired Probability.whole PRECISION t.cdf.now) };
 
     fn symbol_table(self) -> NonContiguousSymbolTable<'m, Symbol, Probability, PRECISION> {
         match self {
@@ -113,7 +113,7 @@ impl<
 
     ghost tile_law = { λ m. elim m.now as (λ f. RowsTile Probability.BITS PRECISION
         (⟦<DecoderForm<Symbol, Probability, PRECISION> as EntropyModel<PRECISION>>⟧.rows f)) [
-          | form.Search s ↦ entries-tile Probability.whole _ _ _ s.stored
-          | form.Lookup s ↦ entries-tile Probability.whole _ _ _ s.model.stored
+          | form.Search s ↦ paired-tiles Probability.whole _ _ _ s.stored
+          | form.Lookup s ↦ paired-tiles Probability.whole _ _ _ s.model.stored
         ] };
 }

@@ -85,7 +85,7 @@ impl<M, const PRECISION: usize> FromIterableEntropyModel<M, PRECISION>
     >
 where
     M: IterableEntropyModel<PRECISION>,
-    M::Symbol: Eq + Clone,
+    M::Symbol: Eq + Drop,
 {
     ghost tells = { λ m d. StandApart M.Symbol.eq M.stands_for (⟦<Self as EntropyModel<PRECISION>>⟧.rows d) (M.rows m) };
 
@@ -110,7 +110,7 @@ impl<M, const PRECISION: usize, const SLOT_BITS: usize> FromIterableEntropyModel
     >
 where
     M: IterableEntropyModel<PRECISION>,
-    M::Symbol: Eq + Clone,
+    M::Symbol: Eq + Drop,
     M::Probability: IndexWord,
 {
     ghost tells = { λ m d. StandApart M.Symbol.eq M.stands_for (⟦<Self as EntropyModel<PRECISION>>⟧.rows d) (M.rows m) };
@@ -151,7 +151,7 @@ fn entries_apart<M, const PRECISION: usize>(
 ) -> Result<Vec<(M::Probability, M::Symbol)>, ModelError>
 where
     M: IterableEntropyModel<PRECISION>,
-    M::Symbol: Eq + Clone,
+    M::Symbol: Eq + Drop,
     requires positive { 0 < PRECISION }
     requires fits { PRECISION ≤ M.Probability.BITS }
     ensures stored { IfOk result (λ v. IsStored M.Probability.BITS PRECISION (map (λ x. M.Probability.whole x.0) v.items)) }
@@ -170,9 +170,9 @@ where
 /// only where two of them are equal, so where a clone is equal to its symbol exactly where two symbols of the
 /// rows are. `OutOfMemory` comes where memory for the entries, or for a clone of a symbol, is refused.
 ///
-/// One walk, and each symbol is compared with those before it: `n * (n - 1) / 2` comparisons for `n` rows. The
-/// last symbol is cloned once more. Where symbols are known to differ,
-/// [`to_generic_decoder_model_of_distinct`] compares none.
+/// One walk, and each symbol is compared with those before it: `n * (n - 1) / 2` comparisons for `n` rows. No symbol
+/// is cloned but by the walk. Where symbols are known to differ, [`to_generic_decoder_model_of_distinct`] compares
+/// none.
 ///
 /// [`to_generic_decoder_model_of_distinct`]: crate::to_generic_decoder_model_of_distinct
 pub fn to_generic_decoder_model<M, const PRECISION: usize>(
@@ -181,14 +181,14 @@ pub fn to_generic_decoder_model<M, const PRECISION: usize>(
 ) -> Result<DecoderMadeOf<M, PRECISION>, ModelError>
 where
     M: IterableEntropyModel<PRECISION>,
-    M::Symbol: Eq + Clone,
+    M::Symbol: Eq + Drop,
     requires precision { IsPrecision M.Probability.BITS PRECISION }
     ensures ok { IfOk result (λ d. StandApart M.Symbol.eq M.stands_for
         (⟦<DecoderMadeOf<M, PRECISION> as EntropyModel<PRECISION>>⟧.rows d) (M.rows model)) }
     ensures invalid { result ≡ Err ModelError.InvalidTable → ClonesRepeat M.Symbol.eq M.stands_for (M.rows model) }
 {
     match entries_apart::<_, PRECISION>(alloc, model) {
-        Ok(entries) => decoder_over(entries),
+        Ok(entries) => Ok(decoder_over(entries)),
         Err(refused) => Err(refused),
     }
 }
@@ -200,8 +200,8 @@ where
 /// rows are. `OutOfMemory` comes where memory for the entries, for a clone of a symbol, or for the table is
 /// refused.
 ///
-/// One walk, in which each symbol is compared with those before it, one clone of the last symbol, and one pass
-/// over the rows. Where symbols are known to differ, [`to_generic_lookup_decoder_model_of_distinct`] compares none.
+/// One walk, in which each symbol is compared with those before it, and two passes over the rows. Where symbols are
+/// known to differ, [`to_generic_lookup_decoder_model_of_distinct`] compares none.
 ///
 /// [`to_generic_lookup_decoder_model_of_distinct`]: crate::to_generic_lookup_decoder_model_of_distinct
 pub fn to_generic_lookup_decoder_model<M, const PRECISION: usize>(
@@ -210,7 +210,7 @@ pub fn to_generic_lookup_decoder_model<M, const PRECISION: usize>(
 ) -> Result<LookupMadeOf<M, PRECISION, 8>, ModelError>
 where
     M: IterableEntropyModel<PRECISION>,
-    M::Symbol: Eq + Clone,
+    M::Symbol: Eq + Drop,
     M::Probability: IndexWord,
     requires precision { IsLookupPrecision M.Probability.BITS PRECISION }
     ensures ok { IfOk result (λ d. StandApart M.Symbol.eq M.stands_for
@@ -227,7 +227,7 @@ pub fn to_generic_slotted_lookup_decoder_model<M, const PRECISION: usize, const 
 ) -> Result<LookupMadeOf<M, PRECISION, SLOT_BITS>, ModelError>
 where
     M: IterableEntropyModel<PRECISION>,
-    M::Symbol: Eq + Clone,
+    M::Symbol: Eq + Drop,
     M::Probability: IndexWord,
     requires precision { IsLookupPrecision M.Probability.BITS PRECISION }
     ensures ok { IfOk result (λ d. StandApart M.Symbol.eq M.stands_for

@@ -31,3 +31,5 @@ mod refused_memory;
 mod search;
 #[cfg(test)]
 mod symbol_types;
+#[cfg(test)]
+mod uncloned_symbols;

@@ -126,7 +126,7 @@ pub fn write_weights<Sink: WriteWords<u32>>(
 }
 
 /// The table of these symbols and weights.
-fn table_of<Symbol: Eq + Clone, const PRECISION: usize>(
+fn table_of<Symbol: Eq + Drop, const PRECISION: usize>(
     alloc: Global,
     symbols: Vec<Symbol>,
     weights: Vec<u32>,
@@ -149,7 +149,7 @@ fn table_of<Symbol: Eq + Clone, const PRECISION: usize>(
 }
 
 /// Reads the table of these symbols, one weight a symbol, and no word after it.
-pub fn read_table<Symbol: Eq + Clone, Source: ReadWords<u32, Queue>, const PRECISION: usize>(
+pub fn read_table<Symbol: Eq + Drop, Source: ReadWords<u32, Queue>, const PRECISION: usize>(
     alloc: Global,
     symbols: Vec<Symbol>,
     source: &mut Source,
@@ -230,7 +230,7 @@ pub fn table_comes_back<M, const PRECISION: usize>(
 >
 where
     M: IterableEntropyModel<PRECISION, Probability = u32>,
-    M::Symbol: Eq + Clone,
+    M::Symbol: Eq + Drop,
     requires positive { 0 < PRECISION }
     requires fits { PRECISION ≤ 32 }
     requires symbols { symbols.items ≡ symbols_of (M.rows model) }

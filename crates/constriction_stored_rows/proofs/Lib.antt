@@ -1,4 +1,5 @@
 pub mod ApartLemmas
+pub mod EndLemmas
 pub mod FillLemmas
 pub mod MadeLemmas
 pub mod OrderLemmas

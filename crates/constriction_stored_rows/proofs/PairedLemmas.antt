@@ -1,23 +1,22 @@
--- Rows whose left cumulatives are stored beside their symbols, and tables of these with the total after them.
+-- Rows whose left cumulatives are stored beside their symbols.
 use Rattle.std.specs.Prelude.{⊤}
 use Rattle.std.specs.List.{AllZip, IsDistinct}
-use Rattle.std.proofs.Common.{Bool, ◌≡◌, ℕ, ◌+◌, ◌-◌, ◌%◌, ◌^◌, ◌<◌, ◌≤◌, List, [], ◌∷◌, ◌++◌, length, get_or, map, refl, ap, sym, subst, ◌∙◌, arith}
-use Rattle.std.proofs.lemmas.List.{length-map, map-append, get_or-map, get_or-take}
+use Rattle.std.proofs.Common.{Bool, ◌≡◌, ℕ, ◌+◌, ◌-◌, ◌^◌, ◌<◌, ◌≤◌, List, [], ◌∷◌, ◌++◌, length, get_or, map, refl, ap, sym, subst, ◌∙◌, arith}
+use Rattle.std.proofs.lemmas.List.{length-map, map-append, get_or-map}
 use Rattle.constriction_model.specs.Acceptance.{AreAccepted}
 use Rattle.constriction_stored_rows.specs.Filling.{HoldsRows, AreEntriesCloned}
 use Rattle.constriction_model.specs.Model.{StandForRows}
 use Rattle.constriction_model.specs.RowLemmas.{weights-rows_from, symbols-rows_from}
 use Rattle.constriction_model.specs.Rows.{Row, rows_from, rows_of, symbols_of, RowsTile}
-use Rattle.constriction_stored_rows.specs.Stored.{IsStored, IsTable, lefts_in, entries_in, weights_of}
+use Rattle.constriction_stored_rows.specs.Stored.{IsStored, weights_of}
 use Rattle.constriction_stored_rows.specs.StoredLemmas.{IsRowAt, stored-row, stored-some, stored-of_rows}
-use Rattle.constriction_stored_rows.specs.SymbolRowLemmas.{symbols-many, symbol-rows_many, symbol-is_at, paired-long, paired-tiles, entries-lefts, entries-stored}
+use Rattle.constriction_stored_rows.specs.SymbolRowLemmas.{symbols-many, symbol-rows_many, symbol-is_at, paired-long, paired-tiles}
 use Rattle.constriction_model.specs.Probe.{IsRowIndexOf, IsLastAtMost, IsSearchable}
 use Rattle.constriction_model.specs.Searching.{TellsRows}
 use Rattle.constriction_stored_rows.specs.Stored.{rows_paired}
 use Rattle.constriction_model.specs.Tables.{rows_between}
 use Rattle.constriction_stored_rows.proofs.ProbeLemmas.{symbol-lefts}
 use Rattle.constriction_model.proofs.StepLemmas.{all-between, length-between, first-between, last-between}
-use Rattle.constriction_stored_rows.proofs.TableLemmas.{all-but_last, table-long}
 use Rattle.constriction_stored_rows.proofs.TileLemmas.{tiles-probed}
 
 module _ {Symbol Word : Type 0} (whole : Word → ℕ) (bits precision : ℕ) (entries : List (Word × Symbol))
@@ -164,60 +163,19 @@ module _ {Symbol Word : Type 0} (whole : Word → ℕ) (IsClone : Symbol → Sym
       (cloned-from 0 (map (λ x. x.1) cloned) (map (λ x. x.1) entries) (weights_of precision (map (λ x. whole x.0) entries))
       (cloned-symbols entries cloned h))
 
--- a table of entries, with the total after them
-module _ {Symbol Word : Type 0} (whole : Word → ℕ) (bits precision : ℕ) (table : List (Word × Symbol))
-    (t : IsTable bits precision (map (λ x. whole x.0) table)) where
-  pub entries-long : length table ≡ length (entries_in table) + 1
-  entries-long =
-      omega (
-        arith,
-        table-long bits precision (map (λ x. whole x.0) table) t,
-        length-map table (λ x. whole x.0),
-        ap length (entries-lefts whole bits precision table t),
-        length-map (entries_in table) (λ x. whole x.0),
-      )
-
-  -- as many rows as entries but the last one
-  pub entries-many : length (rows_paired whole precision (entries_in table)) + 1 ≡ length table
-  entries-many =
-      omega (arith, entries-long, paired-many whole bits precision (entries_in table) (entries-stored whole bits precision table t))
-
-  -- the entry of a row
-  pub entry-here : (i : ℕ) (x : Word × Symbol) → i + 1 < length table → x ≡ get_or table i x → x ≡ get_or (entries_in table) i x
-  entry-here i x h is = is ∙ sym (get_or-take (length table - 1) table i x (omega arith))
-
 -- some entry is stored
 pub stored-entries_some : {Symbol Word : Type 0} (whole : Word → ℕ) (bits precision : ℕ) (entries : List (Word × Symbol))
     → IsStored bits precision (map (λ x. whole x.0) entries) → 0 < length entries
 stored-entries_some whole bits precision entries t =
     omega (arith, stored-some bits precision (map (λ x. whole x.0) entries) t, length-map entries (λ x. whole x.0))
 
--- entries that are stored, and the total after them
-pub total-table : {Symbol Word : Type 0} (whole : Word → ℕ) (bits precision : ℕ) (entries table : List (Word × Symbol))
-    (end : Word × Symbol) → IsStored bits precision (map (λ x. whole x.0) entries) → table ≡ entries ++ end ∷ [] → whole end.0 ≡ 2 ^ precision % 2 ^ bits
-    → IsTable bits precision (map (λ x. whole x.0) table) × (entries_in table ≡ entries)
-total-table whole bits precision entries table end t e total =
-    let words : map (λ x. whole x.0) table ≡ map (λ x. whole x.0) entries ++ (2 ^ precision % 2 ^ bits) ∷ [] =
-    ap (map (λ x. whole x.0)) e ∙ map-append (λ x. whole x.0) entries (end ∷ [])
-    ∙ ap (λ n. map (λ x. whole x.0) entries ++ n ∷ []) total in
-    let lefts : lefts_in (map (λ x. whole x.0) table) ≡ map (λ x. whole x.0) entries =
-    all-but_last (map (λ x. whole x.0) entries) (map (λ x. whole x.0) table) _ words in
-    (record { stored = rw lefts t; ends = rw lefts words }, all-but_last entries table end e)
-
--- a table that was lent is a table, all its rows are left at first, and there are so many
-pub paired-lent : {Symbol Word : Type 0} (whole : Word → ℕ) (bits precision : ℕ) (table lent : List (Word × Symbol))
-    → IsTable bits precision (map (λ x. whole x.0) table) → lent ≡ table
-    → IsTable bits precision (map (λ x. whole x.0) lent)
-    × (rows_between 0 (length lent - 1) (rows_paired whole precision (entries_in lent)) ≡ rows_paired whole precision (entries_in table))
-    × (0 ≤ length lent - 1) × (length lent - 1 < length lent) × (1 ≤ length lent)
-paired-lent whole bits precision table lent t e =
-    let long = entries-long whole bits precision table t in
-    let same : length table - 1 ≡ length (rows_paired whole precision (entries_in table)) =
-    omega (arith, entries-many whole bits precision table t) in
+-- entries that were lent are entries, all their rows are left at first, and there are so many
+pub paired-lent : {Symbol Word : Type 0} (whole : Word → ℕ) (bits precision : ℕ) (entries lent : List (Word × Symbol))
+    → IsStored bits precision (map (λ x. whole x.0) entries) → lent ≡ entries
+    → IsStored bits precision (map (λ x. whole x.0) lent)
+    × (rows_between 0 (length lent) (rows_paired whole precision lent) ≡ rows_paired whole precision entries)
+paired-lent whole bits precision entries lent t e =
     rw e (
       t,
-      all-between (rows_paired whole precision (entries_in table)) (length table - 1) same,
-      omega arith,
-      omega (arith, long),
-      omega (arith, long),
+      all-between (rows_paired whole precision entries) (length entries) (sym (paired-many whole bits precision entries t)),
     )

@@ -1,6 +1,7 @@
 -- How lookup models store which rows meet a slot. No public clause cites this module, but a ghost field of the model does.
 use Rattle.std.specs.Prelude.{◌≡◌, ◌↔◌, ℕ, ◌+◌, ◌-◌, ◌*◌, ◌<◌, ◌≤◌, min, List, length, take, drop, slice_index}
 use Rattle.constriction_model.specs.Probe.{IsLastAtMost, digits}
+use Rattle.constriction_stored_rows.specs.Stored.{with_total}
 
 -- the first and the last row that meet the slot: the rows of its first and of its last quantile
 pub record IsSlot (lefts : List ℕ) (width slot first last : ℕ) : Type 0 where
@@ -22,6 +23,15 @@ pub record HasWords (width : ℕ) (lefts table : List ℕ) : Type 0 where
 pub record HasSlots (width count : ℕ) (lefts table : List ℕ) : Type 0 where
   pub long : length table ≡ words_a_slot width * count
   pub words : HasWords width lefts table
+
+-- what stands after the words of the slots, if anything does: where each row begins, and after that the total
+abbrev pub MayFollow : (bits precision : ℕ) → (lefts words : List ℕ) → Type 0
+MayFollow bits precision lefts words = 0 < length words → words ≡ with_total bits precision lefts
+
+-- the table begins with the words of so many slots
+pub record BeginsWithSlots (bits precision width count : ℕ) (lefts table : List ℕ) : Type 0 where
+  pub slots : HasSlots width count lefts (take (words_a_slot width * count) table)
+  pub rest : MayFollow bits precision lefts (drop (words_a_slot width * count) table)
 
 -- the first word whose quantile is not below `left`: the first word of slot j stands for its first quantile, its last word for its last one
 pub record IsFirstWord (width left word : ℕ) : Type 0 where

@@ -1,6 +1,6 @@
--- How models store their rows: by the left cumulatives, and the total after them. No public clause cites this module, but the member
+-- How models store their rows: by the left cumulatives, and, where symbols do not stand beside these, the total after them. No public clause cites this module, but the member
 -- `rows` of these models and ghost fields of models and of symbol tables do.
-use Rattle.std.specs.Prelude.{◌≡◌, ℕ, ◌+◌, ◌-◌, ◌%◌, ◌^◌, List, [], ◌∷◌, ◌++◌, length, map, take}
+use Rattle.std.specs.Prelude.{◌≡◌, ℕ, ◌+◌, ◌-◌, ◌%◌, ◌^◌, List, [], ◌∷◌, ◌++◌, length, map, take, slice_index_or}
 use Rattle.constriction_model.specs.Acceptance.{IsAccepted}
 use Rattle.constriction_model.specs.Rows.{Row, contiguous_rows, rows_of}
 use Rattle.constriction_model.specs.Tables.{rows_between}
@@ -29,15 +29,27 @@ pub record IsStored (bits precision : ℕ) (lefts : List ℕ) : Type 0 where
 abbrev pub lefts_in : List ℕ → List ℕ
 lefts_in table = take (length table - 1) table
 
--- the entries of a table, one a row: all of it but its last one
-abbrev pub entries_in : {Entry : Type 0} → List Entry → List Entry
-entries_in table = take (length table - 1) table
-
 -- a table over words of so many bits: the left cumulatives of accepted weights, and after them the total, which wraps to 0 where it is
 -- no word
 pub record IsTable (bits precision : ℕ) (table : List ℕ) : Type 0 where
   pub stored : IsStored bits precision (lefts_in table)
   pub ends : table ≡ lefts_in table ++ (2 ^ precision % 2 ^ bits) ∷ []
+
+-- the total over words of so many bits, which wraps to 0 where it is no word
+abbrev pub total_of : (bits precision : ℕ) → ℕ
+total_of bits precision = 2 ^ precision % 2 ^ bits
+
+-- where the row at an index ends, over such words: where the next one begins, or at the total
+abbrev pub end_at : (bits precision : ℕ) → List ℕ → ℕ → ℕ
+end_at bits precision lefts i = slice_index_or lefts (i + 1) (total_of bits precision)
+
+-- where the first of these rows ends, and where the last one does
+abbrev pub ends_of : (bits precision : ℕ) → List ℕ → List ℕ
+ends_of bits precision lefts = end_at bits precision lefts 0 ∷ total_of bits precision ∷ []
+
+-- the left cumulatives, and after them the total
+abbrev pub with_total : (bits precision : ℕ) → List ℕ → List ℕ
+with_total bits precision lefts = lefts ++ total_of bits precision ∷ []
 
 -- the rows of a contiguous model with such a table, from one index up to another
 abbrev pub rows_stored : ℕ → List ℕ → ℕ → ℕ → List (Row ℕ)

@@ -4,7 +4,7 @@ use Rattle.std.proofs.Common.{get_or, refl, ap, sym, ◌∙◌, arith, inl, inr}
 use Rattle.std.proofs.lemmas.Bool.{cases_lt}
 use Rattle.std.proofs.lemmas.List.{length-map, take-map}
 use Rattle.constriction_model.specs.Rows.{Row, rows_of, RowsTile, IsRowOf}
-use Rattle.constriction_stored_rows.specs.Stored.{IsStored, IsTable, lefts_in, entries_in, weights_of}
+use Rattle.constriction_stored_rows.specs.Stored.{IsStored, lefts_in, weights_of}
 use Rattle.constriction_model.specs.RowLemmas.{length-rows_from, weights-rows_from, symbols-rows_from, rows_from-at}
 use Rattle.constriction_stored_rows.specs.StoredLemmas.{stored-row, length-gaps, lefts_from-at}
 use Rattle.constriction_stored_rows.specs.Stored.{rows_paired}
@@ -74,15 +74,3 @@ pub lefts-words : {Word : Type 0} (whole : Word → ℕ) (words : List Word)
 lefts-words whole words =
     let long : length words - 1 ≡ length (map whole words) - 1 = omega (arith, length-map words whole) in
     sym (take-map whole (length words - 1) words) ∙ ap (λ n. take n (map whole words)) long
-
--- the same of a table, whose entries have the total after them
-module _ {Symbol Word : Type 0} (whole : Word → ℕ) (bits precision : ℕ) (table : List (Word × Symbol))
-    (t : IsTable bits precision (map (λ x. whole x.0) table)) where
-  pub entries-lefts : map (λ x. whole x.0) (entries_in table) ≡ lefts_in (map (λ x. whole x.0) table)
-  entries-lefts = lefts-words (λ x. whole x.0) table
-
-  pub entries-stored : IsStored bits precision (map (λ x. whole x.0) (entries_in table))
-  entries-stored = rw entries-lefts t.stored
-
-  pub entries-tile : RowsTile bits precision (rows_paired whole precision (entries_in table))
-  entries-tile = paired-tiles whole bits precision (entries_in table) entries-stored

@@ -1,11 +1,12 @@
 //! How models that are given by weights store their rows: reading weights and symbols into tables, telling whether
 //! they are accepted, the row at an index, and which rows meet a slot.
 //!
-//! A table is a plain list, with the total after its rows: of left cumulatives, or of pairs of a left cumulative
-//! and a symbol. The models of the crate above keep them, and their ghost fields cite the definitions here.
+//! A table is a plain list: of left cumulatives, with the total after them, or of pairs of a left cumulative and a
+//! symbol, one a row. The models of the crate above keep them, and their ghost fields cite the definitions here.
 #![tactic(auto)]
 
 mod apart;
+mod ends;
 mod filling;
 mod paired;
 mod reading;
@@ -14,9 +15,10 @@ mod stored;
 mod uncompared;
 
 pub use crate::apart::{are_apart, are_in_order};
+pub use crate::ends::{cloned_row_at, cloned_row_beside, paired_row_at, row_ends, with_ends};
 pub use crate::filling::{and_item, copied, entries_announced, room_for, rows_announced, table_of};
-pub use crate::paired::{entries_cloned, has_symbol, with_total};
+pub use crate::paired::{entries_cloned, has_symbol};
 pub use crate::reading::{TakesRows, rows_read};
-pub use crate::slots::{row_in_slot, slot_probe, slots_of};
-pub use crate::stored::{cloned_row_at, contiguous_row_at, paired_row_at, row_at};
+pub use crate::slots::{row_in_slot, slot_probe, table_of_slots, words_of_table};
+pub use crate::stored::{contiguous_row_at, row_at};
 pub use crate::uncompared::entries_read;

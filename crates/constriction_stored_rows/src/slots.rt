@@ -4,8 +4,9 @@ ghost use Rattle.std.specs.Prelude.{◌≡◌, ◌+◌, ◌++◌, ◌-◌, ◌*�
 ghost use Rattle.std.specs.List.Sorted.{IsStrictlyIncreasing};
 ghost use Rattle.constriction_model.specs.Probe.{IsLastAtMost, IsSearchable};
 ghost use Rattle.constriction_stored_rows.specs.Slots.{slot_count, slot_width};
-ghost use Rattle.constriction_stored_rows.specs.SlotTable.{words_a_slot, HasSlots, IsFirstWord, IsSlot, IsSlotPart, IsSlotSearch};
+ghost use Rattle.constriction_stored_rows.specs.SlotTable.{words_a_slot, BeginsWithSlots, HasSlots, IsFirstWord, IsSlot, IsSlotPart, IsSlotSearch};
 
+use crate::ends::with_ends;
 use constriction_model::{CdfEntry, CdfProbe, Probe, row_of_quantile};
 use constriction_numbers::WholeNumber;
 use std::alloc::{AllocError, Global};
@@ -28,9 +29,9 @@ fn width_of_slots<const PRECISION: usize, const SLOT_BITS: usize>() -> usize
     1usize << PRECISION.saturating_sub(SLOT_BITS)
 }
 
-/// How many words the table has: two a slot, or one where a slot holds one quantile.
+/// How many words of the table tell of slots: two a slot, or one where a slot holds one quantile.
 #[inline]
-fn words_of_table<const PRECISION: usize, const SLOT_BITS: usize>() -> usize
+pub fn words_of_table<const PRECISION: usize, const SLOT_BITS: usize>() -> usize
     requires { PRECISION ≤ 63 }
     ensures { result ≡ words_a_slot (slot_width PRECISION SLOT_BITS) * slot_count PRECISION SLOT_BITS }
 {
@@ -72,10 +73,11 @@ fn filled_up<W: Copy>(mut table: Vec<W>, words: usize, row: W) -> Vec<W>
 /// where a slot holds one quantile.
 ///
 /// One pass over the rows, each of which fills the words up to where the next one begins, and one
-/// allocation.
-pub fn slots_of<Entry, Kind: CdfEntry<Entry>, const PRECISION: usize, const SLOT_BITS: usize>(
+/// allocation, with room for `more` words after them.
+fn slots_of<Entry, Kind: CdfEntry<Entry>, const PRECISION: usize, const SLOT_BITS: usize>(
     alloc: Global,
     entries: &[Entry],
+    more: usize,
 ) -> Result<Vec<Kind::Word>, AllocError>
     requires narrow { PRECISION ≤ 63 }
     requires fits { PRECISION ≤ Kind.Word.BITS }
@@ -86,7 +88,7 @@ pub fn slots_of<Entry, Kind: CdfEntry<Entry>, const PRECISION: usize, const SLOT
         (map Kind.cumulative entries.now) (map Kind.Word.whole table.items)) }
 {
     let words = words_of_table::<PRECISION, SLOT_BITS>();
-    let mut table = Vec::with_capacity(alloc, words)?;
+    let mut table = Vec::with_capacity(alloc, words.saturating_add(more))?;
     let mut row = Kind::Word::least();
     'rows: for next in 1..entries.len() {
         let end = first_word::<Kind::Word, PRECISION, SLOT_BITS>(Kind::cumulative_of(
@@ -96,6 +98,29 @@ pub fn slots_of<Entry, Kind: CdfEntry<Entry>, const PRECISION: usize, const SLOT
         row = Kind::Word::from_number(next);
     }
     Ok(filled_up(table, words, row))
+}
+
+/// The table of the rows that meet each slot, and after it, where that is asked for, where each row begins and the
+/// total, so that who looks up a row has these words side by side. A model of one quantile never has them.
+pub fn table_of_slots<Entry, Kind: CdfEntry<Entry>, const PRECISION: usize, const SLOT_BITS: usize>(
+    alloc: Global,
+    entries: &[Entry],
+    has_ends: bool,
+) -> Result<Vec<Kind::Word>, AllocError>
+    requires narrow { PRECISION ≤ 63 }
+    requires fits { PRECISION ≤ Kind.Word.BITS }
+    requires searchable { IsSearchable (map Kind.cumulative entries.now) 0 }
+    requires below { (i : ℕ) → i < length (map Kind.cumulative entries.now)
+        → slice_index (map Kind.cumulative entries.now) i < 2 ^ PRECISION }
+    ensures { IfOk result (λ table. BeginsWithSlots Kind.Word.BITS PRECISION (slot_width PRECISION SLOT_BITS)
+        (slot_count PRECISION SLOT_BITS) (map Kind.cumulative entries.now) (map Kind.Word.whole table.items)) }
+{
+    if PRECISION == 0 || !has_ends {
+        return slots_of::<Entry, Kind, PRECISION, SLOT_BITS>(alloc, entries, 0);
+    }
+    let more = entries.len().saturating_add(1);
+    let slots = slots_of::<Entry, Kind, PRECISION, SLOT_BITS>(alloc, entries, more)?;
+    with_ends::<Entry, Kind, PRECISION>(slots, entries)
 }
 
 /// The slot of a quantile.

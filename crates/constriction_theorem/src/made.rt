@@ -36,7 +36,7 @@ pub(crate) type Contiguous<Probability, const PRECISION: usize> = ContiguousCate
 >;
 
 /// The searching decoder of two lists, as its constructor tells it of the iterators that they become.
-fn searching_of_lists<Symbol: Eq + Clone, Probability: WholeNumber, const PRECISION: usize>(
+fn searching_of_lists<Symbol: Eq + Drop, Probability: WholeNumber, const PRECISION: usize>(
     alloc: Global,
     symbols: Vec<Symbol>,
     weights: Vec<Probability>,
@@ -59,7 +59,7 @@ fn searching_of_lists<Symbol: Eq + Clone, Probability: WholeNumber, const PRECIS
 }
 
 /// The searching decoder of two lists.
-pub(crate) fn searching_from<Symbol: Eq + Clone, Probability: WholeNumber, const PRECISION: usize>(
+pub(crate) fn searching_from<Symbol: Eq + Drop, Probability: WholeNumber, const PRECISION: usize>(
     alloc: Global,
     symbols: Vec<Symbol>,
     weights: Vec<Probability>,
@@ -152,7 +152,7 @@ pub(crate) fn both_of<M, const PRECISION: usize>(
 ) -> Result<DecoderAndEncoder<M::Symbol, M::Probability, PRECISION>, ModelError>
 where
     M: IterableEntropyModel<PRECISION> + Copy,
-    M::Symbol: Hash + Eq + Clone,
+    M::Symbol: Hash + Eq + Drop,
     requires positive { 0 < PRECISION }
     requires fits { PRECISION ≤ M.Probability.BITS }
     requires clones { ClonesAreEqual M.Symbol.eq M.stands_for }

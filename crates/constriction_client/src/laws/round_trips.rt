@@ -130,7 +130,7 @@ pub fn decoder_and_encoder<M, const PRECISION: usize>(
 ) -> Result<DecoderAndEncoder<M::Symbol, M::Probability, PRECISION>, ModelError>
 where
     M: IterableEntropyModel<PRECISION> + Copy,
-    M::Symbol: Hash + Eq + Clone,
+    M::Symbol: Hash + Eq + Drop,
     requires precision { IsPrecision M.Probability.BITS PRECISION }
     requires clones { ClonesAreEqual M.Symbol.eq M.stands_for }
     ensures rows { IfOk result (λ both. StandForRows M.stands_for

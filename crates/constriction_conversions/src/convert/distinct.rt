@@ -22,7 +22,7 @@ fn entries_of_distinct<M, const PRECISION: usize>(
 ) -> Result<Vec<(M::Probability, M::Symbol)>, ModelError>
 where
     M: IterableEntropyModel<PRECISION>,
-    M::Symbol: Eq + Clone,
+    M::Symbol: Eq + Drop,
     requires positive { 0 < PRECISION }
     requires fits { PRECISION ≤ M.Probability.BITS }
     requires clones { ClonesAreEqual M.Symbol.eq M.stands_for }
@@ -44,15 +44,15 @@ where
 /// Its symbols are those that the walk gave. The only refusal is `OutOfMemory`, where memory for the entries,
 /// or for a clone of a symbol, is refused.
 ///
-/// One walk, one allocation where the walk announces how many rows there are, and one clone more, of the last
-/// symbol. No symbols are compared.
+/// One walk, and one allocation where the walk announces how many rows there are. No symbols are compared, and none
+/// is cloned but by the walk.
 pub fn to_generic_decoder_model_of_distinct<M, const PRECISION: usize>(
     alloc: Global,
     model: M,
 ) -> Result<DecoderMadeOf<M, PRECISION>, ModelError>
 where
     M: IterableEntropyModel<PRECISION>,
-    M::Symbol: Eq + Clone,
+    M::Symbol: Eq + Drop,
     requires precision { IsPrecision M.Probability.BITS PRECISION }
     requires clones { ClonesAreEqual M.Symbol.eq M.stands_for }
     requires distinct { IsDistinct M.Symbol.eq (symbols_of (M.rows model)) }
@@ -61,7 +61,7 @@ where
     ensures refused { IfErr result (λ e. e ≡ ModelError.OutOfMemory) }
 {
     match entries_of_distinct::<_, PRECISION>(alloc, model) {
-        Ok(entries) => decoder_over(entries),
+        Ok(entries) => Ok(decoder_over(entries)),
         Err(refused) => Err(refused),
     }
 }
@@ -72,14 +72,14 @@ where
 /// The only refusal is `OutOfMemory`, where memory for the entries, for a clone of a symbol, or for the table
 /// is refused.
 ///
-/// One walk, one clone more, of the last symbol, and one pass over the rows. No symbols are compared.
+/// One walk, and two passes over the rows. No symbols are compared.
 pub fn to_generic_lookup_decoder_model_of_distinct<M, const PRECISION: usize>(
     alloc: Global,
     model: M,
 ) -> Result<LookupMadeOf<M, PRECISION, 8>, ModelError>
 where
     M: IterableEntropyModel<PRECISION>,
-    M::Symbol: Eq + Clone,
+    M::Symbol: Eq + Drop,
     M::Probability: IndexWord,
     requires precision { IsLookupPrecision M.Probability.BITS PRECISION }
     requires clones { ClonesAreEqual M.Symbol.eq M.stands_for }

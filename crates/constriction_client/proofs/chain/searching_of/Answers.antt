@@ -1,4 +1,4 @@
-use Rattle.std.proofs.Common.{◌∙◌, lit<}
+use Rattle.std.proofs.Common.{◌∙◌, arith}
 use Rattle.std.proofs.lemmas.Iterator.Adapters.{YieldsList-from_vec}
 use Rattle.constriction.specs.GivenLemmas.{distinct-given}
 use Rattle.constriction_client.proofs.Rebuilding.{made-of-them, not-refused}
@@ -6,7 +6,7 @@ use Rattle.constriction_client.proofs.chain.searching_of.Goals as goal
 
 pub from_lists-requires : goal.from_lists-requires
 from_lists-requires g c = (
-  lit< tt,
+  omega arith,
   (
     c.requires.positive,
     (

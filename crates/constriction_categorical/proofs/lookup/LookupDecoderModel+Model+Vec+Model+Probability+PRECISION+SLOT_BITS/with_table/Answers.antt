@@ -2,13 +2,13 @@ use Rattle.std.proofs.Common.{map}
 use Rattle.constriction_stored_rows.proofs.TileLemmas.{tiles-lefts}
 use Rattle.constriction_categorical.proofs.lookup.LookupDecoderModel+Model+Vec+Model+Probability+PRECISION+SLOT_BITS.with_table.Goals as goal
 
-pub slots_of-requires-clause-searchable : goal.slots_of-requires-clause-searchable
-slots_of-requires-clause-searchable g c =
+pub table_of_slots-requires-clause-searchable : goal.table_of_slots-requires-clause-searchable
+table_of_slots-requires-clause-searchable g c =
     (tiles-lefts g.Model.Probability.WholeNumber.BITS g.row.PRECISION (g.Model.EntropyModel.rows c.args.model)
     (g.met.Model.StoresRows.stored_law c.args.model) (map g.Model.Kind.CdfEntry.cumulative c.entries.result.now) c.entries.ensures).0
 
-pub slots_of-requires-clause-below : goal.slots_of-requires-clause-below
-slots_of-requires-clause-below g c =
+pub table_of_slots-requires-clause-below : goal.table_of_slots-requires-clause-below
+table_of_slots-requires-clause-below g c =
     (tiles-lefts g.Model.Probability.WholeNumber.BITS g.row.PRECISION (g.Model.EntropyModel.rows c.args.model)
     (g.met.Model.StoresRows.stored_law c.args.model) (map g.Model.Kind.CdfEntry.cumulative c.entries.result.now) c.entries.ensures).1
 

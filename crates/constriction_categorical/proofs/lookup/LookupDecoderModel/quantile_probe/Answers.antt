@@ -4,7 +4,7 @@ use Rattle.constriction_stored_rows.proofs.SlotCounting.{tells-tested}
 use Rattle.constriction_categorical.proofs.lookup.LookupDecoderModel.quantile_probe.Goals as goal
 
 pub slot_probe-requires-clause-slots : goal.slot_probe-requires-clause-slots
-slot_probe-requires-clause-slots g c = rw (c.entries.ensures, c.words.ensures) c.args.self.now.slots
+slot_probe-requires-clause-slots g c = rw c.entries.ensures c.slots.ensures
 
 pub returns : goal.returns
 returns g c =

@@ -15,7 +15,7 @@ row_in_slot-requires-clause-increases g c =
     (g.met.Model.StoresRows.stored_law c.args.self.now.model))
 
 pub row_in_slot-requires-clause-slots : goal.row_in_slot-requires-clause-slots
-row_in_slot-requires-clause-slots g c = rw (c.entries.ensures, c.words.ensures) c.args.self.now.slots
+row_in_slot-requires-clause-slots g c = rw c.entries.ensures c.slots.ensures
 
 pub returns-clause-index : goal.returns-clause-index
 returns-clause-index g c =

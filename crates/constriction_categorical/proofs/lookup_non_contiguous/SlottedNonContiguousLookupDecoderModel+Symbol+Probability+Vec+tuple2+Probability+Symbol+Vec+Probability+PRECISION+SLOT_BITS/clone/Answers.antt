@@ -1,5 +1,5 @@
 use Rattle.constriction_model.specs.StandLemmas.{lefts-made}
-use Rattle.constriction_stored_rows.specs.Stored.{entries_in, rows_paired}
+use Rattle.constriction_stored_rows.specs.Stored.{rows_paired}
 use Rattle.constriction_categorical.proofs.lookup_non_contiguous.SlottedNonContiguousLookupDecoderModel+Symbol+Probability+Vec+tuple2+Probability+Symbol+Vec+Probability+PRECISION+SLOT_BITS.clone.Goals as goal
 
 pub invariant_of-result : goal.invariant_of-result
@@ -9,8 +9,8 @@ invariant_of-result g c =
       narrow = c.args.self.now.narrow;
       slots =
           rw (
-            lefts-made g.Symbol.Clone.is_clone (rows (entries_in c.in-Ok.model.cdf.items))
-                (rows (entries_in c.args.self.now.model.cdf.items)) c.in-Ok.ensures,
+            lefts-made g.Symbol.Clone.is_clone (rows c.in-Ok.model.cdf.items)
+                (rows c.args.self.now.model.cdf.items) c.in-Ok.ensures,
             c.in_ok-lookup_table.ensures,
             c.as_slice.ensures.value,
           ) c.args.self.now.slots;

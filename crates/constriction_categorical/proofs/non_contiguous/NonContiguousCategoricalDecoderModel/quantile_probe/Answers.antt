@@ -1,14 +1,11 @@
-use Rattle.constriction_stored_rows.specs.Stored.{entries_in}
-use Rattle.constriction_stored_rows.specs.SymbolRowLemmas.{entries-stored}
 use Rattle.constriction_stored_rows.proofs.PairedLemmas.{paired-probed}
 use Rattle.constriction_categorical.proofs.non_contiguous.NonContiguousCategoricalDecoderModel.quantile_probe.Goals as goal
 
 pub returns : goal.returns
 returns g c =
     let whole = g.Probability.WholeNumber.whole in
-    let table = g.Cdf.SafeBuf.words_of c.args.self.now.cdf in
-    let stored = entries-stored whole g.Probability.WholeNumber.BITS g.row.PRECISION table c.args.self.now.stored in
-    let probed = paired-probed whole g.Probability.WholeNumber.BITS g.row.PRECISION (entries_in table) stored c.cdf_entries.result.now
+    let entries = g.Cdf.SafeBuf.words_of c.args.self.now.cdf in
+    let probed = paired-probed whole g.Probability.WholeNumber.BITS g.row.PRECISION entries c.args.self.now.stored c.cdf_entries.result.now
     c.cdf_entries.ensures in
     record {
       exactly = rw c.new.ensures.cumulatives probed.0.exactly;

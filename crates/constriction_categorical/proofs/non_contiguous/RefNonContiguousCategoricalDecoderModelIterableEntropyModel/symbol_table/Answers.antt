@@ -1,3 +1,4 @@
+use Rattle.std.proofs.Common.{arith}
 use Rattle.constriction_stored_rows.proofs.PairedLemmas.{paired-lent}
 use Rattle.constriction_model.proofs.StepLemmas.{same-most}
 use Rattle.constriction_categorical.proofs.non_contiguous.RefNonContiguousCategoricalDecoderModelIterableEntropyModel.symbol_table.Goals as goal
@@ -8,9 +9,9 @@ returns g c =
     record { all = all; callable = tt; ends = (tt, same-most _ _ all) }
 
 pub invariant_of-result : goal.invariant_of-result
-invariant_of-result g c =
-    let lent = paired-lent g.Probability.WholeNumber.whole _ g.row.PRECISION _ _ c.args.self.now.stored c.words-cdf.ensures in
-    record { narrow = c.args.self.now.precise.1; stored = lent.0; in_order = lent.2; in_bounds = lent.3 }
-
-pub overflow_sub-result : goal.overflow_sub-result
-overflow_sub-result g c = (paired-lent g.Probability.WholeNumber.whole _ g.row.PRECISION _ _ c.args.self.now.stored c.words-cdf.ensures).4
+invariant_of-result g c = record {
+  precise = c.args.self.now.precise;
+  stored = (paired-lent g.Probability.WholeNumber.whole _ g.row.PRECISION _ _ c.args.self.now.stored c.words-cdf.ensures).0;
+  in_order = omega arith;
+  in_bounds = omega arith;
+}

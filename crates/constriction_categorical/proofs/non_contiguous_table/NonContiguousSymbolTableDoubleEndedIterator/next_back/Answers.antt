@@ -1,14 +1,13 @@
-use Rattle.std.proofs.Common.{◌<◌, ◌≤◌, length, arith}
-use Rattle.constriction_stored_rows.specs.Stored.{entries_in, rows_paired}
-use Rattle.constriction_stored_rows.specs.SymbolRowLemmas.{entries-stored}
+use Rattle.std.proofs.Common.{◌<◌, arith}
+use Rattle.constriction_stored_rows.specs.Stored.{rows_paired}
 use Rattle.constriction_model.proofs.StepLemmas.{none-between, fewer-last}
-use Rattle.constriction_stored_rows.proofs.PairedLemmas.{paired-last, entry-here, entries-long}
+use Rattle.constriction_stored_rows.proofs.PairedLemmas.{paired-last}
 use Rattle.constriction_categorical.proofs.non_contiguous_table.NonContiguousSymbolTableDoubleEndedIterator.next_back.Goals as goal
 
 pub returns-then-self : goal.returns-then-self
 returns-then-self g c =
     let t = c.args.self.now in
-    let rows = rows_paired g.Probability.WholeNumber.whole g.row.PRECISION (entries_in t.cdf.now) in
+    let rows = rows_paired g.Probability.WholeNumber.whole g.row.PRECISION t.cdf.now in
     record { steps = none-between rows t.from t.to c.if-self.true; goes = record { on = λ _. tt; keeps = tt; rests = λ _. tt } }
 
 pub returns-in-Ok : goal.returns-in-Ok
@@ -17,11 +16,8 @@ returns-in-Ok g c =
     let some : t.from < t.to = omega (arith, t.in_order, c.if-self.false) in
     let whole = g.Probability.WholeNumber.whole in
     let bits = g.Probability.WholeNumber.BITS in
-    let within : t.to ≤ length (entries_in t.cdf.now) =
-    omega (arith, t.in_bounds, entries-long whole bits g.row.PRECISION t.cdf.now t.stored) in
-    let here = entry-here whole bits g.row.PRECISION t.cdf.now t.stored _ _ (omega (arith, t.in_bounds)) c.index-self-index.is in
-    let step = paired-last whole bits g.row.PRECISION (entries_in t.cdf.now) (entries-stored whole bits g.row.PRECISION t.cdf.now t.stored)
-    t.from t.to _ _ c.index-self-index.result some within here c.paired_row_at-left.ensures.left c.paired_row_at-left.ensures.weight in
+    let step = paired-last whole bits g.row.PRECISION t.cdf.now t.stored
+    t.from t.to _ _ c.index-self-index.result some t.in_bounds c.index-self-index.is c.paired_row_at-left.ensures.left c.paired_row_at-left.ensures.weight in
     record {
       steps = (c.index-self-index.result.1, rw (← c.index-self-index.is) at c.in-Ok.ensures.cases, step);
       goes = record { on = λ _. (tt, tt, fewer-last _ _ _ step); keeps = tt; rests = λ _. tt };
@@ -33,11 +29,8 @@ returns-in-Err g c =
     let some : t.from < t.to = omega (arith, t.in_order, c.if-self.false) in
     let whole = g.Probability.WholeNumber.whole in
     let bits = g.Probability.WholeNumber.BITS in
-    let within : t.to ≤ length (entries_in t.cdf.now) =
-    omega (arith, t.in_bounds, entries-long whole bits g.row.PRECISION t.cdf.now t.stored) in
-    let here = entry-here whole bits g.row.PRECISION t.cdf.now t.stored _ _ (omega (arith, t.in_bounds)) c.index-self-index.is in
-    let step = paired-last whole bits g.row.PRECISION (entries_in t.cdf.now) (entries-stored whole bits g.row.PRECISION t.cdf.now t.stored)
-    t.from t.to _ _ c.index-self-index.result some within here c.paired_row_at-left.ensures.left c.paired_row_at-left.ensures.weight in
+    let step = paired-last whole bits g.row.PRECISION t.cdf.now t.stored
+    t.from t.to _ _ c.index-self-index.result some t.in_bounds c.index-self-index.is c.paired_row_at-left.ensures.left c.paired_row_at-left.ensures.weight in
     record {
       steps = (_, rw (← c.index-self-index.is) at c.in-Err.ensures.cases, step);
       goes = record { on = λ _. (tt, tt, fewer-last _ _ _ step); keeps = tt; rests = λ _. tt };
@@ -46,4 +39,4 @@ returns-in-Err g c =
 pub invariant_of-self : goal.invariant_of-self
 invariant_of-self g c =
     let t = c.args.self.now in
-    record { narrow = t.narrow; stored = t.stored; in_order = omega (arith, t.in_order, c.if-self.false); in_bounds = omega (arith, t.in_bounds) }
+    record { precise = t.precise; stored = t.stored; in_order = omega (arith, t.in_order, c.if-self.false); in_bounds = omega (arith, t.in_bounds) }

@@ -1,0 +1,138 @@
+//! Models of symbols that cannot be cloned, and of symbols the last of which refuses its clone.
+
+ghost use Rattle.std.specs.Prelude.{◌==◌, ◌<◌};
+ghost use Rattle.std.specs.Hash as fed;
+
+use crate::checks::{same, same_at};
+use crate::conversions::Encoder;
+use constriction::stream::model::{
+    EncoderModel, ModelError, Probe, row_of_quantile, to_generic_decoder_model,
+    to_generic_lookup_decoder_model,
+};
+use constriction_fixtures::any_symbols::plain_entry;
+use constriction_fixtures::contiguous::Table;
+use constriction_fixtures::conversions::Decoder;
+use constriction_fixtures::lookup_any_symbols::Lookup;
+use constriction_fixtures::symbol_types::Letter;
+use std::alloc::Global;
+use std::hash::{Hash, Hasher};
+use std::process::Abort;
+
+/// A seal, of which there is one: its type has no clone.
+#[derive(Debug, PartialEq, Eq, PartialOrd, Ord, Hash, Drop)]
+struct Seal(u32);
+
+type SealDecoder = Decoder<Seal, 6>;
+
+type SealLookup = Lookup<Seal, 6>;
+
+/// Three seals, which have 16, 16 and 32 quantiles.
+const WEIGHTS: [u8; 3] = [16, 16, 32];
+
+fn seals() -> [Seal; 3] {
+    [Seal(7), Seal(8), Seal(9)]
+}
+
+/// The index of a quantile's row.
+fn found(model: &SealDecoder, quantile: u8) -> usize
+    requires { quantile < 64 }
+{
+    let (_first, mut rows) = model.quantile_probe(quantile);
+    row_of_quantile(&mut rows, quantile)
+}
+
+/// Stops the test where no model was made, or it has other rows than the seals.
+fn has_seals(rt: &impl Abort, made: Result<SealDecoder, ModelError>) {
+    let model = made.expect(rt, "accepted");
+    same(rt, [model.support_size(), model.as_view().support_size()], [3, 3]);
+    same(
+        rt,
+        [found(&model, 15), found(&model, 16), found(&model, 31), found(&model, 32), found(&model, 63)],
+        [0, 1, 1, 2, 2],
+    );
+}
+
+#[test]
+fn symbols_without_a_clone_are_decoded(rt: HostRuntime) {
+    let alloc = rt.alloc();
+    has_seals(
+        &rt,
+        SealDecoder::from_symbols_and_nonzero_fixed_point_probabilities(alloc, seals(), WEIGHTS, false),
+    );
+    has_seals(
+        &rt,
+        SealDecoder::from_hashable_symbols_and_nonzero_fixed_point_probabilities(alloc, seals(), WEIGHTS, false),
+    );
+    has_seals(
+        &rt,
+        SealDecoder::from_sorted_symbols_and_nonzero_fixed_point_probabilities(alloc, seals(), WEIGHTS, false),
+    );
+}
+
+#[test]
+fn symbols_without_a_clone_are_looked_up(rt: HostRuntime) {
+    let made = SealLookup::from_symbols_and_nonzero_fixed_point_probabilities(rt.alloc(), seals(), WEIGHTS, false);
+    let model = made.expect(&rt, "accepted");
+    let (first, rows) = model.quantile_probe(20);
+    same(&rt, (first, rows.len()), (1, 1));
+    has_seals(&rt, Ok(model.into_non_contiguous_categorical()));
+}
+
+#[test]
+fn symbols_without_a_clone_are_encoded(rt: HostRuntime) {
+    let made = Encoder::<Seal, 6>::from_symbols_and_nonzero_fixed_point_probabilities(
+        rt.alloc(),
+        seals(),
+        WEIGHTS,
+        false,
+    );
+    let model = made.expect(&rt, "accepted");
+    same(
+        &rt,
+        plain_entry(model.left_cumulative_and_probability(&Seal(9))),
+        Some((32, 32)),
+    );
+}
+
+/// A letter whose clone is refused stands last.
+fn letters() -> [Letter; 3] {
+    [Letter('a'), Letter('c'), Letter('r')]
+}
+
+/// Stops the test where no model was made, or it has not three rows.
+fn has_three(rt: &impl Abort, made: Result<Decoder<Letter, 6>, ModelError>) {
+    same(rt, made.map(|model| model.support_size()), Ok(3));
+}
+
+#[test]
+fn no_constructor_clones_the_last_symbol(rt: HostRuntime) {
+    let alloc = rt.alloc();
+    has_three(
+        &rt,
+        Decoder::from_symbols_and_nonzero_fixed_point_probabilities(alloc, letters(), WEIGHTS, false),
+    );
+    has_three(
+        &rt,
+        Decoder::from_hashable_symbols_and_nonzero_fixed_point_probabilities(alloc, letters(), WEIGHTS, false),
+    );
+    let looks_up: Result<Lookup<Letter, 6>, ModelError> =
+        Lookup::from_symbols_and_nonzero_fixed_point_probabilities(alloc, letters(), WEIGHTS, false);
+    has_three(&rt, looks_up.map(|model| model.into_non_contiguous_categorical()));
+}
+
+/// A walk through a contiguous model clones nothing, and one through a decoder clones each symbol.
+#[test]
+fn a_conversion_refuses_for_the_clones_of_its_walk(rt: HostRuntime) {
+    let alloc = rt.alloc();
+    let table = Table::<6>::from_nonzero_fixed_point_probabilities(alloc, WEIGHTS, false).expect(&rt, "accepted");
+    same(
+        &rt,
+        to_generic_decoder_model::<_, 6>(alloc, &table).map(|model| model.support_size()),
+        Ok(3),
+    );
+    let made = Decoder::from_symbols_and_nonzero_fixed_point_probabilities(alloc, letters(), WEIGHTS, false);
+    let model = made.expect(&rt, "accepted");
+    let refused = Some(ModelError::OutOfMemory);
+    same(&rt, to_generic_decoder_model::<_, 6>(alloc, &model).err(), refused);
+    same(&rt, to_generic_lookup_decoder_model::<_, 6>(alloc, &model).err(), Some(ModelError::OutOfMemory));
+}

@@ -1,0 +1,8 @@
+-- After the words stands where each row so far begins.
+use Rattle.std.specs.Prelude.{◌≡◌, ◌++◌, map, take}
+use Rattle.constriction_stored_rows.proofs.ends.with_ends.Given as goal
+
+abbrev pub invariant-entries : goal.invariant-entries
+invariant-entries g l =
+    map g.Kind.Word.WholeNumber.whole l.all.items
+    ≡ map g.Kind.Word.WholeNumber.whole l.fn.words.items ++ map g.Kind.CdfEntry.cumulative (take l.entry-index l.entries)
