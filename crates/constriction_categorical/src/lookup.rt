@@ -107,6 +107,14 @@ where
     Model: StoresRows<PRECISION>,
     LookupTable: SafeBuf<Model::Probability>,
 {
+    /// How many symbols the model has.
+    #[inline]
+    pub fn support_size(&self) -> usize
+        ensures { result ≡ length (⟦<Self as EntropyModel<PRECISION>>⟧.rows self.now) }
+    {
+        self.model.entries().len()
+    }
+
     /// A probe of the rows in question for a quantile, which are those that meet its slot, and the
     /// index of the first of them. What [`row_of_quantile`] answers on it, plus that index, is the
     /// index of the quantile's row. Where `m` rows meet the slot it asks as many questions at most as
