@@ -19,6 +19,8 @@ mod errors;
 #[cfg(test)]
 mod lent;
 #[cfg(test)]
+mod references;
+#[cfg(test)]
 mod reversals;
 #[cfg(test)]
 mod stacks;

@@ -6,10 +6,12 @@ ghost use Rattle.std.specs.Vec.{with_items};
 ghost use Rattle.std.specs.Box.{boxed_slice_items};
 ghost use Rattle.std.proofs.Common.{ap, refl};
 ghost use denote.Ref.{at_last};
-ghost use Rattle.constriction_buffers.specs.Buffer.{with_now};
+ghost use Rattle.constriction_buffers.specs.Buffer.{refilled, with_now};
 ghost use Rattle.constriction_buffers.specs.BufferLaws.{refilled_same, refilled_again, length-refilled};
 ghost use Rattle.constriction_buffers.specs.VecBuffer.{with_items_stand, with_items-length, with_items_unchanged, with_items_again};
 
+use smallvec::SmallVec;
+use std::alloc::Allocator;
 use std::boxed::BoxedSlice;
 
 /// A buffer of words. A caller's own type may be one.
@@ -82,6 +84,15 @@ impl<Word> SafeBuf<Word> for BoxedSlice<Word> {
     }
 }
 
+impl<Word, const N: usize, A: Allocator> SafeBuf<Word> for SmallVec<Word, N, A> {
+    ghost words_of = { λ buf. buf.items };
+
+    #[inline]
+    fn words(&self) -> &[Word] {
+        self.as_slice()
+    }
+}
+
 impl<Word> SafeBuf<Word> for &[Word] {
     ghost words_of = { λ buf. buf.now };
 
@@ -91,12 +102,38 @@ impl<Word> SafeBuf<Word> for &[Word] {
     }
 }
 
-impl<Word, const N: usize> SafeBuf<Word> for &[Word; N] {
-    ghost words_of = { λ buf. buf.now };
+impl<Word, const N: usize> SafeBuf<Word> for [Word; N] {
+    ghost words_of = { λ buf. buf };
 
     #[inline]
     fn words(&self) -> &[Word] {
         self.as_slice()
+    }
+}
+
+impl<Word, const N: usize> SafeBufMut<Word> for [Word; N] {
+    ghost with_words = { refilled };
+
+    #[inline]
+    fn words_mut(&mut self) -> &mut [Word] {
+        self
+    }
+
+    ghost stand = { refilled_same };
+
+    ghost keeps_length = { length-refilled };
+
+    ghost unchanged = { λ s. refilled_same s s refl };
+
+    ghost again = { refilled_again };
+}
+
+impl<Word, Buf: SafeBuf<Word>> SafeBuf<Word> for &Buf {
+    ghost words_of = { λ buf. Buf.words_of buf.now };
+
+    #[inline]
+    fn words(&self) -> &[Word] {
+        (**self).words()
     }
 }
 
@@ -126,29 +163,28 @@ impl<Word> SafeBufMut<Word> for &mut [Word] {
     ghost again = { λ s ws vs same. ap (at_last s) (refilled_again s.now ws vs same) };
 }
 
-impl<Word, const N: usize> SafeBuf<Word> for &mut [Word; N] {
-    ghost words_of = { λ buf. buf.now };
+impl<Word, Buf: SafeBuf<Word>> SafeBuf<Word> for &mut Buf {
+    ghost words_of = { λ buf. Buf.words_of buf.now };
 
     #[inline]
     fn words(&self) -> &[Word] {
-        self.as_slice()
+        (**self).words()
     }
 }
 
-impl<Word, const N: usize> SafeBufMut<Word> for &mut [Word; N] {
-    ghost with_words = { with_now };
+impl<Word, Buf: SafeBufMut<Word>> SafeBufMut<Word> for &mut Buf {
+    ghost with_words = { λ s ws. at_last s (Buf.with_words s.now ws) };
 
     #[inline]
     fn words_mut(&mut self) -> &mut [Word] {
-        let words: &mut [Word; N] = &mut **self;
-        words
+        (**self).words_mut()
     }
 
-    ghost stand = { λ s ws same. refilled_same s.now ws same };
+    ghost stand = { λ s ws same. Buf.stand s.now ws same };
 
-    ghost keeps_length = { λ s ws. length-refilled s.now ws };
+    ghost keeps_length = { λ s ws. Buf.keeps_length s.now ws };
 
-    ghost unchanged = { λ s. ap (at_last s) (refilled_same s.now s.now refl) };
+    ghost unchanged = { λ s. ap (at_last s) (Buf.unchanged s.now) };
 
-    ghost again = { λ s ws vs same. ap (at_last s) (refilled_again s.now ws vs same) };
+    ghost again = { λ s ws vs same. ap (at_last s) (Buf.again s.now ws vs same) };
 }

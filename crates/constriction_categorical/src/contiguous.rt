@@ -88,13 +88,16 @@ impl<Probability: WholeNumber, const PRECISION: usize> ContiguousCategoricalEntr
             probability: PhantomData,
         })
     }
+}
+
+impl<Probability: WholeNumber, const PRECISION: usize> Clone
+    for ContiguousCategoricalEntropyModel<Probability, Vec<Probability>, PRECISION> {
+    ghost is_clone = { λ x y. ⟦<Self as EntropyModel<PRECISION>>⟧.rows y ≡ ⟦<Self as EntropyModel<PRECISION>>⟧.rows x };
 
     /// A model of the same rows, with a table of its own from the allocator of this one's.
     ///
     /// One allocation and one copy of the table.
-    pub fn clone(&self) -> Result<Self, AllocError>
-        ensures { IfOk result (λ m. ⟦<Self as EntropyModel<PRECISION>>⟧.rows m ≡ ⟦<Self as EntropyModel<PRECISION>>⟧.rows self.now) }
-    {
+    fn clone(&self) -> Result<Self, AllocError> {
         self.in_vec(*self.cdf.allocator())
     }
 }

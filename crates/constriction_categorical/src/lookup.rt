@@ -109,6 +109,14 @@ where
     Model: StoresRows<PRECISION>,
     LookupTable: SafeBuf<Model::Probability>,
 {
+    /// How many symbols the model has.
+    #[inline]
+    pub fn support_size(&self) -> usize
+        ensures { result ≡ length (⟦<Self as EntropyModel<PRECISION>>⟧.rows self.now) }
+    {
+        self.model.entries().len()
+    }
+
     /// The words of the slots.
     #[inline(always)]
     fn slots<'m>(&'m self) -> &'m [Model::Probability]

@@ -89,13 +89,22 @@ impl<
             Err(refused) => Err(refused),
         }
     }
+}
+
+impl<Probability: IndexWord, const PRECISION: usize, const SLOT_BITS: usize> Clone
+    for SlottedContiguousLookupDecoderModel<
+        Probability,
+        Vec<Probability>,
+        Vec<Probability>,
+        PRECISION,
+        SLOT_BITS,
+    > {
+    ghost is_clone = { λ x y. ⟦<Self as EntropyModel<PRECISION>>⟧.rows y ≡ ⟦<Self as EntropyModel<PRECISION>>⟧.rows x };
 
     /// A model of the same rows, with rows and a table of its own from the allocators of this one's.
     ///
     /// Two allocations, and one copy of each.
-    pub fn clone(&self) -> Result<Self, AllocError>
-        ensures { IfOk result (λ m. ⟦<Self as EntropyModel<PRECISION>>⟧.rows m ≡ ⟦<Self as EntropyModel<PRECISION>>⟧.rows self.now) }
-    {
+    fn clone(&self) -> Result<Self, AllocError> {
         let lookup_table = copied(*self.lookup_table.allocator(), self.lookup_table.as_slice())?;
         match self.model.clone() {
             Ok(model) => Ok(Self {

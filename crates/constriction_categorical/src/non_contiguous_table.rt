@@ -10,6 +10,7 @@ use constriction_model::Weight;
 use constriction_numbers::WholeNumber;
 use constriction_stored_rows::paired_row_at;
 use std::alloc::AllocError;
+use std::iter::FusedIterator;
 
 /// The rows of a [`NonContiguousCategoricalDecoderModel`] that are left, walked through from either
 /// end.
@@ -93,3 +94,6 @@ impl<'m, Symbol: Clone, Probability: WholeNumber, const PRECISION: usize> ExactS
         self.to - self.from
     }
 }
+
+impl<'m, Symbol: Clone, Probability: WholeNumber, const PRECISION: usize> FusedIterator
+    for NonContiguousSymbolTable<'m, Symbol, Probability, PRECISION> {}

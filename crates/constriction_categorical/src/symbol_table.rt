@@ -11,6 +11,7 @@ use constriction_model::Weight;
 use constriction_numbers::WholeNumber;
 use constriction_stored_rows::row_at;
 use std::alloc::AllocError;
+use std::iter::FusedIterator;
 
 /// The rows of a [`ContiguousCategoricalEntropyModel`] that are left, walked through from either end.
 ///
@@ -87,3 +88,6 @@ impl<'m, Probability: WholeNumber, const PRECISION: usize> ExactSizeIterator
         self.to - self.from
     }
 }
+
+impl<'m, Probability: WholeNumber, const PRECISION: usize> FusedIterator
+    for ContiguousSymbolTable<'m, Probability, PRECISION> {}

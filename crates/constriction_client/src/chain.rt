@@ -20,7 +20,7 @@ use std::alloc::{AllocError, Global};
 use std::vec::IntoIter;
 
 /// A conversion of a [`DecoderForm`].
-#[derive(Debug, PartialEq, Eq, Drop)]
+#[derive(Debug, Clone, Copy, PartialEq, Eq, Drop)]
 pub enum ChainStep {
     /// To the form that searches all rows, by `to_generic_decoder_model_of_distinct`.
     ToSearch,

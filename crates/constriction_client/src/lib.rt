@@ -4,7 +4,7 @@
 //! any model and any sink or source. [`convert_chain`] takes a decoder's model through any
 //! conversions, and [`answer_queries`] asks a decoder and an encoder, which reply as a scan of their
 //! rows does. [`run_cursor`] and [`run_reversed`] run calls on a cursor and on its reversal, which
-//! answer alike.
+//! answer alike. [`run`], of `constriction_text`, answers the lines of a whole text.
 #![tactic(auto)]
 
 mod chain;
@@ -21,3 +21,4 @@ pub use crate::cursor_runs::{run_cursor, run_reversed};
 pub use crate::decoder_form::{DecoderForm, SearchOrLookup};
 pub use crate::quantiles::{QuantileFault, ReadFault, read_symbols, write_quantiles};
 pub use crate::queries::{Query, Reply, answer_queries};
+pub use constriction_text::{RunFault, run};

@@ -13,7 +13,7 @@ use constriction_words::{CoderError, Semantics, WholeNumber};
 use thiserror::Error;
 
 /// Why an item has no quantile.
-#[derive(Debug, PartialEq, Eq, Drop, Error)]
+#[derive(Debug, Clone, Copy, PartialEq, Eq, Drop, Error)]
 pub enum QuantileFault {
     /// The model has no entry of the symbol.
     #[error("The model has no entry of the symbol.")]
@@ -24,7 +24,7 @@ pub enum QuantileFault {
 }
 
 /// Why a word gives no pair.
-#[derive(Debug, PartialEq, Eq, Drop, Error)]
+#[derive(Debug, Clone, Copy, PartialEq, Eq, Drop, Error)]
 pub enum ReadFault {
     /// Memory for the symbol, or for one more pair, was refused.
     #[error("Memory for a pair was refused.")]

@@ -149,19 +149,16 @@ impl<
     }
 }
 
-impl<
-    Symbol: Hash + Eq + Clone,
-    Probability: WholeNumber,
-    const PRECISION: usize,
-> NonContiguousCategoricalEncoderModel<Symbol, Probability, PRECISION> {
+impl<Symbol: Hash + Eq + Clone, Probability: WholeNumber, const PRECISION: usize> Clone
+    for NonContiguousCategoricalEncoderModel<Symbol, Probability, PRECISION> {
+    ghost is_clone = { λ x y. StandForRows Symbol.is_clone (⟦<Self as EntropyModel<PRECISION>>⟧.rows y)
+        (⟦<Self as EntropyModel<PRECISION>>⟧.rows x) };
+
     /// A model of the same entries, for clones of the symbols, with a table of its own from the allocator of
     /// this one's.
     ///
     /// A copy of the table and a clone of each symbol. It is refused where memory for one of these is.
-    pub fn clone(&self) -> Result<Self, AllocError>
-        ensures { IfOk result (λ m. StandForRows Symbol.is_clone (⟦<Self as EntropyModel<PRECISION>>⟧.rows m)
-            (⟦<Self as EntropyModel<PRECISION>>⟧.rows self.now)) }
-    {
+    fn clone(&self) -> Result<Self, AllocError> {
         let table = self.table.clone()?;
         // A call on the clone tells that no two of its keys are equal, whatever is known of clones of them.
         let _len = table.len();

@@ -5,6 +5,7 @@ pub mod any_symbols;
 pub mod contiguous;
 pub mod conversions;
 pub mod given;
+pub mod intervals;
 pub mod lookup_any_symbols;
 pub mod marked;
 pub mod own_model;

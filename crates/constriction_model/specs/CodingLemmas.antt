@@ -6,7 +6,7 @@ use Rattle.std.specs.Option.{option_map}
 use Rattle.std.proofs.lemmas.List.{get_or-reverse, length-reverse}
 use Rattle.std.proofs.lemmas.List.Elements.{All-contains}
 use Rattle.std.proofs.lemmas.List.Sums.{sum_by-cons}
-use Rattle.constriction_model.specs.Model.{LiesWithin, entry_in}
+use Rattle.constriction_model.specs.Model.{LiesWithin, entry_in, row_of}
 use Rattle.constriction_model.specs.Rows.{Row, rows_from, rows_of, RowsTile, IsRowOf, entry_of}
 
 none-is-some : {X : Type 0} (x : X) → None ≡ Some x → ⊥
@@ -166,9 +166,12 @@ entry-below precision eq rows s left weight offset e within less =
     let lies = All-contains (LiesWithin precision) rows has.row within has.among in
     omega (arith, has.left_is, has.weight_is, lies.1)
 
--- so do those of the words that stand for an entry
+-- words that stand for an entry tell of quantiles, all of which lie below 2 ^ precision
 pub words-within : {Symbol Word Weight : Type 0} (precision : ℕ) (eq : Symbol → Symbol → Bool) (rows : List (Row Symbol)) (s : Symbol)
     (whole : Word → ℕ) (base : Weight → Word) (o : Option (Word × Weight)) → option_map (entry_in whole base) o ≡ entry_of eq rows s
-    → All (LiesWithin precision) rows → IfSome o (λ x. whole x.0 + whole (base x.1) ≤ 2 ^ precision)
+    → All (LiesWithin precision) rows → IfSome o (λ x. LiesWithin precision (row_of whole base (s, x.0, x.1)))
 words-within precision eq rows s whole base None e within = tt
-words-within precision eq rows s whole base (Some x) e within = entry-within precision eq rows s (entry_in whole base x) e within
+words-within precision eq rows s whole base (Some x) e within = (
+  entry-positive precision eq rows s (entry_in whole base x) e within,
+  entry-within precision eq rows s (entry_in whole base x) e within,
+)

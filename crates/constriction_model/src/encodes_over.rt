@@ -3,7 +3,7 @@
 ghost use Rattle.std.specs.Prelude.{◌≡◌, ◌+◌, ◌^◌, ◌<◌, ◌≤◌, Bool, List, All, IfSome};
 ghost use Rattle.std.specs.Cmp.{IsEquivalence};
 ghost use Rattle.std.specs.Option.{option_map};
-ghost use Rattle.constriction_model.specs.Model.{entry_in, LiesWithin};
+ghost use Rattle.constriction_model.specs.Model.{entry_in, row_of, LiesWithin};
 ghost use Rattle.constriction_model.specs.Rows.{Row, entry_of};
 
 use crate::traits::{EncoderModel, Weight};
@@ -26,7 +26,7 @@ pub trait EncodesOver<Symbol, Word: WholeNumber, const PRECISION: usize> {
     fn entry(&self, symbol: &Symbol) -> Option<(Word, Weight<Word>)>
         ensures entry { option_map (entry_in Word.whole Word.base) result
             ≡ entry_of symbol_eq (rows self.now) symbol.now }
-        ensures within { IfSome result (λ x. Word.whole x.0 + Word.whole (Word.base x.1) ≤ 2 ^ PRECISION) };
+        ensures within { IfSome result (λ x. LiesWithin PRECISION (row_of Word.whole Word.base (symbol.now, x.0, x.1))) };
 
     // It is reflexive, symmetric and transitive, so that equal symbols are equal to the same others.
     ghost equality_law: { IsEquivalence symbol_eq };

@@ -4,7 +4,7 @@ use std::alloc::{AllocError, AllocFailed};
 use thiserror::Error;
 
 /// Why there is no model.
-#[derive(Debug, PartialEq, Eq, Drop, Error)]
+#[derive(Debug, Clone, Copy, PartialEq, Eq, Drop, Error)]
 pub enum ModelError {
     /// The weights, and where there are any the symbols, are not accepted.
     #[error("The weights, or the symbols, are not accepted.")]

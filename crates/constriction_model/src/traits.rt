@@ -1,6 +1,6 @@
 //! The traits of models: what a model tells, and what it answers in each direction.
 
-ghost use Rattle.std.specs.Prelude.{◌≡◌, ◌-◌, ◌^◌, ◌<◌, ◌≤◌, ℕ, Bool, List, length, All, IfOk, IfErr};
+ghost use Rattle.std.specs.Prelude.{◌≡◌, ◌-◌, ◌^◌, ◌<◌, ◌≤◌, ℕ, Bool, List, length, All, IfOk, IfErr, IfSome};
 ghost use Rattle.std.specs.Cmp.{IsEquivalence};
 ghost use Rattle.std.specs.Option.{option_map};
 ghost use Rattle.constriction_model.specs.Rows.{Row, RowsTile, entry_of};
@@ -40,8 +40,10 @@ pub trait EncoderModel<const PRECISION: usize>: EntropyModel<PRECISION> {
         &self,
         symbol: &Self::Symbol,
     ) -> Option<(Self::Probability, Weight<Self::Probability>)>
-        ensures { option_map (entry_in Self.Probability.whole Self.Probability.base) result
-            ≡ entry_of symbol_eq (Self.rows self.now) symbol.now };
+        ensures entry { option_map (entry_in Self.Probability.whole Self.Probability.base) result
+            ≡ entry_of symbol_eq (Self.rows self.now) symbol.now }
+        ensures within { IfSome result (λ x. LiesWithin PRECISION
+            (row_of Self.Probability.whole Self.Probability.base (symbol.now, x.0, x.1))) };
 
     // It is reflexive, symmetric and transitive, so that equal symbols are equal to the same others.
     ghost equality_law: { IsEquivalence symbol_eq };

@@ -1,6 +1,6 @@
 //! Models whose symbols all have the same weight, but for the last one.
 
-ghost use Rattle.std.specs.Prelude.{◌≡◌, ◌+◌, ◌-◌, ◌*◌, ◌/◌, ◌^◌, ◌<◌, ◌≤◌, ℕ, nat_eq, ⊤};
+ghost use Rattle.std.specs.Prelude.{◌≡◌, ◌+◌, ◌-◌, ◌*◌, ◌/◌, ◌^◌, ◌<◌, ◌≤◌, ℕ, length, nat_eq, ⊤};
 ghost use Rattle.std.specs.Cmp.{nat_eq_equiv};
 ghost use Rattle.constriction_model.specs.Precision.{IsPrecision};
 ghost use Rattle.constriction_model.specs.Rows.{uniform_rows};
@@ -79,6 +79,14 @@ impl<Probability: WholeNumber, const PRECISION: usize> UniformModel<Probability,
             probability_per_bin: bin,
             last_probability: last,
         }
+    }
+
+    /// How many symbols the model has: the range.
+    #[inline]
+    pub fn support_size(&self) -> usize
+        ensures { result ≡ length (⟦<Self as EntropyModel<PRECISION>>⟧.rows self.now) }
+    {
+        self.last_symbol.to_number() + 1
     }
 
     /// Where the row of a symbol begins, and its weight.

@@ -44,10 +44,20 @@ fn found(model: &SealDecoder, quantile: u8) -> usize
 /// Stops the test where no model was made, or it has other rows than the seals.
 fn has_seals(rt: &impl Abort, made: Result<SealDecoder, ModelError>) {
     let model = made.expect(rt, "accepted");
-    same(rt, [model.support_size(), model.as_view().support_size()], [3, 3]);
     same(
         rt,
-        [found(&model, 15), found(&model, 16), found(&model, 31), found(&model, 32), found(&model, 63)],
+        [model.support_size(), model.as_view().support_size()],
+        [3, 3],
+    );
+    same(
+        rt,
+        [
+            found(&model, 15),
+            found(&model, 16),
+            found(&model, 31),
+            found(&model, 32),
+            found(&model, 63),
+        ],
         [0, 1, 1, 2, 2],
     );
 }
@@ -57,21 +67,41 @@ fn symbols_without_a_clone_are_decoded(rt: HostRuntime) {
     let alloc = rt.alloc();
     has_seals(
         &rt,
-        SealDecoder::from_symbols_and_nonzero_fixed_point_probabilities(alloc, seals(), WEIGHTS, false),
+        SealDecoder::from_symbols_and_nonzero_fixed_point_probabilities(
+            alloc,
+            seals(),
+            WEIGHTS,
+            false,
+        ),
     );
     has_seals(
         &rt,
-        SealDecoder::from_hashable_symbols_and_nonzero_fixed_point_probabilities(alloc, seals(), WEIGHTS, false),
+        SealDecoder::from_hashable_symbols_and_nonzero_fixed_point_probabilities(
+            alloc,
+            seals(),
+            WEIGHTS,
+            false,
+        ),
     );
     has_seals(
         &rt,
-        SealDecoder::from_sorted_symbols_and_nonzero_fixed_point_probabilities(alloc, seals(), WEIGHTS, false),
+        SealDecoder::from_sorted_symbols_and_nonzero_fixed_point_probabilities(
+            alloc,
+            seals(),
+            WEIGHTS,
+            false,
+        ),
     );
 }
 
 #[test]
 fn symbols_without_a_clone_are_looked_up(rt: HostRuntime) {
-    let made = SealLookup::from_symbols_and_nonzero_fixed_point_probabilities(rt.alloc(), seals(), WEIGHTS, false);
+    let made = SealLookup::from_symbols_and_nonzero_fixed_point_probabilities(
+        rt.alloc(),
+        seals(),
+        WEIGHTS,
+        false,
+    );
     let model = made.expect(&rt, "accepted");
     let (first, rows) = model.quantile_probe(20);
     same(&rt, (first, rows.len()), (1, 1));
@@ -109,30 +139,63 @@ fn no_constructor_clones_the_last_symbol(rt: HostRuntime) {
     let alloc = rt.alloc();
     has_three(
         &rt,
-        Decoder::from_symbols_and_nonzero_fixed_point_probabilities(alloc, letters(), WEIGHTS, false),
+        Decoder::from_symbols_and_nonzero_fixed_point_probabilities(
+            alloc,
+            letters(),
+            WEIGHTS,
+            false,
+        ),
     );
     has_three(
         &rt,
-        Decoder::from_hashable_symbols_and_nonzero_fixed_point_probabilities(alloc, letters(), WEIGHTS, false),
+        Decoder::from_hashable_symbols_and_nonzero_fixed_point_probabilities(
+            alloc,
+            letters(),
+            WEIGHTS,
+            false,
+        ),
     );
     let looks_up: Result<Lookup<Letter, 6>, ModelError> =
-        Lookup::from_symbols_and_nonzero_fixed_point_probabilities(alloc, letters(), WEIGHTS, false);
-    has_three(&rt, looks_up.map(|model| model.into_non_contiguous_categorical()));
+        Lookup::from_symbols_and_nonzero_fixed_point_probabilities(
+            alloc,
+            letters(),
+            WEIGHTS,
+            false,
+        );
+    has_three(
+        &rt,
+        looks_up.map(|model| model.into_non_contiguous_categorical()),
+    );
 }
 
 /// A walk through a contiguous model clones nothing, and one through a decoder clones each symbol.
 #[test]
 fn a_conversion_refuses_for_the_clones_of_its_walk(rt: HostRuntime) {
     let alloc = rt.alloc();
-    let table = Table::<6>::from_nonzero_fixed_point_probabilities(alloc, WEIGHTS, false).expect(&rt, "accepted");
+    let table = Table::<6>::from_nonzero_fixed_point_probabilities(alloc, WEIGHTS, false).expect(
+        &rt, "accepted",
+    );
     same(
         &rt,
         to_generic_decoder_model::<_, 6>(alloc, &table).map(|model| model.support_size()),
         Ok(3),
     );
-    let made = Decoder::from_symbols_and_nonzero_fixed_point_probabilities(alloc, letters(), WEIGHTS, false);
+    let made = Decoder::from_symbols_and_nonzero_fixed_point_probabilities(
+        alloc,
+        letters(),
+        WEIGHTS,
+        false,
+    );
     let model = made.expect(&rt, "accepted");
     let refused = Some(ModelError::OutOfMemory);
-    same(&rt, to_generic_decoder_model::<_, 6>(alloc, &model).err(), refused);
-    same(&rt, to_generic_lookup_decoder_model::<_, 6>(alloc, &model).err(), Some(ModelError::OutOfMemory));
+    same(
+        &rt,
+        to_generic_decoder_model::<_, 6>(alloc, &model).err(),
+        refused,
+    );
+    same(
+        &rt,
+        to_generic_lookup_decoder_model::<_, 6>(alloc, &model).err(),
+        Some(ModelError::OutOfMemory),
+    );
 }

@@ -6,7 +6,7 @@ ghost use Rattle.constriction_text.specs.Runs.{status_of};
 use thiserror::Error;
 
 /// What stops a run before the whole text is written.
-#[derive(Debug, PartialEq, Eq, Drop, Error)]
+#[derive(Debug, Clone, Copy, PartialEq, Eq, Drop, Error)]
 pub enum RunFault {
     /// The reader answered an error, an interruption too. Nothing was written.
     #[error("The input could not be read.")]

@@ -1,8 +1,11 @@
 //! What a backend that is read and written fails with.
 
 ghost use Rattle.std.specs.Prelude.{◌≡◌, IfOk};
+ghost use Rattle.constriction_words.specs.ReadWriteError.{read_write_error_text};
 
 use crate::infallible::UnwrapInfallible;
+use std::error::Error;
+use std::fmt;
 
 /// A read of a backend failed, or a write to it.
 #[derive(Debug, Clone, Copy, PartialEq, Eq, Drop)]
@@ -12,6 +15,21 @@ pub enum ReadWriteError<ReadError, WriteError> {
     /// The write failed.
     Write(WriteError),
 }
+
+/// It says whether a read or a write failed, and then what the error says. The Rust crate prints none.
+impl<ReadError: fmt::Display, WriteError: fmt::Display> fmt::Display
+    for ReadWriteError<ReadError, WriteError> {
+    ghost output = { read_write_error_text ReadError.output WriteError.output };
+
+    fn fmt<W: fmt::Write>(&self, f: &mut fmt::Formatter<W>) -> fmt::Result {
+        match self {
+            ReadWriteError::Read(err) => write!(f, "Error while reading words: {err}"),
+            ReadWriteError::Write(err) => write!(f, "Error while writing words: {err}"),
+        }
+    }
+}
+
+impl<ReadError: Error, WriteError: Error> Error for ReadWriteError<ReadError, WriteError> {}
 
 impl<T, ReadError, WriteError> UnwrapInfallible<T>
     for Result<T, ReadWriteError<ReadError, WriteError>>

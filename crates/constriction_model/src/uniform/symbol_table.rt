@@ -12,6 +12,7 @@ use crate::uniform::UniformModel;
 use constriction_numbers::WholeNumber;
 use std::alloc::AllocError;
 use std::fmt::Debug;
+use std::iter::FusedIterator;
 
 /// The rows of a [`UniformModel`] that are left, walked through from either end.
 ///
@@ -127,3 +128,6 @@ impl<Probability: WholeNumber, const PRECISION: usize> ExactSizeIterator
         self.to - self.from
     }
 }
+
+impl<Probability: WholeNumber, const PRECISION: usize> FusedIterator
+    for UniformSymbolTable<Probability, PRECISION> {}

@@ -22,9 +22,11 @@ pub struct FallibleIteratorReadWords<Iter: Iterator> {
 }
 
 impl<Iter: Iterator> FallibleIteratorReadWords<Iter> {
-    /// A source over what the value iterates over.
+    /// A source over what the value iterates over. A source of other items than results is refused here, where it is made.
     #[inline]
-    pub fn new<I: IntoIterator<IntoIter = Iter>>(iter: I) -> Self
+    pub fn new<I, Word, ReadError>(iter: I) -> Self
+    where
+        I: IntoIterator<Item = Result<Word, ReadError>, IntoIter = Iter>,
         ensures source { I.into_iter_gives iter (fuse_source result.inner) }
         ensures fresh { fuse_done result.inner ≡ false }
     {

@@ -12,7 +12,7 @@ returns-in-Ok-clause-ok g c = λ words told.
       led.1,
       encoded g.row.PRECISION c.in-Some.left c.get-weight.result c.in-Ok.kept c.with_entry-self.result 0 led.0
           (content c.args.self.now.state words) (entry_of g.E.EncodesOver.symbol_eq (g.E.EncodesOver.rows c.args.model.now))
-          c.args.symbol.now (omega (arith, c.get-weight.ensures.nonzero)) (rw weight_is c.in-Some.ensures.within)
+          c.args.symbol.now (omega (arith, c.get-weight.ensures.nonzero)) (rw weight_is c.in-Some.ensures.within.1)
           (rw weight_is (sym c.in-Some.ensures.entry)) c.with_entry-self.ensures led.2,
     )
 

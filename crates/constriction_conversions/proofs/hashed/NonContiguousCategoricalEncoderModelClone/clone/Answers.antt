@@ -1,6 +1,6 @@
 use Rattle.constriction_conversions.specs.Hashed.{rows_of_table}
 use Rattle.constriction_conversions.proofs.HashLemmas.{table-cloned, within-made}
-use Rattle.constriction_conversions.proofs.hashed.NonContiguousCategoricalEncoderModel.clone.Goals as goal
+use Rattle.constriction_conversions.proofs.hashed.NonContiguousCategoricalEncoderModelClone.clone.Goals as goal
 
 pub invariant_of-result : goal.invariant_of-result
 invariant_of-result g c =
@@ -21,5 +21,7 @@ pub returns : goal.returns
 returns g c =
     let whole = g.Probability.WholeNumber.whole in
     let base = g.Probability.WholeNumber.base in
-    table-cloned g.Symbol.Clone.is_clone (λ e. (whole e.left, whole (base e.weight))) c.args.self.now.table.entries
-    c.in_ok-table.table.entries c.in_ok-table.ensures.cases
+    record {
+      cases = table-cloned g.Symbol.Clone.is_clone (λ e. (whole e.left, whole (base e.weight))) c.args.self.now.table.entries
+          c.in_ok-table.table.entries c.in_ok-table.ensures.cases;
+    }
