@@ -9,8 +9,8 @@ ghost use Rattle.constriction_text.specs.Answering.{answer_to};
 ghost use Rattle.constriction_text.specs.Text.{IsTextOf, lines_of};
 
 use crate::answers::push_answer;
-use constriction_lines::cut;
 use crate::fault::RunFault;
+use constriction_lines::cut;
 use std::alloc::{AllocError, Global};
 use std::io::{Read, Write};
 
