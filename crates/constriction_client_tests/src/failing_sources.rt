@@ -1,11 +1,13 @@
 //! Words that give no pair, and what is read after them.
 
-use crate::checks::{holds, same};
-use constriction_backends::Cursor;
+use crate::checks::{holds, same, small};
+use constriction_backends::{BoundedReadWords, Cursor, FallibleIteratorReadWords};
 use constriction_client::{ReadFault, read_symbols};
+use constriction_fixtures::contiguous::Table;
 use constriction_fixtures::symbol_types::{Letter, LetterDecoder, letters};
 use constriction_words::{CoderError, Pos, Queue};
 use std::convert::Infallible;
+use std::vec;
 
 type Read = Result<usize, CoderError<ReadFault, Infallible>>;
 
@@ -32,4 +34,44 @@ fn a_word_whose_letter_is_not_cloned_is_gone(rt: HostRuntime) {
     same(&rt, (source.pos(), out.is_empty()), (1, true));
     same(&rt, read_letters(&model, &mut source, 2, &mut out), Ok(1));
     holds(&rt, &out, &[(Letter('c'), 2)]);
+}
+
+/// A source over words and errors.
+type Results = FallibleIteratorReadWords<vec::IntoIter<Result<u8, u8>>>;
+
+/// Reads pairs of numbers, and how many words and errors are left.
+fn read_results(
+    model: &Table<6>,
+    source: &mut Results,
+    count: usize,
+    out: &mut Vec<(usize, u8)>,
+) -> (Result<usize, CoderError<ReadFault, u8>>, usize) {
+    let read = read_symbols::<Queue, _, _, _, _, 6>(model, source, count, out);
+    (read, BoundedReadWords::<u8, Queue>::remaining(source))
+}
+
+#[test]
+fn words_after_an_error_of_an_iterator_are_read(rt: HostRuntime) {
+    let model = small(&rt, rt.alloc());
+    let items = Vec::from_array(rt.alloc(), [Ok(2), Err(7), Ok(63)]).expect(&rt, "memory");
+    let mut source = FallibleIteratorReadWords::new(items);
+    let mut out = Vec::new(rt.alloc());
+    same(
+        &rt,
+        read_results(&model, &mut source, 0, &mut out),
+        (Ok(0), 3),
+    );
+    let seven = Err(CoderError::Backend(7));
+    same(
+        &rt,
+        read_results(&model, &mut source, 3, &mut out),
+        (seven, 1),
+    );
+    holds(&rt, &out, &[(0, 2)]);
+    same(
+        &rt,
+        read_results(&model, &mut source, 3, &mut out),
+        (Ok(1), 0),
+    );
+    holds(&rt, &out, &[(0, 2), (3, 41)]);
 }
