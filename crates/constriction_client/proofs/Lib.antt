@@ -5,6 +5,5 @@ mod Places
 mod Rebuilding
 pub mod Replying
 mod Returning
-mod Stepping
 mod WordNumbers
 mod WordReading

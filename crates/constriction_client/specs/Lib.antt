@@ -1,7 +1,7 @@
 pub mod ChainLemmas
 pub mod Chains
 pub mod Coming
-pub mod CursorCalls
+pub use Rattle.constriction_cursor_runs.specs.CursorCalls
 pub mod Placing
 pub mod Quantiles
 pub mod Replies

@@ -1,24 +1,20 @@
 //! What follows from the definitions that the contracts cite, each law the contract of a function.
 
 ghost use Rattle.std.specs.Prelude.{◌≡◌, List, reverse};
-ghost use Rattle.constriction_backends.specs.CursorState.{State, reversal};
-ghost use Rattle.constriction_client.specs.CursorCalls.{run};
 ghost use Rattle.constriction_client.specs.ThereAndBack.{ReadsBack};
 
-mod cursor_runs;
 mod forms;
 mod round_trips;
 
-pub use self::cursor_runs::run_cursor_and_reversal;
 pub use self::forms::form_symbols_differ;
 pub use self::round_trips::{
     CursorFault, DecoderAndEncoder, decoder_and_encoder, there_and_back,
     there_and_back_in_a_cursor, there_and_back_of_two,
 };
-use crate::cursor_calls::{CursorCall, CursorReply};
 pub use constriction::laws::{
     each_quantile_in_range_has_a_row, the_row_found_is_the_row_of_the_quantile,
 };
+pub use constriction_cursor_runs::laws::{run_cursor_and_reversal, runs_are_alike};
 
 /// What was written for items is read back as these items, in the order of a queue.
 pub fn reads_back<Symbol, Word>()
@@ -29,13 +25,4 @@ pub fn reads_back<Symbol, Word>()
 /// of a stack.
 pub fn reads_back_reversed<Symbol, Word>()
     ensures { ReadsBack Symbol Word reverse reverse }
-{}
-
-/// A run of calls in a state and a run of the same calls in its reversal have the same replies, and
-/// leave a state and its reversal. So it is of what [`run_cursor`](crate::run_cursor) and
-/// [`run_reversed`](crate::run_reversed) say of each other.
-pub fn runs_are_alike<Word>()
-    ensures { (calls : List (CursorCall Word)) (s t turned left : State Word) (replies others : List (CursorReply Word))
-        → turned ≡ reversal s → run calls s ≡ (replies, t) → run calls (reversal turned) ≡ (others, reversal left)
-        → (others ≡ replies) × (left ≡ reversal t) }
 {}

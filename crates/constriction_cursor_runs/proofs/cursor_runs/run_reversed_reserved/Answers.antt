@@ -1,7 +1,7 @@
 use Rattle.std.proofs.Common.{rules, arith}
 use Rattle.std.proofs.lemmas.Grind.{common_steps}
 use Rattle.constriction_backends.proofs.CursorRunLaws.{twice}
-use Rattle.constriction_client.proofs.cursor_runs.run_reversed_reserved.Goals as goal
+use Rattle.constriction_cursor_runs.proofs.cursor_runs.run_reversed_reserved.Goals as goal
 
 pub loop-call-preserved : goal.loop-call-preserved
 loop-call-preserved g c =

@@ -1,6 +1,6 @@
 use Rattle.constriction_backends.specs.Cursor.{buf_of, pos_of}
-use Rattle.constriction_client.proofs.Stepping.{seek_back}
-use Rattle.constriction_client.proofs.cursor_runs.seek_reversed.Goals as goal
+use Rattle.constriction_cursor_runs.proofs.Stepping.{seek_back}
+use Rattle.constriction_cursor_runs.proofs.cursor_runs.seek_reversed.Goals as goal
 
 pub returns-clause-moved : goal.returns-clause-moved
 returns-clause-moved g c =

@@ -3,7 +3,7 @@
 ghost use Rattle.std.specs.Prelude.{◌≡◌, ◌<◌, ◌≤◌, ◌++◌, [], ◌∷◌, length, IfOk, OnErr, vec_len, vec_capacity};
 ghost use Rattle.constriction_backends.specs.Cursor.{buf_of, state_of};
 ghost use Rattle.constriction_backends.specs.CursorState.{reversal};
-ghost use Rattle.constriction_client.specs.CursorCalls.{step, run};
+ghost use Rattle.constriction_cursor_runs.specs.CursorCalls.{step, run};
 
 use crate::cursor_calls::{CursorCall, CursorReply};
 use constriction_backends::{

@@ -3,10 +3,10 @@
 use Rattle.std.specs.Prelude.{◌+◌, ◌-◌, ◌==◌, nat_le, List, [], ◌∷◌, ◌++◌, length, None, if◌then◌else◌}
 use Rattle.std.specs.List.{last_or, slice_get}
 use Rattle.constriction_backends.specs.CursorState.{State, state}
-use Rattle.constriction_client.specs.declared.cursor_calls.CursorCall.{CursorCall}
-use Rattle.constriction_client.specs.declared.cursor_calls.CursorCall.TheVariants as call
-use Rattle.constriction_client.specs.declared.cursor_calls.CursorReply.{CursorReply}
-use Rattle.constriction_client.specs.declared.cursor_calls.CursorReply.TheVariants as reply
+use Rattle.constriction_cursor_runs.specs.declared.cursor_calls.CursorCall.{CursorCall}
+use Rattle.constriction_cursor_runs.specs.declared.cursor_calls.CursorCall.TheVariants as call
+use Rattle.constriction_cursor_runs.specs.declared.cursor_calls.CursorReply.{CursorReply}
+use Rattle.constriction_cursor_runs.specs.declared.cursor_calls.CursorReply.TheVariants as reply
 
 -- all words
 abbrev pub words : {W : Type 0} → State W → List W

@@ -9,8 +9,8 @@ use Rattle.std.proofs.Math.Seq.{take-append_seam, drop-append_seam}
 use Rattle.constriction_backends.specs.CursorState.{State, state, reversal, StackReads, QueueReads}
 use Rattle.constriction_backends.proofs.CursorRunLaws.{reversal-reads}
 use Rattle.constriction_backends.proofs.Turning.{state-reverse}
-use Rattle.constriction_client.specs.CursorCalls.{words, step}
-use Rattle.constriction_client.specs.declared.cursor_calls.CursorCall.TheVariants as call
+use Rattle.constriction_cursor_runs.specs.CursorCalls.{words, step}
+use Rattle.constriction_cursor_runs.specs.declared.cursor_calls.CursorCall.TheVariants as call
 
 last_or-push : {W : Type 0} (o : Option W) (xs : List W) (w : W) → last_or o (xs ++ w ∷ []) ≡ Some w
 last_or-push o [] w = refl

@@ -1,9 +1,9 @@
-//! Runs of calls on a cursor and on its reversal.
+//! What runs of calls on a cursor and on its reversal say of each other.
 
-ghost use Rattle.std.specs.Prelude.{◌≡◌, IfOk, OnErr};
+ghost use Rattle.std.specs.Prelude.{◌≡◌, List, IfOk, OnErr};
 ghost use Rattle.constriction_backends.specs.Cursor.{buf_of, state_of};
-ghost use Rattle.constriction_backends.specs.CursorState.{reversal};
-ghost use Rattle.constriction_client.specs.CursorCalls.{run};
+ghost use Rattle.constriction_backends.specs.CursorState.{State, reversal};
+ghost use Rattle.constriction_cursor_runs.specs.CursorCalls.{run};
 
 use crate::cursor_calls::{CursorCall, CursorReply};
 use crate::cursor_runs::{run_reserved, run_reversed_reserved};
@@ -39,3 +39,12 @@ pub fn run_cursor_and_reversal<Word: Copy + Drop, Buf: SafeBufMut<Word>, Turned:
     let others = run_reversed_reserved(reversed, calls, others);
     Ok((replies, others))
 }
+
+/// A run of calls in a state and a run of the same calls in its reversal have the same replies, and
+/// leave a state and its reversal. So it is of what [`run_cursor`](crate::run_cursor) and
+/// [`run_reversed`](crate::run_reversed) say of each other.
+pub fn runs_are_alike<Word>()
+    ensures { (calls : List (CursorCall Word)) (s t turned left : State Word) (replies others : List (CursorReply Word))
+        → turned ≡ reversal s → run calls s ≡ (replies, t) → run calls (reversal turned) ≡ (others, reversal left)
+        → (others ≡ replies) × (left ≡ reversal t) }
+{}

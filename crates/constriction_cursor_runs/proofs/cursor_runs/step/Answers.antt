@@ -1,8 +1,8 @@
 use Rattle.std.proofs.Common.{ap}
 use Rattle.constriction_backends.specs.Cursor.{state_of}
-use Rattle.constriction_client.specs.declared.cursor_calls.CursorReply.TheVariants as reply
-use Rattle.constriction_client.proofs.Stepping.{stack_word, stack_moves, queue_moves}
-use Rattle.constriction_client.proofs.cursor_runs.step.Goals as goal
+use Rattle.constriction_cursor_runs.specs.declared.cursor_calls.CursorReply.TheVariants as reply
+use Rattle.constriction_cursor_runs.proofs.Stepping.{stack_word, stack_moves, queue_moves}
+use Rattle.constriction_cursor_runs.proofs.cursor_runs.step.Goals as goal
 
 pub returns-in-StackRead-clause-reply : goal.returns-in-StackRead-clause-reply
 returns-in-StackRead-clause-reply g c =

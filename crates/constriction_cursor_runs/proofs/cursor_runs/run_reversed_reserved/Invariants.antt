@@ -1,8 +1,8 @@
 use Rattle.std.proofs.Common.{◌≡◌, ◌++◌, ◌≤◌, drop, length, vec_len, vec_capacity}
 use Rattle.constriction_backends.specs.Cursor.{state_of}
 use Rattle.constriction_backends.specs.CursorState.{reversal}
-use Rattle.constriction_client.specs.CursorCalls.{run}
-use Rattle.constriction_client.proofs.cursor_runs.run_reversed_reserved.Given as goal
+use Rattle.constriction_cursor_runs.specs.CursorCalls.{run}
+use Rattle.constriction_cursor_runs.proofs.cursor_runs.run_reversed_reserved.Given as goal
 
 -- the replies so far and those to the calls that are left are those to all, and so is the state that is left
 abbrev pub invariant-loop-call : goal.invariant-loop-call
