@@ -7,6 +7,7 @@ use crate::model_checks::small;
 use constriction::stream::model::{
     DecoderModel, EncoderModel, ModelError, SmallUniformModel, UniformSymbolTable,
 };
+use constriction_fixtures::intervals::{first_row_of, have_its_row};
 use constriction_fixtures::widths::Model;
 use constriction_words::WholeNumber;
 use std::iter;
@@ -80,4 +81,13 @@ fn a_uniform_model_is_shown_and_a_table_is_made_of_it(rt: HostRuntime) {
     let five = SmallUniformModel::new(5);
     shows(&rt, rt.alloc(), &five, "UniformModel");
     same(&rt, UniformSymbolTable::new(five).len(), 5);
+}
+
+#[test]
+fn each_quantile_of_a_symbol_has_its_row(rt: HostRuntime) {
+    let model = small(&rt, rt.alloc());
+    for symbol in 0..5 {
+        same(&rt, have_its_row(&model, symbol), Ok(true));
+    }
+    same(&rt, first_row_of::<_, 6>(&model, &4).is_none(), true);
 }

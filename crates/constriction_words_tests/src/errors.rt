@@ -75,3 +75,22 @@ fn what_cannot_fail_is_unwrapped(rt: HostRuntime) {
         [7, 8, 9],
     );
 }
+
+#[test]
+fn an_error_of_a_backend_says_which_call_failed(rt: HostRuntime) {
+    let read: ReadWriteError<NanError, NanError> = ReadWriteError::Read(NanError);
+    is_an_error(&read);
+    let printed = format!(in rt.alloc(); "{read}").expect(&rt, "memory");
+    same(
+        &rt,
+        printed.as_str(),
+        "Error while reading words: NaN encountered.",
+    );
+    let write: ReadWriteError<NanError, NanError> = ReadWriteError::Write(NanError);
+    let printed = format!(in rt.alloc(); "{write}").expect(&rt, "memory");
+    same(
+        &rt,
+        printed.as_str(),
+        "Error while writing words: NaN encountered.",
+    );
+}
