@@ -8,7 +8,7 @@ SEARCHING = """u8/1 u8/3 u8/6 u8/7 u8/8 u16/12 u16/16 u32/24 u32/32 u64/40 u64/6
     usize/40 usize/63 usize/64 u128/64 u128/100 u128/128""".split()
 UNIFORM = "u8/1 u8/3 u8/6 u8/7 u8/8 u16/12 u16/16 u32/24 u32/32 u64/63 u64/64 usize/64 u128/64".split()
 LOOKUP = "u8/1 u8/3 u8/6 u8/7 u8/8 u16/12 u16/16 usize/6 usize/12 usize/40 usize/63".split()
-SLOTTED = {"u8/6": [0, 1, 2, 3, 4, 5, 6], "u16/12": [0, 2, 4, 6, 8, 10, 11, 12], "usize/40": [8, 12]}
+SLOTTED = {"u8/6": [*range(7)], "u16/12": [*range(13)], "usize/40": [8, 12]}
 BITS = {"u8": 8, "u16": 16, "u32": 32, "u64": 64, "usize": 64, "u128": 128}
 CALLS = "sr qr w w sn qn sl sx qx fu po k k".split()
 STACK_CALLS = "sr sr w w x sn sx me mf po k".split()
@@ -232,20 +232,19 @@ class Maker:
         calls = [self.random.choice(STACK_CALLS) for _ in range(self.random.randint(1, 14))]
         return [name, words, *(self.call(it, count + 2, width) for it in calls)]
 
-    def of_adapter(self, kind):
+    def of_adapter(self, kind, width):
+        name = kind if width == 32 else f"{kind}/u{width}"
+        words = [self.word(width) for _ in range(self.random.randrange(8))]
         if kind == "iter":
-            items = [f"e{self.word()}" if self.one_in(4) else self.word() for _ in range(self.random.randrange(8))]
-            return [kind, self.random.randrange(10), *items]
-        if kind == "words":
-            return [kind, self.random.randrange(10), *(self.word() for _ in range(self.random.randrange(8)))]
-        if kind == "sink":
-            return [kind, self.random.randrange(8), *(self.word() for _ in range(self.random.randrange(8)))]
+            return [name, self.random.randrange(10), *(f"e{self.word()}" if self.one_in(4) else it for it in words)]
+        if kind in ("words", "sink"):
+            return [name, self.random.randrange(10), *words]
         if kind == "calls":
-            return [kind, *(self.word() for _ in range(self.random.randrange(8)))]
-        words = self.list(6)
-        count = 0 if words == "-" else words.count(",") + 1
+            return [name, *words]
+        lent = self.list(6, width)
+        count = 0 if lent == "-" else lent.count(",") + 1
         seek = [self.random.randint(0, count + 1)] if self.one_in(2) else []
-        return [kind, self.random.choice("sq"), words, self.random.randrange(8), *seek]
+        return [name, self.random.choice("sq"), lent, self.random.randrange(8), *seek]
 
     def of_words(self, name):
         width = BITS[name]
@@ -274,11 +273,11 @@ def fresh(seed, rounds):
         for form in LOOKUP:
             lookups += [make.of_weights(kind, form, 90) for kind in LOOKUPS]
             lookups += [make.of_symbols(kind, form) for kind in SYMBOL_LOOKUPS]
-        lookups += [make.of_slots(kind) for kind in ("slot", "slottable", "sprobe", "nslot", "nslottable") for _ in range(17)]
+        lookups += [make.of_slots(kind) for kind in ("slot", "slottable", "sprobe", "nslot", "nslottable") for _ in range(22)]
         for width in (8, 32, 64):
             backends += [make.of_cursor(kind, width) for kind in ("cursor", "reversed", "inner", "turned", "extend", "rextend") for _ in range(6)]
             backends += [make.of_stack(kind, width) for kind in ("vec", "smallvec") for _ in range(6)]
-        backends += [make.of_adapter(kind) for kind in ("iter", "words", "sink", "calls", "asread", "intoread") for _ in range(6)]
+            backends += [make.of_adapter(kind, width) for kind in ("iter", "words", "sink", "calls", "asread", "intoread") for _ in range(3)]
         backends += [make.of_words(name) for name in BITS for _ in range(3)]
     found = {"models": models, "symbols": symbols, "lookups": lookups, "backends": backends, "items": items}
     return {name: [" ".join(str(it) for it in line) for line in lines] for name, lines in found.items()}

@@ -1,6 +1,6 @@
 //! Sources over iterators, sinks over callbacks, and buffers as sources.
 use crate::cursors::{moved, reply_word};
-use crate::fields::{by, commas, index, said, word, Fields, Said};
+use crate::fields::{by, commas, index, said, word, Fields, Said, Word};
 use constriction::backends::{
     AsReadWords, AsSeekReadWords, BoundedReadWords, FallibleCallbackWriteWords, FallibleIteratorReadWords, InfallibleCallbackWriteWords,
     InfallibleIteratorReadWords, IntoReadWords, IntoSeekReadWords, ReadWords, WriteWords,
@@ -8,15 +8,15 @@ use constriction::backends::{
 use constriction::{Queue, Seek, Semantics, Stack, UnwrapInfallible};
 use std::convert::Infallible;
 
-pub fn answer(kind: &str, mut fields: Fields) -> Result<Said, String> {
+pub fn answer<W: Word>(kind: &str, mut fields: Fields) -> Result<Said, String> {
     match kind {
-        "iter" => items(fields),
-        "words" => words(fields),
+        "iter" => items::<W>(fields),
+        "words" => words::<W>(fields),
         "sink" => {
             let refused = fields.index()?;
-            let more = fields.words::<u32>()?;
+            let more = fields.words::<W>()?;
             let mut seen = vec![];
-            let mut sink = FallibleCallbackWriteWords::new(|word: u32| {
+            let mut sink = FallibleCallbackWriteWords::new(|word: W| {
                 seen.push(word);
                 if seen.len() == refused { Err(()) } else { Ok(()) }
             });
@@ -24,22 +24,23 @@ pub fn answer(kind: &str, mut fields: Fields) -> Result<Said, String> {
             said(format!("{end} | {}", commas(&seen)))
         }
         "calls" => {
-            let more = fields.words::<u32>()?;
+            let more = fields.words::<W>()?;
             let mut seen = vec![];
-            let mut sink = InfallibleCallbackWriteWords::new(|word: u32| seen.push(word));
+            let mut sink = InfallibleCallbackWriteWords::new(|word: W| seen.push(word));
             for word in &more {
                 sink.write(*word).unwrap_infallible();
             }
             sink.extend_from_iter(more.into_iter()).unwrap_infallible();
             said(format!("| {}", commas(&seen)))
         }
-        _ => buffers(kind, fields),
+        "asread" | "intoread" => buffers::<W>(kind, fields),
+        _ => Err("no kind of line".into()),
     }
 }
 
-fn items(mut fields: Fields) -> Result<Said, String> {
+fn items<W: Word>(mut fields: Fields) -> Result<Said, String> {
     let count = fields.index()?;
-    let items: Vec<Result<u32, u32>> = fields
+    let items: Vec<Result<W, u32>> = fields
         .rest()
         .into_iter()
         .map(|it| match it.strip_prefix('e') {
@@ -50,8 +51,8 @@ fn items(mut fields: Fields) -> Result<Said, String> {
     let mut source = FallibleIteratorReadWords::new(items);
     let mut replies = vec![];
     for _ in 0..count {
-        replies.push(format!("#{}", BoundedReadWords::<u32, Queue>::remaining(&source)));
-        replies.push(match ReadWords::<u32, Queue>::read(&mut source) {
+        replies.push(format!("#{}", BoundedReadWords::<W, Queue>::remaining(&source)));
+        replies.push(match ReadWords::<W, Queue>::read(&mut source) {
             Ok(word) => reply_word(word),
             Err(error) => format!("e{error}"),
         });
@@ -62,9 +63,9 @@ fn items(mut fields: Fields) -> Result<Said, String> {
 }
 
 /// The crate's constructor takes items that are `Result`s, though its source reads words of any type: so its words are these.
-fn words(mut fields: Fields) -> Result<Said, String> {
+fn words<W: Word>(mut fields: Fields) -> Result<Said, String> {
     let count = fields.index()?;
-    let given: Vec<Result<u32, Infallible>> = fields.words::<u32>()?.into_iter().map(Ok).collect();
+    let given: Vec<Result<W, Infallible>> = fields.words::<W>()?.into_iter().map(Ok).collect();
     let mut source = InfallibleIteratorReadWords::new(given);
     let mut replies = vec![];
     for turn in 0..count {
@@ -72,19 +73,19 @@ fn words(mut fields: Fields) -> Result<Said, String> {
         let read = if turn % 2 == 0 { ReadWords::<_, Stack>::read(&mut source) } else { ReadWords::<_, Queue>::read(&mut source) };
         replies.push(reply_word(read.unwrap_infallible().map(UnwrapInfallible::unwrap_infallible)));
     }
-    let left: Vec<u32> = source.into_iter().map(UnwrapInfallible::unwrap_infallible).collect();
+    let left: Vec<W> = source.into_iter().map(UnwrapInfallible::unwrap_infallible).collect();
     replies.push(format!("| {}", commas(&left)));
     by("items that are words", replies.join(" "))
 }
 
-fn reads<S: Semantics>(source: &mut impl ReadWords<u32, S, ReadError = Infallible>, count: usize) -> Vec<String> {
+fn reads<W: Word, S: Semantics>(source: &mut impl ReadWords<W, S, ReadError = Infallible>, count: usize) -> Vec<String> {
     (0..count).map(|_| reply_word(source.read().unwrap_infallible())).collect()
 }
 
 /// `asread` and `intoread`.
-fn buffers(kind: &str, mut fields: Fields) -> Result<Said, String> {
+fn buffers<W: Word>(kind: &str, mut fields: Fields) -> Result<Said, String> {
     let order = fields.word()?;
-    let buf = fields.list::<u32>()?;
+    let buf = fields.list::<W>()?;
     let count = fields.index()?;
     let to = fields.rest().first().map(|it| index(it)).transpose()?;
     let mut replies = vec![];
@@ -92,17 +93,17 @@ fn buffers(kind: &str, mut fields: Fields) -> Result<Said, String> {
     macro_rules! read {
         ($order:ty) => {
             match (lends, to) {
-                (true, None) => replies.extend(reads::<$order>(&mut AsReadWords::<u32, $order>::as_read_words(&buf), count)),
-                (false, None) => replies.extend(reads::<$order>(&mut IntoReadWords::<u32, $order>::into_read_words(buf.clone()), count)),
+                (true, None) => replies.extend(reads::<W, $order>(&mut AsReadWords::<W, $order>::as_read_words(&buf), count)),
+                (false, None) => replies.extend(reads::<W, $order>(&mut IntoReadWords::<W, $order>::into_read_words(buf.clone()), count)),
                 (true, Some(to)) => {
-                    let mut source = AsSeekReadWords::<u32, $order>::as_seek_read_words(&buf);
+                    let mut source = AsSeekReadWords::<W, $order>::as_seek_read_words(&buf);
                     replies.push(moved(source.seek(to)));
-                    replies.extend(reads::<$order>(&mut source, count));
+                    replies.extend(reads::<W, $order>(&mut source, count));
                 }
                 (false, Some(to)) => {
-                    let mut source = IntoSeekReadWords::<u32, $order>::into_seek_read_words(buf.clone());
+                    let mut source = IntoSeekReadWords::<W, $order>::into_seek_read_words(buf.clone());
                     replies.push(moved(source.seek(to)));
-                    replies.extend(reads::<$order>(&mut source, count));
+                    replies.extend(reads::<W, $order>(&mut source, count));
                 }
             }
         };
