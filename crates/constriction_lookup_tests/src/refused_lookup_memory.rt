@@ -35,7 +35,7 @@ fn a_refusal_of_memory_leaves_no_contiguous_model(rt: HostRuntime) {
     let weights = WEIGHTS.iter().copied().filter(|weight| *weight > 0);
     let made = Contiguous::from_nonzero_fixed_point_probabilities(rt.alloc(), weights, false);
     if let Ok(model) = &made {
-        let _clone = model.clone();
+        let _clone: Result<_, _> = model.clone();
     }
     same(&rt, is_made_or_refused(&made), true);
     end_of_requests(&rt);
@@ -51,7 +51,7 @@ fn a_refusal_of_memory_leaves_no_model_of_letters(rt: HostRuntime) {
         false,
     );
     if let Ok(model) = &made {
-        let _clone = model.clone();
+        let _clone: Result<_, _> = model.clone();
     }
     same(&rt, is_made_or_refused(&made), true);
     end_of_requests(&rt);

@@ -22,7 +22,7 @@ fn grown_contiguous(alloc: Global) -> Result<Table<6>, ModelError> {
 fn a_refusal_of_memory_leaves_no_contiguous_model(rt: HostRuntime) {
     let made = grown_contiguous(rt.alloc());
     if let Ok(model) = &made {
-        let _clone = model.clone();
+        let _clone: Result<_, _> = model.clone();
     }
     same(&rt, is_made_or_refused(&made), true);
     end_of_requests(&rt);
@@ -38,7 +38,7 @@ fn a_refusal_of_memory_leaves_no_decoder(rt: HostRuntime) {
         false,
     );
     if let Ok(model) = &made {
-        let _clone = model.clone();
+        let _clone: Result<_, _> = model.clone();
     }
     same(&rt, is_made_or_refused(&made), true);
     end_of_requests(&rt);
@@ -54,7 +54,7 @@ fn a_refusal_of_memory_leaves_no_encoder(rt: HostRuntime) {
         false,
     );
     if let Ok(model) = &made {
-        let _clone = model.clone();
+        let _clone: Result<_, _> = model.clone();
     }
     same(&rt, is_made_or_refused(&made), true);
     end_of_requests(&rt);
