@@ -35,7 +35,7 @@ module _ {Model : Type 0} (precision : ℕ) (rows : Model → List (Row ℕ)) (m
 pub unreachable-requires-in-None : goal.unreachable-requires-in-None
 unreachable-requires-in-None c =
     no-entry 6 _ c.args.model.now c.args.quantile _ c.pairs_are_quantiles.ensures (c.contiguous_symbols_differ.ensures _)
-    (the-row _ _ _ _ _ _ c.in-Ok.ensures.row.1 c.in-Ok.ensures.row.2) c.in-None.ensures
+    (the-row _ _ _ _ _ _ c.in-Ok.ensures.row.1 c.in-Ok.ensures.row.2) c.in-None.ensures.entry
 
 pub returns : goal.returns
 returns c =
@@ -43,7 +43,7 @@ returns c =
       arith,
       c.in-Ok.ensures.row.2.from,
       same-left 6 _ c.args.model.now c.args.quantile _ c.pairs_are_quantiles.ensures (c.contiguous_symbols_differ.ensures _)
-          (the-row _ _ _ _ _ _ c.in-Ok.ensures.row.1 c.in-Ok.ensures.row.2) _ _ c.in-Some.ensures,
+          (the-row _ _ _ _ _ _ c.in-Ok.ensures.row.1 c.in-Ok.ensures.row.2) _ _ c.in-Some.ensures.entry,
     )
 
 pub overflow_add-result : goal.overflow_add-result
@@ -53,5 +53,5 @@ overflow_add-result c =
       c.ranges.quantile,
       c.in-Ok.ensures.row.2.from,
       same-left 6 _ c.args.model.now c.args.quantile _ c.pairs_are_quantiles.ensures (c.contiguous_symbols_differ.ensures _)
-          (the-row _ _ _ _ _ _ c.in-Ok.ensures.row.1 c.in-Ok.ensures.row.2) _ _ c.in-Some.ensures,
+          (the-row _ _ _ _ _ _ c.in-Ok.ensures.row.1 c.in-Ok.ensures.row.2) _ _ c.in-Some.ensures.entry,
     )
