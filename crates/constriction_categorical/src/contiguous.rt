@@ -7,6 +7,7 @@ ghost use Rattle.std.specs.Cmp.{nat_eq_equiv};
 ghost use Rattle.constriction_model.specs.Precision.{IsPrecision};
 ghost use Rattle.constriction_model.specs.Probe.{IsProbeFor};
 ghost use Rattle.constriction_model.specs.Rows.{contiguous_rows};
+ghost use Rattle.constriction_stored_rows.specs.QuestionLemmas.{all-in-question, none-most};
 ghost use Rattle.constriction_stored_rows.specs.Stored.{IsTable, lefts_in, weights_of};
 ghost use Rattle.constriction_stored_rows.specs.StoredRowLemmas.{stored-within, stored-tiles};
 ghost use Rattle.constriction_stored_rows.specs.Stored.{rows_stored};
@@ -231,7 +232,7 @@ impl<Probability: WholeNumber, Cdf: SafeBuf<Probability>, const PRECISION: usize
 > for ContiguousCategoricalEntropyModel<Probability, Cdf, PRECISION> {
     ghost rows_in_question = { λ m q. length (⟦<Self as EntropyModel<PRECISION>>⟧.rows m) };
 
-    /// The row of a quantile, by [`row_in_entries`], and how many rows that asked for. It takes no memory and
+    /// The row of a quantile, by [`row_in_entries`], and how often that compared it. It takes no memory and
     /// always succeeds.
     #[inline(always)]
     fn counted_quantile_function(
@@ -242,6 +243,10 @@ impl<Probability: WholeNumber, Cdf: SafeBuf<Probability>, const PRECISION: usize
         let row = contiguous_row_at::<Probability, PRECISION>(self.cdf.words(), index);
         Ok((row, asked))
     }
+
+    ghost question_law = { λ m. all-in-question _ _ _ (stored-tiles _ _ _ m.stored.stored) };
+
+    ghost least_law = { λ m. none-most };
 }
 
 impl<

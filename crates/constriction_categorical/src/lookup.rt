@@ -1,8 +1,9 @@
 //! Models that look up where to search for the row of a quantile.
 
-ghost use Rattle.std.specs.Prelude.{◌≡◌, ◌/◌, ◌-◌, ◌*◌, ◌^◌, ◌<◌, ◌≤◌, length, map, min, take, drop, count_by, IsTrue, IfOk, IfErr};
+ghost use Rattle.std.specs.Prelude.{◌≡◌, ◌/◌, ◌-◌, ◌*◌, ◌^◌, ◌<◌, ◌≤◌, length, map, max, min, take, drop, count_by, IsTrue, IfOk, IfErr};
 ghost use Rattle.constriction_model.specs.Probe.{digits, IsProbeFor, IsRowIndexOf};
-ghost use Rattle.constriction_stored_rows.specs.Slots.{meets_slot, slot_width};
+ghost use Rattle.constriction_stored_rows.specs.QuestionLemmas.{least-most, met-in-question};
+ghost use Rattle.constriction_stored_rows.specs.Slots.{least_in_slots, meets_slot, slot_width};
 ghost use Rattle.constriction_stored_rows.specs.SlotTable.{BeginsWithSlots, HasSlots, MayFollow};
 
 use crate::stores_rows::{AnswersRows, OfAnySymbols, OfNumbers, StoresRows};
@@ -158,16 +159,15 @@ where
         )
     }
 
-    /// The index of a quantile's row, and how many of the rows that meet its slot were compared with the quantile.
+    /// The index of a quantile's row, and how often the quantile was compared with where a row begins.
     #[inline(always)]
     fn row_index(&self, quantile: Model::Probability) -> (usize, usize)
         requires { Model.Probability.whole quantile < 2 ^ PRECISION }
         ensures index { IsRowIndexOf (Model.rows self.now.model) (Model.Probability.whole quantile) result.0 }
         ensures few { result.1 ≤ digits (length (Model.rows self.now.model) - 1) }
-        ensures among { result.1 ≤ digits (count_by (meets_slot (slot_width PRECISION SLOT_BITS)
-            (Model.Probability.whole quantile / slot_width PRECISION SLOT_BITS)) (Model.rows self.now.model) - 1) }
-        ensures some { 1 < count_by (meets_slot (slot_width PRECISION SLOT_BITS)
-            (Model.Probability.whole quantile / slot_width PRECISION SLOT_BITS)) (Model.rows self.now.model) → 0 < result.1 }
+        ensures counted { result.1 ≡ max (least_in_slots PRECISION SLOT_BITS (length (Model.rows self.now.model)))
+            (digits (count_by (meets_slot (slot_width PRECISION SLOT_BITS)
+            (Model.Probability.whole quantile / slot_width PRECISION SLOT_BITS)) (Model.rows self.now.model) - 1)) }
     {
         row_in_slot::<Model::Entry, Model::Kind, PRECISION, SLOT_BITS>(
             self.model.entries(),
@@ -219,8 +219,11 @@ where
     ghost rows_in_question = { λ m q. count_by
         (meets_slot (slot_width PRECISION SLOT_BITS) (q / slot_width PRECISION SLOT_BITS)) (Model.rows m.model) };
 
-    /// The row of a quantile, and how many of the rows that meet its slot were compared with it: none where one
-    /// does, one of two, two of three, and of more as many as a search of these asks for.
+    ghost least_compared = { λ m. least_in_slots PRECISION SLOT_BITS (length (Model.rows m.model)) };
+
+    /// The row of a quantile, and how often it was compared with where a row begins. Where a slot holds one quantile
+    /// that is never. A model of at most two rows, or of at most a sixteenth as many rows as there are slots, searches
+    /// the rows that meet the slot. Any other makes two comparisons where up to three rows meet it, and searches more.
     #[inline(always)]
     fn counted_quantile_function(
         &self,
@@ -242,6 +245,10 @@ where
             Err(refused) => Err(refused),
         }
     }
+
+    ghost question_law = { λ m. met-in-question _ _ _ (Model.rows m.model) (Model.tile_law m.model) };
+
+    ghost least_law = { λ m. least-most PRECISION SLOT_BITS (length (Model.rows m.model)) };
 }
 
 impl<Model, LookupTable, const PRECISION: usize, const SLOT_BITS: usize> LookupDecoderModel<

@@ -9,6 +9,7 @@ ghost use Rattle.constriction_model.specs.Model.{StandForRows, ClonesAreEqual};
 ghost use Rattle.constriction_model.specs.Precision.{IsPrecision};
 ghost use Rattle.constriction_model.specs.Probe.{IsProbeFor};
 ghost use Rattle.constriction_model.specs.Rows.{rows_of};
+ghost use Rattle.constriction_stored_rows.specs.QuestionLemmas.{all-in-question, none-most};
 ghost use Rattle.constriction_stored_rows.specs.Stored.{IsStored, ends_of, rows_paired};
 ghost use Rattle.constriction_stored_rows.specs.SymbolRowLemmas.{paired-tiles};
 ghost use Rattle.constriction_model.specs.Tables.{rows_between};
@@ -334,7 +335,7 @@ impl<
     for NonContiguousCategoricalDecoderModel<Symbol, Probability, Cdf, PRECISION> {
     ghost rows_in_question = { λ m q. length (⟦<Self as EntropyModel<PRECISION>>⟧.rows m) };
 
-    /// The row of a quantile, by [`row_in_entries`], with a clone of its symbol, and how many rows that asked for.
+    /// The row of a quantile, by [`row_in_entries`], with a clone of its symbol, and how often that compared it.
     #[inline(always)]
     fn counted_quantile_function(
         &self,
@@ -347,6 +348,10 @@ impl<
             Err(refused) => Err(refused),
         }
     }
+
+    ghost question_law = { λ m. all-in-question _ _ _ (paired-tiles Probability.whole _ _ _ m.stored) };
+
+    ghost least_law = { λ m. none-most };
 }
 
 impl<

@@ -28,6 +28,13 @@ digits_step n h =
     let less : (n - 1) / 2 ≡ (n - n / 2) - 1 = omega arith in
     digits-half (n - 1) (omega arith) ∙ ap (λ k. 1 + digits k) less
 
+-- up to one
+digits-small : (n : ℕ) → n ≤ 1 → digits n ≡ n
+digits-small zero h = digits-zero
+digits-small (suc n) h =
+    let half : suc n / 2 ≡ 0 = omega (arith, h) in
+    omega (arith, digits-half (suc n) (omega arith), ap digits half, digits-zero)
+
 pub digits_some : (n : ℕ) → 0 < n → 0 < digits n
 digits_some n h = omega (arith, digits-half n h)
 
@@ -39,9 +46,6 @@ digits_most (suc d) (suc n) h = omega (arith, digits-half (suc n) (omega arith),
 -- a list that a word can count has at most 64 digits
 pub digits_word : (n : ℕ) → n < 2 ^ 64 → digits (n - 1) ≤ 64
 digits_word n h = digits_most 64 (n - 1) (omega arith)
-
-pub digits_more : (n : ℕ) → 1 < n → 0 < digits (n - 1)
-digits_more n h = digits_some (n - 1) (omega arith)
 
 digits_in-more : (f m n : ℕ) → m ≤ n → digits_in f m ≤ digits_in f n
 digits_in-more zero m n h = omega arith
@@ -55,7 +59,11 @@ unfolding digits
 digits_grow m n h = omega (arith, digits_in-same m n m (omega arith) h, digits_in-more n m n h)
 
 -- up to two, a number has as many digits as it says
-pub digits_few : (n : ℕ) → n ≤ 2 → n ≤ digits n
-digits_few zero h = omega arith
-digits_few (suc zero) h = omega (arith, digits_some 1 (omega arith))
-digits_few (suc (suc n)) h = omega (arith, digits-half (suc (suc n)) (omega arith), digits_some (suc (suc n) / 2) (omega arith))
+pub digits_few : (n : ℕ) → n ≤ 2 → digits n ≡ n
+digits_few zero h = digits-zero
+digits_few (suc n) h =
+    omega (arith, digits-half (suc n) (omega arith), digits-small (suc n / 2) (omega arith))
+
+-- one less than two rows, or than one, or than none
+pub digits_two : (n : ℕ) → n ≤ 2 → digits (n - 1) ≡ n - 1
+digits_two n h = digits_few (n - 1) (omega arith)

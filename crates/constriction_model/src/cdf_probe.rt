@@ -112,8 +112,7 @@ pub fn row_in_entries<Entry, Kind: CdfEntry<Entry>>(
 ) -> (usize, usize)
     requires { IsSearchable (map Kind.cumulative entries.now) (Kind.Word.whole q) }
     ensures found { IsLastAtMost (map Kind.cumulative entries.now) (Kind.Word.whole q) result.0 }
-    ensures few { result.1 ≤ digits (length entries.now - 1) }
-    ensures some { 1 < length entries.now → 0 < result.1 }
+    ensures counted { result.1 ≡ digits (length entries.now - 1) }
 {
     if entries.len() <= 2 {
         let mut rows = CdfProbe::<Entry, Kind>::new(entries);
@@ -128,8 +127,7 @@ pub fn row_in_entries<Entry, Kind: CdfEntry<Entry>>(
 fn searched<Entry, Kind: CdfEntry<Entry>>(entries: &[Entry], q: Kind::Word) -> (usize, usize)
     requires { IsSearchable (map Kind.cumulative entries.now) (Kind.Word.whole q) }
     ensures found { IsLastAtMost (map Kind.cumulative entries.now) (Kind.Word.whole q) result.0 }
-    ensures few { result.1 ≤ digits (length entries.now - 1) }
-    ensures some { 1 < length entries.now → 0 < result.1 }
+    ensures counted { result.1 ≡ digits (length entries.now - 1) }
 {
     let mut rows = CdfProbe::<Entry, Kind>::new(entries);
     let index = row_of_quantile(&mut rows, q);

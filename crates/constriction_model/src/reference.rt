@@ -46,10 +46,16 @@ impl<M: DecoderModel<PRECISION>, const PRECISION: usize> DecoderModel<PRECISION>
 impl<M: SearchingModel<PRECISION>, const PRECISION: usize> SearchingModel<PRECISION> for &M {
     ghost rows_in_question = { λ m. M.rows_in_question m.now };
 
+    ghost least_compared = { λ m. M.least_compared m.now };
+
     fn counted_quantile_function(
         &self,
         quantile: M::Probability,
     ) -> Result<((M::Symbol, M::Probability, Weight<M::Probability>), usize), AllocError> {
         (**self).counted_quantile_function(quantile)
     }
+
+    ghost question_law = { λ m. M.question_law m.now };
+
+    ghost least_law = { λ m. M.least_law m.now };
 }

@@ -68,15 +68,14 @@ fn sixteenth<R: Probe>(rows: &mut R, q: R::Word, first: usize, size: usize) -> (
 /// The greatest index whose cumulative is at most `q`, of at most two: the answer to one question, as a number. A choice
 /// between two rows is compiled to a jump, which the processor has to guess.
 #[inline(always)]
-#[tactic(auto, using(crate::proofs::Digits::digits_more))]
+#[tactic(auto, using(crate::proofs::Digits::digits_two))]
 pub(crate) fn row_of_two<R: Probe>(rows: &mut R, q: R::Word) -> usize
     requires searchable { IsSearchable (R.cumulatives rows.old) (R.number q) }
     requires two { length (R.cumulatives rows.old) ≤ 2 }
     requires room { R.questions rows.old ≤ usize.MAX - 64 }
     ensures found { IsLastAtMost (R.cumulatives rows.old) (R.number q) result }
     ensures same { R.cumulatives rows.new ≡ R.cumulatives rows.old }
-    ensures few { R.questions rows.new ≤ R.questions rows.old + digits (length (R.cumulatives rows.old) - 1) }
-    ensures some { 1 < length (R.cumulatives rows.old) → R.questions rows.old < R.questions rows.new }
+    ensures counted { R.questions rows.new ≡ R.questions rows.old + digits (length (R.cumulatives rows.old) - 1) }
 {
     if rows.len() < 2 {
         return 0;
@@ -86,17 +85,16 @@ pub(crate) fn row_of_two<R: Probe>(rows: &mut R, q: R::Word) -> usize
 
 /// The greatest index whose cumulative is at most `q`.
 ///
-/// The search halves the rows that are left until one is left, so it asks at most as many
-/// questions as one less than the number of rows has binary digits.
-#[tactic(auto, using(crate::proofs::Digits::digits_word, crate::proofs::Digits::digits_more, crate::proofs::Halving::narrowed_one, crate::proofs::Halving::narrowed_all))]
+/// The search halves the rows that are left until one is left, so it asks as many questions as one less than
+/// the number of rows has binary digits, whatever `q` is.
+#[tactic(auto, using(crate::proofs::Digits::digits_word, crate::proofs::Halving::narrowed_one, crate::proofs::Halving::narrowed_all))]
 #[inline(always)]
 pub fn row_of_quantile<R: Probe>(rows: &mut R, q: R::Word) -> usize
     requires searchable { IsSearchable (R.cumulatives rows.old) (R.number q) }
     requires room { R.questions rows.old ≤ usize.MAX - 64 }
     ensures found { IsLastAtMost (R.cumulatives rows.old) (R.number q) result }
     ensures same { R.cumulatives rows.new ≡ R.cumulatives rows.old }
-    ensures few { R.questions rows.new ≤ R.questions rows.old + digits (length (R.cumulatives rows.old) - 1) }
-    ensures some { 1 < length (R.cumulatives rows.old) → R.questions rows.old < R.questions rows.new }
+    ensures counted { R.questions rows.new ≡ R.questions rows.old + digits (length (R.cumulatives rows.old) - 1) }
 {
     let all = rows.len();
     if all <= 2 {

@@ -1,6 +1,6 @@
 //! The traits of models: what a model tells, and what it answers in each direction.
 
-ghost use Rattle.std.specs.Prelude.{◌≡◌, ◌-◌, ◌^◌, ◌<◌, ◌≤◌, ℕ, Bool, List, length, All, IfOk, IfErr, IfSome};
+ghost use Rattle.std.specs.Prelude.{◌≡◌, ◌-◌, ◌^◌, ◌<◌, ◌≤◌, ℕ, max, Bool, List, length, All, IfOk, IfErr, IfSome};
 ghost use Rattle.std.specs.Cmp.{IsEquivalence};
 ghost use Rattle.std.specs.Option.{option_map};
 ghost use Rattle.constriction_model.specs.Rows.{Row, RowsTile, entry_of};
@@ -90,9 +90,13 @@ pub trait SearchingModel<const PRECISION: usize>: DecoderModel<PRECISION> {
     // How many rows are in question for a quantile: all of them, or of a model with a table of slots those that meet the quantile's slot.
     ghost rows_in_question: { Self → ℕ → ℕ };
 
-    /// The row of a quantile, as [`quantile_function`](DecoderModel::quantile_function) answers it, and how many of
-    /// the rows in question were compared with the quantile. The first of these is never counted: it begins at the
-    /// quantile or below it, whatever the quantile is, so that a comparison with it tells nothing.
+    // How many comparisons a look-up makes at least, however few rows are in question. None, where an implementer says nothing else.
+    ghost least_compared: { Self → ℕ } = { λ m. 0 };
+
+    /// The row of a quantile, as [`quantile_function`](DecoderModel::quantile_function) answers it, and how many
+    /// times the quantile was compared with where a row begins. A search of the rows in question makes as many
+    /// comparisons as one less than their number has binary digits. A model with a table may make two without a jump
+    /// where fewer would do; it never makes more than a search of all rows.
     fn counted_quantile_function(
         &self,
         quantile: Self::Probability,
@@ -109,10 +113,15 @@ pub trait SearchingModel<const PRECISION: usize>: DecoderModel<PRECISION> {
         ensures within { IfOk result (λ x. LiesWithin PRECISION
             (row_of Self.Probability.whole Self.Probability.base x.0)) }
         ensures few { IfOk result (λ x. x.1 ≤ digits (length (Self.rows self.now) - 1)) }
-        ensures among { IfOk result (λ x. x.1
-            ≤ digits (rows_in_question self.now (Self.Probability.whole quantile) - 1)) }
-        ensures some { IfOk result (λ x. 1 < rows_in_question self.now (Self.Probability.whole quantile)
-            → 0 < x.1) }
+        ensures counted { IfOk result (λ x. x.1 ≡ max (least_compared self.now)
+            (digits (rows_in_question self.now (Self.Probability.whole quantile) - 1))) }
         ensures refused { IfErr result (λ _. RowMayBeRefused Self.may_refuse (Self.rows self.now)
             (Self.Probability.whole quantile)) };
+
+    // One row at least is in question, and no more than there are.
+    ghost question_law: { (m : Self) (q : ℕ) → q < 2 ^ PRECISION
+        → (0 < rows_in_question m q) × (rows_in_question m q ≤ length (Self.rows m)) };
+
+    // At most two comparisons are made where fewer would do.
+    ghost least_law: { (m : Self) → least_compared m ≤ 2 };
 }

@@ -1,18 +1,19 @@
 -- How many rows meet a slot, and how few of them are compared.
 use Rattle.std.specs.Prelude.{count_by}
-use Rattle.std.proofs.Common.{◌≡◌, Bool, true, ℕ, zero, suc, ◌+◌, ◌-◌, ◌*◌, ◌/◌, ◌^◌, ◌<◌, ◌≤◌, List, length, get_or, map, take, drop, ap, sym, ◌∙◌, refl, arith, inl, inr, true≢false}
+use Rattle.std.proofs.Common.{◌≡◌, Bool, true, ℕ, zero, suc, ◌+◌, ◌-◌, ◌*◌, ◌/◌, ◌^◌, ◌<◌, ◌≤◌, max, List, length, get_or, map, take, drop, ap, sym, ◌∙◌, refl, arith, inl, inr, true≢false}
 use Rattle.std.proofs.lemmas.Bool.{cases_lt, cases_Bool, lt-ltb, ltb-true, and_parts, and_from}
 use Rattle.std.proofs.lemmas.List.Sums.{count_by_more_yes, count_by_more_no}
 use Rattle.std.proofs.lemmas.Nat.{pow_pos}
 use Rattle.constriction_model.specs.Probe.{digits}
 use Rattle.constriction_model.specs.Searching.{TellsRows}
 use Rattle.constriction_model.specs.Rows.{Row, RowsTile}
-use Rattle.constriction_model.proofs.Digits.{digits_grow}
-use Rattle.constriction_stored_rows.specs.Slots.{meets_slot, slot_width, slot_count}
+use Rattle.constriction_model.proofs.Digits.{digits_few, digits_grow}
+use Rattle.constriction_stored_rows.specs.QuestionLemmas.{least-most}
+use Rattle.constriction_stored_rows.specs.Slots.{least_in_slots, meets_slot, slot_width, slot_count}
 use Rattle.constriction_stored_rows.specs.SlotTable.{IsSlot, IsSlotSearch}
 use Rattle.constriction_stored_rows.specs.StoredLemmas.{take-length}
 use Rattle.constriction_stored_rows.proofs.SlotFilling.{slot-below}
-use Rattle.constriction_stored_rows.proofs.SlotLemmas.{MeetsSlot, slot-long, slot-order, slot-part, slot-tells}
+use Rattle.constriction_stored_rows.proofs.SlotLemmas.{MeetsSlot, least-none, slot-long, slot-order, slot-part, slot-tells}
 use Rattle.constriction_stored_rows.proofs.TileLemmas.{tile-at, tiles-many}
 
 -- what the test says of rows that meet a slot, and of rows that do not
@@ -85,6 +86,15 @@ module _ {X : Type 0} (p : X → Bool) (xs : List X) (d : X) (from to : ℕ) (or
       let whole : count_by p (take (length xs) xs) ≡ count_by p xs = ap (count_by p) (take-length xs) in
       omega (arith, all, whole)
 
+-- a look-up makes none or two comparisons at least, and these only where a search of all rows makes no less
+pub least-few : (precision slot_bits rows : ℕ) → least_in_slots precision slot_bits rows ≤ digits (rows - 1)
+least-few precision slot_bits rows = elim (cases_lt (max (slot_count precision slot_bits / 16) 2) rows) [
+  | inl more ↦
+      let two : digits 2 ≡ 2 = digits_few 2 (omega arith) in
+      omega (arith, least-most precision slot_bits rows, two, digits_grow 2 (rows - 1) (omega (arith, more)))
+  | inr few ↦ omega (arith, least-none precision slot_bits rows few)
+]
+
 module _ {S : Type 0} (bits precision slot_bits : ℕ) (rows : List (Row S)) (t : RowsTile bits precision rows) where
   -- what is told of the rows in which a quantile of the slot lies, is told of those that the test finds
   pub tells-tested : (j first : ℕ) (told : List ℕ) → TellsRows rows (MeetsSlot (slot_width precision slot_bits) j) first told
@@ -124,12 +134,13 @@ module _ {S : Type 0} (bits precision slot_bits : ℕ) (rows : List (Row S)) (t 
       (run.0, omega (arith, run.1, end)))
       ∙ omega (arith, ordered)
 
-  -- what the look-up of a quantile compares is few
+  -- how often the look-up of a quantile compares it, and that a search of all rows compares no less often
   pub slot-compared : (q compared : ℕ) (lefts : List ℕ) (d : Row S) → lefts ≡ map (λ r. r.left) rows → q < 2 ^ precision
-      → IsSlotSearch lefts (slot_width precision slot_bits) (q / slot_width precision slot_bits) compared
+      → IsSlotSearch lefts (slot_width precision slot_bits) (q / slot_width precision slot_bits)
+      (least_in_slots precision slot_bits (length rows)) compared
       → (compared ≤ digits (length rows - 1))
-      × (compared ≤ digits (count_by (meets_slot (slot_width precision slot_bits) (q / slot_width precision slot_bits)) rows - 1))
-      × (1 < count_by (meets_slot (slot_width precision slot_bits) (q / slot_width precision slot_bits)) rows → 0 < compared)
+      × (compared ≡ max (least_in_slots precision slot_bits (length rows))
+      (digits (count_by (meets_slot (slot_width precision slot_bits) (q / slot_width precision slot_bits)) rows - 1)))
   slot-compared q compared lefts d e below search =
       let width : ℕ = slot_width precision slot_bits in
       let slot : ℕ = q / width in
@@ -138,7 +149,11 @@ module _ {S : Type 0} (bits precision slot_bits : ℕ) (rows : List (Row S)) (t 
       let many = tiles-many bits precision rows t in
       let one-less : digits (count_by (meets_slot width slot) rows - 1) ≡ digits (search.last - search.first) =
       ap digits (omega (arith, met)) in (
-        omega (arith, search.few, digits_grow (search.last - search.first) (length rows - 1) (omega (arith, many, s.to.in_bounds))),
-        omega (arith, search.few, one-less),
-        (λ more. search.some (omega (arith, met))),
+        omega (
+          arith,
+          search.counted,
+          least-few precision slot_bits (length rows),
+          digits_grow (search.last - search.first) (length rows - 1) (omega (arith, many, s.to.in_bounds)),
+        ),
+        rw one-less search.counted,
       )

@@ -2,8 +2,8 @@
 
 ghost use Rattle.std.specs.Prelude.{◌≡◌, ◌+◌, ◌++◌, ◌-◌, ◌*◌, ◌/◌, ◌^◌, ◌<◌, ◌≤◌, ℕ, length, map, take, drop, replicate, slice_index, IfOk, vec_capacity, vec_len};
 ghost use Rattle.std.specs.List.Sorted.{IsStrictlyIncreasing};
-ghost use Rattle.constriction_model.specs.Probe.{IsLastAtMost, IsSearchable};
-ghost use Rattle.constriction_stored_rows.specs.Slots.{slot_count, slot_width};
+ghost use Rattle.constriction_model.specs.Probe.{digits, IsLastAtMost, IsSearchable};
+ghost use Rattle.constriction_stored_rows.specs.Slots.{least_in_slots, slot_count, slot_width};
 ghost use Rattle.constriction_stored_rows.specs.SlotTable.{words_a_slot, BeginsWithSlots, HasSlots, IsFirstWord, IsSlot, IsSlotPart, IsSlotSearch};
 
 use crate::ends::with_ends;
@@ -223,22 +223,21 @@ fn row_of_few<Entry, Kind: CdfEntry<Entry>, const PRECISION: usize, const SLOT_B
         (Kind.Word.whole quantile / slot_width PRECISION SLOT_BITS) first last }
     requires order { first ≤ last }
     requires few { last ≤ first + 2 }
-    ensures found { IsLastAtMost (map Kind.cumulative entries.now) (Kind.Word.whole quantile) result }
-    ensures counted { IsSlotSearch (map Kind.cumulative entries.now) (slot_width PRECISION SLOT_BITS)
-        (Kind.Word.whole quantile / slot_width PRECISION SLOT_BITS) (last - first) }
+    ensures { IsLastAtMost (map Kind.cumulative entries.now) (Kind.Word.whole quantile) result }
 {
     let middle = first + (last - first) / 2;
     last - (above::<Entry, Kind>(entries, last, quantile)
         + above::<Entry, Kind>(entries, middle, quantile))
 }
 
-/// The last row that begins at a quantile or below it, among the rows that meet its slot, and how many of these,
-/// other than the first one, were compared with the quantile: the only row where a slot holds one quantile, else by two
-/// comparisons without a jump where at most three rows meet the slot, and by a search where more do.
+/// The last row that begins at a quantile or below it, among the rows that meet its slot, and how often the quantile
+/// was compared with where a row begins: never where a slot holds one quantile, else by two comparisons without a jump
+/// where at most three rows meet the slot, and by a search where more do.
 ///
 /// Of a model of few rows, one row alone meets nearly all slots, and is found by no comparison. That is a jump, which is
-/// guessed right for 15 of 16 quantiles at least, if these are spread evenly; the rest is out of line, so that a loop is
-/// compiled twice over, and tests the number of rows once.
+/// guessed right for 15 of 16 quantiles at least, if these are spread evenly. All else of such a model is out of line: a
+/// loop then has one body for models of few rows and one for others, and chooses between them once. A model of one or
+/// two rows is one of few rows, whatever its slots are: two comparisons would be more than a search of it makes.
 #[inline(always)]
 pub fn row_in_slot<Entry, Kind: CdfEntry<Entry>, const PRECISION: usize, const SLOT_BITS: usize>(
     entries: &[Entry],
@@ -252,13 +251,14 @@ pub fn row_in_slot<Entry, Kind: CdfEntry<Entry>, const PRECISION: usize, const S
     requires below { Kind.Word.whole quantile < 2 ^ PRECISION }
     ensures found { IsLastAtMost (map Kind.cumulative entries.now) (Kind.Word.whole quantile) result.0 }
     ensures counted { IsSlotSearch (map Kind.cumulative entries.now) (slot_width PRECISION SLOT_BITS)
-        (Kind.Word.whole quantile / slot_width PRECISION SLOT_BITS) result.1 }
+        (Kind.Word.whole quantile / slot_width PRECISION SLOT_BITS) (least_in_slots PRECISION SLOT_BITS
+        (length (map Kind.cumulative entries.now))) result.1 }
 {
     let (first, last) = rows_of_slot::<Entry, Kind, PRECISION, SLOT_BITS>(entries, table, quantile);
     if width_of_slots::<PRECISION, SLOT_BITS>() == 1 {
         return (first, 0);
     }
-    if entries.len() <= number_of_slots::<PRECISION, SLOT_BITS>() / 16 {
+    if entries.len() <= (number_of_slots::<PRECISION, SLOT_BITS>() / 16).max(2) {
         if first == last {
             return (first, 0);
         }
@@ -266,7 +266,7 @@ pub fn row_in_slot<Entry, Kind: CdfEntry<Entry>, const PRECISION: usize, const S
     }
     if last - first <= 2 {
         let row = row_of_few::<Entry, Kind, PRECISION, SLOT_BITS>(entries, first, last, quantile);
-        return (row, last - first);
+        return (row, 2);
     }
     row_among::<Entry, Kind, PRECISION, SLOT_BITS>(entries, first, last, quantile)
 }
@@ -285,8 +285,7 @@ fn row_among<Entry, Kind: CdfEntry<Entry>, const PRECISION: usize, const SLOT_BI
         (Kind.Word.whole quantile / slot_width PRECISION SLOT_BITS) first last }
     requires order { first ≤ last }
     ensures found { IsLastAtMost (map Kind.cumulative entries.now) (Kind.Word.whole quantile) result.0 }
-    ensures counted { IsSlotSearch (map Kind.cumulative entries.now) (slot_width PRECISION SLOT_BITS)
-        (Kind.Word.whole quantile / slot_width PRECISION SLOT_BITS) result.1 }
+    ensures counted { result.1 ≡ digits (last - first) }
 {
     let mut rows = probe_of::<Entry, Kind>(entries, first, last);
     let row = first + row_of_quantile(&mut rows, quantile);

@@ -38,13 +38,7 @@ returns g c =
       found =
           part-found lefts c.requires.increases width (q / width) first _ part q c.row_of_quantile.result
           (slot-to g.row.PRECISION g.row.SLOT_BITS q) asked.found;
-      counted = record {
-        first = first;
-        last = last;
-        rows = c.requires.slot;
-        few = omega (arith, c.asked.ensures, c.probe_of-rows.ensures.fresh, asked.few, one-less);
-        some = λ more. omega (arith, c.asked.ensures, asked.some (omega (arith, told)));
-      };
+      counted = omega (arith, c.asked.ensures, c.probe_of-rows.ensures.fresh, asked.counted, one-less);
     }
 
 pub overflow_add-row : goal.overflow_add-row

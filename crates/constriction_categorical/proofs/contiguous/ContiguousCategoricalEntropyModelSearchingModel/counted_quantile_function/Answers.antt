@@ -35,7 +35,7 @@ returns g c =
     ap length (table-lefts g.Probability.WholeNumber.BITS g.row.PRECISION (map whole words) (map whole c.cdf_entries.result.now)
     c.args.self.now.stored c.cdf_entries.ensures) ∙ length-map rows (λ r. r.left) in
     let entries : length c.cdf_entries.result.now ≡ length rows = sym (length-map c.cdf_entries.result.now whole) ∙ many in
-    let few = rw entries at c.row_in_entries-index.ensures.few in
+    let counted = rw entries at c.row_in_entries-index.ensures.counted in
     let answer = row_of whole g.Probability.WholeNumber.base c.contiguous_row_at-row.result in
     record {
       row = (
@@ -44,8 +44,7 @@ returns g c =
         rw (rw c.words.ensures at c.contiguous_row_at-row.ensures.row) at (found.0.row answer),
       );
       within = c.contiguous_row_at-row.ensures.within;
-      few = few;
-      among = few;
-      some = rw entries at c.row_in_entries-index.ensures.some;
+      few = omega (arith, counted);
+      counted = omega (arith, counted);
       refused = tt;
     }

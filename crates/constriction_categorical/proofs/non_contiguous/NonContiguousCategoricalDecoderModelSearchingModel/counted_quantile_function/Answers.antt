@@ -1,4 +1,4 @@
-use Rattle.std.proofs.Common.{◌≡◌, ℕ, List, length, map, ap, sym, ◌∙◌}
+use Rattle.std.proofs.Common.{◌≡◌, ℕ, List, length, map, ap, sym, ◌∙◌, arith}
 use Rattle.constriction_model.specs.Model.{row_of}
 use Rattle.constriction_stored_rows.specs.Stored.{rows_paired, IsStored}
 use Rattle.constriction_stored_rows.proofs.PairedLemmas.{paired-many, paired-probed, paired-index}
@@ -57,19 +57,14 @@ pub returns-in-Ok-clause-few : goal.returns-in-Ok-clause-few
 returns-in-Ok-clause-few g c =
     let whole = g.Probability.WholeNumber.whole in
     let entries = g.Cdf.SafeBuf.words_of c.args.self.now.cdf in
-    rw (as-many whole g.Probability.WholeNumber.BITS g.row.PRECISION entries c.cdf_entries-entries.result.now c.args.self.now.stored
-    c.cdf_entries-entries.ensures) at c.row_in_entries-index.ensures.few
+    let counted = rw (as-many whole g.Probability.WholeNumber.BITS g.row.PRECISION entries c.cdf_entries-entries.result.now
+    c.args.self.now.stored c.cdf_entries-entries.ensures) at c.row_in_entries-index.ensures.counted in
+    omega (arith, counted)
 
-pub returns-in-Ok-clause-among : goal.returns-in-Ok-clause-among
-returns-in-Ok-clause-among g c =
+pub returns-in-Ok-clause-counted : goal.returns-in-Ok-clause-counted
+returns-in-Ok-clause-counted g c =
     let whole = g.Probability.WholeNumber.whole in
     let entries = g.Cdf.SafeBuf.words_of c.args.self.now.cdf in
-    rw (as-many whole g.Probability.WholeNumber.BITS g.row.PRECISION entries c.cdf_entries-entries.result.now c.args.self.now.stored
-    c.cdf_entries-entries.ensures) at c.row_in_entries-index.ensures.few
-
-pub returns-in-Ok-clause-some : goal.returns-in-Ok-clause-some
-returns-in-Ok-clause-some g c =
-    let whole = g.Probability.WholeNumber.whole in
-    let entries = g.Cdf.SafeBuf.words_of c.args.self.now.cdf in
-    rw (as-many whole g.Probability.WholeNumber.BITS g.row.PRECISION entries c.cdf_entries-entries.result.now c.args.self.now.stored
-    c.cdf_entries-entries.ensures) at c.row_in_entries-index.ensures.some
+    let counted = rw (as-many whole g.Probability.WholeNumber.BITS g.row.PRECISION entries c.cdf_entries-entries.result.now
+    c.args.self.now.stored c.cdf_entries-entries.ensures) at c.row_in_entries-index.ensures.counted in
+    omega (arith, counted)
