@@ -1,9 +1,9 @@
 //! How many rows a look-up compares, by the contract.
 
-ghost use Rattle.std.specs.Prelude.{◌≡◌, ◌-◌, ◌<◌, ◌≤◌, [], ◌∷◌, length, count_by, IfOk};
+ghost use Rattle.std.specs.Prelude.{◌≡◌, ◌-◌, ◌<◌, ◌≤◌, [], ◌∷◌, max, length, count_by, IfOk, IfSome};
 ghost use Rattle.constriction.specs.Probe.{digits};
 ghost use Rattle.constriction.specs.Rows.{contiguous_rows};
-ghost use Rattle.constriction.specs.Slots.{meets_slot};
+ghost use Rattle.constriction.specs.Slots.{least_in_slots, meets_slot};
 
 use crate::checks::same;
 use constriction::stream::model::{
@@ -32,8 +32,7 @@ type TabledLetters = SlottedNonContiguousLookupDecoderModel<
 /// How many of four rows a search for the quantile 20 compares.
 fn by_a_search(model: &Table<6>) -> Result<usize, AllocError>
     requires { ⟦<Table<6> as EntropyModel<6>>⟧.rows model.now ≡ contiguous_rows (3 ∷ 18 ∷ 1 ∷ 42 ∷ []) }
-    ensures few { IfOk result (λ compared. compared ≤ digits 3) }
-    ensures some { IfOk result (λ compared. 0 < compared) }
+    ensures { IfOk result (λ compared. compared ≡ digits 3) }
 {
     match model.counted_quantile_function(20) {
         Ok((_, compared)) => Ok(compared),
@@ -43,10 +42,8 @@ fn by_a_search(model: &Table<6>) -> Result<usize, AllocError>
 
 /// The same of however many letters.
 fn among_letters(model: &Decoder<6>) -> Result<usize, AllocError>
-    ensures few { IfOk result (λ compared. compared
-        ≤ digits (length (⟦<Decoder<6> as EntropyModel<6>>⟧.rows model.now) - 1)) }
-    ensures some { IfOk result (λ compared. 1 < length (⟦<Decoder<6> as EntropyModel<6>>⟧.rows model.now)
-        → 0 < compared) }
+    ensures { IfOk result (λ compared. compared
+        ≡ digits (length (⟦<Decoder<6> as EntropyModel<6>>⟧.rows model.now) - 1)) }
 {
     match model.counted_quantile_function(20) {
         Ok((_, compared)) => Ok(compared),
@@ -54,12 +51,11 @@ fn among_letters(model: &Decoder<6>) -> Result<usize, AllocError>
     }
 }
 
-/// How many rows a lookup model compares for the quantiles 2, whose slot two rows meet, and 40, whose slot the last
+/// How often a lookup model of four rows compares the quantiles 2, whose slot two rows meet, and 40, whose slot the last
 /// row alone meets.
 fn by_a_table(model: &Tabled) -> Result<(usize, usize), AllocError>
     requires { ⟦<Tabled as EntropyModel<6>>⟧.rows model.now ≡ contiguous_rows (3 ∷ 18 ∷ 1 ∷ 42 ∷ []) }
-    ensures few { IfOk result (λ compared. (compared.0 ≤ digits 1) × (compared.1 ≤ digits 0)) }
-    ensures some { IfOk result (λ compared. 0 < compared.0) }
+    ensures { IfOk result (λ compared. (compared.0 ≡ max 2 (digits 1)) × (compared.1 ≡ max 2 (digits 0))) }
 {
     let of_two = match model.counted_quantile_function(2) {
         Ok((_, compared)) => compared,
@@ -75,10 +71,9 @@ fn by_a_table(model: &Tabled) -> Result<(usize, usize), AllocError>
 fn by_a_table_of_letters(model: &TabledLetters) -> Result<usize, AllocError>
     ensures few { IfOk result (λ compared. compared
         ≤ digits (length (⟦<TabledLetters as EntropyModel<6>>⟧.rows model.now) - 1)) }
-    ensures among { IfOk result (λ compared. compared
-        ≤ digits (count_by (meets_slot 16 1) (⟦<TabledLetters as EntropyModel<6>>⟧.rows model.now) - 1)) }
-    ensures some { IfOk result (λ compared.
-        1 < count_by (meets_slot 16 1) (⟦<TabledLetters as EntropyModel<6>>⟧.rows model.now) → 0 < compared) }
+    ensures counted { IfOk result (λ compared. compared
+        ≡ max (least_in_slots 6 2 (length (⟦<TabledLetters as EntropyModel<6>>⟧.rows model.now)))
+        (digits (count_by (meets_slot 16 1) (⟦<TabledLetters as EntropyModel<6>>⟧.rows model.now) - 1))) }
 {
     match model.counted_quantile_function(20) {
         Ok((_, compared)) => Ok(compared),
@@ -86,28 +81,47 @@ fn by_a_table_of_letters(model: &TabledLetters) -> Result<usize, AllocError>
     }
 }
 
-/// How many rows any searching model compares for the quantile 20.
-fn counted<M>(model: &M) -> Option<usize>
+/// How often any searching model compares a quantile.
+fn counted<M>(model: &M, quantile: u8) -> Option<usize>
 where
     M: SearchingModel<6, Probability = u8>,
     M::Symbol: Drop,
+    requires { quantile < 64 }
+    ensures few { IfSome result (λ compared. compared ≤ digits (length (M.rows model.now) - 1)) }
+    ensures among { IfSome result (λ compared. compared ≤ max 2 (digits (M.rows_in_question model.now quantile - 1))) }
 {
-    match model.counted_quantile_function(20) {
+    match model.counted_quantile_function(quantile) {
         Ok((_, compared)) => Some(compared),
         Err(_) => None,
     }
 }
 
-/// A search of four rows compares two, and a table the rows of a slot: three meet the one of 20. A reference to a model
-/// searches as the model does.
+/// A search of four rows compares the quantile twice, and a table as often, as three rows meet the slot of 20. A
+/// reference to a model searches as the model does.
 #[test]
 fn a_search_compares_two_of_four_rows_and_a_table_those_of_a_slot(rt: HostRuntime) {
     let model = of_four(rt.alloc(), [3, 18, 1, 42]).expect(&rt, "accepted");
     same(&rt, by_a_search(&model), Ok(2));
-    same(&rt, counted(&&model), Some(2));
+    same(&rt, counted(&&model, 20), Some(2));
     let tabled: Tabled = LookupDecoderModel::with_table(rt.alloc(), model).expect(&rt, "a table");
-    same(&rt, by_a_table(&tabled), Ok((1, 0)));
-    same(&rt, counted(&tabled), Some(2));
+    same(&rt, by_a_table(&tabled), Ok((2, 2)));
+    same(&rt, counted(&tabled, 20), Some(2));
+}
+
+/// A model of two rows has few rows, whatever its slots are: where one row meets the slot nothing is compared, and where
+/// two do, the quantile once.
+#[test]
+fn among_two_rows_one_comparison_is_made_at_most(rt: HostRuntime) {
+    let weights: [u8; 2] = [3, 61];
+    let model = Table::<6>::from_nonzero_fixed_point_probabilities(rt.alloc(), weights, false);
+    let model = model.expect(&rt, "accepted");
+    same(&rt, counted(&model, 40), Some(1));
+    let tabled: Tabled = LookupDecoderModel::with_table(rt.alloc(), model).expect(&rt, "a table");
+    same(
+        &rt,
+        [counted(&tabled, 2), counted(&tabled, 40)],
+        [Some(1), Some(0)],
+    );
 }
 
 /// The same of letters.

@@ -53,7 +53,7 @@ fn a_table_of_the_caller_is_searched(rt: HostRuntime) {
         asked: 0,
     };
     same(&rt, row_of_quantile(&mut rows, 999u16), 499);
-    assert!(rt; rows.asked() <= 10);
+    same(&rt, rows.asked(), 10);
 }
 
 #[test]
@@ -92,8 +92,8 @@ fn is_found(model: &Wide, symbol: usize, left: u32) -> bool
     answer == Some((symbol, left, 4)) && found == symbol && rows.asked() <= 22
 }
 
-/// The last quantile of each of 4,194,304 rows. `counted_quantile_function` says how many rows were compared; that a
-/// look-up counts all that it compares no clause says. If it went over the rows, these look-ups would not end within a
+/// The last quantile of each of 4,194,304 rows. `counted_quantile_function` says how often it compared a quantile; that it
+/// counts each comparison no clause says. If it went over the rows, these look-ups would not end within a
 /// minute.
 #[test]
 fn a_look_up_does_not_go_over_all_rows(rt: HostRuntime) {
