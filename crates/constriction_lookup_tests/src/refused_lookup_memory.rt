@@ -3,11 +3,12 @@
 
 use crate::checks::{end_of_requests, same};
 use crate::lookup_any_symbols::refusals;
-use constriction::stream::model::{ContiguousLookupDecoderModel, DecoderModel, ModelError};
+use constriction::stream::model::{ContiguousLookupDecoderModel, DecoderModel, ModelError, Probe};
 use constriction_fixtures::any_symbols::{SYMBOLS, WEIGHTS, decoder, plain};
 use constriction_fixtures::contiguous::table;
 use constriction_fixtures::lookup_any_symbols::Lookup;
 use constriction_fixtures::own_model::three;
+use constriction_fixtures::tables::look_up;
 use std::process::Abort;
 
 type Contiguous = ContiguousLookupDecoderModel<u8, Vec<u8>, Vec<u8>, 6>;
@@ -57,12 +58,25 @@ fn a_refusal_of_memory_leaves_no_model_of_letters(rt: HostRuntime) {
     end_of_requests(&rt);
 }
 
+/// Whether a lookup model, views of it and the searching model of its rows answer, which takes no memory.
+fn answers_without_memory(model: Contiguous) -> bool {
+    let row = Some((2, 21, 1));
+    let (first, rows) = model.quantile_probe(21);
+    let viewed = look_up::<_, 6>(&model.as_view(), 21) == row
+        && look_up::<_, 6>(&model.as_contiguous_categorical(), 21) == row
+        && first.wrapping_add(rows.len()) > 2;
+    viewed && look_up::<_, 6>(&model.into_contiguous_categorical(), 21) == row
+}
+
 #[test]
 fn a_refusal_of_memory_leaves_the_searching_model(rt: HostRuntime) {
     if let Ok(model) = table::<6>(rt.alloc(), &WEIGHTS, false) {
         let made = model.to_lookup_decoder_model(rt.alloc());
         same(&rt, is_made_or_refused(&made), true);
         same(&rt, plain(model.quantile_function(21)), Ok((2, 21, 1)));
+        if let Ok(lookup) = made {
+            same(&rt, answers_without_memory(lookup), true);
+        }
     }
     end_of_requests(&rt);
 }

@@ -4,10 +4,16 @@
 use crate::checks::{end_of_requests, same};
 use crate::conversions::refusals;
 use crate::model_checks::{are_made_or_refused, has_row, is_made_or_refused};
-use constriction::stream::model::{ModelError, NonContiguousCategoricalDecoderModel};
-use constriction_fixtures::any_symbols::{Decoder, Encoder, SYMBOLS, WEIGHTS, decoder};
-use constriction_fixtures::contiguous::Table;
+use constriction::stream::model::{
+    DecoderModel, EncoderModel, ModelError, NonContiguousCategoricalDecoderModel, UniformModel,
+    row_of_quantile,
+};
+use constriction_fixtures::any_symbols::{
+    Decoder, Encoder, SYMBOLS, WEIGHTS, decoder, encoder, entry,
+};
+use constriction_fixtures::contiguous::{Table, table};
 use constriction_fixtures::own_model::three;
+use constriction_fixtures::tables::row;
 use std::alloc::Global;
 
 type Texts = NonContiguousCategoricalDecoderModel<String, u8, Vec<(u8, String)>, 6>;
@@ -95,9 +101,41 @@ fn of_texts(alloc: Global) -> Result<Texts, ModelError> {
     }
 }
 
-/// The constructor clones the last text, to stand beside the total.
+/// No text is cloned: the texts and the entries are all that asks for memory.
 #[test]
 fn a_refusal_of_memory_leaves_no_model_of_texts(rt: HostRuntime) {
     same(&rt, is_made_or_refused(&of_texts(rt.alloc())), true);
+    end_of_requests(&rt);
+}
+
+/// Whether a contiguous model and a view of it answer.
+fn numbers_answer(model: &Table<6>) -> bool {
+    let view = model.as_view();
+    let (first, mut rows) = view.quantile_probe(21);
+    first.wrapping_add(row_of_quantile(&mut rows, 21)) == 2
+        && row(Some(model.quantile_function(21))) == Some((2, 21, 1))
+        && view.left_cumulative_and_probability(&4).is_none()
+}
+
+/// Whether a uniform model of ten symbols is made, and answers.
+fn a_uniform_model_answers() -> bool {
+    let model = UniformModel::<u8, 6>::new(10);
+    row(Some(model.quantile_function(63))) == Some((9, 54, 10))
+        && model.left_cumulative_and_probability(&10).is_none()
+}
+
+/// The models ask for memory when they are made. Whichever of these requests is refused, what is asked after that takes
+/// none, and succeeds.
+#[test]
+fn a_refusal_of_memory_leaves_the_queries_that_take_none(rt: HostRuntime) {
+    let numbers = table::<6>(rt.alloc(), &WEIGHTS, false);
+    let letters = encoder::<6>(rt.alloc(), &SYMBOLS, &WEIGHTS, false);
+    if let Ok(model) = &numbers {
+        same(&rt, numbers_answer(model), true);
+    }
+    if let Ok(model) = &letters {
+        same(&rt, entry(model, 'c'), Some((21, 1)));
+    }
+    same(&rt, a_uniform_model_answers(), true);
     end_of_requests(&rt);
 }
