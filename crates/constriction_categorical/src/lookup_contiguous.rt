@@ -49,6 +49,17 @@ pub type SmallContiguousLookupDecoderModel<Cdf = Vec<u16>, LookupTable = Vec<u16
 pub type SmallContiguousDirectLookupDecoderModel<Cdf = Vec<u16>, LookupTable = Vec<u16>> =
     SlottedContiguousLookupDecoderModel<u16, Cdf, LookupTable, 12, 12>;
 
+/// The model over 24 bits of `u32`, as [`DefaultContiguousCategoricalEntropyModel`], with 4,096 slots: its table has
+/// 8,192 words, 32 KiB, beside one word a symbol and one more.
+///
+/// A look-up takes a quarter to two fifths of the time that a search of all rows takes. The table takes time to make: of
+/// 4,096 rows it pays after some 1,800 look-ups, and who decodes fewer symbols with one model searches. Where memory
+/// counts, [`ContiguousLookupDecoderModel`] has 512 words.
+///
+/// [`DefaultContiguousCategoricalEntropyModel`]: crate::DefaultContiguousCategoricalEntropyModel
+pub type DefaultContiguousLookupDecoderModel<Cdf = Vec<u32>, LookupTable = Vec<u32>> =
+    SlottedContiguousLookupDecoderModel<u32, Cdf, LookupTable, 24, 12>;
+
 impl<
     Probability: IndexWord,
     const PRECISION: usize,

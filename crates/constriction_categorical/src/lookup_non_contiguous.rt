@@ -63,6 +63,19 @@ pub type SmallNonContiguousDirectLookupDecoderModel<
     LookupTable = Vec<u16>,
 > = SlottedNonContiguousLookupDecoderModel<Symbol, u16, Cdf, LookupTable, 12, 12>;
 
+/// The model over 24 bits of `u32`, as [`DefaultNonContiguousCategoricalDecoderModel`], with 4,096 slots, which are 8,192
+/// words of its table, 32 KiB; after these stand one word a symbol and one more, and beside them an entry a symbol.
+///
+/// When it pays is as of [`DefaultContiguousLookupDecoderModel`]: from a few thousand symbols to decode on.
+///
+/// [`DefaultNonContiguousCategoricalDecoderModel`]: crate::DefaultNonContiguousCategoricalDecoderModel
+/// [`DefaultContiguousLookupDecoderModel`]: crate::DefaultContiguousLookupDecoderModel
+pub type DefaultNonContiguousLookupDecoderModel<
+    Symbol,
+    Cdf = Vec<(u32, Symbol)>,
+    LookupTable = Vec<u32>,
+> = SlottedNonContiguousLookupDecoderModel<Symbol, u32, Cdf, LookupTable, 24, 12>;
+
 /// The model of the same rows as a searching one, with its entries and a table of `2^min(PRECISION, SLOT_BITS)` slots.
 /// Its only refusal is `OutOfMemory`, where memory for the table is refused, and then the searching model is given up.
 /// Crates above call it that have made one.

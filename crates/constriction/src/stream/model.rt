@@ -3,7 +3,8 @@
 pub use constriction_categorical::{
     AnswersRows, ContiguousCategoricalEntropyModel, ContiguousLookupDecoderModel,
     ContiguousSymbolTable, DefaultContiguousCategoricalEntropyModel,
-    DefaultNonContiguousCategoricalDecoderModel, IterableEntropyModel, LookupDecoderModel,
+    DefaultContiguousLookupDecoderModel, DefaultNonContiguousCategoricalDecoderModel,
+    DefaultNonContiguousLookupDecoderModel, IterableEntropyModel, LookupDecoderModel,
     NonContiguousCategoricalDecoderModel, NonContiguousLookupDecoderModel,
     NonContiguousSymbolTable, OfAnySymbols, OfNumbers, SlottedContiguousLookupDecoderModel,
     SlottedNonContiguousLookupDecoderModel, SmallContiguousCategoricalEntropyModel,
