@@ -1,6 +1,6 @@
 //! Models of the symbols 0, 1, .., which look up where to search for the row of a quantile.
 
-ghost use Rattle.std.specs.Prelude.{◌≡◌, ◌≤◌, map, IfOk, IfErr};
+ghost use Rattle.std.specs.Prelude.{◌≡◌, ◌≤◌, map, IfOk, IfErr, nat_eq};
 ghost use Rattle.std.specs.Iterator.{IsFiniteIterable};
 ghost use Rattle.constriction_model.specs.Acceptance.{completed, IsAccepted, WasReadOf, IsMadeOfWeights};
 ghost use Rattle.constriction_model.specs.Precision.{IsLookupPrecision};
@@ -238,6 +238,14 @@ impl<
     type SymbolTable = ContiguousSymbolTable<'m, Probability, PRECISION>;
 
     ghost rows_left = { λ t. rows_stored PRECISION (map Probability.whole t.cdf.now) t.from t.to };
+
+    ghost is_equality = { λ eq. eq ≡ nat_eq };
+
+    /// They are 0, 1, ..
+    #[inline]
+    fn symbols_differ(&self) -> bool {
+        true
+    }
 
     /// All rows in order, each once: symbol, left cumulative and weight. It takes no memory, and
     /// every item is a row.
