@@ -7,8 +7,9 @@ import random
 SEARCHING = """u8/1 u8/3 u8/6 u8/7 u8/8 u16/12 u16/16 u32/24 u32/32 u64/40 u64/63 u64/64
     usize/40 usize/63 usize/64 u128/64 u128/100 u128/128""".split()
 UNIFORM = "u8/1 u8/3 u8/6 u8/7 u8/8 u16/12 u16/16 u32/24 u32/32 u64/63 u64/64 usize/64 u128/64".split()
-LOOKUP = "u8/1 u8/3 u8/6 u8/7 u8/8 u16/12 u16/16 usize/6 usize/12 usize/40 usize/63".split()
-SLOTTED = {"u8/6": [*range(7)], "u16/12": [*range(13)], "usize/40": [8, 12]}
+LOOKUP = """u8/1 u8/3 u8/6 u8/7 u8/8 u16/12 u16/16 u32/12 u32/24 u32/32 u64/40 u64/63
+    usize/6 usize/12 usize/40 usize/63 u128/40 u128/63""".split()
+SLOTTED = {"u8/6": [*range(7)], "u16/12": [*range(13)], "u32/24": [8, 12, 16], "u64/40": [12], "u64/63": [12], "usize/40": [8, 12], "u128/40": [8]}
 BITS = {"u8": 8, "u16": 16, "u32": 32, "u64": 64, "usize": 64, "u128": 128}
 CALLS = "sr qr w w sn qn sl sx qx fu po k k".split()
 STACK_CALLS = "sr sr w w x sn sx me mf po k".split()
@@ -273,7 +274,7 @@ def fresh(seed, rounds):
         for form in LOOKUP:
             lookups += [make.of_weights(kind, form, 90) for kind in LOOKUPS]
             lookups += [make.of_symbols(kind, form) for kind in SYMBOL_LOOKUPS]
-        lookups += [make.of_slots(kind) for kind in ("slot", "slottable", "sprobe", "nslot", "nslottable") for _ in range(22)]
+        lookups += [make.of_slots(kind) for kind in ("slot", "slottable", "sprobe", "nslot", "nslottable") for _ in range(40)]
         for width in (8, 32, 64):
             backends += [make.of_cursor(kind, width) for kind in ("cursor", "reversed", "inner", "turned", "extend", "rextend") for _ in range(6)]
             backends += [make.of_stack(kind, width) for kind in ("vec", "smallvec") for _ in range(6)]

@@ -27,7 +27,9 @@ macro_rules! looking_up {
         at_form!($form, $module::$call, $arguments,
             "u8/1": u8, 1; "u8/3": u8, 3; "u8/6": u8, 6; "u8/7": u8, 7; "u8/8": u8, 8;
             "u16/12": u16, 12; "u16/16": u16, 16;
-            "usize/6": usize, 6; "usize/12": usize, 12; "usize/40": usize, 40; "usize/63": usize, 63;)
+            "usize/6": usize, 6; "usize/12": usize, 12; "usize/40": usize, 40; "usize/63": usize, 63;
+            "u32/12": u32, 12; "u32/24": u32, 24; "u32/32": u32, 32; "u64/40": u64, 40; "u64/63": u64, 63;
+            "u128/40": u128, 40; "u128/63": u128, 63;)
     };
 }
 

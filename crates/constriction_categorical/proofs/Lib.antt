@@ -2,3 +2,4 @@ pub mod ReadEntries
 pub mod RowAnswers
 pub mod Remade
 pub mod SlotWords
+pub mod Numbers

@@ -3,9 +3,11 @@
 //! It stands beside its impls for references to models: an impl for a reference is found by who lists the
 //! crate of the trait, or uses it through another one, but not by who uses the crate of the model so.
 
-ghost use Rattle.std.specs.Prelude.{◌≡◌, List, length};
+ghost use Rattle.std.specs.Prelude.{◌≡◌, Bool, List, length, IsTrue, ⊤};
 ghost use Rattle.std.specs.Iterator.{UpTo};
-ghost use Rattle.constriction_model.specs.Rows.{Row, RowsTile};
+ghost use Rattle.std.specs.List.{IsDistinct};
+ghost use Rattle.constriction_model.specs.Model.{ClonesAreEqual};
+ghost use Rattle.constriction_model.specs.Rows.{Row, RowsTile, symbols_of};
 ghost use Rattle.constriction_model.specs.Tables.{YieldsRow};
 
 use constriction_model::{EntropyModel, Weight};
@@ -30,6 +32,20 @@ pub trait IterableEntropyModel<const PRECISION: usize>: EntropyModel<PRECISION> 
 
     // The rows that a table has yet to give.
     ghost rows_left: { Self.SymbolTable → List (Row Self.Symbol) };
+
+    // Whether `symbols_differ` speaks of an equality of symbols: who converts by an equality shows it. Where an implementer says
+    // nothing, it speaks of all, and who answers `true` has to say of which.
+    ghost is_equality: { (Self.Symbol → Self.Symbol → Bool) → Type 0 } = { λ _. ⊤ };
+
+    /// Whether it is known that no two symbols of the rows are equal, nor two that a walk gives: who reads a
+    /// walk need not compare them then. A model that does not know answers `false`.
+    #[inline]
+    fn symbols_differ(&self) -> bool
+        ensures clones { IsTrue result → (eq : _) → is_equality eq → ClonesAreEqual eq stands_for }
+        ensures differ { IsTrue result → (eq : _) → is_equality eq → IsDistinct eq (symbols_of (Self.rows self.now)) }
+    {
+        false
+    }
 
     /// All rows in order, each once: symbol, left cumulative and weight. Where memory for a clone of a
     /// symbol is refused, the refusal stands in the row's place, and the walk goes on after it.

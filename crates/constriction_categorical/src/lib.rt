@@ -25,13 +25,14 @@ pub use crate::contiguous::{
 pub use crate::iterable::IterableEntropyModel;
 pub use crate::lookup::LookupDecoderModel;
 pub use crate::lookup_contiguous::{
-    ContiguousLookupDecoderModel, SlottedContiguousLookupDecoderModel,
-    SmallContiguousDirectLookupDecoderModel, SmallContiguousLookupDecoderModel,
+    ContiguousLookupDecoderModel, DefaultContiguousLookupDecoderModel,
+    SlottedContiguousLookupDecoderModel, SmallContiguousDirectLookupDecoderModel,
+    SmallContiguousLookupDecoderModel,
 };
 pub use crate::lookup_non_contiguous::{
-    NonContiguousLookupDecoderModel, SlottedNonContiguousLookupDecoderModel,
-    SmallNonContiguousDirectLookupDecoderModel, SmallNonContiguousLookupDecoderModel,
-    lookup_over_decoder,
+    DefaultNonContiguousLookupDecoderModel, NonContiguousLookupDecoderModel,
+    SlottedNonContiguousLookupDecoderModel, SmallNonContiguousDirectLookupDecoderModel,
+    SmallNonContiguousLookupDecoderModel, lookup_over_decoder,
 };
 pub use crate::non_contiguous::{
     DefaultNonContiguousCategoricalDecoderModel, NonContiguousCategoricalDecoderModel,

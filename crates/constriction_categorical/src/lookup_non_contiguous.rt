@@ -63,6 +63,19 @@ pub type SmallNonContiguousDirectLookupDecoderModel<
     LookupTable = Vec<u16>,
 > = SlottedNonContiguousLookupDecoderModel<Symbol, u16, Cdf, LookupTable, 12, 12>;
 
+/// The model over 24 bits of `u32`, as [`DefaultNonContiguousCategoricalDecoderModel`], with 4,096 slots, which are 8,192
+/// words of its table, 32 KiB; after these stand one word a symbol and one more, and beside them an entry a symbol.
+///
+/// When it pays is as of [`DefaultContiguousLookupDecoderModel`]: from a few thousand symbols to decode on.
+///
+/// [`DefaultNonContiguousCategoricalDecoderModel`]: crate::DefaultNonContiguousCategoricalDecoderModel
+/// [`DefaultContiguousLookupDecoderModel`]: crate::DefaultContiguousLookupDecoderModel
+pub type DefaultNonContiguousLookupDecoderModel<
+    Symbol,
+    Cdf = Vec<(u32, Symbol)>,
+    LookupTable = Vec<u32>,
+> = SlottedNonContiguousLookupDecoderModel<Symbol, u32, Cdf, LookupTable, 24, 12>;
+
 /// The model of the same rows as a searching one, with its entries and a table of `2^min(PRECISION, SLOT_BITS)` slots.
 /// Its only refusal is `OutOfMemory`, where memory for the table is refused, and then the searching model is given up.
 /// Crates above call it that have made one.
@@ -363,6 +376,14 @@ impl<
     ghost may_refuse = { λ s. ¬ (Symbol.is_infallible s) };
 
     ghost rows_left = { λ t. rows_between t.from t.to (rows_paired Probability.whole PRECISION t.cdf.now) };
+
+    ghost is_equality = { λ eq. (eq ≡ Symbol.eq) × ClonesAreEqual Symbol.eq Symbol.is_clone };
+
+    /// No two symbols are equal, and who converts by it shows that a clone is equal to its symbol.
+    #[inline]
+    fn symbols_differ(&self) -> bool {
+        true
+    }
 
     /// All rows in order, each once: symbol, left cumulative and weight, the symbol by a clone. Where
     /// memory for a clone is refused, the refusal stands in the row's place.

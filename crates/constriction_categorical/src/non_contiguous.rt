@@ -370,6 +370,14 @@ impl<
 
     ghost rows_left = { λ t. rows_between t.from t.to (rows_paired Probability.whole PRECISION t.cdf.now) };
 
+    ghost is_equality = { λ eq. (eq ≡ Symbol.eq) × ClonesAreEqual Symbol.eq Symbol.is_clone };
+
+    /// No two symbols are equal, and who converts by it shows that a clone is equal to its symbol.
+    #[inline]
+    fn symbols_differ(&self) -> bool {
+        true
+    }
+
     /// All rows in order, each once: symbol, left cumulative and weight, the symbol by a clone. Where
     /// memory for a clone is refused, the refusal stands in the row's place.
     #[inline]

@@ -88,6 +88,8 @@ impl<
     Probability: IndexWord + 'm,
     const PRECISION: usize,
 > IterableEntropyModel<PRECISION> for &'m DecoderForm<Symbol, Probability, PRECISION> {
+    ghost use Rattle.std.specs.Prelude.{◌≡◌};
+    ghost use Rattle.constriction.specs.Model.{ClonesAreEqual};
     ghost use Rattle.constriction.specs.Rows.{RowsTile};
     ghost use Rattle.constriction.specs.SymbolRowLemmas.{paired-tiles};
     ghost use Rattle.constriction.specs.Stored.{rows_paired};
@@ -101,6 +103,15 @@ impl<
     ghost may_refuse = { λ s. ¬ (Symbol.is_infallible s) };
 
     ghost rows_left = { λ t. rows_between t.from t.to (rows_paired Probability.whole PRECISION t.cdf.now) };
+
+    ghost is_equality = { λ eq. (eq ≡ Symbol.eq) × ClonesAreEqual Symbol.eq Symbol.is_clone };
+
+    fn symbols_differ(&self) -> bool {
+        match self {
+            DecoderForm::Search(model) => model.symbols_differ(),
+            DecoderForm::Lookup(model) => model.symbols_differ(),
+        }
+    }
 
     fn symbol_table(self) -> NonContiguousSymbolTable<'m, Symbol, Probability, PRECISION> {
         match self {

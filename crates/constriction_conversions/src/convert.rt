@@ -7,6 +7,7 @@ ghost use Rattle.constriction_model.specs.Model.{StandApart, ClonesRepeat};
 ghost use Rattle.constriction_model.specs.Precision.{IsPrecision, IsLookupPrecision};
 ghost use Rattle.constriction_stored_rows.specs.Stored.{IsStored, rows_paired};
 
+use crate::convert::distinct::entries_of_distinct;
 use crate::hashed::NonContiguousCategoricalEncoderModel;
 use crate::walking::{entries_walked, table_walked};
 use constriction_categorical::{
@@ -91,7 +92,7 @@ where
 
     ghost refuses = { λ m. ClonesRepeat M.Symbol.eq M.stands_for (M.rows m) };
 
-    ghost precise = { IsPrecision M.Probability.BITS PRECISION };
+    ghost precise = { IsPrecision M.Probability.BITS PRECISION × M.is_equality M.Symbol.eq };
 
     fn from_iterable_entropy_model(alloc: Global, model: M) -> Result<Self, ModelError> {
         to_generic_decoder_model::<M, PRECISION>(alloc, model)
@@ -117,7 +118,7 @@ where
 
     ghost refuses = { λ m. ClonesRepeat M.Symbol.eq M.stands_for (M.rows m) };
 
-    ghost precise = { IsLookupPrecision M.Probability.BITS PRECISION };
+    ghost precise = { IsLookupPrecision M.Probability.BITS PRECISION × M.is_equality M.Symbol.eq };
 
     fn from_iterable_entropy_model(alloc: Global, model: M) -> Result<Self, ModelError> {
         to_generic_slotted_lookup_decoder_model::<M, PRECISION, SLOT_BITS>(alloc, model)
@@ -143,7 +144,8 @@ where
     }
 }
 
-/// The entries of a decoder of a model's rows, no two symbols of which are equal.
+/// The entries of a decoder of a model's rows, no two symbols of which are equal, where each is compared with all before
+/// it.
 #[inline]
 fn entries_apart<M, const PRECISION: usize>(
     alloc: Global,
@@ -164,18 +166,68 @@ where
     Ok(cdf)
 }
 
+/// The same. Symbols are compared only where the model does not know that they differ.
+#[inline]
+fn entries_told<M, const PRECISION: usize>(
+    alloc: Global,
+    model: M,
+) -> Result<Vec<(M::Probability, M::Symbol)>, ModelError>
+where
+    M: IterableEntropyModel<PRECISION>,
+    M::Symbol: Eq + Drop,
+    requires positive { 0 < PRECISION }
+    requires fits { PRECISION ≤ M.Probability.BITS }
+    requires equality { M.is_equality M.Symbol.eq }
+    ensures stored { IfOk result (λ v. IsStored M.Probability.BITS PRECISION (map (λ x. M.Probability.whole x.0) v.items)) }
+    ensures distinct { IfOk result (λ v. IsDistinct M.Symbol.eq (map (λ x. x.1) v.items)) }
+    ensures rows { IfOk result (λ v. StandApart M.Symbol.eq M.stands_for
+        (rows_paired M.Probability.whole PRECISION v.items) (M.rows model)) }
+    ensures invalid { result ≡ Err ModelError.InvalidTable → ClonesRepeat M.Symbol.eq M.stands_for (M.rows model) }
+{
+    if model.symbols_differ() {
+        entries_of_distinct::<M, PRECISION>(alloc, model)
+    } else {
+        entries_apart::<M, PRECISION>(alloc, model)
+    }
+}
+
 /// The decoder model of the same rows as any model that can be walked through.
 ///
 /// Its symbols are those that the walk gave: clones, where the model owns its symbols. `InvalidTable` comes
 /// only where two of them are equal, so where a clone is equal to its symbol exactly where two symbols of the
 /// rows are. `OutOfMemory` comes where memory for the entries, or for a clone of a symbol, is refused.
 ///
-/// One walk, and each symbol is compared with those before it: `n * (n - 1) / 2` comparisons for `n` rows. No symbol
-/// is cloned but by the walk. Where symbols are known to differ, [`to_generic_decoder_model_of_distinct`] compares
-/// none.
+/// Where the model knows that its symbols differ, as each model of this library does, none are compared; where it does
+/// not, each is compared with those before it: `n * (n - 1) / 2` comparisons for `n` rows. One walk in both cases, and no
+/// symbol is cloned but by it.
+///
+/// Of a model over any symbols it is asked that a clone is equal to its symbol. Where the type of the symbols does not say
+/// so, [`to_generic_decoder_model_by_comparison`] asks nothing; where a caller knows that symbols differ, and the model
+/// does not, [`to_generic_decoder_model_of_distinct`] compares none.
 ///
 /// [`to_generic_decoder_model_of_distinct`]: crate::to_generic_decoder_model_of_distinct
 pub fn to_generic_decoder_model<M, const PRECISION: usize>(
+    alloc: Global,
+    model: M,
+) -> Result<DecoderMadeOf<M, PRECISION>, ModelError>
+where
+    M: IterableEntropyModel<PRECISION>,
+    M::Symbol: Eq + Drop,
+    requires precision { IsPrecision M.Probability.BITS PRECISION }
+    requires equality { M.is_equality M.Symbol.eq }
+    ensures ok { IfOk result (λ d. StandApart M.Symbol.eq M.stands_for
+        (⟦<DecoderMadeOf<M, PRECISION> as EntropyModel<PRECISION>>⟧.rows d) (M.rows model)) }
+    ensures invalid { result ≡ Err ModelError.InvalidTable → ClonesRepeat M.Symbol.eq M.stands_for (M.rows model) }
+{
+    match entries_told::<_, PRECISION>(alloc, model) {
+        Ok(entries) => Ok(decoder_over(entries)),
+        Err(refused) => Err(refused),
+    }
+}
+
+/// As [`to_generic_decoder_model`], of any model and any symbols: each symbol that the walk gave is compared with those
+/// before it, whatever the model knows of its own.
+pub fn to_generic_decoder_model_by_comparison<M, const PRECISION: usize>(
     alloc: Global,
     model: M,
 ) -> Result<DecoderMadeOf<M, PRECISION>, ModelError>
@@ -200,10 +252,8 @@ where
 /// rows are. `OutOfMemory` comes where memory for the entries, for a clone of a symbol, or for the table is
 /// refused.
 ///
-/// One walk, in which each symbol is compared with those before it, and two passes over the rows. Where symbols are
-/// known to differ, [`to_generic_lookup_decoder_model_of_distinct`] compares none.
-///
-/// [`to_generic_lookup_decoder_model_of_distinct`]: crate::to_generic_lookup_decoder_model_of_distinct
+/// One walk, in which symbols are compared as [`to_generic_decoder_model`] does, of which it asks the same, and two passes
+/// over the rows.
 pub fn to_generic_lookup_decoder_model<M, const PRECISION: usize>(
     alloc: Global,
     model: M,
@@ -213,6 +263,7 @@ where
     M::Symbol: Eq + Drop,
     M::Probability: IndexWord,
     requires precision { IsLookupPrecision M.Probability.BITS PRECISION }
+    requires equality { M.is_equality M.Symbol.eq }
     ensures ok { IfOk result (λ d. StandApart M.Symbol.eq M.stands_for
         (⟦<LookupMadeOf<M, PRECISION, 8> as EntropyModel<PRECISION>>⟧.rows d) (M.rows model)) }
     ensures invalid { result ≡ Err ModelError.InvalidTable → ClonesRepeat M.Symbol.eq M.stands_for (M.rows model) }
@@ -230,6 +281,7 @@ where
     M::Symbol: Eq + Drop,
     M::Probability: IndexWord,
     requires precision { IsLookupPrecision M.Probability.BITS PRECISION }
+    requires equality { M.is_equality M.Symbol.eq }
     ensures ok { IfOk result (λ d. StandApart M.Symbol.eq M.stands_for
         (⟦<LookupMadeOf<M, PRECISION, SLOT_BITS> as EntropyModel<PRECISION>>⟧.rows d) (M.rows model)) }
     ensures invalid { result ≡ Err ModelError.InvalidTable → ClonesRepeat M.Symbol.eq M.stands_for (M.rows model) }

@@ -16,8 +16,8 @@ pub use crate::convert::distinct::{
 };
 pub use crate::convert::{
     DecoderMadeOf, EncoderMadeOf, FromIterableEntropyModel, LookupMadeOf, to_generic_decoder_model,
-    to_generic_encoder_model, to_generic_lookup_decoder_model,
-    to_generic_slotted_lookup_decoder_model,
+    to_generic_decoder_model_by_comparison, to_generic_encoder_model,
+    to_generic_lookup_decoder_model, to_generic_slotted_lookup_decoder_model,
 };
 pub use crate::hashed::{
     DefaultNonContiguousCategoricalEncoderModel, NonContiguousCategoricalEncoderModel,

@@ -10,6 +10,8 @@ mod checks;
 #[cfg(test)]
 mod compared;
 #[cfg(test)]
+mod default_words;
+#[cfg(test)]
 mod lookup_any_symbols;
 #[cfg(test)]
 mod refused_lookup_memory;

@@ -23,6 +23,7 @@ where
     M::Symbol: Eq + Clone + Drop,
     requires positive { 0 < PRECISION }
     requires fits { PRECISION ≤ 8 }
+    requires equality { M.is_equality M.Symbol.eq }
 {
     [
         to_generic_lookup_decoder_model::<M, PRECISION>(alloc, source).err(),

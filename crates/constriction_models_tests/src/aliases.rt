@@ -2,8 +2,9 @@
 
 use constriction::stream::model::{
     ContiguousCategoricalEntropyModel, ContiguousLookupDecoderModel,
-    DefaultContiguousCategoricalEntropyModel, DefaultNonContiguousCategoricalDecoderModel,
-    DefaultNonContiguousCategoricalEncoderModel, DefaultUniformModel,
+    DefaultContiguousCategoricalEntropyModel, DefaultContiguousLookupDecoderModel,
+    DefaultNonContiguousCategoricalDecoderModel, DefaultNonContiguousCategoricalEncoderModel,
+    DefaultNonContiguousLookupDecoderModel, DefaultUniformModel,
     NonContiguousCategoricalDecoderModel, NonContiguousCategoricalEncoderModel,
     NonContiguousLookupDecoderModel, SlottedContiguousLookupDecoderModel,
     SlottedNonContiguousLookupDecoderModel, SmallContiguousCategoricalEntropyModel,
@@ -32,6 +33,12 @@ fn names_are_over_their_words_at_their_precision() {
     >;
     let _: Option<&DefaultNonContiguousCategoricalEncoderModel<char>> = None::<
         &NonContiguousCategoricalEncoderModel<char, u32, 24>,
+    >;
+    let _: Option<&DefaultContiguousLookupDecoderModel> = None::<
+        &SlottedContiguousLookupDecoderModel<u32, Vec<u32>, Vec<u32>, 24, 12>,
+    >;
+    let _: Option<&DefaultNonContiguousLookupDecoderModel<char>> = None::<
+        &SlottedNonContiguousLookupDecoderModel<char, u32, Default, Vec<u32>, 24, 12>,
     >;
     let _: Option<&DefaultUniformModel> = None::<&UniformModel<u32, 24>>;
     let _: Option<&SmallContiguousCategoricalEntropyModel> = None::<

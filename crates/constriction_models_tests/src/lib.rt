@@ -32,4 +32,6 @@ mod search;
 #[cfg(test)]
 mod symbol_types;
 #[cfg(test)]
+mod told_to_differ;
+#[cfg(test)]
 mod uncloned_symbols;

@@ -4,13 +4,14 @@ ghost use Rattle.std.specs.Prelude.{◌≡◌, ◌<◌, ◌^◌};
 
 use crate::whole_number::WholeNumber;
 
-/// A word whose numbers are indices: each of them is a `usize`. Lookup models are over these.
+/// A word whose numbers below `2^64` are indices, each of them a `usize`. Lookup models are over these.
 ///
-/// Tables of row indices, which hold words to be small, are read and written by it.
+/// A table that tells where to search holds row indices as words, and a look-up begins with the number of a quantile.
+/// Each quantile of a lookup model lies below `2^63`, and so does each row index. The unsigned integers of std are index words.
 pub trait IndexWord: WholeNumber {
-    /// The number of the word, as an index.
+    /// The number of the word, as an index, where it is a `usize`.
     fn to_index(self) -> usize
-        ensures { result ≡ Self.whole self };
+        ensures { Self.whole self < 2 ^ 64 → result ≡ Self.whole self };
 
     /// The word of an index, of which the caller knows that it is below `2^BITS`.
     fn from_index(i: usize) -> Self

@@ -1,8 +1,8 @@
 //! Words as whole numbers: all that entropy models ask of their words.
 //!
 //! A [`WholeNumber`] has a width, and calls that compare, add and divide, each with its number in the
-//! contract. An [`IndexWord`] is one whose numbers are indices, as lookup models need. The unsigned
-//! integers of std are both, but for `u32`, `u64` and `u128`, which are no indices, as in the Rust crate.
+//! contract. An [`IndexWord`] is one whose numbers are indices where they are small enough, as lookup models need.
+//! The unsigned integers of std are both.
 #![tactic(auto)]
 
 mod index_word;

@@ -11,9 +11,9 @@ use constriction::laws::contiguous_symbols_differ;
 use constriction::stream::model::{
     ContiguousCategoricalEntropyModel, EntropyModel, IterableEntropyModel, ModelError,
     NonContiguousCategoricalDecoderModel, NonContiguousCategoricalEncoderModel,
-    to_generic_encoder_model,
+    to_generic_decoder_model_of_distinct, to_generic_encoder_model,
 };
-use constriction_client::laws::{DecoderAndEncoder, decoder_and_encoder};
+use constriction_client::laws::DecoderAndEncoder;
 use constriction_words::WholeNumber;
 use std::alloc::Global;
 use std::hash::Hash;
@@ -166,7 +166,9 @@ where
         (⟦<NonContiguousCategoricalDecoderModel<M::Symbol, M::Probability, Vec<(M::Probability, M::Symbol)>, PRECISION> as EntropyModel<PRECISION>>⟧.rows both.0) s) }
     ensures refused { IfErr result (λ e. e ≡ ModelError.OutOfMemory) }
 {
-    decoder_and_encoder::<M, PRECISION>(alloc, model)
+    let decoder = to_generic_decoder_model_of_distinct::<M, PRECISION>(alloc, model)?;
+    let encoder = encoder_of::<M, PRECISION>(alloc, model)?;
+    Ok((decoder, encoder))
 }
 
 /// The searching decoder and the hashed encoder over any symbols of the rows of a model of the symbols 0, 1, ...

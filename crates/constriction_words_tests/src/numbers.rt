@@ -88,16 +88,33 @@ fn operations_give_the_exact_number(rt: HostRuntime) {
 fn words_of_index_types_are_indices(rt: HostRuntime) {
     same(
         &rt,
-        [255u8.to_index(), 65535u16.to_index(), usize::MAX.to_index()],
-        [255, 65535, usize::MAX],
+        [
+            255u8.to_index(),
+            65535u16.to_index(),
+            u32::MAX.to_index(),
+            u64::MAX.to_index(),
+            usize::MAX.to_index(),
+            (u128::MAX >> 64).to_index(),
+        ],
+        [
+            255,
+            65535,
+            4_294_967_295,
+            usize::MAX,
+            usize::MAX,
+            usize::MAX,
+        ],
     );
     same(
         &rt,
         (
             u8::from_index(255),
             u16::from_index(258),
+            u32::from_index(65_537),
+            u64::from_index(usize::MAX),
             usize::from_index(usize::MAX),
+            u128::from_index(usize::MAX),
         ),
-        (255, 258, usize::MAX),
+        (255, 258, 65_537, u64::MAX, usize::MAX, u128::MAX >> 64),
     );
 }

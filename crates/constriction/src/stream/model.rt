@@ -3,7 +3,8 @@
 pub use constriction_categorical::{
     AnswersRows, ContiguousCategoricalEntropyModel, ContiguousLookupDecoderModel,
     ContiguousSymbolTable, DefaultContiguousCategoricalEntropyModel,
-    DefaultNonContiguousCategoricalDecoderModel, IterableEntropyModel, LookupDecoderModel,
+    DefaultContiguousLookupDecoderModel, DefaultNonContiguousCategoricalDecoderModel,
+    DefaultNonContiguousLookupDecoderModel, IterableEntropyModel, LookupDecoderModel,
     NonContiguousCategoricalDecoderModel, NonContiguousLookupDecoderModel,
     NonContiguousSymbolTable, OfAnySymbols, OfNumbers, SlottedContiguousLookupDecoderModel,
     SlottedNonContiguousLookupDecoderModel, SmallContiguousCategoricalEntropyModel,
@@ -15,9 +16,9 @@ pub use constriction_conversions::{
     DecoderMadeOf, DefaultNonContiguousCategoricalEncoderModel, EncoderMadeOf,
     FromIterableEntropyModel, LookupMadeOf, NonContiguousCategoricalEncoderModel,
     SmallNonContiguousCategoricalEncoderModel, to_generic_decoder_model,
-    to_generic_decoder_model_of_distinct, to_generic_encoder_model,
-    to_generic_lookup_decoder_model, to_generic_lookup_decoder_model_of_distinct,
-    to_generic_slotted_lookup_decoder_model,
+    to_generic_decoder_model_by_comparison, to_generic_decoder_model_of_distinct,
+    to_generic_encoder_model, to_generic_lookup_decoder_model,
+    to_generic_lookup_decoder_model_of_distinct, to_generic_slotted_lookup_decoder_model,
 };
 pub use constriction_model::{
     Alone, CdfEntry, CdfProbe, DecoderModel, DecodesOver, DefaultUniformModel, EncoderModel,

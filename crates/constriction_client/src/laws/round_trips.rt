@@ -133,6 +133,7 @@ where
     M::Symbol: Hash + Eq + Drop,
     requires precision { IsPrecision M.Probability.BITS PRECISION }
     requires clones { ClonesAreEqual M.Symbol.eq M.stands_for }
+    requires equality { M.is_equality M.Symbol.eq }
     ensures rows { IfOk result (λ both. StandForRows M.stands_for
         (⟦<Searching<M::Symbol, M::Probability, PRECISION> as EntropyModel<PRECISION>>⟧.rows both.0) (M.rows model)) }
     ensures alike { IfOk result (λ both. SameEntries M.Symbol.eq

@@ -16,7 +16,7 @@ use std::alloc::Global;
 
 /// The entries of a decoder of a model's rows, the symbols of which differ.
 #[inline]
-fn entries_of_distinct<M, const PRECISION: usize>(
+pub(crate) fn entries_of_distinct<M, const PRECISION: usize>(
     alloc: Global,
     model: M,
 ) -> Result<Vec<(M::Probability, M::Symbol)>, ModelError>

@@ -5,6 +5,7 @@ ghost use Rattle.std.specs.Int.NonZero.{non_zero_u32_get};
 ghost use Rattle.std.proofs.Common.{refl};
 ghost use Rattle.constriction_numbers.specs.Word.{same-above-0};
 
+use crate::index_word::IndexWord;
 use crate::whole_number::WholeNumber;
 use std::num::NonZeroU32;
 
@@ -109,4 +110,16 @@ impl WholeNumber for u32 {
     ghost weight_law = { λ x. x.ok };
 
     ghost same_weight_law = { λ a b e. same-above-0 (λ n h. record { value = n; ok = h }) a.ok b.ok e };
+}
+
+impl IndexWord for u32 {
+    #[inline]
+    fn to_index(self) -> usize {
+        self.to_number()
+    }
+
+    #[inline]
+    fn from_index(i: usize) -> u32 {
+        i as u32
+    }
 }

@@ -1,0 +1,91 @@
+//! Lookup models over 24 bits of `u32`, of one row and up to 4,096, answer as the models that search.
+
+ghost use Rattle.std.specs.Prelude.{◌<◌, ◌^◌};
+
+use crate::checks::same_at;
+use constriction::stream::model::{
+    DecoderModel, DefaultContiguousCategoricalEntropyModel, to_generic_decoder_model,
+};
+use constriction_fixtures::tables::row;
+use std::alloc::{AllocError, Global};
+use std::process::Abort;
+
+/// Stops the test where the two answer a quantile differently.
+fn answer_alike<M, N>(rt: &impl Abort, searching: &M, looking: &N, quantile: u32)
+where
+    M: DecoderModel<24, Symbol = usize, Probability = u32>,
+    N: DecoderModel<24, Symbol = usize, Probability = u32>,
+    requires { quantile < 2 ^ 24 }
+{
+    let expected = row(Some(searching.quantile_function(quantile)));
+    let found = row(Some(looking.quantile_function(quantile)));
+    same_at(rt, quantile, found, expected);
+}
+
+/// The next of many numbers.
+fn next(number: u32) -> u32 {
+    number.wrapping_mul(1_664_525).wrapping_add(1_013_904_223)
+}
+
+/// Stops the test where the two answer one of 4,096 quantiles differently.
+fn all_alike<M, N>(rt: &impl Abort, searching: &M, looking: &N)
+where
+    M: DecoderModel<24, Symbol = usize, Probability = u32>,
+    N: DecoderModel<24, Symbol = usize, Probability = u32>,
+{
+    let mut number = 7u32;
+    for _ in 0..4096u32 {
+        number = next(number);
+        answer_alike(rt, searching, looking, (number >> 4) % 16_777_216);
+    }
+}
+
+/// All weights but the last one of so many rows, each of which is at most so great.
+fn weights(alloc: Global, rows: u32, most: u32) -> Result<Vec<u32>, AllocError> {
+    let mut weights = Vec::new(alloc);
+    let mut number = 2024u32;
+    for _ in 1..rows {
+        number = next(number);
+        weights.push(1u32.wrapping_add((number >> 8) % most.max(1)))?;
+    }
+    Ok(weights)
+}
+
+/// Stops the test where a lookup model with so many slots, of numbers or of any symbols, answers otherwise than the searching one.
+fn looks_up<const SLOT_BITS: usize>(
+    rt: &impl Abort,
+    alloc: Global,
+    searching: &DefaultContiguousCategoricalEntropyModel,
+) {
+    let made = searching.to_slotted_lookup_decoder_model::<SLOT_BITS>(alloc);
+    all_alike(rt, searching, &made.expect(rt, "a table"));
+    let decoder = to_generic_decoder_model::<_, 24>(alloc, searching).expect(rt, "a decoder");
+    let made = decoder.to_slotted_lookup_decoder_model::<SLOT_BITS>(alloc);
+    all_alike(rt, searching, &made.expect(rt, "a table"));
+}
+
+/// How many rows, and how great a weight is at most.
+const CASES: [(u32, u32); 5] = [
+    (1, 1),
+    (2, 16_777_215),
+    (16, 1_000_000),
+    (300, 50_000),
+    (4096, 4000),
+];
+
+#[test]
+fn models_with_slots_answer_as_those_that_search(rt: HostRuntime) {
+    for each in &CASES {
+        let (rows, most) = *each;
+        let weights = weights(rt.alloc(), rows, most).expect(&rt, "memory");
+        let searching =
+            DefaultContiguousCategoricalEntropyModel::from_nonzero_fixed_point_probabilities(
+                rt.alloc(),
+                weights,
+                true,
+            ).expect(&rt, "accepted");
+        looks_up::<8>(&rt, rt.alloc(), &searching);
+        looks_up::<12>(&rt, rt.alloc(), &searching);
+        looks_up::<16>(&rt, rt.alloc(), &searching);
+    }
+}

@@ -1,0 +1,46 @@
+//! Which models know that their symbols differ, and what a caller learns by it.
+
+ghost use Rattle.std.specs.Prelude.{IsTrue};
+ghost use Rattle.std.specs.List.{IsDistinct};
+ghost use Rattle.constriction.specs.Rows.{symbols_of};
+
+use crate::checks::same;
+use constriction::stream::model::{
+    IterableEntropyModel, ModelError, UniformModel, to_generic_decoder_model,
+    to_generic_decoder_model_by_comparison,
+};
+use constriction_fixtures::any_symbols::{SYMBOLS, WEIGHTS, decoder};
+use constriction_fixtures::own_model::three;
+use constriction_fixtures::symbol_types::letters;
+use constriction_fixtures::widths::model_of;
+
+/// What a caller who knows the trait alone learns.
+fn told<M: IterableEntropyModel<PRECISION>, const PRECISION: usize>(model: &M) -> bool
+where
+    M::Symbol: Eq,
+    requires { M.is_equality M.Symbol.eq }
+    ensures { IsTrue result → IsDistinct M.Symbol.eq (symbols_of (M.rows model.now)) }
+{
+    model.symbols_differ()
+}
+
+#[test]
+fn models_of_the_library_know_that_their_symbols_differ(rt: HostRuntime) {
+    let numbers = model_of::<u8, 6>(rt.alloc(), &WEIGHTS, false).expect(&rt, "accepted");
+    same(&rt, told::<_, 6>(&&numbers), true);
+    same(&rt, told::<_, 6>(&UniformModel::<u8, 6>::new(4)), true);
+    let chars = decoder::<6>(rt.alloc(), &SYMBOLS, &WEIGHTS, false).expect(&rt, "accepted");
+    same(&rt, told::<_, 6>(&&chars), true);
+    let made = to_generic_decoder_model::<_, 6>(rt.alloc(), &chars).expect(&rt, "memory");
+    same(&rt, made.support_size(), 4);
+}
+
+#[test]
+fn a_model_of_the_caller_that_says_nothing_is_compared(rt: HostRuntime) {
+    same(&rt, told::<_, 3>(&&three('a', 'b', 'c')), false);
+    let made = to_generic_decoder_model_by_comparison::<_, 3>(rt.alloc(), &three('p', 'q', 'p'));
+    same(&rt, made.err(), Some(ModelError::InvalidTable));
+    let model = letters(rt.alloc()).expect(&rt, "accepted");
+    let made = to_generic_decoder_model_by_comparison::<_, 6>(rt.alloc(), &model);
+    same(&rt, made.err(), Some(ModelError::OutOfMemory));
+}
