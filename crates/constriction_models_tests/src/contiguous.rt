@@ -5,11 +5,14 @@ ghost use Rattle.std.specs.Prelude.{◌^◌, ◌<◌, ◌≤◌};
 use crate::checks::{same, shows};
 use crate::model_checks::small;
 use constriction::stream::model::{
-    DecoderModel, EncoderModel, ModelError, SmallUniformModel, UniformSymbolTable,
+    DecoderModel, EncoderModel, IterableEntropyModel, ModelError, SmallUniformModel,
+    UniformSymbolTable, Weight,
 };
+use constriction_fixtures::contiguous::Small;
 use constriction_fixtures::intervals::{first_row_of, have_its_row};
 use constriction_fixtures::widths::Model;
 use constriction_words::WholeNumber;
+use std::alloc::{AllocError, Global};
 use std::iter;
 
 /// The symbol of a quantile and whether it has an entry, through the bounds alone.
@@ -90,4 +93,20 @@ fn each_quantile_of_a_symbol_has_its_row(rt: HostRuntime) {
         same(&rt, have_its_row(&model, symbol), Ok(true));
     }
     same(&rt, first_row_of::<_, 6>(&model, &4).is_none(), true);
+}
+
+/// The rows of a model, collected.
+fn collected(alloc: Global, model: &Small) -> Result<Vec<(usize, u8, Weight<u8>)>, AllocError> {
+    model.symbol_table().try_collect(alloc)
+}
+
+#[test]
+fn the_rows_of_a_model_are_collected(rt: HostRuntime) {
+    let model = small(&rt, rt.alloc());
+    let rows = collected(rt.alloc(), &model).expect(&rt, "memory");
+    same(&rt, rows.len(), 4);
+    match rows.get(2) {
+        Some((symbol, left, _)) => same(&rt, (*symbol, *left), (2, 21)),
+        None => same(&rt, true, false),
+    }
 }
