@@ -51,6 +51,8 @@ pub fn push_then_pop<Word, Backend: StackBackend<Word>>(
     word: Word,
 ) -> Result<Option<Word>, ReadWriteError<Backend::ReadError, Backend::WriteError>>
     requires { Backend.can_write backend.old }
+    ensures steps { IfOk result (λ read. (between : Backend) × Backend.write_gives backend.old word (Ok tt) between
+        × Backend.read_gives between (Ok read) backend.new) }
     ensures read { IfOk result (λ read. (words : List Word) → Backend.tells_written backend.old words
         → (read ≡ Some word) × Backend.tells_written backend.new words) }
     ensures refused { (error : Backend.WriteError) → result ≡ Err (ReadWriteError.Write error)

@@ -1,3 +1,4 @@
+pub mod AnnouncedLemmas
 pub mod ApartLemmas
 pub mod EndLemmas
 pub mod FillLemmas

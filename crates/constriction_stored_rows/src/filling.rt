@@ -89,14 +89,21 @@ pub(crate) fn is_inferred_last<P: WholeNumber>(room: P, infer_last: bool) -> boo
 /// How many rows to ask memory for at once, where so many are announced: no more than any list that is
 /// accepted has.
 #[inline]
-pub fn rows_announced<const PRECISION: usize>(announced: usize) -> usize {
+#[tactic(auto, using(crate::proofs::AnnouncedLemmas::few_announced))]
+pub fn rows_announced<const PRECISION: usize>(announced: usize) -> usize
+    ensures accepted { result ≤ 2 ^ PRECISION }
+    ensures announced { result ≤ announced }
+{
     announced.min(1usize << PRECISION.min(62))
 }
 
 /// How many entries to ask memory for at once, where so many rows are announced: one for each of them, and one
 /// for the total.
 #[inline]
-pub fn entries_announced<const PRECISION: usize>(announced: usize) -> usize {
+pub fn entries_announced<const PRECISION: usize>(announced: usize) -> usize
+    ensures accepted { result ≤ 2 ^ PRECISION + 1 }
+    ensures announced { result ≤ announced + 1 }
+{
     rows_announced::<PRECISION>(announced).saturating_add(1)
 }
 
@@ -104,7 +111,8 @@ pub fn entries_announced<const PRECISION: usize>(announced: usize) -> usize {
 /// items that come decides nothing yet.
 #[inline]
 pub fn room_for<T: Drop>(alloc: Global, announced: usize) -> Vec<T>
-    ensures { result.items ≡ [] }
+    ensures empty { result.items ≡ [] }
+    ensures capacity { vec_capacity result ≤ announced }
 {
     match Vec::with_capacity(alloc, announced) {
         Ok(room) => room,
@@ -125,7 +133,9 @@ pub fn copied<W: Copy>(alloc: Global, words: &[W]) -> Result<Vec<W>, AllocError>
 /// How many words to ask memory for at once: one for each weight that is announced, one for the
 /// inferred one, and one for the total.
 #[inline]
-fn words_needed<const PRECISION: usize>(announced: usize, infer_last: bool) -> usize {
+fn words_needed<const PRECISION: usize>(announced: usize, infer_last: bool) -> usize
+    ensures { result ≤ 2 ^ PRECISION + 1 }
+{
     let rows = if infer_last {
         announced.saturating_add(1)
     } else {
@@ -201,6 +211,8 @@ fn filled<P: WholeNumber, I: Iterator<Item = P>, const PRECISION: usize>(
     requires positive { 0 < PRECISION }
     requires fits { PRECISION ≤ P.BITS }
     requires empty { table.items ≡ [] }
+    // No more room than accepted weights need was asked for.
+    requires room { vec_capacity table ≤ 2 ^ PRECISION + 1 }
     requires goes { I.can_next rest.old }
     requires ends { IsFinite (I.remaining rest.old) }
     ensures ok { IfOk result (λ v. IsTableOf I.next_gives rest.old P.whole P.BITS PRECISION infer_last v.items) }

@@ -7,7 +7,7 @@ use Rattle.constriction_categorical.proofs.non_contiguous.entries_compared.Goals
 
 pub rows_read-requires-clause-none : goal.rows_read-requires-clause-none
 rows_read-requires-clause-none g c =
-    rw c.room_for-room.ensures (refl, refl)
+    rw c.room_for-room.ensures.empty (refl, refl)
 
 pub rows_read-requires-clause-symbols_go : goal.rows_read-requires-clause-symbols_go
 rows_read-requires-clause-symbols_go g c =

@@ -6,7 +6,7 @@ rows-init g c = (
   c.requires.goes,
   c.requires.ends,
   collected-none g.Walk.Iterator.next_gives c.args.walk g.Symbol.PartialEq.eq g.met.Symbol.Eq.laws.symm c.room_for-cdf.result.items
-      c.room_for-cdf.ensures,
+      c.room_for-cdf.ensures.empty,
 )
 
 pub rows-preserved : goal.rows-preserved

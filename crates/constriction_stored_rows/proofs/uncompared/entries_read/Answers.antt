@@ -5,7 +5,7 @@ use Rattle.constriction_stored_rows.proofs.MadeLemmas.{made-unrefused, bad-both}
 use Rattle.constriction_stored_rows.proofs.uncompared.entries_read.Goals as goal
 
 pub rows_read-requires-clause-none : goal.rows_read-requires-clause-none
-rows_read-requires-clause-none g c = rw c.room_for-entries.ensures (refl, refl)
+rows_read-requires-clause-none g c = rw c.room_for-entries.ensures.empty (refl, refl)
 
 pub rows_read-requires-clause-symbols_go : goal.rows_read-requires-clause-symbols_go
 rows_read-requires-clause-symbols_go g c =
