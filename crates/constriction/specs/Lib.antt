@@ -1,4 +1,5 @@
 pub use Rattle.constriction_model.specs.Acceptance
+pub use Rattle.constriction_model.specs.Coding
 pub use Rattle.constriction_model.specs.CodingLemmas
 pub use Rattle.constriction_model.specs.Entries
 pub use Rattle.constriction_stored_rows.specs.Filling
@@ -21,6 +22,7 @@ pub use Rattle.constriction_stored_rows.specs.StoredLemmas
 pub use Rattle.constriction_stored_rows.specs.StoredRowLemmas
 pub use Rattle.constriction_stored_rows.specs.SymbolRowLemmas
 pub use Rattle.constriction_model.specs.Tables
+pub use Rattle.constriction_model.specs.TurnLemmas
 pub use Rattle.constriction_model.specs.UniformRowLemmas
 pub use Rattle.constriction_model.specs.WalkLemmas
 pub use Rattle.constriction_conversions.specs.Walked

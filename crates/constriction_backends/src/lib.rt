@@ -17,6 +17,6 @@ pub use constriction_buffers::{SafeBuf, SafeBufMut};
 pub use constriction_sources::{
     BoundedReadWords, BoundedWriteWords, FallibleCallbackWriteWords, FallibleIteratorReadWords,
     FusedWords, InfallibleCallbackWriteWords, InfallibleIteratorReadWords, ReadWords, StackBackend,
-    WriteWords,
+    WordStack, WriteWords,
 };
 pub use constriction_words::ReadWriteError;

@@ -1,4 +1,5 @@
 pub mod Acceptance
+pub mod Coding
 pub mod CodingLemmas
 pub mod Entries
 pub mod GivenLemmas
@@ -14,5 +15,6 @@ pub mod Scanning
 pub mod Searching
 pub mod StandLemmas
 pub mod Tables
+pub mod TurnLemmas
 pub mod UniformRowLemmas
 pub mod WalkLemmas

@@ -6,6 +6,13 @@ use Rattle.std.specs.Prelude.{MatchResult, MatchOption, IsOk, OnErr}
 abbrev pub Pops : {W E : Type 0} → List W → Result (Option W) E → List W → Type 0
 Pops old r new = MatchResult r (λ o. MatchOption o ((old ≡ []) × (new ≡ [])) (λ w. old ≡ new ++ w ∷ [])) (λ _. ⊥)
 
+-- a read answers the last word and drops it, or None on the empty list; or it fails where there is a word, and leaves the list
+abbrev pub PopsOrFails : {W E : Type 0} → List W → Result (Option W) E → List W → Type 0
+PopsOrFails old r new =
+    MatchResult r
+    (λ o. MatchOption o ((old ≡ []) × (new ≡ [])) (λ w. old ≡ new ++ w ∷ []))
+    (λ _. (old ≢ []) × (new ≡ old))
+
 -- a write puts the word at the end, or is refused and leaves the list
 abbrev pub Pushes : {W E : Type 0} → List W → W → Result (Unit {0}) E → List W → Type 0
 Pushes old w r new = MatchResult r (λ _. new ≡ old ++ w ∷ []) (λ _. new ≡ old)

@@ -7,7 +7,7 @@ use Rattle.std.proofs.Common.{sym, ◌∙◌, ap, subst, refl}
 use Rattle.std.proofs.lemmas.List.{reverse-append, reverse-reverse, length-append, length-reverse}
 use Rattle.constriction_sources.specs.Source.{ReadsTold, CountsRead}
 use Rattle.constriction_sources.specs.Sink.{WritesTold}
-use Rattle.constriction_sources.specs.Stack.{Pops, Pushes, PopsTold}
+use Rattle.constriction_sources.specs.Stack.{Pops, Pushes, PopsTold, PopsOrFails}
 
 module _ {S W : Type 0} (items : S → List W) {E : Type 0} where
   -- a stack gives its words back in reverse
@@ -106,3 +106,15 @@ module _ {S W : Type 0} (upcoming written : S → List W → Type 0)
         λ none. read.0 (ap reverse none),
         subst (λ (ws : List W). written t ws) (reverse-reverse words) (upcoming_is_written t (reverse words) read.1),
       )
+
+-- what a stack tells before and after a step is what the step does to its words, where it tells these and no others
+module _ {S W E : Type 0} (tells : S → List W → Type 0) (words_of : S → List W)
+    (no_others : (s : S) (words : List W) → tells s words → words ≡ words_of s) (old : List W) where
+  pub known_pushes : (w : W) (r : Result (Unit {0}) E) (t : S) → WritesTold tells old w r t → Pushes old w r (words_of t)
+  known_pushes w (Ok x) t h = sym (no_others t (old ++ w ∷ []) h)
+  known_pushes w (Err e) t h = sym (no_others t old h)
+
+  pub known_pops : (r : Result (Option W) E) (t : S) → PopsTold tells old r t → PopsOrFails old r (words_of t)
+  known_pops (Ok None) t h = (h.0, sym (no_others t old h.1) ∙ h.0)
+  known_pops (Ok (Some w)) t h = h.1 ∙ ap (λ ws. ws ++ w ∷ []) (no_others t h.0 h.2)
+  known_pops (Err e) t h = (h.0, sym (no_others t old h.1))

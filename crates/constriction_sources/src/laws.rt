@@ -8,8 +8,10 @@ ghost use Rattle.constriction_sources.specs.Sink.{TakesItems, ExtendsBy};
 ghost use Rattle.constriction_sources.specs.Stack.{Pops, Pushes, PopsTold, ReadsWhatWasWritten};
 
 mod iterators;
+mod word_stacks;
 
 pub use self::iterators::{item_end_is_for_good, word_end_is_for_good};
+pub use self::word_stacks::{pop, push};
 use crate::read::BoundedReadWords;
 use crate::stack::StackBackend;
 use crate::write::{BoundedWriteWords, WriteWords};

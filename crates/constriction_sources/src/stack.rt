@@ -1,6 +1,6 @@
 //! Backends that give back, the last one first, what was written to them.
 
-ghost use Rattle.std.specs.Prelude.{◌≡◌, List, reverse};
+ghost use Rattle.std.specs.Prelude.{◌≡◌, List, refl, reverse};
 ghost use Rattle.std.proofs.Common.{ap, ◌∙◌};
 ghost use Rattle.std.proofs.lemmas.List.{reverse-reverse};
 
@@ -48,4 +48,36 @@ impl<Word: MadeWith<A> + Drop, const N: usize, A: Allocator + Copy> StackBackend
     ghost writable_is_readable = { λ s may. may };
 
     ghost readable_is_writable = { λ s may. may };
+}
+
+/// A stack whose words are known.
+///
+/// It tells the words that it has, and no others, so that a contract may name them: an invariant may tie
+/// them to what a coder holds beside them.
+pub trait WordStack<Word>: StackBackend<Word> {
+    // The words, the one on top last.
+    ghost words_of: { Self → List Word };
+
+    // It tells them,
+    ghost tells_words: { (s : Self) → Self.tells_written s (words_of s) };
+
+    // and no others.
+    ghost tells_no_others: { (s : Self) (words : List Word) → Self.tells_written s words → words ≡ words_of s };
+}
+
+impl<Word: Drop> WordStack<Word> for Vec<Word> {
+    ghost words_of = { λ s. s.items };
+
+    ghost tells_words = { λ s. refl };
+
+    ghost tells_no_others = { λ s words told. told };
+}
+
+impl<Word: MadeWith<A> + Drop, const N: usize, A: Allocator + Copy> WordStack<Word>
+    for SmallVec<Word, N, A> {
+    ghost words_of = { λ s. s.items };
+
+    ghost tells_words = { λ s. refl };
+
+    ghost tells_no_others = { λ s words told. told };
 }

@@ -1,0 +1,33 @@
+//! What a stack whose words are known does to them.
+
+ghost use Rattle.std.specs.Prelude.{◌≡◌};
+ghost use Rattle.constriction_sources.specs.Stack.{Pushes, PopsOrFails};
+
+use crate::stack::WordStack;
+
+/// Puts a word on top, or is refused and leaves the words.
+#[inline]
+pub fn push<Word, Backend: WordStack<Word>>(
+    backend: &mut Backend,
+    word: Word,
+) -> Result<(), Backend::WriteError>
+    requires { Backend.can_write backend.old }
+    ensures goes_on { Backend.can_write backend.new }
+    ensures gives { Backend.write_gives backend.old word result backend.new }
+    ensures pushes { Pushes (Backend.words_of backend.old) word result (Backend.words_of backend.new) }
+{
+    backend.write(word)
+}
+
+/// Takes the word on top where there is one; or fails where there is one, and leaves the words.
+#[inline]
+pub fn pop<Word, Backend: WordStack<Word>>(
+    backend: &mut Backend,
+) -> Result<Option<Word>, Backend::ReadError>
+    requires { Backend.can_read backend.old }
+    ensures goes_on { Backend.can_read backend.new }
+    ensures gives { Backend.read_gives backend.old result backend.new }
+    ensures pops { PopsOrFails (Backend.words_of backend.old) result (Backend.words_of backend.new) }
+{
+    backend.read()
+}
