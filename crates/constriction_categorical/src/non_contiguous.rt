@@ -10,7 +10,7 @@ ghost use Rattle.constriction_model.specs.Precision.{IsPrecision};
 ghost use Rattle.constriction_model.specs.Probe.{IsProbeFor};
 ghost use Rattle.constriction_model.specs.Rows.{rows_of};
 ghost use Rattle.constriction_stored_rows.specs.QuestionLemmas.{all-in-question, none-most};
-ghost use Rattle.constriction_stored_rows.specs.Stored.{IsStored, ends_of, rows_paired};
+ghost use Rattle.constriction_stored_rows.specs.Stored.{IsStored, StandBeside, rows_paired};
 ghost use Rattle.constriction_stored_rows.specs.SymbolRowLemmas.{paired-tiles};
 ghost use Rattle.constriction_model.specs.Tables.{rows_between};
 
@@ -23,7 +23,7 @@ use constriction_model::{
 };
 use constriction_numbers::WholeNumber;
 use constriction_stored_rows::{
-    cloned_row_at, entries_announced, entries_cloned, room_for, row_ends, rows_read,
+    cloned_row_at, entries_announced, entries_cloned, room_for, rows_read, words_beside,
 };
 use std::alloc::{AllocError, Global};
 use std::marker::PhantomData;
@@ -31,7 +31,7 @@ use std::marker::PhantomData;
 /// A model of any symbols, no two of which are equal, for decoders: it finds the row of a quantile.
 ///
 /// It stores one entry a symbol, the left cumulative and the symbol, in a buffer of the caller's choice, and
-/// beside it two words, where the first row ends and where the last one does.
+/// beside it two words, by which it reads where a row ends.
 #[derive(Debug, Drop)]
 pub struct NonContiguousCategoricalDecoderModel<
     Symbol: Eq,
@@ -40,12 +40,12 @@ pub struct NonContiguousCategoricalDecoderModel<
     const PRECISION: usize,
 > {
     pub(crate) cdf: Cdf,
-    pub(crate) ends: [Probability; 2],
+    pub(crate) beside: [Probability; 2],
     pub(crate) entries: PhantomData<(Probability, Symbol)>,
     ghost precise: { (0 < PRECISION) × (PRECISION ≤ Probability.BITS) },
     ghost stored: { IsStored Probability.BITS PRECISION (map (λ x. Probability.whole x.0) (Cdf.words_of cdf)) },
-    ghost ended: { map Probability.whole ends ≡ ends_of Probability.BITS PRECISION
-        (map (λ x. Probability.whole x.0) (Cdf.words_of cdf)) },
+    ghost aided: { StandBeside Probability.BITS PRECISION (map (λ x. Probability.whole x.0) (Cdf.words_of cdf))
+        (map Probability.whole beside) },
     ghost distinct: { IsDistinct Symbol.eq (map (λ x. x.1) (Cdf.words_of cdf)) } by { Prim.hlevel props },
 }
 
@@ -117,10 +117,10 @@ pub fn decoder_over<Symbol: Eq, Probability: WholeNumber, const PRECISION: usize
     ensures { ⟦<NonContiguousCategoricalDecoderModel<Symbol, Probability, Vec<(Probability, Symbol)>, PRECISION> as EntropyModel<PRECISION>>⟧.rows result
         ≡ rows_paired Probability.whole PRECISION entries.items }
 {
-    let ends = row_ends::<Probability, Symbol, PRECISION>(&entries);
+    let beside = words_beside::<Probability, Symbol, PRECISION>(&entries);
     NonContiguousCategoricalDecoderModel {
         cdf: entries,
-        ends,
+        beside,
         entries: PhantomData,
     }
 }
@@ -233,7 +233,7 @@ impl<
     {
         NonContiguousCategoricalDecoderModel {
             cdf: self.cdf.words(),
-            ends: self.ends,
+            beside: self.beside,
             entries: PhantomData,
         }
     }
@@ -343,7 +343,7 @@ impl<
     ) -> Result<((Symbol, Probability, Weight<Probability>), usize), AllocError> {
         let entries = self.cdf_entries();
         let (index, asked) = row_in_entries::<(Probability, Symbol), WithSymbol>(entries, quantile);
-        match cloned_row_at::<Probability, Symbol, PRECISION>(entries, &self.ends, index) {
+        match cloned_row_at::<Probability, Symbol, PRECISION>(entries, &self.beside, index) {
             Ok(row) => Ok((row, asked)),
             Err(refused) => Err(refused),
         }

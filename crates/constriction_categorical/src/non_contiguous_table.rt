@@ -8,7 +8,7 @@ ghost use Rattle.constriction_model.specs.Tables.{YieldsRow, YieldsLastRow, rows
 
 use constriction_model::Weight;
 use constriction_numbers::WholeNumber;
-use constriction_stored_rows::paired_row_at;
+use constriction_stored_rows::{end_before, paired_row_at, row_up_to};
 use std::alloc::AllocError;
 use std::iter::FusedIterator;
 
@@ -43,10 +43,11 @@ impl<'m, Symbol: Clone, Probability: WholeNumber, const PRECISION: usize> Iterat
     #[inline]
     fn next(&mut self) -> Option<Result<(Symbol, Probability, Weight<Probability>), AllocError>> {
         let index = self.from;
-        if index == self.to {
+        let Some(end) = end_before::<Probability, Symbol, PRECISION>(self.cdf, index, self.to)
+        else {
             return None;
-        }
-        let (left, weight) = paired_row_at::<Probability, Symbol, PRECISION>(self.cdf, index);
+        };
+        let (left, weight) = row_up_to::<Probability, Symbol, PRECISION>(self.cdf, end, index);
         self.from = index + 1;
         match self.cdf[index].1.clone() {
             Ok(symbol) => Some(Ok((symbol, left, weight))),

@@ -13,7 +13,7 @@ use crate::non_contiguous::NonContiguousCategoricalDecoderModel;
 use constriction_buffers::SafeBuf;
 use constriction_model::{Alone, CdfEntry, DecoderModel, EntropyModel, Weight, WithSymbol};
 use constriction_numbers::WholeNumber;
-use constriction_stored_rows::{cloned_row_at, cloned_row_beside, contiguous_row_at};
+use constriction_stored_rows::{cloned_row_among, cloned_row_at, contiguous_row_at};
 use std::alloc::AllocError;
 
 /// A model that stores an entry a row, in order, and lends them. A caller's own model may be one.
@@ -142,7 +142,7 @@ impl<
         &self,
         index: usize,
     ) -> Result<(Symbol, Probability, Weight<Probability>), AllocError> {
-        cloned_row_at::<Probability, Symbol, PRECISION>(self.cdf_entries(), &self.ends, index)
+        cloned_row_at::<Probability, Symbol, PRECISION>(self.cdf_entries(), &self.beside, index)
     }
 
     #[inline]
@@ -151,10 +151,7 @@ impl<
         cdf: &[Probability],
         index: usize,
     ) -> Result<(Symbol, Probability, Weight<Probability>), AllocError> {
-        if cdf.is_empty() {
-            return self.row_at(index);
-        }
-        cloned_row_beside::<Probability, Symbol, PRECISION>(self.cdf_entries(), cdf, index)
+        cloned_row_among::<Probability, Symbol, PRECISION>(self.cdf_entries(), cdf, index)
     }
 }
 

@@ -1,12 +1,12 @@
 -- Where rows end, as words, and that the difference to where they begin is their weight.
-use Rattle.std.proofs.Common.{◌≡◌, ℕ, ◌+◌, ◌%◌, ◌^◌, ◌<◌, ◌≤◌, List, length, get_or, map, ap, sym, ◌∙◌, arith, inl, inr}
-use Rattle.std.proofs.Math.Nat.{mod-eq_of_lt, pow-le-pow_right}
+use Rattle.std.proofs.Common.{◌≡◌, ℕ, suc, zero, ◌+◌, ◌-◌, ◌%◌, ◌^◌, ◌<◌, ◌≤◌, List, [], ◌∷◌, length, get_or, map, ap, sym, refl, ◌∙◌, arith, inl, inr}
+use Rattle.std.proofs.Math.Nat.{mod-eq_of_lt, mod-lt, pow-le-pow_right}
 use Rattle.std.proofs.lemmas.Bool.{cases_lt}
-use Rattle.std.proofs.lemmas.List.{length-map, get_or_default, get_or_past}
+use Rattle.std.proofs.lemmas.Nat.{pow_pos}
+use Rattle.std.proofs.lemmas.List.{length-append, length-map, get_or_append_left, get_or-append_right, get_or_default, get_or_past}
 use Rattle.constriction_model.proofs.Differences.{difference-mod}
-use Rattle.constriction_stored_rows.specs.Stored.{IsStored, IsTable, end_at, ends_of, total_of, with_total, lefts_in, weights_of}
+use Rattle.constriction_stored_rows.specs.Stored.{IsStored, StandBeside, end_at, ends_of, total_of, with_total, weights_of}
 use Rattle.constriction_stored_rows.specs.StoredLemmas.{stored-row, read-whole}
-use Rattle.constriction_stored_rows.proofs.TableLemmas.{all-but_last}
 
 module _ (bits precision : ℕ) (lefts : List ℕ) where
   -- the next row begins there
@@ -48,20 +48,62 @@ module _ (bits precision : ℕ) (lefts : List ℕ) where
         difference-mod (2 ^ bits) weight (get_or (weights_of precision lefts) i 0) left small row.fits low
         (e ∙ is ∙ row-ends i h ∙ ap (λ k. (get_or (weights_of precision lefts) i 0 + k) % 2 ^ bits) here)
 
-  -- with the total after them they are a table
-  pub total-table : (table : List ℕ) → IsStored bits precision lefts → table ≡ with_total bits precision lefts
-      → IsTable bits precision table × (lefts_in table ≡ lefts)
-  total-table table t e =
-      let all : lefts_in table ≡ lefts = all-but_last lefts table (total_of bits precision) e in
-      (record { stored = rw all t; ends = rw all e }, all)
+  -- of two rows or fewer their ends are those of the first and of the last one
+  pub ends-at : (i : ℕ) → length lefts ≤ 2 → i < length lefts
+      → get_or (ends_of bits precision lefts) i 0 ≡ end_at bits precision lefts i
+  ends-at zero few h = refl
+  ends-at (suc zero) few h = sym (end-last 1 (omega arith))
+  ends-at (suc (suc i)) few h = absurd (omega arith)
 
--- what is read of the ends of the first and of the last row
-module _ {Word : Type 0} (whole : Word → ℕ) (bits precision : ℕ) (lefts : List ℕ) (ends : List Word)
-    (e : map whole ends ≡ ends_of bits precision lefts) where
-  pub two-ends : length ends ≡ 2
-  two-ends = sym (length-map ends whole) ∙ ap length e
+  -- with the total after them, a row ends where the next number says
+  pub end-in : (i : ℕ) → i < length lefts → get_or (with_total bits precision lefts) (i + 1) 0 ≡ end_at bits precision lefts i
+  end-in i h = elim (cases_lt (i + 1) (length lefts)) [
+    | inl more ↦ get_or_append_left lefts (total_of bits precision ∷ []) 0 (i + 1) more ∙ sym (end-next i more)
+    | inr none ↦
+        let first : i + 1 - length lefts ≡ 0 = omega arith in
+        get_or-append_right lefts (total_of bits precision ∷ []) (length lefts) (i + 1) 0 refl none
+        ∙ ap (λ n. get_or (total_of bits precision ∷ []) n 0) first ∙ sym (end-last i none)
+  ]
 
-  pub end-read : (i : ℕ) (x : Word) → i < 2 → x ≡ get_or ends i x → whole x ≡ get_or (ends_of bits precision lefts) i 0
-  end-read i x h is =
-      let here : i < length ends = omega (arith, two-ends) in
-      sym (read-whole whole ends i x here is) ∙ ap (λ xs. get_or xs i 0) e
+  -- so do words
+  module _ {Word : Type 0} (whole : Word → ℕ) (cdf : List Word) (e : map whole cdf ≡ with_total bits precision lefts) where
+    pub among-long : length cdf ≡ length lefts + 1
+    among-long = sym (length-map cdf whole) ∙ ap length e ∙ length-append lefts (total_of bits precision ∷ [])
+
+    pub among-end : (i : ℕ) (x : Word) → i < length lefts → x ≡ get_or cdf (i + 1) x → whole x ≡ end_at bits precision lefts i
+    among-end i x h is =
+        sym (read-whole whole cdf (i + 1) x (omega (arith, among-long)) is) ∙ ap (λ ns. get_or ns (i + 1) 0) e ∙ end-in i h
+
+-- what is read of the words that stand beside, where rows end
+module _ {Word : Type 0} (whole : Word → ℕ) (bits precision : ℕ) (lefts : List ℕ) (beside : List Word)
+    (b : StandBeside bits precision lefts (map whole beside)) where
+  pub beside-two : length beside ≡ 2
+  beside-two = sym (length-map beside whole) ∙ b.two
+
+  -- of two rows or fewer they are the ends
+  pub beside-end : (i : ℕ) (x : Word) → length lefts ≤ 2 → i < length lefts → x ≡ get_or beside i x
+      → whole x ≡ end_at bits precision lefts i
+  beside-end i x few h is =
+      let here : i < length beside = omega (arith, beside-two) in
+      sym (read-whole whole beside i x here is) ∙ ap (λ xs. get_or xs i 0) (b.ends few) ∙ ends-at bits precision lefts i few h
+
+  -- of more, what is left of the next row's left cumulative
+  pub beside-next : (i r : ℕ) (x : Word) → 2 < length lefts → i + 1 < length lefts → x ≡ get_or beside 1 x → r < 2 ^ bits
+      → (r + whole x) % 2 ^ bits ≡ get_or lefts (i + 1) 0 → r ≡ end_at bits precision lefts i
+  beside-next i r x many h is small e =
+      let zero : whole x ≡ 0 = sym (read-whole whole beside 1 x (omega (arith, beside-two)) is) ∙ b.none many in
+      let same : r + whole x ≡ r = omega (arith, zero) in
+      sym (mod-eq_of_lt small) ∙ ap (λ n. n % 2 ^ bits) (sym same) ∙ e ∙ sym (end-next bits precision lefts i h)
+
+  -- and of the last row's own
+  pub beside-last : (i r : ℕ) (x : Word) → 2 < length lefts → i + 1 ≡ length lefts → x ≡ get_or beside 0 x → r < 2 ^ bits
+      → (r + whole x) % 2 ^ bits ≡ get_or lefts i 0 → r ≡ end_at bits precision lefts i
+  beside-last i r x many h is small e =
+      let told : get_or (map whole beside) 0 0 ≡ whole x = read-whole whole beside 0 x (omega (arith, beside-two)) is in
+      let fits : whole x < 2 ^ bits = omega (arith, told, b.fits many) in
+      let last : length lefts - 1 ≡ i = omega arith in
+      let leads : (total_of bits precision + whole x) % 2 ^ bits ≡ get_or lefts i 0 =
+      ap (λ n. (total_of bits precision + n) % 2 ^ bits) (sym told) ∙ b.leads many ∙ ap (λ n. get_or lefts n 0) last in
+      let total : total_of bits precision < 2 ^ bits = mod-lt _ (pow_pos bits) in
+      difference-mod (2 ^ bits) r (total_of bits precision) (whole x) small total fits (e ∙ sym leads)
+      ∙ sym (end-last bits precision lefts i (omega arith))

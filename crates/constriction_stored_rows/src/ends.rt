@@ -2,58 +2,124 @@
 //!
 //! Of each row but the last one the next entry tells it. No entry tells the total, at which the last row ends.
 
-ghost use Rattle.std.specs.Prelude.{◌≡◌, ◌+◌, ◌++◌, ◌<◌, ◌≤◌, length, map, slice_index, slice_index_or, IfOk, IfErr};
+ghost use Rattle.std.specs.Prelude.{◌≡◌, ◌+◌, ◌++◌, ◌<◌, ◌≤◌, length, map, slice_index, slice_index_or, IfOk, IfErr, IfSome, IfNone};
 ghost use Rattle.constriction_model.specs.Model.{row_of, LiesWithin};
 ghost use Rattle.constriction_model.specs.Rows.{Row};
-ghost use Rattle.constriction_stored_rows.specs.Stored.{IsStored, end_at, ends_of, rows_paired, weights_of, with_total};
+ghost use Rattle.constriction_stored_rows.specs.SlotTable.{MayFollow};
+ghost use Rattle.constriction_stored_rows.specs.Stored.{IsStored, StandBeside, end_at, rows_paired, weights_of, with_total};
 
 use crate::filling::and_item;
-use crate::stored::row_at;
 use constriction_model::{CdfEntry, Weight};
 use constriction_numbers::WholeNumber;
 use std::alloc::AllocError;
 
-/// Where the first row ends, and where the last one does.
+/// Two words that stand beside the entries, by which where a row ends is read and not chosen. Of two rows or fewer they
+/// are where the first one ends and where the last one does. Of more the second is 0, and the first is what has to be
+/// taken, modulo the words, from where the last row begins to come to the total.
 #[inline]
-pub fn row_ends<P: WholeNumber, Symbol, const PRECISION: usize>(entries: &[(P, Symbol)]) -> [P; 2]
+pub fn words_beside<P: WholeNumber, Symbol, const PRECISION: usize>(
+    entries: &[(P, Symbol)],
+) -> [P; 2]
     requires positive { 0 < PRECISION }
     requires fits { PRECISION ≤ P.BITS }
-    ensures { map P.whole result ≡ ends_of P.BITS PRECISION (map (λ x. P.whole x.0) entries.now) }
+    ensures { StandBeside P.BITS PRECISION (map (λ x. P.whole x.0) entries.now) (map P.whole result) }
 {
     let total = P::wrapping_pow2(PRECISION);
-    if entries.len() < 2 {
+    let rows = entries.len();
+    if rows < 2 {
         return [total, total];
     }
-    [entries[1].0, total]
+    if rows == 2 {
+        return [entries[1].0, total];
+    }
+    [entries[rows - 1].0.wrapping_minus(total), P::least()]
 }
 
-/// Where the row at `index` ends. Of two rows or fewer the ends stand beside the entries. Of more, an address is
-/// chosen and then read, which is compiled to a move; a choice between two words is compiled to a jump, which the
-/// processor guesses wrong where the last row has many of the quantiles.
+/// Where the row at `index` ends. Of two rows or fewer the ends stand beside the entries. Of more, the next entry is
+/// read, or of the last row its own, and what stands beside is taken from it, which is 0 but for the last row.
 #[inline(always)]
 fn end_beside<P: WholeNumber, Symbol, const PRECISION: usize>(
     entries: &[(P, Symbol)],
-    ends: &[P],
+    beside: &[P],
     index: usize,
 ) -> P
-    requires ends { map P.whole ends.now ≡ ends_of P.BITS PRECISION (map (λ x. P.whole x.0) entries.now) }
+    requires beside { StandBeside P.BITS PRECISION (map (λ x. P.whole x.0) entries.now) (map P.whole beside.now) }
     requires in_bounds { index < length entries.now }
     ensures { P.whole result ≡ end_at P.BITS PRECISION (map (λ x. P.whole x.0) entries.now) index }
 {
     if entries.len() <= 2 {
-        return ends[index];
+        return beside[index];
     }
-    let end = if index + 1 < entries.len() {
-        &entries[index + 1].0
-    } else {
-        &ends[1]
-    };
-    *end
+    let next = usize::from(index < entries.len() - 1);
+    entries[index + next].0.wrapping_minus(beside[next])
+}
+
+/// The same where nothing stands beside the entries: where the next one begins, or the total. It is out of line, since
+/// its callers ask it of a last row alone, or never, and a loop is shorter without it.
+#[inline(never)]
+fn end_of<P: WholeNumber, Symbol, const PRECISION: usize>(
+    entries: &[(P, Symbol)],
+    index: usize,
+) -> P
+    requires positive { 0 < PRECISION }
+    requires fits { PRECISION ≤ P.BITS }
+    requires in_bounds { index < length entries.now }
+    ensures { P.whole result ≡ end_at P.BITS PRECISION (map (λ x. P.whole x.0) entries.now) index }
+{
+    if index + 1 < entries.len() {
+        return entries[index + 1].0;
+    }
+    P::wrapping_pow2(PRECISION)
+}
+
+/// Where the row at `from` ends, in a walk that goes up to `to`, or `None` at its end. While more than one row is left
+/// there is a next entry, so that a loop makes one test for a row, and asks for the total at its end alone.
+#[inline(always)]
+pub fn end_before<P: WholeNumber, Symbol, const PRECISION: usize>(
+    entries: &[(P, Symbol)],
+    from: usize,
+    to: usize,
+) -> Option<P>
+    requires positive { 0 < PRECISION }
+    requires fits { PRECISION ≤ P.BITS }
+    requires order { from ≤ to }
+    requires in_bounds { to ≤ length entries.now }
+    ensures none { IfNone result (from ≡ to) }
+    ensures some { IfSome result (λ end. (from < to)
+        × (P.whole end ≡ end_at P.BITS PRECISION (map (λ x. P.whole x.0) entries.now) from)) }
+{
+    let rows = to - from;
+    if rows > 1 {
+        return Some(entries[from + 1].0);
+    }
+    if rows == 0 {
+        return None;
+    }
+    Some(end_of::<P, Symbol, PRECISION>(entries, from))
+}
+
+/// Where the row at `index` ends, where the left cumulatives, with the total after them, may stand beside the entries.
+#[inline(always)]
+fn end_among<P: WholeNumber, Symbol, const PRECISION: usize>(
+    entries: &[(P, Symbol)],
+    cdf: &[P],
+    index: usize,
+) -> P
+    requires positive { 0 < PRECISION }
+    requires fits { PRECISION ≤ P.BITS }
+    requires cdf { MayFollow P.BITS PRECISION (map (λ x. P.whole x.0) entries.now) (map P.whole cdf.now) }
+    requires in_bounds { index < length entries.now }
+    ensures { P.whole result ≡ end_at P.BITS PRECISION (map (λ x. P.whole x.0) entries.now) index }
+{
+    if cdf.is_empty() {
+        return end_of::<P, Symbol, PRECISION>(entries, index);
+    }
+    cdf[index + 1]
 }
 
 /// Where the row at `index` begins, and its weight: the difference to where it ends.
 #[inline]
-fn row_up_to<P: WholeNumber, Symbol, const PRECISION: usize>(
+pub fn row_up_to<P: WholeNumber, Symbol, const PRECISION: usize>(
     entries: &[(P, Symbol)],
     end: P,
     index: usize,
@@ -70,8 +136,8 @@ fn row_up_to<P: WholeNumber, Symbol, const PRECISION: usize>(
     (left, end.wrapping_minus(left).to_weight())
 }
 
-/// Where the row at `index` begins, and its weight. Which row is the last one is asked by a jump: a walk guesses it
-/// wrong at its end alone.
+/// Where the row at `index` begins, and its weight. Which row is the last one is asked by a jump: a walk backwards
+/// guesses it wrong once.
 #[inline]
 pub fn paired_row_at<P: WholeNumber, Symbol, const PRECISION: usize>(
     entries: &[(P, Symbol)],
@@ -91,16 +157,16 @@ pub fn paired_row_at<P: WholeNumber, Symbol, const PRECISION: usize>(
     row_up_to::<P, Symbol, PRECISION>(entries, P::wrapping_pow2(PRECISION), index)
 }
 
-/// The row at `index`, and a clone of its symbol. The ends of the first and of the last row stand beside the entries.
+/// The row at `index`, where that row ends is known, and a clone of its symbol.
 #[inline]
-pub fn cloned_row_at<P: WholeNumber, Symbol: Clone, const PRECISION: usize>(
+fn cloned_row_up_to<P: WholeNumber, Symbol: Clone, const PRECISION: usize>(
     entries: &[(P, Symbol)],
-    ends: &[P],
+    end: P,
     index: usize,
 ) -> Result<(Symbol, P, Weight<P>), AllocError>
     requires fits { PRECISION ≤ P.BITS }
     requires stored { IsStored P.BITS PRECISION (map (λ x. P.whole x.0) entries.now) }
-    requires ends { map P.whole ends.now ≡ ends_of P.BITS PRECISION (map (λ x. P.whole x.0) entries.now) }
+    requires end { P.whole end ≡ end_at P.BITS PRECISION (map (λ x. P.whole x.0) entries.now) index }
     requires in_bounds { index < length entries.now }
     ensures row { IfOk result (λ x. (own : Symbol) × Symbol.is_clone own x.0
         × (slice_index_or (rows_paired P.whole PRECISION entries.now) index (row_of P.whole P.base (own, x.1, x.2))
@@ -109,7 +175,6 @@ pub fn cloned_row_at<P: WholeNumber, Symbol: Clone, const PRECISION: usize>(
     ensures refused { IfErr result (λ _. (r : Row Symbol)
         × (slice_index_or (rows_paired P.whole PRECISION entries.now) index r ≡ r) × ¬ (Symbol.is_infallible r.symbol)) }
 {
-    let end = end_beside::<P, Symbol, PRECISION>(entries, ends, index);
     let (left, weight) = row_up_to::<P, Symbol, PRECISION>(entries, end, index);
     match entries[index].1.clone() {
         Ok(symbol) => Ok((symbol, left, weight)),
@@ -117,17 +182,16 @@ pub fn cloned_row_at<P: WholeNumber, Symbol: Clone, const PRECISION: usize>(
     }
 }
 
-/// The row at `index`, and a clone of its symbol. The left cumulatives, with the total after them, stand beside the
-/// entries, so that no row is asked whether it is the last one.
+/// The row at `index`, and a clone of its symbol. The words of [`words_beside`] stand beside the entries.
 #[inline]
-pub fn cloned_row_beside<P: WholeNumber, Symbol: Clone, const PRECISION: usize>(
+pub fn cloned_row_at<P: WholeNumber, Symbol: Clone, const PRECISION: usize>(
     entries: &[(P, Symbol)],
-    cdf: &[P],
+    beside: &[P],
     index: usize,
 ) -> Result<(Symbol, P, Weight<P>), AllocError>
     requires fits { PRECISION ≤ P.BITS }
     requires stored { IsStored P.BITS PRECISION (map (λ x. P.whole x.0) entries.now) }
-    requires cdf { map P.whole cdf.now ≡ with_total P.BITS PRECISION (map (λ x. P.whole x.0) entries.now) }
+    requires beside { StandBeside P.BITS PRECISION (map (λ x. P.whole x.0) entries.now) (map P.whole beside.now) }
     requires in_bounds { index < length entries.now }
     ensures row { IfOk result (λ x. (own : Symbol) × Symbol.is_clone own x.0
         × (slice_index_or (rows_paired P.whole PRECISION entries.now) index (row_of P.whole P.base (own, x.1, x.2))
@@ -136,12 +200,32 @@ pub fn cloned_row_beside<P: WholeNumber, Symbol: Clone, const PRECISION: usize>(
     ensures refused { IfErr result (λ _. (r : Row Symbol)
         × (slice_index_or (rows_paired P.whole PRECISION entries.now) index r ≡ r) × ¬ (Symbol.is_infallible r.symbol)) }
 {
-    let (left, weight) = row_at::<P, PRECISION>(cdf, index);
-    let entry = &entries[index];
-    match entry.1.clone() {
-        Ok(symbol) => Ok((symbol, left, weight)),
-        Err(refused) => Err(refused),
-    }
+    let end = end_beside::<P, Symbol, PRECISION>(entries, beside, index);
+    cloned_row_up_to::<P, Symbol, PRECISION>(entries, end, index)
+}
+
+/// The row at `index`, and a clone of its symbol. Where anything stands in `cdf`, it is the left cumulatives with the
+/// total after them, so that no row is asked whether it is the last one.
+#[inline]
+pub fn cloned_row_among<P: WholeNumber, Symbol: Clone, const PRECISION: usize>(
+    entries: &[(P, Symbol)],
+    cdf: &[P],
+    index: usize,
+) -> Result<(Symbol, P, Weight<P>), AllocError>
+    requires positive { 0 < PRECISION }
+    requires fits { PRECISION ≤ P.BITS }
+    requires stored { IsStored P.BITS PRECISION (map (λ x. P.whole x.0) entries.now) }
+    requires cdf { MayFollow P.BITS PRECISION (map (λ x. P.whole x.0) entries.now) (map P.whole cdf.now) }
+    requires in_bounds { index < length entries.now }
+    ensures row { IfOk result (λ x. (own : Symbol) × Symbol.is_clone own x.0
+        × (slice_index_or (rows_paired P.whole PRECISION entries.now) index (row_of P.whole P.base (own, x.1, x.2))
+        ≡ row_of P.whole P.base (own, x.1, x.2))) }
+    ensures within { IfOk result (λ x. LiesWithin PRECISION (row_of P.whole P.base x)) }
+    ensures refused { IfErr result (λ _. (r : Row Symbol)
+        × (slice_index_or (rows_paired P.whole PRECISION entries.now) index r ≡ r) × ¬ (Symbol.is_infallible r.symbol)) }
+{
+    let end = end_among::<P, Symbol, PRECISION>(entries, cdf, index);
+    cloned_row_up_to::<P, Symbol, PRECISION>(entries, end, index)
 }
 
 /// The words, and after them where each row begins and the total. Want of memory is its only refusal.

@@ -15,7 +15,9 @@ mod stored;
 mod uncompared;
 
 pub use crate::apart::{are_apart, are_in_order};
-pub use crate::ends::{cloned_row_at, cloned_row_beside, paired_row_at, row_ends, with_ends};
+pub use crate::ends::{
+    cloned_row_among, cloned_row_at, end_before, paired_row_at, row_up_to, with_ends, words_beside,
+};
 pub use crate::filling::{and_item, copied, entries_announced, room_for, rows_announced, table_of};
 pub use crate::paired::{entries_cloned, has_symbol};
 pub use crate::reading::{TakesRows, rows_read};

@@ -4,6 +4,6 @@ pub invariant_of-result : goal.invariant_of-result
 invariant_of-result g c = record {
   precise = (c.requires.positive, c.requires.fits);
   stored = c.requires.stored;
-  ended = rw c.deref.ensures.value at c.row_ends-ends.ensures;
+  aided = rw c.deref.ensures.value at c.words_beside-beside.ensures;
   distinct = c.requires.distinct;
 }

@@ -1,23 +1,16 @@
-use Rattle.std.proofs.Common.{◌<◌, arith}
-use Rattle.constriction_stored_rows.specs.Stored.{rows_paired}
-use Rattle.constriction_model.proofs.StepLemmas.{none-between, fewer-first}
+use Rattle.std.proofs.Common.{◌<◌}
+use Rattle.constriction_model.proofs.StepLemmas.{fewer-first}
 use Rattle.constriction_stored_rows.proofs.PairedLemmas.{paired-first}
 use Rattle.constriction_categorical.proofs.non_contiguous_table.NonContiguousSymbolTableIterator.next.Goals as goal
-
-pub returns-then-index-self : goal.returns-then-index-self
-returns-then-index-self g c =
-    let t = c.args.self.now in
-    let rows = rows_paired g.Probability.WholeNumber.whole g.row.PRECISION t.cdf.now in
-    record { steps = none-between rows t.from t.to c.if-index-self.true; goes = record { on = λ _. tt; keeps = tt; rests = λ _. tt } }
 
 pub returns-in-Ok : goal.returns-in-Ok
 returns-in-Ok g c =
     let t = c.args.self.now in
-    let some : t.from < t.to = omega (arith, t.in_order, c.if-index-self.false) in
+    let some : t.from < t.to = c.in-Some.ensures.some.0 in
     let whole = g.Probability.WholeNumber.whole in
     let bits = g.Probability.WholeNumber.BITS in
     let step = paired-first whole bits g.row.PRECISION t.cdf.now t.stored
-    t.from t.to _ _ c.index-self-index.result some t.in_bounds c.index-self-index.is c.paired_row_at-left.ensures.left c.paired_row_at-left.ensures.weight in
+    t.from t.to _ _ c.index-self-index.result some t.in_bounds c.index-self-index.is c.row_up_to-left.ensures.left c.row_up_to-left.ensures.weight in
     record {
       steps = (c.index-self-index.result.1, rw (← c.index-self-index.is) at c.in-Ok.ensures.cases, step);
       goes = record { on = λ _. (tt, tt, fewer-first _ _ _ step); keeps = tt; rests = λ _. tt };
@@ -26,17 +19,12 @@ returns-in-Ok g c =
 pub returns-in-Err : goal.returns-in-Err
 returns-in-Err g c =
     let t = c.args.self.now in
-    let some : t.from < t.to = omega (arith, t.in_order, c.if-index-self.false) in
+    let some : t.from < t.to = c.in-Some.ensures.some.0 in
     let whole = g.Probability.WholeNumber.whole in
     let bits = g.Probability.WholeNumber.BITS in
     let step = paired-first whole bits g.row.PRECISION t.cdf.now t.stored
-    t.from t.to _ _ c.index-self-index.result some t.in_bounds c.index-self-index.is c.paired_row_at-left.ensures.left c.paired_row_at-left.ensures.weight in
+    t.from t.to _ _ c.index-self-index.result some t.in_bounds c.index-self-index.is c.row_up_to-left.ensures.left c.row_up_to-left.ensures.weight in
     record {
       steps = (_, rw (← c.index-self-index.is) at c.in-Err.ensures.cases, step);
       goes = record { on = λ _. (tt, tt, fewer-first _ _ _ step); keeps = tt; rests = λ _. tt };
     }
-
-pub invariant_of-self : goal.invariant_of-self
-invariant_of-self g c =
-    let t = c.args.self.now in
-    record { precise = t.precise; stored = t.stored; in_order = omega (arith, t.in_order, c.if-index-self.false); in_bounds = t.in_bounds }

@@ -1,6 +1,6 @@
 use Rattle.std.proofs.Common.{refl}
 use Rattle.constriction_stored_rows.proofs.PairedLemmas.{paired-at, paired-row}
-use Rattle.constriction_stored_rows.proofs.ends.cloned_row_at.Goals as goal
+use Rattle.constriction_stored_rows.proofs.ends.cloned_row_up_to.Goals as goal
 
 pub returns-in-Ok-clause-row : goal.returns-in-Ok-clause-row
 returns-in-Ok-clause-row g c = (
