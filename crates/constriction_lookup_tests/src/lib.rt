@@ -12,6 +12,8 @@ mod compared;
 #[cfg(test)]
 mod lookup_any_symbols;
 #[cfg(test)]
+mod own_searching_model;
+#[cfg(test)]
 mod refused_lookup_memory;
 #[cfg(test)]
 mod slot_bits;
