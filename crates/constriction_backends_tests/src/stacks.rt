@@ -6,7 +6,7 @@ use crate::checks::{end_of_requests, holds, same, vec_of};
 use constriction_backends::{Cursor, ReadWords, Reverse, StackBackend, WriteWords, laws};
 use constriction_words::{Queue, ReadWriteError, Stack};
 use smallvec::SmallVec;
-use std::alloc::AllocError;
+use std::alloc::{AllocError, Global};
 use std::convert::Infallible;
 use std::iter::Copied;
 use std::process::Abort;
@@ -65,6 +65,27 @@ fn each_refusal_of_memory_keeps_the_words_before(rt: HostRuntime) {
     let answer = extended(&mut small, &NINE);
     holds_a_beginning(&rt, small.as_slice(), answer);
     end_of_requests(&rt);
+}
+
+/// The word 7, so often. It stops the test where memory is refused.
+fn sevens(rt: &impl Abort, alloc: Global, count: usize) -> Vec<u8> {
+    let Ok(words) = vec![in alloc; 7u8; count] else {
+        panic!(rt; "memory was refused");
+    };
+    words
+}
+
+/// There is memory for more words than the other tests write: for each of 100,000, and for a copy of them.
+#[test]
+fn a_hundred_thousand_words_are_written_and_copied(rt: HostRuntime) {
+    let many = sevens(&rt, rt.alloc(), 100_000);
+    let mut small: Two = SmallVec::new(rt.alloc());
+    same(&rt, extended(&mut small, &many), Ok(()));
+    same(&rt, small.len(), 100_000);
+    let mut words = Vec::new(rt.alloc());
+    same(&rt, extended(&mut words, &many), Ok(()));
+    let copy = Cursor::<u8, _>::new_at_write_end(words).cloned(rt.alloc());
+    holds(&rt, copy.expect(&rt, "memory").buf(), &many);
 }
 
 /// The word that comes back from a `Vec`, or the refusal of memory.

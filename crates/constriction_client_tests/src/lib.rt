@@ -26,3 +26,5 @@ mod owned_symbols;
 mod queries;
 #[cfg(test)]
 mod two_models;
+#[cfg(test)]
+mod watched_symbols;

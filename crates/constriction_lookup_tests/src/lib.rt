@@ -14,6 +14,8 @@ mod default_words;
 #[cfg(test)]
 mod lookup_any_symbols;
 #[cfg(test)]
+mod own_searching_model;
+#[cfg(test)]
 mod refused_lookup_memory;
 #[cfg(test)]
 mod slot_bits;

@@ -5,7 +5,8 @@ ghost use Rattle.std.specs.Prelude.{◌<◌, ◌^◌};
 
 use crate::checks::{same, same_at};
 use constriction::stream::model::{
-    ContiguousLookupDecoderModel, DecoderModel, ModelError, Probe, row_of_quantile,
+    ContiguousLookupDecoderModel, DecoderModel, ModelError, Probe,
+    SlottedContiguousLookupDecoderModel, row_of_quantile,
 };
 use constriction_fixtures::tables::row;
 use std::alloc::Global;
@@ -100,21 +101,22 @@ fn a_slot_that_4_194_304_rows_meet_is_searched(rt: HostRuntime) {
     }
 }
 
-/// Why weights are refused, of which the second one is more than there are quantiles.
-fn refused_for_more(alloc: Global, infer_last: bool) -> Option<ModelError> {
-    let weights = [60, 1 << 40];
-    Lookup::<6>::from_nonzero_fixed_point_probabilities(alloc, weights, infer_last).err()
+/// A lookup model with a slot for each of 2^60 quantiles. Memory for its table is nowhere to be had.
+type Vast = SlottedContiguousLookupDecoderModel<usize, Vec<usize>, Vec<usize>, 60, 60>;
+
+/// Why two weights are refused.
+fn refused_for(alloc: Global, weights: [usize; 2], infer_last: bool) -> Option<ModelError> {
+    Vast::from_nonzero_fixed_point_probabilities(alloc, weights, infer_last).err()
 }
 
-/// A table of one entry a quantile would ask for terabytes before the last of these are refused, which are more than
-/// there are quantiles.
+/// Memory is refused for the table of weights that are accepted. It was not asked for where the second weight is more
+/// than there are quantiles.
 #[test]
 fn weights_are_refused_before_a_table_grows(rt: HostRuntime) {
-    let ones = iter::repeat_n(1usize, 1 << 60);
-    let refused = Lookup::<8>::from_nonzero_fixed_point_probabilities(rt.alloc(), ones, false);
-    same(&rt, refused.err(), Some(ModelError::InvalidTable));
+    let accepted = refused_for(rt.alloc(), [1, (1 << 60) - 1], false);
+    same(&rt, accepted, Some(ModelError::OutOfMemory));
     for infer_last in [false, true] {
-        let refused = refused_for_more(rt.alloc(), infer_last);
+        let refused = refused_for(rt.alloc(), [60, 1 << 60], infer_last);
         same(&rt, refused, Some(ModelError::InvalidTable));
     }
 }

@@ -42,3 +42,10 @@ pub fn end_of_requests(rt: &HostRuntime) {
         }
     }
 }
+
+/// The same of a test that makes so many requests at most where all are answered, which `tools/refused-memory` holds it
+/// to.
+pub fn end_of_few_requests(rt: &HostRuntime, most: usize) {
+    let _ = println!(rt; "requests that the test may make: {most}");
+    end_of_requests(rt);
+}

@@ -4,7 +4,8 @@ ghost use Rattle.std.specs.Prelude.{◌<◌, nat_eq};
 ghost use Rattle.std.specs.List.{IsDistinct};
 ghost use Rattle.constriction.specs.Rows.{symbols_of};
 
-use crate::checks::{end_of_requests, same, same_at};
+use crate::checks::{end_of_few_requests, end_of_requests, same, same_at};
+use crate::conversions::Encoder;
 use crate::model_checks::{has_row, is_made_or_refused, small};
 use constriction::laws::{
     contiguous_symbols_differ, non_contiguous_symbols_differ, symbols_and_weights_rebuild,
@@ -17,6 +18,7 @@ use constriction::stream::model::{
 use constriction_fixtures::any_symbols::{Decoder, SYMBOLS, WEIGHTS, plain};
 use constriction_fixtures::contiguous::Small;
 use std::alloc::Global;
+use std::iter;
 use std::process::Abort;
 
 /// A symbol that the compiler compares, orders and hashes.
@@ -32,6 +34,8 @@ type Moves = NonContiguousCategoricalDecoderModel<Move, u8, Vec<(u8, Move)>, 6>;
 type Texts = NonContiguousCategoricalDecoderModel<String, u8, Vec<(u8, String)>, 6>;
 
 type Numbers = NonContiguousCategoricalDecoderModel<usize, u8, Vec<(u8, usize)>, 6>;
+
+type WideNumbers = NonContiguousCategoricalDecoderModel<u32, u32, Vec<(u32, u32)>, 24>;
 
 type NumberLookup = NonContiguousLookupDecoderModel<usize, u8, Vec<(u8, usize)>, Vec<u8>, 6>;
 
@@ -167,6 +171,60 @@ fn models_whose_symbols_differ_are_converted_without_comparing(rt: HostRuntime) 
     looks_up(&rt, of_contiguous(rt.alloc(), &small(&rt, rt.alloc())), 2);
     let model = hashed(rt.alloc()).expect(&rt, "a model");
     has_row(&rt, &again(rt.alloc(), &model).expect(&rt, "a model"));
+}
+
+/// The decoder's model of the numbers below 5,000, which are in order.
+fn five_thousand(alloc: Global) -> Result<WideNumbers, ModelError> {
+    WideNumbers::from_sorted_symbols_and_nonzero_fixed_point_probabilities(
+        alloc,
+        0..5000,
+        iter::repeat_n(1, 4999),
+        true,
+    )
+}
+
+#[test]
+fn thousands_of_symbols_are_accepted_in_order(rt: HostRuntime) {
+    let model = five_thousand(rt.alloc()).expect(&rt, "a model");
+    same(&rt, model.support_size(), 5000);
+}
+
+/// Why there is no decoder's model of 2^60 numbers, each of which is compared with all before it or has a hash.
+fn refused_decoders(alloc: Global) -> [Option<ModelError>; 2] {
+    let compared = Numbers::from_symbols_and_nonzero_fixed_point_probabilities(
+        alloc,
+        0..1 << 60,
+        iter::repeat_n(1, 1 << 60),
+        false,
+    );
+    let hashed = Numbers::from_hashable_symbols_and_nonzero_fixed_point_probabilities(
+        alloc,
+        0..1 << 60,
+        iter::repeat_n(1, 1 << 60),
+        false,
+    );
+    [compared.err(), hashed.err()]
+}
+
+/// Why there is no encoder's model of them.
+fn refused_encoder(alloc: Global) -> Option<ModelError> {
+    let made = Encoder::<usize, 6>::from_symbols_and_nonzero_fixed_point_probabilities(
+        alloc,
+        0..1 << 60,
+        iter::repeat_n(1, 1 << 60),
+        false,
+    );
+    made.err()
+}
+
+/// Entries are asked for by one request, and a hash table by four, for as many as accepted lists need, which is enough to
+/// refuse 2^60 symbols. If as many were asked for as are announced, there would be a request for each growth.
+#[test]
+fn a_refusal_of_memory_leaves_no_model_of_more_symbols_than_quantiles(rt: HostRuntime) {
+    let [compared, hashed] = refused_decoders(rt.alloc());
+    same(&rt, [compared.is_some(), hashed.is_some()], [true, true]);
+    same(&rt, refused_encoder(rt.alloc()).is_some(), true);
+    end_of_few_requests(&rt, 6);
 }
 
 #[test]

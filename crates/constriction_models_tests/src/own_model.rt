@@ -1,14 +1,16 @@
 //! A model of the caller, which stands in `constriction_fixtures`: what it answers for a symbol, and what the caller knows
 //! of the models that are made from it.
 
-ghost use Rattle.std.specs.Prelude.{◌≡◌, ◌∷◌, [], IfOk, IsErr};
-ghost use Rattle.constriction.specs.Rows.{rows_of};
+ghost use Rattle.std.specs.Prelude.{◌≡◌, ◌∷◌, [], IfOk, IsErr, nat_eq};
+ghost use Rattle.std.specs.List.{IsDistinct};
+ghost use Rattle.constriction.specs.Rows.{rows_of, symbols_of};
 
 use crate::checks::{same, same_at};
 use crate::conversions::refusals;
+use constriction::laws::non_contiguous_symbols_differ;
 use constriction::stream::model::{
     DecoderModel, EncoderModel, EntropyModel, ModelError, to_generic_decoder_model,
-    to_generic_encoder_model,
+    to_generic_decoder_model_of_distinct, to_generic_encoder_model,
 };
 use constriction_fixtures::any_symbols::{Encoder, entry, plain, plain_entry};
 use constriction_fixtures::conversions::Decoder;
@@ -24,6 +26,24 @@ fn decoder_of(alloc: Global, model: &Triple) -> Result<Decoder<char, 3>, ModelEr
     ensures repeated { model.now.first ≡ model.now.third → IsErr result }
 {
     to_generic_decoder_model::<_, 3>(alloc, model)
+}
+
+/// No two letters of a decoder's model are equal.
+fn letters_differ(model: &Decoder<char, 3>)
+    ensures { IsDistinct nat_eq (symbols_of (⟦<Decoder<char, 3> as EntropyModel<3>>⟧.rows model.now)) }
+{
+    non_contiguous_symbols_differ::<char, u8, Vec<(u8, char)>, 3>();
+}
+
+/// The decoder's model of three letters, which are known to differ once another one was made of them. The walk through
+/// the caller's rows announces none.
+#[tactic(auto, using(crate::proofs::DistinctLemmas::same_are_equal))]
+fn decoder_of_distinct(alloc: Global, model: &Triple) -> Result<Decoder<char, 3>, ModelError> {
+    match decoder_of(alloc, model) {
+        Ok(compared) => letters_differ(&compared),
+        Err(refusal) => return Err(refusal),
+    }
+    to_generic_decoder_model_of_distinct::<_, 3>(alloc, model)
 }
 
 /// Letters, and their entries in the model of `p`, `q` and `p`.
@@ -60,6 +80,6 @@ fn two_rows_of_one_letter_make_an_encoder_and_no_decoder(rt: HostRuntime) {
 fn a_decoder_has_the_rows_of_three_letters_of_the_caller(rt: HostRuntime) {
     let own = three('p', 'q', 'r');
     same(&rt, plain(own.quantile_function(6)), Ok(('q', 2, 5)));
-    let model = decoder_of(rt.alloc(), &own).expect(&rt, "a model");
+    let model = decoder_of_distinct(rt.alloc(), &own).expect(&rt, "a model");
     same(&rt, plain(model.quantile_function(6)), Ok(('q', 2, 5)));
 }

@@ -1,0 +1,157 @@
+//! Symbols that are watched: how often two of them are compared, and how many there are.
+
+ghost use Rattle.std.specs.Prelude.{◌≡◌, ◌==◌, ◌<◌, ◌^◌};
+ghost use Rattle.std.specs.Cmp.Rules.{comparing, hashing};
+ghost use Rattle.std.specs.Hash as fed;
+ghost use Rattle.std.proofs.Common.{rules};
+
+use crate::checks::same;
+use constriction::stream::model::{DecoderModel, ModelError, NonContiguousCategoricalDecoderModel};
+use constriction_client::{ChainStep, DecoderForm, convert_chain};
+use std::alloc::{AllocError, Global};
+use std::cell::Cell;
+use std::hash::{Hash, Hasher};
+use std::iter;
+use std::process::Abort;
+use std::rc::Rc;
+
+/// How often the symbols that share it were compared. Each of them owns it, so that it tells how many there are.
+type Tally = Rc<Cell<usize>>;
+
+/// A symbol that says so where it is compared. Memory for a clone of the greatest one is refused.
+#[derive(Drop)]
+struct Watched {
+    number: u32,
+    compared: Tally,
+}
+
+impl PartialEq for Watched {
+    ghost eq = { λ a b. a.number == b.number };
+
+    ghost laws = { Prim.search (comparing, rules) };
+
+    fn eq(&self, other: &Watched) -> bool {
+        self.compared.set(self.compared.get().wrapping_add(1));
+        self.number == other.number
+    }
+}
+
+impl Eq for Watched {
+    ghost laws = { Prim.search (comparing, rules) };
+}
+
+impl Hash for Watched {
+    ghost hash_input = { λ a. fed.u32 a.number };
+
+    ghost respects_eq = { Prim.search (hashing, rules) };
+
+    fn hash<H: Hasher>(&self, state: &mut H) {
+        state.write_u32(self.number);
+    }
+}
+
+impl Clone for Watched {
+    ghost is_clone = { λ x y. y.number ≡ x.number };
+
+    fn clone(&self) -> Result<Watched, AllocError> {
+        if self.number == u32::MAX {
+            return Err(AllocError);
+        }
+        Ok(Watched {
+            number: self.number,
+            compared: self.compared.clone()?,
+        })
+    }
+}
+
+type Decoder = NonContiguousCategoricalDecoderModel<Watched, usize, Vec<(usize, Watched)>, 24>;
+
+type Form = DecoderForm<Watched, usize, 24>;
+
+/// A tally of no comparisons, and of no symbol.
+fn tally(rt: &impl Abort, alloc: Global) -> Tally {
+    Rc::new(alloc, Cell::new(0)).expect(rt, "memory")
+}
+
+/// How often symbols were compared, and how many there are.
+fn told(compared: &Tally) -> (usize, usize) {
+    (compared.get(), Rc::strong_count(compared).wrapping_sub(1))
+}
+
+/// The symbols of so many numbers from 0 on, and a last one of this number.
+fn symbols(
+    rt: &impl Abort,
+    alloc: Global,
+    compared: &Tally,
+    count: u32,
+    last: u32,
+) -> Vec<Watched> {
+    let mut symbols = Vec::new(alloc);
+    for number in (0..count).chain(iter::once(last)) {
+        let compared = compared.clone().expect(rt, "memory");
+        symbols
+            .push(Watched { number, compared })
+            .expect(rt, "memory");
+    }
+    symbols
+}
+
+/// The model of these symbols, which are told apart by their hashes. Each has one quantile, but the last one, which has
+/// all that are left: so the rows of the others meet the first slot of a table.
+fn hashed(alloc: Global, symbols: Vec<Watched>) -> Result<Decoder, ModelError> {
+    let ones = iter::repeat_n(1usize, symbols.len().saturating_sub(1));
+    Decoder::from_hashable_symbols_and_nonzero_fixed_point_probabilities(alloc, symbols, ones, true)
+}
+
+/// Each kind of step, and a rebuilding of each form.
+const EACH_STEP: [ChainStep; 6] = [
+    ChainStep::ToSearch,
+    ChainStep::Rebuild,
+    ChainStep::ToLookup,
+    ChainStep::IntoSearch,
+    ChainStep::ToLookup,
+    ChainStep::Rebuild,
+];
+
+/// The form that is left of a model by each kind of step.
+fn converted(alloc: Global, model: Decoder) -> Result<Form, ModelError> {
+    convert_chain(alloc, DecoderForm::Search(model), &EACH_STEP)
+}
+
+/// The number of a quantile's symbol.
+fn number_at(form: &Form, quantile: usize) -> Option<u32>
+    requires { quantile < 2 ^ 24 }
+{
+    match form.quantile_function(quantile) {
+        Ok((symbol, _, _)) => Some(symbol.number),
+        Err(_) => None,
+    }
+}
+
+/// One hash of each tells most of 5,000 symbols apart, and no conversion compares any. No clone outlives the form.
+#[test]
+fn five_thousand_symbols_are_converted_without_comparing_any(rt: HostRuntime) {
+    let compared = tally(&rt, rt.alloc());
+    let made = hashed(rt.alloc(), symbols(&rt, rt.alloc(), &compared, 4999, 5000));
+    let model = made.expect(&rt, "accepted");
+    let (few, alive) = told(&compared);
+    same(&rt, (few <= 5000, alive), (true, 5000));
+    let form = converted(rt.alloc(), model).expect(&rt, "a form");
+    same(&rt, number_at(&form, 4321), Some(4321));
+    same(&rt, told(&compared), (few, 5000));
+    drop(form);
+    same(&rt, told(&compared), (few, 0));
+}
+
+/// Where a symbol is there twice, and where a clone is refused, no symbol is left.
+#[test]
+fn no_symbol_outlives_a_refusal(rt: HostRuntime) {
+    let compared = tally(&rt, rt.alloc());
+    let repeat = hashed(rt.alloc(), symbols(&rt, rt.alloc(), &compared, 3, 1));
+    same(&rt, repeat.err(), Some(ModelError::InvalidTable));
+    same(&rt, told(&compared).1, 0);
+    let made = hashed(rt.alloc(), symbols(&rt, rt.alloc(), &compared, 3, u32::MAX));
+    let refused = converted(rt.alloc(), made.expect(&rt, "accepted"));
+    same(&rt, refused.err(), Some(ModelError::OutOfMemory));
+    same(&rt, told(&compared).1, 0);
+}
