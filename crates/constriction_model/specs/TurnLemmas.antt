@@ -1,10 +1,10 @@
 -- What the proof of a coder needs of runs of symbols: a run grows at either end, and what stands for equal symbols is equal where clones
 -- are. No public clause cites this module.
-use Rattle.std.proofs.Common.{◌≡◌, ℕ, suc, ◌+◌, ◌-◌, ◌<◌, Bool, List, [], ◌∷◌, ◌++◌, length, reverse, take, drop, get_or, refl, ap, sym, ◌∙◌, subst, arith}
+use Rattle.std.proofs.Common.{◌≡◌, ℕ, suc, ◌+◌, ◌-◌, ◌<◌, Bool, List, [], ◌∷◌, ◌++◌, length, reverse, take, get_or, refl, ap, sym, ◌∙◌, subst, arith}
 use Rattle.std.specs.Cmp.{IsEquivalence}
 use Rattle.std.specs.Prelude.{IsTrue}
 use Rattle.std.specs.List.{AllZip}
-use Rattle.std.proofs.lemmas.List.{reverse-append, take_more, drop_more}
+use Rattle.std.proofs.lemmas.List.{reverse-append, take_more}
 use Rattle.constriction_model.specs.Coding.{StandsForEqual, InTurn}
 use Rattle.constriction_model.specs.Model.{ClonesAreEqual}
 
@@ -28,13 +28,6 @@ module _ {Symbol Content : Type 0} (Step : Symbol → Content → Content → Ty
       let more : reverse (take (i + 1) xs) ≡ x ∷ reverse (take i xs) =
       ap reverse (take_more xs i x less ∙ ap (λ y. take i xs ++ y ∷ []) (sym is)) ∙ reverse-append (take i xs) (x ∷ []) in
       subst (λ (ys : List Symbol). InTurn Step ys full rest) (sym more) (mid, step, before)
-
-  -- one symbol more before the last ones of a list
-  pub turn-before : (xs : List Symbol) (i : ℕ) (x : Symbol) (full mid rest : Content) → i < length xs → x ≡ get_or xs i x
-      → Step x full mid → InTurn Step (drop (i + 1) xs) mid rest → InTurn Step (drop i xs) full rest
-  turn-before xs i x full mid rest less is step after =
-      let more : drop i xs ≡ x ∷ drop (i + 1) xs = drop_more xs i x less ∙ ap (λ y. y ∷ drop (i + 1) xs) (sym is) in
-      subst (λ (ys : List Symbol). InTurn Step ys full rest) (sym more) (mid, step, after)
 
   -- one symbol more after the others
   pub turn-last : (xs : List Symbol) (x : Symbol) (full mid rest : Content) → InTurn Step xs full mid → Step x mid rest

@@ -1,0 +1,15 @@
+use Rattle.std.proofs.Common.{◌≡◌, ◌≤◌, length, vec_capacity}
+use Rattle.constriction.specs.Coding.{InTurn}
+use Rattle.constriction_ans_example.specs.Steps.{content, IsDecoded}
+use Rattle.constriction_ans_example.proofs.ans_coder.AnsCoder.decode_symbols.Given as goal
+
+-- as many symbols as turns were decoded
+abbrev pub invariant-loop-done : goal.invariant-loop-done
+invariant-loop-done g l = record {
+  goes_on : g.Backend.ReadWords.can_read l.self.words;
+  counted : length l.symbols.items ≡ l.done;
+  room : l.count ≤ vec_capacity l.symbols;
+  so_far : InTurn (IsDecoded g.D.DecodesOver.stands_for (g.D.DecodesOver.rows l.model) g.row.PRECISION) l.symbols.items
+      (content l.initial.self.state (g.Backend.WordStack.words_of l.initial.self.words))
+      (content l.self.state (g.Backend.WordStack.words_of l.self.words));
+}

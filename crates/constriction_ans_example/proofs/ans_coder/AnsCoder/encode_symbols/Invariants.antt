@@ -1,0 +1,14 @@
+use Rattle.std.proofs.Common.{take, reverse}
+use Rattle.constriction.specs.Rows.{entry_of}
+use Rattle.constriction.specs.Coding.{InTurn}
+use Rattle.constriction_ans_example.specs.Steps.{content, IsEncoded}
+use Rattle.constriction_ans_example.proofs.ans_coder.AnsCoder.encode_symbols.Given as goal
+
+-- the symbols so far were encoded
+abbrev pub invariant-loop-symbol : goal.invariant-loop-symbol
+invariant-loop-symbol g l = record {
+  goes_on : g.Backend.WriteWords.can_write l.self.words;
+  so_far : InTurn (IsEncoded (entry_of g.E.EncodesOver.symbol_eq (g.E.EncodesOver.rows l.model)) g.row.PRECISION)
+      (reverse (take l.symbol-index l.symbols)) (content l.self.state (g.Backend.WordStack.words_of l.self.words))
+      (content l.initial.self.state (g.Backend.WordStack.words_of l.initial.self.words));
+}

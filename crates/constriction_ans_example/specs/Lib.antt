@@ -1,0 +1,6 @@
+pub mod Compressed
+pub mod Intervals
+pub mod Laws
+pub mod States
+pub mod Steps
+pub mod Tables

@@ -1,0 +1,20 @@
+//! Worked coders over any model: a stack coder and a range decoder of the formats of the Rust crate's `DefaultAnsCoder` and
+//! `DefaultRangeDecoder`, and tables of weights as words.
+//!
+//! [`AnsCoder`] encodes and decodes over any stack of words; [`RangeDecoder`] decodes over any source that is read from its
+//! beginning on. [`stored_table`] reads and writes the weights of a model.
+#![tactic(auto)]
+
+mod ans_coder;
+mod callers;
+mod compressed;
+mod interval;
+pub mod laws;
+mod range_decoder;
+mod runs;
+mod state;
+pub mod stored_table;
+
+pub use crate::ans_coder::AnsCoder;
+pub use crate::laws::MessageFault;
+pub use crate::range_decoder::{RangeDecoder, RangeDecodingFault};

@@ -1,0 +1,90 @@
+//! The answer to a line.
+
+ghost use Rattle.std.specs.Prelude.{◌<◌, ◌≤◌};
+
+use crate::coding::{Refusal, decoded, encoded, queued, words_of};
+use crate::line::{Call, Request, parse};
+use std::alloc::{AllocError, Global};
+use std::fmt::Write;
+
+/// What a line asked for.
+#[derive(Debug, Drop)]
+enum Answer {
+    Words(Vec<u32>),
+    Symbols(Vec<usize>),
+}
+
+/// The answer at a precision.
+fn answer_at<const PRECISION: usize>(alloc: Global, request: &Request) -> Result<Answer, Refusal>
+    requires positive { 0 < PRECISION }
+    requires fits { PRECISION ≤ 32 }
+{
+    if request.call == Call::Encode {
+        let words = encoded::<PRECISION>(alloc, &request.weights, &request.numbers)?;
+        return Ok(Answer::Words(words));
+    }
+    let Some(words) = words_of(alloc, &request.numbers)? else {
+        return Err(Refusal::BadLine);
+    };
+    let symbols = if request.call == Call::Decode {
+        decoded::<PRECISION>(alloc, &request.weights, request.count, words)?
+    } else {
+        queued::<PRECISION>(alloc, &request.weights, request.count, words)?
+    };
+    Ok(Answer::Symbols(symbols))
+}
+
+/// The answer at the precision that the line names.
+fn answered(alloc: Global, line: &[u8]) -> Result<Answer, Refusal> {
+    let Some(request) = parse(alloc, line)? else {
+        return Err(Refusal::BadLine);
+    };
+    match request.precision {
+        12 => answer_at::<12>(alloc, &request),
+        16 => answer_at::<16>(alloc, &request),
+        24 => answer_at::<24>(alloc, &request),
+        32 => answer_at::<32>(alloc, &request),
+        _ => Err(Refusal::BadLine),
+    }
+}
+
+/// Adds a line of words.
+fn push_words(text: &mut String, words: &[u32]) -> Result<(), AllocError> {
+    let mut first = true;
+    for word in words {
+        if !first {
+            text.push_str(" ")?;
+        }
+        write!(text, "{word}")?;
+        first = false;
+    }
+    text.push_str("\n")
+}
+
+/// Adds a line of symbols.
+fn push_symbols(text: &mut String, symbols: &[usize]) -> Result<(), AllocError> {
+    let mut first = true;
+    for symbol in symbols {
+        if !first {
+            text.push_str(" ")?;
+        }
+        write!(text, "{symbol}")?;
+        first = false;
+    }
+    text.push_str("\n")
+}
+
+/// Adds the answer to a line. Where memory is refused, a part of it may be added.
+pub(crate) fn push_answer(alloc: Global, text: &mut String, line: &[u8]) -> Result<(), Refusal> {
+    match answered(alloc, line) {
+        Ok(Answer::Words(words)) => push_words(text, &words)?,
+        Ok(Answer::Symbols(symbols)) => push_symbols(text, &symbols)?,
+        Err(Refusal::BadLine) => text.push_str("bad line\n")?,
+        Err(Refusal::Invalid) => text.push_str("invalid\n")?,
+        Err(Refusal::NoRow) => text.push_str("none\n")?,
+        Err(Refusal::Refused) => text.push_str("refused\n")?,
+        Err(Refusal::Damaged) => text.push_str("damaged\n")?,
+        Err(Refusal::OutOfMemory) => return Err(Refusal::OutOfMemory),
+    }
+    Ok(())
+}

@@ -1,0 +1,135 @@
+//! Symbols and words by the coders of the library.
+
+ghost use Rattle.std.specs.Prelude.{◌<◌, ◌≤◌};
+
+use constriction::CoderError;
+use constriction::backends::Cursor;
+use constriction::stream::model::{ContiguousCategoricalEntropyModel, ModelError};
+use constriction_ans_example::{AnsCoder, RangeDecoder, RangeDecodingFault};
+use std::alloc::{AllocError, Global};
+
+/// Why a line has no words or symbols as its answer.
+#[derive(Debug, Drop)]
+pub(crate) enum Refusal {
+    /// No call is spelled so.
+    BadLine,
+    /// The weights do not tile.
+    Invalid,
+    /// A symbol has no row.
+    NoRow,
+    /// The words end in 0.
+    Refused,
+    /// The range decoder met no quantile.
+    Damaged,
+    OutOfMemory,
+}
+
+impl From<AllocError> for Refusal {
+    fn from(_error: AllocError) -> Self {
+        Refusal::OutOfMemory
+    }
+}
+
+/// A model of the symbols 0, 1, .. by weights of 32 bits.
+type Model<const PRECISION: usize> = ContiguousCategoricalEntropyModel<u32, Vec<u32>, PRECISION>;
+
+/// These numbers as words, if each is below `2^32`.
+pub(crate) fn words_of(alloc: Global, numbers: &[u64]) -> Result<Option<Vec<u32>>, AllocError> {
+    let mut words = Vec::with_capacity(alloc, numbers.len())?;
+    for number in numbers {
+        match u32::try_from(*number) {
+            Ok(word) => words.push(word)?,
+            Err(_) => return Ok(None),
+        }
+    }
+    Ok(Some(words))
+}
+
+/// The model of these weights.
+fn model_of<const PRECISION: usize>(
+    alloc: Global,
+    weights: &[u64],
+) -> Result<Model<PRECISION>, Refusal>
+    requires positive { 0 < PRECISION }
+    requires fits { PRECISION ≤ 32 }
+{
+    let Some(weights) = words_of(alloc, weights)? else {
+        return Err(Refusal::Invalid);
+    };
+    match Model::<PRECISION>::from_nonzero_fixed_point_probabilities(alloc, weights, false) {
+        Ok(model) => Ok(model),
+        Err(ModelError::InvalidTable) => Err(Refusal::Invalid),
+        Err(ModelError::OutOfMemory) => Err(Refusal::OutOfMemory),
+    }
+}
+
+/// The words of these symbols, from which they are decoded in order.
+pub(crate) fn encoded<const PRECISION: usize>(
+    alloc: Global,
+    weights: &[u64],
+    symbols: &[u64],
+) -> Result<Vec<u32>, Refusal>
+    requires positive { 0 < PRECISION }
+    requires fits { PRECISION ≤ 32 }
+{
+    let model = model_of::<PRECISION>(alloc, weights)?;
+    let mut indices = Vec::with_capacity(alloc, symbols.len())?;
+    for symbol in symbols {
+        if indices.push(*symbol as usize).is_err() {
+            return Err(Refusal::OutOfMemory);
+        }
+    }
+    let mut coder = AnsCoder::new(alloc);
+    match coder.encode_symbols_reverse::<usize, _, PRECISION>(&indices, &model) {
+        Ok(()) => {}
+        Err(CoderError::Frontend(_)) => return Err(Refusal::NoRow),
+        Err(CoderError::Backend(_)) => return Err(Refusal::OutOfMemory),
+    }
+    match coder.into_compressed() {
+        Ok(words) => Ok(words),
+        Err(_) => Err(Refusal::OutOfMemory),
+    }
+}
+
+/// So many symbols of these words, by the stack coder.
+pub(crate) fn decoded<const PRECISION: usize>(
+    alloc: Global,
+    weights: &[u64],
+    count: usize,
+    words: Vec<u32>,
+) -> Result<Vec<usize>, Refusal>
+    requires positive { 0 < PRECISION }
+    requires fits { PRECISION ≤ 32 }
+{
+    let model = model_of::<PRECISION>(alloc, weights)?;
+    let mut coder = match AnsCoder::from_compressed(words) {
+        Ok(coder) => coder,
+        Err(_) => return Err(Refusal::Refused),
+    };
+    match coder.decode_symbols::<usize, _, PRECISION>(alloc, count, &model) {
+        Ok(symbols) => Ok(symbols),
+        Err(_) => Err(Refusal::OutOfMemory),
+    }
+}
+
+/// So many symbols of these words, by the range decoder.
+pub(crate) fn queued<const PRECISION: usize>(
+    alloc: Global,
+    weights: &[u64],
+    count: usize,
+    words: Vec<u32>,
+) -> Result<Vec<usize>, Refusal>
+    requires positive { 0 < PRECISION }
+    requires fits { PRECISION ≤ 32 }
+{
+    let model = model_of::<PRECISION>(alloc, weights)?;
+    let mut decoder = match RangeDecoder::from_compressed(Cursor::new_at_write_beginning(words)) {
+        Ok(decoder) => decoder,
+        Err(_) => return Err(Refusal::Damaged),
+    };
+    match decoder.decode_symbols::<usize, _, PRECISION>(alloc, count, &model) {
+        Ok(symbols) => Ok(symbols),
+        Err(CoderError::Frontend(RangeDecodingFault::OutOfMemory)) => Err(Refusal::OutOfMemory),
+        Err(_) => Err(Refusal::Damaged),
+    }
+}

@@ -1,0 +1,129 @@
+//! A line, and what it asks for.
+
+use constriction_lines::cut;
+use std::alloc::{AllocError, Global};
+
+/// What a line asks of a coder.
+#[derive(Clone, Copy, Debug, PartialEq, Eq)]
+pub(crate) enum Call {
+    /// `encode P W.. : S..`: the words of the stack coder for these symbols.
+    Encode,
+    /// `decode P W.. : N : WORD..`: so many symbols of these words, by the stack coder.
+    Decode,
+    /// `queue P W.. : N : WORD..`: so many symbols of these words, by the range decoder.
+    Queue,
+}
+
+/// A line that spells a call.
+#[derive(Debug, Drop)]
+pub(crate) struct Request {
+    pub(crate) call: Call,
+    pub(crate) precision: u64,
+    pub(crate) weights: Vec<u64>,
+    /// How many symbols are wanted; 0 where symbols are encoded.
+    pub(crate) count: usize,
+    /// The symbols or the words.
+    pub(crate) numbers: Vec<u64>,
+}
+
+/// The byte between two words of a line.
+const SPACE: u8 = b' ';
+
+/// The most digits of a number.
+const DIGITS: usize = 20;
+
+/// The most symbols that a line may want.
+const MOST: u64 = 1_048_576;
+
+/// The number that a word spells, if it is below `2^64`.
+fn parse_number(word: &[u8]) -> Option<u64> {
+    if word.is_empty() || word.len() > DIGITS {
+        return None;
+    }
+    let mut value = 0u64;
+    for byte in word {
+        if !byte.is_ascii_digit() {
+            return None;
+        }
+        value = value.checked_mul(10)?.checked_add(u64::from(*byte - b'0'))?;
+    }
+    Some(value)
+}
+
+/// Adds the numbers up to a colon, or up to the end where none is wanted. It answers whether only numbers stand there, and what follows
+/// the colon.
+fn push_numbers<'a>(
+    text: Option<&'a [u8]>,
+    to_colon: bool,
+    numbers: &mut Vec<u64>,
+) -> Result<(bool, Option<&'a [u8]>), AllocError> {
+    let mut rest = text;
+    while let Some(words) = rest {
+        let (word, after) = cut(words, SPACE);
+        if to_colon && word == b":".as_slice() {
+            return Ok((true, after));
+        }
+        match parse_number(word) {
+            Some(number) => numbers.push(number)?,
+            None => return Ok((false, None)),
+        }
+        rest = after;
+    }
+    Ok((!to_colon, None))
+}
+
+fn parse_call(word: &[u8]) -> Option<Call> {
+    if word == b"encode".as_slice() {
+        return Some(Call::Encode);
+    }
+    if word == b"decode".as_slice() {
+        return Some(Call::Decode);
+    }
+    if word == b"queue".as_slice() {
+        return Some(Call::Queue);
+    }
+    None
+}
+
+/// The call of a line, its precision and what follows.
+fn parse_head(line: &[u8]) -> Option<(Call, u64, Option<&[u8]>)> {
+    let (word, rest) = cut(line, SPACE);
+    let call = parse_call(word)?;
+    let (word, rest) = cut(rest?, SPACE);
+    let precision = parse_number(word)?;
+    Some((call, precision, rest))
+}
+
+/// What a line asks for, if it spells a call.
+pub(crate) fn parse(alloc: Global, line: &[u8]) -> Result<Option<Request>, AllocError> {
+    let Some((call, precision, rest)) = parse_head(line) else {
+        return Ok(None);
+    };
+    let mut weights = Vec::new(alloc);
+    let (spelled, mut rest) = push_numbers(rest, true, &mut weights)?;
+    if !spelled {
+        return Ok(None);
+    }
+    let mut count = 0u64;
+    if call != Call::Encode {
+        let mut counts = Vec::new(alloc);
+        let (spelled, after) = push_numbers(rest, true, &mut counts)?;
+        if !spelled || counts.len() != 1 || counts[0] > MOST {
+            return Ok(None);
+        }
+        count = counts[0];
+        rest = after;
+    }
+    let mut numbers = Vec::new(alloc);
+    let (spelled, _) = push_numbers(rest, false, &mut numbers)?;
+    if !spelled {
+        return Ok(None);
+    }
+    Ok(Some(Request {
+        call,
+        precision,
+        weights,
+        count: count as usize,
+        numbers,
+    }))
+}

@@ -1,0 +1,20 @@
+//! Answers lines of standard input on standard output: the words of a coder, or the symbols of such words.
+#![tactic(auto)]
+
+mod answers;
+mod coding;
+mod line;
+mod run;
+
+use crate::run::run_lines;
+use std::io;
+use std::process::ExitCode;
+
+fn main(rt: HostRuntime) -> ExitCode {
+    let mut reader = rt.reader();
+    let mut writer = io::writer(&rt);
+    match run_lines(rt.alloc(), &mut reader, &mut writer) {
+        Ok(()) => ExitCode::SUCCESS,
+        Err(fault) => ExitCode::from(fault.status()),
+    }
+}

@@ -1,4 +1,0 @@
-pub mod ComingBack
-pub mod States
-pub mod Steps
-pub mod Stopping
