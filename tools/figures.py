@@ -8,7 +8,6 @@ from drawing import HUES, Drawing
 # Why a kernel that is far behind is so.
 WHY = {
     "decoder of symbols made, comparing": "it compares each symbol with all before it and so refuses repeats, which the Rust crate does not look for",
-    "to_generic_decoder_model": "it compares each symbol with all before it and so refuses repeats, which the Rust crate does not look for, nor does `to_generic_decoder_model_of_distinct` here",
 }
 # The four kinds of models: how a row is found, the kernel, and its colour.
 KINDS = (

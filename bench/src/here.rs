@@ -40,6 +40,12 @@ exports! {
     direct_symbol_lookup_build = kernel_direct_symbol_lookup_build(weights: [u16], symbols: [u32]);
     direct_symbol_lookup_quantile = kernel_direct_symbol_lookup_quantile(weights: [u16], symbols: [u32], quantiles: [u16]);
     slotted_symbol_lookup_quantile = kernel_slotted_symbol_lookup_quantile(weights: [u16], symbols: [u32], quantiles: [u16]);
+    wide_lookup_8_quantile = kernel_wide_lookup_8_quantile(weights: [u32], quantiles: [u32]);
+    wide_lookup_8_build = kernel_wide_lookup_8_build(weights: [u32]);
+    wide_lookup_12_quantile = kernel_wide_lookup_12_quantile(weights: [u32], quantiles: [u32]);
+    wide_lookup_12_build = kernel_wide_lookup_12_build(weights: [u32]);
+    wide_lookup_16_quantile = kernel_wide_lookup_16_quantile(weights: [u32], quantiles: [u32]);
+    wide_lookup_16_build = kernel_wide_lookup_16_build(weights: [u32]);
     small_contiguous_quantile = kernel_small_contiguous_quantile(weights: [u16], quantiles: [u16]);
     small_decoder_quantile = kernel_small_decoder_quantile(weights: [u16], symbols: [u32], quantiles: [u16]);
     to_decoder = kernel_to_decoder(weights: [u32]);

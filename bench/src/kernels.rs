@@ -112,6 +112,15 @@ pub fn usual() -> Vec<Kernel> {
         let (weights, symbols, quantiles) = (table.weights, table.symbols, inputs.quantiles);
         kernels.push(kernel!("decoder of symbols quantile_function", "u32/24", table.rows, MANY, decoder_quantile(weights, symbols, quantiles)));
     }
+    for table in &tables[1..] {
+        let (weights, quantiles) = (table.weights, inputs.quantiles);
+        kernels.push(kernel!("wide 256-slot lookup quantile_function", "u32/24", table.rows, MANY, wide_lookup_8_quantile(weights, quantiles)));
+        kernels.push(kernel!("wide 4,096-slot lookup quantile_function", "u32/24", table.rows, MANY, wide_lookup_12_quantile(weights, quantiles)));
+        kernels.push(kernel!("wide 65,536-slot lookup quantile_function", "u32/24", table.rows, MANY, wide_lookup_16_quantile(weights, quantiles)));
+        kernels.push(kernel!("wide 256-slot lookup made", "u32/24", table.rows, table.rows, wide_lookup_8_build(weights)));
+        kernels.push(kernel!("wide 4,096-slot lookup made", "u32/24", table.rows, table.rows, wide_lookup_12_build(weights)));
+        kernels.push(kernel!("wide 65,536-slot lookup made", "u32/24", table.rows, table.rows, wide_lookup_16_build(weights)));
+    }
     let (weights, symbols) = (tables[3].weights, tables[3].symbols);
     kernels.push(kernel!("decoder of symbols symbol_table", "u32/24", 4096, 4096, decoder_table(weights, symbols)));
     for table in &tables[2..] {

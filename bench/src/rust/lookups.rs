@@ -60,3 +60,10 @@ pub fn direct_symbol_lookup_quantile(weights: &[u16], symbols: &[u32], quantiles
 pub use direct_lookup_build as slotted_lookup_build;
 pub use direct_lookup_quantile as slotted_lookup_quantile;
 pub use direct_symbol_lookup_quantile as slotted_symbol_lookup_quantile;
+// The Rust crate has no lookup model over these words: its search stands beside them.
+pub use super::contiguous::contiguous_quantile as wide_lookup_8_quantile;
+pub use super::contiguous::contiguous_build as wide_lookup_8_build;
+pub use super::contiguous::contiguous_quantile as wide_lookup_12_quantile;
+pub use super::contiguous::contiguous_build as wide_lookup_12_build;
+pub use super::contiguous::contiguous_quantile as wide_lookup_16_quantile;
+pub use super::contiguous::contiguous_build as wide_lookup_16_build;

@@ -33,7 +33,7 @@ fn decoder_of_distinct<Probability: WholeNumber, const PRECISION: usize>(
     to_generic_decoder_model_of_distinct::<_, PRECISION>(alloc, source)
 }
 
-/// Makes a decoder over any symbols, each time anew. Each symbol is compared with all before it.
+/// Makes a decoder over any symbols, each time anew. Its source knows that symbols differ, and none are compared.
 #[unsafe(no_mangle)]
 pub extern "C" fn kernel_to_decoder(alloc: Global, weights: &[u32], repeats: u32) -> u64 {
     let Ok(source) = contiguous_of(alloc, weights) else {

@@ -178,14 +178,14 @@ pub(crate) fn both_of_contiguous<Probability: WholeNumber, const PRECISION: usiz
 ) -> Result<DecoderAndEncoder<usize, Probability, PRECISION>, ModelError>
     requires positive { 0 < PRECISION }
     requires fits { PRECISION ≤ Probability.BITS }
-    ensures rows { IfOk result (λ both. StandForRows (λ s t. t ≡ s)
-        (⟦<Searching<usize, Probability, PRECISION> as EntropyModel<PRECISION>>⟧.rows both.0)
-        (⟦<Contiguous<Probability, PRECISION> as EntropyModel<PRECISION>>⟧.rows model.now)) }
-    ensures alike { IfOk result (λ both. (s : ℕ) → entry_of nat_eq
+    ensures rows { IfOk result (λ both. ⟦<Searching<usize, Probability, PRECISION> as EntropyModel<PRECISION>>⟧.rows both.0
+        ≡ ⟦<Contiguous<Probability, PRECISION> as EntropyModel<PRECISION>>⟧.rows model.now) }
+    ensures entries { IfOk result (λ both. (s : ℕ) → entry_of nat_eq
         (⟦<NonContiguousCategoricalEncoderModel<usize, Probability, PRECISION> as EntropyModel<PRECISION>>⟧.rows both.1) s
-        ≡ entry_of nat_eq (⟦<Searching<usize, Probability, PRECISION> as EntropyModel<PRECISION>>⟧.rows both.0) s) }
+        ≡ entry_of nat_eq (⟦<Contiguous<Probability, PRECISION> as EntropyModel<PRECISION>>⟧.rows model.now) s) }
     ensures refused { IfErr result (λ e. e ≡ ModelError.OutOfMemory) }
 {
     contiguous_symbols_differ();
-    both_of::<_, PRECISION>(alloc, model)
+    let (decoder, encoder) = both_of::<_, PRECISION>(alloc, model)?;
+    Ok((decoder, encoder))
 }

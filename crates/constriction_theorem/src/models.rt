@@ -65,8 +65,12 @@ pub struct AnswersOfModel<Symbol, Word: WholeNumber, Form> {
     pub converted: Vec<Reply<Symbol, Word>>,
 }
 
-/// The replies of a decoder whose rows can be walked through, beside the hashed encoder that is made of it.
-fn asked_beside_encoder<M, const PRECISION: usize>(
+/// Answers queries by a decoder whose rows can be walked through, one of the caller's own too, and by the hashed encoder that is
+/// made of it. Where the symbols of its answers are the same values, the replies are those that a scan of its rows gives.
+///
+/// The only refusal is `OutOfMemory`. No table of slots is made, so that it stands over any word at any `PRECISION`: of a model
+/// that searches, divides or looks up, and of the encoder that hashes.
+pub fn answer_beside_encoder<M, const PRECISION: usize>(
     alloc: Global,
     model: M,
     queries: &[Query<M::Symbol, M::Probability>],
@@ -91,7 +95,8 @@ where
 /// the symbols of its answers and clones of symbols are the same values, the replies of both are those that a
 /// scan of the model's rows gives. It knows of the model the laws of its traits and nothing else.
 ///
-/// No two symbols of the rows are equal. The only refusal is `OutOfMemory`. `PRECISION` is at most 63.
+/// No two symbols of the rows are equal. The only refusal is `OutOfMemory`. `PRECISION` is at most 63;
+/// [`answer_beside_encoder`] takes any.
 pub fn answer_by_model<M, const PRECISION: usize>(
     alloc: Global,
     model: M,
@@ -118,7 +123,7 @@ where
         (map (in_numbers M.Probability.whole M.Probability.base) answers.converted.items)) }
     ensures refused { IfErr result (λ e. e ≡ ModelError.OutOfMemory) }
 {
-    let by_model = asked_beside_encoder::<M, PRECISION>(alloc, model, queries)?;
+    let by_model = answer_beside_encoder::<M, PRECISION>(alloc, model, queries)?;
     let (form, converted) = answer_by_table::<M, PRECISION>(alloc, model, steps, queries)?;
     Ok(AnswersOfModel {
         by_model,

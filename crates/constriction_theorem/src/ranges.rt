@@ -68,6 +68,57 @@ pub fn answer_from_range_u16<const PRECISION: usize>(
     })
 }
 
+/// As [`answer_from_range_u8`], over words of `u32`.
+pub fn answer_from_range_u32<const PRECISION: usize>(
+    alloc: Global,
+    range: usize,
+    steps: &[ChainStep],
+    queries: &[Query<usize, u32>],
+) -> Result<AnswersOfModel<usize, u32, DecoderForm<usize, u32, PRECISION>>, ModelError>
+    requires precision { IsPrecision 32 PRECISION }
+    requires some { 2 ≤ range }
+    requires within { range ≤ 2 ^ PRECISION }
+    ensures answers { IfOk result (AnswersOfRange PRECISION range steps.now queries.now ⟦<u32 as WholeNumber>⟧.base
+        ⟦<DecoderForm<usize, u32, PRECISION> as EntropyModel<PRECISION>>⟧.rows) }
+    ensures refused { IfErr result (λ e. e ≡ ModelError.OutOfMemory) }
+{
+    contiguous_symbols_differ();
+    let model = UniformModel::<u32, PRECISION>::new(range);
+    let by_model = answer_queries::<_, _, _, _, PRECISION>(alloc, &model, &model, queries)?;
+    let (form, converted) = answer_by_table::<_, PRECISION>(alloc, model, steps, queries)?;
+    Ok(AnswersOfModel {
+        by_model,
+        form,
+        converted,
+    })
+}
+
+/// The same over words of `u64`. `PRECISION` is at most 63.
+pub fn answer_from_range_u64<const PRECISION: usize>(
+    alloc: Global,
+    range: usize,
+    steps: &[ChainStep],
+    queries: &[Query<usize, u64>],
+) -> Result<AnswersOfModel<usize, u64, DecoderForm<usize, u64, PRECISION>>, ModelError>
+    requires positive { 0 < PRECISION }
+    requires narrow { PRECISION ≤ 63 }
+    requires some { 2 ≤ range }
+    requires within { range ≤ 2 ^ PRECISION }
+    ensures answers { IfOk result (AnswersOfRange PRECISION range steps.now queries.now ⟦<u64 as WholeNumber>⟧.base
+        ⟦<DecoderForm<usize, u64, PRECISION> as EntropyModel<PRECISION>>⟧.rows) }
+    ensures refused { IfErr result (λ e. e ≡ ModelError.OutOfMemory) }
+{
+    contiguous_symbols_differ();
+    let model = UniformModel::<u64, PRECISION>::new(range);
+    let by_model = answer_queries::<_, _, _, _, PRECISION>(alloc, &model, &model, queries)?;
+    let (form, converted) = answer_by_table::<_, PRECISION>(alloc, model, steps, queries)?;
+    Ok(AnswersOfModel {
+        by_model,
+        form,
+        converted,
+    })
+}
+
 /// The same over words of `usize`. `PRECISION` is at most 63.
 pub fn answer_from_range_usize<const PRECISION: usize>(
     alloc: Global,

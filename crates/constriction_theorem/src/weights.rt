@@ -31,10 +31,8 @@ pub struct RepliesByEncoder<Word: WholeNumber> {
 pub struct AnswersOfWeights<Word: WholeNumber, Form> {
     /// The model that searches all rows.
     pub searching: RepliesByEncoder<Word>,
-    /// The model with a table of 256 slots at most.
+    /// The model with a table of as many slots as the caller asked for.
     pub tabled: RepliesByEncoder<Word>,
-    /// The model with a slot for each quantile.
-    pub direct: RepliesByEncoder<Word>,
     /// The decoder over any symbols after the steps.
     pub form: Form,
     /// The replies of that form.
@@ -42,7 +40,7 @@ pub struct AnswersOfWeights<Word: WholeNumber, Form> {
 }
 
 /// The replies of a decoder beside each of two encoders of its rows.
-fn asked_beside_both<Word, D, E, F, const PRECISION: usize>(
+pub(crate) fn asked_beside_both<Word, D, E, F, const PRECISION: usize>(
     alloc: Global,
     decoder: &D,
     contiguous: &E,
@@ -127,9 +125,8 @@ fn asked_by_slots<Probability: IndexWord, const PRECISION: usize, const SLOT_BIT
     Ok(replies)
 }
 
-/// The replies of the model that searches, of the one with a table, of the one with a slot for each quantile and of a form
-/// of the same rows.
-fn asked_by_each<Probability: IndexWord, const PRECISION: usize>(
+/// The replies of the model that searches, of the one with a table and of a form of the same rows.
+fn asked_by_each<Probability: IndexWord, const PRECISION: usize, const SLOT_BITS: usize>(
     alloc: Global,
     model: &Contiguous<Probability, PRECISION>,
     form: &DecoderForm<usize, Probability, PRECISION>,
@@ -137,7 +134,6 @@ fn asked_by_each<Probability: IndexWord, const PRECISION: usize>(
     queries: &[Query<usize, Probability>],
 ) -> Result<
     (
-        RepliesByEncoder<Probability>,
         RepliesByEncoder<Probability>,
         RepliesByEncoder<Probability>,
         RepliesByEncoder<Probability>,
@@ -152,23 +148,22 @@ fn asked_by_each<Probability: IndexWord, const PRECISION: usize>(
     requires hashed { (s : ℕ) → entry_of nat_eq
         (⟦<NonContiguousCategoricalEncoderModel<usize, Probability, PRECISION> as EntropyModel<PRECISION>>⟧.rows hashed.now) s
         ≡ entry_of nat_eq (⟦<Contiguous<Probability, PRECISION> as EntropyModel<PRECISION>>⟧.rows model.now) s }
-    ensures ok { IfOk result (λ four. let AsScan = ReplyAsScan (in_numbers Probability.whole Probability.base)
+    ensures ok { IfOk result (λ three. let AsScan = ReplyAsScan (in_numbers Probability.whole Probability.base)
         (replies_by_scan PRECISION Probability.whole nat_eq queries.now
         (⟦<Contiguous<Probability, PRECISION> as EntropyModel<PRECISION>>⟧.rows model.now)) in
-        AsScan four.0 × AsScan four.1 × AsScan four.2 × AsScan four.3) }
+        AsScan three.0 × AsScan three.1 × AsScan three.2) }
     ensures refused { IfErr result (λ e. e ≡ ModelError.OutOfMemory) }
 {
     let by_search = asked_beside_both::<_, _, _, _, PRECISION>(
         alloc, model, model, hashed, queries,
     )?;
-    let by_table = asked_by_slots::<_, PRECISION, 8>(alloc, model, hashed, queries)?;
-    let by_slot = asked_by_slots::<_, PRECISION, PRECISION>(alloc, model, hashed, queries)?;
+    let by_table = asked_by_slots::<_, PRECISION, SLOT_BITS>(alloc, model, hashed, queries)?;
     let by_form = asked_beside_both::<_, _, _, _, PRECISION>(alloc, form, model, hashed, queries)?;
-    Ok((by_search, by_table, by_slot, by_form))
+    Ok((by_search, by_table, by_form))
 }
 
 /// The replies of all models of a model's rows.
-fn answers_of<Probability: IndexWord, const PRECISION: usize>(
+fn answers_of<Probability: IndexWord, const PRECISION: usize, const SLOT_BITS: usize>(
     alloc: Global,
     model: &Contiguous<Probability, PRECISION>,
     steps: &[ChainStep],
@@ -180,7 +175,7 @@ fn answers_of<Probability: IndexWord, const PRECISION: usize>(
     ensures replies { IfOk result (λ answers. let AsScan = ReplyAsScan (in_numbers Probability.whole Probability.base)
         (replies_by_scan PRECISION Probability.whole nat_eq queries.now
         (⟦<Contiguous<Probability, PRECISION> as EntropyModel<PRECISION>>⟧.rows model.now)) in
-        AsScan answers.searching × AsScan answers.tabled × AsScan answers.direct × AsScan answers.converted) }
+        AsScan answers.searching × AsScan answers.tabled × AsScan answers.converted) }
     ensures kind { IfOk result (λ answers. is_lookup answers.form ≡ fold is_lookup_after false steps.now) }
     ensures rows { IfOk result (λ answers.
         ⟦<DecoderForm<usize, Probability, PRECISION> as EntropyModel<PRECISION>>⟧.rows answers.form
@@ -188,27 +183,26 @@ fn answers_of<Probability: IndexWord, const PRECISION: usize>(
     ensures refused { IfErr result (λ e. e ≡ ModelError.OutOfMemory) }
 {
     let (form, hashed) = converted_from(alloc, model, steps)?;
-    let (searching, tabled, direct, converted) = asked_by_each(
+    let (searching, tabled, converted) = asked_by_each::<_, PRECISION, SLOT_BITS>(
         alloc, model, &form, &hashed, queries,
     )?;
     Ok(AnswersOfWeights {
         searching,
         tabled,
-        direct,
         form,
         converted,
     })
 }
 
-/// Makes the models of a list of weights, one that searches, one with a table of 256 slots at most and one with a
-/// slot for each quantile, converts the decoder over any symbols that is made of their rows by any steps, and
-/// answers the same queries by each of these beside the model that searches and beside the hashed encoder: the
-/// replies of each are those that a scan of the rows of the weights gives.
+/// Makes the models of a list of weights, one that searches and one with a table of `2^min(PRECISION, SLOT_BITS)` slots,
+/// converts the decoder over any symbols that is made of their rows by any steps, and answers the same queries by each of
+/// these beside the model that searches and beside the hashed encoder: the replies of each are those that a scan of the
+/// rows of the weights gives.
 ///
 /// `InvalidTable` comes only where the weights, the inferred one among them, are not accepted, `OutOfMemory`
-/// where memory is refused: a table with a slot for each quantile takes `2^PRECISION` words. `PRECISION` is at
-/// most 63.
-pub fn answer_from_weights<Probability: IndexWord, const PRECISION: usize>(
+/// where memory is refused: the table takes two words a slot, or one where a slot holds one quantile. `PRECISION` is at
+/// most 63; [`answer_from_weights_by_search`](crate::answer_from_weights_by_search) makes no tables, and takes any.
+pub fn answer_from_weights<Probability: IndexWord, const PRECISION: usize, const SLOT_BITS: usize>(
     alloc: Global,
     weights: Vec<Probability>,
     infer_last_probability: bool,
@@ -223,12 +217,12 @@ pub fn answer_from_weights<Probability: IndexWord, const PRECISION: usize>(
     ensures replies { IfOk result (λ answers. let AsScan = ReplyAsScan (in_numbers Probability.whole Probability.base)
         (replies_by_scan PRECISION Probability.whole nat_eq queries.now
         (contiguous_rows (completed PRECISION infer_last_probability (map Probability.whole weights.items)))) in
-        AsScan answers.searching × AsScan answers.tabled × AsScan answers.direct × AsScan answers.converted) }
+        AsScan answers.searching × AsScan answers.tabled × AsScan answers.converted) }
     ensures kind { IfOk result (λ answers. is_lookup answers.form ≡ fold is_lookup_after false steps.now) }
     ensures rows { IfOk result (λ answers.
         ⟦<DecoderForm<usize, Probability, PRECISION> as EntropyModel<PRECISION>>⟧.rows answers.form
         ≡ contiguous_rows (completed PRECISION infer_last_probability (map Probability.whole weights.items))) }
 {
     let model = contiguous_from::<Probability, PRECISION>(alloc, weights, infer_last_probability)?;
-    answers_of(alloc, &model, steps, queries)
+    answers_of::<_, PRECISION, SLOT_BITS>(alloc, &model, steps, queries)
 }

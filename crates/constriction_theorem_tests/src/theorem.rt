@@ -4,15 +4,16 @@ ghost use Rattle.std.specs.Prelude.{◌≢◌};
 
 use crate::checks::{end_of_requests, holds, same};
 use constriction::laws::contiguous_symbols_differ;
-use constriction::stream::model::ModelError;
+use constriction::stream::model::{ModelError, UniformModel};
 use constriction_client::{ChainStep, DecoderForm, Query, Reply, SearchOrLookup};
 use constriction_fixtures::any_symbols::{SYMBOLS, WEIGHTS, decoder};
 use constriction_fixtures::contiguous::Table;
 use constriction_fixtures::given::{encoder_of, of_four};
 use constriction_theorem::{
-    AnswersOfModel, AnswersOfWeights, FormAndReplies, RepliesByEncoder, answer_by_form,
-    answer_by_model, answer_from_range_u8, answer_from_range_u16, answer_from_range_usize,
-    answer_from_symbols_and_weights, answer_from_weights,
+    AnswersOfModel, AnswersOfWeights, FormAndReplies, RepliesByEncoder, answer_beside_encoder,
+    answer_by_form, answer_by_model, answer_from_range_u8, answer_from_range_u16,
+    answer_from_range_u32, answer_from_range_u64, answer_from_range_usize,
+    answer_from_symbols_and_weights, answer_from_weights, answer_from_weights_by_search,
 };
 use constriction_words::BitArray;
 use std::alloc::Global;
@@ -134,7 +135,7 @@ fn of_weights(
     weights: &[u8],
 ) -> Result<AnswersOfWeights<u8, DecoderForm<usize, u8, 6>>, ModelError> {
     let weights = weights.to_vec(alloc)?;
-    answer_from_weights::<_, 6>(alloc, weights, true, &STEPS, &NUMBERS)
+    answer_from_weights::<_, 6, 2>(alloc, weights, true, &STEPS, &NUMBERS)
 }
 
 /// Stops the test where a decoder and one of the encoders reply otherwise.
@@ -150,7 +151,6 @@ fn each_model_of_weights_replies(rt: HostRuntime) {
     has_table(&rt, &made.form);
     are_of_numbers(&rt, &made.searching);
     are_of_numbers(&rt, &made.tabled);
-    are_of_numbers(&rt, &made.direct);
     are_of_numbers(&rt, &made.converted);
     let refused = of_weights(rt.alloc(), &[3, 61]).err();
     same(&rt, refused, Some(ModelError::InvalidTable));
@@ -204,8 +204,49 @@ fn a_range_of_wider_words_replies(rt: HostRuntime) {
     let answers = answer_from_range_u16::<12>(rt.alloc(), 5, &[], &[Query::OfQuantile(4095)]);
     let expected = Reply::Row(4, 3276, 820u16.into_nonzero_unchecked());
     holds(&rt, &answers.expect(&rt, "replies").converted, &[expected]);
+    let answers = answer_from_range_u32::<24>(rt.alloc(), 2, &[], &[Query::OfSymbol(1)]);
+    let expected = Reply::Entry(Some((8_388_608, 8_388_608u32.into_nonzero_unchecked())));
+    holds(&rt, &answers.expect(&rt, "replies").by_model, &[expected]);
+    let answers = answer_from_range_u64::<63>(rt.alloc(), 2, &[], &[Query::OfQuantile(0)]);
+    let expected = Reply::Row(0, 0, (1u64 << 62).into_nonzero_unchecked());
+    holds(&rt, &answers.expect(&rt, "replies").converted, &[expected]);
     let answers = answer_from_range_usize::<24>(rt.alloc(), 2, &[], &[Query::OfSymbol(1)]);
     let half = 8_388_608usize;
     let expected = Reply::Entry(Some((half, half.into_nonzero_unchecked())));
     holds(&rt, &answers.expect(&rt, "replies").by_model, &[expected]);
+}
+
+/// The words that coders use at the precision that they use, with 4,096 slots.
+#[test]
+fn each_model_of_default_words_replies(rt: HostRuntime) {
+    let weights = [1, 16_000_000].to_vec(rt.alloc()).expect(&rt, "memory");
+    let queries = [Query::OfQuantile(16_777_215), Query::OfQuantile(16_777_216)];
+    let made = answer_from_weights::<u32, 24, 12>(rt.alloc(), weights, true, &STEPS, &queries);
+    let made = made.expect(&rt, "accepted");
+    has_table(&rt, &made.form);
+    let expected = [
+        Reply::Row(2, 16_000_001, 777_215u32.into_nonzero_unchecked()),
+        Reply::OutOfRange,
+    ];
+    holds(&rt, &made.tabled.contiguous, &expected);
+    holds(&rt, &made.converted.hashed, &expected);
+}
+
+#[test]
+fn models_without_a_table_reply_at_the_full_width(rt: HostRuntime) {
+    let half = 1u128 << 127;
+    let weights = [half, half].to_vec(rt.alloc()).expect(&rt, "memory");
+    let queries = [Query::OfQuantile(u128::MAX), Query::OfSymbol(0)];
+    let made = answer_from_weights_by_search::<u128, 128>(rt.alloc(), weights, false, &queries);
+    let made = made.expect(&rt, "accepted");
+    let expected = [
+        Reply::Row(1, half, half.into_nonzero_unchecked()),
+        Reply::Entry(Some((0, half.into_nonzero_unchecked()))),
+    ];
+    holds(&rt, &made.contiguous.hashed, &expected);
+    holds(&rt, &made.non_contiguous.contiguous, &expected);
+    let model = UniformModel::<u128, 64>::new(2);
+    let found = answer_beside_encoder::<_, 64>(rt.alloc(), model, &[Query::OfQuantile(0)]);
+    let expected = Reply::Row(0, 0, (1u128 << 63).into_nonzero_unchecked());
+    holds(&rt, &found.expect(&rt, "replies"), &[expected]);
 }

@@ -4,6 +4,5 @@ pub returns-clause-ok : goal.returns-clause-ok
 returns-clause-ok g c = (
   (c.in_ok-by_search.ensures.contiguous, c.in_ok-by_search.ensures.hashed),
   c.in_ok-by_table.ensures.ok,
-  c.in_ok-by_slot.ensures.ok,
   (rw c.requires.form at c.in_ok-by_form.ensures.contiguous, rw c.requires.form at c.in_ok-by_form.ensures.hashed),
 )

@@ -1,5 +1,5 @@
 use Rattle.constriction.specs.StandLemmas.{entries-of}
-use Rattle.constriction_theorem.proofs.models.asked_beside_encoder.Goals as goal
+use Rattle.constriction_theorem.proofs.models.answer_beside_encoder.Goals as goal
 
 pub returns-clause-ok : goal.returns-clause-ok
 returns-clause-ok g c =

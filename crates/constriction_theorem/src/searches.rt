@@ -1,0 +1,93 @@
+//! Weights alone, and what models without a table reply, over any word.
+
+ghost use Rattle.std.specs.Prelude.{◌≡◌, ◌<◌, ◌≤◌, map, nat_eq, IfOk, IfErr};
+ghost use Rattle.constriction.specs.Acceptance.{completed, IsAccepted};
+ghost use Rattle.constriction.specs.Rows.{contiguous_rows};
+ghost use Rattle.constriction.specs.Precision.{IsPrecision};
+ghost use Rattle.constriction_client.specs.Replies.{in_numbers, replies_by_scan};
+ghost use Rattle.constriction_theorem.specs.Answers.{ReplyAsScan};
+
+use crate::made::{Contiguous, Searching, both_of_contiguous, contiguous_from};
+use crate::weights::{RepliesByEncoder, asked_beside_both};
+use constriction::stream::model::{EntropyModel, ModelError, NonContiguousCategoricalDecoderModel};
+use constriction_client::Query;
+use constriction_words::WholeNumber;
+use std::alloc::Global;
+
+/// What the models of one list of weights that have no tables replied to the same queries.
+#[derive(Drop)]
+pub struct AnswersBySearch<Word: WholeNumber, Decoder> {
+    /// The model of the symbols 0, 1, .. that searches all rows.
+    pub contiguous: RepliesByEncoder<Word>,
+    /// The decoder over any symbols that is made of its rows.
+    pub decoder: Decoder,
+    /// The replies of that decoder.
+    pub non_contiguous: RepliesByEncoder<Word>,
+}
+
+/// The replies of a model and of the decoder over any symbols that is made of its rows.
+fn asked_by_search<Probability: WholeNumber, const PRECISION: usize>(
+    alloc: Global,
+    model: &Contiguous<Probability, PRECISION>,
+    queries: &[Query<usize, Probability>],
+) -> Result<AnswersBySearch<Probability, Searching<usize, Probability, PRECISION>>, ModelError>
+    requires positive { 0 < PRECISION }
+    requires fits { PRECISION ≤ Probability.BITS }
+    ensures ok { IfOk result (λ answers. let AsScan = ReplyAsScan (in_numbers Probability.whole Probability.base)
+        (replies_by_scan PRECISION Probability.whole nat_eq queries.now
+        (⟦<Contiguous<Probability, PRECISION> as EntropyModel<PRECISION>>⟧.rows model.now)) in
+        AsScan answers.contiguous × AsScan answers.non_contiguous) }
+    ensures rows { IfOk result (λ answers. ⟦<Searching<usize, Probability, PRECISION> as EntropyModel<PRECISION>>⟧.rows answers.decoder
+        ≡ ⟦<Contiguous<Probability, PRECISION> as EntropyModel<PRECISION>>⟧.rows model.now) }
+    ensures refused { IfErr result (λ e. e ≡ ModelError.OutOfMemory) }
+{
+    let (decoder, hashed) = both_of_contiguous(alloc, model)?;
+    let contiguous = asked_beside_both::<_, _, _, _, PRECISION>(
+        alloc, model, model, &hashed, queries,
+    )?;
+    let non_contiguous = asked_beside_both::<_, _, _, _, PRECISION>(
+        alloc, &decoder, model, &hashed, queries,
+    )?;
+    Ok(AnswersBySearch {
+        contiguous,
+        decoder,
+        non_contiguous,
+    })
+}
+
+/// As [`answer_from_weights`](crate::answer_from_weights), by models that have no tables and over any word: makes the model of the symbols 0, 1, .. and
+/// the decoder over any symbols that is made of its rows, both of which search, and answers the same queries by each beside
+/// the former and beside the hashed encoder.
+pub fn answer_from_weights_by_search<Probability: WholeNumber, const PRECISION: usize>(
+    alloc: Global,
+    weights: Vec<Probability>,
+    infer_last_probability: bool,
+    queries: &[Query<usize, Probability>],
+) -> Result<
+    AnswersBySearch<
+        Probability,
+        NonContiguousCategoricalDecoderModel<
+            usize,
+            Probability,
+            Vec<(Probability, usize)>,
+            PRECISION,
+        >,
+    >,
+    ModelError,
+>
+    requires precision { IsPrecision Probability.BITS PRECISION }
+    ensures accepted { IfOk result (λ _. IsAccepted Probability.BITS PRECISION
+        (completed PRECISION infer_last_probability (map Probability.whole weights.items))) }
+    ensures invalid { result ≡ Err ModelError.InvalidTable → ¬ (IsAccepted Probability.BITS PRECISION
+        (completed PRECISION infer_last_probability (map Probability.whole weights.items))) }
+    ensures replies { IfOk result (λ answers. let AsScan = ReplyAsScan (in_numbers Probability.whole Probability.base)
+        (replies_by_scan PRECISION Probability.whole nat_eq queries.now
+        (contiguous_rows (completed PRECISION infer_last_probability (map Probability.whole weights.items)))) in
+        AsScan answers.contiguous × AsScan answers.non_contiguous) }
+    ensures rows { IfOk result (λ answers.
+        ⟦<NonContiguousCategoricalDecoderModel<usize, Probability, Vec<(Probability, usize)>, PRECISION> as EntropyModel<PRECISION>>⟧.rows answers.decoder
+        ≡ contiguous_rows (completed PRECISION infer_last_probability (map Probability.whole weights.items))) }
+{
+    let model = contiguous_from::<Probability, PRECISION>(alloc, weights, infer_last_probability)?;
+    asked_by_search(alloc, &model, queries)
+}
