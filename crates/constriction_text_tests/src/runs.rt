@@ -9,7 +9,7 @@ use std::process::Abort;
 /// The most bytes of an input.
 const LIMIT: usize = 1_048_576;
 
-/// Gives one byte a turn, and fails after so many turns.
+/// Gives one byte a turn, and fails once, after so many turns. Whoever asks it again is given the rest.
 #[derive(Drop)]
 struct SlowReader<'a> {
     rest: &'a [u8],
@@ -19,6 +19,7 @@ struct SlowReader<'a> {
 impl Read for SlowReader<'_> {
     fn read(&mut self, buf: &mut [u8]) -> io::Result<usize> {
         if self.turns == 0 {
+            self.turns = usize::MAX;
             return Err(io::Error::from(io::ErrorKind::Interrupted));
         }
         self.turns -= 1;
@@ -124,6 +125,7 @@ fn an_input_is_read_byte_by_byte(rt: HostRuntime) {
     }
 }
 
+/// It is not asked again, though it would give the rest.
 #[test]
 fn a_reader_that_fails_leaves_nothing_written(rt: HostRuntime) {
     let mut reader = SlowReader {
@@ -134,8 +136,8 @@ fn a_reader_that_fails_leaves_nothing_written(rt: HostRuntime) {
     let result = run_slowly(rt.alloc(), &mut reader, &mut written);
     same(
         &rt,
-        (result, written.is_empty()),
-        (Err(RunFault::Read), true),
+        (result, written.is_empty(), reader.turns),
+        (Err(RunFault::Read), true, usize::MAX),
     );
 }
 
