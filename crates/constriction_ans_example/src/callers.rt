@@ -6,7 +6,7 @@ ghost use Rattle.std.specs.List.{AllZip};
 ghost use Rattle.constriction.specs.Coding.{StandsForEqual};
 
 use crate::ans_coder::AnsCoder;
-use crate::laws::{compressed_comes_back, there_and_back};
+use crate::laws::{compressed_comes_back, symbols_come_back, there_and_back};
 use constriction::backends::Cursor;
 use constriction::stream::model::{
     DecoderModel, DefaultNonContiguousCategoricalDecoderModel,
@@ -35,6 +35,31 @@ where
     ensures { IfSome result (λ answers. AllZip (StandsForEqual M.stands_for M.symbol_eq) (reverse symbols.now) answers.items) }
 {
     there_and_back::<M::Symbol, Vec<u32>, M, M, PRECISION>(alloc, coder, model, model, symbols).ok()
+}
+
+/// Symbols that were encoded from the last one on come back in order.
+pub fn in_order<M, const PRECISION: usize>(
+    alloc: Global,
+    coder: &mut AnsCoder<Vec<u32>>,
+    model: &M,
+    symbols: &[M::Symbol],
+) -> Option<Vec<M::Symbol>>
+where
+    M: EncoderModel<PRECISION, Probability = u32> + DecoderModel<PRECISION, Probability = u32>,
+    M::Symbol: Drop,
+    requires positive { 0 < PRECISION }
+    requires fits { PRECISION ≤ 32 }
+    ensures { IfSome result (λ answers. AllZip (StandsForEqual M.stands_for M.symbol_eq) symbols.now answers.items) }
+{
+    symbols_come_back::<M::Symbol, M, M, PRECISION>(model, model);
+    match coder.encode_symbols_reverse::<M::Symbol, M, PRECISION>(symbols, model) {
+        Ok(()) => {}
+        Err(_) => return None,
+    }
+    match coder.decode_symbols::<M::Symbol, M, PRECISION>(alloc, symbols.len(), model) {
+        Ok(answers) => Some(answers),
+        Err(_) => None,
+    }
 }
 
 /// A message of numbers over a cursor by a uniform model.

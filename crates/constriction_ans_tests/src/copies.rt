@@ -1,0 +1,42 @@
+//! Copies of the words of a coder, and words that are refused.
+
+use crate::checks::same;
+use constriction::CoderError;
+use constriction::stream::model::DefaultUniformModel;
+use constriction_ans_example::AnsCoder;
+use std::process::Abort;
+
+/// What is copied is what the coder becomes, and the coder says how many words that are.
+fn is_copied(rt: &impl Abort, coder: AnsCoder<Vec<u32>>, copy: Vec<u32>, count: usize) {
+    same(rt, coder.num_words(), count);
+    same(rt, coder.is_empty(), count == 0);
+    let words = coder.into_compressed().expect(rt, "memory");
+    same(rt, copy.as_slice(), words.as_slice());
+    same(rt, copy.len(), count);
+}
+
+/// A coder of nothing has no word; one symbol of 1,000 has one, and ten of them have more.
+#[test]
+fn words_are_copied(rt: HostRuntime) {
+    let alloc = rt.alloc();
+    let model = DefaultUniformModel::new(1000);
+    for (symbols, count) in [(0, 0), (1, 1), (2, 1), (10, 4)] {
+        let mut coder = AnsCoder::new(alloc);
+        for symbol in 0..symbols {
+            let encoded = coder.encode_symbol::<usize, _, 24>(&(symbol * 99 + 7), &model);
+            same(&rt, encoded.is_ok(), true);
+        }
+        let copy = coder.get_compressed(alloc).expect(&rt, "memory");
+        is_copied(&rt, coder, copy, count);
+    }
+}
+
+/// Words that end in 0 are handed back without it.
+#[test]
+fn refused_words_are_handed_back(rt: HostRuntime) {
+    let words = Vec::from_array(rt.alloc(), [5, 6, 0]).expect(&rt, "memory");
+    match AnsCoder::from_compressed(words) {
+        Err(CoderError::Frontend(left)) => same(&rt, left.as_slice(), [5, 6].as_slice()),
+        _ => panic!(&rt; "the words were not refused"),
+    }
+}

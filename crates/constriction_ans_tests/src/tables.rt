@@ -1,0 +1,87 @@
+//! A sentence that is coded by a table of texts, whose weights are stored as words.
+
+use crate::checks::same;
+use constriction::backends::Cursor;
+use constriction::stream::model::to_generic_encoder_model;
+use constriction_ans_example::AnsCoder;
+use constriction_ans_example::stored_table::{StoredTable, read_table, write_table};
+use std::alloc::Global;
+use std::process::Abort;
+
+/// A table of texts over 24 bits of `u32`.
+type Table = StoredTable<String, 24>;
+
+/// The texts of the table.
+const TEXTS: [&str; 4] = ["the", "cat", "saw", "."];
+
+/// How many of the `2^24` quantiles each has. The last one has what these leave.
+const WEIGHTS: [u32; 3] = [6_000_000, 4_000_000, 2_500_000];
+
+/// What is coded.
+const MESSAGE: [&str; 6] = ["the", "cat", "saw", "the", "cat", "."];
+
+/// These texts, each in memory of its own.
+fn owned(rt: &impl Abort, alloc: Global, texts: &[&str]) -> Vec<String> {
+    let mut strings = Vec::new(alloc);
+    for text in texts {
+        let string = String::from_str(alloc, text).expect(rt, "memory");
+        strings.push(string).expect(rt, "memory");
+    }
+    strings
+}
+
+/// The words of the table.
+fn stored(rt: &impl Abort, alloc: Global) -> Vec<u32> {
+    let table = Table::from_symbols_and_nonzero_fixed_point_probabilities(
+        alloc,
+        owned(rt, alloc, &TEXTS),
+        WEIGHTS,
+        true,
+    ).expect(rt, "the table");
+    let mut words = Vec::new(alloc);
+    same(
+        rt,
+        write_table::<_, _, 24>(alloc, &table, &mut words).is_ok(),
+        true,
+    );
+    words
+}
+
+/// The words of the message by this table.
+fn encoded(rt: &impl Abort, alloc: Global, table: &Table) -> Vec<u32> {
+    let encoder = to_generic_encoder_model::<_, 24>(alloc, table).expect(rt, "the encoder");
+    let message = owned(rt, alloc, &MESSAGE);
+    let mut coder = AnsCoder::new(alloc);
+    same(
+        rt,
+        coder
+            .encode_symbols_reverse::<_, _, 24>(&message, &encoder)
+            .is_ok(),
+        true,
+    );
+    coder.into_compressed().expect(rt, "memory")
+}
+
+/// A table is written and read, and a message that was encoded by it is decoded.
+#[test]
+fn a_message_by_a_stored_table(rt: HostRuntime) {
+    let alloc = rt.alloc();
+    let words = stored(&rt, alloc);
+    same(
+        &rt,
+        words.as_slice(),
+        [4, 6_000_000, 4_000_000, 2_500_000, 4_277_216].as_slice(),
+    );
+    let mut source = Cursor::new_at_write_beginning(words);
+    let table = read_table::<String, _, 24>(alloc, owned(&rt, alloc, &TEXTS), &mut source).expect(
+        &rt,
+        "the table",
+    );
+    let words = encoded(&rt, alloc, &table);
+    let mut coder = AnsCoder::from_compressed(words).expect(&rt, "the coder");
+    let symbols = coder
+        .decode_symbols::<String, _, 24>(alloc, MESSAGE.len(), &table)
+        .expect(&rt, "the symbols");
+    same(&rt, symbols, owned(&rt, alloc, &MESSAGE));
+    same(&rt, coder.is_empty(), true);
+}
