@@ -16,6 +16,13 @@ KINDS = (
     ("looking up", "direct lookup quantile_function", "orange"),
     ("hashed", "hashed encoder left_cumulative_and_probability", "violet"),
 )
+# Ways to the row of a quantile of 24 bits: the kernel, and its colour.
+SLOTS = (
+    ("searching", "contiguous quantile_function", "blue"),
+    ("256 slots", "wide 256-slot lookup quantile_function", "violet"),
+    ("4,096 slots", "wide 4,096-slot lookup quantile_function", "orange"),
+    ("65,536 slots", "wide 65,536-slot lookup quantile_function", "green"),
+)
 
 
 def is_measured(it):
@@ -122,7 +129,7 @@ def draw_plots(top, file):
     with open(file, encoding="utf-8") as it:
         saved = json.load(it)
     os.makedirs(f"{top}/docs/pictures", exist_ok=True)
-    for name, drawing in (("speed-ratios", draw_ratios(saved)), ("speed-rows", draw_rows(saved))):
+    for name, drawing in (("speed-ratios", draw_ratios(saved)), ("speed-rows", draw_rows(saved)), ("speed-slots", draw_slots(saved))):
         with open(f"{top}/docs/pictures/{name}.svg", "w", encoding="utf-8") as to:
             to.write(drawing.written())
         print(f"drew docs/pictures/{name}.svg")
@@ -173,14 +180,34 @@ def draw_rows(saved):
     lines = []
     for kind, name, hue in KINDS:
         made = sorted((it for it in saved["growth"] if it["name"] == name and is_measured(it)), key=lambda it: it["rows"])
-        if made:
-            lines.append((kind, hue, made))
-    times = [it[side] for _, _, made in lines for it in made for side in ("rust", "here")]
+        for side, is_dashed in (("rust", True), ("here", False)):
+            if made:
+                lines.append((None if is_dashed else kind, hue, is_dashed, [(it["rows"], it[side]) for it in made]))
+    return plotted("The time of a look-up by the number of rows, for the four kinds of models", "The time of a look-up by the number of rows", lines)
+
+
+def draw_slots(saved):
+    """Look-ups over 24 bits of u32: a search on both sides, and tables of slots."""
+    lines = []
+    for kind, name, hue in SLOTS:
+        made = sorted((it for it in saved["kernels"] if it["name"] == name and it["words"] == "u32/24" and it["rows"] >= 16 and is_measured(it)), key=lambda it: it["rows"])
+        if not made:
+            continue
+        if kind == "searching":
+            lines.append((None, hue, True, [(it["rows"], it["rust"]) for it in made]))
+        lines.append((kind, hue, False, [(it["rows"], it["here"]) for it in made]))
+    return plotted("The time of a look-up over 24 bits of u32 by the number of rows, by a search and by tables of slots", "The time of a look-up over 24 bits of u32", lines)
+
+
+def plotted(title, heading, lines):
+    """Returns a plot of nanoseconds by rows. A line has a name, or None, a hue, whether it is dashed, and its points."""
+    points_of = [points for _, _, _, points in lines]
+    times = [time for points in points_of for _, time in points]
     ticks = steps(min(times), max(times))
-    bits = sorted({it["rows"].bit_length() - 1 for _, _, made in lines for it in made})
+    bits = sorted({rows.bit_length() - 1 for points in points_of for rows, _ in points})
     left, right, top, bottom = 64, 640, 84, 440
-    it = Drawing(776, 500, "The time of a look-up by the number of rows, for the four kinds of models")
-    it.text(24, 32, "The time of a look-up by the number of rows", bold=True, size=14)
+    it = Drawing(776, 500, title)
+    it.text(24, 32, heading, bold=True, size=14)
     it.text(24, 52, "Nanoseconds; full lines are this library, dashed lines the Rust crate.", "faint", 12)
 
     def x(rows):
@@ -196,14 +223,13 @@ def draw_rows(saved):
         it.line(x(2**bit), bottom, x(2**bit), bottom + 5, "faint")
         it.text(x(2**bit), bottom + 22, f"2^{bit}", "faint", 12, at="middle")
     it.text((left + right) / 2, bottom + 44, "rows", "faint", 12, at="middle")
-    for _, hue, made in lines:
-        for side in ("rust", "here"):
-            points = [(x(one["rows"]), y(one[side])) for one in made]
-            it.path("M" + "L".join(f"{a:.1f} {b:.1f}" for a, b in points), hue, 2 if side == "here" else 1.4, dashed=side == "rust")
-            for a, b in points:
-                it.dot(a, b, 3.2, hue if side == "here" else "page", hue)
+    for _, hue, is_dashed, points in lines:
+        places = [(x(rows), y(time)) for rows, time in points]
+        it.path("M" + "L".join(f"{a:.1f} {b:.1f}" for a, b in places), hue, 1.4 if is_dashed else 2, dashed=is_dashed)
+        for a, b in places:
+            it.dot(a, b, 3.2, "page" if is_dashed else hue, hue)
     # a name at the end of each line, kept apart from the others
-    ends = sorted(([y(made[-1]["here"]), x(made[-1]["rows"]), kind, hue] for kind, hue, made in lines), key=lambda it: it[0])
+    ends = sorted(([y(points[-1][1]), x(points[-1][0]), kind, hue] for kind, hue, _, points in lines if kind), key=lambda it: it[0])
     for one, next_one in zip(ends, ends[1:]):
         if abs(next_one[1] - one[1]) < 60:
             next_one[0] = max(next_one[0], one[0] + 18)
