@@ -55,6 +55,9 @@ exports! {
     to_direct_lookup = kernel_to_direct_lookup(weights: [u16]);
     write_quantiles = kernel_write_quantiles(weights: [u32], symbols: [u32]);
     read_symbols = kernel_read_symbols(weights: [u32], words: [u32]);
+    coder_encode = kernel_coder_encode(weights: [u32], symbols: [u32]);
+    coder_decode = kernel_coder_decode(weights: [u32], words: [u32]);
+    coder_lookup_decode = kernel_coder_lookup_decode(weights: [u32], words: [u32]);
     cursor_queue_read = kernel_cursor_queue_read(words: [u32]);
     cursor_stack_read = kernel_cursor_stack_read(words: [u32]);
     reverse_stack_read = kernel_reverse_stack_read(words: [u32]);

@@ -11,6 +11,7 @@ pub mod any_symbols;
 pub mod backends;
 pub mod checksum;
 pub mod client;
+pub mod coder;
 pub mod contiguous;
 pub mod conversions;
 pub mod lookups;

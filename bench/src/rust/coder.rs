@@ -1,0 +1,97 @@
+//! The worked stack coder, written out over the Rust crate's models.
+use super::mix;
+use constriction::stream::model::{DecoderModel, DefaultContiguousCategoricalEntropyModel, EncoderModel};
+
+type Contiguous = DefaultContiguousCategoricalEntropyModel;
+
+/// A state over a stack of words.
+struct StackCoder {
+    state: u64,
+    words: Vec<u32>,
+}
+
+impl StackCoder {
+    /// Puts a symbol on the state, which loses a word first where it has no room.
+    #[inline(always)]
+    fn encode_symbol<M: EncoderModel<24, Symbol = usize, Probability = u32>>(&mut self, symbol: usize, model: &M) -> Result<(), ()> {
+        let (left, weight) = model.left_cumulative_and_probability(symbol).ok_or(())?;
+        let weight = u64::from(weight.get());
+        if self.state >> 40 >= weight {
+            self.words.push(self.state as u32);
+            self.state >>= 32;
+        }
+        self.state = ((self.state / weight) << 24) | (u64::from(left) + self.state % weight);
+        Ok(())
+    }
+
+    /// Takes the symbol on top of the state, which takes a word where it has become small.
+    #[inline(always)]
+    fn decode_symbol<M: DecoderModel<24, Symbol = usize, Probability = u32>>(&mut self, model: &M) -> usize {
+        let quantile = (self.state % (1 << 24)) as u32;
+        let (symbol, left, weight) = model.quantile_function(quantile);
+        self.state = (self.state >> 24) * u64::from(weight.get()) + u64::from(quantile - left);
+        if self.state < 1 << 32 {
+            if let Some(word) = self.words.pop() {
+                self.state = (self.state << 32) | u64::from(word);
+            }
+        }
+        symbol
+    }
+
+    /// The words with those of the state on top.
+    fn into_compressed(mut self) -> Vec<u32> {
+        while self.state != 0 {
+            self.words.push(self.state as u32);
+            self.state >>= 32;
+        }
+        self.words
+    }
+
+    /// The coder of such words, unless they end in 0.
+    fn from_compressed(mut words: Vec<u32>) -> Option<Self> {
+        let state = match words.pop() {
+            None => 0,
+            Some(0) => return None,
+            Some(high) => match words.pop() {
+                None => u64::from(high),
+                Some(low) => u64::from(high) << 32 | u64::from(low),
+            },
+        };
+        Some(StackCoder { state, words })
+    }
+}
+
+#[inline(never)]
+pub fn coder_encode(weights: &[u32], symbols: &[u32], repeats: u32) -> u64 {
+    let Ok(model) = Contiguous::from_nonzero_fixed_point_probabilities(weights.iter().copied(), false) else { return 1 };
+    let mut sum = 0;
+    for _ in 0..repeats {
+        let mut coder = StackCoder { state: 0, words: Vec::new() };
+        for symbol in symbols {
+            if coder.encode_symbol(*symbol as usize, &model).is_err() {
+                return 1;
+            }
+        }
+        for word in coder.into_compressed() {
+            sum = mix(sum, u64::from(word));
+        }
+    }
+    sum
+}
+
+#[inline(never)]
+pub fn coder_decode(weights: &[u32], words: &[u32], repeats: u32) -> u64 {
+    let Ok(model) = Contiguous::from_nonzero_fixed_point_probabilities(weights.iter().copied(), false) else { return 1 };
+    let half = &words[..words.len() / 2];
+    let mut sum = 0;
+    for _ in 0..repeats {
+        let Some(mut coder) = StackCoder::from_compressed(half.to_vec()) else { return 1 };
+        for _ in 0..words.len() {
+            sum = mix(sum, coder.decode_symbol(&model) as u64);
+        }
+    }
+    sum
+}
+
+// The Rust crate has no lookup model over these words: its search stands beside it.
+pub use coder_decode as coder_lookup_decode;
