@@ -1,7 +1,9 @@
 pub mod Closing
 pub mod ComingBack
+pub mod Giving
 pub mod Intervals
 pub mod States
 pub mod Steps
 pub mod Stopping
 pub mod Tables
+pub mod Walking

@@ -10,7 +10,7 @@ use Rattle.constriction.specs.Rows.{Row}
 use Rattle.constriction_ans_example.specs.Steps.{Content, content, IsEncoded, IsDecoded, NeedsWord, IsEncodingFault, EncodingStops, IsDecodingFault, DecodingStops}
 
 -- a backend of the same words under the same state holds the same
-same-held : {S : Type 0} (words_of : S → List ℕ) (held : ℕ) (reached : S) (state : ℕ) (left : S) → state ≡ held
+pub same-held : {S : Type 0} (words_of : S → List ℕ) (held : ℕ) (reached : S) (state : ℕ) (left : S) → state ≡ held
     → words_of left ≡ words_of reached → content held (words_of reached) ≡ content state (words_of left)
 same-held words_of held reached state left stays same =
     ap (λ n. content n (words_of reached)) (sym stays) ∙ ap (λ ws. content state ws) (sym same)
@@ -18,7 +18,7 @@ same-held words_of held reached state left stays same =
 module _ {Symbol S Fault E : Type 0} (words_of : S → List ℕ) (entry : Symbol → Option (ℕ × ℕ))
     (gives : S → ℕ → Result (Unit {0}) E → S → Type 0) (precision : ℕ) (old : Content) (held : ℕ) (reached : S) (state : ℕ) (left : S)
     (stays : state ≡ held) (same : words_of left ≡ words_of reached) where
-  encoding-fault : (error : CoderError Fault E) (symbol : Symbol)
+  pub encoding-fault : (error : CoderError Fault E) (symbol : Symbol)
       → ((fault : Fault) → (let r : Result (Unit {0}) (CoderError Fault E) = Err error in r ≡ Err (Frontend fault)) → entry symbol ≡ None)
       → ((e : E) → (let r : Result (Unit {0}) (CoderError Fault E) = Err error in r ≡ Err (Backend e))
       → (word : ℕ) × gives reached word (Err e) left)
@@ -76,7 +76,7 @@ module _ {Symbol S Fault E : Type 0} (words_of : S → List ℕ) (entry : Symbol
 module _ {Symbol S Fault E : Type 0} (words_of : S → List ℕ) (Stands : Symbol → Symbol → Type 0) (MayRefuse : Symbol → Type 0)
     (rows : List (Row Symbol)) (gives : S → Result (Option ℕ) E → S → Type 0) (precision : ℕ) (old : Content) (held : ℕ) (reached : S)
     (state : ℕ) (left : S) (stays : state ≡ held) (same : words_of left ≡ words_of reached) where
-  decoding-fault : {T : Type 0} (error : CoderError Fault E)
+  pub decoding-fault : {T : Type 0} (error : CoderError Fault E)
       → ((fault : Fault) → (let r : Result T (CoderError Fault E) = Err error in r ≡ Err (Frontend fault))
       → RowMayBeRefused MayRefuse rows (held % 2 ^ precision))
       → ((e : E) → (let r : Result T (CoderError Fault E) = Err error in r ≡ Err (Backend e))

@@ -4,3 +4,4 @@ pub mod Laws
 pub mod States
 pub mod Steps
 pub mod Tables
+pub mod Walks

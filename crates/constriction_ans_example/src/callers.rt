@@ -1,18 +1,22 @@
 //! What callers learn from the contracts alone.
 
-ghost use Rattle.std.specs.Prelude.{◌≡◌, ◌<◌, ◌≤◌, nat_eq, reverse, string_eq, IfSome, IsTrue};
+ghost use Rattle.std.specs.Prelude.{◌≡◌, ◌<◌, ◌≤◌, nat_eq, reverse, string_eq, IfOk, IfSome, IsTrue, List, OnOk, Option};
 ghost use Rattle.constriction.specs.Rows.{entry_of};
+ghost use Rattle.std.specs.Iterator.{IsFinite, YieldsLast};
 ghost use Rattle.std.specs.List.{AllZip};
-ghost use Rattle.constriction.specs.Coding.{StandsForEqual};
+ghost use Rattle.constriction.specs.Coding.{InTurn, StandsForEqual};
+ghost use Rattle.constriction_ans_example.specs.Steps.{content, IsDecoded, IsEncoded};
 
 use crate::ans_coder::AnsCoder;
 use crate::laws::{compressed_comes_back, symbols_come_back, there_and_back};
-use constriction::backends::Cursor;
+use constriction::backends::{Cursor, WordStack};
 use constriction::stream::model::{
-    DecoderModel, DefaultNonContiguousCategoricalDecoderModel,
-    DefaultNonContiguousCategoricalEncoderModel, EncoderModel, EntropyModel, UniformModel,
+    DecoderModel, DecodesOver, DefaultNonContiguousCategoricalDecoderModel,
+    DefaultNonContiguousCategoricalEncoderModel, EncoderModel, EncodesOver, EntropyModel,
+    UniformModel,
 };
-use std::alloc::Global;
+use constriction::{CoderError, DefaultEncoderFrontendError};
+use std::alloc::{AllocError, Global};
 
 /// A table of texts over 24 bits of `u32`.
 type Table = DefaultNonContiguousCategoricalDecoderModel<String>;
@@ -95,4 +99,56 @@ pub fn opened_again(coder: AnsCoder<Vec<u32>>) -> Option<AnsCoder<Vec<u32>>>
     ensures { IfSome result (λ again. again.state ≡ coder.state × (again.words.items ≡ coder.words.items)) }
 {
     compressed_comes_back(coder).ok()
+}
+
+/// The symbols that a walk gives, one after the other, are a run.
+pub fn by_a_walk<Symbol: Drop, Backend, D, const PRECISION: usize>(
+    alloc: Global,
+    coder: &mut AnsCoder<Backend>,
+    count: usize,
+    model: &D,
+) -> Result<Vec<Symbol>, CoderError<AllocError, Backend::ReadError>>
+where
+    Backend: WordStack<u32>,
+    D: DecodesOver<Symbol, u32, PRECISION>,
+    requires positive { 0 < PRECISION }
+    requires fits { PRECISION ≤ 32 }
+    requires can_read { Backend.can_read coder.old.words }
+    ensures { IfOk result (λ symbols. InTurn (IsDecoded D.stands_for (D.rows model.now) PRECISION) symbols.items
+        (content coder.old.state (Backend.words_of coder.old.words)) (content coder.new.state (Backend.words_of coder.new.words))) }
+{
+    let mut symbols = Vec::new(alloc);
+    for answer in coder.decode_iid_symbols::<Symbol, D, PRECISION>(count, model) {
+        match answer {
+            Ok(symbol) => match symbols.push(symbol) {
+                Ok(()) => {}
+                Err(refused) => return Err(CoderError::Frontend(refused.into())),
+            },
+            Err(error) => return Err(error),
+        }
+    }
+    Ok(symbols)
+}
+
+/// What an iterator has left, where its states tell that, is encoded such that decoding gives it in order.
+pub fn from_an_iterator<Symbol: Drop, Backend, E, I, const PRECISION: usize>(
+    coder: &mut AnsCoder<Backend>,
+    symbols: I,
+    model: &E,
+) -> Result<(), CoderError<DefaultEncoderFrontendError, Backend::WriteError>>
+where
+    Backend: WordStack<u32>,
+    E: EncodesOver<Symbol, u32, PRECISION>,
+    I: DoubleEndedIterator<Item = Symbol>,
+    requires positive { 0 < PRECISION }
+    requires fits { PRECISION ≤ 32 }
+    requires can_write { Backend.can_write coder.old.words }
+    requires can_next_back { I.can_next_back symbols }
+    requires ends { IsFinite (I.remaining symbols) }
+    ensures { OnOk result ((rest : I → List Symbol)
+        → ((s : I) (answer : Option Symbol) (t : I) → I.next_back_gives s answer t → YieldsLast rest s answer t)
+        → InTurn (IsEncoded (entry_of E.symbol_eq (E.rows model.now)) PRECISION) (rest symbols)
+        (content coder.new.state (Backend.words_of coder.new.words)) (content coder.old.state (Backend.words_of coder.old.words))) }
+{
+    coder.encode_iid_symbols_reverse::<Symbol, E, I, PRECISION>(symbols, model)
 }

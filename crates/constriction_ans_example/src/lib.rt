@@ -8,6 +8,8 @@
 mod ans_coder;
 mod callers;
 mod compressed;
+mod decoding_walk;
+mod encoding_walks;
 mod interval;
 pub mod laws;
 mod range_decoder;
@@ -16,5 +18,6 @@ mod state;
 pub mod stored_table;
 
 pub use crate::ans_coder::AnsCoder;
+pub use crate::decoding_walk::DecodeIidSymbols;
 pub use crate::laws::MessageFault;
 pub use crate::range_decoder::{RangeDecoder, RangeDecodingFault};

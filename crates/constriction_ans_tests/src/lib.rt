@@ -10,3 +10,5 @@ mod checks;
 mod copies;
 #[cfg(test)]
 mod tables;
+#[cfg(test)]
+mod walks;

@@ -53,7 +53,7 @@ pub type SmallContiguousDirectLookupDecoderModel<Cdf = Vec<u16>, LookupTable = V
 /// 8,192 words, 32 KiB, beside one word a symbol and one more.
 ///
 /// A look-up takes a quarter to two fifths of the time that a search of all rows takes. The table takes time to make: of
-/// 4,096 rows it pays after some 1,800 look-ups, and who decodes fewer symbols with one model searches. Where memory
+/// 4,096 rows it pays after some 2,000 look-ups, and who decodes fewer symbols with one model searches. Where memory
 /// counts, [`ContiguousLookupDecoderModel`] has 512 words.
 ///
 /// [`DefaultContiguousCategoricalEntropyModel`]: crate::DefaultContiguousCategoricalEntropyModel
