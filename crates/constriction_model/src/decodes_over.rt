@@ -48,7 +48,7 @@ impl<M: DecoderModel<PRECISION>, const PRECISION: usize> DecodesOver<
 
     ghost rows = { M.rows };
 
-    #[inline]
+    #[inline(always)]
     fn row(
         &self,
         quantile: M::Probability,

@@ -44,7 +44,7 @@ impl<M: EncoderModel<PRECISION>, const PRECISION: usize> EncodesOver<
 
     ghost rows = { M.rows };
 
-    #[inline]
+    #[inline(always)]
     fn entry(&self, symbol: &M::Symbol) -> Option<(M::Probability, Weight<M::Probability>)> {
         self.left_cumulative_and_probability(symbol)
     }
