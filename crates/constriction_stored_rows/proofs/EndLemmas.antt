@@ -1,11 +1,11 @@
 -- Where rows end, as words, and that the difference to where they begin is their weight.
-use Rattle.std.proofs.Common.{◌≡◌, ℕ, suc, zero, ◌+◌, ◌-◌, ◌%◌, ◌^◌, ◌<◌, ◌≤◌, List, [], ◌∷◌, length, get_or, map, ap, sym, refl, ◌∙◌, arith, inl, inr}
+use Rattle.std.proofs.Common.{◌≡◌, ℕ, ◌+◌, ◌-◌, ◌%◌, ◌^◌, ◌<◌, ◌≤◌, List, [], ◌∷◌, length, get_or, map, ap, sym, refl, ◌∙◌, arith, inl, inr}
 use Rattle.std.proofs.Math.Nat.{mod-eq_of_lt, mod-lt, pow-le-pow_right}
 use Rattle.std.proofs.lemmas.Bool.{cases_lt}
 use Rattle.std.proofs.lemmas.Nat.{pow_pos}
 use Rattle.std.proofs.lemmas.List.{length-append, length-map, get_or_append_left, get_or-append_right, get_or_default, get_or_past}
 use Rattle.constriction_model.proofs.Differences.{difference-mod}
-use Rattle.constriction_stored_rows.specs.Stored.{IsStored, StandBeside, end_at, ends_of, total_of, with_total, weights_of}
+use Rattle.constriction_stored_rows.specs.Stored.{IsStored, StandBeside, end_at, total_of, with_total, weights_of}
 use Rattle.constriction_stored_rows.specs.StoredLemmas.{stored-row, read-whole}
 
 module _ (bits precision : ℕ) (lefts : List ℕ) where
@@ -48,13 +48,6 @@ module _ (bits precision : ℕ) (lefts : List ℕ) where
         difference-mod (2 ^ bits) weight (get_or (weights_of precision lefts) i 0) left small row.fits low
         (e ∙ is ∙ row-ends i h ∙ ap (λ k. (get_or (weights_of precision lefts) i 0 + k) % 2 ^ bits) here)
 
-  -- of two rows or fewer their ends are those of the first and of the last one
-  pub ends-at : (i : ℕ) → length lefts ≤ 2 → i < length lefts
-      → get_or (ends_of bits precision lefts) i 0 ≡ end_at bits precision lefts i
-  ends-at zero few h = refl
-  ends-at (suc zero) few h = sym (end-last 1 (omega arith))
-  ends-at (suc (suc i)) few h = absurd (omega arith)
-
   -- with the total after them, a row ends where the next number says
   pub end-in : (i : ℕ) → i < length lefts → get_or (with_total bits precision lefts) (i + 1) 0 ≡ end_at bits precision lefts i
   end-in i h = elim (cases_lt (i + 1) (length lefts)) [
@@ -79,13 +72,6 @@ module _ {Word : Type 0} (whole : Word → ℕ) (bits precision : ℕ) (lefts : 
     (b : StandBeside bits precision lefts (map whole beside)) where
   pub beside-two : length beside ≡ 2
   beside-two = sym (length-map beside whole) ∙ b.two
-
-  -- of two rows or fewer they are the ends
-  pub beside-end : (i : ℕ) (x : Word) → length lefts ≤ 2 → i < length lefts → x ≡ get_or beside i x
-      → whole x ≡ end_at bits precision lefts i
-  beside-end i x few h is =
-      let here : i < length beside = omega (arith, beside-two) in
-      sym (read-whole whole beside i x here is) ∙ ap (λ xs. get_or xs i 0) (b.ends few) ∙ ends-at bits precision lefts i few h
 
   -- of more, what is left of the next row's left cumulative
   pub beside-next : (i r : ℕ) (x : Word) → 2 < length lefts → i + 1 < length lefts → x ≡ get_or beside 1 x → r < 2 ^ bits

@@ -9,7 +9,7 @@ use Rattle.constriction_model.specs.Model.{StandForRows}
 use Rattle.constriction_model.specs.RowLemmas.{weights-rows_from, symbols-rows_from}
 use Rattle.constriction_model.specs.Rows.{Row, rows_from, rows_of, symbols_of, RowsTile}
 use Rattle.constriction_stored_rows.specs.Stored.{IsStored, weights_of}
-use Rattle.constriction_stored_rows.specs.StoredLemmas.{IsRowAt, stored-row, stored-some, stored-of_rows}
+use Rattle.constriction_stored_rows.specs.StoredLemmas.{IsRowAt, stored-row, stored-of_rows}
 use Rattle.constriction_stored_rows.specs.SymbolRowLemmas.{symbols-many, symbol-rows_many, symbol-is_at, paired-long, paired-tiles}
 use Rattle.constriction_model.specs.Probe.{IsRowIndexOf, IsLastAtMost, IsSearchable}
 use Rattle.constriction_model.specs.Searching.{TellsRows}
@@ -162,12 +162,6 @@ module _ {Symbol Word : Type 0} (whole : Word → ℕ) (IsClone : Symbol → Sym
       (sym (cloned-words entries cloned h))
       (cloned-from 0 (map (λ x. x.1) cloned) (map (λ x. x.1) entries) (weights_of precision (map (λ x. whole x.0) entries))
       (cloned-symbols entries cloned h))
-
--- some entry is stored
-pub stored-entries_some : {Symbol Word : Type 0} (whole : Word → ℕ) (bits precision : ℕ) (entries : List (Word × Symbol))
-    → IsStored bits precision (map (λ x. whole x.0) entries) → 0 < length entries
-stored-entries_some whole bits precision entries t =
-    omega (arith, stored-some bits precision (map (λ x. whole x.0) entries) t, length-map entries (λ x. whole x.0))
 
 -- entries that were lent are entries, all their rows are left at first, and there are so many
 pub paired-lent : {Symbol Word : Type 0} (whole : Word → ℕ) (bits precision : ℕ) (entries lent : List (Word × Symbol))

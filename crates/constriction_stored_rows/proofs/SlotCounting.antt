@@ -2,10 +2,12 @@
 use Rattle.std.specs.Prelude.{count_by}
 use Rattle.std.proofs.Common.{◌≡◌, Bool, true, ℕ, zero, suc, ◌+◌, ◌-◌, ◌*◌, ◌/◌, ◌^◌, ◌<◌, ◌≤◌, max, List, length, get_or, map, take, drop, ap, sym, ◌∙◌, refl, arith, inl, inr, true≢false}
 use Rattle.std.proofs.lemmas.Bool.{cases_lt, cases_Bool, lt-ltb, ltb-true, and_parts, and_from}
+use Rattle.std.proofs.lemmas.List.{length-map}
 use Rattle.std.proofs.lemmas.List.Sums.{count_by_more_yes, count_by_more_no}
 use Rattle.std.proofs.lemmas.Nat.{pow_pos}
 use Rattle.constriction_model.specs.Probe.{digits}
 use Rattle.constriction_model.specs.Searching.{TellsRows}
+use Rattle.constriction_model.specs.PairLemmas.{has-row}
 use Rattle.constriction_model.specs.Rows.{Row, RowsTile}
 use Rattle.constriction_model.proofs.Digits.{digits_few, digits_grow}
 use Rattle.constriction_stored_rows.specs.QuestionLemmas.{least-most}
@@ -135,25 +137,28 @@ module _ {S : Type 0} (bits precision slot_bits : ℕ) (rows : List (Row S)) (t 
       ∙ omega (arith, ordered)
 
   -- how often the look-up of a quantile compares it, and that a search of all rows compares no less often
-  pub slot-compared : (q compared : ℕ) (lefts : List ℕ) (d : Row S) → lefts ≡ map (λ r. r.left) rows → q < 2 ^ precision
+  pub slot-compared : (q compared : ℕ) (lefts : List ℕ) → lefts ≡ map (λ r. r.left) rows → q < 2 ^ precision
       → IsSlotSearch lefts (slot_width precision slot_bits) (q / slot_width precision slot_bits)
-      (least_in_slots precision slot_bits (length rows)) compared
+      (least_in_slots precision slot_bits (length lefts)) compared
       → (compared ≤ digits (length rows - 1))
       × (compared ≡ max (least_in_slots precision slot_bits (length rows))
       (digits (count_by (meets_slot (slot_width precision slot_bits) (q / slot_width precision slot_bits)) rows - 1)))
-  slot-compared q compared lefts d e below search =
+  slot-compared q compared lefts e below search =
+      let row = (has-row bits precision rows q t below).0 in
+      let long : length lefts ≡ length rows = ap length e ∙ length-map rows (λ r. r.left) in
       let width : ℕ = slot_width precision slot_bits in
       let slot : ℕ = q / width in
       let s = rw e at search.rows in
-      let met = slot-met slot search.first search.last d (slot-below precision slot_bits q below) s in
+      let met = slot-met slot search.first search.last row (slot-below precision slot_bits q below) s in
       let many = tiles-many bits precision rows t in
+      let counted = rw long at search.counted in
       let one-less : digits (count_by (meets_slot width slot) rows - 1) ≡ digits (search.last - search.first) =
       ap digits (omega (arith, met)) in (
         omega (
           arith,
-          search.counted,
+          counted,
           least-few precision slot_bits (length rows),
           digits_grow (search.last - search.first) (length rows - 1) (omega (arith, many, s.to.in_bounds)),
         ),
-        rw one-less search.counted,
+        rw one-less counted,
       )

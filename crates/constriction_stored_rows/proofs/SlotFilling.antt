@@ -1,6 +1,6 @@
 -- Filling the table of slots.
 use Rattle.std.proofs.Common.{◌≡◌, ◌↔◌, ℕ, ◌+◌, ◌-◌, ◌*◌, ◌/◌, ◌^◌, ◌<◌, ◌≤◌, ◌⊎◌, suc, zero, min, List, ◌∷◌, ◌++◌, length, replicate, [], map, get_or, ap, sym, refl, ◌∙◌, arith, inl, inr, add-one}
-use Rattle.std.proofs.Math.Nat.{mul_comm, mul-le-mul_right, le-div_iff_mul-le}
+use Rattle.std.proofs.Math.Nat.{mul_comm, mul-le-mul_right, div-lt_iff_lt-mul, lt-div-mul-add}
 use Rattle.std.proofs.lemmas.Bool.{cases_lt}
 use Rattle.std.proofs.lemmas.Nat.{pow-add, pow_pos}
 use Rattle.std.proofs.lemmas.List.{length-map, length-append, length-replicate, map-append, get_or_append_left, get_or-append_right, get_or-replicate, append_assoc, replicate_more}
@@ -23,21 +23,27 @@ slot-end j n w h =
 -- all slots together hold the quantiles below 2 ^ precision
 slots-all : (precision slot_bits : ℕ) → slot_count precision slot_bits * slot_width precision slot_bits ≡ 2 ^ precision
 slots-all precision slot_bits =
-    let e : min precision slot_bits + (precision - slot_bits) ≡ precision = omega arith in
-    let split : 2 ^ (min precision slot_bits + (precision - slot_bits)) ≡ 2 ^ min precision slot_bits * 2 ^ (precision - slot_bits) = pow-add 2 (min precision slot_bits) (precision - slot_bits) in
+    let count : ℕ = min precision slot_bits in
+    let width : ℕ = precision - slot_bits in
+    let e : count + width ≡ precision = omega arith in
+    let split : 2 ^ (count + width) ≡ 2 ^ count * 2 ^ width = pow-add 2 count width in
     rw (← split) (ap (λ n. 2 ^ n) e)
 
-pub slot-within : (precision slot_bits j : ℕ) → j < slot_count precision slot_bits → j * slot_width precision slot_bits + slot_width precision slot_bits ≤ 2 ^ precision
-slot-within precision slot_bits j h = rw (← slots-all precision slot_bits) (slot-end j (slot_count precision slot_bits) (slot_width precision slot_bits) h)
+pub slot-within : (precision slot_bits j : ℕ) → j < slot_count precision slot_bits
+    → j * slot_width precision slot_bits + slot_width precision slot_bits ≤ 2 ^ precision
+slot-within precision slot_bits j h =
+    rw (← slots-all precision slot_bits) (slot-end j (slot_count precision slot_bits) (slot_width precision slot_bits) h)
 
 -- the last slot ends there
 last-slot : (precision slot_bits : ℕ)
     → (slot_count precision slot_bits - 1 + 1 ≡ slot_count precision slot_bits)
     × ((slot_count precision slot_bits - 1) * slot_width precision slot_bits + slot_width precision slot_bits ≡ 2 ^ precision)
 last-slot precision slot_bits =
-    let some : 0 < slot_count precision slot_bits = pow_pos (min precision slot_bits) in
-    let one : slot_count precision slot_bits - 1 + 1 ≡ slot_count precision slot_bits = omega arith in
-    (one, sym (slot-more (slot_count precision slot_bits - 1) (slot_width precision slot_bits)) ∙ ap (λ k. k * slot_width precision slot_bits) one ∙ slots-all precision slot_bits)
+    let count : ℕ = slot_count precision slot_bits in
+    let width : ℕ = slot_width precision slot_bits in
+    let some : 0 < count = pow_pos (min precision slot_bits) in
+    let one : count - 1 + 1 ≡ count = omega arith in
+    (one, sym (slot-more (count - 1) width) ∙ ap (λ k. k * width) one ∙ slots-all precision slot_bits)
 
 -- a slot has one word or two
 pub words-cases : (w : ℕ) → 0 < w → ((w ≡ 1) × (words_a_slot w ≡ 1)) ⊎ ((1 < w) × (words_a_slot w ≡ 2))
@@ -67,27 +73,21 @@ last-word u last count some e =
 pub whole-part : (w n j : ℕ) → 0 < w → (n / w ≤ j) ↔ (n < j * w + w)
 whole-part w n j some =
     let more = slot-more j w in
-    let bound : (j + 1 ≤ n / w) ↔ ((j + 1) * w ≤ n) = le-div_iff_mul-le some in (
-      (λ h. elim (cases_lt n (j * w + w)) [
-        | inl less ↦ less
-        | inr not ↦ (let above : j + 1 ≤ n / w = bound.1 (omega (arith, more)) in absurd (omega arith))
-      ]),
-      (λ h. elim (cases_lt j (n / w)) [
-        | inl above ↦ (let most : (j + 1) * w ≤ n = bound.0 (omega arith) in absurd (omega (arith, more)))
-        | inr not ↦ not
-      ]),
+    let bound = div-lt_iff_lt-mul {k = w} {x = n} {y = j + 1} some in (
+      (λ h. let below = bound.0 (omega arith) in omega (arith, below, more)),
+      (λ h. let less = bound.1 (omega (arith, more)) in omega (arith, less)),
     )
 
 -- the first word for a left cumulative where a slot has two: the whole parts of two quotients by the width, one of them rounded up
 module _ (w left : ℕ) (some : 0 < w) where
   up-least : left / w ≤ (left + (w - 1)) / w
   up-least =
-      let up : left + (w - 1) < (left + (w - 1)) / w * w + w = (whole-part w (left + (w - 1)) ((left + (w - 1)) / w) some).0 (omega arith) in
+      let up : left + (w - 1) < (left + (w - 1)) / w * w + w = lt-div-mul-add some in
       (whole-part w left ((left + (w - 1)) / w) some).1 (omega arith)
 
   pub up-most : (left + (w - 1)) / w ≤ left / w + 1
   up-most =
-      let down : left < left / w * w + w = (whole-part w left (left / w) some).0 (omega arith) in
+      let down : left < left / w * w + w = lt-div-mul-add some in
       (whole-part w (left + (w - 1)) (left / w + 1) some).1 (omega (arith, slot-more (left / w) w))
 
   pub first-word : words_a_slot w ≡ 2 → IsFirstWord w left (left / w + (left + (w - 1)) / w)
@@ -145,7 +145,8 @@ word-order w a b x y some f g h = elim (word-cases w y some) [
 ]
 
 -- the first word of the next row is no earlier one
-pub next-word : (w : ℕ) (lefts : List ℕ) (row next x y : ℕ) → 0 < w → IsStrictlyIncreasing lefts → row + 1 ≡ next → next < length lefts
+pub next-word : (w : ℕ) (lefts : List ℕ) (row next x y : ℕ) → 0 < w → IsStrictlyIncreasing lefts → row + 1 ≡ next
+    → next < length lefts
     → IsFirstWord w (get_or lefts row 0) x → IsFirstWord w (get_or lefts next 0) y → x ≤ y
 next-word w lefts row next x y some up e b from to =
     word-order w (get_or lefts row 0) (get_or lefts next 0) x y some from to (omega (arith, later lefts row next up (omega arith) b))
@@ -158,9 +159,11 @@ entry-word cumulative w entries i entry number word h is same from =
     rw (read-whole cumulative entries i entry h is ∙ sym same) from
 
 -- the table has all words before the first one of a row
-pub word-within : (precision slot_bits left word : ℕ) → IsFirstWord (slot_width precision slot_bits) left word → left < 2 ^ precision
+pub word-within : (precision slot_bits left word : ℕ) → IsFirstWord (slot_width precision slot_bits) left word
+    → left < 2 ^ precision
     → word ≤ words_a_slot (slot_width precision slot_bits) * slot_count precision slot_bits
-word-within precision slot_bits left word from h = (from.first (slot_count precision slot_bits)).1 (omega (arith, slots-all precision slot_bits))
+word-within precision slot_bits left word from h =
+    (from.first (slot_count precision slot_bits)).1 (omega (arith, slots-all precision slot_bits))
 
 -- a list that increases is nowhere below its indices
 pub index-most : (xs : List ℕ) (i : ℕ) → IsStrictlyIncreasing xs → i < length xs → i ≤ get_or xs i 0
@@ -182,7 +185,8 @@ last-before xs q i up h low above = record {
 }
 
 -- a row fills the words from its own first one to that of the next row
-module _ (w : ℕ) (lefts table : List ℕ) (row n : ℕ) (up : IsStrictlyIncreasing lefts) (in_bounds : row < length lefts) (t : HasWords w lefts table)
+module _ (w : ℕ) (lefts table : List ℕ) (row n : ℕ) (up : IsStrictlyIncreasing lefts) (in_bounds : row < length lefts)
+    (t : HasWords w lefts table)
     (from : IsFirstWord w (get_or lefts row 0) (length table))
     (next : row + 1 < length lefts → (end : ℕ) × IsFirstWord w (get_or lefts (row + 1) 0) end × (length table + n ≤ end)) where
   long : length (table ++ replicate n row) ≡ length table + n
@@ -193,7 +197,8 @@ module _ (w : ℕ) (lefts table : List ℕ) (row n : ℕ) (up : IsStrictlyIncrea
 
   new-word : (i : ℕ) → length table ≤ i → i < length (table ++ replicate n row) → get_or (table ++ replicate n row) i 0 ≡ row
   new-word i h b =
-      get_or-append_right table (replicate n row) (length table) i 0 refl h ∙ get_or-replicate n (i - length table) row 0 (omega (arith, long))
+      get_or-append_right table (replicate n row) (length table) i 0 refl h
+      ∙ get_or-replicate n (i - length table) row 0 (omega (arith, long))
 
   words-more : HasWords w lefts (table ++ replicate n row)
   words-more = record {
@@ -206,15 +211,18 @@ module _ (w : ℕ) (lefts table : List ℕ) (row n : ℕ) (up : IsStrictlyIncrea
             | inr not ↦ (let most : x.0 ≤ words_a_slot w * j = (x.1.first j).1 not in absurd (omega (arith, x.2, long, b)))
           ]))
     ];
-    last = λ j b. elim (cases_lt (words_a_slot w * j + (words_a_slot w - 1)) (length table)) [
-      | inl old ↦ rw (old-word (words_a_slot w * j + (words_a_slot w - 1)) old) (t.last j old)
-      | inr new ↦ rw (new-word (words_a_slot w * j + (words_a_slot w - 1)) new b) (last-before lefts (j * w + (w - 1)) row up in_bounds ((from.last j).0 new) (λ h.
-          let x = next h in
-          elim (cases_lt (j * w + (w - 1)) (get_or lefts (row + 1) 0)) [
-            | inl above ↦ above
-            | inr not ↦ (let most : x.0 ≤ words_a_slot w * j + (words_a_slot w - 1) = (x.1.last j).1 not in absurd (omega (arith, x.2, long, b)))
-          ]))
-    ];
+    last = λ j b.
+        let word : ℕ = words_a_slot w * j + (words_a_slot w - 1) in
+        let end : ℕ = j * w + (w - 1) in
+        elim (cases_lt word (length table)) [
+          | inl old ↦ rw (old-word word old) (t.last j old)
+          | inr new ↦ rw (new-word word new b) (last-before lefts end row up in_bounds ((from.last j).0 new) (λ h.
+              let x = next h in
+              elim (cases_lt end (get_or lefts (row + 1) 0)) [
+                | inl above ↦ above
+                | inr not ↦ (let most : x.0 ≤ word = (x.1.last j).1 not in absurd (omega (arith, x.2, long, b)))
+              ]))
+        ];
   }
 
 map-replicate : {A B : Type 0} (f : A → B) (n : ℕ) (x : A) → map f (replicate n x) ≡ replicate n (f x)
@@ -222,8 +230,8 @@ map-replicate f zero x = refl
 map-replicate f (suc n) x = ap (λ xs. f x ∷ xs) (map-replicate f n x)
 
 -- one word more of a row
-pub filled-next : {W : Type 0} (items filled : List W) (row : W) (from to : ℕ) → from ≤ to → filled ≡ items ++ replicate (to - from) row
-    → filled ++ row ∷ [] ≡ items ++ replicate (to + 1 - from) row
+pub filled-next : {W : Type 0} (items filled : List W) (row : W) (from to : ℕ) → from ≤ to
+    → filled ≡ items ++ replicate (to - from) row → filled ++ row ∷ [] ≡ items ++ replicate (to + 1 - from) row
 filled-next items filled row from to h is =
     let more : to - from + 1 ≡ to + 1 - from = omega arith in
     ap (λ xs. xs ++ row ∷ []) is ∙ append_assoc items (replicate (to - from) row) (row ∷ [])
@@ -235,8 +243,9 @@ filled-numbers : {W : Type 0} (whole : W → ℕ) (items new : List W) (n : ℕ)
 filled-numbers whole items new n row is =
     ap (map whole) is ∙ map-append whole items (replicate n row) ∙ ap (λ xs. map whole items ++ xs) (map-replicate whole n row)
 
-module _ {W : Type 0} (whole : W → ℕ) (w : ℕ) (some : 0 < w) (lefts : List ℕ) (items new : List W) (row : W) (n : ℕ) (up : IsStrictlyIncreasing lefts)
-    (t : HasWords w lefts (map whole items)) (from : IsFirstWord w (get_or lefts (whole row) 0) (length items)) (in_bounds : whole row < length lefts)
+module _ {W : Type 0} (whole : W → ℕ) (w : ℕ) (some : 0 < w) (lefts : List ℕ) (items new : List W) (row : W) (n : ℕ)
+    (up : IsStrictlyIncreasing lefts) (t : HasWords w lefts (map whole items))
+    (from : IsFirstWord w (get_or lefts (whole row) 0) (length items)) (in_bounds : whole row < length lefts)
     (count : ℕ) (counted : count ≡ length items) (new-is : new ≡ items ++ replicate (n - count) row) where
   is : new ≡ items ++ replicate (n - length items) row
   is = rw counted at new-is
@@ -247,11 +256,13 @@ module _ {W : Type 0} (whole : W → ℕ) (w : ℕ) (some : 0 < w) (lefts : List
   filled-long : length items ≤ n → length new ≡ n
   filled-long order =
       let long : length (map whole new) ≡ length (map whole items) + (n - length items) =
-      ap length (filled-numbers whole items new (n - length items) row is) ∙ length-append (map whole items) (replicate (n - length items) (whole row))
+      ap length (filled-numbers whole items new (n - length items) row is)
+      ∙ length-append (map whole items) (replicate (n - length items) (whole row))
       ∙ ap (λ k. length (map whole items) + k) (length-replicate (n - length items) (whole row)) in
       omega (arith, long, same-long, length-map new whole)
 
-  filled-more : (whole row + 1 < length lefts → (end : ℕ) × IsFirstWord w (get_or lefts (whole row + 1) 0) end × (length (map whole items) + (n - length items) ≤ end))
+  filled-more : (whole row + 1 < length lefts → (end : ℕ) × IsFirstWord w (get_or lefts (whole row + 1) 0) end
+      × (length (map whole items) + (n - length items) ≤ end))
       → HasWords w lefts (map whole new)
   filled-more next =
       rw (filled-numbers whole items new (n - length items) row is)
@@ -265,7 +276,8 @@ module _ {W : Type 0} (whole : W → ℕ) (w : ℕ) (some : 0 < w) (lefts : List
       (filled-more (λ h. (n, rw e to, omega (arith, same-long))), filled-long order)
 
   -- it was the last one, and all words are there
-  pub all-filled : (precision slot_bits : ℕ) → w ≡ slot_width precision slot_bits → n ≡ words_a_slot w * slot_count precision slot_bits
+  pub all-filled : (precision slot_bits : ℕ) → w ≡ slot_width precision slot_bits
+      → n ≡ words_a_slot w * slot_count precision slot_bits
       → whole row + 1 ≡ length lefts → get_or lefts (whole row) 0 < 2 ^ precision
       → HasSlots w (slot_count precision slot_bits) lefts (map whole new)
   all-filled precision slot_bits width count e below =
@@ -282,9 +294,9 @@ module _ {W : Type 0} (whole : W → ℕ) (w : ℕ) (some : 0 < w) (lefts : List
       }
 
 -- the slot of a quantile
-pub slot-below : (precision slot_bits q : ℕ) → q < 2 ^ precision → q / slot_width precision slot_bits < slot_count precision slot_bits
+pub slot-below : (precision slot_bits q : ℕ) → q < 2 ^ precision
+    → q / slot_width precision slot_bits < slot_count precision slot_bits
 slot-below precision slot_bits q h =
     let slot = last-slot precision slot_bits in
-    let within : q / slot_width precision slot_bits ≤ slot_count precision slot_bits - 1 =
-    (whole-part (slot_width precision slot_bits) q (slot_count precision slot_bits - 1) (pow_pos (precision - slot_bits))).1 (omega (arith, slot.1)) in
-    omega (arith, slot.0)
+    let part = whole-part (slot_width precision slot_bits) q (slot_count precision slot_bits - 1) (pow_pos (precision - slot_bits)) in
+    omega (arith, slot.0, part.1 (omega (arith, slot.1)))

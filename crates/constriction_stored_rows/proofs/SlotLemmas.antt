@@ -2,7 +2,7 @@
 use Rattle.std.proofs.Common.{◌≡◌, ℕ, ◌+◌, ◌-◌, ◌*◌, ◌/◌, ◌^◌, ◌<◌, ◌≤◌, max, nat_le, refl, List, length, get_or, map, take, drop, ap, sym, ◌∙◌, arith, inl, inr}
 use Rattle.std.proofs.lemmas.Bool.{cases_Bool, cases_lt, le-leb, lt-leb}
 use Rattle.std.proofs.lemmas.List.{take-map, drop-map, get_or-take, get_or-drop, length-take-le, length-drop}
-use Rattle.std.proofs.Math.Nat.{div-mul-le_self}
+use Rattle.std.proofs.Math.Nat.{div-mul-le_self, lt-div-mul-add}
 use Rattle.std.proofs.lemmas.Nat.{pow_pos}
 use Rattle.std.specs.List.Sorted.{IsStrictlyIncreasing}
 use Rattle.constriction_model.specs.Rows.{Row, RowsTile}
@@ -11,7 +11,7 @@ use Rattle.constriction_model.specs.Searching.{TellsRows}
 use Rattle.constriction_stored_rows.specs.Slots.{least_in_slots, slot_width, slot_count}
 use Rattle.constriction_stored_rows.specs.SlotTable.{words_a_slot, HasSlots, IsSlot, IsSlotPart}
 use Rattle.constriction_model.proofs.Halving.{later}
-use Rattle.constriction_stored_rows.proofs.SlotFilling.{slot-within, slot-below, whole-part}
+use Rattle.constriction_stored_rows.proofs.SlotFilling.{slot-within, slot-below}
 use Rattle.constriction_stored_rows.proofs.TileLemmas.{IsTile, tile-at, tiles-many, tiles-increase, tiles-found}
 
 -- some quantile lies both in a row and in a slot
@@ -24,11 +24,11 @@ pub record MeetsSlot {Symbol : Type 0} (width slot : ℕ) (row : Row Symbol) : T
 pub slot-from : (precision slot_bits q : ℕ) → q / slot_width precision slot_bits * slot_width precision slot_bits ≤ q
 slot-from precision slot_bits q = div-mul-le_self q (slot_width precision slot_bits)
 
-pub slot-to : (precision slot_bits q : ℕ) → q ≤ q / slot_width precision slot_bits * slot_width precision slot_bits + (slot_width precision slot_bits - 1)
+pub slot-to : (precision slot_bits q : ℕ)
+    → q ≤ q / slot_width precision slot_bits * slot_width precision slot_bits + (slot_width precision slot_bits - 1)
 slot-to precision slot_bits q =
-    let wide : 0 < slot_width precision slot_bits = pow_pos (precision - slot_bits) in
-    let below = (whole-part (slot_width precision slot_bits) q (q / slot_width precision slot_bits) wide).0 (omega arith) in
-    omega arith
+    let below = lt-div-mul-add {a = q} {b = slot_width precision slot_bits} (pow_pos (precision - slot_bits)) in
+    omega (arith, below)
 
 -- where one row meets the slot of a quantile, it is the quantile's
 pub slot_only : (precision slot_bits q : ℕ) (lefts : List ℕ) (first last : ℕ) → first ≡ last
@@ -91,8 +91,8 @@ least-none precision slot_bits rows h = elim (cases_Bool (nat_le (slot_width pre
   | inr wide ↦ rw (wide, le-leb rows (max (slot_count precision slot_bits / 16) 2) h) refl
 ]
 
-pub least-two : (precision slot_bits rows : ℕ) → 1 < slot_width precision slot_bits → max (slot_count precision slot_bits / 16) 2 < rows
-    → least_in_slots precision slot_bits rows ≡ 2
+pub least-two : (precision slot_bits rows : ℕ) → 1 < slot_width precision slot_bits
+    → max (slot_count precision slot_bits / 16) 2 < rows → least_in_slots precision slot_bits rows ≡ 2
 least-two precision slot_bits rows wide more =
     rw (lt-leb (slot_width precision slot_bits) 1 wide, lt-leb rows (max (slot_count precision slot_bits / 16) 2) more) refl
 
@@ -124,7 +124,8 @@ slot-part lefts width slot first last s =
       in_order = ap (λ n. take n (drop first lefts)) (sym long);
     }
 
-module _ (lefts : List ℕ) (up : IsStrictlyIncreasing lefts) (width slot first : ℕ) (told : List ℕ) (p : IsSlotPart lefts width slot first told) where
+module _ (lefts : List ℕ) (up : IsStrictlyIncreasing lefts) (width slot first : ℕ) (told : List ℕ)
+    (p : IsSlotPart lefts width slot first told) where
   part-within : first + length told ≤ length lefts
   part-within = omega (arith, p.long, p.rows.to.in_bounds)
 
@@ -167,7 +168,8 @@ module _ {S : Type 0} (bits precision slot_bits : ℕ) (rows : List (Row S)) (t 
   up : IsStrictlyIncreasing (map (λ r. r.left) rows)
   up = tiles-increase bits precision rows t
 
-  module _ (j first : ℕ) (told : List ℕ) (p : IsSlotPart (map (λ r. r.left) rows) (slot_width precision slot_bits) j first told) where
+  module _ (j first : ℕ) (told : List ℕ)
+      (p : IsSlotPart (map (λ r. r.left) rows) (slot_width precision slot_bits) j first told) where
     meets-in : (i : ℕ) (r : Row S) → i < length rows → IsTile precision rows i r → MeetsSlot (slot_width precision slot_bits) j r
         → (first ≤ i) × (i < p.last + 1)
     meets-in i r h tile m =
@@ -198,11 +200,12 @@ module _ {S : Type 0} (bits precision slot_bits : ℕ) (rows : List (Row S)) (t 
         let lefts : List ℕ = map (λ r. r.left) rows in
         let from = p.rows.from in
         let to = p.rows.to in
-        let width : 0 < 2 ^ (precision - slot_bits) = pow_pos (precision - slot_bits) in
+        let width : ℕ = slot_width precision slot_bits in
+        let wide : 0 < width = pow_pos (precision - slot_bits) in
         let b : i < length lefts = omega (arith, many) in
         elim (cases_lt first i) [
           | inl more ↦ (
-              let low : get_or lefts i 0 ≤ j * slot_width precision slot_bits + (slot_width precision slot_bits - 1) = elim (cases_lt i p.last) [
+              let low : get_or lefts i 0 ≤ j * width + (width - 1) = elim (cases_lt i p.last) [
                 | inl before ↦ omega (arith, later lefts i p.last up before to.in_bounds, to.at_most)
                 | inr same ↦ (let is : p.last ≡ i = omega arith in rw (← is) to.at_most)
               ] in
@@ -213,20 +216,22 @@ module _ {S : Type 0} (bits precision slot_bits : ℕ) (rows : List (Row S)) (t 
               })
           | inr same ↦ (
               let is : first ≡ i = omega arith in
-              let low : get_or lefts i 0 ≤ j * slot_width precision slot_bits = rw (← is) from.at_most in
-              let high : j * slot_width precision slot_bits < r.left + r.weight = elim (cases_lt (i + 1) (length rows)) [
+              let low : get_or lefts i 0 ≤ j * width = rw (← is) from.at_most in
+              let high : j * width < r.left + r.weight = elim (cases_lt (i + 1) (length rows)) [
                 | inl before ↦ omega (arith, tile.next before, from.last (i + 1) (omega arith) (omega (arith, many)))
                 | inr end ↦ omega (arith, tile.last (omega arith), slot-within precision slot_bits j jb)
               ] in
-              record { quantile = j * slot_width precision slot_bits; in_slot = (omega arith, omega arith); in_row = (omega (arith, tile.left), high) })
+              record { quantile = j * width; in_slot = (omega arith, omega arith); in_row = (omega (arith, tile.left), high) })
         ]
 
     -- exactly the rows that meet the slot are told
     pub slot-tells : j < slot_count precision slot_bits → TellsRows rows (MeetsSlot (slot_width precision slot_bits) j) first told
     slot-tells jb = record {
       exactly = λ i d h.
-          let tile = tile-at bits precision rows t i d h in
-          ((λ m. let c = meets-in i _ h tile m in (c.0, omega (arith, p.long, c.1))), (λ c. in-meets i _ h tile jb c.0 (omega (arith, p.long, c.1))));
+          let tile = tile-at bits precision rows t i d h in (
+            (λ m. let c = meets-in i _ h tile m in (c.0, omega (arith, p.long, c.1))),
+            (λ c. in-meets i _ h tile jb c.0 (omega (arith, p.long, c.1))),
+          );
       within = omega (arith, p.long, p.rows.to.in_bounds, many);
       in_order = p.in_order;
     }
@@ -235,8 +240,8 @@ module _ {S : Type 0} (bits precision slot_bits : ℕ) (rows : List (Row S)) (t 
     slot-searchable q low =
         part-searchable (map (λ r. r.left) rows) up (slot_width precision slot_bits) j first told p q low
 
-    slot-found : (q i : ℕ) → q < 2 ^ precision → q ≤ j * slot_width precision slot_bits + (slot_width precision slot_bits - 1) → IsLastAtMost told q i
-        → IsRowIndexOf rows q (first + i)
+    slot-found : (q i : ℕ) → q < 2 ^ precision
+        → q ≤ j * slot_width precision slot_bits + (slot_width precision slot_bits - 1) → IsLastAtMost told q i → IsRowIndexOf rows q (first + i)
     slot-found q i below high f =
         tiles-found bits precision rows t q (first + i) below
         (part-found (map (λ r. r.left) rows) up (slot_width precision slot_bits) j first told p q i high f)

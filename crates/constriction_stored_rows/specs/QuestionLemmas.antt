@@ -1,10 +1,10 @@
 -- How many rows are in question for a quantile, and how many comparisons are made at least. No public clause cites this module.
 use Rattle.std.specs.Prelude.{count_by}
 use Rattle.std.proofs.Common.{◌≡◌, Bool, true, ℕ, zero, suc, ◌+◌, ◌-◌, ◌*◌, ◌/◌, ◌^◌, ◌<◌, ◌≤◌, ◌||◌, nat_le, max, cond, List, [], ◌∷◌, length, get_or, ap, ◌∙◌, arith, inl, inr}
-use Rattle.std.proofs.lemmas.Bool.{cases_Bool, cases_lt, lt-ltb, and_from}
+use Rattle.std.proofs.lemmas.Bool.{cases_Bool, lt-ltb, and_from}
 use Rattle.std.proofs.lemmas.List.Sums.{count_by-le-length, sum_by-cons}
 use Rattle.std.proofs.lemmas.Nat.{pow_pos}
-use Rattle.std.proofs.Math.Nat.{div-mul-le_self, le-div_iff_mul-le}
+use Rattle.std.proofs.Math.Nat.{div-mul-le_self, lt-div-mul-add}
 use Rattle.constriction_model.specs.Rows.{Row, RowsTile}
 use Rattle.constriction_model.specs.PairLemmas.{has-row}
 use Rattle.constriction_stored_rows.specs.Slots.{least_in_slots, meets_slot, slot_count, slot_width}
@@ -36,16 +36,6 @@ counted-some p (x ∷ xs) zero d h e =
 counted-some p (x ∷ xs) (suc i) d h e =
     omega (arith, sum_by-cons (λ y. cond (p y) 1 0) x xs, counted-some p xs i d (omega arith) e)
 
--- a quantile lies before the end of its slot
-before-end : (width q : ℕ) → 0 < width → q < q / width * width + width
-before-end width q some = elim (cases_lt q (q / width * width + width)) [
-  | inl before ↦ before
-  | inr past ↦
-      let more : (q / width + 1) * width ≡ q / width * width + width = omega arith in
-      let beyond : q / width + 1 ≤ q / width = (le-div_iff_mul-le {x = q / width + 1} {y = q} some).1 (omega (arith, more)) in
-      absurd (omega (arith, beyond))
-]
-
 -- where those are in question that meet the quantile's slot: the quantile's own row is one of them
 pub met-in-question : {Symbol : Type 0} (bits precision slot_bits : ℕ) (rows : List (Row Symbol)) → RowsTile bits precision rows
     → (q : ℕ) → q < 2 ^ precision
@@ -56,7 +46,7 @@ met-in-question bits precision slot_bits rows tile q below =
     let meets = meets_slot width (q / width) in
     let one = has-row bits precision rows q tile below in
     let r = one.0 in
-    let ends = before-end width q (pow_pos (precision - slot_bits)) in
+    let ends = lt-div-mul-add {a = q} {b = width} (pow_pos (precision - slot_bits)) in
     let begins = div-mul-le_self q width in
     let met : meets r ≡ true =
     and_from _ _

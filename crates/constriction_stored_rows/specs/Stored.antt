@@ -1,5 +1,5 @@
--- How models store their rows: by the left cumulatives, and, where symbols do not stand beside these, the total after them. No public clause cites this module, but the member
--- `rows` of these models and ghost fields of models and of symbol tables do.
+-- How models store their rows: by the left cumulatives, and, where symbols do not stand beside these, the total after them. No public
+-- clause cites this module, but the member `rows` of these models and ghost fields of models and of symbol tables do.
 use Rattle.std.specs.Prelude.{◌≡◌, ℕ, ◌+◌, ◌-◌, ◌%◌, ◌^◌, ◌<◌, ◌≤◌, List, [], ◌∷◌, ◌++◌, length, map, take, slice_index, slice_index_or}
 use Rattle.constriction_model.specs.Acceptance.{IsAccepted}
 use Rattle.constriction_model.specs.Rows.{Row, contiguous_rows, rows_of}
@@ -47,8 +47,8 @@ end_at bits precision lefts i = slice_index_or lefts (i + 1) (total_of bits prec
 abbrev pub ends_of : (bits precision : ℕ) → List ℕ → List ℕ
 ends_of bits precision lefts = end_at bits precision lefts 0 ∷ total_of bits precision ∷ []
 
--- two numbers that stand beside these, so that where a row ends is read and not chosen: of two rows or fewer where the first one and where the
--- last one ends; of more, what leads from the total to where the last one begins, modulo the words, and 0
+-- two numbers that stand beside these, so that where a row ends is read and not chosen: of two rows or fewer where the first one ends
+-- and where the last one does; of more, what leads from the total to where the last one begins, modulo the words, and 0
 pub record StandBeside (bits precision : ℕ) (lefts beside : List ℕ) : Type 0 where
   pub two : length beside ≡ 2
   pub ends : length lefts ≤ 2 → beside ≡ ends_of bits precision lefts

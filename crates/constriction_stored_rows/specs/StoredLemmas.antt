@@ -8,10 +8,6 @@ use Rattle.constriction_model.specs.Acceptance.{IsAccepted}
 use Rattle.constriction_model.specs.Rows.{Row, rows_from, RowsTile}
 use Rattle.constriction_stored_rows.specs.Stored.{lefts_from, gaps, weights_of, IsStored}
 
-pub length-lefts_from : (l : ℕ) (ws : List ℕ) → length (lefts_from l ws) ≡ length ws
-length-lefts_from l [] = refl
-length-lefts_from l (w ∷ ws) = ap suc (length-lefts_from (l + w) ws)
-
 pub length-gaps : (t : ℕ) (ls : List ℕ) → length (gaps t ls) ≡ length ls
 length-gaps t [] = refl
 length-gaps t (l ∷ []) = refl
