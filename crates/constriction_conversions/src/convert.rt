@@ -63,7 +63,7 @@ pub trait FromIterableEntropyModel<
     // Where none is made of a model, want of memory aside. Of a type that refuses no model it is ⊥.
     ghost refuses: { M → Type 0 };
 
-    // What the type asks of PRECISION.
+    // What the type asks of PRECISION and, where it may compare symbols, that the model's `symbols_differ` speaks of their equality.
     ghost precise: { Type 0 };
 
     /// The model of the same rows. `OutOfMemory` comes where memory for it, or for a clone of a symbol, is

@@ -35,9 +35,6 @@ digits-small (suc n) h =
     let half : suc n / 2 ≡ 0 = omega (arith, h) in
     omega (arith, digits-half (suc n) (omega arith), ap digits half, digits-zero)
 
-pub digits_some : (n : ℕ) → 0 < n → 0 < digits n
-digits_some n h = omega (arith, digits-half n h)
-
 pub digits_most : (d n : ℕ) → n < 2 ^ d → digits n ≤ d
 digits_most d zero h = omega (arith, digits-zero)
 digits_most zero (suc n) h = absurd (omega arith)

@@ -1,5 +1,5 @@
 -- The steps of a search by halving.
-use Rattle.std.proofs.Common.{◌≡◌, ℕ, ◌+◌, ◌-◌, ◌<◌, ◌≤◌, suc, zero, List, length, get_or, arith, inl, inr}
+use Rattle.std.proofs.Common.{◌≡◌, ℕ, ◌+◌, ◌<◌, ◌≤◌, suc, zero, List, length, get_or, arith, inl, inr}
 use Rattle.std.proofs.lemmas.Bool.{cases_lt}
 use Rattle.std.specs.List.Sorted.{IsStrictlyIncreasing}
 use Rattle.constriction_model.specs.Searching.{IsNarrowed}
@@ -16,26 +16,6 @@ later xs i (suc j) s h b = elim (cases_lt i j) [
 module _ (xs : List ℕ) (q : ℕ) (s : IsSearchable xs q) where
   pub narrowed_all : IsNarrowed xs q 0 (length xs)
   narrowed_all = record { some = s.some; within = omega arith; at_most = s.begins; above = λ h. absurd (omega arith) }
-
-  -- the cumulative in the middle is at most q
-  pub narrowed_upper : (first size half : ℕ) → IsNarrowed xs q first size → half < size
-      → get_or xs (first + half) 0 ≤ q → IsNarrowed xs q (first + half) (size - half)
-  narrowed_upper first size half n h m =
-      let e : (first + half) + (size - half) ≡ first + size = omega arith in
-      record { some = omega arith; within = omega (arith, n.within); at_most = m; above = rw e n.above }
-
-  -- it is above q, and so is the one that many further on
-  pub narrowed_lower : (first size half left : ℕ) → IsNarrowed xs q first size → 0 < left → half ≤ left → left ≤ size
-      → q < get_or xs (first + half) 0 → IsNarrowed xs q first left
-  narrowed_lower first size half left n some h l m = record {
-    some = some;
-    within = omega (arith, n.within);
-    at_most = n.at_most;
-    above = λ b. elim (cases_lt half left) [
-      | inl more ↦ omega (arith, later xs (first + half) (first + left) s.increases (omega arith) b)
-      | inr no_more ↦ (let e : half ≡ left = omega arith in rw (← e) m)
-    ];
-  }
 
   pub narrowed_one : (first size : ℕ) → IsNarrowed xs q first size → size ≤ 1 → IsLastAtMost xs q first
   narrowed_one first size n h =

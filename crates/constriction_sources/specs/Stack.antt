@@ -43,14 +43,6 @@ PopsTold {W = W} tells words r t =
     (λ o. MatchOption o ((words ≡ []) × tells t words) (λ w. (rest : List W) × (words ≡ rest ++ w ∷ []) × tells t rest))
     (λ _. (words ≢ []) × tells t words)
 
--- whatever words s tells, t tells them too
-abbrev pub TellsSame : {S W : Type 0} → (S → List W → Type 0) → S → S → Type 0
-TellsSame {W = W} tells s t = (words : List W) → tells s words → tells t words
-
--- whatever words s tells, they are none
-abbrev pub TellsNone : {S W : Type 0} → (S → List W → Type 0) → S → Type 0
-TellsNone {W = W} tells s = (words : List W) → tells s words → words ≡ []
-
 -- A stack whose writes, reads and told words are these reads what was written to it.
 pub record ReadsWhatWasWritten {S W R E : Type 0} (writes : S → W → Result (Unit {0}) E → S → Type 0)
     (reads : S → Result (Option W) R → S → Type 0) (tells : S → List W → Type 0) : Type 0 where
