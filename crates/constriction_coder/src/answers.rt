@@ -5,7 +5,7 @@ ghost use Rattle.std.specs.Prelude.{◌<◌, ◌≤◌};
 use crate::coding::{Refusal, decoded, encoded, queued, words_of};
 use crate::line::{Call, Request, parse};
 use std::alloc::{AllocError, Global};
-use std::fmt::Write;
+use std::fmt::{Display, Write};
 
 /// What a line asked for.
 #[derive(Debug, Drop)]
@@ -48,43 +48,29 @@ fn answered(alloc: Global, line: &[u8]) -> Result<Answer, Refusal> {
     }
 }
 
-/// Adds a line of words.
-fn push_words(text: &mut String, words: &[u32]) -> Result<(), AllocError> {
+/// Adds a line of numbers, which are words or symbols.
+fn push_numbers<N: Display>(text: &mut String, numbers: &[N]) -> Result<(), AllocError> {
     let mut first = true;
-    for word in words {
+    for number in numbers {
         if !first {
             text.push_str(" ")?;
         }
-        write!(text, "{word}")?;
-        first = false;
-    }
-    text.push_str("\n")
-}
-
-/// Adds a line of symbols.
-fn push_symbols(text: &mut String, symbols: &[usize]) -> Result<(), AllocError> {
-    let mut first = true;
-    for symbol in symbols {
-        if !first {
-            text.push_str(" ")?;
-        }
-        write!(text, "{symbol}")?;
+        write!(text, "{number}")?;
         first = false;
     }
     text.push_str("\n")
 }
 
 /// Adds the answer to a line. Where memory is refused, a part of it may be added.
-pub(crate) fn push_answer(alloc: Global, text: &mut String, line: &[u8]) -> Result<(), Refusal> {
+pub(crate) fn push_answer(alloc: Global, text: &mut String, line: &[u8]) -> Result<(), AllocError> {
     match answered(alloc, line) {
-        Ok(Answer::Words(words)) => push_words(text, &words)?,
-        Ok(Answer::Symbols(symbols)) => push_symbols(text, &symbols)?,
-        Err(Refusal::BadLine) => text.push_str("bad line\n")?,
-        Err(Refusal::Invalid) => text.push_str("invalid\n")?,
-        Err(Refusal::NoRow) => text.push_str("none\n")?,
-        Err(Refusal::Refused) => text.push_str("refused\n")?,
-        Err(Refusal::Damaged) => text.push_str("damaged\n")?,
-        Err(Refusal::OutOfMemory) => return Err(Refusal::OutOfMemory),
+        Ok(Answer::Words(words)) => push_numbers(text, &words),
+        Ok(Answer::Symbols(symbols)) => push_numbers(text, &symbols),
+        Err(Refusal::BadLine) => text.push_str("bad line\n"),
+        Err(Refusal::Invalid) => text.push_str("invalid\n"),
+        Err(Refusal::NoRow) => text.push_str("none\n"),
+        Err(Refusal::Refused) => text.push_str("refused\n"),
+        Err(Refusal::Damaged) => text.push_str("damaged\n"),
+        Err(Refusal::OutOfMemory) => Err(AllocError),
     }
-    Ok(())
 }

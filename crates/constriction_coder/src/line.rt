@@ -1,6 +1,6 @@
 //! A line, and what it asks for.
 
-use constriction_lines::cut;
+use constriction_lines::{cut, parse_number};
 use std::alloc::{AllocError, Global};
 
 /// What a line asks of a coder.
@@ -29,26 +29,8 @@ pub(crate) struct Request {
 /// The byte between two words of a line.
 const SPACE: u8 = b' ';
 
-/// The most digits of a number.
-const DIGITS: usize = 20;
-
 /// The most symbols that a line may want.
 const MOST: u64 = 1_048_576;
-
-/// The number that a word spells, if it is below `2^64`.
-fn parse_number(word: &[u8]) -> Option<u64> {
-    if word.is_empty() || word.len() > DIGITS {
-        return None;
-    }
-    let mut value = 0u64;
-    for byte in word {
-        if !byte.is_ascii_digit() {
-            return None;
-        }
-        value = value.checked_mul(10)?.checked_add(u64::from(*byte - b'0'))?;
-    }
-    Some(value)
-}
 
 /// Adds the numbers up to a colon, or up to the end where none is wanted. It answers whether only numbers stand there, and what follows
 /// the colon.

@@ -1,4 +1,4 @@
-//! Lines of the program, and what they ask for.
+//! Lines of the programs: how a line is cut and which number a word spells, and what a line of `./rows` asks for.
 //!
 //! [`parse`] is the grammar of a line: what it finds is spelled so, and nothing is found only where nothing is spelled.
 #![tactic(auto)]
@@ -6,5 +6,5 @@
 mod line;
 mod separator;
 
-pub use crate::line::{Command, Form, parse};
+pub use crate::line::{Command, Form, parse, parse_number};
 pub use crate::separator::cut;

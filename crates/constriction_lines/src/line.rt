@@ -75,9 +75,9 @@ const SPACE: u8 = b' ';
 /// The most digits of a number.
 const DIGITS: usize = 20;
 
-/// The number that a word spells.
+/// The number that a word spells, if it is one to twenty decimal digits and the number is below `2^64`. Zeros may lead it.
 #[tactic(auto, unfolding(crate::specs::Reading::read_number))]
-fn parse_number(word: &[u8]) -> Option<u64>
+pub fn parse_number(word: &[u8]) -> Option<u64>
     ensures { result ≡ read_number word.now }
 {
     if word.is_empty() || word.len() > DIGITS {

@@ -16,5 +16,5 @@ mod uniform;
 
 pub use crate::answers::answer;
 pub use crate::fault::RunFault;
-pub use crate::program::run;
+pub use crate::program::{first_line, read_input, run, write_whole};
 pub use constriction_lines::{Command, Form, parse};

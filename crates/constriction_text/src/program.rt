@@ -52,8 +52,10 @@ fn read_turn<R: Read>(
     }
 }
 
-/// Reads to the end, and at most one byte past the limit.
-fn read_input<R: Read>(alloc: Global, reader: &mut R) -> Result<Vec<u8>, RunFault>
+/// Reads to the end, and at most one byte past the limit of 1,048,576.
+///
+/// `TooLong` comes where there are more. No turn of the reader follows one that answered an error.
+pub fn read_input<R: Read>(alloc: Global, reader: &mut R) -> Result<Vec<u8>, RunFault>
     ensures ok { IfOk result (λ input. (length input.items ≤ limit) × IsAtEnd (R.remaining reader.new)
         × Consumes (R.remaining reader.old) (R.remaining reader.new) input.items) }
     ensures too_long { result ≡ Err RunFault.TooLong →
@@ -74,7 +76,9 @@ fn read_input<R: Read>(alloc: Global, reader: &mut R) -> Result<Vec<u8>, RunFaul
 }
 
 /// Writes all of the bytes, in as many turns as the writer needs.
-fn write_whole<W: Write>(writer: &mut W, bytes: &[u8]) -> Result<(), RunFault>
+///
+/// An error is `Write`, where the writer answered an error or took no byte, and a beginning was written then.
+pub fn write_whole<W: Write>(writer: &mut W, bytes: &[u8]) -> Result<(), RunFault>
     ensures ok { OnOk result (Appends (W.contents writer.old) (W.contents writer.new) bytes.now) }
     ensures err { OnErr result (WritesBeginning (W.contents writer.old) (W.contents writer.new) bytes.now) }
     ensures fault { OnErr result (result ≡ Err RunFault.Write) }
@@ -94,7 +98,7 @@ fn write_whole<W: Write>(writer: &mut W, bytes: &[u8]) -> Result<(), RunFault>
 }
 
 /// The first line of bytes, and what follows the byte 10 that ends it.
-fn first_line(bytes: &[u8]) -> (&[u8], &[u8])
+pub fn first_line(bytes: &[u8]) -> (&[u8], &[u8])
     requires { 0 < length bytes.now }
     ensures lines { lines_of bytes.now ≡ result.0.now ∷ lines_of result.1.now }
     ensures shorter { length result.1.now < length bytes.now }
