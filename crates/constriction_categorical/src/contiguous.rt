@@ -16,11 +16,12 @@ use crate::iterable::IterableEntropyModel;
 use crate::symbol_table::ContiguousSymbolTable;
 use constriction_buffers::SafeBuf;
 use constriction_model::{
-    Alone, CdfProbe, DecoderModel, EncoderModel, EntropyModel, ModelError, Probe, SearchingModel,
-    Weight, row_in_entries,
+    DecoderModel, EncoderModel, EntropyModel, ModelError, Probe, SearchingModel, Weight,
 };
 use constriction_numbers::WholeNumber;
-use constriction_stored_rows::{contiguous_row_at, copied, row_at, table_of};
+use constriction_stored_rows::{
+    Alone, CdfProbe, contiguous_row_at, copied, row_at, row_in_entries, table_of,
+};
 use std::alloc::{AllocError, Global};
 use std::marker::PhantomData;
 

@@ -23,7 +23,7 @@ pub use crate::contiguous::{
     SmallContiguousCategoricalEntropyModel,
 };
 pub use crate::iterable::IterableEntropyModel;
-pub use crate::lookup::LookupDecoderModel;
+pub use crate::lookup::{LookupDecoderModel, lookup_over};
 pub use crate::lookup_contiguous::{
     ContiguousLookupDecoderModel, DefaultContiguousLookupDecoderModel,
     SlottedContiguousLookupDecoderModel, SmallContiguousDirectLookupDecoderModel,
@@ -32,12 +32,12 @@ pub use crate::lookup_contiguous::{
 pub use crate::lookup_non_contiguous::{
     DefaultNonContiguousLookupDecoderModel, NonContiguousLookupDecoderModel,
     SlottedNonContiguousLookupDecoderModel, SmallNonContiguousDirectLookupDecoderModel,
-    SmallNonContiguousLookupDecoderModel, lookup_over_decoder,
+    SmallNonContiguousLookupDecoderModel,
 };
 pub use crate::non_contiguous::{
     DefaultNonContiguousCategoricalDecoderModel, NonContiguousCategoricalDecoderModel,
     SmallNonContiguousCategoricalDecoderModel, decoder_over,
 };
 pub use crate::non_contiguous_table::NonContiguousSymbolTable;
-pub use crate::stores_rows::{AnswersRows, OfAnySymbols, OfNumbers, StoresRows};
+pub use crate::stores_rows::{AnswersRows, StoresRows};
 pub use crate::symbol_table::ContiguousSymbolTable;

@@ -9,9 +9,11 @@ ghost use Rattle.constriction_stored_rows.specs.SlotTable.{BeginsWithSlots, HasS
 use crate::stores_rows::{AnswersRows, OfAnySymbols, OfNumbers, StoresRows};
 use constriction_buffers::SafeBuf;
 use constriction_model::{
-    CdfProbe, DecoderModel, EntropyModel, ModelError, Probe, SearchingModel, Weight,
+    DecoderModel, EntropyModel, ModelError, Probe, SearchingModel, Weight,
 };
-use constriction_stored_rows::{row_in_slot, slot_probe, table_of_slots, words_of_table};
+use constriction_stored_rows::{
+    CdfProbe, row_in_slot, slot_probe, table_of_slots, words_of_table,
+};
 use std::alloc::{AllocError, Global};
 
 /// A searching model with a table, for decoders: the table tells where to search for the row of a
@@ -83,9 +85,10 @@ impl<
     }
 }
 
-/// The model that [`LookupDecoderModel::with_table`] makes, with the refusal of a constructor.
+/// The model that [`LookupDecoderModel::with_table`] makes, with the refusal of a constructor, which is `OutOfMemory`. Where
+/// memory for the table is refused, the searching model is given up. Crates above call it that have made one.
 #[inline]
-pub(crate) fn lookup_over<Model, const PRECISION: usize, const SLOT_BITS: usize>(
+pub fn lookup_over<Model, const PRECISION: usize, const SLOT_BITS: usize>(
     alloc: Global,
     model: Model,
 ) -> Result<LookupDecoderModel<Model, Vec<Model::Probability>, PRECISION, SLOT_BITS>, ModelError>
@@ -258,13 +261,13 @@ impl<Model, LookupTable, const PRECISION: usize, const SLOT_BITS: usize> LookupD
     SLOT_BITS,
 >
 where
-    Model: OfNumbers<PRECISION>,
+    Model: EntropyModel<PRECISION>,
     LookupTable: SafeBuf<Model::Probability>,
 {
-    /// The model of the same rows that searches all of them, with the rows of this one. The table is
-    /// let go.
+    /// The searching model beside the table, which is let go: of a model that [`with_table`](Self::with_table) made, the
+    /// one that it was given.
     #[inline]
-    pub fn into_contiguous_categorical(self) -> Model
+    pub fn into_searching_model(self) -> Model
     where
         LookupTable: Drop,
         ensures { Model.rows result ≡ ⟦<Self as EntropyModel<PRECISION>>⟧.rows self }
@@ -284,21 +287,37 @@ impl<Model, LookupTable, const PRECISION: usize, const SLOT_BITS: usize> LookupD
     SLOT_BITS,
 >
 where
+    Model: OfNumbers<PRECISION>,
+    LookupTable: SafeBuf<Model::Probability>,
+{
+    /// [`into_searching_model`](Self::into_searching_model), by the Rust crate's name.
+    #[inline]
+    pub fn into_contiguous_categorical(self) -> Model
+    where
+        LookupTable: Drop,
+        ensures { Model.rows result ≡ ⟦<Self as EntropyModel<PRECISION>>⟧.rows self }
+    {
+        self.into_searching_model()
+    }
+}
+
+impl<Model, LookupTable, const PRECISION: usize, const SLOT_BITS: usize> LookupDecoderModel<
+    Model,
+    LookupTable,
+    PRECISION,
+    SLOT_BITS,
+>
+where
     Model: OfAnySymbols<PRECISION>,
     LookupTable: SafeBuf<Model::Probability>,
 {
-    /// The model of the same rows that searches all of them, with the entries of this one. The table is
-    /// let go.
+    /// [`into_searching_model`](Self::into_searching_model), by the Rust crate's name.
     #[inline]
     pub fn into_non_contiguous_categorical(self) -> Model
     where
         LookupTable: Drop,
         ensures { Model.rows result ≡ ⟦<Self as EntropyModel<PRECISION>>⟧.rows self }
     {
-        let Self {
-            model,
-            lookup_table: _,
-        } = self;
-        model
+        self.into_searching_model()
     }
 }

@@ -76,43 +76,6 @@ pub type DefaultNonContiguousLookupDecoderModel<
     LookupTable = Vec<u32>,
 > = SlottedNonContiguousLookupDecoderModel<Symbol, u32, Cdf, LookupTable, 24, 12>;
 
-/// The model of the same rows as a searching one, with its entries and a table of `2^min(PRECISION, SLOT_BITS)` slots.
-/// Its only refusal is `OutOfMemory`, where memory for the table is refused, and then the searching model is given up.
-/// Crates above call it that have made one.
-#[inline]
-pub fn lookup_over_decoder<
-    Symbol: Eq + Drop,
-    Probability: IndexWord,
-    const PRECISION: usize,
-    const SLOT_BITS: usize,
->(
-    alloc: Global,
-    model: NonContiguousCategoricalDecoderModel<
-        Symbol,
-        Probability,
-        Vec<(Probability, Symbol)>,
-        PRECISION,
-    >,
-) -> Result<
-    SlottedNonContiguousLookupDecoderModel<
-        Symbol,
-        Probability,
-        Vec<(Probability, Symbol)>,
-        Vec<Probability>,
-        PRECISION,
-        SLOT_BITS,
-    >,
-    ModelError,
->
-    requires narrow { PRECISION ≤ 63 }
-    ensures ok { IfOk result (λ m.
-        ⟦<SlottedNonContiguousLookupDecoderModel<Symbol, Probability, Vec<(Probability, Symbol)>, Vec<Probability>, PRECISION, SLOT_BITS> as EntropyModel<PRECISION>>⟧.rows m
-        ≡ ⟦<NonContiguousCategoricalDecoderModel<Symbol, Probability, Vec<(Probability, Symbol)>, PRECISION> as EntropyModel<PRECISION>>⟧.rows model) }
-    ensures refused { IfErr result (λ e. e ≡ ModelError.OutOfMemory) }
-{
-    lookup_over(alloc, model)
-}
-
 impl<
     Symbol: Eq + Drop,
     Probability: IndexWord,
@@ -163,7 +126,7 @@ impl<
             probabilities,
             infer_last_probability,
         ) {
-            Ok(model) => lookup_over_decoder(alloc, model),
+            Ok(model) => lookup_over(alloc, model),
             Err(refused) => Err(refused),
         }
     }
@@ -260,7 +223,7 @@ impl<
         ensures refused { IfErr result (λ e. e ≡ ModelError.OutOfMemory) }
     {
         match self.in_vec(alloc) {
-            Ok(copy) => lookup_over_decoder(alloc, copy),
+            Ok(copy) => lookup_over(alloc, copy),
             Err(_) => Err(ModelError::OutOfMemory),
         }
     }
@@ -295,7 +258,7 @@ impl<
             ≡ ⟦<Self as EntropyModel<PRECISION>>⟧.rows self) }
         ensures refused { IfErr result (λ e. e ≡ ModelError.OutOfMemory) }
     {
-        lookup_over_decoder(alloc, self)
+        lookup_over(alloc, self)
     }
 }
 

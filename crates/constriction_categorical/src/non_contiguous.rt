@@ -18,12 +18,12 @@ use crate::iterable::IterableEntropyModel;
 use crate::non_contiguous_table::NonContiguousSymbolTable;
 use constriction_buffers::SafeBuf;
 use constriction_model::{
-    CdfProbe, DecoderModel, EntropyModel, ModelError, Probe, SearchingModel, Weight, WithSymbol,
-    row_in_entries,
+    DecoderModel, EntropyModel, ModelError, Probe, SearchingModel, Weight,
 };
 use constriction_numbers::WholeNumber;
 use constriction_stored_rows::{
-    cloned_row_at, entries_announced, entries_cloned, room_for, rows_read, words_beside,
+    CdfProbe, WithSymbol, cloned_row_at, entries_announced, entries_cloned, room_for,
+    row_in_entries, rows_read, words_beside,
 };
 use std::alloc::{AllocError, Global};
 use std::marker::PhantomData;

@@ -11,9 +11,11 @@ ghost use Rattle.constriction_stored_rows.specs.SymbolRowLemmas.{paired-tiles};
 use crate::contiguous::ContiguousCategoricalEntropyModel;
 use crate::non_contiguous::NonContiguousCategoricalDecoderModel;
 use constriction_buffers::SafeBuf;
-use constriction_model::{Alone, CdfEntry, DecoderModel, EntropyModel, Weight, WithSymbol};
+use constriction_model::{DecoderModel, EntropyModel, Weight};
 use constriction_numbers::WholeNumber;
-use constriction_stored_rows::{cloned_row_among, cloned_row_at, contiguous_row_at};
+use constriction_stored_rows::{
+    Alone, CdfEntry, WithSymbol, cloned_row_among, cloned_row_at, contiguous_row_at,
+};
 use std::alloc::AllocError;
 
 /// A model that stores an entry a row, in order, and lends them. A caller's own model may be one.
@@ -155,15 +157,15 @@ impl<
     }
 }
 
-/// The searching models of the symbols 0, 1, .., by which a lookup model over one is told from one
-/// over any symbols.
+/// The searching models of the symbols 0, 1, .. It stands in the bound of `into_contiguous_categorical` alone, and is no name
+/// of a caller's.
 pub trait OfNumbers<const PRECISION: usize>: EntropyModel<PRECISION> {}
 
 impl<Probability: WholeNumber, Cdf: SafeBuf<Probability>, const PRECISION: usize> OfNumbers<
     PRECISION,
 > for ContiguousCategoricalEntropyModel<Probability, Cdf, PRECISION> {}
 
-/// The searching models of any symbols.
+/// The searching models of any symbols, in the bound of `into_non_contiguous_categorical` alone.
 pub trait OfAnySymbols<const PRECISION: usize>: EntropyModel<PRECISION> {}
 
 impl<

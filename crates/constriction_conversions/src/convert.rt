@@ -12,7 +12,7 @@ use crate::hashed::NonContiguousCategoricalEncoderModel;
 use crate::walking::{entries_walked, table_walked};
 use constriction_categorical::{
     IterableEntropyModel, LookupDecoderModel, NonContiguousCategoricalDecoderModel,
-    SlottedNonContiguousLookupDecoderModel, decoder_over, lookup_over_decoder,
+    SlottedNonContiguousLookupDecoderModel, decoder_over, lookup_over,
 };
 use constriction_model::{EntropyModel, ModelError};
 use constriction_numbers::IndexWord;
@@ -287,7 +287,7 @@ where
     ensures invalid { result ≡ Err ModelError.InvalidTable → ClonesRepeat M.Symbol.eq M.stands_for (M.rows model) }
 {
     match to_generic_decoder_model::<M, PRECISION>(alloc, model) {
-        Ok(searching) => lookup_over_decoder(alloc, searching),
+        Ok(searching) => lookup_over(alloc, searching),
         Err(fault) => Err(fault),
     }
 }

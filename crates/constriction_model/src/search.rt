@@ -69,7 +69,7 @@ fn sixteenth<R: Probe>(rows: &mut R, q: R::Word, first: usize, size: usize) -> (
 /// between two rows is compiled to a jump, which the processor has to guess.
 #[inline(always)]
 #[tactic(auto, using(crate::proofs::Digits::digits_two))]
-pub(crate) fn row_of_two<R: Probe>(rows: &mut R, q: R::Word) -> usize
+pub fn row_of_two<R: Probe>(rows: &mut R, q: R::Word) -> usize
     requires searchable { IsSearchable (R.cumulatives rows.old) (R.number q) }
     requires two { length (R.cumulatives rows.old) ≤ 2 }
     requires room { R.questions rows.old ≤ usize.MAX - 64 }

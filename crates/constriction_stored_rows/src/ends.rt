@@ -8,8 +8,9 @@ ghost use Rattle.constriction_model.specs.Rows.{Row};
 ghost use Rattle.constriction_stored_rows.specs.SlotTable.{MayFollow};
 ghost use Rattle.constriction_stored_rows.specs.Stored.{IsStored, StandBeside, end_at, rows_paired, weights_of, with_total};
 
+use crate::cdf_probe::CdfEntry;
 use crate::filling::and_item;
-use constriction_model::{CdfEntry, Weight};
+use constriction_model::Weight;
 use constriction_numbers::WholeNumber;
 use std::alloc::AllocError;
 

@@ -1,11 +1,12 @@
 //! How models that are given by weights store their rows: reading weights and symbols into tables, telling whether
-//! they are accepted, the row at an index, and which rows meet a slot.
+//! they are accepted, the search of what is stored, the row at an index, and which rows meet a slot.
 //!
 //! A table is a plain list: of left cumulatives, with the total after them, or of pairs of a left cumulative and a
 //! symbol, one a row. The models of the crate above keep them, and their ghost fields cite the definitions here.
 #![tactic(auto)]
 
 mod apart;
+mod cdf_probe;
 mod ends;
 mod filling;
 mod paired;
@@ -15,6 +16,7 @@ mod stored;
 mod uncompared;
 
 pub use crate::apart::{are_apart, are_in_order};
+pub use crate::cdf_probe::{Alone, CdfEntry, CdfProbe, WithSymbol, row_in_entries};
 pub use crate::ends::{
     cloned_row_among, cloned_row_at, end_before, paired_row_at, row_up_to, with_ends, words_beside,
 };

@@ -6,8 +6,9 @@ ghost use Rattle.constriction_model.specs.Probe.{digits, IsLastAtMost, IsSearcha
 ghost use Rattle.constriction_stored_rows.specs.Slots.{least_in_slots, slot_count, slot_width};
 ghost use Rattle.constriction_stored_rows.specs.SlotTable.{words_a_slot, BeginsWithSlots, HasSlots, IsFirstWord, IsSlot, IsSlotPart, IsSlotSearch};
 
+use crate::cdf_probe::{CdfEntry, CdfProbe};
 use crate::ends::with_ends;
-use constriction_model::{CdfEntry, CdfProbe, Probe, row_of_quantile};
+use constriction_model::{Probe, row_of_quantile};
 use constriction_numbers::WholeNumber;
 use std::alloc::{AllocError, Global};
 

@@ -6,7 +6,7 @@ pub use constriction_categorical::{
     DefaultContiguousLookupDecoderModel, DefaultNonContiguousCategoricalDecoderModel,
     DefaultNonContiguousLookupDecoderModel, IterableEntropyModel, LookupDecoderModel,
     NonContiguousCategoricalDecoderModel, NonContiguousLookupDecoderModel,
-    NonContiguousSymbolTable, OfAnySymbols, OfNumbers, SlottedContiguousLookupDecoderModel,
+    NonContiguousSymbolTable, SlottedContiguousLookupDecoderModel,
     SlottedNonContiguousLookupDecoderModel, SmallContiguousCategoricalEntropyModel,
     SmallContiguousDirectLookupDecoderModel, SmallContiguousLookupDecoderModel,
     SmallNonContiguousCategoricalDecoderModel, SmallNonContiguousDirectLookupDecoderModel,
@@ -21,7 +21,8 @@ pub use constriction_conversions::{
     to_generic_lookup_decoder_model_of_distinct, to_generic_slotted_lookup_decoder_model,
 };
 pub use constriction_model::{
-    Alone, CdfEntry, CdfProbe, DecoderModel, DecodesOver, DefaultUniformModel, EncoderModel,
+    DecoderModel, DecodesOver, DefaultUniformModel, EncoderModel,
     EncodesOver, EntropyModel, ModelError, Probe, SearchingModel, SmallUniformModel, UniformModel,
-    UniformSymbolTable, Weight, WithSymbol, is_quantile, row_of_quantile,
+    UniformSymbolTable, Weight, is_quantile, row_of_quantile,
 };
+pub use constriction_stored_rows::{Alone, CdfEntry, CdfProbe, WithSymbol};

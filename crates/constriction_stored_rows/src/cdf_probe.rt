@@ -1,10 +1,9 @@
-//! Probes of stored rows.
+//! What is stored of a row, and the search of stored rows.
 
 ghost use Rattle.std.specs.Prelude.{◌≡◌, ◌+◌, ◌-◌, ◌<◌, ◌≤◌, ℕ, length, map};
 ghost use Rattle.constriction_model.specs.Probe.{digits, IsSearchable, IsLastAtMost};
 
-use crate::probe::Probe;
-use crate::search::{row_of_quantile, row_of_two};
+use constriction_model::{Probe, row_of_quantile, row_of_two};
 use constriction_numbers::WholeNumber;
 use std::marker::PhantomData;
 
