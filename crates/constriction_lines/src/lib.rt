@@ -4,7 +4,5 @@
 #![tactic(auto)]
 
 mod line;
-mod separator;
 
-pub use crate::line::{Command, Form, parse, parse_number};
-pub use crate::separator::cut;
+pub use crate::line::{Command, Form, cut, parse, parse_number};

@@ -1,6 +1,7 @@
 //! Lines of text, and what they ask for.
 
-ghost use Rattle.std.specs.Prelude.{◌≡◌, ◌∷◌, IfOk, IfSome, IfNone, codes, false, option_and_then};
+ghost use Rattle.std.specs.Prelude.{◌≡◌, ◌==◌, ◌∷◌, ◌<◌, IfOk, IfSome, IfNone, codes, false, length, option_and_then, position};
+ghost use Rattle.std.specs.List.{slice_split};
 ghost use Rattle.std.specs.Option.{option_copied, option_map};
 ghost use Rattle.std.specs.Str.{bytes_eq};
 ghost use Rattle.constriction_lines.specs.Grammar.{Request, Spells, form_of, view};
@@ -8,7 +9,6 @@ ghost use Rattle.constriction_lines.specs.Parts.{parts_of, first_and_others, onl
 ghost use Rattle.constriction_lines.specs.Reading.{read_form, read_line};
 ghost use Rattle.constriction_lines.specs.Reading.{read_number, read_numbers, read_request};
 
-use crate::separator::cut;
 use std::alloc::{AllocError, Global};
 
 /// The type of the probabilities of a model, and its precision.
@@ -66,6 +66,26 @@ impl Command {
             Command::Symbol { form, .. } => *form,
             Command::Uniform { form, .. } => *form,
         }
+    }
+}
+
+/// Where the first separator stands.
+fn find_separator(bytes: &[u8], separator: u8) -> Option<usize>
+    ensures { result ≡ position (λ byte. byte == separator) bytes.now }
+{
+    bytes.iter().position(|byte| *byte == separator)
+}
+
+/// What stands before the first separator, and what follows it; all of the bytes where none stands.
+pub fn cut(bytes: &[u8], separator: u8) -> (&[u8], Option<&[u8]>)
+    ensures parts { slice_split (λ byte. byte == separator) bytes.now
+        ≡ result.0.now ∷ parts_of separator (option_copied result.1) }
+    ensures shorter { IfSome result.1 (λ after. length after.now < length bytes.now) }
+    ensures whole { IfNone result.1 (result.0.now ≡ bytes.now) }
+{
+    match find_separator(bytes, separator) {
+        Some(at) => (&bytes[..at], Some(&bytes[at + 1..])),
+        None => (bytes, None),
     }
 }
 

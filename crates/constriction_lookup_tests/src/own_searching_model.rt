@@ -97,4 +97,8 @@ fn a_table_answers_in_place_of_the_search_of_its_model(rt: HostRuntime) {
     same(&rt, plain(tabled.quantile_function(21)), Ok((2, 21, 1)));
     same(&rt, plain(tabled.quantile_function(63)), Ok((3, 22, 42)));
     same(&rt, searches.get(), 0);
+    let searching = tabled.into_searching_model();
+    same(&rt, searching.entries().len(), WEIGHTS.len());
+    same(&rt, plain(searching.quantile_function(63)), Ok((3, 22, 42)));
+    same(&rt, searches.get(), 1);
 }

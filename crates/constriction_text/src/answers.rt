@@ -7,9 +7,7 @@ ghost use Rattle.constriction_text.specs.Answering.{answer_of, answer_to, text_o
 ghost use Rattle.constriction_lines.specs.Grammar.{bits_of, form_of, precision_of, view};
 ghost use Rattle.constriction_text.specs.Text.{IsAnswer, rows_text, quantile_text, symbol_text, uniform_text};
 
-use crate::line_model::{LineModel, model_of};
-use crate::rows::{push_row, push_rows};
-use crate::uniform::UniformRows;
+use crate::line_model::{LineModel, UniformRows, model_of, push_row, push_rows};
 use constriction_categorical::ContiguousCategoricalEntropyModel;
 use constriction_lines::{Command, Form, parse};
 use constriction_model::UniformModel;

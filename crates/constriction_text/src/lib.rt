@@ -5,14 +5,10 @@
 #![tactic(auto)]
 
 mod answers;
-mod contiguous;
 mod fault;
-mod form_word;
 pub mod laws;
 mod line_model;
 mod program;
-mod rows;
-mod uniform;
 
 pub use crate::answers::answer;
 pub use crate::fault::RunFault;

@@ -1,16 +1,198 @@
-//! The models that answer lines.
+//! The models that answer lines: the words of a form, the models of weights over them, and the lines of a model's rows.
+//!
+//! What a text has of words are numbers, so the traits here speak of numbers alone: a proof over them carries no laws of words.
 
-ghost use Rattle.std.specs.Prelude.{◌≡◌, ◌^◌, ◌<◌, ◌≤◌, ◌++◌, ℕ, List, true, false, nat_eq};
+ghost use Rattle.std.specs.Prelude.{◌≡◌, ◌^◌, ◌<◌, ◌≤◌, ◌++◌, ◌∷◌, ℕ, List, [], true, false, nat_eq};
 ghost use Rattle.std.specs.Prelude.{IfOk, IfSome, IfNone, OnOk, map, string_bytes};
 ghost use Rattle.std.specs.Iterator.{IsFiniteIterable};
+ghost use Rattle.std.proofs.Common.{refl};
 ghost use Rattle.constriction_model.specs.Acceptance.{IsAccepted, completed};
+ghost use Rattle.constriction_model.specs.Model.{ClonesAreSame};
+ghost use Rattle.constriction_model.specs.Rows.{Row, RowsTile, IsRowOf, contiguous_rows, entry_of, uniform_rows};
 ghost use Rattle.constriction_stored_rows.specs.Given.{GaveGood, GaveBad};
-ghost use Rattle.constriction_model.specs.Rows.{Row, RowsTile, IsRowOf, contiguous_rows, entry_of};
+ghost use Rattle.constriction_stored_rows.specs.StoredRowLemmas.{stored-tiles};
 ghost use Rattle.constriction_text.specs.Answering.{are_accepted};
-ghost use Rattle.constriction_text.specs.Text.{rows_text};
+ghost use Rattle.constriction_text.specs.NumberWords.{narrowed_to};
+ghost use Rattle.constriction_text.specs.Text.{row_text, rows_text};
 
-use crate::form_word::NumberWord;
+use constriction_categorical::{ContiguousCategoricalEntropyModel, IterableEntropyModel};
+use constriction_model::{DecoderModel, EncoderModel, EntropyModel, ModelError, UniformModel};
+use constriction_numbers::WholeNumber;
 use std::alloc::{AllocError, Global};
+use std::fmt::Write;
+
+/// A word that the probabilities of a form are: numbers become words, and words numbers.
+pub(crate) trait FormWord: WholeNumber {
+    // The word of a number.
+    ghost word_of: { ℕ → Self };
+
+    /// The word of a number, and 0 where no word has the number.
+    fn narrowed(number: u64) -> Self
+        ensures { Self.whole result ≡ narrowed_to Self.BITS number };
+
+    /// The number of a word.
+    fn number(self) -> u64
+        ensures { result ≡ Self.whole self };
+
+    // Words have all numbers below `2^BITS`.
+    ghost word_of_law: { (n : ℕ) → n < 2 ^ Self.BITS → Self.whole (word_of n) ≡ n };
+}
+
+/// A word as narrowing alone sees it. Each [`FormWord`] is one: a proof over it carries no other laws.
+pub(crate) trait NumberWord: Copy {
+    // The number of a word.
+    ghost whole: { Self → ℕ };
+
+    // How many bits a word has.
+    ghost BITS: { ℕ };
+
+    // The word of a number.
+    ghost word_of: { ℕ → Self };
+
+    /// The word of a number, and 0 where no word has the number.
+    fn of_number(number: u64) -> Self
+        ensures { whole result ≡ narrowed_to BITS number };
+
+    ghost word_of_law: { (n : ℕ) → n < 2 ^ BITS → whole (word_of n) ≡ n };
+}
+
+impl<Word: FormWord> NumberWord for Word {
+    ghost whole = { Word.whole };
+
+    ghost BITS = { Word.BITS };
+
+    ghost word_of = { Word.word_of };
+
+    fn of_number(number: u64) -> Word {
+        Word::narrowed(number)
+    }
+
+    ghost word_of_law = { Word.word_of_law };
+}
+
+impl FormWord for u8 {
+    ghost word_of = { λ n. n };
+
+    fn narrowed(number: u64) -> u8 {
+        u8::try_from(number).unwrap_or(0)
+    }
+
+    fn number(self) -> u64 {
+        u64::from(self)
+    }
+
+    ghost word_of_law = { λ n h. refl };
+}
+
+impl FormWord for u16 {
+    ghost word_of = { λ n. n };
+
+    fn narrowed(number: u64) -> u16 {
+        u16::try_from(number).unwrap_or(0)
+    }
+
+    fn number(self) -> u64 {
+        u64::from(self)
+    }
+
+    ghost word_of_law = { λ n h. refl };
+}
+
+/// A model whose symbol table gives numbers, which is all that a text has of rows: a proof over it
+/// carries no laws of words. Each model of the symbols 0, 1, .. over the words of a form is one.
+pub(crate) trait NumberRows<const PRECISION: usize> {
+    /// The walk through the rows.
+    type Table: Drop;
+
+    // The rows of a model.
+    ghost number_rows: { Self → List (Row ℕ) };
+
+    // The rows that a table has yet to give.
+    ghost left: { Self.Table → List (Row ℕ) };
+
+    // That rows can be walked through, and that a table may be asked for the next one.
+    ghost has_table: { Type 0 };
+
+    ghost can_go_on: { Self.Table → Type 0 };
+
+    /// The symbol table.
+    fn table(self) -> Self::Table
+        requires { has_table }
+        ensures all { left result ≡ number_rows self }
+        ensures callable { can_go_on result };
+
+    /// The next row of a table: its symbol, its left cumulative and its weight.
+    fn next_row(table: &mut Self::Table) -> Result<Option<(usize, u64, u64)>, AllocError>
+        requires { can_go_on table.old }
+        ensures row { IfOk result (λ found. IfSome found (λ row. left table.old
+            ≡ record { symbol = row.0; left = row.1; weight = row.2 } ∷ left table.new)) }
+        ensures end { IfOk result (λ found. IfNone found (left table.old ≡ [])) }
+        ensures goes_on { IfOk result (λ found. IfSome found (λ _. can_go_on table.new)) };
+}
+
+impl<M: IterableEntropyModel<PRECISION, Symbol = usize>, const PRECISION: usize> NumberRows<
+    PRECISION,
+> for M
+where
+    M::Probability: FormWord,
+    M::SymbolTable: Drop,
+{
+    type Table = M::SymbolTable;
+
+    ghost number_rows = { M.rows };
+
+    ghost left = { M.rows_left };
+
+    ghost has_table = { ClonesAreSame M.IterableEntropyModel.stands_for };
+
+    ghost can_go_on = { λ t. M.SymbolTable.can_next t × ClonesAreSame M.IterableEntropyModel.stands_for };
+
+    fn table(self) -> M::SymbolTable {
+        self.symbol_table()
+    }
+
+    fn next_row(table: &mut M::SymbolTable) -> Result<Option<(usize, u64, u64)>, AllocError> {
+        match table.next() {
+            Some(row) => {
+                let (symbol, left, weight) = row?;
+                Ok(Some((
+                    symbol,
+                    left.number(),
+                    M::Probability::from_weight(weight).number(),
+                )))
+            }
+            None => Ok(None),
+        }
+    }
+}
+
+/// Adds the line of a row.
+pub(crate) fn push_row(
+    text: &mut String,
+    symbol: usize,
+    left: u64,
+    weight: u64,
+) -> Result<(), AllocError>
+    ensures { OnOk result (string_bytes text.new ≡ string_bytes text.old
+        ++ row_text (record { symbol = symbol; left = left; weight = weight })) }
+{
+    writeln!(text, "{symbol} {left} {weight}")
+}
+
+/// Adds the lines of all rows of a model, each as its symbol table gives it.
+pub(crate) fn push_rows<M: NumberRows<PRECISION>, const PRECISION: usize>(
+    text: &mut String,
+    model: M,
+) -> Result<(), AllocError>
+    requires { M.has_table }
+    ensures { OnOk result (string_bytes text.new ≡ string_bytes text.old ++ rows_text (M.number_rows model)) }
+{
+    let mut table = model.table();
+    while let Some((symbol, left, weight)) = M::next_row(&mut table)? {
+        push_row(text, symbol, left, weight)?;
+    }
+    Ok(())
+}
 
 /// A model of the weights of a line. Whatever its words are, it speaks of numbers alone, which is
 /// all that a text has: a proof over it carries no laws of words.
@@ -79,4 +261,68 @@ pub(crate) fn model_of<M: LineModel<PRECISION>, const PRECISION: usize>(
 {
     let words = weights.iter().map(|weight| M::Word::of_number(*weight));
     M::from_words(alloc, words, infer)
+}
+
+impl<Word: FormWord, const PRECISION: usize> LineModel<PRECISION>
+    for ContiguousCategoricalEntropyModel<Word, Vec<Word>, PRECISION> {
+    type Word = Word;
+
+    ghost line_rows = { ⟦<ContiguousCategoricalEntropyModel<Word, Vec<Word>, PRECISION> as EntropyModel<PRECISION>>⟧.rows };
+
+    fn from_words<I: IntoIterator<Item = Word>>(
+        alloc: Global,
+        words: I,
+        infer: bool,
+    ) -> Result<Option<Self>, AllocError> {
+        match Self::from_nonzero_fixed_point_probabilities(alloc, words, infer) {
+            Ok(model) => Ok(Some(model)),
+            Err(ModelError::InvalidTable) => Ok(None),
+            Err(ModelError::OutOfMemory) => Err(AllocError),
+        }
+    }
+
+    fn push_rows(&self, text: &mut String) -> Result<(), AllocError> {
+        push_rows::<_, PRECISION>(text, self)
+    }
+
+    fn entry(&self, symbol: usize) -> Option<(u64, u64)> {
+        match self.left_cumulative_and_probability(&symbol) {
+            Some((left, weight)) => Some((left.number(), Word::from_weight(weight).number())),
+            None => None,
+        }
+    }
+
+    fn row(&self, quantile: u64) -> Result<(usize, u64, u64), AllocError> {
+        let (symbol, left, weight) = self.quantile_function(Word::narrowed(quantile))?;
+        Ok((symbol, left.number(), Word::from_weight(weight).number()))
+    }
+
+    ghost tile_law = { λ m. stored-tiles _ _ _ m.stored.stored };
+}
+
+/// A uniform model. What a text asks of it are the rows alone.
+pub(crate) trait UniformRows<const PRECISION: usize>: NumberRows<PRECISION> {
+    // How many bits its words have.
+    ghost BITS: { ℕ };
+
+    /// The model of the symbols `0..range`.
+    fn of_range(range: usize) -> Self
+    where
+        Self: Sized,
+        requires positive { 0 < PRECISION }
+        requires fits { PRECISION ≤ BITS }
+        requires small { PRECISION < 64 }
+        requires some { 2 ≤ range }
+        requires few { range ≤ 2 ^ PRECISION }
+        ensures rows { Self.number_rows result ≡ uniform_rows PRECISION range }
+        ensures walks { Self.has_table };
+}
+
+impl<Word: FormWord, const PRECISION: usize> UniformRows<PRECISION>
+    for UniformModel<Word, PRECISION> {
+    ghost BITS = { Word.BITS };
+
+    fn of_range(range: usize) -> Self {
+        Self::new(range)
+    }
 }

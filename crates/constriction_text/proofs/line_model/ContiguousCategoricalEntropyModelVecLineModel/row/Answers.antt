@@ -4,7 +4,7 @@ use Rattle.constriction_model.specs.StandLemmas.{exact-row}
 use Rattle.constriction_stored_rows.specs.Stored.{lefts_in, weights_of}
 use Rattle.constriction_text.proofs.Accepting.{narrowed_same}
 use Rattle.constriction_text.proofs.RowTexts.{same_row}
-use Rattle.constriction_text.proofs.contiguous.ContiguousCategoricalEntropyModelVecLineModel.row.Goals as goal
+use Rattle.constriction_text.proofs.line_model.ContiguousCategoricalEntropyModelVecLineModel.row.Goals as goal
 
 pub returns : goal.returns
 returns g c =

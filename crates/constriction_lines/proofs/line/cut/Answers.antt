@@ -1,6 +1,6 @@
 use Rattle.std.proofs.Common.{eqb}
 use Rattle.constriction_lines.proofs.Separating.{cut_at, cut_nowhere}
-use Rattle.constriction_lines.proofs.separator.cut.Goals as goal
+use Rattle.constriction_lines.proofs.line.cut.Goals as goal
 
 pub returns-in-Some-clause-parts : goal.returns-in-Some-clause-parts
 returns-in-Some-clause-parts c = cut_at (λ byte. eqb byte c.args.separator) c.args.bytes.now c.in-Some.at c.in-Some.ensures

@@ -1,7 +1,7 @@
 use Rattle.std.proofs.Common.{Err, ap, map}
 use Rattle.constriction_model.specs.Acceptance.{IsAccepted, completed}
 use Rattle.constriction_stored_rows.proofs.MadeLemmas.{bad-given}
-use Rattle.constriction_text.proofs.contiguous.ContiguousCategoricalEntropyModelVecLineModel.from_words.Goals as goal
+use Rattle.constriction_text.proofs.line_model.ContiguousCategoricalEntropyModelVecLineModel.from_words.Goals as goal
 
 pub returns-in-Ok : goal.returns-in-Ok
 returns-in-Ok g c =

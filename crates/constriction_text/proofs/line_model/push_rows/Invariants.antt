@@ -1,7 +1,7 @@
 use Rattle.std.proofs.Common.{◌≡◌, ◌++◌, length}
 use Rattle.std.specs.String.{string_bytes}
 use Rattle.constriction_text.specs.Text.{rows_text}
-use Rattle.constriction_text.proofs.rows.push_rows.Given as goal
+use Rattle.constriction_text.proofs.line_model.push_rows.Given as goal
 
 -- the lines so far, and those of the rows that are left, are all
 abbrev pub invariant-loop-table : goal.invariant-loop-table

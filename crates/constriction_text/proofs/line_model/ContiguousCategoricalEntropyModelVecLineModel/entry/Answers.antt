@@ -1,4 +1,4 @@
-use Rattle.constriction_text.proofs.contiguous.ContiguousCategoricalEntropyModelVecLineModel.entry.Goals as goal
+use Rattle.constriction_text.proofs.line_model.ContiguousCategoricalEntropyModelVecLineModel.entry.Goals as goal
 
 pub returns-in-Some : goal.returns-in-Some
 returns-in-Some g c = rw (c.number.ensures, rw c.from_weight.ensures at c.number-in-Some.ensures) c.in-Some.ensures.entry
