@@ -3,12 +3,12 @@ import re
 
 from citations import WORDS, file_of
 from quotes import code_of, entries_of, name_of, one_line, parts_of, type_of
-from sources import AT_TYPE, PATH, Wrong, plain
+from sources import AT_TYPE, PATH, WORD, Wrong, plain
 
 # What the kit calls the elements of a Vec, what a reference holds, and members of its traits; types of the kit; and the language's own words.
 KIT_MEMBERS = {"items", "now", "old", "new", "eq", "is_clone"}
 KIT_TYPES = {*WORDS, "Vec", "Result", "Option"}
-LANGUAGE = set("λ Type record data where abbrev pub unfoldable module let in if then else elim as _ result self Self Ok Err Some None".split())
+LANGUAGE = set("λ Type record data where abbrev pub unfoldable module let in if then else elim as do Unit tt _ result self Self Ok Err Some None".split())
 
 
 class Closure:
@@ -44,11 +44,11 @@ class Closure:
         """Asks for what a definition cites: each word is bound in it, is declared on the page, or is the kit's."""
         names = self.all.spec_names[it.crate, it.module]
         lines = [*(line for header in it.context for line in header), *it.lines]
-        text = "\n".join(line.partition("--")[0] for line in lines)
+        text = re.sub(r'"[^"]*"', '""', "\n".join(line.partition("--")[0] for line in lines))
         bound = bound_in(text)
         for line in it.lines:
             if line.strip().split(" ")[0] in it.names:
-                bound |= set(re.findall(r"[\w'-]+", re.split(r" =(?=\s|$)", line.partition("--")[0])[0]))
+                bound |= set(re.findall(r"[\w'-]+", re.split(r" =(?=\s|$)(?![^{]*\})", line.partition("--")[0])[0]))
         for head, rest in PATH.findall(text):
             self.word(head, rest, it, names, bound, file_of(it), self.all.definitions.get((it.crate, it.module, head)))
         for name, (module, _) in names.of.items():
@@ -111,11 +111,9 @@ class Closure:
 
 
 def bound_in(text):
-    """Returns the names that a text binds: after a lambda, before a colon in brackets, and after `let`."""
-    bound = {name for it in re.findall(r"λ ([^.]+)\.(?=\s)", text) for name in it.split()}
-    bound |= {name for it in re.findall(r"[({]([\w' -]+?) : ", text) for name in it.split()}
-    bound |= {name for it in re.findall(r"\| [\w.]+ ((?:\w+ )+)↦", text) for name in it.split()}
-    return bound | set(re.findall(r"\blet (\w+) =", text))
+    """Returns the names that a text binds: after a lambda, before a colon in brackets, before what a case leads to, and after `let`."""
+    places = [*re.findall(r"λ ([^.]+)\.(?=\s)", text), *re.findall(r"[({]([\w' -]+?) : ", text), *re.findall(r"\|([^|]*?)↦", text)]
+    return {name for it in places for name in re.findall(rf"(?<![\w.]){WORD}(?![\w.])", it)} | set(re.findall(r"\blet (\w+) =", text))
 
 
 def squeezed(text):
