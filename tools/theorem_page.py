@@ -2,7 +2,7 @@
 import os
 import re
 
-from citations import WORDS, Reading, file_of
+from citations import TOLD, WORDS, Reading, file_of
 from closure import check
 from quotes import block_of, call_of, clause_of, comma_list, definition_of, member_of, one_line, type_of, wrapped
 from sources import TOP, WORD, Wrong, read
@@ -255,7 +255,21 @@ class Page:
             lines += wrapped(f"{names} have the same with their names, and as `BITS` {bits}.", "// ")
         if any(key[0] == "impl" and key[1].trait[0] == block.name and self.passes_on(key[1]) for key in self.reading.cited):
             lines.append("// A reference to a model has the members of the model.")
+        for it in block.members if block.kind == "trait" and block.name not in TOLD else ():
+            if it in self.reading.cited.get(("trait", block), ()) and " = " in " ".join(it.lines):
+                lines += wrapped(self.said_of_types(block, it), "// ")
         return lines
+
+    def said_of_types(self, trait, member):
+        """Returns which types have a member of their own, in place of the one that the trait has. A reference has that of its model."""
+        found = {}
+        for block in self.all.impls:
+            for it in block.members if block.trait[0] == trait.name else ():
+                if (it.kind, it.name) == ("ghost", member.name):
+                    value = re.search(r"= \{ (.*) \};$", " ".join(line.strip() for line in it.lines))[1]
+                    if block.trait[2] != "&M" or value != f"M.{member.name}":
+                        found.setdefault(value, []).append(f"`{block.trait[1]}`")
+        return f"`{member.name}` of " + ", of ".join(f"{comma_list(types)}: `{value}`" for value, types in found.items())
 
     def is_quoted(self, block):
         """Whether an impl is quoted: of one for each word the first is, and one that says of a reference what its model says is not."""
