@@ -58,8 +58,10 @@ class Reading:
             parts = [it for it in rest.split(".")[1:] if it != "TheVariants"]
             if name == "Ghosts":
                 return
-            if kind := next((it for it in self.all.types if it.name == parts[-1] and it.crate == crate), None):
-                self.type(kind)
+            # one that a crate passes on stands in another
+            kinds = [it for it in self.all.types if it.name == parts[-1] and (it.crate == crate or it.is_public)]
+            if kinds:
+                self.type(min(kinds, key=lambda it: it.crate != crate))
             return
         # what the kit makes of a contract, as the types that are lent
         if rest.startswith("contracts."):
@@ -214,8 +216,8 @@ class Reading:
 
 
 def ghosts_of(names):
-    """Returns the traits whose ghost members a file of definitions takes as an argument."""
-    return [module.split(".")[-1] for module, name in names.of.values() if name == "Ghosts"]
+    """Returns the traits whose ghost members a file of definitions takes as an argument, by its name `Ghosts` or that of its module."""
+    return [module.split(".")[-1] for module, name in names.of.values() if name == "Ghosts" or name is None and ".specs.declared." in module]
 
 
 def is_proof(repository, block, member):

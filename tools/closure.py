@@ -6,7 +6,7 @@ from quotes import code_of, entries_of, name_of, one_line, parts_of, type_of
 from sources import AT_TYPE, PATH, WORD, Wrong, plain
 
 # What the kit calls the elements of a Vec, what a reference holds, and members of its traits; types of the kit; and the language's own words.
-KIT_MEMBERS = {"items", "now", "old", "new", "eq", "is_clone"}
+KIT_MEMBERS = {"items", "now", "old", "new", "eq", "is_clone", "Ghosts"}
 KIT_TYPES = {*WORDS, "Vec", "Result", "Option"}
 LANGUAGE = set("λ Type record data where abbrev pub unfoldable module let in if then else elim as do Unit tt _ result self Self Ok Err Some None".split())
 
@@ -92,9 +92,11 @@ class Closure:
         """Asks for a word with what stands after its dots."""
         module, name = names.of.get(head, (None, head))
         if module is not None:
+            # of a module that goes by another name, what stands after the dot
+            name = name or (rest.split(".") + [""])[1]
             if not self.is_ours(module):
                 self.kit.add(name or head)
-            elif name not in (None, "Ghosts") and name not in self.names:
+            elif name not in ("", "Ghosts") and name not in self.names:
                 self.lacks(name, place)
         elif own is not None and own is not it:
             if head not in self.names:

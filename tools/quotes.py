@@ -127,11 +127,11 @@ def joins(line):
 
 
 def with_comment(comment, lines):
-    """Returns what a comment is on, with the comment before it, or behind it where that fits in one line."""
-    if len(comment) == 1 and len(lines) == 1 and "//" not in lines[0]:
+    """Returns what a comment is on, with the comment before it, or behind it where that fits in the last of a line or two."""
+    if len(comment) == 1 and len(lines) <= 2 and "//" not in lines[-1]:
         said = re.sub(r"^///? ", "", comment[0].strip())
-        if len(lines[0]) + len(said) + 4 <= WIDE:
-            return [f"{lines[0]} // {said}"]
+        if len(lines[-1]) + len(said) + 4 <= WIDE:
+            return [*lines[:-1], f"{lines[-1]} // {said}"]
     return [*comment, *lines]
 
 
@@ -173,13 +173,21 @@ def call_of(it, labels, depth, above):
         elif len(quote) > 1 and " ".join(quote) in above:
             same.setdefault(above[" ".join(quote)], []).append(name)
         else:
-            lines += quote
+            lines = followed(lines, quote)
             above[" ".join(quote)] = it.name
     for other, names in same.items():
         lines.append(" " * (depth + 4) + f"// ensures {comma_list(names)}: as {other}, in the same words")
     if left:
         lines.append(" " * (depth + 4) + f"// not quoted: {comma_list(left)}")
     return lines
+
+
+def followed(lines, quote):
+    """Returns lines and a clause after them, a condition beside another one where both fit in a line."""
+    is_beside = len(quote) == 1 and lines and all(each.lstrip().startswith("requires ") for each in (lines[-1], quote[0]))
+    if is_beside and len(lines[-1]) + 2 + len(quote[0].strip()) <= WIDE:
+        return [*lines[:-1], f"{lines[-1]}; {quote[0].strip()}"]
+    return [*lines, *quote]
 
 
 def clause_of(it, at, end, depth):

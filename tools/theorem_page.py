@@ -4,7 +4,7 @@ import re
 
 from citations import TOLD, WORDS, Reading, file_of
 from closure import check
-from quotes import block_of, call_of, clause_of, comma_list, definition_of, member_of, one_line, type_of, wrapped
+from quotes import block_of, call_of, clause_of, comma_list, definition_of, followed, member_of, one_line, type_of, wrapped
 from sources import TOP, WORD, Wrong, read
 
 # The parts of the theorem's text: its words, and the clauses that say it, of which calls.
@@ -142,8 +142,10 @@ class Page:
         lines, groups = [], {}
         for other in others:
             lacks, has = self.apart(it, other)
-            said = tuple(line for at, end in has for line in clause_of(other, at, end, 4))
-            groups.setdefault((tuple(lacks), said), []).append(other)
+            said = []
+            for at, end in has:
+                said = followed(said, clause_of(other, at, end, 4))
+            groups.setdefault((tuple(lacks), tuple(said)), []).append(other)
         for (lacks, said), same in groups.items():
             names = comma_list([f"`{each.name}`" for each in same])
             text = f"{names} {'say' if len(same) > 1 else 'says'} the same of {'their words' if len(same) > 1 else 'its word'}"
@@ -208,12 +210,12 @@ class Page:
         crates, place = self.all.crates, list(self.files)
         return sorted(files, key=lambda it: (-crates.index(it.split("/")[1]), -place.index(it)))
 
-    def block(self, files):
-        """Returns a block of code with what is quoted of some files, which are of one language."""
+    def block(self, files, between=()):
+        """Returns a block of code with what is quoted of some files, which are of one language, and lines between these."""
         lines = []
         for file in files:
             language, mark = ("antt", "--") if file.endswith(".antt") else ("rust", "//")
-            lines += [f"```{language}"] if not lines else []
+            lines += between if lines else [f"```{language}"]
             lines += [f"{mark} ---- {file}", *self.quote(file)]
         return [*lines, "```", ""]
 
@@ -340,7 +342,7 @@ def theorem(repository):
         lines += [f"## {number}. {part[0].upper()}{part[1:]}", "", *wrapped(said_by(said, page.like)), ""]
         files = [page.calls[name].file for _, calls in said for name in calls.split()]
         files = [it for it in dict.fromkeys(files) if it not in shown]
-        lines += page.block(files)
+        lines += page.block(files, [""])
         shown += files
     rest = [it for it in page.files if it not in shown]
     for title, ending in (("## The definitions", ".antt"), ("## The types, and what the members of traits are of them", ".rt")):
