@@ -8,7 +8,7 @@ ghost use Rattle.constriction_model.specs.Precision.{IsPrecision};
 ghost use Rattle.constriction_model.specs.Probe.{IsProbeFor};
 ghost use Rattle.constriction_model.specs.Rows.{contiguous_rows};
 ghost use Rattle.constriction_stored_rows.specs.QuestionLemmas.{all-in-question, none-most};
-ghost use Rattle.constriction_stored_rows.specs.Stored.{IsTable, lefts_in, weights_of};
+ghost use Rattle.constriction_stored_rows.specs.Stored.{IsCdf, lefts_in, weights_of};
 ghost use Rattle.constriction_stored_rows.specs.StoredRowLemmas.{stored-within, stored-tiles};
 ghost use Rattle.constriction_stored_rows.specs.Stored.{rows_stored};
 
@@ -20,7 +20,7 @@ use constriction_model::{
 };
 use constriction_numbers::WholeNumber;
 use constriction_stored_rows::{
-    Alone, CdfProbe, contiguous_row_at, copied, row_at, row_in_entries, table_of,
+    Alone, CdfProbe, cdf_of, contiguous_row_at, copied, row_at, row_in_entries,
 };
 use std::alloc::{AllocError, Global};
 use std::marker::PhantomData;
@@ -38,7 +38,7 @@ pub struct ContiguousCategoricalEntropyModel<
     pub(crate) cdf: Cdf,
     probability: PhantomData<Probability>,
     ghost precise: { (0 < PRECISION) × (PRECISION ≤ Probability.BITS) },
-    ghost stored: { IsTable Probability.BITS PRECISION (map Probability.whole (Cdf.words_of cdf)) },
+    ghost stored: { IsCdf Probability.BITS PRECISION (map Probability.whole (Cdf.words_of cdf)) },
 }
 
 /// The model over 24 bits of `u32`, which suits most uses.
@@ -80,7 +80,7 @@ impl<Probability: WholeNumber, const PRECISION: usize> ContiguousCategoricalEntr
             (WasReadOf I.into_iter_gives I.IntoIter.next_gives probabilities) Probability.whole
             (λ m ws. ⟦<Self as EntropyModel<PRECISION>>⟧.rows m ≡ contiguous_rows ws) result }
     {
-        let cdf = table_of::<Probability, I, PRECISION>(
+        let cdf = cdf_of::<Probability, I, PRECISION>(
             alloc,
             probabilities,
             infer_last_probability,

@@ -8,12 +8,8 @@ ghost use Rattle.constriction_stored_rows.specs.SlotTable.{BeginsWithSlots, HasS
 
 use crate::stores_rows::{AnswersRows, OfAnySymbols, OfNumbers, StoresRows};
 use constriction_buffers::SafeBuf;
-use constriction_model::{
-    DecoderModel, EntropyModel, ModelError, Probe, SearchingModel, Weight,
-};
-use constriction_stored_rows::{
-    CdfProbe, row_in_slot, slot_probe, table_of_slots, words_of_table,
-};
+use constriction_model::{DecoderModel, EntropyModel, ModelError, Probe, SearchingModel, Weight};
+use constriction_stored_rows::{CdfProbe, row_in_slot, slot_probe, table_of_slots, words_of_table};
 use std::alloc::{AllocError, Global};
 
 /// A searching model with a table, for decoders: the table tells where to search for the row of a

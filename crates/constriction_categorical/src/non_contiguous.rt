@@ -17,9 +17,7 @@ ghost use Rattle.constriction_model.specs.Tables.{rows_between};
 use crate::iterable::IterableEntropyModel;
 use crate::non_contiguous_table::NonContiguousSymbolTable;
 use constriction_buffers::SafeBuf;
-use constriction_model::{
-    DecoderModel, EntropyModel, ModelError, Probe, SearchingModel, Weight,
-};
+use constriction_model::{DecoderModel, EntropyModel, ModelError, Probe, SearchingModel, Weight};
 use constriction_numbers::WholeNumber;
 use constriction_stored_rows::{
     CdfProbe, WithSymbol, cloned_row_at, entries_announced, entries_cloned, room_for,

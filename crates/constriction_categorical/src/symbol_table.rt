@@ -3,7 +3,7 @@
 ghost use Rattle.std.specs.Prelude.{◌≡◌, ◌^◌, ◌<◌, ◌≤◌, length, map};
 ghost use Rattle.std.specs.Iterator.{at_most, size};
 ghost use Rattle.std.specs.Iterator.SizeHint.{IsExactHint};
-ghost use Rattle.constriction_stored_rows.specs.Stored.{IsTable};
+ghost use Rattle.constriction_stored_rows.specs.Stored.{IsCdf};
 ghost use Rattle.constriction_model.specs.Tables.{YieldsRow, YieldsLastRow};
 ghost use Rattle.constriction_stored_rows.specs.Stored.{rows_stored};
 
@@ -26,7 +26,7 @@ pub struct ContiguousSymbolTable<'m, Probability: WholeNumber, const PRECISION: 
     pub(crate) from: usize,
     pub(crate) to: usize,
     ghost narrow: { PRECISION ≤ Probability.BITS },
-    ghost stored: { IsTable Probability.BITS PRECISION (map Probability.whole cdf.now) },
+    ghost stored: { IsCdf Probability.BITS PRECISION (map Probability.whole cdf.now) },
     ghost in_order: { from ≤ to },
     ghost in_bounds: { to < length cdf.now },
 }

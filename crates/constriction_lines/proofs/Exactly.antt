@@ -12,11 +12,11 @@ use Rattle.std.specs.List.{AllByRecursion, AllZip, slice_split, join_with_byte, 
 use Rattle.std.specs.Str.{all_ascii_digits, bytes_eq}
 use Rattle.std.specs.Str.Parse.{AllDigits, digits_value}
 use Rattle.constriction_lines.specs.declared.line.Command.{Command}
-use Rattle.constriction_lines.specs.declared.line.Form.{Form}
-use Rattle.constriction_lines.specs.declared.line.Form.TheVariants.{U8Precision6, U8Precision8, U16Precision12}
-use Rattle.constriction_lines.specs.Grammar.{Request, table, infer, quantile, symbol, uniform, form_of, form_word, view, IsNumber, IsLineOf, Spells}
+use Rattle.constriction_lines.specs.declared.line.Format.{Format}
+use Rattle.constriction_lines.specs.declared.line.Format.TheVariants.{U8Precision6, U8Precision8, U16Precision12}
+use Rattle.constriction_lines.specs.Grammar.{Request, table, infer, quantile, symbol, uniform, format_of, format_word, view, IsNumber, IsLineOf, Spells}
 use Rattle.constriction_lines.specs.Parts.{only_number}
-use Rattle.constriction_lines.specs.Reading.{keyword, numbers_of, forms, requests_of, read_number, read_numbers, read_form, read_request, read_words, read_line, ◌>>=◌}
+use Rattle.constriction_lines.specs.Reading.{keyword, numbers_of, formats, requests_of, read_number, read_numbers, read_format, read_request, read_words, read_line, ◌>>=◌}
 use Rattle.constriction_lines.proofs.Numbers.{read_number-some}
 
 pub none_is_none : {A : Type 0} (x : A) → None ≡ Some x → ⊥
@@ -101,78 +101,78 @@ numbers_read [] (n ∷ ns) h = absurd h
 numbers_read (word ∷ words) [] h = absurd h
 numbers_read (word ∷ words) (n ∷ ns) h = rw (number_read word n h.0, numbers_read words ns h.1)
 
--- Forms and keywords.
+-- Formats and keywords.
 
-form_read : (form : Form) → read_form (form_word form) ≡ Some form
-unfolding read_form
-form_read U8Precision6 = refl
-form_read U8Precision8 = refl
-form_read U16Precision12 = refl
+format_read : (format : Format) → read_format (format_word format) ≡ Some format
+unfolding read_format
+format_read U8Precision6 = refl
+format_read U8Precision8 = refl
+format_read U16Precision12 = refl
 
-form_spelled : (word : List ℕ) (form : Form) → read_form word ≡ Some form → word ≡ form_word form
-unfolding read_form
-form_spelled word form e = same_text word (form_word form) (sym (found_passes (λ form. bytes_eq word (form_word form)) forms form e))
+format_spelled : (word : List ℕ) (format : Format) → read_format word ≡ Some format → word ≡ format_word format
+unfolding read_format
+format_spelled word format e = same_text word (format_word format) (sym (found_passes (λ format. bytes_eq word (format_word format)) formats format e))
 
-request_read : (request : Request) → read_request (keyword request) (form_of request) (numbers_of request) ≡ Some request
+request_read : (request : Request) → read_request (keyword request) (format_of request) (numbers_of request) ≡ Some request
 unfolding read_request
-request_read (table form ws) = refl
-request_read (infer form ws) = refl
-request_read (quantile form q ws) = refl
-request_read (symbol form s ws) = refl
-request_read (uniform form n) = refl
+request_read (table format ws) = refl
+request_read (infer format ws) = refl
+request_read (quantile format q ws) = refl
+request_read (symbol format s ws) = refl
+request_read (uniform format n) = refl
 
 -- a word that is no keyword
-pub no_request : (word : List ℕ) (form : Form) (numbers : Option (List ℕ)) → bytes_eq word (codes "table") ≡ false
+pub no_request : (word : List ℕ) (format : Format) (numbers : Option (List ℕ)) → bytes_eq word (codes "table") ≡ false
     → bytes_eq word (codes "infer") ≡ false
     → bytes_eq word (codes "quantile") ≡ false
     → bytes_eq word (codes "symbol") ≡ false
-    → bytes_eq word (codes "uniform") ≡ false → None ≡ (numbers >>= read_request word form)
+    → bytes_eq word (codes "uniform") ≡ false → None ≡ (numbers >>= read_request word format)
 unfolding read_request
-no_request word form None no_table no_infer no_quantile no_symbol no_uniform = refl
-no_request word form (Some []) no_table no_infer no_quantile no_symbol no_uniform = rw (no_table, no_infer) refl
-no_request word form (Some (n ∷ [])) no_table no_infer no_quantile no_symbol no_uniform =
+no_request word format None no_table no_infer no_quantile no_symbol no_uniform = refl
+no_request word format (Some []) no_table no_infer no_quantile no_symbol no_uniform = rw (no_table, no_infer) refl
+no_request word format (Some (n ∷ [])) no_table no_infer no_quantile no_symbol no_uniform =
     rw (no_table, no_infer, no_quantile, no_symbol, no_uniform) refl
-no_request word form (Some (n ∷ m ∷ ns)) no_table no_infer no_quantile no_symbol no_uniform =
+no_request word format (Some (n ∷ m ∷ ns)) no_table no_infer no_quantile no_symbol no_uniform =
     rw (no_table, no_infer, no_quantile, no_symbol) refl
 
 -- the request for a uniform model, from one number alone
-uniform_request : (form : Form) (numbers : Option (List ℕ))
-    → (numbers >>= read_request (codes "uniform") form) ≡ option_map (uniform form) (numbers >>= only_number)
+uniform_request : (format : Format) (numbers : Option (List ℕ))
+    → (numbers >>= read_request (codes "uniform") format) ≡ option_map (uniform format) (numbers >>= only_number)
 unfolding read_request
-uniform_request form None = refl
-uniform_request form (Some []) = refl
-uniform_request form (Some (n ∷ [])) = refl
-uniform_request form (Some (n ∷ m ∷ ns)) = refl
+uniform_request format None = refl
+uniform_request format (Some []) = refl
+uniform_request format (Some (n ∷ [])) = refl
+uniform_request format (Some (n ∷ m ∷ ns)) = refl
 
 -- the keyword of that request
-pub uniform_read : (word : List ℕ) (form : Form) (numbers : Option (List ℕ)) (range : Option ℕ)
+pub uniform_read : (word : List ℕ) (format : Format) (numbers : Option (List ℕ)) (range : Option ℕ)
     → bytes_eq word (codes "uniform") ≡ true → range ≡ (numbers >>= only_number)
-    → option_map (uniform form) range ≡ (numbers >>= read_request word form)
-uniform_read word form numbers range is alone =
-    ap (option_map (uniform form)) alone ∙ sym (uniform_request form numbers)
-    ∙ ap (λ w. numbers >>= read_request w form) (sym (same_text word (codes "uniform") (sym is)))
+    → option_map (uniform format) range ≡ (numbers >>= read_request word format)
+uniform_read word format numbers range is alone =
+    ap (option_map (uniform format)) alone ∙ sym (uniform_request format numbers)
+    ∙ ap (λ w. numbers >>= read_request w format) (sym (same_text word (codes "uniform") (sym is)))
 
--- the request has the form and the numbers
-abbrev IsOf : Form → List ℕ → Request → Type 0
-IsOf form numbers request = (form ≡ form_of request) × (numbers ≡ numbers_of request)
+-- the request has the format and the numbers
+abbrev IsOf : Format → List ℕ → Request → Type 0
+IsOf format numbers request = (format ≡ format_of request) × (numbers ≡ numbers_of request)
 
-all_are_of : (form : Form) (numbers : List ℕ) → AllByRecursion (IsOf form numbers) (requests_of form numbers)
-all_are_of form [] = ((refl, refl), ((refl, refl), tt))
-all_are_of form (n ∷ []) = ((refl, refl), ((refl, refl), ((refl, refl), ((refl, refl), ((refl, refl), tt)))))
-all_are_of form (n ∷ m ∷ ns) = ((refl, refl), ((refl, refl), ((refl, refl), ((refl, refl), tt))))
+all_are_of : (format : Format) (numbers : List ℕ) → AllByRecursion (IsOf format numbers) (requests_of format numbers)
+all_are_of format [] = ((refl, refl), ((refl, refl), tt))
+all_are_of format (n ∷ []) = ((refl, refl), ((refl, refl), ((refl, refl), ((refl, refl), ((refl, refl), tt)))))
+all_are_of format (n ∷ m ∷ ns) = ((refl, refl), ((refl, refl), ((refl, refl), ((refl, refl), tt))))
 
-request_keyword : (word : List ℕ) (form : Form) (numbers : List ℕ) (request : Request)
-    → read_request word form numbers ≡ Some request → word ≡ keyword request
+request_keyword : (word : List ℕ) (format : Format) (numbers : List ℕ) (request : Request)
+    → read_request word format numbers ≡ Some request → word ≡ keyword request
 unfolding read_request
-request_keyword word form numbers request e =
-    same_text word (keyword request) (sym (found_passes (λ request. bytes_eq word (keyword request)) (requests_of form numbers) request e))
+request_keyword word format numbers request e =
+    same_text word (keyword request) (sym (found_passes (λ request. bytes_eq word (keyword request)) (requests_of format numbers) request e))
 
-request_parts : (word : List ℕ) (form : Form) (numbers : List ℕ) (request : Request)
-    → read_request word form numbers ≡ Some request → IsOf form numbers request
+request_parts : (word : List ℕ) (format : Format) (numbers : List ℕ) (request : Request)
+    → read_request word format numbers ≡ Some request → IsOf format numbers request
 unfolding read_request
-request_parts word form numbers request e =
-    found_holds (λ request. bytes_eq word (keyword request)) (IsOf form numbers) (requests_of form numbers) request
-    (all_are_of form numbers) e
+request_parts word format numbers request e =
+    found_holds (λ request. bytes_eq word (keyword request)) (IsOf format numbers) (requests_of format numbers) request
+    (all_are_of format numbers) e
 
 -- Words.
 
@@ -221,40 +221,40 @@ numbers_no_space (word ∷ words) [] h = absurd h
 numbers_no_space (word ∷ words) (n ∷ ns) h = (digits_no_space word h.0.digits.1, numbers_no_space words ns h.1)
 
 keyword_no_space : (request : Request) → has_space (keyword request) ≡ false
-keyword_no_space (table form ws) = refl
-keyword_no_space (infer form ws) = refl
-keyword_no_space (quantile form q ws) = refl
-keyword_no_space (symbol form s ws) = refl
-keyword_no_space (uniform form n) = refl
+keyword_no_space (table format ws) = refl
+keyword_no_space (infer format ws) = refl
+keyword_no_space (quantile format q ws) = refl
+keyword_no_space (symbol format s ws) = refl
+keyword_no_space (uniform format n) = refl
 
-form_no_space : (form : Form) → has_space (form_word form) ≡ false
-form_no_space U8Precision6 = refl
-form_no_space U8Precision8 = refl
-form_no_space U16Precision12 = refl
+format_no_space : (format : Format) → has_space (format_word format) ≡ false
+format_no_space U8Precision6 = refl
+format_no_space U8Precision8 = refl
+format_no_space U16Precision12 = refl
 
 -- Lines.
 
--- what spells a request is its keyword, its form and its numbers
-spelled_from : (line : List ℕ) (request : Request) → IsLineOf line (keyword request) (form_of request) (numbers_of request)
+-- what spells a request is its keyword, its format and its numbers
+spelled_from : (line : List ℕ) (request : Request) → IsLineOf line (keyword request) (format_of request) (numbers_of request)
     → Spells line request
-spelled_from line (table form ws) h = h
-spelled_from line (infer form ws) h = h
-spelled_from line (quantile form q ws) h = h
-spelled_from line (symbol form s ws) h = h
-spelled_from line (uniform form n) h = h
+spelled_from line (table format ws) h = h
+spelled_from line (infer format ws) h = h
+spelled_from line (quantile format q ws) h = h
+spelled_from line (symbol format s ws) h = h
+spelled_from line (uniform format n) h = h
 
 spelled_to : (line : List ℕ) (request : Request) → Spells line request
-    → IsLineOf line (keyword request) (form_of request) (numbers_of request)
-spelled_to line (table form ws) h = h
-spelled_to line (infer form ws) h = h
-spelled_to line (quantile form q ws) h = h
-spelled_to line (symbol form s ws) h = h
-spelled_to line (uniform form n) h = h
+    → IsLineOf line (keyword request) (format_of request) (numbers_of request)
+spelled_to line (table format ws) h = h
+spelled_to line (infer format ws) h = h
+spelled_to line (quantile format q ws) h = h
+spelled_to line (symbol format s ws) h = h
+spelled_to line (uniform format n) h = h
 
 words_read : (request : Request) (words : List (List ℕ)) → AllZip IsNumber words (numbers_of request)
-    → read_words (keyword request ∷ form_word (form_of request) ∷ words) ≡ Some request
+    → read_words (keyword request ∷ format_word (format_of request) ∷ words) ≡ Some request
 unfolding read_words
-words_read request words h = rw (form_read (form_of request), numbers_read words (numbers_of request) h) (request_read request)
+words_read request words h = rw (format_read (format_of request), numbers_read words (numbers_of request) h) (request_read request)
 
 words_spelled : (words : List (List ℕ)) (request : Request) → read_words words ≡ Some request
     → Spells (join_with_byte 32 words) request
@@ -262,16 +262,16 @@ unfolding read_words
 words_spelled [] request e = absurd (none_is_none _ e)
 words_spelled (key ∷ []) request e = absurd (none_is_none _ e)
 words_spelled (key ∷ word ∷ words) request e =
-    let p = bind_some (read_form word) (λ form. read_numbers words >>= λ numbers. read_request key form numbers) request e in
+    let p = bind_some (read_format word) (λ format. read_numbers words >>= λ numbers. read_request key format numbers) request e in
     let q = bind_some (read_numbers words) (λ numbers. read_request key p.0 numbers) request p.2 in
     let parts = request_parts key p.0 q.0 request q.2 in
     let P : List ℕ → Type 0 = λ numbers. AllZip IsNumber words numbers in
-    let form : word ≡ form_word (form_of request) = form_spelled word p.0 p.1 ∙ ap form_word parts.0 in
+    let format : word ≡ format_word (format_of request) = format_spelled word p.0 p.1 ∙ ap format_word parts.0 in
     spelled_from (join_with_byte 32 (key ∷ word ∷ words)) request (
       words,
       subst P parts.1 (numbers_spelled words q.0 q.1),
       ap (λ k. join_with_byte 32 (k ∷ word ∷ words)) (request_keyword key p.0 q.0 request q.2)
-          ∙ ap (λ f. join_with_byte 32 (keyword request ∷ f ∷ words)) form,
+          ∙ ap (λ f. join_with_byte 32 (keyword request ∷ f ∷ words)) format,
     )
 
 pub line_spelled : (line : List ℕ) (request : Request) → read_line line ≡ Some request → Spells line request
@@ -284,10 +284,10 @@ pub line_read : (line : List ℕ) (request : Request) → Spells line request �
 unfolding read_line
 line_read line request spelled =
     let h = spelled_to line request spelled in
-    let words : slice_split (λ b. eqb b 32) line ≡ keyword request ∷ form_word (form_of request) ∷ h.0 =
+    let words : slice_split (λ b. eqb b 32) line ≡ keyword request ∷ format_word (format_of request) ∷ h.0 =
     ap (slice_split (λ b. eqb b 32)) h.2
-    ∙ split_joined (keyword request) (form_word (form_of request) ∷ h.0) (keyword_no_space request)
-    (form_no_space (form_of request), numbers_no_space h.0 (numbers_of request) h.1) in
+    ∙ split_joined (keyword request) (format_word (format_of request) ∷ h.0) (keyword_no_space request)
+    (format_no_space (format_of request), numbers_no_space h.0 (numbers_of request) h.1) in
     ap read_words words ∙ words_read request h.0 h.1
 
 -- where reading finds nothing, the line spells nothing

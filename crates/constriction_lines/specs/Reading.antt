@@ -4,10 +4,10 @@ use Rattle.std.specs.Prelude.{nat_lt, nat_le, ◌==◌, ◌&&◌, if◌then◌el
 use Rattle.std.specs.List.{slice_split}
 use Rattle.std.specs.Str.{all_ascii_digits, bytes_eq}
 use Rattle.std.specs.Str.Parse.{digits_value}
-use Rattle.constriction_lines.specs.declared.line.Form.{Form}
-use Rattle.constriction_lines.specs.declared.line.Form.TheVariants.{U8Precision6, U8Precision8, U16Precision12}
+use Rattle.constriction_lines.specs.declared.line.Format.{Format}
+use Rattle.constriction_lines.specs.declared.line.Format.TheVariants.{U8Precision6, U8Precision8, U16Precision12}
 use Rattle.constriction_lines.specs.Grammar.{Request, table, infer, quantile, symbol, uniform}
-use Rattle.constriction_lines.specs.Grammar.{form_word}
+use Rattle.constriction_lines.specs.Grammar.{format_word}
 
 infixl 10 ◌>>=◌
 -- the next step, where the one before found something
@@ -16,19 +16,19 @@ found >>= next = option_and_then next found
 
 -- the word that a line begins with
 abbrev pub keyword : Request → List ℕ
-keyword (table form weights) = codes "table"
-keyword (infer form weights) = codes "infer"
-keyword (quantile form q weights) = codes "quantile"
-keyword (symbol form s weights) = codes "symbol"
-keyword (uniform form n) = codes "uniform"
+keyword (table format weights) = codes "table"
+keyword (infer format weights) = codes "infer"
+keyword (quantile format q weights) = codes "quantile"
+keyword (symbol format s weights) = codes "symbol"
+keyword (uniform format n) = codes "uniform"
 
--- the numbers that follow the form
+-- the numbers that follow the format
 abbrev pub numbers_of : Request → List ℕ
-numbers_of (table form weights) = weights
-numbers_of (infer form weights) = weights
-numbers_of (quantile form q weights) = q ∷ weights
-numbers_of (symbol form s weights) = s ∷ weights
-numbers_of (uniform form n) = n ∷ []
+numbers_of (table format weights) = weights
+numbers_of (infer format weights) = weights
+numbers_of (quantile format q weights) = q ∷ weights
+numbers_of (symbol format s weights) = s ∷ weights
+numbers_of (uniform format n) = n ∷ []
 
 -- the number that a word spells
 unfoldable pub read_number : List ℕ → Option ℕ
@@ -44,40 +44,40 @@ read_numbers (word ∷ words) = do
   numbers ← read_numbers words
   Some (number ∷ numbers)
 
--- the forms that a word can name
-abbrev pub forms : List Form
-forms = U8Precision6 ∷ U8Precision8 ∷ U16Precision12 ∷ []
+-- the formats that a word can name
+abbrev pub formats : List Format
+formats = U8Precision6 ∷ U8Precision8 ∷ U16Precision12 ∷ []
 
--- the form that a word names
-unfoldable pub read_form : List ℕ → Option Form
-read_form word = find (λ form. bytes_eq word (form_word form)) forms
+-- the format that a word names
+unfoldable pub read_format : List ℕ → Option Format
+read_format word = find (λ format. bytes_eq word (format_word format)) formats
 
--- the request that a form and one number alone can belong to
-abbrev pub requests_of_one : Form → ℕ → List ℕ → List Request
-requests_of_one form number [] = uniform form number ∷ []
-requests_of_one form number (other ∷ others) = []
+-- the request that a format and one number alone can belong to
+abbrev pub requests_of_one : Format → ℕ → List ℕ → List Request
+requests_of_one format number [] = uniform format number ∷ []
+requests_of_one format number (other ∷ others) = []
 
--- the requests that a form and a first number, with any others after it, can belong to
-abbrev pub requests_of_some : Form → List ℕ → List Request
-requests_of_some form [] = []
-requests_of_some form (first ∷ others) = quantile form first others ∷ symbol form first others ∷ requests_of_one form first others
+-- the requests that a format and a first number, with any others after it, can belong to
+abbrev pub requests_of_some : Format → List ℕ → List Request
+requests_of_some format [] = []
+requests_of_some format (first ∷ others) = quantile format first others ∷ symbol format first others ∷ requests_of_one format first others
 
--- the requests that a form and numbers can belong to
-abbrev pub requests_of : Form → List ℕ → List Request
-requests_of form numbers = table form numbers ∷ infer form numbers ∷ requests_of_some form numbers
+-- the requests that a format and numbers can belong to
+abbrev pub requests_of : Format → List ℕ → List Request
+requests_of format numbers = table format numbers ∷ infer format numbers ∷ requests_of_some format numbers
 
 -- the one that a word is the keyword of
-unfoldable pub read_request : List ℕ → Form → List ℕ → Option Request
-read_request word form numbers = find (λ request. bytes_eq word (keyword request)) (requests_of form numbers)
+unfoldable pub read_request : List ℕ → Format → List ℕ → Option Request
+read_request word format numbers = find (λ request. bytes_eq word (keyword request)) (requests_of format numbers)
 
 -- what the words of a line ask for
 unfoldable pub read_words : List (List ℕ) → Option Request
 read_words [] = None
 read_words (word ∷ []) = None
-read_words (word ∷ form ∷ words) = do
-  form ← read_form form
+read_words (word ∷ format ∷ words) = do
+  format ← read_format format
   numbers ← read_numbers words
-  read_request word form numbers
+  read_request word format numbers
 
 -- what a line asks for
 unfoldable pub read_line : List ℕ → Option Request

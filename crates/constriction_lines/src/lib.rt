@@ -5,4 +5,4 @@
 
 mod line;
 
-pub use crate::line::{Command, Form, cut, parse, parse_number};
+pub use crate::line::{Command, Format, cut, parse, parse_number};

@@ -4,16 +4,16 @@ ghost use Rattle.std.specs.Prelude.{◌≡◌, ◌==◌, ◌∷◌, ◌<◌, IfO
 ghost use Rattle.std.specs.List.{slice_split};
 ghost use Rattle.std.specs.Option.{option_copied, option_map};
 ghost use Rattle.std.specs.Str.{bytes_eq};
-ghost use Rattle.constriction_lines.specs.Grammar.{Request, Spells, form_of, view};
+ghost use Rattle.constriction_lines.specs.Grammar.{Request, Spells, format_of, view};
 ghost use Rattle.constriction_lines.specs.Parts.{parts_of, first_and_others, only_number};
-ghost use Rattle.constriction_lines.specs.Reading.{read_form, read_line};
+ghost use Rattle.constriction_lines.specs.Reading.{read_format, read_line};
 ghost use Rattle.constriction_lines.specs.Reading.{read_number, read_numbers, read_request};
 
 use std::alloc::{AllocError, Global};
 
 /// The type of the probabilities of a model, and its precision.
 #[derive(Clone, Copy, Debug, PartialEq, Eq)]
-pub enum Form {
+pub enum Format {
     /// `u8/6`: probabilities are `u8`, and they sum to `2^6`.
     U8Precision6,
     /// `u8/8`: probabilities are `u8`, and they sum to `2^8`.
@@ -25,46 +25,46 @@ pub enum Form {
 /// What a line asks for.
 #[derive(Debug, Drop)]
 pub enum Command {
-    /// `table FORM W..`: all rows of the weights.
+    /// `table FORMAT W..`: all rows of the weights.
     Table {
-        form: Form,
+        format: Format,
         weights: Vec<u64>,
     },
-    /// `infer FORM W..`: all rows of the weights and one more, which is what they leave.
+    /// `infer FORMAT W..`: all rows of the weights and one more, which is what they leave.
     Infer {
-        form: Form,
+        format: Format,
         weights: Vec<u64>,
     },
-    /// `quantile FORM Q W..`: the row of a quantile.
+    /// `quantile FORMAT Q W..`: the row of a quantile.
     Quantile {
-        form: Form,
+        format: Format,
         quantile: u64,
         weights: Vec<u64>,
     },
-    /// `symbol FORM S W..`: the row of a symbol.
+    /// `symbol FORMAT S W..`: the row of a symbol.
     Symbol {
-        form: Form,
+        format: Format,
         symbol: u64,
         weights: Vec<u64>,
     },
-    /// `uniform FORM N`: all rows of the uniform model of the symbols `0..range`.
+    /// `uniform FORMAT N`: all rows of the uniform model of the symbols `0..range`.
     Uniform {
-        form: Form,
+        format: Format,
         range: u64,
     },
 }
 
 impl Command {
-    /// The form that the line names.
-    pub fn form(&self) -> Form
-        ensures { result ≡ form_of (view self.now) }
+    /// The format that the line names.
+    pub fn format(&self) -> Format
+        ensures { result ≡ format_of (view self.now) }
     {
         match self {
-            Command::Table { form, .. } => *form,
-            Command::Infer { form, .. } => *form,
-            Command::Quantile { form, .. } => *form,
-            Command::Symbol { form, .. } => *form,
-            Command::Uniform { form, .. } => *form,
+            Command::Table { format, .. } => *format,
+            Command::Infer { format, .. } => *format,
+            Command::Quantile { format, .. } => *format,
+            Command::Symbol { format, .. } => *format,
+            Command::Uniform { format, .. } => *format,
         }
     }
 }
@@ -113,19 +113,19 @@ pub fn parse_number(word: &[u8]) -> Option<u64>
     Some(value)
 }
 
-/// The form that a word names.
-#[tactic(auto, unfolding(crate::specs::Reading::read_form))]
-fn parse_form(word: &[u8]) -> Option<Form>
-    ensures { result ≡ read_form word.now }
+/// The format that a word names.
+#[tactic(auto, unfolding(crate::specs::Reading::read_format))]
+fn parse_format(word: &[u8]) -> Option<Format>
+    ensures { result ≡ read_format word.now }
 {
     if word == b"u8/6".as_slice() {
-        return Some(Form::U8Precision6);
+        return Some(Format::U8Precision6);
     }
     if word == b"u8/8".as_slice() {
-        return Some(Form::U8Precision8);
+        return Some(Format::U8Precision8);
     }
     if word == b"u16/12".as_slice() {
-        return Some(Form::U16Precision12);
+        return Some(Format::U16Precision12);
     }
     None
 }
@@ -185,30 +185,30 @@ fn parse_only_number(text: Option<&[u8]>) -> Option<u64>
     }
 }
 
-/// What a keyword asks for with a form and the rest of a line.
+/// What a keyword asks for with a format and the rest of a line.
 #[tactic(auto, unfolding(crate::specs::Reading::read_request))]
 fn parse_command(
     alloc: Global,
     keyword: &[u8],
-    form: Form,
+    format: Format,
     text: Option<&[u8]>,
 ) -> Result<Option<Command>, AllocError>
     ensures { IfOk result (λ found. option_map view found
-        ≡ option_and_then (read_request keyword.now form) (read_numbers (parts_of 32 (option_copied text.entry)))) }
+        ≡ option_and_then (read_request keyword.now format) (read_numbers (parts_of 32 (option_copied text.entry)))) }
 {
     if keyword == b"table".as_slice() {
         return match parse_numbers(alloc, text)? {
-            Some(weights) => Ok(Some(Command::Table { form, weights })),
+            Some(weights) => Ok(Some(Command::Table { format, weights })),
             None => Ok(None),
         };
     }
     if keyword == b"infer".as_slice() {
         return match parse_numbers(alloc, text)? {
-            Some(weights) => Ok(Some(Command::Infer { form, weights })),
+            Some(weights) => Ok(Some(Command::Infer { format, weights })),
             None => Ok(None),
         };
     }
-    parse_other_command(alloc, keyword, form, text)
+    parse_other_command(alloc, keyword, format, text)
 }
 
 /// The same of a keyword that is neither `table` nor `infer`.
@@ -216,18 +216,18 @@ fn parse_command(
 fn parse_other_command(
     alloc: Global,
     keyword: &[u8],
-    form: Form,
+    format: Format,
     text: Option<&[u8]>,
 ) -> Result<Option<Command>, AllocError>
     requires no_table { bytes_eq keyword.now (codes "table") ≡ false }
     requires no_infer { bytes_eq keyword.now (codes "infer") ≡ false }
     ensures { IfOk result (λ found. option_map view found
-        ≡ option_and_then (read_request keyword.now form) (read_numbers (parts_of 32 (option_copied text.entry)))) }
+        ≡ option_and_then (read_request keyword.now format) (read_numbers (parts_of 32 (option_copied text.entry)))) }
 {
     if keyword == b"quantile".as_slice() {
         return match parse_first_and_others(alloc, text)? {
             Some((quantile, weights)) => Ok(Some(Command::Quantile {
-                form,
+                format,
                 quantile,
                 weights,
             })),
@@ -237,7 +237,7 @@ fn parse_other_command(
     if keyword == b"symbol".as_slice() {
         return match parse_first_and_others(alloc, text)? {
             Some((symbol, weights)) => Ok(Some(Command::Symbol {
-                form,
+                format,
                 symbol,
                 weights,
             })),
@@ -246,7 +246,7 @@ fn parse_other_command(
     }
     if keyword == b"uniform".as_slice() {
         return match parse_only_number(text) {
-            Some(range) => Ok(Some(Command::Uniform { form, range })),
+            Some(range) => Ok(Some(Command::Uniform { format, range })),
             None => Ok(None),
         };
     }
@@ -262,8 +262,8 @@ fn parse_line(alloc: Global, line: &[u8]) -> Result<Option<Command>, AllocError>
         return Ok(None);
     };
     let (word, numbers) = cut(text, SPACE);
-    match parse_form(word) {
-        Some(form) => parse_command(alloc, keyword, form, numbers),
+    match parse_format(word) {
+        Some(format) => parse_command(alloc, keyword, format, numbers),
         None => Ok(None),
     }
 }

@@ -1,4 +1,4 @@
--- Filling a table row by row.
+-- Filling a cdf row by row.
 use Rattle.std.specs.Prelude.{◌≡◌, ℕ, ◌+◌, ◌-◌, ◌%◌, ◌^◌, ◌<◌, ◌≤◌, ◌⊎◌, Bool, true, false, List, [], ◌∷◌, ◌++◌, length, map, sum, All, Option, Some, None, Result, Ok, Err, IfOk}
 use Rattle.std.proofs.Common.{suc, zero, refl, ap, sym, ◌∙◌, arith, subst, inl, inr}
 use Rattle.std.proofs.Math.Nat.{mod-eq_of_lt, mod_self}
@@ -10,7 +10,7 @@ use Rattle.std.specs.Iterator.{Yields}
 use Rattle.constriction_model.specs.Acceptance.{IsAccepted, completed}
 use Rattle.constriction_stored_rows.specs.Stored.{lefts_from}
 use Rattle.constriction_stored_rows.specs.Filling.{IsRowEnd, IsFilled}
-use Rattle.constriction_stored_rows.specs.Ends.{FillsAll, IsNoLast, IsNoneInferred, AndTotal, IsTabled, IsTableOf, IsNoTable}
+use Rattle.constriction_stored_rows.specs.Ends.{FillsAll, IsNoLast, IsNoneInferred, AndTotal, IsCdfBegun, IsCdfOf, IsNoCdf}
 
 lefts_from-push : (l : ℕ) (ws : List ℕ) (w : ℕ) → lefts_from l (ws ++ w ∷ []) ≡ lefts_from l ws ++ (l + sum ws) ∷ []
 lefts_from-push l [] w = ap (λ x. x ∷ []) (omega arith)
@@ -29,13 +29,13 @@ module _ {W : Type 0} (whole : W → ℕ) (bits precision : ℕ) where
     below = rw e up;
   }
 
-  pub filled-more : (ws table : List W) (left w : W) (end : Option W) → IsFilled whole bits precision ws table (Some left)
-      → IsRowEnd whole bits precision left w end → IsFilled whole bits precision (ws ++ w ∷ []) (table ++ left ∷ []) end
-  filled-more ws table left w end f r = record {
+  pub filled-more : (ws cdf : List W) (left w : W) (end : Option W) → IsFilled whole bits precision ws cdf (Some left)
+      → IsRowEnd whole bits precision left w end → IsFilled whole bits precision (ws ++ w ∷ []) (cdf ++ left ∷ []) end
+  filled-more ws cdf left w end f r = record {
     positive = rw map-append (All-push (λ x. 0 < x) (map whole ws) (whole w) f.positive r.positive);
     fit = rw map-append (All-push (λ x. x < 2 ^ bits) (map whole ws) (whole w) f.fit r.fits);
     lefts =
-        map-append whole table (left ∷ []) ∙ ap (λ xs. xs ++ whole left ∷ []) f.lefts
+        map-append whole cdf (left ∷ []) ∙ ap (λ xs. xs ++ whole left ∷ []) f.lefts
         ∙ ap (λ x. lefts_from 0 (map whole ws) ++ x ∷ []) (let e : whole left ≡ 0 + sum (map whole ws) = omega (arith, f.is) in e)
         ∙ sym (lefts_from-push 0 (map whole ws) (whole w)) ∙ ap (lefts_from 0) (sym (map-append whole ws (w ∷ [])));
     is =
@@ -71,23 +71,23 @@ module _ {W : Type 0} (whole : W → ℕ) (bits precision : ℕ) where
       (Contains-append_left _ (map whole more) (whole w) (Contains-push (map whole ws) (whole w))) in
       elim why [ inl none ↦ omega arith | inr much ↦ omega (arith, accepted-sum infer xs a) ]
 
-  pub good-given : (ws table : List W) → IsFilled whole bits precision ws table None
-      → IsAccepted bits precision (map whole ws) × (map whole table ≡ lefts_from 0 (map whole ws))
-  good-given ws table f = (record { tiles = record { positive = f.positive; total = sym f.is }; fit = f.fit }, f.lefts)
+  pub good-given : (ws cdf : List W) → IsFilled whole bits precision ws cdf None
+      → IsAccepted bits precision (map whole ws) × (map whole cdf ≡ lefts_from 0 (map whole ws))
+  good-given ws cdf f = (record { tiles = record { positive = f.positive; total = sym f.is }; fit = f.fit }, f.lefts)
 
-  pub bad-wide : (ws table : List W) (left : W) → IsFilled whole bits precision ws table (Some left)
+  pub bad-wide : (ws cdf : List W) (left : W) → IsFilled whole bits precision ws cdf (Some left)
       → 2 ^ bits + whole left ≤ 2 ^ precision
       → ¬ (IsAccepted bits precision (completed precision true (map whole ws)))
-  bad-wide ws table left f wide a =
+  bad-wide ws cdf left f wide a =
       let last : 2 ^ precision - sum (map whole ws) < 2 ^ bits =
       All-contains (λ x. x < 2 ^ bits) _ _ a.fit (Contains-push (map whole ws) (2 ^ precision - sum (map whole ws))) in
       omega (arith, f.is)
 
-  pub good-inferred : (ws table : List W) (left : W) → IsFilled whole bits precision ws table (Some left)
+  pub good-inferred : (ws cdf : List W) (left : W) → IsFilled whole bits precision ws cdf (Some left)
       → 2 ^ precision < 2 ^ bits + whole left
       → IsAccepted bits precision (completed precision true (map whole ws))
-      × (map whole (table ++ left ∷ []) ≡ lefts_from 0 (completed precision true (map whole ws)))
-  good-inferred ws table left f narrow =
+      × (map whole (cdf ++ left ∷ []) ≡ lefts_from 0 (completed precision true (map whole ws)))
+  good-inferred ws cdf left f narrow =
       let xs : List ℕ = map whole ws in
       let last : ℕ = 2 ^ precision - sum xs in
       let up : 0 < 2 ^ precision - sum xs = omega (arith, f.is, f.below) in
@@ -101,7 +101,7 @@ module _ {W : Type 0} (whole : W → ℕ) (bits precision : ℕ) where
               };
           fit = All-push (λ x. x < 2 ^ bits) xs (2 ^ precision - sum xs) f.fit low;
         },
-        map-append whole table (left ∷ []) ∙ ap (λ ys. ys ++ whole left ∷ []) f.lefts
+        map-append whole cdf (left ∷ []) ∙ ap (λ ys. ys ++ whole left ∷ []) f.lefts
             ∙ ap (λ x. lefts_from 0 xs ++ x ∷ []) (let e : whole left ≡ 0 + sum xs = omega (arith, f.is) in e)
             ∙ sym (lefts_from-push 0 xs (2 ^ precision - sum xs)),
       )
@@ -162,14 +162,14 @@ module _ {W : Type 0} (whole : W → ℕ) (bits precision : ℕ) where
   ]
 
   -- no weight that is inferred after these
-  pub bad-none_inferred : (infer : Bool) (ws table : List W) (left : W) (room : ℕ) → IsFilled whole bits precision ws table (Some left)
+  pub bad-none_inferred : (infer : Bool) (ws cdf : List W) (left : W) (room : ℕ) → IsFilled whole bits precision ws cdf (Some left)
       → whole left + room + 1 ≡ 2 ^ precision → IsNoneInferred bits room infer
       → ¬ (IsAccepted bits precision (completed precision infer (map whole ws)))
-  bad-none_inferred infer ws table left room f all why = elim why [
+  bad-none_inferred infer ws cdf left room f all why = elim why [
     | inl given ↦ rw given (λ a. omega (arith, a.tiles.total, f.is, all))
     | inr wide ↦
         let inferred : infer ≡ true = wide.0 in
-        rw inferred (bad-wide ws table left f (omega (arith, all, wide.1)))
+        rw inferred (bad-wide ws cdf left f (omega (arith, all, wide.1)))
   ]
 
 -- a weight and the word one below it, which wraps to the greatest word where the weight is 0
@@ -198,11 +198,11 @@ room_below left room all bits is narrow = omega arith
 pub end_below : (left weight room all bits : ℕ) → left + room + 1 ≡ all → all ≤ bits → weight ≤ room → left + weight < bits
 end_below left weight room all bits is narrow less = omega arith
 
--- a table is ended with the total
-pub ended : {W : Type 0} (whole : W → ℕ) (lefts filled table : List W) (total : W) (is : ℕ) (numbers : List ℕ)
-    → filled ≡ lefts → table ≡ filled ++ total ∷ [] → whole total ≡ is → map whole lefts ≡ numbers
-    → map whole table ≡ numbers ++ is ∷ []
-ended whole lefts filled table total is numbers f t e l =
+-- a cdf is ended with the total
+pub ended : {W : Type 0} (whole : W → ℕ) (lefts filled cdf : List W) (total : W) (is : ℕ) (numbers : List ℕ)
+    → filled ≡ lefts → cdf ≡ filled ++ total ∷ [] → whole total ≡ is → map whole lefts ≡ numbers
+    → map whole cdf ≡ numbers ++ is ∷ []
+ended whole lefts filled cdf total is numbers f t e l =
     ap (map whole) t ∙ map-append whole filled (total ∷ []) ∙ rw (f, e, l) refl
 
 -- one more call
@@ -211,54 +211,54 @@ pub yields-more : {S A : Type 0} (steps : S → Option A → S → Type 0) (s : 
 yields-more steps s [] t x u e h = (u, (let P : _ → Type 0 = λ v. steps v (Some x) u in subst P (sym e) h), refl)
 yields-more steps s (y ∷ xs) t x u (j, k, r) h = (j, k, yields-more steps j xs t x u r h)
 
-pub tabled-none : {S W : Type 0} (steps : S → Option W → S → Type 0) (it : S) (whole : W → ℕ) (bits precision : ℕ) (table : List W)
-    (left : W) (room : ℕ) → table ≡ [] → whole left ≡ 0 → room + 1 ≡ 2 ^ precision
-    → IsTabled steps it whole bits precision table it left room
-tabled-none steps it whole bits precision table left room empty least all = record {
+pub begun-none : {S W : Type 0} (steps : S → Option W → S → Type 0) (it : S) (whole : W → ℕ) (bits precision : ℕ) (cdf : List W)
+    (left : W) (room : ℕ) → cdf ≡ [] → whole left ≡ 0 → room + 1 ≡ 2 ^ precision
+    → IsCdfBegun steps it whole bits precision cdf it left room
+begun-none steps it whole bits precision cdf left room empty least all = record {
   weights = [];
   given = refl;
   filled = rw empty (filled-none whole bits precision left least (omega arith));
   rest = omega arith;
 }
 
-module _ {S W : Type 0} (steps : S → Option W → S → Type 0) (it : S) (whole : W → ℕ) (bits precision : ℕ) (table : List W) (s : S)
-    (left : W) (room : ℕ) (t : IsTabled steps it whole bits precision table s left room) where
+module _ {S W : Type 0} (steps : S → Option W → S → Type 0) (it : S) (whole : W → ℕ) (bits precision : ℕ) (cdf : List W) (s : S)
+    (left : W) (room : ℕ) (t : IsCdfBegun steps it whole bits precision cdf s left room) where
   -- one row more
-  pub tabled-more : (table' : List W) (s' : S) (w next : W) (room' : ℕ) → table' ≡ table ++ left ∷ [] → steps s (Some w) s'
+  pub begun-more : (cdf' : List W) (s' : S) (w next : W) (room' : ℕ) → cdf' ≡ cdf ++ left ∷ [] → steps s (Some w) s'
       → 2 ^ precision ≤ 2 ^ bits → (0 < whole w) × (whole w ≤ room) → whole next ≡ whole left + whole w → room' ≡ room - whole w
-      → IsTabled steps it whole bits precision table' s' next room'
-  tabled-more table' s' w next room' pushed sw narrow some end rest = record {
+      → IsCdfBegun steps it whole bits precision cdf' s' next room'
+  begun-more cdf' s' w next room' pushed sw narrow some end rest = record {
     weights = t.weights ++ w ∷ [];
     given = yields-more steps it t.weights s w s' t.given sw;
     filled =
         rw pushed
-        (filled-more whole bits precision t.weights table left w (Some next) t.filled
+        (filled-more whole bits precision t.weights cdf left w (Some next) t.filled
         (row-within whole bits precision left w next room t.rest narrow some.0 some.1 end));
     rest = omega (arith, t.rest, some.1, end, rest);
   }
 
   -- the last row, of a given weight
-  pub tabled-given : (infer : Bool) (table' all : List W) (s' s'' : S) (w : W) → table' ≡ table ++ left ∷ [] → steps s (Some w) s'
-      → FillsAll bits (whole w) room infer × steps s' None s'' → AndTotal whole bits precision table' all
-      → IsTableOf steps it whole bits precision infer all
-  tabled-given infer table' all s' s'' w pushed sw fills end =
+  pub begun-given : (infer : Bool) (cdf' all : List W) (s' s'' : S) (w : W) → cdf' ≡ cdf ++ left ∷ [] → steps s (Some w) s'
+      → FillsAll bits (whole w) room infer × steps s' None s'' → AndTotal whole bits precision cdf' all
+      → IsCdfOf steps it whole bits precision infer all
+  begun-given infer cdf' all s' s'' w pushed sw fills end =
       let given : infer ≡ false = fills.0.given in
-      let good = good-given whole bits precision (t.weights ++ w ∷ []) (table ++ left ∷ [])
-      (filled-more whole bits precision t.weights table left w None t.filled
+      let good = good-given whole bits precision (t.weights ++ w ∷ []) (cdf ++ left ∷ [])
+      (filled-more whole bits precision t.weights cdf left w None t.filled
       (row-last whole bits precision left w room infer t.rest fills.0)) in (
         t.weights ++ w ∷ [],
         (s'', (s', yields-more steps it t.weights s w s' t.given sw, fills.1)),
         rw given (
           good.0,
-          ended whole (table ++ left ∷ []) table' all end.0 (2 ^ precision % 2 ^ bits)
+          ended whole (cdf ++ left ∷ []) cdf' all end.0 (2 ^ precision % 2 ^ bits)
               (lefts_from 0 (map whole (t.weights ++ w ∷ []))) pushed end.1 end.2 good.1,
         ),
       )
 
-  pub tabled-bad_given : (infer : Bool) (s' s'' : S) (w : W) → steps s (Some w) s'
+  pub begun-bad_given : (infer : Bool) (s' s'' : S) (w : W) → steps s (Some w) s'
       → IsNoLast (whole w) room infer ⊎ ((room < whole w) × (more : W) × steps s' (Some more) s'')
-      → IsNoTable steps it whole bits precision infer
-  tabled-bad_given infer s' s'' w sw why =
+      → IsNoCdf steps it whole bits precision infer
+  begun-bad_given infer s' s'' w sw why =
       let given = yields-more steps it t.weights s w s' t.given sw in
       elim why [
         | inl bad ↦ inr (
@@ -280,26 +280,26 @@ module _ {S W : Type 0} (steps : S → Option W → S → Type 0) (it : S) (whol
       ]
 
   -- the last row, of the inferred weight
-  pub tabled-inferred : (infer : Bool) (all : List W) (s' : S) → steps s None s' → (infer ≡ true) × (room + 1 < 2 ^ bits)
-      → AndTotal whole bits precision (table ++ left ∷ []) all → IsTableOf steps it whole bits precision infer all
-  tabled-inferred infer all s' none word end =
+  pub begun-inferred : (infer : Bool) (all : List W) (s' : S) → steps s None s' → (infer ≡ true) × (room + 1 < 2 ^ bits)
+      → AndTotal whole bits precision (cdf ++ left ∷ []) all → IsCdfOf steps it whole bits precision infer all
+  begun-inferred infer all s' none word end =
       let inferred : infer ≡ true = word.0 in
-      let good = good-inferred whole bits precision t.weights table left t.filled (omega (arith, t.rest, word.1)) in (
+      let good = good-inferred whole bits precision t.weights cdf left t.filled (omega (arith, t.rest, word.1)) in (
         t.weights,
         (s', (s, t.given, none)),
         rw inferred (
           good.0,
-          ended whole (table ++ left ∷ []) (table ++ left ∷ []) all end.0 (2 ^ precision % 2 ^ bits)
+          ended whole (cdf ++ left ∷ []) (cdf ++ left ∷ []) all end.0 (2 ^ precision % 2 ^ bits)
               (lefts_from 0 (completed precision true (map whole t.weights))) refl end.1 end.2 good.1,
         ),
       )
 
-  pub tabled-bad_inferred : (infer : Bool) (s' : S) → steps s None s' → IsNoneInferred bits room infer
-      → IsNoTable steps it whole bits precision infer
-  tabled-bad_inferred infer s' none why = inl (
+  pub begun-bad_inferred : (infer : Bool) (s' : S) → steps s None s' → IsNoneInferred bits room infer
+      → IsNoCdf steps it whole bits precision infer
+  begun-bad_inferred infer s' none why = inl (
     t.weights,
     (s', (s, t.given, none)),
-    bad-none_inferred whole bits precision infer t.weights table left room t.filled t.rest why,
+    bad-none_inferred whole bits precision infer t.weights cdf left room t.filled t.rest why,
   )
 
 -- what a good answer ensures ensures what follows from it

@@ -12,5 +12,5 @@ pub mod SlotCounting
 pub mod SlotFilling
 pub mod SlotLemmas
 pub mod StoredSteps
-pub mod TableLemmas
+pub mod CdfLemmas
 pub mod TileLemmas

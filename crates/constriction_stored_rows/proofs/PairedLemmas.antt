@@ -102,8 +102,8 @@ pub paired-of_rows : {Symbol Word : Type 0} (whole : Word → ℕ) (bits precisi
     (entries : List (Word × Symbol)) → RowsTile bits precision rows → HoldsRows whole entries rows
     → IsStored bits precision (map (λ x. whole x.0) entries) × (rows_paired whole precision entries ≡ rows)
 paired-of_rows whole bits precision rows entries t h =
-    let table = stored-of_rows bits precision rows t in
-    (rw h.1 table.0, rw (h.0, h.1) table.1)
+    let cdf = stored-of_rows bits precision rows t in
+    (rw h.1 cdf.0, rw (h.0, h.1) cdf.1)
 
 -- one row more is held by one entry more
 pub held-more : {Word Symbol : Type 0} (whole : Word → ℕ) (entries : List (Word × Symbol)) (rows : List (Row Symbol)) (r : Row Symbol) (left : Word)

@@ -85,7 +85,7 @@ module _ {S T Symbol W Stored : Type 0} (steps : S → Option Symbol → S → T
   read-none stored left room h z r = record {
     symbols = [];
     weights = [];
-    table = [];
+    cdf = [];
     from_symbols = refl;
     from_weights = refl;
     as_many = refl;
@@ -130,14 +130,14 @@ module _ {S T Symbol W Stored : Type 0} (steps : S → Option Symbol → S → T
     read-more stored' u' v' w next room' sw t narrow some end rest = record {
       symbols = r.symbols ++ t.symbol ∷ [];
       weights = r.weights ++ w ∷ [];
-      table = r.table ++ left ∷ [];
+      cdf = r.cdf ++ left ∷ [];
       from_symbols = yields-more steps it r.symbols u t.symbol u' r.from_symbols t.came;
       from_weights = yields-more wsteps jt r.weights v w v' r.from_weights sw;
       as_many = omega (arith, r.as_many, length_push r.symbols t.symbol, length_push r.weights w);
       distinct = took-distinct u' stored' (whole w) t;
       held = took-held u' stored' w t;
       filled =
-          filled-more whole bits precision r.weights r.table left w (Some next) r.filled
+          filled-more whole bits precision r.weights r.cdf left w (Some next) r.filled
           (row-within whole bits precision left w next room r.rest narrow some.0 some.1 end);
       rest = omega (arith, r.rest, some.1, end, rest);
     }
@@ -249,7 +249,7 @@ module _ {S T Symbol W Stored : Type 0} (steps : S → Option Symbol → S → T
       -- no weight that is inferred
       pub bad-inferred : (v' : T) → wsteps v None v' → IsNoneInferred bits room infer → Bad
       bad-inferred v' sw why =
-          bad-weights v' sw (bad-none_inferred whole bits precision infer r.weights r.table left room r.filled r.rest why)
+          bad-weights v' sw (bad-none_inferred whole bits precision infer r.weights r.cdf left room r.filled r.rest why)
 
     -- one symbol more than weights
     pub bad-many : (u' u'' : S) (v' v'' : T) (w : W) (s s' : Symbol) → wsteps v (Some w) v' → wsteps v' None v'' → steps u (Some s) u'
@@ -321,8 +321,8 @@ module _ {S T Symbol W Stored : Type 0} (steps : S → Option Symbol → S → T
       (v'', (v', yields-more wsteps jt r.weights v w v' r.from_weights sw, sw')),
       (
         record {
-          tile = (good-given whole bits precision (r.weights ++ w ∷ []) (r.table ++ left ∷ [])
-              (filled-more whole bits precision r.weights r.table left w None r.filled
+          tile = (good-given whole bits precision (r.weights ++ w ∷ []) (r.cdf ++ left ∷ [])
+              (filled-more whole bits precision r.weights r.cdf left w None r.filled
               (row-last whole bits precision left w room false r.rest fills))).0;
           as_many =
               length_push r.symbols t.symbol ∙ ap (λ n. n + 1) r.as_many ∙ sym (length_push r.weights w) ∙ sym
@@ -344,7 +344,7 @@ module _ {S T Symbol W Stored : Type 0} (steps : S → Option Symbol → S → T
           (v', (v, r.from_weights, sw)),
           (
             record {
-              tile = (good-inferred whole bits precision r.weights r.table left r.filled (omega (arith, r.rest, narrow))).0;
+              tile = (good-inferred whole bits precision r.weights r.cdf left r.filled (omega (arith, r.rest, narrow))).0;
               as_many =
                   length_push r.symbols t.symbol ∙ ap (λ n. n + 1) (r.as_many ∙ sym (length-map r.weights whole))
                   ∙ sym (length_push (map whole r.weights) (2 ^ precision - sum (map whole r.weights)));

@@ -1,55 +1,55 @@
--- Walking through the rows of a stored table, from either end.
+-- Walking through the rows of a stored cdf, from either end.
 use Rattle.std.proofs.Common.{◌≡◌, ℕ, ◌+◌, ◌-◌, ◌<◌, ◌≤◌, List, [], ◌∷◌, ◌++◌, length, get_or, map, refl, ◌∙◌, arith}
 use Rattle.std.proofs.lemmas.List.{length-map}
 use Rattle.constriction_model.specs.Rows.{contiguous_rows}
-use Rattle.constriction_stored_rows.specs.Stored.{IsTable, lefts_in, weights_of}
+use Rattle.constriction_stored_rows.specs.Stored.{IsCdf, lefts_in, weights_of}
 use Rattle.constriction_stored_rows.specs.StoredRowLemmas.{stored-at}
 use Rattle.constriction_stored_rows.specs.Stored.{rows_stored}
 use Rattle.constriction_model.proofs.StepLemmas.{all-between, first-between, last-between, length-between}
-use Rattle.constriction_stored_rows.proofs.TableLemmas.{table-long, table-rows}
+use Rattle.constriction_stored_rows.proofs.CdfLemmas.{cdf-long, cdf-rows}
 
--- the same of the rows of a stored table
-module _ (bits precision : ℕ) (table : List ℕ) (t : IsTable bits precision table) where
-  pub length-stored : (i j : ℕ) → j < length table → length (rows_stored precision table i j) ≡ j - i
+-- the same of the rows of a stored cdf
+module _ (bits precision : ℕ) (cdf : List ℕ) (t : IsCdf bits precision cdf) where
+  pub length-stored : (i j : ℕ) → j < length cdf → length (rows_stored precision cdf i j) ≡ j - i
   length-stored i j h =
-      length-between (contiguous_rows (weights_of precision (lefts_in table))) i j (omega (arith, table-rows bits precision table t))
+      length-between (contiguous_rows (weights_of precision (lefts_in cdf))) i j (omega (arith, cdf-rows bits precision cdf t))
 
   -- the row at an index
-  pub stored-here : (i l w : ℕ) → i + 1 < length table
-      → l ≡ get_or (lefts_in table) i 0 → w ≡ get_or (weights_of precision (lefts_in table)) i 0
-      → get_or (contiguous_rows (weights_of precision (lefts_in table))) i (record { symbol = i; left = l; weight = w })
+  pub stored-here : (i l w : ℕ) → i + 1 < length cdf
+      → l ≡ get_or (lefts_in cdf) i 0 → w ≡ get_or (weights_of precision (lefts_in cdf)) i 0
+      → get_or (contiguous_rows (weights_of precision (lefts_in cdf))) i (record { symbol = i; left = l; weight = w })
       ≡ record { symbol = i; left = l; weight = w }
   stored-here i l w h le we =
-      stored-at bits precision (lefts_in table) t.stored i _ (omega (arith, table-long bits precision table t)) ∙ rw (← le, ← we) refl
+      stored-at bits precision (lefts_in cdf) t.stored i _ (omega (arith, cdf-long bits precision cdf t)) ∙ rw (← le, ← we) refl
 
-  pub first-stored : (i j l w : ℕ) → i < j → j < length table
-      → l ≡ get_or (lefts_in table) i 0 → w ≡ get_or (weights_of precision (lefts_in table)) i 0
-      → rows_stored precision table i j ≡ record { symbol = i; left = l; weight = w } ∷ rows_stored precision table (i + 1) j
+  pub first-stored : (i j l w : ℕ) → i < j → j < length cdf
+      → l ≡ get_or (lefts_in cdf) i 0 → w ≡ get_or (weights_of precision (lefts_in cdf)) i 0
+      → rows_stored precision cdf i j ≡ record { symbol = i; left = l; weight = w } ∷ rows_stored precision cdf (i + 1) j
   first-stored i j l w h k le we =
-      first-between (contiguous_rows (weights_of precision (lefts_in table))) i j _ h (omega (arith, table-rows bits precision table t))
+      first-between (contiguous_rows (weights_of precision (lefts_in cdf))) i j _ h (omega (arith, cdf-rows bits precision cdf t))
       (stored-here i l w (omega arith) le we)
 
-  pub last-stored : (i j l w : ℕ) → i < j → j < length table
-      → l ≡ get_or (lefts_in table) (j - 1) 0 → w ≡ get_or (weights_of precision (lefts_in table)) (j - 1) 0
-      → rows_stored precision table i j
-      ≡ rows_stored precision table i (j - 1) ++ record { symbol = j - 1; left = l; weight = w } ∷ []
+  pub last-stored : (i j l w : ℕ) → i < j → j < length cdf
+      → l ≡ get_or (lefts_in cdf) (j - 1) 0 → w ≡ get_or (weights_of precision (lefts_in cdf)) (j - 1) 0
+      → rows_stored precision cdf i j
+      ≡ rows_stored precision cdf i (j - 1) ++ record { symbol = j - 1; left = l; weight = w } ∷ []
   last-stored i j l w h k le we =
-      last-between (contiguous_rows (weights_of precision (lefts_in table))) i j _ h (omega (arith, table-rows bits precision table t))
+      last-between (contiguous_rows (weights_of precision (lefts_in cdf))) i j _ h (omega (arith, cdf-rows bits precision cdf t))
       (stored-here (j - 1) l w (omega arith) le we)
 
--- at first all rows of a stored table of words are left
+-- at first all rows of a stored cdf of words are left
 pub all-stored : {Word : Type 0} (whole : Word → ℕ) (bits precision : ℕ) (words lent : List Word)
-    → IsTable bits precision (map whole words) → lent ≡ words
+    → IsCdf bits precision (map whole words) → lent ≡ words
     → rows_stored precision (map whole lent) 0 (length lent - 1) ≡ contiguous_rows (weights_of precision (lefts_in (map whole words)))
 all-stored whole bits precision words lent t e =
     let long : length words - 1 ≡ length (contiguous_rows (weights_of precision (lefts_in (map whole words)))) =
-    omega (arith, table-rows bits precision (map whole words) t, length-map words whole) in
+    omega (arith, cdf-rows bits precision (map whole words) t, length-map words whole) in
     rw e (all-between (contiguous_rows (weights_of precision (lefts_in (map whole words)))) (length words - 1) long)
 
--- a table that was lent is a table, and not empty
-pub lent-table : {Word : Type 0} (whole : Word → ℕ) (bits precision : ℕ) (words lent : List Word)
-    → IsTable bits precision (map whole words) → lent ≡ words
-    → IsTable bits precision (map whole lent) × (0 ≤ length lent - 1) × (length lent - 1 < length lent) × (1 ≤ length lent)
-lent-table whole bits precision words lent t e =
-    let some : 1 ≤ length words = omega (arith, table-rows bits precision (map whole words) t, length-map words whole) in
+-- a cdf that was lent is a cdf, and not empty
+pub lent-cdf : {Word : Type 0} (whole : Word → ℕ) (bits precision : ℕ) (words lent : List Word)
+    → IsCdf bits precision (map whole words) → lent ≡ words
+    → IsCdf bits precision (map whole lent) × (0 ≤ length lent - 1) × (length lent - 1 < length lent) × (1 ≤ length lent)
+lent-cdf whole bits precision words lent t e =
+    let some : 1 ≤ length words = omega (arith, cdf-rows bits precision (map whole words) t, length-map words whole) in
     rw e (t, omega arith, omega arith, some)

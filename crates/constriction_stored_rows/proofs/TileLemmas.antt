@@ -6,12 +6,12 @@ use Rattle.std.proofs.lemmas.List.{length-map}
 use Rattle.constriction_model.specs.Probe.{IsSearchable, IsLastAtMost, IsRowIndexOf}
 use Rattle.constriction_model.specs.Searching.{TellsRows}
 use Rattle.constriction_model.specs.Rows.{Row, RowsTile, contiguous_rows}
-use Rattle.constriction_stored_rows.specs.Stored.{IsStored, IsTable, lefts_in, weights_of}
+use Rattle.constriction_stored_rows.specs.Stored.{IsStored, IsCdf, lefts_in, weights_of}
 use Rattle.constriction_stored_rows.specs.StoredLemmas.{stored-row, stored-of_rows}
 use Rattle.constriction_stored_rows.specs.StoredRowLemmas.{stored-tiles}
 use Rattle.constriction_stored_rows.specs.SymbolRowLemmas.{symbol-row_at}
 use Rattle.constriction_stored_rows.proofs.ProbeLemmas.{stored-increases, stored-lefts, stored-searchable, symbol-tells, symbol-found}
-use Rattle.constriction_stored_rows.proofs.TableLemmas.{table-rows}
+use Rattle.constriction_stored_rows.proofs.CdfLemmas.{cdf-rows}
 
 -- rows that tile: the row at an index
 pub record IsTile {S : Type 0} (precision : ℕ) (rows : List (Row S)) (i : ℕ) (r : Row S) : Type 0 where
@@ -65,7 +65,7 @@ module _ {S : Type 0} (bits precision : ℕ) (rows : List (Row S)) (t : RowsTile
     (λ q i below f. let same : 0 + i ≡ i = omega arith in rw same (tiles-found q i below f)),
   )
 
-  -- what a table of slots is made from
+  -- what a cdf of slots is made from
   pub tiles-lefts : (lefts : List ℕ) → lefts ≡ map (λ r. r.left) rows
       → IsSearchable lefts 0 × ((i : ℕ) → i < length lefts → get_or lefts i 0 < 2 ^ precision)
   tiles-lefts lefts e = rw e (
@@ -73,23 +73,23 @@ module _ {S : Type 0} (bits precision : ℕ) (rows : List (Row S)) (t : RowsTile
     (λ i h. let row = stored-row bits precision (map (λ r. r.left) rows) i tiles-stored h in omega (arith, row.positive, row.within)),
   )
 
--- the same of a stored table: what was lent of it are its left cumulatives
-module _ (bits precision : ℕ) (table lefts : List ℕ) (t : IsTable bits precision table) (e : lefts ≡ lefts_in table) where
-  pub table-lefts : lefts ≡ map (λ r. r.left) (contiguous_rows (weights_of precision (lefts_in table)))
-  table-lefts = e ∙ sym (stored-lefts bits precision (lefts_in table) t.stored)
+-- the same of a stored cdf: what was lent of it are its left cumulatives
+module _ (bits precision : ℕ) (cdf lefts : List ℕ) (t : IsCdf bits precision cdf) (e : lefts ≡ lefts_in cdf) where
+  pub cdf-lefts : lefts ≡ map (λ r. r.left) (contiguous_rows (weights_of precision (lefts_in cdf)))
+  cdf-lefts = e ∙ sym (stored-lefts bits precision (lefts_in cdf) t.stored)
 
-  pub table-probed : TellsRows (contiguous_rows (weights_of precision (lefts_in table))) (λ _. ⊤) 0 lefts
+  pub cdf-probed : TellsRows (contiguous_rows (weights_of precision (lefts_in cdf))) (λ _. ⊤) 0 lefts
       × ((q : ℕ) → IsSearchable lefts q)
       × ((q i : ℕ) → q < 2 ^ precision → IsLastAtMost lefts q i
-      → IsRowIndexOf (contiguous_rows (weights_of precision (lefts_in table))) q (0 + i))
-  table-probed =
-      tiles-probed bits precision (contiguous_rows (weights_of precision (lefts_in table)))
-      (stored-tiles bits precision (lefts_in table) t.stored) lefts table-lefts
+      → IsRowIndexOf (contiguous_rows (weights_of precision (lefts_in cdf))) q (0 + i))
+  cdf-probed =
+      tiles-probed bits precision (contiguous_rows (weights_of precision (lefts_in cdf)))
+      (stored-tiles bits precision (lefts_in cdf) t.stored) lefts cdf-lefts
 
-  -- the row of a quantile is one of the table
-  pub table-index : (q i : ℕ) → q < 2 ^ precision → IsLastAtMost lefts q i
-      → IsRowIndexOf (contiguous_rows (weights_of precision (lefts_in table))) q i × (i + 1 < length table)
-  table-index q i below f =
+  -- the row of a quantile is one of the cdf
+  pub cdf-index : (q i : ℕ) → q < 2 ^ precision → IsLastAtMost lefts q i
+      → IsRowIndexOf (contiguous_rows (weights_of precision (lefts_in cdf))) q i × (i + 1 < length cdf)
+  cdf-index q i below f =
       let same : 0 + i ≡ i = omega arith in
-      let found : IsRowIndexOf (contiguous_rows (weights_of precision (lefts_in table))) q i = rw same at (table-probed.2 q i below f) in
-      (found, omega (arith, found.in_bounds, table-rows bits precision table t))
+      let found : IsRowIndexOf (contiguous_rows (weights_of precision (lefts_in cdf))) q i = rw same at (cdf-probed.2 q i below f) in
+      (found, omega (arith, found.in_bounds, cdf-rows bits precision cdf t))

@@ -1,4 +1,4 @@
--- How a list of weights ends, and the table that it fills. No public clause cites this module.
+-- How a list of weights ends, and the cdf that it fills. No public clause cites this module.
 use Rattle.std.specs.Prelude.{◌≡◌, ℕ, ◌+◌, ◌%◌, ◌^◌, ◌<◌, ◌⊎◌, Bool, true, false, List, [], ◌∷◌, ◌++◌, map, Option, Some}
 use Rattle.std.specs.Iterator.{Yields}
 use Rattle.constriction_model.specs.Acceptance.{completed, IsAccepted}
@@ -21,24 +21,24 @@ IsNoLast weight room infer = (weight ≡ 0) ⊎ (room + 1 < weight) ⊎ ((infer 
 abbrev pub IsNoneInferred : ℕ → ℕ → Bool → Type 0
 IsNoneInferred bits room infer = (infer ≡ false) ⊎ ((infer ≡ true) × (room + 1 ≡ 2 ^ bits))
 
--- the table, and after it the total
+-- the cdf, and after it the total
 abbrev pub AndTotal : {Word : Type 0} → (Word → ℕ) → ℕ → ℕ → List Word → List Word → Type 0
-AndTotal {Word} whole bits precision lefts table =
-    (total : Word) × (table ≡ lefts ++ total ∷ []) × (whole total ≡ 2 ^ precision % 2 ^ bits)
+AndTotal {Word} whole bits precision lefts cdf =
+    (total : Word) × (cdf ≡ lefts ++ total ∷ []) × (whole total ≡ 2 ^ precision % 2 ^ bits)
 
 module _ {S W : Type 0} (steps : S → Option W → S → Type 0) (it : S) (whole : W → ℕ) (bits precision : ℕ) where
-  -- the weights so far fill the table, and leave `room` quantiles after the one at `left`
-  pub record IsTabled (table : List W) (s : S) (left : W) (room : ℕ) : Type 0 where
+  -- the weights so far fill the cdf, and leave `room` quantiles after the one at `left`
+  pub record IsCdfBegun (cdf : List W) (s : S) (left : W) (room : ℕ) : Type 0 where
     pub weights : List W
     pub given : Yields steps it weights s
-    pub filled : IsFilled whole bits precision weights table (Some left)
+    pub filled : IsFilled whole bits precision weights cdf (Some left)
     pub rest : whole left + room + 1 ≡ 2 ^ precision
 
-  -- the iterator gave accepted weights, whose table this is
-  abbrev pub IsTableOf : Bool → List W → Type 0
-  IsTableOf infer table = GaveGood steps it (λ ws. IsAccepted bits precision (completed precision infer (map whole ws))
-      × (map whole table ≡ lefts_from 0 (completed precision infer (map whole ws)) ++ (2 ^ precision % 2 ^ bits) ∷ []))
+  -- the iterator gave accepted weights, whose cdf this is
+  abbrev pub IsCdfOf : Bool → List W → Type 0
+  IsCdfOf infer cdf = GaveGood steps it (λ ws. IsAccepted bits precision (completed precision infer (map whole ws))
+      × (map whole cdf ≡ lefts_from 0 (completed precision infer (map whole ws)) ++ (2 ^ precision % 2 ^ bits) ∷ []))
 
   -- the iterator gave weights that are not accepted, whatever would follow
-  abbrev pub IsNoTable : Bool → Type 0
-  IsNoTable infer = GaveBad steps it (λ ws. IsAccepted bits precision (completed precision infer (map whole ws)))
+  abbrev pub IsNoCdf : Bool → Type 0
+  IsNoCdf infer = GaveBad steps it (λ ws. IsAccepted bits precision (completed precision infer (map whole ws)))

@@ -17,12 +17,12 @@ pub record IsRowEnd {Word : Type 0} (whole : Word → ℕ) (bits precision : ℕ
   pub is : end_of whole precision end ≡ whole left + whole weight
   pub below : IfSome end (λ next. whole next < 2 ^ precision)
 
--- the table holds where the rows of these weights begin, and the next one would begin at `end`
-pub record IsFilled {Word : Type 0} (whole : Word → ℕ) (bits precision : ℕ) (weights : List Word) (table : List Word)
+-- the cdf holds where the rows of these weights begin, and the next one would begin at `end`
+pub record IsFilled {Word : Type 0} (whole : Word → ℕ) (bits precision : ℕ) (weights : List Word) (cdf : List Word)
     (end : Option Word) : Type 0 where
   pub positive : All (λ w. 0 < w) (map whole weights)
   pub fit : All (λ w. w < 2 ^ bits) (map whole weights)
-  pub lefts : map whole table ≡ lefts_from 0 (map whole weights)
+  pub lefts : map whole cdf ≡ lefts_from 0 (map whole weights)
   pub is : end_of whole precision end ≡ sum (map whole weights)
   pub below : IfSome end (λ next. whole next < 2 ^ precision)
 
@@ -35,7 +35,7 @@ HoldsRows whole entries rows =
 abbrev pub AreEntriesCloned : {Word Symbol : Type 0} → (Symbol → Symbol → Type 0) → List (Word × Symbol) → List (Word × Symbol) → Type 0
 AreEntriesCloned IsClone entries cloned = AllZip (λ e c. IsClone e.1 c.1 × (c.0 ≡ e.0)) entries cloned
 
--- a table finds for each symbol its entry in these rows, and nothing where it has none
+-- a map finds for each symbol its entry in these rows, and nothing where it has none
 abbrev pub HoldsEntries : {Symbol Entry : Type 0} → (Symbol → Symbol → Bool) → (Entry → ℕ × ℕ) → (Symbol → Option Entry) → List (Row Symbol)
     → Type 0
 HoldsEntries {Symbol} eq numbers found rows = (s : Symbol) → option_map numbers (found s) ≡ entry_of eq rows s

@@ -31,13 +31,13 @@ module _ {S T Symbol W Stored : Type 0} (steps : S → Option Symbol → S → T
   pub record IsRead (it : S) (jt : T) (stored : Stored) (u : S) (v : T) (left : W) (room : ℕ) : Type 0 where
     pub symbols : List Symbol
     pub weights : List W
-    pub table : List W
+    pub cdf : List W
     pub from_symbols : Yields steps it symbols u
     pub from_weights : Yields wsteps jt weights v
     pub as_many : length symbols ≡ length weights
     pub distinct : IsDistinct eq symbols
     pub held : holds stored (rows_of symbols (map whole weights))
-    pub filled : IsFilled whole bits precision weights table (Some left)
+    pub filled : IsFilled whole bits precision weights cdf (Some left)
     pub rest : whole left + room + 1 ≡ 2 ^ precision
 
   -- what both iterators gave is accepted, and its rows are stored

@@ -25,15 +25,15 @@ pub record IsStored (bits precision : ℕ) (lefts : List ℕ) : Type 0 where
   pub accepted : IsAccepted bits precision (weights_of precision lefts)
   pub in_order : lefts ≡ lefts_from 0 (weights_of precision lefts)
 
--- the left cumulatives of a table: all of it but its last number
+-- the left cumulatives of a cdf: all of it but its last number
 abbrev pub lefts_in : List ℕ → List ℕ
-lefts_in table = take (length table - 1) table
+lefts_in cdf = take (length cdf - 1) cdf
 
--- a table over words of so many bits: the left cumulatives of accepted weights, and after them the total, which wraps to 0 where it is
+-- a cdf over words of so many bits: the left cumulatives of accepted weights, and after them the total, which wraps to 0 where it is
 -- no word
-pub record IsTable (bits precision : ℕ) (table : List ℕ) : Type 0 where
-  pub stored : IsStored bits precision (lefts_in table)
-  pub ends : table ≡ lefts_in table ++ (2 ^ precision % 2 ^ bits) ∷ []
+pub record IsCdf (bits precision : ℕ) (cdf : List ℕ) : Type 0 where
+  pub stored : IsStored bits precision (lefts_in cdf)
+  pub ends : cdf ≡ lefts_in cdf ++ (2 ^ precision % 2 ^ bits) ∷ []
 
 -- the total over words of so many bits, which wraps to 0 where it is no word
 abbrev pub total_of : (bits precision : ℕ) → ℕ
@@ -61,9 +61,9 @@ pub record StandBeside (bits precision : ℕ) (lefts beside : List ℕ) : Type 0
 abbrev pub with_total : (bits precision : ℕ) → List ℕ → List ℕ
 with_total bits precision lefts = lefts ++ total_of bits precision ∷ []
 
--- the rows of a contiguous model with such a table, from one index up to another
+-- the rows of a contiguous model with such a cdf, from one index up to another
 abbrev pub rows_stored : ℕ → List ℕ → ℕ → ℕ → List (Row ℕ)
-rows_stored precision table from to = rows_between from to (contiguous_rows (weights_of precision (lefts_in table)))
+rows_stored precision cdf from to = rows_between from to (contiguous_rows (weights_of precision (lefts_in cdf)))
 
 -- the rows of a model that stores each row's left cumulative and symbol
 abbrev pub rows_paired : {Word Symbol : Type 0} → (Word → ℕ) → ℕ → List (Word × Symbol) → List (Row Symbol)

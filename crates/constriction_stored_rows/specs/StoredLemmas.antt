@@ -108,5 +108,5 @@ stored-of_rows bits precision rows t =
     let ws : List ℕ = map (λ r. r.weight) rows in
     let same : length ss ≡ length ws = length-map rows (λ r. r.symbol) ∙ sym (length-map rows (λ r. r.weight)) in
     let lefts : map (λ r. r.left) rows ≡ lefts_from 0 ws = ap (map (λ r. r.left)) t.in_order ∙ lefts-rows_from 0 ss ws same in
-    let table = stored-of bits precision (map (λ r. r.left) rows) ws lefts t.accepted in
-    (table.0, ap (rows_from 0 ss) table.1 ∙ sym t.in_order)
+    let cdf = stored-of bits precision (map (λ r. r.left) rows) ws lefts t.accepted in
+    (cdf.0, ap (rows_from 0 ss) cdf.1 ∙ sym t.in_order)

@@ -7,7 +7,7 @@ use constriction_model::{Probe, row_of_quantile, row_of_two};
 use constriction_numbers::WholeNumber;
 use std::marker::PhantomData;
 
-/// How the entries of a stored table tell their cumulatives.
+/// How the entries of a stored cdf tell their cumulatives.
 pub trait CdfEntry<Entry> {
     /// The words that cumulatives are.
     type Word: WholeNumber;

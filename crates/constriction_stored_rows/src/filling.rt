@@ -4,7 +4,7 @@ ghost use Rattle.std.specs.Prelude.{◌≡◌, ◌+◌, ◌%◌, ◌^◌, ◌<�
 ghost use Rattle.std.specs.Vec.{vec_len, vec_capacity};
 ghost use Rattle.std.specs.Iterator.{IsFinite, IsFiniteIterable};
 ghost use Rattle.constriction_model.specs.Acceptance.{completed, IsAccepted};
-ghost use Rattle.constriction_stored_rows.specs.Ends.{FillsAll, IsNoLast, IsNoneInferred, AndTotal, IsTableOf, IsNoTable};
+ghost use Rattle.constriction_stored_rows.specs.Ends.{FillsAll, IsNoLast, IsNoneInferred, AndTotal, IsCdfOf, IsNoCdf};
 ghost use Rattle.constriction_stored_rows.specs.Given.{GaveGood, GaveBad};
 ghost use Rattle.constriction_stored_rows.specs.Stored.{lefts_from};
 
@@ -166,83 +166,83 @@ fn is_end_of_given<P: WholeNumber, I: Iterator<Item = P>>(
     rest.next().is_none()
 }
 
-/// The table and after it the total, where all quantiles are filled.
+/// The cdf and after it the total, where all quantiles are filled.
 #[inline(always)]
 fn ended<P: WholeNumber, const PRECISION: usize>(
-    table: Vec<P>,
+    cdf: Vec<P>,
     is_whole: bool,
 ) -> Result<Vec<P>, ModelError>
     requires positive { 0 < PRECISION }
     requires fits { PRECISION ≤ P.BITS }
-    ensures ok { IfOk result (λ v. (is_whole ≡ true) × AndTotal P.whole P.BITS PRECISION table.items v.items) }
+    ensures ok { IfOk result (λ v. (is_whole ≡ true) × AndTotal P.whole P.BITS PRECISION cdf.items v.items) }
     ensures invalid { result ≡ Err ModelError.InvalidTable → is_whole ≡ false }
 {
     if !is_whole {
         return Err(ModelError::InvalidTable);
     }
-    Ok(and_item(table, P::wrapping_pow2(PRECISION))?)
+    Ok(and_item(cdf, P::wrapping_pow2(PRECISION))?)
 }
 
-/// The table, the row of the inferred weight and the total, where that weight is a word.
+/// The cdf, the row of the inferred weight and the total, where that weight is a word.
 #[inline(always)]
 fn ended_inferred<P: WholeNumber, const PRECISION: usize>(
-    table: Vec<P>,
+    cdf: Vec<P>,
     left: P,
     is_word: bool,
 ) -> Result<Vec<P>, ModelError>
     requires positive { 0 < PRECISION }
     requires fits { PRECISION ≤ P.BITS }
-    ensures ok { IfOk result (λ v. (is_word ≡ true) × AndTotal P.whole P.BITS PRECISION (table.items ++ left ∷ []) v.items) }
+    ensures ok { IfOk result (λ v. (is_word ≡ true) × AndTotal P.whole P.BITS PRECISION (cdf.items ++ left ∷ []) v.items) }
     ensures invalid { result ≡ Err ModelError.InvalidTable → is_word ≡ false }
 {
     if !is_word {
         return Err(ModelError::InvalidTable);
     }
-    ended::<P, PRECISION>(and_item(table, left)?, true)
+    ended::<P, PRECISION>(and_item(cdf, left)?, true)
 }
 
-/// Fills an empty table from the weights of an iterator.
+/// Fills an empty cdf from the weights of an iterator.
 #[inline(always)]
 fn filled<P: WholeNumber, I: Iterator<Item = P>, const PRECISION: usize>(
-    mut table: Vec<P>,
+    mut cdf: Vec<P>,
     rest: &mut I,
     infer_last: bool,
 ) -> Result<Vec<P>, ModelError>
     requires positive { 0 < PRECISION }
     requires fits { PRECISION ≤ P.BITS }
-    requires empty { table.items ≡ [] }
+    requires empty { cdf.items ≡ [] }
     // No more room than accepted weights need was asked for.
-    requires room { vec_capacity table ≤ 2 ^ PRECISION + 1 }
+    requires room { vec_capacity cdf ≤ 2 ^ PRECISION + 1 }
     requires goes { I.can_next rest.old }
     requires ends { IsFinite (I.remaining rest.old) }
-    ensures ok { IfOk result (λ v. IsTableOf I.next_gives rest.old P.whole P.BITS PRECISION infer_last v.items) }
+    ensures ok { IfOk result (λ v. IsCdfOf I.next_gives rest.old P.whole P.BITS PRECISION infer_last v.items) }
     ensures invalid { result ≡ Err ModelError.InvalidTable
-        → IsNoTable I.next_gives rest.old P.whole P.BITS PRECISION infer_last }
+        → IsNoCdf I.next_gives rest.old P.whole P.BITS PRECISION infer_last }
 {
     let one = P::greatest(1);
     let mut left = P::least();
     let mut room = P::greatest(PRECISION);
     'rows: while let Some(weight) = rest.next() {
-        if table.len() == table.capacity() {
-            let mut full = table;
+        if cdf.len() == cdf.capacity() {
+            let mut full = cdf;
             make_room(&mut full)?;
-            table = full;
+            cdf = full;
         }
-        table.push_reserved(left);
+        cdf.push_reserved(left);
         if leaves_none(weight, one, room) {
             return ended::<P, PRECISION>(
-                table,
+                cdf,
                 is_end_of_given(rest, weight, one, room, infer_last),
             );
         }
         left = left.plus(weight);
         room = room.minus(weight);
     }
-    ended_inferred::<P, PRECISION>(table, left, is_inferred_last(room, infer_last))
+    ended_inferred::<P, PRECISION>(cdf, left, is_inferred_last(room, infer_last))
 }
 
-/// The table of these weights, the last of which may be inferred.
-pub fn table_of<P: WholeNumber, I: IntoIterator<Item = P>, const PRECISION: usize>(
+/// The cdf of these weights, the last of which may be inferred.
+pub fn cdf_of<P: WholeNumber, I: IntoIterator<Item = P>, const PRECISION: usize>(
     alloc: Global,
     weights: I,
     infer_last: bool,
@@ -260,9 +260,9 @@ pub fn table_of<P: WholeNumber, I: IntoIterator<Item = P>, const PRECISION: usiz
         IsAccepted P.BITS PRECISION (completed PRECISION infer_last (map P.whole ws))) }
 {
     let mut rest = weights.into_iter();
-    let table = room_for(
+    let cdf = room_for(
         alloc,
         words_needed::<PRECISION>(rest.size_hint().0, infer_last),
     );
-    filled::<P, I::IntoIter, PRECISION>(table, &mut rest, infer_last)
+    filled::<P, I::IntoIter, PRECISION>(cdf, &mut rest, infer_last)
 }

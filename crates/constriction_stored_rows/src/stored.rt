@@ -1,9 +1,9 @@
-//! The rows of a table of left cumulatives.
+//! The rows of a cdf of left cumulatives.
 
 ghost use Rattle.std.specs.Prelude.{◌≡◌, ◌+◌, ◌<◌, ◌≤◌, length, map, slice_index, slice_index_or};
 ghost use Rattle.constriction_model.specs.Model.{row_of, LiesWithin};
 ghost use Rattle.constriction_model.specs.Rows.{contiguous_rows};
-ghost use Rattle.constriction_stored_rows.specs.Stored.{IsTable, lefts_in, weights_of};
+ghost use Rattle.constriction_stored_rows.specs.Stored.{IsCdf, lefts_in, weights_of};
 
 use constriction_model::Weight;
 use constriction_numbers::WholeNumber;
@@ -12,7 +12,7 @@ use constriction_numbers::WholeNumber;
 #[inline]
 pub fn row_at<P: WholeNumber, const PRECISION: usize>(cdf: &[P], index: usize) -> (P, Weight<P>)
     requires fits { PRECISION ≤ P.BITS }
-    requires table { IsTable P.BITS PRECISION (map P.whole cdf.now) }
+    requires cdf { IsCdf P.BITS PRECISION (map P.whole cdf.now) }
     requires in_bounds { index + 1 < length cdf.now }
     ensures left { P.whole result.0 ≡ slice_index (lefts_in (map P.whole cdf.now)) index }
     ensures weight { P.whole (P.base result.1)
@@ -29,7 +29,7 @@ pub fn contiguous_row_at<P: WholeNumber, const PRECISION: usize>(
     index: usize,
 ) -> (usize, P, Weight<P>)
     requires fits { PRECISION ≤ P.BITS }
-    requires table { IsTable P.BITS PRECISION (map P.whole cdf.now) }
+    requires cdf { IsCdf P.BITS PRECISION (map P.whole cdf.now) }
     requires in_bounds { index + 1 < length cdf.now }
     ensures row { slice_index_or (contiguous_rows (weights_of PRECISION (lefts_in (map P.whole cdf.now)))) index
         (row_of P.whole P.base result) ≡ row_of P.whole P.base result }

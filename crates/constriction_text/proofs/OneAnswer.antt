@@ -3,7 +3,7 @@ use Rattle.std.proofs.Common.{refl, subst, ◌≡◌, ℕ, Bool, true, false, co
 use Rattle.std.specs.List.{AllZip, concat}
 use Rattle.constriction_model.specs.Acceptance.{completed}
 use Rattle.constriction_model.specs.Rows.{Row, contiguous_rows}
-use Rattle.constriction_lines.specs.declared.line.Form.{Form}
+use Rattle.constriction_lines.specs.declared.line.Format.{Format}
 use Rattle.constriction_text.specs.Answering.{are_accepted, text_of_model, answer_of, reply_to, answer_to, answers_of}
 use Rattle.constriction_lines.specs.Grammar.{Request, table, infer, quantile, symbol, uniform, bits_of, precision_of, Spells}
 use Rattle.constriction_lines.specs.Reading.{read_line}
@@ -17,19 +17,19 @@ one_request line one other first second = some_inj one other (sym (line_read lin
 
 -- ---- the text of a model
 
-module _ (form : Form) (weights : List ℕ) (of_rows : List (Row ℕ) → List ℕ) where
-  model_text-at : (b : Bool) → are_accepted (bits_of form) (precision_of form) weights ≡ b
-      → IsTextOfModel form weights of_rows (cond b (of_rows (contiguous_rows weights)) (codes "invalid\n"))
-  model_text-at true e = inl (are_accepted-to (bits_of form) (precision_of form) weights e, refl)
+module _ (format : Format) (weights : List ℕ) (of_rows : List (Row ℕ) → List ℕ) where
+  model_text-at : (b : Bool) → are_accepted (bits_of format) (precision_of format) weights ≡ b
+      → IsTextOfModel format weights of_rows (cond b (of_rows (contiguous_rows weights)) (codes "invalid\n"))
+  model_text-at true e = inl (are_accepted-to (bits_of format) (precision_of format) weights e, refl)
   model_text-at false e = inr (
-    λ accepted. let wrong : true ≡ false = sym (are_accepted-from (bits_of form) (precision_of form) weights accepted) ∙ e in cc,
+    λ accepted. let wrong : true ≡ false = sym (are_accepted-from (bits_of format) (precision_of format) weights accepted) ∙ e in cc,
     refl,
   )
 
-  model_text : IsTextOfModel form weights of_rows (text_of_model (bits_of form) (precision_of form) weights of_rows)
-  model_text = model_text-at (are_accepted (bits_of form) (precision_of form) weights) refl
+  model_text : IsTextOfModel format weights of_rows (text_of_model (bits_of format) (precision_of format) weights of_rows)
+  model_text = model_text-at (are_accepted (bits_of format) (precision_of format) weights) refl
 
-  model_text-alone : (one other : List ℕ) → IsTextOfModel form weights of_rows one → IsTextOfModel form weights of_rows other
+  model_text-alone : (one other : List ℕ) → IsTextOfModel format weights of_rows one → IsTextOfModel format weights of_rows other
       → one ≡ other
   model_text-alone one other first second =
       elim first [
@@ -47,19 +47,19 @@ module _ (form : Form) (weights : List ℕ) (of_rows : List (Row ℕ) → List �
 
 answered : (request : Request) → Answers request (answer_of request)
 unfolding answer_of
-answered (table form weights) = model_text form weights rows_text
-answered (infer form weights) = model_text form (completed (precision_of form) true weights) rows_text
-answered (quantile form q weights) = model_text form weights (λ rows. quantile_text (precision_of form) rows q)
-answered (symbol form s weights) = model_text form weights (λ rows. symbol_text rows s)
-answered (uniform form n) = refl
+answered (table format weights) = model_text format weights rows_text
+answered (infer format weights) = model_text format (completed (precision_of format) true weights) rows_text
+answered (quantile format q weights) = model_text format weights (λ rows. quantile_text (precision_of format) rows q)
+answered (symbol format s weights) = model_text format weights (λ rows. symbol_text rows s)
+answered (uniform format n) = refl
 
 answered-alone : (request : Request) (one other : List ℕ) → Answers request one → Answers request other → one ≡ other
-answered-alone (table form weights) one other = model_text-alone form weights rows_text one other
-answered-alone (infer form weights) one other = model_text-alone form (completed (precision_of form) true weights) rows_text one other
-answered-alone (quantile form q weights) one other =
-    model_text-alone form weights (λ rows. quantile_text (precision_of form) rows q) one other
-answered-alone (symbol form s weights) one other = model_text-alone form weights (λ rows. symbol_text rows s) one other
-answered-alone (uniform form n) one other = λ first second. first ∙ sym second
+answered-alone (table format weights) one other = model_text-alone format weights rows_text one other
+answered-alone (infer format weights) one other = model_text-alone format (completed (precision_of format) true weights) rows_text one other
+answered-alone (quantile format q weights) one other =
+    model_text-alone format weights (λ rows. quantile_text (precision_of format) rows q) one other
+answered-alone (symbol format s weights) one other = model_text-alone format weights (λ rows. symbol_text rows s) one other
+answered-alone (uniform format n) one other = λ first second. first ∙ sym second
 
 -- ---- the answer to a line
 

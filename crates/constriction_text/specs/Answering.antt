@@ -19,13 +19,13 @@ text_of_model bits precision weights text =
 
 -- the text that answers a request; only `infer` infers the last weight
 unfoldable pub answer_of : Request → List ℕ
-answer_of (table form weights) = text_of_model (bits_of form) (precision_of form) weights rows_text
-answer_of (infer form weights) =
-    text_of_model (bits_of form) (precision_of form) (completed (precision_of form) true weights) rows_text
-answer_of (quantile form q weights) =
-    text_of_model (bits_of form) (precision_of form) weights (λ rows. quantile_text (precision_of form) rows q)
-answer_of (symbol form s weights) = text_of_model (bits_of form) (precision_of form) weights (λ rows. symbol_text rows s)
-answer_of (uniform form n) = uniform_text (precision_of form) n
+answer_of (table format weights) = text_of_model (bits_of format) (precision_of format) weights rows_text
+answer_of (infer format weights) =
+    text_of_model (bits_of format) (precision_of format) (completed (precision_of format) true weights) rows_text
+answer_of (quantile format q weights) =
+    text_of_model (bits_of format) (precision_of format) weights (λ rows. quantile_text (precision_of format) rows q)
+answer_of (symbol format s weights) = text_of_model (bits_of format) (precision_of format) weights (λ rows. symbol_text rows s)
+answer_of (uniform format n) = uniform_text (precision_of format) n
 
 -- the answer to what a line asks for
 abbrev pub reply_to : Option Request → List ℕ

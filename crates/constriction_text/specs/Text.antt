@@ -6,7 +6,7 @@ use Rattle.std.specs.Option.{option_map_or}
 use Rattle.constriction_model.specs.Acceptance.{IsAccepted, completed}
 use Rattle.constriction_model.specs.Rows.{Row, contiguous_rows, uniform_rows, entry_of}
 use Rattle.constriction_model.specs.Scanning.{holds}
-use Rattle.constriction_lines.specs.declared.line.Form.{Form}
+use Rattle.constriction_lines.specs.declared.line.Format.{Format}
 use Rattle.constriction_lines.specs.Grammar.{Request, table, infer, quantile, symbol, uniform, bits_of, precision_of, Spells}
 
 -- parts, of which a last empty one is dropped
@@ -46,18 +46,18 @@ uniform_text precision n =
     if nat_le 2 n && nat_le n (2 ^ precision) then rows_text (uniform_rows precision n) else codes "range\n"
 
 -- the text is that of the rows of a model of these weights, where one accepts them, and else says that they are invalid
-abbrev pub IsTextOfModel : Form → List ℕ → (List (Row ℕ) → List ℕ) → List ℕ → Type 0
-IsTextOfModel form weights text_of_rows text =
-    (IsAccepted (bits_of form) (precision_of form) weights × (text ≡ text_of_rows (contiguous_rows weights)))
-    ⊎ (¬ (IsAccepted (bits_of form) (precision_of form) weights) × (text ≡ codes "invalid\n"))
+abbrev pub IsTextOfModel : Format → List ℕ → (List (Row ℕ) → List ℕ) → List ℕ → Type 0
+IsTextOfModel format weights text_of_rows text =
+    (IsAccepted (bits_of format) (precision_of format) weights × (text ≡ text_of_rows (contiguous_rows weights)))
+    ⊎ (¬ (IsAccepted (bits_of format) (precision_of format) weights) × (text ≡ codes "invalid\n"))
 
 -- the text answers the request; only `infer` infers the last weight
 abbrev pub Answers : Request → List ℕ → Type 0
-Answers (table form weights) = IsTextOfModel form weights rows_text
-Answers (infer form weights) = IsTextOfModel form (completed (precision_of form) true weights) rows_text
-Answers (quantile form q weights) = IsTextOfModel form weights (λ rows. quantile_text (precision_of form) rows q)
-Answers (symbol form s weights) = IsTextOfModel form weights (λ rows. symbol_text rows s)
-Answers (uniform form n) = λ text. text ≡ uniform_text (precision_of form) n
+Answers (table format weights) = IsTextOfModel format weights rows_text
+Answers (infer format weights) = IsTextOfModel format (completed (precision_of format) true weights) rows_text
+Answers (quantile format q weights) = IsTextOfModel format weights (λ rows. quantile_text (precision_of format) rows q)
+Answers (symbol format s weights) = IsTextOfModel format weights (λ rows. symbol_text rows s)
+Answers (uniform format n) = λ text. text ≡ uniform_text (precision_of format) n
 
 -- the text answers the request that the line spells, or the line spells none and the text says so
 abbrev pub IsAnswer : List ℕ → List ℕ → Type 0

@@ -4,12 +4,12 @@ ghost use Rattle.std.specs.Prelude.{◌≡◌, ◌<◌, ◌≤◌, ◌++◌, fal
 ghost use Rattle.std.specs.Prelude.{IfOk, OnOk, string_bytes};
 ghost use Rattle.constriction_model.specs.Acceptance.{completed};
 ghost use Rattle.constriction_text.specs.Answering.{answer_of, answer_to, text_of_model};
-ghost use Rattle.constriction_lines.specs.Grammar.{bits_of, form_of, precision_of, view};
+ghost use Rattle.constriction_lines.specs.Grammar.{bits_of, format_of, precision_of, view};
 ghost use Rattle.constriction_text.specs.Text.{IsAnswer, rows_text, quantile_text, symbol_text, uniform_text};
 
 use crate::line_model::{LineModel, UniformRows, model_of, push_row, push_rows};
 use constriction_categorical::ContiguousCategoricalEntropyModel;
-use constriction_lines::{Command, Form, parse};
+use constriction_lines::{Command, Format, parse};
 use constriction_model::UniformModel;
 use std::alloc::{AllocError, Global};
 
@@ -117,7 +117,7 @@ fn push_uniform<U: UniformRows<PRECISION>, const PRECISION: usize>(
     push_rows::<U, PRECISION>(text, U::of_range(range as usize))
 }
 
-/// Adds the answer to a command whose form has these models.
+/// Adds the answer to a command whose format has these models.
 #[tactic(auto, unfolding(crate::specs::Answering::answer_of))]
 fn push_at<M: LineModel<PRECISION>, U: UniformRows<PRECISION>, const PRECISION: usize>(
     alloc: Global,
@@ -128,8 +128,8 @@ fn push_at<M: LineModel<PRECISION>, U: UniformRows<PRECISION>, const PRECISION: 
     requires fits { PRECISION ≤ M.Word.BITS }
     requires fits_uniform { PRECISION ≤ U.BITS }
     requires small { PRECISION < 64 }
-    requires bits { M.Word.BITS ≡ bits_of (form_of (view command.now)) }
-    requires precision { PRECISION ≡ precision_of (form_of (view command.now)) }
+    requires bits { M.Word.BITS ≡ bits_of (format_of (view command.now)) }
+    requires precision { PRECISION ≡ precision_of (format_of (view command.now)) }
     ensures { OnOk result (string_bytes text.new ≡ string_bytes text.old
         ++ answer_of (view command.now)) }
 {
@@ -154,7 +154,7 @@ fn push_at<M: LineModel<PRECISION>, U: UniformRows<PRECISION>, const PRECISION: 
     }
 }
 
-/// The models of weights over words of a form.
+/// The models of weights over words of a format.
 type Weighted<Word, const PRECISION: usize> = ContiguousCategoricalEntropyModel<
     Word,
     Vec<Word>,
@@ -166,14 +166,14 @@ fn push_command(alloc: Global, text: &mut String, command: &Command) -> Result<(
     ensures { OnOk result (string_bytes text.new ≡ string_bytes text.old
         ++ answer_of (view command.now)) }
 {
-    match command.form() {
-        Form::U8Precision6 => push_at::<Weighted<u8, 6>, UniformModel<u8, 6>, 6>(
+    match command.format() {
+        Format::U8Precision6 => push_at::<Weighted<u8, 6>, UniformModel<u8, 6>, 6>(
             alloc, text, command,
         ),
-        Form::U8Precision8 => push_at::<Weighted<u8, 8>, UniformModel<u8, 8>, 8>(
+        Format::U8Precision8 => push_at::<Weighted<u8, 8>, UniformModel<u8, 8>, 8>(
             alloc, text, command,
         ),
-        Form::U16Precision12 => push_at::<Weighted<u16, 12>, UniformModel<u16, 12>, 12>(
+        Format::U16Precision12 => push_at::<Weighted<u16, 12>, UniformModel<u16, 12>, 12>(
             alloc, text, command,
         ),
     }

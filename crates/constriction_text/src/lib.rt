@@ -13,4 +13,4 @@ mod program;
 pub use crate::answers::answer;
 pub use crate::fault::RunFault;
 pub use crate::program::{first_line, read_input, run, write_whole};
-pub use constriction_lines::{Command, Form, parse};
+pub use constriction_lines::{Command, Format, parse};

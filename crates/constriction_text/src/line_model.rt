@@ -1,4 +1,4 @@
-//! The models that answer lines: the words of a form, the models of weights over them, and the lines of a model's rows.
+//! The models that answer lines: the words of a format, the models of weights over them, and the lines of a model's rows.
 //!
 //! What a text has of words are numbers, so the traits here speak of numbers alone: a proof over them carries no laws of words.
 
@@ -21,8 +21,8 @@ use constriction_numbers::WholeNumber;
 use std::alloc::{AllocError, Global};
 use std::fmt::Write;
 
-/// A word that the probabilities of a form are: numbers become words, and words numbers.
-pub(crate) trait FormWord: WholeNumber {
+/// A word that the probabilities of a format are: numbers become words, and words numbers.
+pub(crate) trait FormatWord: WholeNumber {
     // The word of a number.
     ghost word_of: { ℕ → Self };
 
@@ -38,7 +38,7 @@ pub(crate) trait FormWord: WholeNumber {
     ghost word_of_law: { (n : ℕ) → n < 2 ^ Self.BITS → Self.whole (word_of n) ≡ n };
 }
 
-/// A word as narrowing alone sees it. Each [`FormWord`] is one: a proof over it carries no other laws.
+/// A word as narrowing alone sees it. Each [`FormatWord`] is one: a proof over it carries no other laws.
 pub(crate) trait NumberWord: Copy {
     // The number of a word.
     ghost whole: { Self → ℕ };
@@ -56,7 +56,7 @@ pub(crate) trait NumberWord: Copy {
     ghost word_of_law: { (n : ℕ) → n < 2 ^ BITS → whole (word_of n) ≡ n };
 }
 
-impl<Word: FormWord> NumberWord for Word {
+impl<Word: FormatWord> NumberWord for Word {
     ghost whole = { Word.whole };
 
     ghost BITS = { Word.BITS };
@@ -70,7 +70,7 @@ impl<Word: FormWord> NumberWord for Word {
     ghost word_of_law = { Word.word_of_law };
 }
 
-impl FormWord for u8 {
+impl FormatWord for u8 {
     ghost word_of = { λ n. n };
 
     fn narrowed(number: u64) -> u8 {
@@ -84,7 +84,7 @@ impl FormWord for u8 {
     ghost word_of_law = { λ n h. refl };
 }
 
-impl FormWord for u16 {
+impl FormatWord for u16 {
     ghost word_of = { λ n. n };
 
     fn narrowed(number: u64) -> u16 {
@@ -99,7 +99,7 @@ impl FormWord for u16 {
 }
 
 /// A model whose symbol table gives numbers, which is all that a text has of rows: a proof over it
-/// carries no laws of words. Each model of the symbols 0, 1, .. over the words of a form is one.
+/// carries no laws of words. Each model of the symbols 0, 1, .. over the words of a format is one.
 pub(crate) trait NumberRows<const PRECISION: usize> {
     /// The walk through the rows.
     type Table: Drop;
@@ -134,7 +134,7 @@ impl<M: IterableEntropyModel<PRECISION, Symbol = usize>, const PRECISION: usize>
     PRECISION,
 > for M
 where
-    M::Probability: FormWord,
+    M::Probability: FormatWord,
     M::SymbolTable: Drop,
 {
     type Table = M::SymbolTable;
@@ -263,7 +263,7 @@ pub(crate) fn model_of<M: LineModel<PRECISION>, const PRECISION: usize>(
     M::from_words(alloc, words, infer)
 }
 
-impl<Word: FormWord, const PRECISION: usize> LineModel<PRECISION>
+impl<Word: FormatWord, const PRECISION: usize> LineModel<PRECISION>
     for ContiguousCategoricalEntropyModel<Word, Vec<Word>, PRECISION> {
     type Word = Word;
 
@@ -318,7 +318,7 @@ pub(crate) trait UniformRows<const PRECISION: usize>: NumberRows<PRECISION> {
         ensures walks { Self.has_table };
 }
 
-impl<Word: FormWord, const PRECISION: usize> UniformRows<PRECISION>
+impl<Word: FormatWord, const PRECISION: usize> UniformRows<PRECISION>
     for UniformModel<Word, PRECISION> {
     ghost BITS = { Word.BITS };
 

@@ -6,9 +6,9 @@ use Rattle.std.specs.Result.{IfOk, OnOk}
 use Rattle.std.specs.Io.KnownBytes.{Appends, IsAtEnd}
 use Rattle.std.specs.Fmt.{digits}
 use Rattle.constriction_lines.specs.declared.line.Command.{Command}
-use Rattle.constriction_lines.specs.declared.line.Form.TheVariants.{U8Precision6, U8Precision8}
+use Rattle.constriction_lines.specs.declared.line.Format.TheVariants.{U8Precision6, U8Precision8}
 use Rattle.constriction_lines.specs.Grammar.{Request, table, uniform, view, IsNumber, Spells}
-use Rattle.constriction_lines.specs.Reading.{read_line, read_words, read_form, read_numbers, read_number, read_request}
+use Rattle.constriction_lines.specs.Reading.{read_line, read_words, read_format, read_numbers, read_number, read_request}
 use Rattle.constriction_text.specs.Runs.{limit, HasRead}
 use Rattle.constriction_text.specs.Text.{IsAnswer, IsTextOf}
 use Rattle.constriction_lines.proofs.Exactly.{spells_none}
@@ -21,15 +21,15 @@ parsed_none line (Ok (Some command)) none found = absurd (spells_none line none 
 parsed_none line (Err e) none found = tt
 
 pub two_ranges_none : read_line (codes "uniform u8/6 2 3") ≡ None
-unfolding read_line read_words read_form read_numbers read_number read_request
+unfolding read_line read_words read_format read_numbers read_number read_request
 two_ranges_none = refl
 
 pub two_spaces_none : read_line (codes "table  u8/6 64") ≡ None
-unfolding read_line read_words read_form read_numbers read_number read_request
+unfolding read_line read_words read_format read_numbers read_number read_request
 two_spaces_none = refl
 
 pub many_digits_none : read_line (codes "table u8/6 000000000000000000064") ≡ None
-unfolding read_line read_words read_form read_numbers read_number read_request
+unfolding read_line read_words read_format read_numbers read_number read_request
 many_digits_none = refl
 
 -- what was parsed is what the line spells, where it spells no other request

@@ -9,7 +9,7 @@ use crate::checks::{holds, same};
 use constriction_text::laws::{
     a_line_has_one_answer, a_line_spells_at_most_one_request, an_input_has_one_text,
 };
-use constriction_text::{Command, Form, RunFault, answer, parse, run};
+use constriction_text::{Command, Format, RunFault, answer, parse, run};
 use std::alloc::{AllocError, Global};
 use std::process::Abort;
 
@@ -43,7 +43,7 @@ fn of_many_digits(alloc: Global) -> Result<Option<Command>, AllocError>
 
 /// What a line that spells a request asks for: that request, as it spells no other one.
 fn of_a_range(alloc: Global) -> Result<Option<Command>, AllocError>
-    ensures { IfOk result (λ found. option_map view found ≡ Some (uniform Form.U8Precision8 3)) }
+    ensures { IfOk result (λ found. option_map view found ≡ Some (uniform Format.U8Precision8 3)) }
 {
     a_line_spells_at_most_one_request();
     parse(alloc, b"uniform u8/8 3")

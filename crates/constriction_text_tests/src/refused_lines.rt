@@ -3,30 +3,30 @@
 
 use crate::checks::{end_of_requests, same};
 use crate::runs::run_into;
-use constriction_text::{Command, Form, RunFault, answer, parse};
+use constriction_text::{Command, Format, RunFault, answer, parse};
 use std::alloc::{AllocError, Global};
 use std::process::Abort;
 
-/// A keyword, the form, the number that stands before the weights or alone, and the weights.
-type Asked<'a> = (&'static str, Form, Option<u64>, &'a [u64]);
+/// A keyword, the format, the number that stands before the weights or alone, and the weights.
+type Asked<'a> = (&'static str, Format, Option<u64>, &'a [u64]);
 
 /// What a command asks for.
 fn asked(command: &Command) -> Asked<'_> {
-    let form = command.form();
+    let format = command.format();
     match command {
-        Command::Table { weights, .. } => ("table", form, None, weights),
-        Command::Infer { weights, .. } => ("infer", form, None, weights),
+        Command::Table { weights, .. } => ("table", format, None, weights),
+        Command::Infer { weights, .. } => ("infer", format, None, weights),
         Command::Quantile {
             quantile,
             weights,
             ..
-        } => ("quantile", form, Some(*quantile), weights),
+        } => ("quantile", format, Some(*quantile), weights),
         Command::Symbol {
             symbol,
             weights,
             ..
-        } => ("symbol", form, Some(*symbol), weights),
-        Command::Uniform { range, .. } => ("uniform", form, Some(*range), &[]),
+        } => ("symbol", format, Some(*symbol), weights),
+        Command::Uniform { range, .. } => ("uniform", format, Some(*range), &[]),
     }
 }
 
@@ -45,26 +45,26 @@ const LINES: [(&[u8], Option<Asked<'static>>); 6] = [
         b"table u8/6 3 018 18446744073709551615",
         Some((
             "table",
-            Form::U8Precision6,
+            Format::U8Precision6,
             None,
             &[3, 18, 18446744073709551615],
         )),
     ),
     (
         b"infer u8/8 200",
-        Some(("infer", Form::U8Precision8, None, &[200])),
+        Some(("infer", Format::U8Precision8, None, &[200])),
     ),
     (
         b"quantile u8/6 21 64",
-        Some(("quantile", Form::U8Precision6, Some(21), &[64])),
+        Some(("quantile", Format::U8Precision6, Some(21), &[64])),
     ),
     (
         b"symbol u16/12 4",
-        Some(("symbol", Form::U16Precision12, Some(4), &[])),
+        Some(("symbol", Format::U16Precision12, Some(4), &[])),
     ),
     (
         b"uniform u8/8 3",
-        Some(("uniform", Form::U8Precision8, Some(3), &[])),
+        Some(("uniform", Format::U8Precision8, Some(3), &[])),
     ),
     (b"table u8/6 3 x", None),
 ];

@@ -1,19 +1,19 @@
 use Rattle.std.proofs.Common.{◌+◌, ◌<◌, length, map, arith}
 use Rattle.std.proofs.lemmas.List.{length-map}
 use Rattle.constriction_stored_rows.proofs.StoredSteps.{stored-here}
-use Rattle.constriction_stored_rows.proofs.TableLemmas.{table-row}
+use Rattle.constriction_stored_rows.proofs.CdfLemmas.{cdf-row}
 use Rattle.constriction_stored_rows.proofs.stored.contiguous_row_at.Goals as goal
 
 pub returns : goal.returns
 returns g c =
     let whole = g.P.WholeNumber.whole in
     let bits = g.P.WholeNumber.BITS in
-    let table = map whole c.args.cdf.now in
-    let within : c.args.index + 1 < length table = omega (arith, c.requires.in_bounds, length-map c.args.cdf.now whole) in
-    let row = table-row bits g.row.PRECISION table c.requires.table c.args.index within in
+    let cdf = map whole c.args.cdf.now in
+    let within : c.args.index + 1 < length cdf = omega (arith, c.requires.in_bounds, length-map c.args.cdf.now whole) in
+    let row = cdf-row bits g.row.PRECISION cdf c.requires.cdf c.args.index within in
     record {
       row =
-          stored-here bits g.row.PRECISION table c.requires.table c.args.index (whole c.row_at-left.result.0)
+          stored-here bits g.row.PRECISION cdf c.requires.cdf c.args.index (whole c.row_at-left.result.0)
           (whole (g.P.WholeNumber.base c.row_at-left.result.1)) within c.row_at-left.ensures.left c.row_at-left.ensures.weight;
       within = rw (c.row_at-left.ensures.left, c.row_at-left.ensures.weight) (row.positive, row.within);
     }

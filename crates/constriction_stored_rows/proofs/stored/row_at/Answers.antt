@@ -2,18 +2,18 @@ use Rattle.std.proofs.Common.{◌≡◌, ◌+◌, ◌<◌, length, get_or, map, 
 use Rattle.std.proofs.lemmas.List.{length-map}
 use Rattle.constriction_stored_rows.specs.Stored.{lefts_in, weights_of}
 use Rattle.constriction_stored_rows.specs.StoredLemmas.{read-whole}
-use Rattle.constriction_stored_rows.proofs.TableLemmas.{table-weight, table-row}
+use Rattle.constriction_stored_rows.proofs.CdfLemmas.{cdf-weight, cdf-row}
 use Rattle.constriction_stored_rows.proofs.stored.row_at.Goals as goal
 
 pub to_weight-requires : goal.to_weight-requires
 to_weight-requires g c =
     let whole = g.P.WholeNumber.whole in
     let words = c.args.cdf.now in
-    let table = map whole words in
-    let long : c.args.index + 1 < length table = omega (arith, c.requires.in_bounds, length-map words whole) in
-    let row = table-row _ g.row.PRECISION table c.requires.table c.args.index long in
-    let weight : whole c.wrapping_minus.result ≡ get_or (weights_of g.row.PRECISION (lefts_in table)) c.args.index 0 =
-    table-weight _ g.row.PRECISION table c.args.index _ _ _ c.requires.table c.requires.fits long
+    let cdf = map whole words in
+    let long : c.args.index + 1 < length cdf = omega (arith, c.requires.in_bounds, length-map words whole) in
+    let row = cdf-row _ g.row.PRECISION cdf c.requires.cdf c.args.index long in
+    let weight : whole c.wrapping_minus.result ≡ get_or (weights_of g.row.PRECISION (lefts_in cdf)) c.args.index 0 =
+    cdf-weight _ g.row.PRECISION cdf c.args.index _ _ _ c.requires.cdf c.requires.fits long
     (read-whole whole words c.args.index c.index-cdf-index.result (omega (arith, c.requires.in_bounds)) c.index-cdf-index.is)
     (read-whole whole words (c.args.index + 1) c.index-cdf-index-2.result c.requires.in_bounds c.index-cdf-index-2.is)
     c.wrapping_minus.ensures.range c.wrapping_minus.ensures.difference in
@@ -25,7 +25,7 @@ returns-clause-weight g c =
     let words = c.args.cdf.now in
     let long : c.args.index + 1 < length (map whole words) = omega (arith, c.requires.in_bounds, length-map words whole) in
     rw c.to_weight.ensures
-    (table-weight _ g.row.PRECISION (map whole words) c.args.index _ _ _ c.requires.table c.requires.fits long
+    (cdf-weight _ g.row.PRECISION (map whole words) c.args.index _ _ _ c.requires.cdf c.requires.fits long
     (read-whole whole words c.args.index c.index-cdf-index.result (omega (arith, c.requires.in_bounds)) c.index-cdf-index.is)
     (read-whole whole words (c.args.index + 1) c.index-cdf-index-2.result c.requires.in_bounds c.index-cdf-index-2.is)
     c.wrapping_minus.ensures.range c.wrapping_minus.ensures.difference)

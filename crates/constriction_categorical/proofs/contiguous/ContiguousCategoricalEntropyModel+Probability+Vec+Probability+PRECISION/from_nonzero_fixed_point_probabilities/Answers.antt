@@ -3,7 +3,7 @@ use Rattle.constriction_model.specs.declared.error.ModelError.TheVariants.{Inval
 use Rattle.constriction_model.specs.Acceptance.{completed, IsAccepted}
 use Rattle.constriction_model.specs.Rows.{contiguous_rows}
 use Rattle.constriction_stored_rows.proofs.MadeLemmas.{made-unrefused, bad-read}
-use Rattle.constriction_stored_rows.proofs.TableLemmas.{table-of}
+use Rattle.constriction_stored_rows.proofs.CdfLemmas.{cdf-of}
 use Rattle.constriction_categorical.proofs.contiguous.ContiguousCategoricalEntropyModel+Probability+Vec+Probability+PRECISION.from_nonzero_fixed_point_probabilities.Goals as goal
 
 pub invariant_of-result : goal.invariant_of-result
@@ -14,7 +14,7 @@ invariant_of-result g c =
     let weights = completed g.row.PRECISION c.args.infer_last_probability (map whole given.2.0) in
     record {
       precise = (c.requires.precision.positive, c.requires.precision.fits);
-      stored = (table-of g.Probability.WholeNumber.BITS g.row.PRECISION (map whole c.in_ok-cdf.cdf.items) weights good.0 good.1).0;
+      stored = (cdf-of g.Probability.WholeNumber.BITS g.row.PRECISION (map whole c.in_ok-cdf.cdf.items) weights good.0 good.1).0;
     }
 
 pub returns : goal.returns
@@ -23,7 +23,7 @@ returns g c =
     let given = c.in_ok-cdf.ensures.ok in
     let good = given.2.2 in
     let weights = completed g.row.PRECISION c.args.infer_last_probability (map whole given.2.0) in
-    let table = table-of g.Probability.WholeNumber.BITS g.row.PRECISION (map whole c.in_ok-cdf.cdf.items) weights good.0 good.1 in
+    let table = cdf-of g.Probability.WholeNumber.BITS g.row.PRECISION (map whole c.in_ok-cdf.cdf.items) weights good.0 good.1 in
     record {
       ok = (given.2.0, record { iterator = given.0; became = given.1; was_read = given.2.1 }, good.0, ap contiguous_rows table.1);
       invalid = λ e. absurd (made-unrefused _ _ e);
@@ -35,8 +35,8 @@ returns-in_err-cdf g c =
     record {
       ok = search rules;
       invalid = λ h.
-          let e : c.table_of.result ≡ Err InvalidTable = search rules in
+          let e : c.cdf_of.result ≡ Err InvalidTable = search rules in
           bad-read g.I.IntoIterator.into_iter_gives g.I.IntoIter.Iterator.next_gives c.args.probabilities
           (λ ws. IsAccepted g.Probability.WholeNumber.BITS g.row.PRECISION
-          (completed g.row.PRECISION c.args.infer_last_probability (map whole ws))) (c.table_of.ensures.invalid e);
+          (completed g.row.PRECISION c.args.infer_last_probability (map whole ws))) (c.cdf_of.ensures.invalid e);
     }

@@ -1,12 +1,12 @@
 use Rattle.std.proofs.Common.{map}
-use Rattle.constriction_stored_rows.proofs.TileLemmas.{table-probed}
+use Rattle.constriction_stored_rows.proofs.TileLemmas.{cdf-probed}
 use Rattle.constriction_categorical.proofs.contiguous.ContiguousCategoricalEntropyModel.quantile_probe.Goals as goal
 
 pub returns : goal.returns
 returns g c =
     let whole = g.Probability.WholeNumber.whole in
     let table = map whole (g.Cdf.SafeBuf.words_of c.args.self.now.cdf) in
-    let probed = table-probed g.Probability.WholeNumber.BITS g.row.PRECISION table (map whole c.cdf_entries.result.now)
+    let probed = cdf-probed g.Probability.WholeNumber.BITS g.row.PRECISION table (map whole c.cdf_entries.result.now)
     c.args.self.now.stored c.cdf_entries.ensures in
     record {
       exactly = rw c.new.ensures.cumulatives probed.0.exactly;

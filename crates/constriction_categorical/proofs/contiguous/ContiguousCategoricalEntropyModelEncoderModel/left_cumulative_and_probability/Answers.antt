@@ -4,8 +4,8 @@ use Rattle.std.proofs.lemmas.List.{length-map}
 use Rattle.constriction_model.specs.CodingLemmas.{words-within}
 use Rattle.constriction_stored_rows.specs.Stored.{lefts_in}
 use Rattle.constriction_stored_rows.specs.StoredRowLemmas.{stored-entry, stored-no_entry, stored-within}
-use Rattle.constriction_stored_rows.proofs.StoredSteps.{lent-table}
-use Rattle.constriction_stored_rows.proofs.TableLemmas.{table-long}
+use Rattle.constriction_stored_rows.proofs.StoredSteps.{lent-cdf}
+use Rattle.constriction_stored_rows.proofs.CdfLemmas.{cdf-long}
 use Rattle.constriction_categorical.proofs.contiguous.ContiguousCategoricalEntropyModelEncoderModel.left_cumulative_and_probability.Goals as goal
 
 pub returns-then-symbol-cdf : goal.returns-then-symbol-cdf
@@ -19,7 +19,7 @@ returns-then-symbol-cdf g c =
     let long : length table ≡ length words = rw (← same) (length-map words whole) in
     let found = stored-entry g.Probability.WholeNumber.BITS g.row.PRECISION (lefts_in table) m.stored.stored c.args.symbol.now
     (whole c.row_at.result.0) (whole (base c.row_at.result.1))
-    (omega (arith, c.if-symbol-cdf.true, table-long _ _ table m.stored))
+    (omega (arith, c.if-symbol-cdf.true, cdf-long _ _ table m.stored))
     (rw (← same) c.row_at.ensures.left)
     (rw (← same) c.row_at.ensures.weight) in
     record {
@@ -38,9 +38,9 @@ returns-else-symbol-cdf g c =
     record {
       entry = stored-no_entry g.Probability.WholeNumber.BITS g.row.PRECISION (lefts_in table) c.args.self.now.stored.stored
           c.args.symbol.now
-          (omega (arith, c.if-symbol-cdf.false, table-long _ _ table c.args.self.now.stored));
+          (omega (arith, c.if-symbol-cdf.false, cdf-long _ _ table c.args.self.now.stored));
       within = tt;
     }
 
 pub overflow_sub-cdf : goal.overflow_sub-cdf
-overflow_sub-cdf g c = (lent-table g.Probability.WholeNumber.whole _ g.row.PRECISION _ _ c.args.self.now.stored c.words-cdf.ensures).3
+overflow_sub-cdf g c = (lent-cdf g.Probability.WholeNumber.whole _ g.row.PRECISION _ _ c.args.self.now.stored c.words-cdf.ensures).3

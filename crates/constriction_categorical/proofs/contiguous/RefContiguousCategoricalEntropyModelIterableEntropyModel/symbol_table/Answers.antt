@@ -1,4 +1,4 @@
-use Rattle.constriction_stored_rows.proofs.StoredSteps.{all-stored, lent-table}
+use Rattle.constriction_stored_rows.proofs.StoredSteps.{all-stored, lent-cdf}
 use Rattle.constriction_model.proofs.StepLemmas.{same-most}
 use Rattle.constriction_categorical.proofs.contiguous.RefContiguousCategoricalEntropyModelIterableEntropyModel.symbol_table.Goals as goal
 
@@ -8,9 +8,9 @@ returns g c =
     record { all = all; callable = tt; ends = (tt, same-most _ _ all) }
 
 pub overflow_sub-result : goal.overflow_sub-result
-overflow_sub-result g c = (lent-table g.Probability.WholeNumber.whole _ g.row.PRECISION _ _ c.args.self.now.stored c.words-cdf.ensures).3
+overflow_sub-result g c = (lent-cdf g.Probability.WholeNumber.whole _ g.row.PRECISION _ _ c.args.self.now.stored c.words-cdf.ensures).3
 
 pub invariant_of-result : goal.invariant_of-result
 invariant_of-result g c =
-    let table = lent-table g.Probability.WholeNumber.whole _ g.row.PRECISION _ _ c.args.self.now.stored c.words-cdf.ensures in
+    let table = lent-cdf g.Probability.WholeNumber.whole _ g.row.PRECISION _ _ c.args.self.now.stored c.words-cdf.ensures in
     record { narrow = c.args.self.now.precise.1; stored = table.0; in_order = table.1; in_bounds = table.2 }

@@ -4,11 +4,11 @@ use Rattle.constriction_model.specs.Model.{row_of}
 use Rattle.constriction_model.specs.Rows.{contiguous_rows}
 use Rattle.constriction_stored_rows.specs.Stored.{lefts_in, weights_of}
 use Rattle.std.proofs.lemmas.List.{length-map}
-use Rattle.constriction_stored_rows.proofs.TableLemmas.{table-rows}
+use Rattle.constriction_stored_rows.proofs.CdfLemmas.{cdf-rows}
 use Rattle.constriction_categorical.proofs.stores_rows.ContiguousCategoricalEntropyModelAnswersRows.row_at.Goals as goal
 
-pub contiguous_row_at-requires-clause-table : goal.contiguous_row_at-requires-clause-table
-contiguous_row_at-requires-clause-table g c = rw c.words.ensures c.args.self.now.stored
+pub contiguous_row_at-requires-clause-cdf : goal.contiguous_row_at-requires-clause-cdf
+contiguous_row_at-requires-clause-cdf g c = rw c.words.ensures c.args.self.now.stored
 
 pub contiguous_row_at-requires-clause-in_bounds : goal.contiguous_row_at-requires-clause-in_bounds
 contiguous_row_at-requires-clause-in_bounds g c =
@@ -18,7 +18,7 @@ contiguous_row_at-requires-clause-in_bounds g c =
       arith,
       c.requires,
       length-map words g.Probability.WholeNumber.whole,
-      table-rows g.Probability.WholeNumber.BITS g.row.PRECISION (map g.Probability.WholeNumber.whole words) c.args.self.now.stored,
+      cdf-rows g.Probability.WholeNumber.BITS g.row.PRECISION (map g.Probability.WholeNumber.whole words) c.args.self.now.stored,
     ) in
     rw c.words.ensures within
 
