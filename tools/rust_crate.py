@@ -1,0 +1,64 @@
+"""The Rust crate constriction 0.5.0, from a folder or from cargo's registry, and programs that are built over it."""
+import json
+import os
+import re
+import shutil
+import subprocess
+import sys
+
+TOP = os.path.dirname(os.path.dirname(os.path.realpath(__file__)))
+TARGET = f"{TOP}/bench/target"
+
+
+def check(folder, stop):
+    """Stops where a folder is not the crate's. None is the registry's crate."""
+    if folder is None:
+        return
+    try:
+        with open(f"{folder}/Cargo.toml", encoding="utf-8") as file:
+            text = file.read()
+    except OSError:
+        stop(f"{folder} has no Cargo.toml: give --crate the folder of the Rust crate's sources")
+    if not re.search(r'^name *= *"constriction"', text, re.M) or not re.search(r'^version *= *"0\.5\.0"', text, re.M):
+        stop(f"{folder} is not the crate constriction 0.5.0: give --crate the folder of its sources")
+
+
+def patches(folder):
+    """Returns cargo's words for the crate in a folder, and for what it depends on by its own paths."""
+    paths = {"constriction": os.path.abspath(folder)}
+    words = ["cargo", "metadata", "--format-version", "1", "--offline", "--manifest-path", f"{folder}/Cargo.toml"]
+    ran = subprocess.run(words, capture_output=True, text=True)
+    if ran.returncode == 0:
+        for package in json.loads(ran.stdout)["packages"]:
+            if package["name"] in ("num-traits", "smallvec") and package["source"] is None:
+                paths[package["name"]] = os.path.dirname(package["manifest_path"])
+    return [word for name, path in paths.items() for word in ("--config", f"patch.crates-io.{name}.path={json.dumps(path)}")]
+
+
+def is_unfetched(said):
+    """Whether cargo's words say that it could not fetch a crate: it compiled nothing then."""
+    return not re.search(r"^ *Compiling ", said, re.M) and bool(re.search(r"offline|registry|index|resolve host|download", said))
+
+
+def built(package, program, folder, stop):
+    """Builds a package of bench/ over the crate in a folder, or over the registry's, and returns the path of its program.
+
+    What the crate in a folder needs is fetched only where cargo does not have it.
+    """
+    if not shutil.which("cargo"):
+        stop("cargo is missing: install Rust, by https://rustup.rs or the system's package cargo")
+    check(folder, stop)
+    words = ["cargo", "build", "--release", "--manifest-path", f"{TOP}/bench/{package}/Cargo.toml", "--target-dir", TARGET]
+    words += patches(folder) if folder else []
+    how = {"stdout": subprocess.PIPE, "stderr": subprocess.STDOUT, "text": True}
+    ran = subprocess.run([*words, "--offline"] if folder else words, **how)
+    if folder and ran.returncode and is_unfetched(ran.stdout):
+        ran = subprocess.run(words, **how)
+    if ran.returncode:
+        print("\n".join(ran.stdout.splitlines()[-20:]), file=sys.stderr)
+        if is_unfetched(ran.stdout) and folder:
+            stop(f"cargo could not fetch what the crate in {folder} needs")
+        if is_unfetched(ran.stdout):
+            stop("cargo could not fetch the crate constriction 0.5.0: give the folder of its sources, by --crate FOLDER")
+        stop("the program over the Rust crate was not built")
+    return f"{TARGET}/release/{program}"
