@@ -23,7 +23,7 @@ pub trait IterableEntropyModel<const PRECISION: usize>: EntropyModel<PRECISION> 
         Item = Result<(Self::Symbol, Self::Probability, Weight<Self::Probability>), AllocError>,
     >;
 
-    // That the second symbol stands for the first one, as an item's does for that of its row. Of a table of clones it is what the
+    // That the second symbol may stand in an item, where the first one stands in the row. Of a table of clones it is what the
     // symbols' type says of a clone. Where an implementer says nothing, it makes none, and this is equality.
     ghost stands_for: { Self.Symbol → Self.Symbol → Type 0 } = { λ s t. t ≡ s };
 

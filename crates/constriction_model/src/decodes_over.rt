@@ -16,7 +16,7 @@ use std::alloc::AllocError;
 /// ([`EncodesOver`](crate::encodes_over::EncodesOver)) are too. A function over one model
 /// alone may ask `M::Probability: BitArray` of an `M: DecoderModel<PRECISION>`.
 pub trait DecodesOver<Symbol, Word: WholeNumber, const PRECISION: usize> {
-    // That the second symbol stands for the first one, as an answer's does for that of its row. Of a model that answers clones it is
+    // That the second symbol may stand in an answer, where the first one stands in the row. Of a model that answers clones it is
     // what the symbols' type says of a clone, and of one that makes none it is equality.
     ghost stands_for: { Symbol → Symbol → Type 0 };
 

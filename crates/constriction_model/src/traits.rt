@@ -54,7 +54,7 @@ pub trait EncoderModel<const PRECISION: usize>: EntropyModel<PRECISION> {
 
 /// A model that a decoder asks: it knows the row of each quantile.
 pub trait DecoderModel<const PRECISION: usize>: EntropyModel<PRECISION> {
-    // That the second symbol stands for the first one, as an answer's does for that of its row. Of a model that answers clones it is
+    // That the second symbol may stand in an answer, where the first one stands in the row. Of a model that answers clones it is
     // what the symbols' type says of a clone. Where an implementer says nothing, it makes none, and this is equality.
     ghost stands_for: { Self.Symbol → Self.Symbol → Type 0 } = { λ s t. t ≡ s };
 

@@ -22,9 +22,11 @@ fn make_room<T: Drop>(items: &mut Vec<T>) -> Result<(), AllocError>
     items.reserve(1)
 }
 
-/// A list and one item more. A full list is borrowed under another name, so that a loop that fills the list keeps
-/// its pointer, length and capacity in registers; an answer of a list that may be refused would have its
-/// place in memory cleared for each item.
+/// A list and one item more.
+///
+/// A full list is borrowed by `make_room` under another name. So a loop that fills the list keeps its pointer, length
+/// and capacity in registers. If `make_room` took the list and answered it, the loop would clear memory for that answer
+/// at each item.
 #[inline(always)]
 pub fn and_item<T: Drop>(mut items: Vec<T>, item: T) -> Result<Vec<T>, AllocError>
     ensures { IfOk result (λ v. v.items ≡ items.items ++ item ∷ []) }
