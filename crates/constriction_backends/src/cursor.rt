@@ -2,15 +2,9 @@
 
 ghost use Rattle.std.specs.Prelude.{◌≤◌, length};
 
-mod bounds;
-mod lend;
 mod new;
 mod parts;
-mod position;
 mod read;
-mod reversed;
-mod seek;
-mod stack;
 mod write;
 
 use constriction_buffers::SafeBuf;
@@ -27,8 +21,8 @@ use std::marker::PhantomData;
 /// The position is at most the number of words.
 #[derive(Debug, Drop)]
 pub struct Cursor<Word, Buf: SafeBuf<Word>> {
-    buf: Buf,
-    pos: usize,
+    pub(crate) buf: Buf,
+    pub(crate) pos: usize,
     phantom: PhantomData<Word>,
     pub ghost in_range: { pos ≤ length (Buf.words_of buf) },
 }

@@ -1,10 +1,13 @@
-//! Looking at a cursor, and taking it apart.
+//! The buffer and the position of a cursor: looked at, taken apart, lent for writing, and moved.
 
-ghost use Rattle.std.specs.Prelude.{◌≡◌};
-ghost use Rattle.constriction_backends.specs.Cursor.{buf_of, pos_of, parts_of, state_of};
+ghost use Rattle.std.specs.Prelude.{◌≡◌, ◌++◌};
+ghost use Rattle.std.specs.Borrow.{Lends, follows, sem, Array};
+ghost use Rattle.constriction_backends.specs.Cursor.{buf_of, pos_of, parts_of, state_of, over, SeeksTo};
 
 use crate::cursor::Cursor;
-use constriction_buffers::SafeBuf;
+use crate::part::part_mut;
+use constriction_buffers::{SafeBuf, SafeBufMut};
+use constriction_words::{Pos, PosSeek, Seek};
 use std::marker::PhantomData;
 
 impl<Word, Buf: SafeBuf<Word>> Cursor<Word, Buf> {
@@ -56,5 +59,94 @@ impl<Word, Buf: SafeBuf<Word>> Cursor<Word, Buf> {
             phantom: _,
         } = self;
         (buf, pos)
+    }
+}
+
+impl<Word, Buf: SafeBufMut<Word>> Cursor<Word, Buf> {
+    ghost use Rattle.constriction_backends.specs.contracts.cursor.Cursor.{the_row};
+
+    /// Lends all words for writing. What stands in them at the end of the loan are the words of the
+    /// buffer then, and the position is as it was.
+    #[inline]
+    pub fn buf_mut(&mut self) -> &mut [Word]
+        ensures* writes_back { sem 𝓛 (Lends (the_row Word.row Buf.row Buf.SafeBuf) (Array Word.row 0) self.entry result
+            (λ ws. over self.old (Buf.with_words (buf_of self.old) ws))) }
+        ensures value { result.now ≡ Buf.words_of (buf_of self.old) }
+    {
+        self.buf.words_mut()
+    }
+
+    /// Lends the words before the position for writing. Those from the position on stay, and so does
+    /// the position.
+    #[inline]
+    pub fn written_mut(&mut self) -> &mut [Word]
+        ensures* writes_back { sem 𝓛 (Lends (the_row Word.row Buf.row Buf.SafeBuf) (Array Word.row 0) self.entry result
+            (λ ws. over self.old (Buf.with_words (buf_of self.old) (ws ++ (state_of self.old).after)))) }
+        ensures value { result.now ≡ (state_of self.old).before }
+    {
+        let pos = self.pos;
+        part_mut(&mut self.buf, 0, pos)
+    }
+
+    /// Lends the words from the position on for writing. Those before it stay, and so does the
+    /// position.
+    #[inline]
+    pub fn unwritten_mut(&mut self) -> &mut [Word]
+        ensures* writes_back { sem 𝓛 (Lends (the_row Word.row Buf.row Buf.SafeBuf) (Array Word.row 0) self.entry result
+            (λ ws. over self.old (Buf.with_words (buf_of self.old) ((state_of self.old).before ++ ws)))) }
+        ensures value { result.now ≡ (state_of self.old).after }
+    {
+        let pos = self.pos;
+        let len = self.buf.words().len();
+        part_mut(&mut self.buf, pos, len)
+    }
+
+    /// A cursor at the same position that borrows the words for writing. What it wrote stands in the
+    /// words at the end of the loan, and its moves leave this one where it is.
+    ///
+    /// A caller's proof learns the position and the number of the words that are left, and no words.
+    /// One that needs them makes the cursor over a local that holds the loan of
+    /// [`buf_mut`](Self::buf_mut), and names that local once more when it is done.
+    #[inline]
+    pub fn as_mut_view(&mut self) -> Cursor<Word, &mut [Word]>
+        ensures* writes_back { sem 𝓛 (follows (the_row Word.row Buf.row Buf.SafeBuf) (Array Word.row 0)
+            self.entry.ghost_name (buf_of result).ghost_name
+            (λ ws. over self.old (Buf.with_words (buf_of self.old) ws))) }
+        ensures value { (buf_of result).now ≡ Buf.words_of (buf_of self.old) }
+        ensures pos { pos_of result ≡ pos_of self.old }
+    {
+        let pos = self.pos;
+        Cursor {
+            buf: self.buf_mut(),
+            pos,
+            phantom: PhantomData,
+        }
+    }
+}
+
+impl<Word, Buf: SafeBuf<Word>> PosSeek for Cursor<Word, Buf> {
+    type Position = usize;
+
+    ghost position = { pos_of };
+}
+
+impl<Word, Buf: SafeBuf<Word>> Pos for Cursor<Word, Buf> {
+    #[inline]
+    fn pos(&self) -> usize {
+        self.pos
+    }
+}
+
+impl<Word, Buf: SafeBuf<Word>> Seek for Cursor<Word, Buf> {
+    ghost seek_gives = { SeeksTo };
+
+    #[inline]
+    fn seek(&mut self, pos: usize) -> Result<(), ()> {
+        if pos > self.buf.words().len() {
+            Err(())
+        } else {
+            self.pos = pos;
+            Ok(())
+        }
     }
 }

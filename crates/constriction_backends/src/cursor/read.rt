@@ -1,13 +1,15 @@
-//! A cursor as a source: read backwards as a stack, and forwards as a queue.
+//! A cursor as a source: read backwards as a stack, and forwards as a queue, and how many words it has that way.
 
-ghost use Rattle.std.specs.Prelude.{◌≡◌, ◌↔◌, [], reverse, IsTrue};
+ghost use Rattle.std.specs.Prelude.{◌≡◌, ◌↔◌, [], length, reverse, IsTrue};
+ghost use Rattle.std.proofs.Common.{ap, sym, ◌∙◌};
+ghost use Rattle.std.proofs.lemmas.List.{length-reverse};
 ghost use Rattle.constriction_backends.specs.Cursor.{buf_of, state_of};
 ghost use Rattle.constriction_backends.specs.CursorState.{StackReads, QueueReads};
-ghost use Rattle.constriction_backends.specs.CursorLaws.{StackReads-told, QueueReads-told};
+ghost use Rattle.constriction_backends.specs.CursorLaws.{StackReads-told, StackReads-counts, QueueReads-told, QueueReads-counts};
 
 use crate::cursor::Cursor;
 use constriction_buffers::SafeBuf;
-use constriction_sources::ReadWords;
+use constriction_sources::{BoundedReadWords, ReadWords};
 use constriction_words::{Queue, Stack};
 use std::convert::Infallible;
 
@@ -63,4 +65,30 @@ impl<Word: Copy, Buf: SafeBuf<Word>> ReadWords<Word, Queue> for Cursor<Word, Buf
     }
 
     ghost reads_told = { λ s r t h. QueueReads-told state_of s r t h.0 };
+}
+
+impl<Word: Copy, Buf: SafeBuf<Word>> BoundedReadWords<Word, Stack> for Cursor<Word, Buf> {
+    ghost items_left = { λ s. length (state_of s).before };
+
+    #[inline]
+    fn remaining(&self) -> usize {
+        self.pos
+    }
+
+    ghost counts_reads = { λ s r t _ h. (StackReads-counts state_of s r t h.0, tt) };
+
+    ghost counts_told = { λ s _ words e. sym (ap length e ∙ length-reverse (state_of s).before) };
+}
+
+impl<Word: Copy, Buf: SafeBuf<Word>> BoundedReadWords<Word, Queue> for Cursor<Word, Buf> {
+    ghost items_left = { λ s. length (state_of s).after };
+
+    #[inline]
+    fn remaining(&self) -> usize {
+        self.buf.words().len() - self.pos
+    }
+
+    ghost counts_reads = { λ s r t _ h. (QueueReads-counts state_of s r t h.0, tt) };
+
+    ghost counts_told = { λ s _ words e. sym (ap length e) };
 }

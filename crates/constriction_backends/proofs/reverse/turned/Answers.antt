@@ -1,6 +1,6 @@
 use Rattle.std.proofs.Common.{refl, ap, ◌∙◌, ◌≡◌, length, reverse}
 use Rattle.constriction_backends.proofs.Turning.{state-turned}
-use Rattle.constriction_backends.proofs.cursor.reversed.turned.Goals as goal
+use Rattle.constriction_backends.proofs.reverse.turned.Goals as goal
 
 pub returns : goal.returns
 returns g c =
