@@ -1,12 +1,14 @@
 pub use Rattle.constriction_model.specs.Acceptance
 pub use Rattle.constriction_model.specs.Coding
 pub use Rattle.constriction_model.specs.CodingLemmas
+pub use Rattle.constriction_conversions.specs.EncoderRows
 pub use Rattle.constriction_model.specs.Entries
 pub use Rattle.constriction_stored_rows.specs.Filling
 pub use Rattle.constriction_model.specs.GivenLemmas
 pub use Rattle.constriction_conversions.specs.Hashed
 pub use Rattle.constriction_model.specs.Laws
 pub use Rattle.constriction_model.specs.Model
+pub use Rattle.constriction_categorical.specs.ModelRows
 pub use Rattle.constriction_model.specs.PairLemmas
 pub use Rattle.constriction_model.specs.Precision
 pub use Rattle.constriction_model.specs.Probe

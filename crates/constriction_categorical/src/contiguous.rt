@@ -8,7 +8,7 @@ ghost use Rattle.constriction_model.specs.Precision.{IsPrecision};
 ghost use Rattle.constriction_model.specs.Probe.{IsProbeFor};
 ghost use Rattle.constriction_model.specs.Rows.{contiguous_rows};
 ghost use Rattle.constriction_stored_rows.specs.QuestionLemmas.{all-in-question, none-most};
-ghost use Rattle.constriction_stored_rows.specs.Stored.{IsCdf, lefts_in, weights_of};
+ghost use Rattle.constriction_stored_rows.specs.Stored.{IsCdf, lefts_in};
 ghost use Rattle.constriction_stored_rows.specs.StoredRowLemmas.{stored-within, stored-tiles};
 ghost use Rattle.constriction_stored_rows.specs.Stored.{rows_stored};
 
@@ -57,6 +57,8 @@ impl<Probability: WholeNumber, const PRECISION: usize> ContiguousCategoricalEntr
     Vec<Probability>,
     PRECISION,
 > {
+    ghost use Rattle.constriction_categorical.specs.ModelRows.{contiguous_model_rows};
+
     /// The model of these weights. Where the last weight is inferred, it is what the given ones
     /// leave of `2^PRECISION`, and there is one symbol more than given weights.
     ///
@@ -78,7 +80,7 @@ impl<Probability: WholeNumber, const PRECISION: usize> ContiguousCategoricalEntr
         requires ends { IsFiniteIterable I.into_iter_gives I.IntoIter.can_next I.IntoIter.remaining probabilities }
         ensures { IsMadeOfWeights (IsAccepted Probability.BITS PRECISION) (completed PRECISION infer_last_probability)
             (WasReadOf I.into_iter_gives I.IntoIter.next_gives probabilities) Probability.whole
-            (λ m ws. ⟦<Self as EntropyModel<PRECISION>>⟧.rows m ≡ contiguous_rows ws) result }
+            (λ m ws. contiguous_model_rows m ≡ contiguous_rows ws) result }
     {
         let cdf = cdf_of::<Probability, I, PRECISION>(
             alloc,
@@ -94,7 +96,9 @@ impl<Probability: WholeNumber, const PRECISION: usize> ContiguousCategoricalEntr
 
 impl<Probability: WholeNumber, const PRECISION: usize> Clone
     for ContiguousCategoricalEntropyModel<Probability, Vec<Probability>, PRECISION> {
-    ghost is_clone = { λ x y. ⟦<Self as EntropyModel<PRECISION>>⟧.rows y ≡ ⟦<Self as EntropyModel<PRECISION>>⟧.rows x };
+    ghost use Rattle.constriction_categorical.specs.ModelRows.{contiguous_model_rows};
+
+    ghost is_clone = { λ x y. contiguous_model_rows y ≡ contiguous_model_rows x };
 
     /// A model of the same rows, with a table of its own from the allocator of this one's.
     ///
@@ -109,10 +113,12 @@ impl<
     Cdf: SafeBuf<Probability>,
     const PRECISION: usize,
 > ContiguousCategoricalEntropyModel<Probability, Cdf, PRECISION> {
+    ghost use Rattle.constriction_categorical.specs.ModelRows.{contiguous_model_rows};
+
     /// How many symbols the model has.
     #[inline]
     pub fn support_size(&self) -> usize
-        ensures { result ≡ length (⟦<Self as EntropyModel<PRECISION>>⟧.rows self.now) }
+        ensures { result ≡ length (contiguous_model_rows self.now) }
     {
         self.cdf.words().len() - 1
     }
@@ -134,9 +140,7 @@ impl<
         ContiguousCategoricalEntropyModel<Probability, Vec<Probability>, PRECISION>,
         AllocError,
     >
-        ensures { IfOk result (λ m.
-            ⟦<ContiguousCategoricalEntropyModel<Probability, Vec<Probability>, PRECISION> as EntropyModel<PRECISION>>⟧.rows m
-            ≡ ⟦<Self as EntropyModel<PRECISION>>⟧.rows self.now) }
+        ensures { IfOk result (λ m. contiguous_model_rows m ≡ contiguous_model_rows self.now) }
     {
         let cdf = copied(alloc, self.cdf.words())?;
         Ok(ContiguousCategoricalEntropyModel {
@@ -150,8 +154,7 @@ impl<
     pub fn as_view<'m>(
         &'m self,
     ) -> ContiguousCategoricalEntropyModel<Probability, &'m [Probability], PRECISION>
-        ensures { ⟦<ContiguousCategoricalEntropyModel<Probability, &'m [Probability], PRECISION> as EntropyModel<PRECISION>>⟧.rows result
-            ≡ ⟦<Self as EntropyModel<PRECISION>>⟧.rows self.now }
+        ensures { contiguous_model_rows result ≡ contiguous_model_rows self.now }
     {
         ContiguousCategoricalEntropyModel {
             cdf: self.cdf.words(),
@@ -171,7 +174,7 @@ impl<
     ) -> (usize, CdfProbe<'m, Probability, Alone>)
         requires { Probability.whole quantile < 2 ^ PRECISION }
         ensures { IsProbeFor ⟦<CdfProbe<'m, Probability, Alone> as Probe>⟧
-            (⟦<Self as EntropyModel<PRECISION>>⟧.rows self.now) (λ _. ⊤) (Probability.whole quantile) result.0 result.1 }
+            (contiguous_model_rows self.now) (λ _. ⊤) (Probability.whole quantile) result.0 result.1 }
     {
         (0, CdfProbe::new(self.cdf_entries()))
     }
@@ -184,7 +187,9 @@ impl<Probability: WholeNumber, Cdf: SafeBuf<Probability>, const PRECISION: usize
 
     type Probability = Probability;
 
-    ghost rows = { λ m. contiguous_rows (weights_of PRECISION (lefts_in (map Probability.whole (Cdf.words_of m.cdf)))) };
+    ghost use Rattle.constriction_categorical.specs.ModelRows.{contiguous_model_rows};
+
+    ghost rows = { contiguous_model_rows };
 }
 
 impl<Probability: WholeNumber, Cdf: SafeBuf<Probability>, const PRECISION: usize> EncoderModel<
@@ -231,7 +236,9 @@ impl<Probability: WholeNumber, Cdf: SafeBuf<Probability>, const PRECISION: usize
 impl<Probability: WholeNumber, Cdf: SafeBuf<Probability>, const PRECISION: usize> SearchingModel<
     PRECISION,
 > for ContiguousCategoricalEntropyModel<Probability, Cdf, PRECISION> {
-    ghost rows_in_question = { λ m q. length (⟦<Self as EntropyModel<PRECISION>>⟧.rows m) };
+    ghost use Rattle.constriction_categorical.specs.ModelRows.{contiguous_model_rows};
+
+    ghost rows_in_question = { λ m q. length (contiguous_model_rows m) };
 
     /// The row of a quantile, by [`row_in_entries`], and how often that compared it. It takes no memory and
     /// always succeeds.

@@ -6,14 +6,15 @@
 ghost use Rattle.std.specs.Prelude.{◌≡◌, ◌<◌, ◌≤◌, map, IfOk};
 ghost use Rattle.std.specs.Iterator.{IsFiniteIterable};
 ghost use Rattle.std.specs.List.{IsDistinct};
-ghost use Rattle.std.specs.List.Sorted.{IsStrictlySortedBy};
 ghost use Rattle.constriction_model.specs.Acceptance.{completed, AreAccepted, WasReadOf, IsMadeOfBoth, GivesDistinct};
 ghost use Rattle.constriction_model.specs.Precision.{IsPrecision};
 ghost use Rattle.constriction_model.specs.Rows.{rows_of};
 ghost use Rattle.constriction_stored_rows.specs.Stored.{IsStored, rows_paired};
+ghost use Rattle.constriction_categorical.specs.InOrder.{AreInOrder};
+ghost use Rattle.constriction_categorical.specs.ModelRows.{decoder_model_rows};
 
 use crate::non_contiguous::{NonContiguousCategoricalDecoderModel, decoder_over};
-use constriction_model::{EntropyModel, ModelError};
+use constriction_model::ModelError;
 use constriction_numbers::WholeNumber;
 use constriction_stored_rows::{are_apart, are_in_order, entries_read};
 use std::alloc::Global;
@@ -82,8 +83,7 @@ fn entries_in_order<
     requires fits { PRECISION ≤ P.BITS }
     requires symbols_end { IsFiniteIterable S.into_iter_gives S.IntoIter.can_next S.IntoIter.remaining symbols }
     requires weights_end { IsFiniteIterable W.into_iter_gives W.IntoIter.can_next W.IntoIter.remaining weights }
-    ensures told { IsMadeOfBoth (λ ss ws. AreAccepted Symbol.eq P.BITS PRECISION ss ws × IsStrictlySortedBy Symbol.cmp ss)
-        (completed PRECISION infer_last)
+    ensures told { IsMadeOfBoth (AreInOrder Symbol.eq Symbol.cmp P.BITS PRECISION) (completed PRECISION infer_last)
         (WasReadOf S.into_iter_gives S.IntoIter.next_gives symbols) (WasReadOf W.into_iter_gives W.IntoIter.next_gives weights)
         P.whole (λ v ss ws. rows_paired P.whole PRECISION v.items ≡ rows_of ss ws) result }
     ensures stored { IfOk result (λ v. IsStored P.BITS PRECISION (map (λ x. P.whole x.0) v.items)) }
@@ -125,7 +125,7 @@ impl<
         requires distinct { GivesDistinct S.into_iter_gives S.IntoIter.next_gives Symbol.eq symbols }
         ensures { IsMadeOfBoth (AreAccepted Symbol.eq Probability.BITS PRECISION) (completed PRECISION infer_last_probability)
             (WasReadOf S.into_iter_gives S.IntoIter.next_gives symbols) (WasReadOf P.into_iter_gives P.IntoIter.next_gives probabilities)
-            Probability.whole (λ m ss ws. ⟦<Self as EntropyModel<PRECISION>>⟧.rows m ≡ rows_of ss ws) result }
+            Probability.whole (λ m ss ws. decoder_model_rows m ≡ rows_of ss ws) result }
     {
         match entries_of_distinct::<Probability, Symbol, S, P, PRECISION>(
             alloc,
@@ -168,7 +168,7 @@ impl<
         requires probabilities_end { IsFiniteIterable P.into_iter_gives P.IntoIter.can_next P.IntoIter.remaining probabilities }
         ensures { IsMadeOfBoth (AreAccepted Symbol.eq Probability.BITS PRECISION) (completed PRECISION infer_last_probability)
             (WasReadOf S.into_iter_gives S.IntoIter.next_gives symbols) (WasReadOf P.into_iter_gives P.IntoIter.next_gives probabilities)
-            Probability.whole (λ m ss ws. ⟦<Self as EntropyModel<PRECISION>>⟧.rows m ≡ rows_of ss ws) result }
+            Probability.whole (λ m ss ws. decoder_model_rows m ≡ rows_of ss ws) result }
     {
         match entries_apart::<Probability, Symbol, S, P, PRECISION>(
             alloc,
@@ -209,10 +209,9 @@ impl<
         requires precision { IsPrecision Probability.BITS PRECISION }
         requires symbols_end { IsFiniteIterable S.into_iter_gives S.IntoIter.can_next S.IntoIter.remaining symbols }
         requires probabilities_end { IsFiniteIterable P.into_iter_gives P.IntoIter.can_next P.IntoIter.remaining probabilities }
-        ensures { IsMadeOfBoth (λ ss ws. AreAccepted Symbol.eq Probability.BITS PRECISION ss ws × IsStrictlySortedBy Symbol.cmp ss)
-            (completed PRECISION infer_last_probability)
+        ensures { IsMadeOfBoth (AreInOrder Symbol.eq Symbol.cmp Probability.BITS PRECISION) (completed PRECISION infer_last_probability)
             (WasReadOf S.into_iter_gives S.IntoIter.next_gives symbols) (WasReadOf P.into_iter_gives P.IntoIter.next_gives probabilities)
-            Probability.whole (λ m ss ws. ⟦<Self as EntropyModel<PRECISION>>⟧.rows m ≡ rows_of ss ws) result }
+            Probability.whole (λ m ss ws. decoder_model_rows m ≡ rows_of ss ws) result }
     {
         match entries_in_order::<Probability, Symbol, S, P, PRECISION>(
             alloc,

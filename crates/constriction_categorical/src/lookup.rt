@@ -51,7 +51,9 @@ where
 
     type Probability = Model::Probability;
 
-    ghost rows = { λ m. Model.rows m.model };
+    ghost use Rattle.constriction_categorical.specs.ModelRows.{lookup_model_rows};
+
+    ghost rows = { lookup_model_rows };
 }
 
 impl<
@@ -59,6 +61,8 @@ impl<
     const PRECISION: usize,
     const SLOT_BITS: usize,
 > LookupDecoderModel<Model, Vec<Model::Probability>, PRECISION, SLOT_BITS> {
+    ghost use Rattle.constriction_categorical.specs.ModelRows.{lookup_model_rows};
+
     /// The model of the same rows, with a table. Want of memory for the table is its only refusal.
     ///
     /// One pass over the rows, or two where the table has where each row begins, and one allocation: of two words a
@@ -67,7 +71,7 @@ impl<
     where
         Model: Drop,
         requires narrow { PRECISION ≤ 63 }
-        ensures { IfOk result (λ m. ⟦<Self as EntropyModel<PRECISION>>⟧.rows m ≡ Model.rows model) }
+        ensures { IfOk result (λ m. lookup_model_rows m ≡ Model.rows model) }
     {
         let lookup_table = table_of_slots::<Model::Entry, Model::Kind, PRECISION, SLOT_BITS>(
             alloc,
@@ -109,10 +113,12 @@ where
     Model: StoresRows<PRECISION>,
     LookupTable: SafeBuf<Model::Probability>,
 {
+    ghost use Rattle.constriction_categorical.specs.ModelRows.{lookup_model_rows};
+
     /// How many symbols the model has.
     #[inline]
     pub fn support_size(&self) -> usize
-        ensures { result ≡ length (⟦<Self as EntropyModel<PRECISION>>⟧.rows self.now) }
+        ensures { result ≡ length (lookup_model_rows self.now) }
     {
         self.model.entries().len()
     }
@@ -147,9 +153,9 @@ where
         quantile: Model::Probability,
     ) -> (usize, CdfProbe<'m, Model::Entry, Model::Kind>)
         requires { Model.Probability.whole quantile < 2 ^ PRECISION }
-        ensures { IsProbeFor ⟦<CdfProbe<'m, Model::Entry, Model::Kind> as Probe>⟧ (⟦<Self as EntropyModel<PRECISION>>⟧.rows self.now)
-            (λ r. IsTrue (meets_slot (slot_width PRECISION SLOT_BITS)
-            (Model.Probability.whole quantile / slot_width PRECISION SLOT_BITS) r)) (Model.Probability.whole quantile) result.0 result.1 }
+        ensures { let width = slot_width PRECISION SLOT_BITS in let q = Model.Probability.whole quantile in
+            IsProbeFor ⟦<CdfProbe<'m, Model::Entry, Model::Kind> as Probe>⟧ (lookup_model_rows self.now)
+            (λ r. IsTrue (meets_slot width (q / width) r)) q result.0 result.1 }
     {
         slot_probe::<Model::Entry, Model::Kind, PRECISION, SLOT_BITS>(
             self.model.entries(),
@@ -260,13 +266,15 @@ where
     Model: EntropyModel<PRECISION>,
     LookupTable: SafeBuf<Model::Probability>,
 {
+    ghost use Rattle.constriction_categorical.specs.ModelRows.{lookup_model_rows};
+
     /// The searching model beside the table, which is let go: of a model that [`with_table`](Self::with_table) made, the
     /// one that it was given.
     #[inline]
     pub fn into_searching_model(self) -> Model
     where
         LookupTable: Drop,
-        ensures { Model.rows result ≡ ⟦<Self as EntropyModel<PRECISION>>⟧.rows self }
+        ensures { Model.rows result ≡ lookup_model_rows self }
     {
         let Self {
             model,
@@ -286,12 +294,14 @@ where
     Model: OfNumbers<PRECISION>,
     LookupTable: SafeBuf<Model::Probability>,
 {
+    ghost use Rattle.constriction_categorical.specs.ModelRows.{lookup_model_rows};
+
     /// [`into_searching_model`](Self::into_searching_model), by the Rust crate's name.
     #[inline]
     pub fn into_contiguous_categorical(self) -> Model
     where
         LookupTable: Drop,
-        ensures { Model.rows result ≡ ⟦<Self as EntropyModel<PRECISION>>⟧.rows self }
+        ensures { Model.rows result ≡ lookup_model_rows self }
     {
         self.into_searching_model()
     }
@@ -307,12 +317,14 @@ where
     Model: OfAnySymbols<PRECISION>,
     LookupTable: SafeBuf<Model::Probability>,
 {
+    ghost use Rattle.constriction_categorical.specs.ModelRows.{lookup_model_rows};
+
     /// [`into_searching_model`](Self::into_searching_model), by the Rust crate's name.
     #[inline]
     pub fn into_non_contiguous_categorical(self) -> Model
     where
         LookupTable: Drop,
-        ensures { Model.rows result ≡ ⟦<Self as EntropyModel<PRECISION>>⟧.rows self }
+        ensures { Model.rows result ≡ lookup_model_rows self }
     {
         self.into_searching_model()
     }

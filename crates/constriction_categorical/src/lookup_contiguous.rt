@@ -7,13 +7,14 @@ ghost use Rattle.constriction_model.specs.Precision.{IsLookupPrecision};
 ghost use Rattle.constriction_model.specs.Rows.{contiguous_rows};
 ghost use Rattle.constriction_stored_rows.specs.StoredRowLemmas.{stored-tiles};
 ghost use Rattle.constriction_stored_rows.specs.Stored.{rows_stored};
+ghost use Rattle.constriction_categorical.specs.ModelRows.{contiguous_model_rows, lookup_model_rows};
 
 use crate::contiguous::ContiguousCategoricalEntropyModel;
 use crate::iterable::IterableEntropyModel;
 use crate::lookup::{LookupDecoderModel, lookup_over};
 use crate::symbol_table::ContiguousSymbolTable;
 use constriction_buffers::SafeBuf;
-use constriction_model::{EntropyModel, ModelError};
+use constriction_model::ModelError;
 use constriction_numbers::IndexWord;
 use constriction_stored_rows::copied;
 use std::alloc::{AllocError, Global};
@@ -88,7 +89,7 @@ impl<
         requires ends { IsFiniteIterable I.into_iter_gives I.IntoIter.can_next I.IntoIter.remaining probabilities }
         ensures { IsMadeOfWeights (IsAccepted Probability.BITS PRECISION) (completed PRECISION infer_last_probability)
             (WasReadOf I.into_iter_gives I.IntoIter.next_gives probabilities) Probability.whole
-            (λ m ws. ⟦<Self as EntropyModel<PRECISION>>⟧.rows m ≡ contiguous_rows ws) result }
+            (λ m ws. lookup_model_rows m ≡ contiguous_rows ws) result }
     {
         match ContiguousCategoricalEntropyModel::<
             Probability,
@@ -110,7 +111,7 @@ impl<Probability: IndexWord, const PRECISION: usize, const SLOT_BITS: usize> Clo
         PRECISION,
         SLOT_BITS,
     > {
-    ghost is_clone = { λ x y. ⟦<Self as EntropyModel<PRECISION>>⟧.rows y ≡ ⟦<Self as EntropyModel<PRECISION>>⟧.rows x };
+    ghost is_clone = { λ x y. lookup_model_rows y ≡ lookup_model_rows x };
 
     /// A model of the same rows, with rows and a table of its own from the allocators of this one's.
     ///
@@ -144,9 +145,7 @@ impl<
         ModelError,
     >
         requires { PRECISION ≤ 63 }
-        ensures ok { IfOk result (λ m.
-            ⟦<ContiguousLookupDecoderModel<Probability, Vec<Probability>, Vec<Probability>, PRECISION> as EntropyModel<PRECISION>>⟧.rows m
-            ≡ ⟦<Self as EntropyModel<PRECISION>>⟧.rows self.now) }
+        ensures ok { IfOk result (λ m. lookup_model_rows m ≡ contiguous_model_rows self.now) }
         ensures refused { IfErr result (λ e. e ≡ ModelError.OutOfMemory) }
     {
         self.to_slotted_lookup_decoder_model::<8>(alloc)
@@ -168,9 +167,7 @@ impl<
         ModelError,
     >
         requires { PRECISION ≤ 63 }
-        ensures ok { IfOk result (λ m.
-            ⟦<SlottedContiguousLookupDecoderModel<Probability, Vec<Probability>, Vec<Probability>, PRECISION, SLOT_BITS> as EntropyModel<PRECISION>>⟧.rows m
-            ≡ ⟦<Self as EntropyModel<PRECISION>>⟧.rows self.now) }
+        ensures ok { IfOk result (λ m. lookup_model_rows m ≡ contiguous_model_rows self.now) }
         ensures refused { IfErr result (λ e. e ≡ ModelError.OutOfMemory) }
     {
         match self.in_vec(alloc) {
@@ -198,8 +195,7 @@ impl<
         PRECISION,
         SLOT_BITS,
     >
-        ensures { ⟦<SlottedContiguousLookupDecoderModel<Probability, &'m [Probability], &'m [Probability], PRECISION, SLOT_BITS> as EntropyModel<PRECISION>>⟧.rows result
-            ≡ ⟦<Self as EntropyModel<PRECISION>>⟧.rows self.now }
+        ensures { lookup_model_rows result ≡ lookup_model_rows self.now }
     {
         LookupDecoderModel {
             model: self.model.as_view(),
@@ -213,8 +209,7 @@ impl<
     pub fn as_contiguous_categorical<'m>(
         &'m self,
     ) -> ContiguousCategoricalEntropyModel<Probability, &'m [Probability], PRECISION>
-        ensures { ⟦<ContiguousCategoricalEntropyModel<Probability, &'m [Probability], PRECISION> as EntropyModel<PRECISION>>⟧.rows result
-            ≡ ⟦<Self as EntropyModel<PRECISION>>⟧.rows self.now }
+        ensures { contiguous_model_rows result ≡ lookup_model_rows self.now }
     {
         self.model.as_view()
     }

@@ -9,13 +9,14 @@ ghost use Rattle.constriction_model.specs.Rows.{rows_of};
 ghost use Rattle.constriction_stored_rows.specs.SymbolRowLemmas.{paired-tiles};
 ghost use Rattle.constriction_stored_rows.specs.Stored.{rows_paired};
 ghost use Rattle.constriction_model.specs.Tables.{rows_between};
+ghost use Rattle.constriction_categorical.specs.ModelRows.{decoder_model_rows, lookup_model_rows};
 
 use crate::iterable::IterableEntropyModel;
 use crate::lookup::{LookupDecoderModel, lookup_over};
 use crate::non_contiguous::NonContiguousCategoricalDecoderModel;
 use crate::non_contiguous_table::NonContiguousSymbolTable;
 use constriction_buffers::SafeBuf;
-use constriction_model::{EntropyModel, ModelError};
+use constriction_model::ModelError;
 use constriction_numbers::IndexWord;
 use constriction_stored_rows::copied;
 use std::alloc::{AllocError, Global};
@@ -113,7 +114,7 @@ impl<
         requires probabilities_end { IsFiniteIterable P.into_iter_gives P.IntoIter.can_next P.IntoIter.remaining probabilities }
         ensures { IsMadeOfBoth (AreAccepted Symbol.eq Probability.BITS PRECISION) (completed PRECISION infer_last_probability)
             (WasReadOf S.into_iter_gives S.IntoIter.next_gives symbols) (WasReadOf P.into_iter_gives P.IntoIter.next_gives probabilities)
-            Probability.whole (λ m ss ws. ⟦<Self as EntropyModel<PRECISION>>⟧.rows m ≡ rows_of ss ws) result }
+            Probability.whole (λ m ss ws. lookup_model_rows m ≡ rows_of ss ws) result }
     {
         match NonContiguousCategoricalDecoderModel::<
             Symbol,
@@ -151,8 +152,7 @@ impl<
     /// Two allocations, and a clone of each symbol. It is refused where memory for one of these is.
     pub fn clone(&self) -> Result<Self, AllocError>
         requires { ClonesAreEqual Symbol.eq Symbol.is_clone }
-        ensures { IfOk result (λ m. StandForRows Symbol.is_clone (⟦<Self as EntropyModel<PRECISION>>⟧.rows m)
-            (⟦<Self as EntropyModel<PRECISION>>⟧.rows self.now)) }
+        ensures { IfOk result (λ m. StandForRows Symbol.is_clone (lookup_model_rows m) (lookup_model_rows self.now)) }
     {
         let lookup_table = copied(*self.lookup_table.allocator(), self.lookup_table.as_slice())?;
         match self.model.clone() {
@@ -191,9 +191,7 @@ impl<
     >
         requires narrow { PRECISION ≤ 63 }
         requires clones { ClonesAreEqual Symbol.eq Symbol.is_clone }
-        ensures ok { IfOk result (λ m. StandForRows Symbol.is_clone
-            (⟦<NonContiguousLookupDecoderModel<Symbol, Probability, Vec<(Probability, Symbol)>, Vec<Probability>, PRECISION> as EntropyModel<PRECISION>>⟧.rows m)
-            (⟦<Self as EntropyModel<PRECISION>>⟧.rows self.now)) }
+        ensures ok { IfOk result (λ m. StandForRows Symbol.is_clone (lookup_model_rows m) (decoder_model_rows self.now)) }
         ensures refused { IfErr result (λ e. e ≡ ModelError.OutOfMemory) }
     {
         self.to_slotted_lookup_decoder_model::<8>(alloc)
@@ -217,9 +215,7 @@ impl<
     >
         requires narrow { PRECISION ≤ 63 }
         requires clones { ClonesAreEqual Symbol.eq Symbol.is_clone }
-        ensures ok { IfOk result (λ m. StandForRows Symbol.is_clone
-            (⟦<SlottedNonContiguousLookupDecoderModel<Symbol, Probability, Vec<(Probability, Symbol)>, Vec<Probability>, PRECISION, SLOT_BITS> as EntropyModel<PRECISION>>⟧.rows m)
-            (⟦<Self as EntropyModel<PRECISION>>⟧.rows self.now)) }
+        ensures ok { IfOk result (λ m. StandForRows Symbol.is_clone (lookup_model_rows m) (decoder_model_rows self.now)) }
         ensures refused { IfErr result (λ e. e ≡ ModelError.OutOfMemory) }
     {
         match self.in_vec(alloc) {
@@ -253,9 +249,7 @@ impl<
         ModelError,
     >
         requires { PRECISION ≤ 63 }
-        ensures ok { IfOk result (λ m.
-            ⟦<NonContiguousLookupDecoderModel<Symbol, Probability, Vec<(Probability, Symbol)>, Vec<Probability>, PRECISION> as EntropyModel<PRECISION>>⟧.rows m
-            ≡ ⟦<Self as EntropyModel<PRECISION>>⟧.rows self) }
+        ensures ok { IfOk result (λ m. lookup_model_rows m ≡ decoder_model_rows self) }
         ensures refused { IfErr result (λ e. e ≡ ModelError.OutOfMemory) }
     {
         lookup_over(alloc, self)
@@ -289,8 +283,7 @@ impl<
         PRECISION,
         SLOT_BITS,
     >
-        ensures { ⟦<SlottedNonContiguousLookupDecoderModel<Symbol, Probability, &'m [(Probability, Symbol)], &'m [Probability], PRECISION, SLOT_BITS> as EntropyModel<PRECISION>>⟧.rows result
-            ≡ ⟦<Self as EntropyModel<PRECISION>>⟧.rows self.now }
+        ensures { lookup_model_rows result ≡ lookup_model_rows self.now }
     {
         LookupDecoderModel {
             model: self.model.as_view(),
@@ -308,8 +301,7 @@ impl<
         &'m [(Probability, Symbol)],
         PRECISION,
     >
-        ensures { ⟦<NonContiguousCategoricalDecoderModel<Symbol, Probability, &'m [(Probability, Symbol)], PRECISION> as EntropyModel<PRECISION>>⟧.rows result
-            ≡ ⟦<Self as EntropyModel<PRECISION>>⟧.rows self.now }
+        ensures { decoder_model_rows result ≡ lookup_model_rows self.now }
     {
         self.model.as_view()
     }

@@ -66,7 +66,9 @@ impl<
 
     type Probability = Probability;
 
-    ghost rows = { λ m. rows_paired Probability.whole PRECISION (Cdf.words_of m.cdf) };
+    ghost use Rattle.constriction_categorical.specs.ModelRows.{decoder_model_rows};
+
+    ghost rows = { decoder_model_rows };
 }
 
 /// The entries of these symbols and weights, if no symbol is equal to one before it.
@@ -128,6 +130,8 @@ impl<
     Probability: WholeNumber,
     const PRECISION: usize,
 > NonContiguousCategoricalDecoderModel<Symbol, Probability, Vec<(Probability, Symbol)>, PRECISION> {
+    ghost use Rattle.constriction_categorical.specs.ModelRows.{decoder_model_rows};
+
     /// The model of these symbols and weights, one weight a symbol. Where the last weight is inferred,
     /// it is what the given ones leave of `2^PRECISION`, and there is one symbol more than given weights.
     ///
@@ -162,7 +166,7 @@ impl<
         requires probabilities_end { IsFiniteIterable P.into_iter_gives P.IntoIter.can_next P.IntoIter.remaining probabilities }
         ensures { IsMadeOfBoth (AreAccepted Symbol.eq Probability.BITS PRECISION) (completed PRECISION infer_last_probability)
             (WasReadOf S.into_iter_gives S.IntoIter.next_gives symbols) (WasReadOf P.into_iter_gives P.IntoIter.next_gives probabilities)
-            Probability.whole (λ m ss ws. ⟦<Self as EntropyModel<PRECISION>>⟧.rows m ≡ rows_of ss ws) result }
+            Probability.whole (λ m ss ws. decoder_model_rows m ≡ rows_of ss ws) result }
     {
         match entries_compared::<Probability, Symbol, S, P, PRECISION>(
             alloc,
@@ -181,14 +185,15 @@ impl<
     Probability: WholeNumber,
     const PRECISION: usize,
 > NonContiguousCategoricalDecoderModel<Symbol, Probability, Vec<(Probability, Symbol)>, PRECISION> {
+    ghost use Rattle.constriction_categorical.specs.ModelRows.{decoder_model_rows};
+
     /// A model of the same rows with clones of the symbols, and with entries of its own from the allocator of
     /// this one's. A clone has to be equal to its symbol, so that no two are equal.
     ///
     /// One allocation, and a clone of each symbol. It is refused where memory for one of these is.
     pub fn clone(&self) -> Result<Self, AllocError>
         requires { ClonesAreEqual Symbol.eq Symbol.is_clone }
-        ensures { IfOk result (λ m. StandForRows Symbol.is_clone (⟦<Self as EntropyModel<PRECISION>>⟧.rows m)
-            (⟦<Self as EntropyModel<PRECISION>>⟧.rows self.now)) }
+        ensures { IfOk result (λ m. StandForRows Symbol.is_clone (decoder_model_rows m) (decoder_model_rows self.now)) }
     {
         self.in_vec(*self.cdf.allocator())
     }
@@ -200,10 +205,12 @@ impl<
     Cdf: SafeBuf<(Probability, Symbol)>,
     const PRECISION: usize,
 > NonContiguousCategoricalDecoderModel<Symbol, Probability, Cdf, PRECISION> {
+    ghost use Rattle.constriction_categorical.specs.ModelRows.{decoder_model_rows};
+
     /// How many symbols the model has.
     #[inline]
     pub fn support_size(&self) -> usize
-        ensures { result ≡ length (⟦<Self as EntropyModel<PRECISION>>⟧.rows self.now) }
+        ensures { result ≡ length (decoder_model_rows self.now) }
     {
         self.cdf.words().len()
     }
@@ -226,8 +233,7 @@ impl<
         &'m [(Probability, Symbol)],
         PRECISION,
     >
-        ensures { ⟦<NonContiguousCategoricalDecoderModel<Symbol, Probability, &'m [(Probability, Symbol)], PRECISION> as EntropyModel<PRECISION>>⟧.rows result
-            ≡ ⟦<Self as EntropyModel<PRECISION>>⟧.rows self.now }
+        ensures { decoder_model_rows result ≡ decoder_model_rows self.now }
     {
         NonContiguousCategoricalDecoderModel {
             cdf: self.cdf.words(),
@@ -248,7 +254,7 @@ impl<
     ) -> (usize, CdfProbe<'m, (Probability, Symbol), WithSymbol>)
         requires { Probability.whole quantile < 2 ^ PRECISION }
         ensures { IsProbeFor ⟦<CdfProbe<'m, (Probability, Symbol), WithSymbol> as Probe>⟧
-            (⟦<Self as EntropyModel<PRECISION>>⟧.rows self.now) (λ _. ⊤) (Probability.whole quantile) result.0 result.1 }
+            (decoder_model_rows self.now) (λ _. ⊤) (Probability.whole quantile) result.0 result.1 }
     {
         (0, CdfProbe::new(self.cdf_entries()))
     }
@@ -260,6 +266,8 @@ impl<
     Cdf: SafeBuf<(Probability, Symbol)>,
     const PRECISION: usize,
 > NonContiguousCategoricalDecoderModel<Symbol, Probability, Cdf, PRECISION> {
+    ghost use Rattle.constriction_categorical.specs.ModelRows.{decoder_model_rows};
+
     /// Clones of the entries, which have to be equal to these.
     #[inline]
     fn entries_in_vec(&self, alloc: Global) -> Result<Vec<(Probability, Symbol)>, AllocError>
@@ -267,7 +275,7 @@ impl<
         ensures stored { IfOk result (λ v. IsStored Probability.BITS PRECISION (map (λ x. Probability.whole x.0) v.items)) }
         ensures distinct { IfOk result (λ v. IsDistinct Symbol.eq (map (λ x. x.1) v.items)) }
         ensures rows { IfOk result (λ v. StandForRows Symbol.is_clone (rows_paired Probability.whole PRECISION v.items)
-            (⟦<Self as EntropyModel<PRECISION>>⟧.rows self.now)) }
+            (decoder_model_rows self.now)) }
     {
         entries_cloned(alloc, self.cdf_entries())
     }
@@ -287,9 +295,7 @@ impl<
         AllocError,
     >
         requires { ClonesAreEqual Symbol.eq Symbol.is_clone }
-        ensures { IfOk result (λ m. StandForRows Symbol.is_clone
-            (⟦<NonContiguousCategoricalDecoderModel<Symbol, Probability, Vec<(Probability, Symbol)>, PRECISION> as EntropyModel<PRECISION>>⟧.rows m)
-            (⟦<Self as EntropyModel<PRECISION>>⟧.rows self.now)) }
+        ensures { IfOk result (λ m. StandForRows Symbol.is_clone (decoder_model_rows m) (decoder_model_rows self.now)) }
     {
         match self.entries_in_vec(alloc) {
             Ok(entries) => Ok(decoder_over(entries)),
@@ -331,7 +337,9 @@ impl<
     const PRECISION: usize,
 > SearchingModel<PRECISION>
     for NonContiguousCategoricalDecoderModel<Symbol, Probability, Cdf, PRECISION> {
-    ghost rows_in_question = { λ m q. length (⟦<Self as EntropyModel<PRECISION>>⟧.rows m) };
+    ghost use Rattle.constriction_categorical.specs.ModelRows.{decoder_model_rows};
+
+    ghost rows_in_question = { λ m q. length (decoder_model_rows m) };
 
     /// The row of a quantile, by [`row_in_entries`], with a clone of its symbol, and how often that compared it.
     #[inline(always)]

@@ -1,6 +1,7 @@
 pub mod ChainLemmas
 pub mod Chains
 pub mod Coming
+pub mod FormRows
 pub use Rattle.constriction_cursor_runs.specs.CursorCalls
 pub mod Placing
 pub mod Quantiles

@@ -5,9 +5,11 @@ ghost use Rattle.std.specs.Iterator.{Drains, IsFinite};
 ghost use Rattle.std.specs.List.{IsDistinct};
 ghost use Rattle.constriction.specs.Acceptance.{completed, AreAccepted, WasReadOf, IsMadeOfBoth, GivesDistinct};
 ghost use Rattle.constriction.specs.Model.{StandForRows, ClonesAreSame, ClonesAreEqual};
+ghost use Rattle.constriction.specs.ModelRows.{decoder_model_rows};
 ghost use Rattle.constriction.specs.Rows.{Row, rows_of, symbols_of};
 ghost use Rattle.constriction.specs.Precision.{IsLookupPrecision};
 ghost use Rattle.constriction_client.specs.Chains.{is_lookup, is_lookup_after, StepLeaves, ChainLeaves};
+ghost use Rattle.constriction_client.specs.FormRows.{form_rows};
 
 use crate::decoder_form::{DecoderForm, Searching};
 use crate::laws::form_symbols_differ;
@@ -93,8 +95,7 @@ fn from_lists<Symbol: Eq + Drop, Probability: WholeNumber, const PRECISION: usiz
     ensures { IsMadeOfBoth (AreAccepted Symbol.eq Probability.BITS PRECISION) (completed PRECISION false)
         (WasReadOf ⟦<Vec<Symbol> as IntoIterator>⟧.into_iter_gives ⟦<IntoIter<Symbol> as Iterator>⟧.next_gives symbols)
         (WasReadOf ⟦<Vec<Probability> as IntoIterator>⟧.into_iter_gives ⟦<IntoIter<Probability> as Iterator>⟧.next_gives weights)
-        Probability.whole
-        (λ m ss ws. ⟦<Searching<Symbol, Probability, PRECISION> as EntropyModel<PRECISION>>⟧.rows m ≡ rows_of ss ws) result }
+        Probability.whole (λ m ss ws. decoder_model_rows m ≡ rows_of ss ws) result }
 {
     Searching::from_distinct_symbols_and_nonzero_fixed_point_probabilities(
         alloc, symbols, weights, false,
@@ -110,8 +111,7 @@ fn searching_of<Symbol: Eq + Drop, Probability: WholeNumber, const PRECISION: us
     requires positive { 0 < PRECISION }
     requires fits { PRECISION ≤ Probability.BITS }
     requires accepted { AreAccepted Symbol.eq Probability.BITS PRECISION symbols.items (map Probability.whole weights.items) }
-    ensures rows { IfOk result (λ m. ⟦<Searching<Symbol, Probability, PRECISION> as EntropyModel<PRECISION>>⟧.rows m
-        ≡ rows_of symbols.items (map Probability.whole weights.items)) }
+    ensures rows { IfOk result (λ m. decoder_model_rows m ≡ rows_of symbols.items (map Probability.whole weights.items)) }
     ensures refused { IfErr result (λ e. e ≡ ModelError.OutOfMemory) }
 {
     from_lists(alloc, symbols, weights)
@@ -125,11 +125,8 @@ fn searched<Symbol: Eq + Clone + Drop, Probability: IndexWord, const PRECISION: 
     requires positive { 0 < PRECISION }
     requires fits { PRECISION ≤ Probability.BITS }
     requires clones { ClonesAreEqual Symbol.eq Symbol.is_clone }
-    requires distinct { IsDistinct Symbol.eq
-        (symbols_of (⟦<DecoderForm<Symbol, Probability, PRECISION> as EntropyModel<PRECISION>>⟧.rows form.now)) }
-    ensures rows { IfOk result (λ m. StandForRows Symbol.is_clone
-        (⟦<Searching<Symbol, Probability, PRECISION> as EntropyModel<PRECISION>>⟧.rows m)
-        (⟦<DecoderForm<Symbol, Probability, PRECISION> as EntropyModel<PRECISION>>⟧.rows form.now)) }
+    requires distinct { IsDistinct Symbol.eq (symbols_of (form_rows form.now)) }
+    ensures rows { IfOk result (λ m. StandForRows Symbol.is_clone (decoder_model_rows m) (form_rows form.now)) }
     ensures refused { IfErr result (λ e. e ≡ ModelError.OutOfMemory) }
 {
     to_generic_decoder_model_of_distinct::<_, PRECISION>(alloc, form)
@@ -141,8 +138,7 @@ fn symbols_differ_of<Symbol: Eq, Probability: IndexWord, const PRECISION: usize>
 )
     requires { (form : _) → IsDistinct Symbol.eq (symbols_of
         (⟦<DecoderForm<Symbol, Probability, PRECISION> as EntropyModel<PRECISION>>⟧.rows form)) }
-    ensures { IsDistinct Symbol.eq
-        (symbols_of (⟦<DecoderForm<Symbol, Probability, PRECISION> as EntropyModel<PRECISION>>⟧.rows form.now)) }
+    ensures { IsDistinct Symbol.eq (symbols_of (form_rows form.now)) }
 {}
 
 /// The form with a table of the same rows.
@@ -151,8 +147,7 @@ fn tabled_of<Symbol: Eq + Drop, Probability: IndexWord, const PRECISION: usize>(
     model: Searching<Symbol, Probability, PRECISION>,
 ) -> Result<DecoderForm<Symbol, Probability, PRECISION>, ModelError>
     requires { PRECISION ≤ 63 }
-    ensures rows { IfOk result (λ m. ⟦<DecoderForm<Symbol, Probability, PRECISION> as EntropyModel<PRECISION>>⟧.rows m
-        ≡ ⟦<Searching<Symbol, Probability, PRECISION> as EntropyModel<PRECISION>>⟧.rows model) }
+    ensures rows { IfOk result (λ m. form_rows m ≡ decoder_model_rows model) }
     ensures kind { IfOk result (λ m. is_lookup m ≡ true) }
     ensures refused { IfErr result (λ e. e ≡ ModelError.OutOfMemory) }
 {
@@ -206,7 +201,7 @@ trait Converts<Symbol>: Sized {
 
 impl<Symbol: Eq + Clone + Drop, Probability: IndexWord, const PRECISION: usize> Converts<Symbol>
     for DecoderForm<Symbol, Probability, PRECISION> {
-    ghost told = { ⟦<DecoderForm<Symbol, Probability, PRECISION> as EntropyModel<PRECISION>>⟧.rows };
+    ghost told = { form_rows };
 
     ghost clone_of = { Symbol.is_clone };
 
@@ -307,12 +302,8 @@ pub fn convert_chain<Symbol: Eq + Clone + Drop, Probability: IndexWord, const PR
 ) -> Result<DecoderForm<Symbol, Probability, PRECISION>, ModelError>
     requires precision { IsLookupPrecision Probability.BITS PRECISION }
     requires clones { ClonesAreEqual Symbol.eq Symbol.is_clone }
-    ensures rows { IfOk result (λ made. ChainLeaves Symbol.is_clone steps.now
-        (⟦<DecoderForm<Symbol, Probability, PRECISION> as EntropyModel<PRECISION>>⟧.rows form)
-        (⟦<DecoderForm<Symbol, Probability, PRECISION> as EntropyModel<PRECISION>>⟧.rows made)) }
-    ensures exact { IfOk result (λ made. ClonesAreSame Symbol.is_clone
-        → ⟦<DecoderForm<Symbol, Probability, PRECISION> as EntropyModel<PRECISION>>⟧.rows made
-        ≡ ⟦<DecoderForm<Symbol, Probability, PRECISION> as EntropyModel<PRECISION>>⟧.rows form) }
+    ensures rows { IfOk result (λ made. ChainLeaves Symbol.is_clone steps.now (form_rows form) (form_rows made)) }
+    ensures exact { IfOk result (λ made. ClonesAreSame Symbol.is_clone → form_rows made ≡ form_rows form) }
     ensures kind { IfOk result (λ made. is_lookup made ≡ fold is_lookup_after (is_lookup form) steps.now) }
     ensures refused { IfErr result (λ e. e ≡ ModelError.OutOfMemory) }
 {

@@ -43,22 +43,20 @@ pub type DecoderForm<Symbol, Probability, const PRECISION: usize> = SearchOrLook
 
 impl<Symbol: Eq, Probability: IndexWord, const PRECISION: usize> EntropyModel<PRECISION>
     for DecoderForm<Symbol, Probability, PRECISION> {
-    ghost use Rattle.constriction_client.specs.declared.decoder_form.SearchOrLookup.TheVariants as form;
+    ghost use Rattle.constriction_client.specs.FormRows.{form_rows};
 
     type Symbol = Symbol;
 
     type Probability = Probability;
 
-    ghost rows = { λ f. elim f [
-      | form.Search m ↦ ⟦<Searching<Symbol, Probability, PRECISION> as EntropyModel<PRECISION>>⟧.rows m
-      | form.Lookup m ↦ ⟦<Tabled<Symbol, Probability, PRECISION> as EntropyModel<PRECISION>>⟧.rows m
-    ] };
+    ghost rows = { form_rows };
 }
 
 impl<Symbol: Eq + Clone, Probability: IndexWord, const PRECISION: usize> DecoderModel<PRECISION>
     for DecoderForm<Symbol, Probability, PRECISION> {
     ghost use Rattle.constriction.specs.Rows.{RowsTile};
     ghost use Rattle.constriction.specs.SymbolRowLemmas.{paired-tiles};
+    ghost use Rattle.constriction_client.specs.FormRows.{form_rows};
     ghost use Rattle.constriction_client.specs.declared.decoder_form.SearchOrLookup.TheVariants as form;
 
     ghost stands_for = { Symbol.is_clone };
@@ -75,11 +73,10 @@ impl<Symbol: Eq + Clone, Probability: IndexWord, const PRECISION: usize> Decoder
         }
     }
 
-    ghost tile_law = { λ m. elim m as (λ f. RowsTile Probability.BITS PRECISION
-        (⟦<DecoderForm<Symbol, Probability, PRECISION> as EntropyModel<PRECISION>>⟧.rows f)) [
-          | form.Search s ↦ paired-tiles Probability.whole _ _ _ s.stored
-          | form.Lookup s ↦ paired-tiles Probability.whole _ _ _ s.model.stored
-        ] };
+    ghost tile_law = { λ m. elim m as (λ f. RowsTile Probability.BITS PRECISION (form_rows f)) [
+      | form.Search s ↦ paired-tiles Probability.whole _ _ _ s.stored
+      | form.Lookup s ↦ paired-tiles Probability.whole _ _ _ s.model.stored
+    ] };
 }
 
 impl<
@@ -94,6 +91,7 @@ impl<
     ghost use Rattle.constriction.specs.SymbolRowLemmas.{paired-tiles};
     ghost use Rattle.constriction.specs.Stored.{rows_paired};
     ghost use Rattle.constriction.specs.Tables.{rows_between};
+    ghost use Rattle.constriction_client.specs.FormRows.{form_rows};
     ghost use Rattle.constriction_client.specs.declared.decoder_form.SearchOrLookup.TheVariants as form;
 
     type SymbolTable = NonContiguousSymbolTable<'m, Symbol, Probability, PRECISION>;
@@ -122,9 +120,8 @@ impl<
 
     ghost steps_law = { λ t r u step. step };
 
-    ghost tile_law = { λ m. elim m.now as (λ f. RowsTile Probability.BITS PRECISION
-        (⟦<DecoderForm<Symbol, Probability, PRECISION> as EntropyModel<PRECISION>>⟧.rows f)) [
-          | form.Search s ↦ paired-tiles Probability.whole _ _ _ s.stored
-          | form.Lookup s ↦ paired-tiles Probability.whole _ _ _ s.model.stored
-        ] };
+    ghost tile_law = { λ m. elim m.now as (λ f. RowsTile Probability.BITS PRECISION (form_rows f)) [
+      | form.Search s ↦ paired-tiles Probability.whole _ _ _ s.stored
+      | form.Lookup s ↦ paired-tiles Probability.whole _ _ _ s.model.stored
+    ] };
 }

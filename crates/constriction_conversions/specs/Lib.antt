@@ -1,2 +1,3 @@
+pub mod EncoderRows
 pub mod Hashed
 pub mod Walked

@@ -6,6 +6,8 @@ ghost use Rattle.constriction_model.specs.Entries.{HoldsEntriesOf};
 ghost use Rattle.constriction_model.specs.Model.{StandApart, ClonesRepeat};
 ghost use Rattle.constriction_model.specs.Precision.{IsPrecision, IsLookupPrecision};
 ghost use Rattle.constriction_stored_rows.specs.Stored.{IsStored, rows_paired};
+ghost use Rattle.constriction_categorical.specs.ModelRows.{decoder_model_rows, lookup_model_rows};
+ghost use Rattle.constriction_conversions.specs.EncoderRows.{encoder_model_rows};
 
 use crate::convert::distinct::entries_of_distinct;
 use crate::hashed::NonContiguousCategoricalEncoderModel;
@@ -88,7 +90,7 @@ where
     M: IterableEntropyModel<PRECISION>,
     M::Symbol: Eq + Drop,
 {
-    ghost tells = { λ m d. StandApart M.Symbol.eq M.stands_for (⟦<Self as EntropyModel<PRECISION>>⟧.rows d) (M.rows m) };
+    ghost tells = { λ m d. StandApart M.Symbol.eq M.stands_for (decoder_model_rows d) (M.rows m) };
 
     ghost refuses = { λ m. ClonesRepeat M.Symbol.eq M.stands_for (M.rows m) };
 
@@ -114,7 +116,7 @@ where
     M::Symbol: Eq + Drop,
     M::Probability: IndexWord,
 {
-    ghost tells = { λ m d. StandApart M.Symbol.eq M.stands_for (⟦<Self as EntropyModel<PRECISION>>⟧.rows d) (M.rows m) };
+    ghost tells = { λ m d. StandApart M.Symbol.eq M.stands_for (lookup_model_rows d) (M.rows m) };
 
     ghost refuses = { λ m. ClonesRepeat M.Symbol.eq M.stands_for (M.rows m) };
 
@@ -133,7 +135,7 @@ where
     M: IterableEntropyModel<PRECISION>,
     M::Symbol: Hash + Eq + Drop,
 {
-    ghost tells = { λ m e. HoldsEntriesOf M.Symbol.eq M.stands_for (⟦<Self as EntropyModel<PRECISION>>⟧.rows e) (M.rows m) };
+    ghost tells = { λ m e. HoldsEntriesOf M.Symbol.eq M.stands_for (encoder_model_rows e) (M.rows m) };
 
     ghost refuses = { λ _. ⊥ };
 
@@ -215,8 +217,7 @@ where
     M::Symbol: Eq + Drop,
     requires precision { IsPrecision M.Probability.BITS PRECISION }
     requires equality { M.is_equality M.Symbol.eq }
-    ensures ok { IfOk result (λ d. StandApart M.Symbol.eq M.stands_for
-        (⟦<DecoderMadeOf<M, PRECISION> as EntropyModel<PRECISION>>⟧.rows d) (M.rows model)) }
+    ensures ok { IfOk result (λ d. StandApart M.Symbol.eq M.stands_for (decoder_model_rows d) (M.rows model)) }
     ensures invalid { result ≡ Err ModelError.InvalidTable → ClonesRepeat M.Symbol.eq M.stands_for (M.rows model) }
 {
     match entries_told::<_, PRECISION>(alloc, model) {
@@ -235,8 +236,7 @@ where
     M: IterableEntropyModel<PRECISION>,
     M::Symbol: Eq + Drop,
     requires precision { IsPrecision M.Probability.BITS PRECISION }
-    ensures ok { IfOk result (λ d. StandApart M.Symbol.eq M.stands_for
-        (⟦<DecoderMadeOf<M, PRECISION> as EntropyModel<PRECISION>>⟧.rows d) (M.rows model)) }
+    ensures ok { IfOk result (λ d. StandApart M.Symbol.eq M.stands_for (decoder_model_rows d) (M.rows model)) }
     ensures invalid { result ≡ Err ModelError.InvalidTable → ClonesRepeat M.Symbol.eq M.stands_for (M.rows model) }
 {
     match entries_apart::<_, PRECISION>(alloc, model) {
@@ -264,8 +264,7 @@ where
     M::Probability: IndexWord,
     requires precision { IsLookupPrecision M.Probability.BITS PRECISION }
     requires equality { M.is_equality M.Symbol.eq }
-    ensures ok { IfOk result (λ d. StandApart M.Symbol.eq M.stands_for
-        (⟦<LookupMadeOf<M, PRECISION, 8> as EntropyModel<PRECISION>>⟧.rows d) (M.rows model)) }
+    ensures ok { IfOk result (λ d. StandApart M.Symbol.eq M.stands_for (lookup_model_rows d) (M.rows model)) }
     ensures invalid { result ≡ Err ModelError.InvalidTable → ClonesRepeat M.Symbol.eq M.stands_for (M.rows model) }
 {
     to_generic_slotted_lookup_decoder_model::<M, PRECISION, 8>(alloc, model)
@@ -282,8 +281,7 @@ where
     M::Probability: IndexWord,
     requires precision { IsLookupPrecision M.Probability.BITS PRECISION }
     requires equality { M.is_equality M.Symbol.eq }
-    ensures ok { IfOk result (λ d. StandApart M.Symbol.eq M.stands_for
-        (⟦<LookupMadeOf<M, PRECISION, SLOT_BITS> as EntropyModel<PRECISION>>⟧.rows d) (M.rows model)) }
+    ensures ok { IfOk result (λ d. StandApart M.Symbol.eq M.stands_for (lookup_model_rows d) (M.rows model)) }
     ensures invalid { result ≡ Err ModelError.InvalidTable → ClonesRepeat M.Symbol.eq M.stands_for (M.rows model) }
 {
     match to_generic_decoder_model::<M, PRECISION>(alloc, model) {
@@ -305,8 +303,7 @@ pub fn to_generic_encoder_model<M, const PRECISION: usize>(
 where
     M: IterableEntropyModel<PRECISION>,
     M::Symbol: Hash + Eq + Drop,
-    ensures entries { IfOk result (λ e. HoldsEntriesOf M.Symbol.eq M.stands_for
-        (⟦<EncoderMadeOf<M, PRECISION> as EntropyModel<PRECISION>>⟧.rows e) (M.rows model)) }
+    ensures entries { IfOk result (λ e. HoldsEntriesOf M.Symbol.eq M.stands_for (encoder_model_rows e) (M.rows model)) }
     ensures refused { IfErr result (λ e. e ≡ ModelError.OutOfMemory) }
 {
     let table = table_walked::<_, _, _, _, PRECISION>(alloc, model.symbol_table())?;

@@ -7,10 +7,8 @@ ghost use Rattle.std.specs.Map.{keys_of};
 ghost use Rattle.std.proofs.Props.{props};
 ghost use Rattle.constriction_model.specs.Acceptance.{completed, AreAccepted, WasReadOf, IsMadeOfBoth};
 ghost use Rattle.constriction_conversions.specs.Hashed.{rows_of_table};
-ghost use Rattle.constriction_model.specs.Entries.{SameEntries};
 ghost use Rattle.constriction_model.specs.Model.{LiesWithin, StandForRows};
 ghost use Rattle.constriction_model.specs.Precision.{IsPrecision};
-ghost use Rattle.constriction_model.specs.Rows.{rows_of};
 
 use crate::hash_table::{Entry, HashedRows, table_for};
 use constriction_model::{EncoderModel, EntropyModel, ModelError, Weight};
@@ -58,8 +56,9 @@ impl<Symbol: Hash + Eq, Probability: WholeNumber, const PRECISION: usize> Entrop
 
     type Probability = Probability;
 
-    ghost rows = { λ m. rows_of_table
-        (λ e. (Probability.whole e.left, Probability.whole (Probability.base e.weight))) m.table.entries };
+    ghost use Rattle.constriction_conversions.specs.EncoderRows.{encoder_model_rows};
+
+    ghost rows = { encoder_model_rows };
 }
 
 impl<Symbol: Hash + Eq, Probability: WholeNumber, const PRECISION: usize> EncoderModel<PRECISION>
@@ -88,10 +87,12 @@ impl<
     Probability: WholeNumber,
     const PRECISION: usize,
 > NonContiguousCategoricalEncoderModel<Symbol, Probability, PRECISION> {
+    ghost use Rattle.constriction_conversions.specs.EncoderRows.{encoder_model_rows};
+
     /// How many symbols have an entry.
     #[inline]
     pub fn support_size(&self) -> usize
-        ensures { result ≡ length (⟦<Self as EntropyModel<PRECISION>>⟧.rows self.now) }
+        ensures { result ≡ length (encoder_model_rows self.now) }
     {
         self.table.len()
     }
@@ -102,6 +103,8 @@ impl<
     Probability: WholeNumber,
     const PRECISION: usize,
 > NonContiguousCategoricalEncoderModel<Symbol, Probability, PRECISION> {
+    ghost use Rattle.constriction_conversions.specs.EncoderRows.{encoder_model_rows, AreHashedRowsOf};
+
     /// The model of these symbols and weights, one weight a symbol. Where the last weight is inferred,
     /// it is what the given ones leave of `2^PRECISION`, and there is one symbol more than given weights.
     ///
@@ -127,8 +130,7 @@ impl<
         requires probabilities_end { IsFiniteIterable P.into_iter_gives P.IntoIter.can_next P.IntoIter.remaining probabilities }
         ensures { IsMadeOfBoth (AreAccepted Symbol.eq Probability.BITS PRECISION) (completed PRECISION infer_last_probability)
             (WasReadOf S.into_iter_gives S.IntoIter.next_gives symbols) (WasReadOf P.into_iter_gives P.IntoIter.next_gives probabilities)
-            Probability.whole (λ m ss ws. SameEntries Symbol.eq (⟦<Self as EntropyModel<PRECISION>>⟧.rows m) (rows_of ss ws)
-            × (length (⟦<Self as EntropyModel<PRECISION>>⟧.rows m) ≡ length ss)) result }
+            Probability.whole (λ m ss ws. AreHashedRowsOf Symbol.eq (encoder_model_rows m) ss ws) result }
     {
         let symbols = symbols.into_iter();
         let table = table_for(alloc, rows_announced::<PRECISION>(symbols.size_hint().0));
@@ -151,8 +153,9 @@ impl<
 
 impl<Symbol: Hash + Eq + Clone, Probability: WholeNumber, const PRECISION: usize> Clone
     for NonContiguousCategoricalEncoderModel<Symbol, Probability, PRECISION> {
-    ghost is_clone = { λ x y. StandForRows Symbol.is_clone (⟦<Self as EntropyModel<PRECISION>>⟧.rows y)
-        (⟦<Self as EntropyModel<PRECISION>>⟧.rows x) };
+    ghost use Rattle.constriction_conversions.specs.EncoderRows.{encoder_model_rows};
+
+    ghost is_clone = { λ x y. StandForRows Symbol.is_clone (encoder_model_rows y) (encoder_model_rows x) };
 
     /// A model of the same entries, for clones of the symbols, with a table of its own from the allocator of
     /// this one's.

@@ -2,8 +2,10 @@
 
 ghost use Rattle.std.specs.Prelude.{◌≡◌, ◌<◌, ◌≤◌, List, length, reverse, Err, IfOk, IfErr, OnOk, OnErr};
 ghost use Rattle.std.specs.List.{IsDistinct};
+ghost use Rattle.constriction.specs.EncoderRows.{encoder_model_rows};
 ghost use Rattle.constriction.specs.Entries.{SameEntries};
 ghost use Rattle.constriction.specs.Model.{StandForRows, ClonesAreEqual};
+ghost use Rattle.constriction.specs.ModelRows.{decoder_model_rows};
 ghost use Rattle.constriction.specs.Rows.{entry_of, symbols_of};
 ghost use Rattle.constriction.specs.Precision.{IsPrecision};
 ghost use Rattle.constriction_client.specs.Coming.{ComeNext, QuantilesCome, GoesBack};
@@ -16,9 +18,8 @@ ghost use Rattle.constriction_client.specs.ThereAndBack.{StandForItems, HasFault
 use crate::decoder_form::Searching;
 use crate::quantiles::{QuantileFault, ReadFault, read_symbols, write_quantiles};
 use constriction::stream::model::{
-    DecoderModel, DecodesOver, EncoderModel, EncodesOver, EntropyModel, IterableEntropyModel,
-    ModelError, NonContiguousCategoricalEncoderModel, to_generic_decoder_model,
-    to_generic_encoder_model,
+    DecoderModel, DecodesOver, EncoderModel, EncodesOver, IterableEntropyModel, ModelError,
+    NonContiguousCategoricalEncoderModel, to_generic_decoder_model, to_generic_encoder_model,
 };
 use constriction_backends::laws::extending_overwrites;
 use constriction_backends::{BoundedWriteError, Cursor, ReadWords, SafeBufMut};
@@ -134,11 +135,8 @@ where
     requires precision { IsPrecision M.Probability.BITS PRECISION }
     requires clones { ClonesAreEqual M.Symbol.eq M.stands_for }
     requires equality { M.is_equality M.Symbol.eq }
-    ensures rows { IfOk result (λ both. StandForRows M.stands_for
-        (⟦<Searching<M::Symbol, M::Probability, PRECISION> as EntropyModel<PRECISION>>⟧.rows both.0) (M.rows model)) }
-    ensures alike { IfOk result (λ both. SameEntries M.Symbol.eq
-        (⟦<NonContiguousCategoricalEncoderModel<M::Symbol, M::Probability, PRECISION> as EntropyModel<PRECISION>>⟧.rows both.1)
-        (⟦<Searching<M::Symbol, M::Probability, PRECISION> as EntropyModel<PRECISION>>⟧.rows both.0)) }
+    ensures rows { IfOk result (λ both. StandForRows M.stands_for (decoder_model_rows both.0) (M.rows model)) }
+    ensures alike { IfOk result (λ both. SameEntries M.Symbol.eq (encoder_model_rows both.1) (decoder_model_rows both.0)) }
     ensures invalid { result ≡ Err ModelError.InvalidTable → ¬ (IsDistinct M.Symbol.eq (symbols_of (M.rows model))) }
 {
     let decoder = to_generic_decoder_model::<M, PRECISION>(alloc, model)?;

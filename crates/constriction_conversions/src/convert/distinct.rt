@@ -6,11 +6,12 @@ ghost use Rattle.constriction_model.specs.Model.{StandApart, ClonesAreEqual};
 ghost use Rattle.constriction_model.specs.Precision.{IsPrecision, IsLookupPrecision};
 ghost use Rattle.constriction_model.specs.Rows.{symbols_of};
 ghost use Rattle.constriction_stored_rows.specs.Stored.{IsStored, rows_paired};
+ghost use Rattle.constriction_categorical.specs.ModelRows.{decoder_model_rows, lookup_model_rows};
 
 use crate::convert::{DecoderMadeOf, LookupMadeOf};
 use crate::walking::entries_collected;
 use constriction_categorical::{IterableEntropyModel, decoder_over};
-use constriction_model::{EntropyModel, ModelError};
+use constriction_model::ModelError;
 use constriction_numbers::IndexWord;
 use std::alloc::Global;
 
@@ -56,8 +57,7 @@ where
     requires precision { IsPrecision M.Probability.BITS PRECISION }
     requires clones { ClonesAreEqual M.Symbol.eq M.stands_for }
     requires distinct { IsDistinct M.Symbol.eq (symbols_of (M.rows model)) }
-    ensures ok { IfOk result (λ d. StandApart M.Symbol.eq M.stands_for
-        (⟦<DecoderMadeOf<M, PRECISION> as EntropyModel<PRECISION>>⟧.rows d) (M.rows model)) }
+    ensures ok { IfOk result (λ d. StandApart M.Symbol.eq M.stands_for (decoder_model_rows d) (M.rows model)) }
     ensures refused { IfErr result (λ e. e ≡ ModelError.OutOfMemory) }
 {
     match entries_of_distinct::<_, PRECISION>(alloc, model) {
@@ -84,8 +84,7 @@ where
     requires precision { IsLookupPrecision M.Probability.BITS PRECISION }
     requires clones { ClonesAreEqual M.Symbol.eq M.stands_for }
     requires distinct { IsDistinct M.Symbol.eq (symbols_of (M.rows model)) }
-    ensures ok { IfOk result (λ d. StandApart M.Symbol.eq M.stands_for
-        (⟦<LookupMadeOf<M, PRECISION, 8> as EntropyModel<PRECISION>>⟧.rows d) (M.rows model)) }
+    ensures ok { IfOk result (λ d. StandApart M.Symbol.eq M.stands_for (lookup_model_rows d) (M.rows model)) }
     ensures refused { IfErr result (λ e. e ≡ ModelError.OutOfMemory) }
 {
     match to_generic_decoder_model_of_distinct::<M, PRECISION>(alloc, model) {
