@@ -3,6 +3,7 @@
 ghost use Rattle.std.specs.Prelude.{◌≡◌, ◌≢◌, ◌∷◌, ◌++◌, ◌^◌, ◌<◌, ◌≤◌, ℕ, List, length, map, Option, Some, None, Ok, Err, IfOk, OnOk};
 ghost use Rattle.std.specs.List.{IsDistinct};
 ghost use Rattle.constriction.specs.Acceptance.{AreAccepted};
+ghost use Rattle.constriction.specs.ModelRows.{decoder_model_rows};
 ghost use Rattle.constriction.specs.Rows.{rows_of, symbols_of};
 ghost use Rattle.constriction_backends.specs.Sink.{Writes};
 ghost use Rattle.constriction_backends.specs.Source.{Reads};
@@ -10,7 +11,7 @@ ghost use Rattle.constriction_ans_example.specs.Tables.{table_words, BeginsTable
 
 use constriction::backends::{Cursor, ReadWords, ReadWriteError, WriteWords};
 use constriction::stream::model::{
-    EntropyModel, IterableEntropyModel, ModelError, NonContiguousCategoricalDecoderModel,
+    IterableEntropyModel, ModelError, NonContiguousCategoricalDecoderModel,
 };
 use constriction::{CoderError, Queue};
 use std::alloc::{AllocError, Global};
@@ -134,8 +135,7 @@ fn table_of<Symbol: Eq + Drop, const PRECISION: usize>(
     requires positive { 0 < PRECISION }
     requires fits { PRECISION ≤ 32 }
     ensures accepted { IfOk result (λ _. AreAccepted Symbol.eq 32 PRECISION symbols.items weights.items) }
-    ensures rows { IfOk result (λ table. ⟦<StoredTable<Symbol, PRECISION> as EntropyModel<PRECISION>>⟧.rows table
-        ≡ rows_of symbols.items weights.items) }
+    ensures rows { IfOk result (λ table. decoder_model_rows table ≡ rows_of symbols.items weights.items) }
     ensures not_accepted { result ≡ Err TableFault.NotAccepted → ¬ (AreAccepted Symbol.eq 32 PRECISION symbols.items weights.items) }
     ensures whole { result ≢ Err TableFault.TooFewWords }
 {
@@ -159,7 +159,7 @@ pub fn read_table<Symbol: Eq + Drop, Source: ReadWords<u32, Queue>, const PRECIS
     requires can_read { Source.can_read source.old }
     ensures goes_on { Source.can_read source.new }
     ensures ok { IfOk result (λ table. ReadsTable Source.read_gives Source.tells_upcoming Symbol.eq PRECISION symbols.items
-        source.old (⟦<StoredTable<Symbol, PRECISION> as EntropyModel<PRECISION>>⟧.rows table) source.new) }
+        source.old (decoder_model_rows table) source.new) }
     ensures not_accepted { result ≡ Err (CoderError.Frontend TableFault.NotAccepted)
         → (weights : List ℕ) × ReadsWeights Source.read_gives Source.tells_upcoming source.old weights source.new
         × ¬ (AreAccepted Symbol.eq 32 PRECISION symbols.items weights) }
@@ -234,7 +234,7 @@ where
     requires positive { 0 < PRECISION }
     requires fits { PRECISION ≤ 32 }
     requires symbols { symbols.items ≡ symbols_of (M.rows model) }
-    ensures rows { IfOk result (λ table. ⟦<StoredTable<M::Symbol, PRECISION> as EntropyModel<PRECISION>>⟧.rows table ≡ M.rows model) }
+    ensures rows { IfOk result (λ table. decoder_model_rows table ≡ M.rows model) }
     ensures too_many { result ≡ Err (ReadWriteError.Write (CoderError.Frontend StoringFault.TooManyWeights))
         → 2 ^ 32 ≤ length (M.rows model) }
     ensures whole { result ≢ Err (ReadWriteError.Read (CoderError.Frontend TableFault.TooFewWords)) }

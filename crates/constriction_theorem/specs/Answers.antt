@@ -9,6 +9,8 @@ use Rattle.constriction_client.specs.declared.queries.Query.{Query}
 use Rattle.constriction_client.specs.declared.queries.Reply.{Reply}
 use Rattle.constriction_client.specs.Replies.{in_numbers, replies_by_scan, AreRepliesOf}
 use Rattle.constriction_theorem.specs.declared.models.AnswersOfModel.{AnswersOfModel}
+use Rattle.constriction_theorem.specs.declared.searches.AnswersBySearch.{AnswersBySearch}
+use Rattle.constriction_theorem.specs.declared.weights.AnswersOfWeights.{AnswersOfWeights}
 use Rattle.constriction_theorem.specs.declared.weights.RepliesByEncoder.{RepliesByEncoder}
 
 -- The form that steps leave of one that was made of the rows `first`, which was a lookup form or not, and what it replies beside an
@@ -33,6 +35,19 @@ abbrev pub ReplyAsScan : {Word Weight : Type 0} → (Reply ℕ Word Weight → R
     → Type 0
 ReplyAsScan in_numbers scanned given =
     (map in_numbers given.contiguous.items ≡ scanned) × (map in_numbers given.hashed.items ≡ scanned)
+
+-- the models of one list of weights reply so, those without a table
+abbrev pub BothReplyAsScan : {Word Weight Decoder : Type 0} → (Reply ℕ Word Weight → Reply ℕ ℕ ℕ) → List (Reply ℕ ℕ ℕ)
+    → AnswersBySearch Word Decoder Weight → Type 0
+BothReplyAsScan in_numbers scanned answers =
+    ReplyAsScan in_numbers scanned answers.contiguous × ReplyAsScan in_numbers scanned answers.non_contiguous
+
+-- and the model that searches, the one with a table and the form that steps leave
+abbrev pub AllReplyAsScan : {Word Weight Form : Type 0} → (Reply ℕ Word Weight → Reply ℕ ℕ ℕ) → List (Reply ℕ ℕ ℕ)
+    → AnswersOfWeights Word Form Weight → Type 0
+AllReplyAsScan in_numbers scanned answers =
+    ReplyAsScan in_numbers scanned answers.searching × ReplyAsScan in_numbers scanned answers.tabled
+    × ReplyAsScan in_numbers scanned answers.converted
 
 -- The form that steps leave of the rows of a range, and what it and the dividing model reply.
 pub record AnswersOfRange {Weight Searching Tabled : Type 0} (precision range : ℕ) (steps : List ChainStep) (queries : List (Query ℕ ℕ))

@@ -5,10 +5,11 @@ ghost use Rattle.constriction.specs.Entries.{SameEntries};
 ghost use Rattle.constriction.specs.Model.{ClonesAreEqual};
 ghost use Rattle.constriction.specs.Precision.{IsLookupPrecision};
 ghost use Rattle.constriction_client.specs.Chains.{is_lookup};
+ghost use Rattle.constriction_client.specs.FormRows.{form_rows};
 ghost use Rattle.constriction_client.specs.Replies.{in_numbers, replies_by_scan};
 ghost use Rattle.constriction_theorem.specs.Answers.{AnswersAfter};
 
-use constriction::stream::model::{EncodesOver, EntropyModel, ModelError};
+use constriction::stream::model::{EncodesOver, ModelError};
 use constriction_client::{ChainStep, DecoderForm, Query, Reply, answer_queries, convert_chain};
 use constriction_words::IndexWord;
 use std::alloc::Global;
@@ -37,13 +38,10 @@ where
     requires precision { IsLookupPrecision Probability.BITS PRECISION }
     requires clones { ClonesAreEqual Symbol.eq Symbol.is_clone }
     requires equal { ClonesAreEqual E.symbol_eq Symbol.is_clone }
-    requires alike { SameEntries E.symbol_eq (E.rows encoder.now)
-        (⟦<DecoderForm<Symbol, Probability, PRECISION> as EntropyModel<PRECISION>>⟧.rows form) }
+    requires alike { SameEntries E.symbol_eq (E.rows encoder.now) (form_rows form) }
     ensures answers { IfOk result (λ x. AnswersAfter (λ s t. t ≡ s) Symbol.is_clone
-        (replies_by_scan PRECISION Probability.whole E.symbol_eq queries.now) steps.now (is_lookup form)
-        (⟦<DecoderForm<Symbol, Probability, PRECISION> as EntropyModel<PRECISION>>⟧.rows form)
-        (is_lookup x.0) (⟦<DecoderForm<Symbol, Probability, PRECISION> as EntropyModel<PRECISION>>⟧.rows x.0)
-        (map (in_numbers Probability.whole Probability.base) x.1.items)) }
+        (replies_by_scan PRECISION Probability.whole E.symbol_eq queries.now) steps.now (is_lookup form) (form_rows form)
+        (is_lookup x.0) (form_rows x.0) (map (in_numbers Probability.whole Probability.base) x.1.items)) }
     ensures refused { IfErr result (λ e. e ≡ ModelError.OutOfMemory) }
 {
     let converted = convert_chain(alloc, form, steps)?;

@@ -1,15 +1,17 @@
 //! Models that are made of lists and of other models, each by one call, in the terms of the laws.
 
-ghost use Rattle.std.specs.Prelude.{◌≡◌, ◌<◌, ◌≤◌, ℕ, map, nat_eq, IfOk, IfErr};
+ghost use Rattle.std.specs.Prelude.{◌≡◌, ◌<◌, ◌≤◌, map, nat_eq, IfOk, IfErr};
 ghost use Rattle.std.specs.List.{IsDistinct};
 ghost use Rattle.constriction.specs.Acceptance.{completed, IsAccepted, AreAccepted, WasReadOf, IsMadeOfWeights, IsMadeOfBoth};
-ghost use Rattle.constriction.specs.Entries.{HoldsEntriesOf};
+ghost use Rattle.constriction.specs.EncoderRows.{encoder_model_rows};
+ghost use Rattle.constriction.specs.Entries.{HoldsEntriesOf, SameEntries};
 ghost use Rattle.constriction.specs.Model.{StandForRows, ClonesAreEqual};
-ghost use Rattle.constriction.specs.Rows.{contiguous_rows, entry_of, rows_of, symbols_of};
+ghost use Rattle.constriction.specs.ModelRows.{contiguous_model_rows, decoder_model_rows};
+ghost use Rattle.constriction.specs.Rows.{contiguous_rows, rows_of, symbols_of};
 
 use constriction::laws::contiguous_symbols_differ;
 use constriction::stream::model::{
-    ContiguousCategoricalEntropyModel, EntropyModel, IterableEntropyModel, ModelError,
+    ContiguousCategoricalEntropyModel, IterableEntropyModel, ModelError,
     NonContiguousCategoricalDecoderModel, NonContiguousCategoricalEncoderModel,
     to_generic_decoder_model_of_distinct, to_generic_encoder_model,
 };
@@ -47,8 +49,7 @@ fn searching_of_lists<Symbol: Eq + Drop, Probability: WholeNumber, const PRECISI
     ensures { IsMadeOfBoth (AreAccepted Symbol.eq Probability.BITS PRECISION) (completed PRECISION infer_last_probability)
         (WasReadOf ⟦<Vec<Symbol> as IntoIterator>⟧.into_iter_gives ⟦<IntoIter<Symbol> as Iterator>⟧.next_gives symbols)
         (WasReadOf ⟦<Vec<Probability> as IntoIterator>⟧.into_iter_gives ⟦<IntoIter<Probability> as Iterator>⟧.next_gives weights)
-        Probability.whole
-        (λ m ss ws. ⟦<Searching<Symbol, Probability, PRECISION> as EntropyModel<PRECISION>>⟧.rows m ≡ rows_of ss ws) result }
+        Probability.whole (λ m ss ws. decoder_model_rows m ≡ rows_of ss ws) result }
 {
     Searching::from_symbols_and_nonzero_fixed_point_probabilities(
         alloc,
@@ -67,10 +68,9 @@ pub(crate) fn searching_from<Symbol: Eq + Drop, Probability: WholeNumber, const 
 ) -> Result<Searching<Symbol, Probability, PRECISION>, ModelError>
     requires positive { 0 < PRECISION }
     requires fits { PRECISION ≤ Probability.BITS }
-    ensures ok { IfOk result (λ m. AreAccepted Symbol.eq Probability.BITS PRECISION symbols.items
-        (completed PRECISION infer_last_probability (map Probability.whole weights.items))
-        × (⟦<Searching<Symbol, Probability, PRECISION> as EntropyModel<PRECISION>>⟧.rows m
-        ≡ rows_of symbols.items (completed PRECISION infer_last_probability (map Probability.whole weights.items)))) }
+    ensures ok { IfOk result (λ m. let given = completed PRECISION infer_last_probability (map Probability.whole weights.items) in
+        AreAccepted Symbol.eq Probability.BITS PRECISION symbols.items given
+        × (decoder_model_rows m ≡ rows_of symbols.items given)) }
     ensures invalid { result ≡ Err ModelError.InvalidTable
         → ¬ (AreAccepted Symbol.eq Probability.BITS PRECISION symbols.items
         (completed PRECISION infer_last_probability (map Probability.whole weights.items))) }
@@ -88,7 +88,7 @@ fn contiguous_of_list<Probability: WholeNumber, const PRECISION: usize>(
     requires fits { PRECISION ≤ Probability.BITS }
     ensures { IsMadeOfWeights (IsAccepted Probability.BITS PRECISION) (completed PRECISION infer_last_probability)
         (WasReadOf ⟦<Vec<Probability> as IntoIterator>⟧.into_iter_gives ⟦<IntoIter<Probability> as Iterator>⟧.next_gives weights)
-        Probability.whole (λ m ws. ⟦<Contiguous<Probability, PRECISION> as EntropyModel<PRECISION>>⟧.rows m ≡ contiguous_rows ws) result }
+        Probability.whole (λ m ws. contiguous_model_rows m ≡ contiguous_rows ws) result }
 {
     Contiguous::from_nonzero_fixed_point_probabilities(alloc, weights, infer_last_probability)
 }
@@ -101,10 +101,8 @@ pub(crate) fn contiguous_from<Probability: WholeNumber, const PRECISION: usize>(
 ) -> Result<Contiguous<Probability, PRECISION>, ModelError>
     requires positive { 0 < PRECISION }
     requires fits { PRECISION ≤ Probability.BITS }
-    ensures ok { IfOk result (λ m. IsAccepted Probability.BITS PRECISION
-        (completed PRECISION infer_last_probability (map Probability.whole weights.items))
-        × (⟦<Contiguous<Probability, PRECISION> as EntropyModel<PRECISION>>⟧.rows m
-        ≡ contiguous_rows (completed PRECISION infer_last_probability (map Probability.whole weights.items)))) }
+    ensures ok { IfOk result (λ m. let given = completed PRECISION infer_last_probability (map Probability.whole weights.items) in
+        IsAccepted Probability.BITS PRECISION given × (contiguous_model_rows m ≡ contiguous_rows given)) }
     ensures invalid { result ≡ Err ModelError.InvalidTable → ¬ (IsAccepted Probability.BITS PRECISION
         (completed PRECISION infer_last_probability (map Probability.whole weights.items))) }
 {
@@ -119,9 +117,7 @@ pub(crate) fn encoder_of<M, const PRECISION: usize>(
 where
     M: IterableEntropyModel<PRECISION>,
     M::Symbol: Hash + Eq + Drop,
-    ensures entries { IfOk result (λ e. HoldsEntriesOf M.Symbol.eq M.stands_for
-        (⟦<NonContiguousCategoricalEncoderModel<M::Symbol, M::Probability, PRECISION> as EntropyModel<PRECISION>>⟧.rows e)
-        (M.rows model)) }
+    ensures entries { IfOk result (λ e. HoldsEntriesOf M.Symbol.eq M.stands_for (encoder_model_rows e) (M.rows model)) }
     ensures refused { IfErr result (λ e. e ≡ ModelError.OutOfMemory) }
 {
     to_generic_encoder_model::<M, PRECISION>(alloc, model)
@@ -137,9 +133,7 @@ pub(crate) fn hashed_of<
     model: &Searching<Symbol, Probability, PRECISION>,
 ) -> Result<NonContiguousCategoricalEncoderModel<Symbol, Probability, PRECISION>, ModelError>
     requires { ClonesAreEqual Symbol.eq Symbol.is_clone }
-    ensures entries { IfOk result (λ e. (s : Symbol) → entry_of Symbol.eq
-        (⟦<NonContiguousCategoricalEncoderModel<Symbol, Probability, PRECISION> as EntropyModel<PRECISION>>⟧.rows e) s
-        ≡ entry_of Symbol.eq (⟦<Searching<Symbol, Probability, PRECISION> as EntropyModel<PRECISION>>⟧.rows model.now) s) }
+    ensures entries { IfOk result (λ e. SameEntries Symbol.eq (encoder_model_rows e) (decoder_model_rows model.now)) }
     ensures refused { IfErr result (λ e. e ≡ ModelError.OutOfMemory) }
 {
     encoder_of::<_, PRECISION>(alloc, model)
@@ -157,13 +151,8 @@ where
     requires fits { PRECISION ≤ M.Probability.BITS }
     requires clones { ClonesAreEqual M.Symbol.eq M.stands_for }
     requires distinct { IsDistinct M.Symbol.eq (symbols_of (M.rows model)) }
-    ensures rows { IfOk result (λ both. StandForRows M.stands_for
-        (⟦<NonContiguousCategoricalDecoderModel<M::Symbol, M::Probability, Vec<(M::Probability, M::Symbol)>, PRECISION> as EntropyModel<PRECISION>>⟧.rows both.0)
-        (M.rows model)) }
-    ensures alike { IfOk result (λ both. (s : M.Symbol) → entry_of M.Symbol.eq
-        (⟦<NonContiguousCategoricalEncoderModel<M::Symbol, M::Probability, PRECISION> as EntropyModel<PRECISION>>⟧.rows both.1) s
-        ≡ entry_of M.Symbol.eq
-        (⟦<NonContiguousCategoricalDecoderModel<M::Symbol, M::Probability, Vec<(M::Probability, M::Symbol)>, PRECISION> as EntropyModel<PRECISION>>⟧.rows both.0) s) }
+    ensures rows { IfOk result (λ both. StandForRows M.stands_for (decoder_model_rows both.0) (M.rows model)) }
+    ensures alike { IfOk result (λ both. SameEntries M.Symbol.eq (encoder_model_rows both.1) (decoder_model_rows both.0)) }
     ensures refused { IfErr result (λ e. e ≡ ModelError.OutOfMemory) }
 {
     let decoder = to_generic_decoder_model_of_distinct::<M, PRECISION>(alloc, model)?;
@@ -178,11 +167,8 @@ pub(crate) fn both_of_contiguous<Probability: WholeNumber, const PRECISION: usiz
 ) -> Result<DecoderAndEncoder<usize, Probability, PRECISION>, ModelError>
     requires positive { 0 < PRECISION }
     requires fits { PRECISION ≤ Probability.BITS }
-    ensures rows { IfOk result (λ both. ⟦<Searching<usize, Probability, PRECISION> as EntropyModel<PRECISION>>⟧.rows both.0
-        ≡ ⟦<Contiguous<Probability, PRECISION> as EntropyModel<PRECISION>>⟧.rows model.now) }
-    ensures entries { IfOk result (λ both. (s : ℕ) → entry_of nat_eq
-        (⟦<NonContiguousCategoricalEncoderModel<usize, Probability, PRECISION> as EntropyModel<PRECISION>>⟧.rows both.1) s
-        ≡ entry_of nat_eq (⟦<Contiguous<Probability, PRECISION> as EntropyModel<PRECISION>>⟧.rows model.now) s) }
+    ensures rows { IfOk result (λ both. decoder_model_rows both.0 ≡ contiguous_model_rows model.now) }
+    ensures entries { IfOk result (λ both. SameEntries nat_eq (encoder_model_rows both.1) (contiguous_model_rows model.now)) }
     ensures refused { IfErr result (λ e. e ≡ ModelError.OutOfMemory) }
 {
     contiguous_symbols_differ();

@@ -6,12 +6,13 @@ ghost use Rattle.constriction.specs.Model.{ClonesAreEqual};
 ghost use Rattle.constriction.specs.Rows.{symbols_of};
 ghost use Rattle.constriction.specs.Precision.{IsPrecision, IsLookupPrecision};
 ghost use Rattle.constriction_client.specs.Chains.{is_lookup};
+ghost use Rattle.constriction_client.specs.FormRows.{form_rows};
 ghost use Rattle.constriction_client.specs.Replies.{in_numbers, replies_by_scan, AreRepliesOf};
 ghost use Rattle.constriction_theorem.specs.Answers.{AnswersAfter};
 
 use crate::forms::{FormAndReplies, answer_by_form};
 use crate::made::{both_of, encoder_of};
-use constriction::stream::model::{DecoderModel, EntropyModel, IterableEntropyModel, ModelError};
+use constriction::stream::model::{DecoderModel, IterableEntropyModel, ModelError};
 use constriction_client::{ChainStep, DecoderForm, Query, Reply, answer_queries};
 use constriction_words::{IndexWord, WholeNumber};
 use std::alloc::Global;
@@ -40,8 +41,7 @@ where
     requires distinct { IsDistinct M.Symbol.eq (symbols_of (M.rows model)) }
     ensures answers { IfOk result (λ both. AnswersAfter M.stands_for M.Symbol.is_clone
         (replies_by_scan PRECISION M.Probability.whole M.Symbol.eq queries.now) steps.now false (M.rows model)
-        (is_lookup both.0) (⟦<DecoderForm<M::Symbol, M::Probability, PRECISION> as EntropyModel<PRECISION>>⟧.rows both.0)
-        (map (in_numbers M.Probability.whole M.Probability.base) both.1.items)) }
+        (is_lookup both.0) (form_rows both.0) (map (in_numbers M.Probability.whole M.Probability.base) both.1.items)) }
     ensures refused { IfErr result (λ e. e ≡ ModelError.OutOfMemory) }
 {
     let (decoder, encoder) = both_of::<M, PRECISION>(alloc, model)?;
@@ -118,9 +118,8 @@ where
         (replies_by_scan PRECISION M.Probability.whole M.Symbol.eq queries.now (M.rows model))
         (map (in_numbers M.Probability.whole M.Probability.base) answers.by_model.items)) }
     ensures converted { IfOk result (λ answers. AnswersAfter M.IterableEntropyModel.stands_for M.Symbol.is_clone
-        (replies_by_scan PRECISION M.Probability.whole M.Symbol.eq queries.now) steps.now false (M.rows model)
-        (is_lookup answers.form) (⟦<DecoderForm<M::Symbol, M::Probability, PRECISION> as EntropyModel<PRECISION>>⟧.rows answers.form)
-        (map (in_numbers M.Probability.whole M.Probability.base) answers.converted.items)) }
+        (replies_by_scan PRECISION M.Probability.whole M.Symbol.eq queries.now) steps.now false (M.rows model) (is_lookup answers.form)
+        (form_rows answers.form) (map (in_numbers M.Probability.whole M.Probability.base) answers.converted.items)) }
     ensures refused { IfErr result (λ e. e ≡ ModelError.OutOfMemory) }
 {
     let by_model = answer_beside_encoder::<M, PRECISION>(alloc, model, queries)?;

@@ -5,11 +5,12 @@
 
 ghost use Rattle.std.specs.Prelude.{◌≡◌, ◌^◌, ◌<◌, ◌≤◌, IfOk, IfErr};
 ghost use Rattle.constriction.specs.Precision.{IsPrecision};
+ghost use Rattle.constriction_client.specs.FormRows.{form_rows};
 ghost use Rattle.constriction_theorem.specs.Answers.{AnswersOfRange};
 
 use crate::models::{AnswersOfModel, answer_by_table};
 use constriction::laws::contiguous_symbols_differ;
-use constriction::stream::model::{EntropyModel, ModelError, UniformModel};
+use constriction::stream::model::{ModelError, UniformModel};
 use constriction_client::{ChainStep, DecoderForm, Query, answer_queries};
 use constriction_words::WholeNumber;
 use std::alloc::Global;
@@ -28,8 +29,7 @@ pub fn answer_from_range_u8<const PRECISION: usize>(
     requires precision { IsPrecision 8 PRECISION }
     requires some { 2 ≤ range }
     requires within { range ≤ 2 ^ PRECISION }
-    ensures answers { IfOk result (AnswersOfRange PRECISION range steps.now queries.now ⟦<u8 as WholeNumber>⟧.base
-        ⟦<DecoderForm<usize, u8, PRECISION> as EntropyModel<PRECISION>>⟧.rows) }
+    ensures answers { IfOk result (AnswersOfRange PRECISION range steps.now queries.now ⟦<u8 as WholeNumber>⟧.base form_rows) }
     ensures refused { IfErr result (λ e. e ≡ ModelError.OutOfMemory) }
 {
     contiguous_symbols_differ();
@@ -53,8 +53,7 @@ pub fn answer_from_range_u16<const PRECISION: usize>(
     requires precision { IsPrecision 16 PRECISION }
     requires some { 2 ≤ range }
     requires within { range ≤ 2 ^ PRECISION }
-    ensures answers { IfOk result (AnswersOfRange PRECISION range steps.now queries.now ⟦<u16 as WholeNumber>⟧.base
-        ⟦<DecoderForm<usize, u16, PRECISION> as EntropyModel<PRECISION>>⟧.rows) }
+    ensures answers { IfOk result (AnswersOfRange PRECISION range steps.now queries.now ⟦<u16 as WholeNumber>⟧.base form_rows) }
     ensures refused { IfErr result (λ e. e ≡ ModelError.OutOfMemory) }
 {
     contiguous_symbols_differ();
@@ -78,8 +77,7 @@ pub fn answer_from_range_u32<const PRECISION: usize>(
     requires precision { IsPrecision 32 PRECISION }
     requires some { 2 ≤ range }
     requires within { range ≤ 2 ^ PRECISION }
-    ensures answers { IfOk result (AnswersOfRange PRECISION range steps.now queries.now ⟦<u32 as WholeNumber>⟧.base
-        ⟦<DecoderForm<usize, u32, PRECISION> as EntropyModel<PRECISION>>⟧.rows) }
+    ensures answers { IfOk result (AnswersOfRange PRECISION range steps.now queries.now ⟦<u32 as WholeNumber>⟧.base form_rows) }
     ensures refused { IfErr result (λ e. e ≡ ModelError.OutOfMemory) }
 {
     contiguous_symbols_differ();
@@ -104,8 +102,7 @@ pub fn answer_from_range_u64<const PRECISION: usize>(
     requires narrow { PRECISION ≤ 63 }
     requires some { 2 ≤ range }
     requires within { range ≤ 2 ^ PRECISION }
-    ensures answers { IfOk result (AnswersOfRange PRECISION range steps.now queries.now ⟦<u64 as WholeNumber>⟧.base
-        ⟦<DecoderForm<usize, u64, PRECISION> as EntropyModel<PRECISION>>⟧.rows) }
+    ensures answers { IfOk result (AnswersOfRange PRECISION range steps.now queries.now ⟦<u64 as WholeNumber>⟧.base form_rows) }
     ensures refused { IfErr result (λ e. e ≡ ModelError.OutOfMemory) }
 {
     contiguous_symbols_differ();
@@ -130,8 +127,7 @@ pub fn answer_from_range_usize<const PRECISION: usize>(
     requires narrow { PRECISION ≤ 63 }
     requires some { 2 ≤ range }
     requires within { range ≤ 2 ^ PRECISION }
-    ensures answers { IfOk result (AnswersOfRange PRECISION range steps.now queries.now ⟦<usize as WholeNumber>⟧.base
-        ⟦<DecoderForm<usize, usize, PRECISION> as EntropyModel<PRECISION>>⟧.rows) }
+    ensures answers { IfOk result (AnswersOfRange PRECISION range steps.now queries.now ⟦<usize as WholeNumber>⟧.base form_rows) }
     ensures refused { IfErr result (λ e. e ≡ ModelError.OutOfMemory) }
 {
     contiguous_symbols_differ();

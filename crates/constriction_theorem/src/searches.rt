@@ -2,14 +2,15 @@
 
 ghost use Rattle.std.specs.Prelude.{◌≡◌, ◌<◌, ◌≤◌, map, nat_eq, IfOk, IfErr};
 ghost use Rattle.constriction.specs.Acceptance.{completed, IsAccepted};
+ghost use Rattle.constriction.specs.ModelRows.{contiguous_model_rows, decoder_model_rows};
 ghost use Rattle.constriction.specs.Rows.{contiguous_rows};
 ghost use Rattle.constriction.specs.Precision.{IsPrecision};
 ghost use Rattle.constriction_client.specs.Replies.{in_numbers, replies_by_scan};
-ghost use Rattle.constriction_theorem.specs.Answers.{ReplyAsScan};
+ghost use Rattle.constriction_theorem.specs.Answers.{BothReplyAsScan};
 
 use crate::made::{Contiguous, Searching, both_of_contiguous, contiguous_from};
 use crate::weights::{RepliesByEncoder, asked_beside_both};
-use constriction::stream::model::{EntropyModel, ModelError, NonContiguousCategoricalDecoderModel};
+use constriction::stream::model::{ModelError, NonContiguousCategoricalDecoderModel};
 use constriction_client::Query;
 use constriction_words::WholeNumber;
 use std::alloc::Global;
@@ -33,12 +34,9 @@ fn asked_by_search<Probability: WholeNumber, const PRECISION: usize>(
 ) -> Result<AnswersBySearch<Probability, Searching<usize, Probability, PRECISION>>, ModelError>
     requires positive { 0 < PRECISION }
     requires fits { PRECISION ≤ Probability.BITS }
-    ensures ok { IfOk result (λ answers. let AsScan = ReplyAsScan (in_numbers Probability.whole Probability.base)
-        (replies_by_scan PRECISION Probability.whole nat_eq queries.now
-        (⟦<Contiguous<Probability, PRECISION> as EntropyModel<PRECISION>>⟧.rows model.now)) in
-        AsScan answers.contiguous × AsScan answers.non_contiguous) }
-    ensures rows { IfOk result (λ answers. ⟦<Searching<usize, Probability, PRECISION> as EntropyModel<PRECISION>>⟧.rows answers.decoder
-        ≡ ⟦<Contiguous<Probability, PRECISION> as EntropyModel<PRECISION>>⟧.rows model.now) }
+    ensures ok { IfOk result (BothReplyAsScan (in_numbers Probability.whole Probability.base)
+        (replies_by_scan PRECISION Probability.whole nat_eq queries.now (contiguous_model_rows model.now))) }
+    ensures rows { IfOk result (λ answers. decoder_model_rows answers.decoder ≡ contiguous_model_rows model.now) }
     ensures refused { IfErr result (λ e. e ≡ ModelError.OutOfMemory) }
 {
     let (decoder, hashed) = both_of_contiguous(alloc, model)?;
@@ -80,12 +78,10 @@ pub fn answer_from_weights_by_search<Probability: WholeNumber, const PRECISION: 
         (completed PRECISION infer_last_probability (map Probability.whole weights.items))) }
     ensures invalid { result ≡ Err ModelError.InvalidTable → ¬ (IsAccepted Probability.BITS PRECISION
         (completed PRECISION infer_last_probability (map Probability.whole weights.items))) }
-    ensures replies { IfOk result (λ answers. let AsScan = ReplyAsScan (in_numbers Probability.whole Probability.base)
+    ensures replies { IfOk result (BothReplyAsScan (in_numbers Probability.whole Probability.base)
         (replies_by_scan PRECISION Probability.whole nat_eq queries.now
-        (contiguous_rows (completed PRECISION infer_last_probability (map Probability.whole weights.items)))) in
-        AsScan answers.contiguous × AsScan answers.non_contiguous) }
-    ensures rows { IfOk result (λ answers.
-        ⟦<NonContiguousCategoricalDecoderModel<usize, Probability, Vec<(Probability, usize)>, PRECISION> as EntropyModel<PRECISION>>⟧.rows answers.decoder
+        (contiguous_rows (completed PRECISION infer_last_probability (map Probability.whole weights.items))))) }
+    ensures rows { IfOk result (λ answers. decoder_model_rows answers.decoder
         ≡ contiguous_rows (completed PRECISION infer_last_probability (map Probability.whole weights.items))) }
 {
     let model = contiguous_from::<Probability, PRECISION>(alloc, weights, infer_last_probability)?;

@@ -6,12 +6,13 @@ ghost use Rattle.constriction.specs.Model.{ClonesAreEqual};
 ghost use Rattle.constriction.specs.Rows.{rows_of};
 ghost use Rattle.constriction.specs.Precision.{IsLookupPrecision};
 ghost use Rattle.constriction_client.specs.Chains.{is_lookup};
+ghost use Rattle.constriction_client.specs.FormRows.{form_rows};
 ghost use Rattle.constriction_client.specs.Replies.{in_numbers, replies_by_scan};
 ghost use Rattle.constriction_theorem.specs.Answers.{AnswersAfter};
 
 use crate::forms::{FormAndReplies, answer_by_form};
 use crate::made::{hashed_of, searching_from};
-use constriction::stream::model::{EntropyModel, ModelError};
+use constriction::stream::model::ModelError;
 use constriction_client::{ChainStep, DecoderForm, Query};
 use constriction_words::IndexWord;
 use std::alloc::Global;
@@ -43,11 +44,9 @@ pub fn answer_from_symbols_and_weights<
         (completed PRECISION infer_last_probability (map Probability.whole weights.items))) }
     ensures invalid { result ≡ Err ModelError.InvalidTable → ¬ (AreAccepted Symbol.eq Probability.BITS PRECISION symbols.items
         (completed PRECISION infer_last_probability (map Probability.whole weights.items))) }
-    ensures answers { IfOk result (λ both. AnswersAfter (λ s t. t ≡ s) Symbol.is_clone
-        (replies_by_scan PRECISION Probability.whole Symbol.eq queries.now) steps.now false
-        (rows_of symbols.items (completed PRECISION infer_last_probability (map Probability.whole weights.items)))
-        (is_lookup both.0) (⟦<DecoderForm<Symbol, Probability, PRECISION> as EntropyModel<PRECISION>>⟧.rows both.0)
-        (map (in_numbers Probability.whole Probability.base) both.1.items)) }
+    ensures answers { let first = rows_of symbols.items (completed PRECISION infer_last_probability (map Probability.whole weights.items))
+        in IfOk result (λ x. AnswersAfter (λ s t. t ≡ s) Symbol.is_clone (replies_by_scan PRECISION Probability.whole Symbol.eq queries.now)
+        steps.now false first (is_lookup x.0) (form_rows x.0) (map (in_numbers Probability.whole Probability.base) x.1.items)) }
 {
     let searching = searching_from::<Symbol, Probability, PRECISION>(
         alloc,

@@ -1,17 +1,21 @@
 //! Weights alone, and what the models of the symbols 0, 1, .. reply.
 
-ghost use Rattle.std.specs.Prelude.{◌≡◌, ◌<◌, ◌≤◌, ℕ, fold, map, nat_eq, false, IfOk, IfErr};
+ghost use Rattle.std.specs.Prelude.{◌≡◌, ◌<◌, ◌≤◌, fold, map, nat_eq, false, IfOk, IfErr};
 ghost use Rattle.constriction.specs.Acceptance.{completed, IsAccepted};
+ghost use Rattle.constriction.specs.EncoderRows.{encoder_model_rows};
+ghost use Rattle.constriction.specs.Entries.{SameEntries};
 ghost use Rattle.constriction.specs.Model.{ClonesAreSame};
-ghost use Rattle.constriction.specs.Rows.{contiguous_rows, entry_of};
+ghost use Rattle.constriction.specs.ModelRows.{contiguous_model_rows};
+ghost use Rattle.constriction.specs.Rows.{contiguous_rows};
 ghost use Rattle.constriction.specs.Precision.{IsLookupPrecision};
 ghost use Rattle.constriction_client.specs.Chains.{is_lookup, is_lookup_after};
+ghost use Rattle.constriction_client.specs.FormRows.{form_rows};
 ghost use Rattle.constriction_client.specs.Replies.{in_numbers, replies_by_scan};
-ghost use Rattle.constriction_theorem.specs.Answers.{ReplyAsScan};
+ghost use Rattle.constriction_theorem.specs.Answers.{AllReplyAsScan, ReplyAsScan};
 
 use crate::made::{Contiguous, both_of_contiguous, contiguous_from};
 use constriction::stream::model::{
-    DecodesOver, EncodesOver, EntropyModel, ModelError, NonContiguousCategoricalEncoderModel,
+    DecodesOver, EncodesOver, ModelError, NonContiguousCategoricalEncoderModel,
 };
 use constriction_client::{ChainStep, DecoderForm, Query, Reply, answer_queries, convert_chain};
 use constriction_words::{IndexWord, WholeNumber};
@@ -55,8 +59,8 @@ where
     requires positive { 0 < PRECISION }
     requires fits { PRECISION ≤ Word.BITS }
     requires same { ClonesAreSame D.stands_for }
-    requires contiguous { (s : ℕ) → entry_of E.symbol_eq (E.rows contiguous.now) s ≡ entry_of E.symbol_eq (D.rows decoder.now) s }
-    requires hashed { (s : ℕ) → entry_of F.symbol_eq (F.rows hashed.now) s ≡ entry_of F.symbol_eq (D.rows decoder.now) s }
+    requires contiguous { SameEntries E.symbol_eq (E.rows contiguous.now) (D.rows decoder.now) }
+    requires hashed { SameEntries F.symbol_eq (F.rows hashed.now) (D.rows decoder.now) }
     ensures contiguous { IfOk result (λ replies. map (in_numbers Word.whole Word.base) replies.contiguous.items
         ≡ replies_by_scan PRECISION Word.whole E.symbol_eq queries.now (D.rows decoder.now)) }
     ensures hashed { IfOk result (λ replies. map (in_numbers Word.whole Word.base) replies.hashed.items
@@ -88,11 +92,8 @@ fn converted_from<Probability: IndexWord, const PRECISION: usize>(
     requires fits { PRECISION ≤ Probability.BITS }
     requires narrow { PRECISION ≤ 63 }
     ensures kind { IfOk result (λ both. is_lookup both.0 ≡ fold is_lookup_after false steps.now) }
-    ensures rows { IfOk result (λ both. ⟦<DecoderForm<usize, Probability, PRECISION> as EntropyModel<PRECISION>>⟧.rows both.0
-        ≡ ⟦<Contiguous<Probability, PRECISION> as EntropyModel<PRECISION>>⟧.rows model.now) }
-    ensures entries { IfOk result (λ both. (s : ℕ) → entry_of nat_eq
-        (⟦<NonContiguousCategoricalEncoderModel<usize, Probability, PRECISION> as EntropyModel<PRECISION>>⟧.rows both.1) s
-        ≡ entry_of nat_eq (⟦<Contiguous<Probability, PRECISION> as EntropyModel<PRECISION>>⟧.rows model.now) s) }
+    ensures rows { IfOk result (λ both. form_rows both.0 ≡ contiguous_model_rows model.now) }
+    ensures entries { IfOk result (λ both. SameEntries nat_eq (encoder_model_rows both.1) (contiguous_model_rows model.now)) }
     ensures refused { IfErr result (λ e. e ≡ ModelError.OutOfMemory) }
 {
     let (decoder, hashed) = both_of_contiguous(alloc, model)?;
@@ -110,12 +111,9 @@ fn asked_by_slots<Probability: IndexWord, const PRECISION: usize, const SLOT_BIT
     requires positive { 0 < PRECISION }
     requires fits { PRECISION ≤ Probability.BITS }
     requires narrow { PRECISION ≤ 63 }
-    requires hashed { (s : ℕ) → entry_of nat_eq
-        (⟦<NonContiguousCategoricalEncoderModel<usize, Probability, PRECISION> as EntropyModel<PRECISION>>⟧.rows hashed.now) s
-        ≡ entry_of nat_eq (⟦<Contiguous<Probability, PRECISION> as EntropyModel<PRECISION>>⟧.rows model.now) s }
+    requires hashed { SameEntries nat_eq (encoder_model_rows hashed.now) (contiguous_model_rows model.now) }
     ensures ok { IfOk result (ReplyAsScan (in_numbers Probability.whole Probability.base)
-        (replies_by_scan PRECISION Probability.whole nat_eq queries.now
-        (⟦<Contiguous<Probability, PRECISION> as EntropyModel<PRECISION>>⟧.rows model.now))) }
+        (replies_by_scan PRECISION Probability.whole nat_eq queries.now (contiguous_model_rows model.now))) }
     ensures refused { IfErr result (λ e. e ≡ ModelError.OutOfMemory) }
 {
     let tabled = model.to_slotted_lookup_decoder_model::<SLOT_BITS>(alloc)?;
@@ -143,14 +141,10 @@ fn asked_by_each<Probability: IndexWord, const PRECISION: usize, const SLOT_BITS
     requires positive { 0 < PRECISION }
     requires fits { PRECISION ≤ Probability.BITS }
     requires narrow { PRECISION ≤ 63 }
-    requires form { ⟦<DecoderForm<usize, Probability, PRECISION> as EntropyModel<PRECISION>>⟧.rows form.now
-        ≡ ⟦<Contiguous<Probability, PRECISION> as EntropyModel<PRECISION>>⟧.rows model.now }
-    requires hashed { (s : ℕ) → entry_of nat_eq
-        (⟦<NonContiguousCategoricalEncoderModel<usize, Probability, PRECISION> as EntropyModel<PRECISION>>⟧.rows hashed.now) s
-        ≡ entry_of nat_eq (⟦<Contiguous<Probability, PRECISION> as EntropyModel<PRECISION>>⟧.rows model.now) s }
+    requires form { form_rows form.now ≡ contiguous_model_rows model.now }
+    requires hashed { SameEntries nat_eq (encoder_model_rows hashed.now) (contiguous_model_rows model.now) }
     ensures ok { IfOk result (λ three. let AsScan = ReplyAsScan (in_numbers Probability.whole Probability.base)
-        (replies_by_scan PRECISION Probability.whole nat_eq queries.now
-        (⟦<Contiguous<Probability, PRECISION> as EntropyModel<PRECISION>>⟧.rows model.now)) in
+        (replies_by_scan PRECISION Probability.whole nat_eq queries.now (contiguous_model_rows model.now)) in
         AsScan three.0 × AsScan three.1 × AsScan three.2) }
     ensures refused { IfErr result (λ e. e ≡ ModelError.OutOfMemory) }
 {
@@ -172,14 +166,10 @@ fn answers_of<Probability: IndexWord, const PRECISION: usize, const SLOT_BITS: u
     requires positive { 0 < PRECISION }
     requires fits { PRECISION ≤ Probability.BITS }
     requires narrow { PRECISION ≤ 63 }
-    ensures replies { IfOk result (λ answers. let AsScan = ReplyAsScan (in_numbers Probability.whole Probability.base)
-        (replies_by_scan PRECISION Probability.whole nat_eq queries.now
-        (⟦<Contiguous<Probability, PRECISION> as EntropyModel<PRECISION>>⟧.rows model.now)) in
-        AsScan answers.searching × AsScan answers.tabled × AsScan answers.converted) }
+    ensures replies { IfOk result (AllReplyAsScan (in_numbers Probability.whole Probability.base)
+        (replies_by_scan PRECISION Probability.whole nat_eq queries.now (contiguous_model_rows model.now))) }
     ensures kind { IfOk result (λ answers. is_lookup answers.form ≡ fold is_lookup_after false steps.now) }
-    ensures rows { IfOk result (λ answers.
-        ⟦<DecoderForm<usize, Probability, PRECISION> as EntropyModel<PRECISION>>⟧.rows answers.form
-        ≡ ⟦<Contiguous<Probability, PRECISION> as EntropyModel<PRECISION>>⟧.rows model.now) }
+    ensures rows { IfOk result (λ answers. form_rows answers.form ≡ contiguous_model_rows model.now) }
     ensures refused { IfErr result (λ e. e ≡ ModelError.OutOfMemory) }
 {
     let (form, hashed) = converted_from(alloc, model, steps)?;
@@ -214,13 +204,11 @@ pub fn answer_from_weights<Probability: IndexWord, const PRECISION: usize, const
         (completed PRECISION infer_last_probability (map Probability.whole weights.items))) }
     ensures invalid { result ≡ Err ModelError.InvalidTable → ¬ (IsAccepted Probability.BITS PRECISION
         (completed PRECISION infer_last_probability (map Probability.whole weights.items))) }
-    ensures replies { IfOk result (λ answers. let AsScan = ReplyAsScan (in_numbers Probability.whole Probability.base)
+    ensures replies { IfOk result (AllReplyAsScan (in_numbers Probability.whole Probability.base)
         (replies_by_scan PRECISION Probability.whole nat_eq queries.now
-        (contiguous_rows (completed PRECISION infer_last_probability (map Probability.whole weights.items)))) in
-        AsScan answers.searching × AsScan answers.tabled × AsScan answers.converted) }
+        (contiguous_rows (completed PRECISION infer_last_probability (map Probability.whole weights.items))))) }
     ensures kind { IfOk result (λ answers. is_lookup answers.form ≡ fold is_lookup_after false steps.now) }
-    ensures rows { IfOk result (λ answers.
-        ⟦<DecoderForm<usize, Probability, PRECISION> as EntropyModel<PRECISION>>⟧.rows answers.form
+    ensures rows { IfOk result (λ answers. form_rows answers.form
         ≡ contiguous_rows (completed PRECISION infer_last_probability (map Probability.whole weights.items))) }
 {
     let model = contiguous_from::<Probability, PRECISION>(alloc, weights, infer_last_probability)?;
