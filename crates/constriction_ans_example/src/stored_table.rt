@@ -1,6 +1,6 @@
 //! Tables of weights as words: how many weights there are, and then the weights.
 
-ghost use Rattle.std.specs.Prelude.{◌≡◌, ◌≢◌, ◌∷◌, ◌++◌, ◌^◌, ◌<◌, ◌≤◌, ℕ, List, length, map, Option, Some, None, Ok, Err, IfOk, OnOk};
+ghost use Rattle.std.specs.Prelude.{◌≡◌, ◌≢◌, [], ◌∷◌, ◌++◌, ◌+◌, ◌*◌, ◌^◌, ◌<◌, ◌≤◌, ℕ, List, length, map, Option, Some, None, Ok, Err, IfOk, OnOk, vec_capacity};
 ghost use Rattle.std.specs.List.{IsDistinct};
 ghost use Rattle.constriction.specs.Acceptance.{AreAccepted};
 ghost use Rattle.constriction.specs.ModelRows.{decoder_model_rows};
@@ -70,7 +70,22 @@ fn next_word<Source: ReadWords<u32, Queue>>(
     }
 }
 
-/// Reads the weights of a table, and no word after them. A number of weights that is too great for the words takes no memory.
+/// Takes in a weight that was read. A full list asks for room for as many weights as it has, and for four at least.
+fn push_weight(weights: &mut Vec<u32>, weight: u32) -> Result<(), AllocError>
+    // No room was asked for but for weights that were read, for as many again, and for four.
+    requires room { vec_capacity weights.old ≤ 2 * length weights.old.items + 4 }
+    ensures items { OnOk result (weights.new.items ≡ weights.old.items ++ weight ∷ []) }
+    ensures room { OnOk result (vec_capacity weights.new ≤ 2 * length weights.new.items + 4) }
+{
+    if weights.len() == weights.capacity() {
+        weights.reserve_exact(weights.len().max(4))?;
+    }
+    weights.push_reserved(weight);
+    Ok(())
+}
+
+/// Reads the weights of a table, and no word after them. No memory is asked for but for weights that were read, for as many
+/// again, and for four, whatever their number is said to be.
 pub fn read_weights<Source: ReadWords<u32, Queue>>(
     alloc: Global,
     source: &mut Source,
@@ -92,7 +107,7 @@ pub fn read_weights<Source: ReadWords<u32, Queue>>(
     let mut weights = Vec::new(alloc);
     for done in 0..count {
         let weight = next_word(source)?;
-        match weights.push(weight) {
+        match push_weight(&mut weights, weight) {
             Ok(()) => {}
             Err(_) => return Err(CoderError::Frontend(TableFault::OutOfMemory)),
         }

@@ -2,7 +2,7 @@
 
 use crate::checks::same;
 use constriction::backends::Cursor;
-use constriction::stream::model::to_generic_encoder_model;
+use constriction::stream::model::{IterableEntropyModel, to_generic_encoder_model};
 use constriction_ans_example::AnsCoder;
 use constriction_ans_example::stored_table::{StoredTable, read_table, write_table};
 use std::alloc::Global;
@@ -84,4 +84,56 @@ fn a_message_by_a_stored_table(rt: HostRuntime) {
         .expect(&rt, "the symbols");
     same(&rt, symbols, owned(&rt, alloc, &MESSAGE));
     same(&rt, coder.is_empty(), true);
+}
+
+/// How many weights the great table has.
+const MANY: u32 = 5000;
+
+/// The weight of its last number, which is what the others leave.
+const LAST: u32 = 4_279_716;
+
+/// A table of numbers.
+type NumberTable = StoredTable<u32, 24>;
+
+/// The words of the table of the numbers below 5,000. Each has one quantile more than there are numbers below it, and the
+/// last one has all that are left.
+fn many_stored(rt: &impl Abort, alloc: Global) -> Vec<u32> {
+    let made = NumberTable::from_hashable_symbols_and_nonzero_fixed_point_probabilities(
+        alloc,
+        0..MANY,
+        1..MANY,
+        true,
+    );
+    let mut words = Vec::new(alloc);
+    let written = write_table::<_, _, 24>(alloc, &made.expect(rt, "the table"), &mut words);
+    same(rt, written.is_ok(), true);
+    words
+}
+
+/// Stops the test where these are not the rows of the numbers below 5,000.
+fn are_many_rows(rt: &impl Abort, table: &NumberTable) {
+    let mut number = 0u32;
+    let mut below = 0u32;
+    for row in table.symbol_table() {
+        let (symbol, left, weight) = row.expect(rt, "a row");
+        let expected = if number == MANY - 1 {
+            LAST
+        } else {
+            number.wrapping_add(1)
+        };
+        same(rt, (symbol, left, weight.get()), (number, below, expected));
+        number = number.wrapping_add(1);
+        below = below.wrapping_add(expected);
+    }
+    same(rt, number, MANY);
+}
+
+/// With ample memory a great table is read back as the same rows.
+#[test]
+fn five_thousand_rows_come_back(rt: HostRuntime) {
+    let alloc = rt.alloc();
+    let mut source = Cursor::new_at_write_beginning(many_stored(&rt, alloc));
+    let numbers = (0..MANY).collect(alloc).expect(&rt, "memory");
+    let table = read_table::<u32, _, 24>(alloc, numbers, &mut source).expect(&rt, "the table");
+    are_many_rows(&rt, &table);
 }

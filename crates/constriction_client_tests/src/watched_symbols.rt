@@ -3,10 +3,17 @@
 ghost use Rattle.std.specs.Prelude.{◌≡◌, ◌==◌, ◌<◌, ◌^◌};
 ghost use Rattle.std.specs.Cmp.Rules.{comparing, hashing};
 ghost use Rattle.std.specs.Hash as fed;
+ghost use Rattle.std.specs.List.{IsDistinct};
 ghost use Rattle.std.proofs.Common.{rules};
+ghost use Rattle.constriction.specs.Rows.{symbols_of};
+ghost use Rattle.constriction_client_tests.specs.HeldTables.{held-step};
 
 use crate::checks::same;
-use constriction::stream::model::{DecoderModel, ModelError, NonContiguousCategoricalDecoderModel};
+use constriction::laws::non_contiguous_symbols_differ;
+use constriction::stream::model::{
+    DecoderModel, EntropyModel, IterableEntropyModel, ModelError,
+    NonContiguousCategoricalDecoderModel, to_generic_lookup_decoder_model_of_distinct,
+};
 use constriction_client::{ChainStep, DecoderForm, convert_chain};
 use std::alloc::{AllocError, Global};
 use std::cell::Cell;
@@ -103,6 +110,86 @@ fn hashed(alloc: Global, symbols: Vec<Watched>) -> Result<Decoder, ModelError> {
     Decoder::from_hashable_symbols_and_nonzero_fixed_point_probabilities(alloc, symbols, ones, true)
 }
 
+/// A model of the caller: it is walked through as another one is, but its table does not announce how many rows there are.
+#[derive(Clone, Copy)]
+struct Unannounced<Model> {
+    model: Model,
+}
+
+/// Its table, whose `size_hint` is the one of the trait.
+#[derive(Drop)]
+struct UnannouncedTable<Table> {
+    table: Table,
+}
+
+impl<Table: Iterator> Iterator for UnannouncedTable<Table> {
+    type Item = Table::Item;
+
+    ghost can_next = { λ t. Table.can_next t.table };
+
+    ghost next_gives = { λ t r u. Table.next_gives t.table r u.table };
+
+    ghost remaining = { λ t. Table.remaining t.table };
+
+    fn next(&mut self) -> Option<Table::Item> {
+        self.table.next()
+    }
+}
+
+impl<Model: EntropyModel<24>> EntropyModel<24> for Unannounced<Model> {
+    type Symbol = Model::Symbol;
+
+    type Probability = Model::Probability;
+
+    ghost rows = { λ m. Model.rows m.model };
+}
+
+impl<Model: IterableEntropyModel<24>> IterableEntropyModel<24> for Unannounced<Model> {
+    type SymbolTable = UnannouncedTable<Model::SymbolTable>;
+
+    ghost stands_for = { Model.stands_for };
+
+    ghost may_refuse = { Model.may_refuse };
+
+    ghost rows_left = { λ t. Model.rows_left t.table };
+
+    fn symbol_table(self) -> UnannouncedTable<Model::SymbolTable> {
+        UnannouncedTable {
+            table: self.model.symbol_table(),
+        }
+    }
+
+    ghost steps_law = { λ t r u step. held-step t r u (λ s. s.table) Model.stands_for Model.may_refuse Model.Probability.whole
+        Model.Probability.base Model.rows_left (Model.steps_law t.table r u.table step) };
+
+    ghost tile_law = { λ m. Model.tile_law m.model };
+}
+
+/// No two symbols of a decoder's model are equal.
+fn symbols_differ(model: &Decoder)
+    ensures { IsDistinct ⟦<Watched as PartialEq>⟧.eq (symbols_of (⟦<Decoder as EntropyModel<24>>⟧.rows model.now)) }
+{
+    non_contiguous_symbols_differ::<Watched, usize, Vec<(usize, Watched)>, 24>();
+}
+
+/// The form of the same rows with a table.
+fn looked_up(alloc: Global, model: &Decoder) -> Result<Form, ModelError> {
+    symbols_differ(model);
+    match to_generic_lookup_decoder_model_of_distinct::<_, 24>(alloc, model) {
+        Ok(made) => Ok(DecoderForm::Lookup(made)),
+        Err(refusal) => Err(refusal),
+    }
+}
+
+/// The same by a walk that does not announce how many rows there are.
+fn looked_up_unannounced(alloc: Global, model: &Decoder) -> Result<Form, ModelError> {
+    symbols_differ(model);
+    match to_generic_lookup_decoder_model_of_distinct::<_, 24>(alloc, Unannounced { model }) {
+        Ok(made) => Ok(DecoderForm::Lookup(made)),
+        Err(refusal) => Err(refusal),
+    }
+}
+
 /// Each kind of step, and a rebuilding of each form.
 const EACH_STEP: [ChainStep; 6] = [
     ChainStep::ToSearch,
@@ -141,6 +228,20 @@ fn five_thousand_symbols_are_converted_without_comparing_any(rt: HostRuntime) {
     same(&rt, told(&compared), (few, 5000));
     drop(form);
     same(&rt, told(&compared), (few, 0));
+}
+
+/// Nor does the conversion to a lookup model compare any, whether or not the walk announces how many there are.
+#[test]
+fn five_thousand_symbols_are_looked_up_without_comparing_any(rt: HostRuntime) {
+    let compared = tally(&rt, rt.alloc());
+    let made = hashed(rt.alloc(), symbols(&rt, rt.alloc(), &compared, 4999, 5000));
+    let model = made.expect(&rt, "accepted");
+    let (few, _alive) = told(&compared);
+    let announced = looked_up(rt.alloc(), &model).expect(&rt, "a form");
+    same(&rt, number_at(&announced, 4321), Some(4321));
+    let unannounced = looked_up_unannounced(rt.alloc(), &model).expect(&rt, "a form");
+    same(&rt, number_at(&unannounced, 4321), Some(4321));
+    same(&rt, told(&compared), (few, 15_000));
 }
 
 /// Where a symbol is there twice, and where a clone is refused, no symbol is left.

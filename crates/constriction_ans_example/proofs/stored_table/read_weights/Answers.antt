@@ -58,6 +58,7 @@ loop-done-preserved g c = record {
     length-append c.loop-done.weights.items (c.in_ok-weight.weight ∷ []),
     c.loop-done.invariant.counted,
   );
+  room = c.in-Ok.ensures.room;
   so_far =
       subst (λ (ws : List ℕ). Reads g.Source.ReadWords.read_gives c.args.source.now (c.in_ok-count.count ∷ ws) c.next_word-in-loop-done.new.source)
       (sym c.in-Ok.ensures.items)
