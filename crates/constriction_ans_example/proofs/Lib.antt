@@ -5,5 +5,5 @@ pub mod Intervals
 pub mod States
 pub mod Steps
 pub mod Stopping
-pub mod Tables
+pub mod StoredWeightsLemmas
 pub mod Walking

@@ -2,7 +2,7 @@
 use Rattle.std.specs.Prelude.{◌≡◌, ℕ, ◌+◌, ◌*◌, ◌/◌, ◌%◌, ◌^◌, ◌<◌, ◌≤◌, ◌⊎◌, List, [], ◌∷◌, ◌++◌, Option, Some, None, Result, Ok, Err}
 use Rattle.constriction_backends.specs.Sink.{Writes}
 use Rattle.constriction_ans_example.specs.Steps.{Content}
-use Rattle.constriction_ans_example.specs.Tables.{StopsAtWord}
+use Rattle.constriction_ans_example.specs.StoredWeights.{StopsAtWord}
 
 -- the words of a state, the lower one first and none that is a leading zero: none of 0, one of a state below 2 ^ 32, and two of any other
 abbrev pub AreWordsOf : ℕ → List ℕ → Type 0

@@ -3,5 +3,5 @@ pub mod Intervals
 pub mod Laws
 pub mod States
 pub mod Steps
-pub mod Tables
+pub mod StoredWeights
 pub mod Walks

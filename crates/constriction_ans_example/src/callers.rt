@@ -18,11 +18,11 @@ use constriction::stream::model::{
 use constriction::{CoderError, DefaultEncoderFrontendError};
 use std::alloc::{AllocError, Global};
 
-/// A table of texts over 24 bits of `u32`.
-type Table = DefaultNonContiguousCategoricalDecoderModel<String>;
+/// A decoder of texts over 24 bits of `u32`.
+type Texts = DefaultNonContiguousCategoricalDecoderModel<String>;
 
-/// An encoder of such a table's entries.
-type TableEncoder = DefaultNonContiguousCategoricalEncoderModel<String>;
+/// An encoder of such texts.
+type TextEncoder = DefaultNonContiguousCategoricalEncoderModel<String>;
 
 /// A message over a `Vec` by any model.
 pub fn over_a_vec<M, const PRECISION: usize>(
@@ -78,20 +78,20 @@ pub fn over_a_cursor(
     there_and_back::<_, _, _, _, 24>(alloc, coder, model, model, symbols).ok()
 }
 
-/// A message of texts by a table of them and an encoder of its entries.
+/// A message of texts by a decoder of them and an encoder of its entries.
 pub fn of_texts(
     alloc: Global,
     coder: &mut AnsCoder<Vec<u32>>,
-    table: &Table,
-    encoder: &TableEncoder,
+    texts: &Texts,
+    encoder: &TextEncoder,
     symbols: &[String],
 ) -> Option<Vec<String>>
-    requires { (s : _) → entry_of string_eq (⟦<TableEncoder as EntropyModel<24>>⟧.rows encoder.now) s
-        ≡ entry_of string_eq (⟦<Table as EntropyModel<24>>⟧.rows table.now) s }
+    requires { (s : _) → entry_of string_eq (⟦<TextEncoder as EntropyModel<24>>⟧.rows encoder.now) s
+        ≡ entry_of string_eq (⟦<Texts as EntropyModel<24>>⟧.rows texts.now) s }
     ensures { IfSome result (λ answers. AllZip (λ symbol answer. IsTrue (string_eq answer symbol))
         (reverse symbols.now) answers.items) }
 {
-    there_and_back::<_, _, _, _, 24>(alloc, coder, table, encoder, symbols).ok()
+    there_and_back::<_, _, _, _, 24>(alloc, coder, texts, encoder, symbols).ok()
 }
 
 /// The words of a coder over a `Vec`, and the coder of them: nothing is lost.

@@ -9,6 +9,6 @@ mod checks;
 #[cfg(test)]
 mod copies;
 #[cfg(test)]
-mod tables;
+mod stored_weights;
 #[cfg(test)]
 mod walks;

@@ -3,16 +3,16 @@ use Rattle.std.proofs.lemmas.Result.{err_from_is_err_and}
 use Rattle.constriction.specs.declared.CoderError.{CoderError}
 use Rattle.constriction_backends.specs.Source.{Reads}
 use Rattle.constriction_backends.specs.SourceLaws.{reads_more, reads_told_all}
-use Rattle.constriction_ans_example.specs.Tables.{table_words}
-use Rattle.constriction_ans_example.specs.declared.stored_table.TableFault.TheVariants.{TooFewWords}
-use Rattle.constriction_ans_example.proofs.Tables.{short-table}
-use Rattle.constriction_ans_example.proofs.stored_table.read_weights.Goals as goal
+use Rattle.constriction_ans_example.specs.StoredWeights.{weights_as_words}
+use Rattle.constriction_ans_example.specs.declared.stored_weights.ReadingFault.TheVariants.{TooFewWords}
+use Rattle.constriction_ans_example.proofs.StoredWeightsLemmas.{short-weights}
+use Rattle.constriction_ans_example.proofs.stored_weights.read_weights.Goals as goal
 
 pub returns-in_err-count-clause-short : goal.returns-in_err-count-clause-short
 returns-in_err-count-clause-short g c = λ is.
     let p = err_from_is_err_and c.from_residual.result c.from_residual.ensures.1 in
     let same : c.in_err-count.field-0.0 ≡ CoderError.Frontend TooFewWords = cc (p.1, p.2) in
-    short-table g.Source.ReadWords.read_gives g.Source.ReadWords.tells_upcoming g.met.Source.ReadWords.reads_told _ c.next_word.new.source (record {
+    short-weights g.Source.ReadWords.read_gives g.Source.ReadWords.tells_upcoming g.met.Source.ReadWords.reads_told _ c.next_word.new.source (record {
       words = [];
       begins = tt;
       reached = c.args.source.now;
@@ -34,7 +34,7 @@ returns-in_err-weight-clause-too_few g c = λ is.
 
 pub returns-in_err-weight-clause-short : goal.returns-in_err-weight-clause-short
 returns-in_err-weight-clause-short g c = λ is.
-    short-table g.Source.ReadWords.read_gives g.Source.ReadWords.tells_upcoming g.met.Source.ReadWords.reads_told c.args.source.now
+    short-weights g.Source.ReadWords.read_gives g.Source.ReadWords.tells_upcoming g.met.Source.ReadWords.reads_told c.args.source.now
     c.next_word-in-loop-done.new.source (returns-in_err-weight-clause-too_few g c is)
 
 pub returns-in_err-weight-clause-failed : goal.returns-in_err-weight-clause-failed
@@ -75,7 +75,7 @@ returns-clause-ok g c =
       read = read;
       told =
           reads_told_all g.Source.ReadWords.read_gives g.Source.ReadWords.tells_upcoming g.met.Source.ReadWords.reads_told
-          c.args.source.now (table_words c.loop-done.weights.items) c.loop-done.source read;
+          c.args.source.now (weights_as_words c.loop-done.weights.items) c.loop-done.source read;
     }
 
 pub returns-in-Err-clause-memory : goal.returns-in-Err-clause-memory

@@ -1,17 +1,17 @@
-//! A sentence that is coded by a table of texts, whose weights are stored as words.
+//! A sentence that is coded by a model of texts, whose weights are stored as words.
 
 use crate::checks::same;
 use constriction::backends::Cursor;
 use constriction::stream::model::{IterableEntropyModel, to_generic_encoder_model};
 use constriction_ans_example::AnsCoder;
-use constriction_ans_example::stored_table::{StoredTable, read_table, write_table};
+use constriction_ans_example::stored_weights::{StoredModel, read_model, write_model};
 use std::alloc::Global;
 use std::process::Abort;
 
-/// A table of texts over 24 bits of `u32`.
-type Table = StoredTable<String, 24>;
+/// A model of texts over 24 bits of `u32`.
+type Texts = StoredModel<String, 24>;
 
-/// The texts of the table.
+/// The texts of the model.
 const TEXTS: [&str; 4] = ["the", "cat", "saw", "."];
 
 /// How many of the `2^24` quantiles each has. The last one has what these leave.
@@ -30,25 +30,25 @@ fn owned(rt: &impl Abort, alloc: Global, texts: &[&str]) -> Vec<String> {
     strings
 }
 
-/// The words of the table.
+/// The words of its weights.
 fn stored(rt: &impl Abort, alloc: Global) -> Vec<u32> {
-    let table = Table::from_symbols_and_nonzero_fixed_point_probabilities(
+    let table = Texts::from_symbols_and_nonzero_fixed_point_probabilities(
         alloc,
         owned(rt, alloc, &TEXTS),
         WEIGHTS,
         true,
-    ).expect(rt, "the table");
+    ).expect(rt, "the model");
     let mut words = Vec::new(alloc);
     same(
         rt,
-        write_table::<_, _, 24>(alloc, &table, &mut words).is_ok(),
+        write_model::<_, _, 24>(alloc, &table, &mut words).is_ok(),
         true,
     );
     words
 }
 
-/// The words of the message by this table.
-fn encoded(rt: &impl Abort, alloc: Global, table: &Table) -> Vec<u32> {
+/// The words of the message by this model.
+fn encoded(rt: &impl Abort, alloc: Global, table: &Texts) -> Vec<u32> {
     let encoder = to_generic_encoder_model::<_, 24>(alloc, table).expect(rt, "the encoder");
     let message = owned(rt, alloc, &MESSAGE);
     let mut coder = AnsCoder::new(alloc);
@@ -62,9 +62,9 @@ fn encoded(rt: &impl Abort, alloc: Global, table: &Table) -> Vec<u32> {
     coder.into_compressed().expect(rt, "memory")
 }
 
-/// A table is written and read, and a message that was encoded by it is decoded.
+/// Weights are written and read, and a message that was encoded by it is decoded.
 #[test]
-fn a_message_by_a_stored_table(rt: HostRuntime) {
+fn a_message_by_a_stored_weights(rt: HostRuntime) {
     let alloc = rt.alloc();
     let words = stored(&rt, alloc);
     same(
@@ -73,9 +73,9 @@ fn a_message_by_a_stored_table(rt: HostRuntime) {
         [4, 6_000_000, 4_000_000, 2_500_000, 4_277_216].as_slice(),
     );
     let mut source = Cursor::new_at_write_beginning(words);
-    let table = read_table::<String, _, 24>(alloc, owned(&rt, alloc, &TEXTS), &mut source).expect(
+    let table = read_model::<String, _, 24>(alloc, owned(&rt, alloc, &TEXTS), &mut source).expect(
         &rt,
-        "the table",
+        "the model",
     );
     let words = encoded(&rt, alloc, &table);
     let mut coder = AnsCoder::from_compressed(words).expect(&rt, "the coder");
@@ -86,32 +86,32 @@ fn a_message_by_a_stored_table(rt: HostRuntime) {
     same(&rt, coder.is_empty(), true);
 }
 
-/// How many weights the great table has.
+/// How many weights the great model has.
 const MANY: u32 = 5000;
 
 /// The weight of its last number, which is what the others leave.
 const LAST: u32 = 4_279_716;
 
-/// A table of numbers.
-type NumberTable = StoredTable<u32, 24>;
+/// A model of numbers.
+type Numbers = StoredModel<u32, 24>;
 
-/// The words of the table of the numbers below 5,000. Each has one quantile more than there are numbers below it, and the
+/// The words of the weights of the numbers below 5,000. Each has one quantile more than there are numbers below it, and the
 /// last one has all that are left.
 fn many_stored(rt: &impl Abort, alloc: Global) -> Vec<u32> {
-    let made = NumberTable::from_hashable_symbols_and_nonzero_fixed_point_probabilities(
+    let made = Numbers::from_hashable_symbols_and_nonzero_fixed_point_probabilities(
         alloc,
         0..MANY,
         1..MANY,
         true,
     );
     let mut words = Vec::new(alloc);
-    let written = write_table::<_, _, 24>(alloc, &made.expect(rt, "the table"), &mut words);
+    let written = write_model::<_, _, 24>(alloc, &made.expect(rt, "the model"), &mut words);
     same(rt, written.is_ok(), true);
     words
 }
 
 /// Stops the test where these are not the rows of the numbers below 5,000.
-fn are_many_rows(rt: &impl Abort, table: &NumberTable) {
+fn are_many_rows(rt: &impl Abort, table: &Numbers) {
     let mut number = 0u32;
     let mut below = 0u32;
     for row in table.symbol_table() {
@@ -128,12 +128,12 @@ fn are_many_rows(rt: &impl Abort, table: &NumberTable) {
     same(rt, number, MANY);
 }
 
-/// With ample memory a great table is read back as the same rows.
+/// With ample memory a great model is read back as the same rows.
 #[test]
 fn five_thousand_rows_come_back(rt: HostRuntime) {
     let alloc = rt.alloc();
     let mut source = Cursor::new_at_write_beginning(many_stored(&rt, alloc));
     let numbers = (0..MANY).collect(alloc).expect(&rt, "memory");
-    let table = read_table::<u32, _, 24>(alloc, numbers, &mut source).expect(&rt, "the table");
+    let table = read_model::<u32, _, 24>(alloc, numbers, &mut source).expect(&rt, "the model");
     are_many_rows(&rt, &table);
 }

@@ -1,6 +1,6 @@
 use Rattle.std.proofs.Common.{◌≡◌, ◌+◌, ◌*◌, ◌≤◌, ◌∷◌, length, vec_capacity}
 use Rattle.constriction_backends.specs.Source.{Reads}
-use Rattle.constriction_ans_example.proofs.stored_table.read_weights.Given as goal
+use Rattle.constriction_ans_example.proofs.stored_weights.read_weights.Given as goal
 
 -- the number of weights and the weights so far were read, and no room was asked for but for these and as many again
 abbrev pub invariant-loop-done : goal.invariant-loop-done

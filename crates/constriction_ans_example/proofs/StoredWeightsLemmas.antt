@@ -3,7 +3,7 @@ use Rattle.std.proofs.Common.{◌≡◌, ℕ, List, [], ◌∷◌, ◌++◌, app
 use Rattle.constriction_backends.specs.Sink.{Writes}
 use Rattle.constriction_backends.specs.Source.{ReadsTold}
 use Rattle.constriction_backends.specs.SourceLaws.{reads_told_all}
-use Rattle.constriction_ans_example.specs.Tables.{table_words, BeginsTable, EndsInTable, StopsAtWord}
+use Rattle.constriction_ans_example.specs.StoredWeights.{weights_as_words, BeginsWeights, EndsInWeights, StopsAtWord}
 
 -- words were written up to one that was refused
 pub stopped : {S E : Type 0} (gives : S → ℕ → Result (Unit {0}) E → S → Type 0) (s : S) (before : List ℕ) (word : ℕ) (after : List ℕ)
@@ -20,7 +20,7 @@ stopped gives s before word after reached t words found error same split written
 }
 
 -- words that begin with a table and are one are this table
-pub same-weights : (weights others rest : List ℕ) → table_words weights ≡ table_words others ++ rest → others ≡ weights
+pub same-weights : (weights others rest : List ℕ) → weights_as_words weights ≡ weights_as_words others ++ rest → others ≡ weights
 same-weights weights others [] e = let tails : weights ≡ others ++ [] = cc in sym (tails ∙ append-nil others)
 same-weights weights others (w ∷ rest) e =
     let tails : weights ≡ others ++ w ∷ rest = cc in
@@ -28,10 +28,10 @@ same-weights weights others (w ∷ rest) e =
     absurd (omega (arith, many, ap length tails, length-append others (w ∷ rest)))
 
 -- a source that tells its words, and ended in a table, told the beginning of one
-pub short-table : {S E : Type 0} (gives : S → Result (Option ℕ) E → S → Type 0) (tells : S → List ℕ → Type 0)
+pub short-weights : {S E : Type 0} (gives : S → Result (Option ℕ) E → S → Type 0) (tells : S → List ℕ → Type 0)
     → ((s : S) (r : Result (Option ℕ) E) (t : S) → gives s r t → (ws : List ℕ) → tells s ws → ReadsTold tells ws r t)
-    → (s t : S) → EndsInTable gives s (Ok None) t → (words : List ℕ) → tells s words → BeginsTable words
-short-table gives tells law s t ends words told =
+    → (s t : S) → EndsInWeights gives s (Ok None) t → (words : List ℕ) → tells s words → BeginsWeights words
+short-weights gives tells law s t ends words told =
     let read = reads_told_all gives tells law s ends.words ends.reached ends.read words told in
     let none = (law ends.reached (Ok None) t ends.answered read.0 read.2).0 in
-    subst BeginsTable (sym (read.1 ∙ ap (λ ws. ends.words ++ ws) none ∙ append-nil ends.words)) ends.begins
+    subst BeginsWeights (sym (read.1 ∙ ap (λ ws. ends.words ++ ws) none ∙ append-nil ends.words)) ends.begins

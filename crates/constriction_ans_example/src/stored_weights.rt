@@ -1,4 +1,4 @@
-//! Tables of weights as words: how many weights there are, and then the weights.
+//! Stored weights: how many weights there are, and then the weights, as words.
 
 ghost use Rattle.std.specs.Prelude.{◌≡◌, ◌≢◌, [], ◌∷◌, ◌++◌, ◌+◌, ◌*◌, ◌^◌, ◌<◌, ◌≤◌, ℕ, List, length, map, Option, Some, None, Ok, Err, IfOk, OnOk, vec_capacity};
 ghost use Rattle.std.specs.List.{IsDistinct};
@@ -7,7 +7,7 @@ ghost use Rattle.constriction.specs.ModelRows.{decoder_model_rows};
 ghost use Rattle.constriction.specs.Rows.{rows_of, symbols_of};
 ghost use Rattle.constriction_backends.specs.Sink.{Writes};
 ghost use Rattle.constriction_backends.specs.Source.{Reads};
-ghost use Rattle.constriction_ans_example.specs.Tables.{table_words, BeginsTable, EndsInTable, StaysInTable, ReadsWeights, ReadsTable, StopsAtWord};
+ghost use Rattle.constriction_ans_example.specs.StoredWeights.{weights_as_words, BeginsWeights, EndsInWeights, StaysInWeights, ReadsWeights, ReadsModel, StopsAtWord};
 
 use constriction::backends::{Cursor, ReadWords, ReadWriteError, WriteWords};
 use constriction::stream::model::{
@@ -18,21 +18,21 @@ use std::alloc::{AllocError, Global};
 use std::convert::Infallible;
 use thiserror::Error;
 
-/// Why no table was read.
+/// Why no model was read.
 #[derive(Debug, PartialEq, Eq, Drop, Error)]
-pub enum TableFault {
-    /// The words end before the table does.
-    #[error("The words end before the table does.")]
+pub enum ReadingFault {
+    /// The words end before the weights do.
+    #[error("The words end before the weights do.")]
     TooFewWords,
     /// No model has these weights for these symbols.
     #[error("No model has these weights for these symbols.")]
     NotAccepted,
-    /// Memory for the table was refused.
-    #[error("Memory for the table was refused.")]
+    /// Memory for the model was refused.
+    #[error("Memory for the model was refused.")]
     OutOfMemory,
 }
 
-/// Why no table was written.
+/// Why no weights were written.
 #[derive(Debug, PartialEq, Eq, Drop, Error)]
 pub enum StoringFault {
     /// The number of weights is no word.
@@ -43,8 +43,8 @@ pub enum StoringFault {
     OutOfMemory,
 }
 
-/// A decoder of given symbols by a table of their weights.
-pub type StoredTable<Symbol, const PRECISION: usize> = NonContiguousCategoricalDecoderModel<
+/// A decoder of given symbols by their stored weights.
+pub type StoredModel<Symbol, const PRECISION: usize> = NonContiguousCategoricalDecoderModel<
     Symbol,
     u32,
     Vec<(u32, Symbol)>,
@@ -54,18 +54,18 @@ pub type StoredTable<Symbol, const PRECISION: usize> = NonContiguousCategoricalD
 /// The next word.
 fn next_word<Source: ReadWords<u32, Queue>>(
     source: &mut Source,
-) -> Result<u32, CoderError<TableFault, Source::ReadError>>
+) -> Result<u32, CoderError<ReadingFault, Source::ReadError>>
     requires { Source.can_read source.old }
     ensures goes_on { Source.can_read source.new }
     ensures ok { IfOk result (λ word. Source.read_gives source.old (Ok (Some word)) source.new) }
-    ensures too_few { result ≡ Err (CoderError.Frontend TableFault.TooFewWords) → Source.read_gives source.old (Ok None) source.new }
-    ensures accepted { result ≢ Err (CoderError.Frontend TableFault.NotAccepted) }
-    ensures memory { result ≢ Err (CoderError.Frontend TableFault.OutOfMemory) }
+    ensures too_few { result ≡ Err (CoderError.Frontend ReadingFault.TooFewWords) → Source.read_gives source.old (Ok None) source.new }
+    ensures accepted { result ≢ Err (CoderError.Frontend ReadingFault.NotAccepted) }
+    ensures memory { result ≢ Err (CoderError.Frontend ReadingFault.OutOfMemory) }
     ensures failed { (error : _) → result ≡ Err (CoderError.Backend error) → Source.read_gives source.old (Err error) source.new }
 {
     match source.read() {
         Ok(Some(word)) => Ok(word),
-        Ok(None) => Err(CoderError::Frontend(TableFault::TooFewWords)),
+        Ok(None) => Err(CoderError::Frontend(ReadingFault::TooFewWords)),
         Err(error) => Err(CoderError::Backend(error)),
     }
 }
@@ -84,24 +84,24 @@ fn push_weight(weights: &mut Vec<u32>, weight: u32) -> Result<(), AllocError>
     Ok(())
 }
 
-/// Reads the weights of a table, and no word after them. No memory is asked for but for weights that were read, for as many
+/// Reads stored weights, and no word after them. No memory is asked for but for weights that were read, for as many
 /// again, and for four, whatever their number is said to be.
 pub fn read_weights<Source: ReadWords<u32, Queue>>(
     alloc: Global,
     source: &mut Source,
-) -> Result<Vec<u32>, CoderError<TableFault, Source::ReadError>>
+) -> Result<Vec<u32>, CoderError<ReadingFault, Source::ReadError>>
     requires { Source.can_read source.old }
     ensures goes_on { Source.can_read source.new }
     ensures ok { IfOk result (λ weights. ReadsWeights Source.read_gives Source.tells_upcoming source.old weights.items source.new) }
-    ensures too_few { result ≡ Err (CoderError.Frontend TableFault.TooFewWords)
-        → EndsInTable Source.read_gives source.old (Ok None) source.new }
-    ensures short { result ≡ Err (CoderError.Frontend TableFault.TooFewWords)
-        → (words : List ℕ) → Source.tells_upcoming source.old words → BeginsTable words }
-    ensures memory { result ≡ Err (CoderError.Frontend TableFault.OutOfMemory)
-        → (words : List ℕ) × StaysInTable words × Reads Source.read_gives source.old words source.new }
-    ensures accepted { result ≢ Err (CoderError.Frontend TableFault.NotAccepted) }
+    ensures too_few { result ≡ Err (CoderError.Frontend ReadingFault.TooFewWords)
+        → EndsInWeights Source.read_gives source.old (Ok None) source.new }
+    ensures short { result ≡ Err (CoderError.Frontend ReadingFault.TooFewWords)
+        → (words : List ℕ) → Source.tells_upcoming source.old words → BeginsWeights words }
+    ensures memory { result ≡ Err (CoderError.Frontend ReadingFault.OutOfMemory)
+        → (words : List ℕ) × StaysInWeights words × Reads Source.read_gives source.old words source.new }
+    ensures accepted { result ≢ Err (CoderError.Frontend ReadingFault.NotAccepted) }
     ensures failed { (error : _) → result ≡ Err (CoderError.Backend error)
-        → EndsInTable Source.read_gives source.old (Err error) source.new }
+        → EndsInWeights Source.read_gives source.old (Err error) source.new }
 {
     let count = next_word(source)?;
     let mut weights = Vec::new(alloc);
@@ -109,27 +109,27 @@ pub fn read_weights<Source: ReadWords<u32, Queue>>(
         let weight = next_word(source)?;
         match push_weight(&mut weights, weight) {
             Ok(()) => {}
-            Err(_) => return Err(CoderError::Frontend(TableFault::OutOfMemory)),
+            Err(_) => return Err(CoderError::Frontend(ReadingFault::OutOfMemory)),
         }
     }
     Ok(weights)
 }
 
-/// Writes the weights of a table.
+/// Writes weights, after their number.
 pub fn write_weights<Sink: WriteWords<u32>>(
     weights: &[u32],
     sink: &mut Sink,
 ) -> Result<(), CoderError<StoringFault, Sink::WriteError>>
     requires { Sink.can_write sink.old }
     ensures goes_on { Sink.can_write sink.new }
-    ensures ok { OnOk result (Writes Sink.write_gives sink.old (table_words weights.now) sink.new) }
+    ensures ok { OnOk result (Writes Sink.write_gives sink.old (weights_as_words weights.now) sink.new) }
     ensures told { OnOk result ((words : List ℕ) → Sink.tells_written sink.old words
-        → Sink.tells_written sink.new (words ++ table_words weights.now)) }
+        → Sink.tells_written sink.new (words ++ weights_as_words weights.now)) }
     ensures too_many { result ≡ Err (CoderError.Frontend StoringFault.TooManyWeights) → 2 ^ 32 ≤ length weights.now }
     ensures memory { result ≢ Err (CoderError.Frontend StoringFault.OutOfMemory) }
     ensures unwritten { (fault : _) → result ≡ Err (CoderError.Frontend fault) → sink.new ≡ sink.old }
     ensures failed { (error : _) → result ≡ Err (CoderError.Backend error)
-        → StopsAtWord Sink.write_gives sink.old (table_words weights.now) error sink.new }
+        → StopsAtWord Sink.write_gives sink.old (weights_as_words weights.now) error sink.new }
 {
     if weights.len() > u32::MAX as usize {
         return Err(CoderError::Frontend(StoringFault::TooManyWeights));
@@ -141,54 +141,54 @@ pub fn write_weights<Sink: WriteWords<u32>>(
     Ok(())
 }
 
-/// The table of these symbols and weights.
-fn table_of<Symbol: Eq + Drop, const PRECISION: usize>(
+/// The model of these symbols and weights.
+fn model_of<Symbol: Eq + Drop, const PRECISION: usize>(
     alloc: Global,
     symbols: Vec<Symbol>,
     weights: Vec<u32>,
-) -> Result<StoredTable<Symbol, PRECISION>, TableFault>
+) -> Result<StoredModel<Symbol, PRECISION>, ReadingFault>
     requires positive { 0 < PRECISION }
     requires fits { PRECISION ≤ 32 }
     ensures accepted { IfOk result (λ _. AreAccepted Symbol.eq 32 PRECISION symbols.items weights.items) }
-    ensures rows { IfOk result (λ table. decoder_model_rows table ≡ rows_of symbols.items weights.items) }
-    ensures not_accepted { result ≡ Err TableFault.NotAccepted → ¬ (AreAccepted Symbol.eq 32 PRECISION symbols.items weights.items) }
-    ensures whole { result ≢ Err TableFault.TooFewWords }
+    ensures rows { IfOk result (λ model. decoder_model_rows model ≡ rows_of symbols.items weights.items) }
+    ensures not_accepted { result ≡ Err ReadingFault.NotAccepted → ¬ (AreAccepted Symbol.eq 32 PRECISION symbols.items weights.items) }
+    ensures whole { result ≢ Err ReadingFault.TooFewWords }
 {
-    match StoredTable::from_symbols_and_nonzero_fixed_point_probabilities(
+    match StoredModel::from_symbols_and_nonzero_fixed_point_probabilities(
         alloc, symbols, weights, false,
     ) {
         Ok(table) => Ok(table),
-        Err(ModelError::InvalidTable) => Err(TableFault::NotAccepted),
-        Err(ModelError::OutOfMemory) => Err(TableFault::OutOfMemory),
+        Err(ModelError::InvalidTable) => Err(ReadingFault::NotAccepted),
+        Err(ModelError::OutOfMemory) => Err(ReadingFault::OutOfMemory),
     }
 }
 
-/// Reads the table of these symbols, one weight a symbol, and no word after it.
-pub fn read_table<Symbol: Eq + Drop, Source: ReadWords<u32, Queue>, const PRECISION: usize>(
+/// Reads the model of these symbols, one weight a symbol, and no word after them.
+pub fn read_model<Symbol: Eq + Drop, Source: ReadWords<u32, Queue>, const PRECISION: usize>(
     alloc: Global,
     symbols: Vec<Symbol>,
     source: &mut Source,
-) -> Result<StoredTable<Symbol, PRECISION>, CoderError<TableFault, Source::ReadError>>
+) -> Result<StoredModel<Symbol, PRECISION>, CoderError<ReadingFault, Source::ReadError>>
     requires positive { 0 < PRECISION }
     requires fits { PRECISION ≤ 32 }
     requires can_read { Source.can_read source.old }
     ensures goes_on { Source.can_read source.new }
-    ensures ok { IfOk result (λ table. ReadsTable Source.read_gives Source.tells_upcoming Symbol.eq PRECISION symbols.items
-        source.old (decoder_model_rows table) source.new) }
-    ensures not_accepted { result ≡ Err (CoderError.Frontend TableFault.NotAccepted)
+    ensures ok { IfOk result (λ model. ReadsModel Source.read_gives Source.tells_upcoming Symbol.eq PRECISION symbols.items
+        source.old (decoder_model_rows model) source.new) }
+    ensures not_accepted { result ≡ Err (CoderError.Frontend ReadingFault.NotAccepted)
         → (weights : List ℕ) × ReadsWeights Source.read_gives Source.tells_upcoming source.old weights source.new
         × ¬ (AreAccepted Symbol.eq 32 PRECISION symbols.items weights) }
-    ensures too_few { result ≡ Err (CoderError.Frontend TableFault.TooFewWords)
-        → EndsInTable Source.read_gives source.old (Ok None) source.new }
-    ensures short { result ≡ Err (CoderError.Frontend TableFault.TooFewWords)
-        → (words : List ℕ) → Source.tells_upcoming source.old words → BeginsTable words }
-    ensures memory { result ≡ Err (CoderError.Frontend TableFault.OutOfMemory)
-        → (words : List ℕ) × StaysInTable words × Reads Source.read_gives source.old words source.new }
+    ensures too_few { result ≡ Err (CoderError.Frontend ReadingFault.TooFewWords)
+        → EndsInWeights Source.read_gives source.old (Ok None) source.new }
+    ensures short { result ≡ Err (CoderError.Frontend ReadingFault.TooFewWords)
+        → (words : List ℕ) → Source.tells_upcoming source.old words → BeginsWeights words }
+    ensures memory { result ≡ Err (CoderError.Frontend ReadingFault.OutOfMemory)
+        → (words : List ℕ) × StaysInWeights words × Reads Source.read_gives source.old words source.new }
     ensures failed { (error : _) → result ≡ Err (CoderError.Backend error)
-        → EndsInTable Source.read_gives source.old (Err error) source.new }
+        → EndsInWeights Source.read_gives source.old (Err error) source.new }
 {
     let weights = read_weights(alloc, source)?;
-    match table_of(alloc, symbols, weights) {
+    match model_of(alloc, symbols, weights) {
         Ok(table) => Ok(table),
         Err(fault) => Err(CoderError::Frontend(fault)),
     }
@@ -209,8 +209,8 @@ where
     Ok(weights)
 }
 
-/// Writes the table of a model: the weights of its rows, in order.
-pub fn write_table<M, Sink: WriteWords<u32>, const PRECISION: usize>(
+/// Writes the weights of a model's rows, in order, after their number.
+pub fn write_model<M, Sink: WriteWords<u32>, const PRECISION: usize>(
     alloc: Global,
     model: M,
     sink: &mut Sink,
@@ -220,13 +220,13 @@ where
     M::Symbol: Drop,
     requires { Sink.can_write sink.old }
     ensures goes_on { Sink.can_write sink.new }
-    ensures ok { OnOk result (Writes Sink.write_gives sink.old (table_words (map (λ r. r.weight) (M.rows model))) sink.new) }
+    ensures ok { OnOk result (Writes Sink.write_gives sink.old (weights_as_words (map (λ r. r.weight) (M.rows model))) sink.new) }
     ensures told { OnOk result ((words : List ℕ) → Sink.tells_written sink.old words
-        → Sink.tells_written sink.new (words ++ table_words (map (λ r. r.weight) (M.rows model)))) }
+        → Sink.tells_written sink.new (words ++ weights_as_words (map (λ r. r.weight) (M.rows model)))) }
     ensures too_many { result ≡ Err (CoderError.Frontend StoringFault.TooManyWeights) → 2 ^ 32 ≤ length (M.rows model) }
     ensures unwritten { (fault : _) → result ≡ Err (CoderError.Frontend fault) → sink.new ≡ sink.old }
     ensures failed { (error : _) → result ≡ Err (CoderError.Backend error)
-        → StopsAtWord Sink.write_gives sink.old (table_words (map (λ r. r.weight) (M.rows model))) error sink.new }
+        → StopsAtWord Sink.write_gives sink.old (weights_as_words (map (λ r. r.weight) (M.rows model))) error sink.new }
 {
     let Ok(weights) = weights_of(alloc, model) else {
         return Err(CoderError::Frontend(StoringFault::OutOfMemory));
@@ -234,14 +234,14 @@ where
     write_weights(&weights, sink)
 }
 
-/// Writes the table of a model and reads it with the symbols of its rows: the rows come back.
-pub fn table_comes_back<M, const PRECISION: usize>(
+/// Writes the weights of a model and reads them with the symbols of its rows: the rows come back.
+pub fn model_comes_back<M, const PRECISION: usize>(
     alloc: Global,
     model: M,
     symbols: Vec<M::Symbol>,
 ) -> Result<
-    StoredTable<M::Symbol, PRECISION>,
-    ReadWriteError<CoderError<TableFault, Infallible>, CoderError<StoringFault, AllocError>>,
+    StoredModel<M::Symbol, PRECISION>,
+    ReadWriteError<CoderError<ReadingFault, Infallible>, CoderError<StoringFault, AllocError>>,
 >
 where
     M: IterableEntropyModel<PRECISION, Probability = u32>,
@@ -249,20 +249,20 @@ where
     requires positive { 0 < PRECISION }
     requires fits { PRECISION ≤ 32 }
     requires symbols { symbols.items ≡ symbols_of (M.rows model) }
-    ensures rows { IfOk result (λ table. decoder_model_rows table ≡ M.rows model) }
+    ensures rows { IfOk result (λ model. decoder_model_rows model ≡ M.rows model) }
     ensures too_many { result ≡ Err (ReadWriteError.Write (CoderError.Frontend StoringFault.TooManyWeights))
         → 2 ^ 32 ≤ length (M.rows model) }
-    ensures whole { result ≢ Err (ReadWriteError.Read (CoderError.Frontend TableFault.TooFewWords)) }
-    ensures accepted { result ≡ Err (ReadWriteError.Read (CoderError.Frontend TableFault.NotAccepted))
+    ensures whole { result ≢ Err (ReadWriteError.Read (CoderError.Frontend ReadingFault.TooFewWords)) }
+    ensures accepted { result ≡ Err (ReadWriteError.Read (CoderError.Frontend ReadingFault.NotAccepted))
         → ¬ (IsDistinct M.Symbol.eq symbols.items) }
 {
     let mut words = Vec::new(alloc);
-    match write_table(alloc, model, &mut words) {
+    match write_model(alloc, model, &mut words) {
         Ok(()) => {}
         Err(error) => return Err(ReadWriteError::Write(error)),
     }
     let mut source = Cursor::new_at_write_beginning(words);
-    match read_table(alloc, symbols, &mut source) {
+    match read_model(alloc, symbols, &mut source) {
         Ok(table) => Ok(table),
         Err(error) => Err(ReadWriteError::Read(error)),
     }

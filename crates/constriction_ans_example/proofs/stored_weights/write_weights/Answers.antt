@@ -4,9 +4,9 @@ use Rattle.std.proofs.lemmas.List.{take_more, take_all}
 use Rattle.std.proofs.lemmas.Result.{err_from_is_err_and}
 use Rattle.constriction_backends.specs.Sink.{Writes}
 use Rattle.constriction_backends.specs.SinkLaws.{writes_more, writes_told_all}
-use Rattle.constriction_ans_example.specs.Tables.{table_words}
-use Rattle.constriction_ans_example.proofs.Tables.{stopped}
-use Rattle.constriction_ans_example.proofs.stored_table.write_weights.Goals as goal
+use Rattle.constriction_ans_example.specs.StoredWeights.{weights_as_words}
+use Rattle.constriction_ans_example.proofs.StoredWeightsLemmas.{stopped}
+use Rattle.constriction_ans_example.proofs.stored_weights.write_weights.Goals as goal
 
 pub returns-in_err-write-clause-failed : goal.returns-in_err-write-clause-failed
 returns-in_err-write-clause-failed g c = λ error is.
@@ -22,7 +22,7 @@ returns-in_err-write-2-clause-failed g c = λ error is.
     let i = c.loop-weight.weight-index in
     let weights = c.args.weights.now in
     stopped g.Sink.WriteWords.write_gives c.args.sink.now (length weights ∷ take i weights) (get_or weights i 0) (drop (suc i) weights) _ _
-    (table_words weights) _ error same (ap (λ ws. length weights ∷ ws) (split_at weights i 0 c.loop-weight-test.true))
+    (weights_as_words weights) _ error same (ap (λ ws. length weights ∷ ws) (split_at weights i 0 c.loop-weight-test.true))
     c.loop-weight.invariant.so_far c.in_err-write-2.ensures.gives
 
 pub loop-weight-preserved : goal.loop-weight-preserved
@@ -42,6 +42,6 @@ pub returns-clause-told : goal.returns-clause-told
 returns-clause-told g c =
     let all : take c.loop-weight.weight-index c.args.weights.now ≡ c.args.weights.now = take_all _ _ c.loop-weight-test.false in
     writes_told_all g.Sink.WriteWords.write_gives g.Sink.WriteWords.tells_written g.met.Sink.WriteWords.writes_told c.args.sink.now
-    (table_words c.args.weights.now) c.loop-weight.sink
+    (weights_as_words c.args.weights.now) c.loop-weight.sink
     (subst (λ (ws : List ℕ). Writes g.Sink.WriteWords.write_gives c.args.sink.now (length c.args.weights.now ∷ ws) c.loop-weight.sink) all
     c.loop-weight.invariant.so_far)

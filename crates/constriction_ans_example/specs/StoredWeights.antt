@@ -1,0 +1,54 @@
+-- Stored weights, and what reading and writing them does to a source and to a sink.
+use Rattle.std.specs.Prelude.{◌≡◌, ℕ, ◌<◌, ◌≤◌, Bool, List, [], ◌∷◌, ◌++◌, length, Option, Result, Err}
+use Rattle.constriction.specs.Acceptance.{AreAccepted}
+use Rattle.constriction.specs.Rows.{Row, rows_of}
+use Rattle.constriction_backends.specs.Sink.{Writes}
+use Rattle.constriction_backends.specs.Source.{Reads}
+
+-- weights as words: how many there are, and then the weights
+abbrev pub weights_as_words : List ℕ → List ℕ
+weights_as_words weights = length weights ∷ weights
+
+-- words that begin stored weights and do not end them
+abbrev pub BeginsWeights : List ℕ → Type 0
+BeginsWeights [] = Unit {0}
+BeginsWeights (count ∷ weights) = length weights < count
+
+-- words of stored weights, and none after them: their beginning, or all of them
+abbrev pub StaysInWeights : List ℕ → Type 0
+StaysInWeights [] = Unit {0}
+StaysInWeights (count ∷ weights) = length weights ≤ count
+
+-- reads from s gave the beginning of stored weights, and then one more gave this answer, which leads to t
+pub record EndsInWeights {S E : Type 0} (gives : S → Result (Option ℕ) E → S → Type 0) (s : S) (answer : Result (Option ℕ) E) (t : S)
+    : Type 0 where
+  pub words : List ℕ
+  pub begins : BeginsWeights words
+  pub reached : S
+  pub read : Reads gives s words reached
+  pub answered : gives reached answer t
+
+-- Reads from s gave the words of the weights, which leads to t. Where s tells its words, they begin with these, and t tells the others.
+pub record ReadsWeights {S E : Type 0} (gives : S → Result (Option ℕ) E → S → Type 0) (tells : S → List ℕ → Type 0) (s : S)
+    (weights : List ℕ) (t : S) : Type 0 where
+  pub read : Reads gives s (weights_as_words weights) t
+  pub told : (words : List ℕ) → tells s words → (rest : List ℕ) × (words ≡ weights_as_words weights ++ rest) × tells t rest
+
+-- weights were read that a model accepts for these symbols, and the rows are those of both
+pub record ReadsModel {Symbol S E : Type 0} (gives : S → Result (Option ℕ) E → S → Type 0) (tells : S → List ℕ → Type 0)
+    (eq : Symbol → Symbol → Bool) (precision : ℕ) (symbols : List Symbol) (s : S) (rows : List (Row Symbol)) (t : S) : Type 0 where
+  pub weights : List ℕ
+  pub reads : ReadsWeights gives tells s weights t
+  pub accepted : AreAccepted eq 32 precision symbols weights
+  pub rows_are : rows ≡ rows_of symbols weights
+
+-- words were written in order to s up to one that was refused with this error, which leads to t
+pub record StopsAtWord {S E : Type 0} (gives : S → ℕ → Result (Unit {0}) E → S → Type 0) (s : S) (words : List ℕ) (error : E) (t : S)
+    : Type 0 where
+  pub before : List ℕ
+  pub word : ℕ
+  pub after : List ℕ
+  pub split : words ≡ before ++ word ∷ after
+  pub reached : S
+  pub written : Writes gives s before reached
+  pub refused : gives reached word (Err error) t
