@@ -249,7 +249,7 @@ where
     requires positive { 0 < PRECISION }
     requires fits { PRECISION ≤ 32 }
     requires symbols { symbols.items ≡ symbols_of (M.rows model) }
-    ensures rows { IfOk result (λ model. decoder_model_rows model ≡ M.rows model) }
+    ensures rows { IfOk result (λ read. decoder_model_rows read ≡ M.rows model) }
     ensures too_many { result ≡ Err (ReadWriteError.Write (CoderError.Frontend StoringFault.TooManyWeights))
         → 2 ^ 32 ≤ length (M.rows model) }
     ensures whole { result ≢ Err (ReadWriteError.Read (CoderError.Frontend ReadingFault.TooFewWords)) }
