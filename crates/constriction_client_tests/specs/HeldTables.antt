@@ -4,8 +4,8 @@ use Rattle.constriction.specs.Rows.{Row}
 use Rattle.constriction.specs.Tables.{YieldsRow}
 
 -- a step of the held table is one of the table that holds it, which has the same rows left
-pub held-step : {T U Symbol Word Weight Refusal : Type 0} (t : T) (r : Option (Result (Symbol × Word × Weight) Refusal)) (u : T) (held : T → U)
-    (Stands : Symbol → Symbol → Type 0) (MayRefuse : Symbol → Type 0) (whole : Word → ℕ) (base : Weight → Word)
+pub held-step : {T U Symbol Word Weight Refusal : Type 0} (t : T) (r : Option (Result (Symbol × Word × Weight) Refusal)) (u : T)
+    (held : T → U) (Stands : Symbol → Symbol → Type 0) (MayRefuse : Symbol → Type 0) (whole : Word → ℕ) (base : Weight → Word)
     (rows_left : U → List (Row Symbol)) → YieldsRow Stands MayRefuse whole base rows_left (held t) r (held u)
     → YieldsRow Stands MayRefuse whole base (λ s. rows_left (held s)) t r u
 held-step t None u held Stands MayRefuse whole base rows_left step = step
