@@ -18,7 +18,9 @@ mod search;
 mod traits;
 mod uniform;
 
-pub use crate::cdf_probe::{Alone, CdfEntry, CdfProbe, WithSymbol, row_in_entries};
+pub use crate::cdf_probe::{
+    Alone, CdfEntry, CdfProbe, WithSymbol, row_in_entries, row_in_slot_entries,
+};
 pub use crate::decodes_over::DecodesOver;
 pub use crate::encodes_over::EncodesOver;
 pub use crate::error::ModelError;
