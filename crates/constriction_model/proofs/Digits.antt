@@ -64,3 +64,22 @@ digits_few (suc n) h =
 -- one less than two rows, or than one, or than none
 pub digits_two : (n : ℕ) → n ≤ 2 → digits (n - 1) ≡ n - 1
 digits_two n h = digits_few (n - 1) (omega arith)
+
+-- one less than three or four rows
+pub digits_four : (n : ℕ) → 2 < n → n ≤ 4 → digits (n - 1) ≡ 2
+digits_four n more most = omega (arith, digits_step n (omega arith), digits_two (n - n / 2) (omega arith))
+
+-- one less than five to eight
+pub digits_eight : (n : ℕ) → 4 < n → n ≤ 8 → digits (n - 1) ≡ 3
+digits_eight n more most =
+    omega (arith, digits_step n (omega arith), digits_four (n - n / 2) (omega arith) (omega arith))
+
+-- one less than nine to sixteen
+pub digits_sixteen : (n : ℕ) → 8 < n → n ≤ 16 → digits (n - 1) ≡ 4
+digits_sixteen n more most =
+    omega (arith, digits_step n (omega arith), digits_eight (n - n / 2) (omega arith) (omega arith))
+
+-- one less than seventeen to thirty-two
+pub digits_thirty_two : (n : ℕ) → 16 < n → n ≤ 32 → digits (n - 1) ≡ 5
+digits_thirty_two n more most =
+    omega (arith, digits_step n (omega arith), digits_sixteen (n - n / 2) (omega arith) (omega arith))

@@ -1,5 +1,5 @@
 -- The steps of a search by halving.
-use Rattle.std.proofs.Common.{◌≡◌, ℕ, ◌+◌, ◌<◌, ◌≤◌, suc, zero, List, length, get_or, arith, inl, inr}
+use Rattle.std.proofs.Common.{◌≡◌, ℕ, ◌+◌, ◌-◌, ◌*◌, ◌<◌, ◌≤◌, suc, zero, List, length, get_or, arith, inl, inr}
 use Rattle.std.proofs.lemmas.Bool.{cases_lt}
 use Rattle.std.specs.List.Sorted.{IsStrictlyIncreasing}
 use Rattle.constriction_model.specs.Searching.{IsNarrowed}
@@ -28,3 +28,16 @@ module _ (xs : List ℕ) (q : ℕ) (s : IsSearchable xs q) where
           | inr no_more ↦ (let e : first + size ≡ j = omega arith in rw (← e) (n.above (rw e b)))
         ];
       }
+
+  -- where the row after those that are too many begins above the quantile, its row is among the first ones: among as many as are left
+  pub narrowed_first : (first size left : ℕ) → IsNarrowed xs q first size → left < size → size ≤ 2 * left
+      → q < get_or xs (first + (size - left)) 0 → IsNarrowed xs q first left
+  narrowed_first first size left n fewer half greater = record {
+    some = omega arith;
+    within = omega (arith, n.within);
+    at_most = n.at_most;
+    above = λ b. elim (cases_lt (first + (size - left)) (first + left)) [
+      | inl more ↦ omega (arith, greater, later xs (first + (size - left)) (first + left) s.increases more b)
+      | inr no_more ↦ (let e : first + (size - left) ≡ first + left = omega arith in rw (← e) greater)
+    ];
+  }

@@ -22,7 +22,7 @@ pub use crate::encodes_over::EncodesOver;
 pub use crate::error::ModelError;
 pub use crate::probe::Probe;
 pub use crate::quantile::is_quantile;
-pub use crate::search::{row_of_quantile, row_of_two};
+pub use crate::search::{row_of_quantile, row_of_thirty_two, row_of_two};
 pub use crate::traits::{DecoderModel, EncoderModel, EntropyModel, SearchingModel, Weight};
 pub use crate::uniform::symbol_table::UniformSymbolTable;
 pub use crate::uniform::{DefaultUniformModel, SmallUniformModel, UniformModel};

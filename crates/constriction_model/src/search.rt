@@ -1,6 +1,6 @@
 //! The search for the row of a quantile, by halving.
 
-ghost use Rattle.std.specs.Prelude.{◌≡◌, ◌+◌, ◌-◌, ◌<◌, ◌≤◌, length};
+ghost use Rattle.std.specs.Prelude.{◌≡◌, ◌+◌, ◌-◌, ◌*◌, ◌<◌, ◌≤◌, length};
 ghost use Rattle.constriction_model.specs.Searching.{IsNarrowed};
 ghost use Rattle.constriction_model.specs.Probe.{digits, IsSearchable, IsLastAtMost};
 
@@ -81,6 +81,105 @@ pub fn row_of_two<R: Probe>(rows: &mut R, q: R::Word) -> usize
         return 0;
     }
     usize::from(rows.at_most(1, q))
+}
+
+/// The first row of so many that are left of those from `first` on: by one question, whose answers leave equally many.
+#[inline(always)]
+fn first_left<R: Probe>(rows: &mut R, q: R::Word, first: usize, size: usize, left: usize) -> usize
+    requires searchable { IsSearchable (R.cumulatives rows.old) (R.number q) }
+    requires word { length (R.cumulatives rows.old) ≤ usize.MAX }
+    requires narrowed { IsNarrowed (R.cumulatives rows.old) (R.number q) first size }
+    requires fewer { left < size }
+    requires half { size ≤ 2 * left }
+    requires room { R.questions rows.old < usize.MAX }
+    ensures narrowed { IsNarrowed (R.cumulatives rows.old) (R.number q) result left }
+    ensures same { R.cumulatives rows.new ≡ R.cumulatives rows.old }
+    ensures counted { R.questions rows.new ≡ R.questions rows.old + 1 }
+{
+    let skipped = size - left;
+    if rows.at_most(first + skipped, q) {
+        first + skipped
+    } else {
+        first
+    }
+}
+
+/// The row of four from `first` on.
+#[inline(always)]
+fn row_of_four<R: Probe>(rows: &mut R, q: R::Word, first: usize) -> usize
+    requires searchable { IsSearchable (R.cumulatives rows.old) (R.number q) }
+    requires word { length (R.cumulatives rows.old) ≤ usize.MAX }
+    requires narrowed { IsNarrowed (R.cumulatives rows.old) (R.number q) first 4 }
+    requires room { R.questions rows.old ≤ usize.MAX - 2 }
+    ensures narrowed { IsNarrowed (R.cumulatives rows.old) (R.number q) result 1 }
+    ensures same { R.cumulatives rows.new ≡ R.cumulatives rows.old }
+    ensures counted { R.questions rows.new ≡ R.questions rows.old + 2 }
+{
+    let half = first_left(rows, q, first, 4, 2);
+    first_left(rows, q, half, 2, 1)
+}
+
+/// The row of eight from `first` on.
+#[inline(always)]
+fn row_of_eight<R: Probe>(rows: &mut R, q: R::Word, first: usize) -> usize
+    requires searchable { IsSearchable (R.cumulatives rows.old) (R.number q) }
+    requires word { length (R.cumulatives rows.old) ≤ usize.MAX }
+    requires narrowed { IsNarrowed (R.cumulatives rows.old) (R.number q) first 8 }
+    requires room { R.questions rows.old ≤ usize.MAX - 3 }
+    ensures narrowed { IsNarrowed (R.cumulatives rows.old) (R.number q) result 1 }
+    ensures same { R.cumulatives rows.new ≡ R.cumulatives rows.old }
+    ensures counted { R.questions rows.new ≡ R.questions rows.old + 3 }
+{
+    let half = first_left(rows, q, first, 8, 4);
+    row_of_four(rows, q, half)
+}
+
+/// The row of sixteen from `first` on.
+#[inline(always)]
+fn row_of_sixteen<R: Probe>(rows: &mut R, q: R::Word, first: usize) -> usize
+    requires searchable { IsSearchable (R.cumulatives rows.old) (R.number q) }
+    requires word { length (R.cumulatives rows.old) ≤ usize.MAX }
+    requires narrowed { IsNarrowed (R.cumulatives rows.old) (R.number q) first 16 }
+    requires room { R.questions rows.old ≤ usize.MAX - 4 }
+    ensures narrowed { IsNarrowed (R.cumulatives rows.old) (R.number q) result 1 }
+    ensures same { R.cumulatives rows.new ≡ R.cumulatives rows.old }
+    ensures counted { R.questions rows.new ≡ R.questions rows.old + 4 }
+{
+    let half = first_left(rows, q, first, 16, 8);
+    row_of_eight(rows, q, half)
+}
+
+/// The greatest index whose cumulative is at most `q`, of at most 32.
+///
+/// The first question leaves a power of two, so that what each later one asks about stands a fixed number of rows after the
+/// first one that is left. How many questions there are is one choice, made before any is asked.
+#[inline(always)]
+pub fn row_of_thirty_two<R: Probe>(rows: &mut R, q: R::Word) -> usize
+    requires searchable { IsSearchable (R.cumulatives rows.old) (R.number q) }
+    requires few { length (R.cumulatives rows.old) ≤ 32 }
+    requires room { R.questions rows.old ≤ usize.MAX - 64 }
+    ensures found { IsLastAtMost (R.cumulatives rows.old) (R.number q) result }
+    ensures same { R.cumulatives rows.new ≡ R.cumulatives rows.old }
+    ensures counted { R.questions rows.new ≡ R.questions rows.old + digits (length (R.cumulatives rows.old) - 1) }
+{
+    let size = rows.len();
+    if size > 16 {
+        let first = first_left(rows, q, 0, size, 16);
+        return row_of_sixteen(rows, q, first);
+    }
+    if size > 8 {
+        let first = first_left(rows, q, 0, size, 8);
+        return row_of_eight(rows, q, first);
+    }
+    if size > 4 {
+        let first = first_left(rows, q, 0, size, 4);
+        return row_of_four(rows, q, first);
+    }
+    if size > 2 {
+        let first = first_left(rows, q, 0, size, 2);
+        return first_left(rows, q, first, 2, 1);
+    }
+    row_of_two(rows, q)
 }
 
 /// The greatest index whose cumulative is at most `q`.

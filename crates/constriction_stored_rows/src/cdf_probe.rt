@@ -3,7 +3,7 @@
 ghost use Rattle.std.specs.Prelude.{◌≡◌, ◌+◌, ◌-◌, ◌<◌, ◌≤◌, ℕ, length, map};
 ghost use Rattle.constriction_model.specs.Probe.{digits, IsSearchable, IsLastAtMost};
 
-use constriction_model::{Probe, row_of_quantile, row_of_two};
+use constriction_model::{Probe, row_of_quantile, row_of_thirty_two, row_of_two};
 use constriction_numbers::WholeNumber;
 use std::marker::PhantomData;
 
@@ -131,4 +131,22 @@ fn searched<Entry, Kind: CdfEntry<Entry>>(entries: &[Entry], q: Kind::Word) -> (
     let mut rows = CdfProbe::<Entry, Kind>::new(entries);
     let index = row_of_quantile(&mut rows, q);
     (index, rows.asked())
+}
+
+/// The same of the entries of a slot, which mostly are few: at most 32 have a search of their own.
+#[inline(always)]
+pub fn row_in_slot_entries<Entry, Kind: CdfEntry<Entry>>(
+    entries: &[Entry],
+    q: Kind::Word,
+) -> (usize, usize)
+    requires { IsSearchable (map Kind.cumulative entries.now) (Kind.Word.whole q) }
+    ensures found { IsLastAtMost (map Kind.cumulative entries.now) (Kind.Word.whole q) result.0 }
+    ensures counted { result.1 ≡ digits (length entries.now - 1) }
+{
+    if entries.len() <= 32 {
+        let mut rows = CdfProbe::<Entry, Kind>::new(entries);
+        let row = row_of_thirty_two(&mut rows, q);
+        return (row, rows.asked());
+    }
+    searched::<Entry, Kind>(entries, q)
 }

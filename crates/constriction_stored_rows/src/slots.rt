@@ -6,9 +6,9 @@ ghost use Rattle.constriction_model.specs.Probe.{digits, IsLastAtMost, IsSearcha
 ghost use Rattle.constriction_stored_rows.specs.Slots.{least_in_slots, slot_count, slot_width};
 ghost use Rattle.constriction_stored_rows.specs.SlotTable.{words_a_slot, BeginsWithSlots, HasSlots, IsFirstWord, IsSlot, IsSlotPart, IsSlotSearch};
 
-use crate::cdf_probe::{CdfEntry, CdfProbe};
+use crate::cdf_probe::{CdfEntry, CdfProbe, row_in_slot_entries};
 use crate::ends::with_ends;
-use constriction_model::{Probe, row_of_quantile};
+use constriction_model::Probe;
 use constriction_numbers::WholeNumber;
 use std::alloc::{AllocError, Global};
 
@@ -158,6 +158,20 @@ fn rows_of_slot<Entry, Kind: CdfEntry<Entry>, const PRECISION: usize, const SLOT
     (table[2 * slot].to_number(), table[2 * slot + 1].to_number())
 }
 
+/// The entries from `first` to `last`.
+#[inline]
+fn entries_of<'c, Entry, Kind: CdfEntry<Entry>>(
+    entries: &'c [Entry],
+    first: usize,
+    last: usize,
+) -> &'c [Entry]
+    requires order { first ≤ last }
+    requires within { last < length entries.now }
+    ensures { map Kind.cumulative result.now ≡ take (last + 1 - first) (drop first (map Kind.cumulative entries.now)) }
+{
+    &entries[first..last + 1]
+}
+
 /// A probe of the entries from `first` to `last`.
 #[inline]
 fn probe_of<'c, Entry, Kind: CdfEntry<Entry>>(
@@ -171,7 +185,7 @@ fn probe_of<'c, Entry, Kind: CdfEntry<Entry>>(
         ≡ take (last + 1 - first) (drop first (map Kind.cumulative entries.now)) }
     ensures fresh { ⟦<CdfProbe<'c, Entry, Kind> as Probe>⟧.questions result ≡ 0 }
 {
-    CdfProbe::new(&entries[first..last + 1])
+    CdfProbe::new(entries_of::<Entry, Kind>(entries, first, last))
 }
 
 /// A probe of the rows that meet a quantile's slot, and the index of the first of them.
@@ -288,7 +302,7 @@ fn row_among<Entry, Kind: CdfEntry<Entry>, const PRECISION: usize, const SLOT_BI
     ensures found { IsLastAtMost (map Kind.cumulative entries.now) (Kind.Word.whole quantile) result.0 }
     ensures counted { result.1 ≡ digits (last - first) }
 {
-    let mut rows = probe_of::<Entry, Kind>(entries, first, last);
-    let row = first + row_of_quantile(&mut rows, quantile);
-    (row, rows.asked())
+    let rows = entries_of::<Entry, Kind>(entries, first, last);
+    let (row, compared) = row_in_slot_entries::<Entry, Kind>(rows, quantile);
+    (first + row, compared)
 }
