@@ -254,7 +254,7 @@ class Repository:
     def __init__(self):
         rows = [line.partition("#")[0].partition(":") for line in read("crates.txt").splitlines() if line.partition("#")[0].strip()]
         names = [head.split()[0] for head, _, _ in rows]
-        self.crates = [it for it in names if not re.search(r"_(tests|fixtures)$", it) and os.path.isfile(f"{TOP}/crates/{it}/src/lib.rt")]
+        self.crates = [it for it in names if not re.search(r"_(tests|test_models|test_words)$", it) and os.path.isfile(f"{TOP}/crates/{it}/src/lib.rt")]
         self.modules, self.definitions, self.spec_names, self.items, self.passed_on = {}, {}, {}, [], {}
         self.passed_names = set()
         for crate in self.crates:

@@ -7,7 +7,7 @@ use crate::checks::{end_of_requests, is_at, same, vec_of};
 use constriction_backends::{
     BoundedWriteError, Cursor, ReadWords, SafeBuf, SafeBufMut, WriteWords, laws,
 };
-use constriction_fixtures::marked::Marked;
+use constriction_test_models::marked::Marked;
 use constriction_words::{Pos, Queue, Seek, Stack, UnwrapInfallible};
 use std::alloc::{AllocError, Global};
 use std::process::Abort;

@@ -6,7 +6,7 @@ use crate::checks::{holds, is_at, same, vec_of};
 use constriction_backends::{
     BoundedWriteError, Cursor, ReadWords, Reverse, SafeBufMut, WriteWords, laws,
 };
-use constriction_fixtures::marked::Marked;
+use constriction_test_models::marked::Marked;
 use constriction_words::{Pos, Queue, Seek, Stack};
 use std::convert::Infallible;
 use std::process::Abort;

@@ -10,8 +10,8 @@ use constriction::stream::model::{
     DecoderModel, EntropyModel, ModelError, SmallNonContiguousCategoricalDecoderModel,
 };
 use constriction_client::{ChainStep, DecoderForm, convert_chain};
-use constriction_fixtures::any_symbols::{SYMBOLS, WEIGHTS, decoder};
-use constriction_fixtures::symbol_types::letters;
+use constriction_test_models::any_symbols::{SYMBOLS, WEIGHTS, decoder};
+use constriction_test_models::symbol_types::letters;
 use constriction_words::{IndexWord, NonZeroBitArray};
 use std::alloc::Global;
 

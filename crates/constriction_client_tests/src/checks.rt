@@ -2,7 +2,7 @@
 //!
 //! A proof of `assert_eq!` costs much and a call of these costs nothing, so tests call these.
 
-use constriction_fixtures::contiguous::{Table, WEIGHTS, table};
+use constriction_test_models::contiguous::{Table, WEIGHTS, table};
 use std::alloc::{AllocError, Global};
 use std::fmt::{Debug, Display};
 use std::process::Abort;

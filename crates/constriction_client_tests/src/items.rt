@@ -12,7 +12,7 @@ use constriction_client::laws::{
     the_row_found_is_the_row_of_the_quantile, there_and_back,
 };
 use constriction_client::{QuantileFault, ReadFault, read_symbols, write_quantiles};
-use constriction_fixtures::contiguous::{Table, WEIGHTS, table};
+use constriction_test_models::contiguous::{Table, WEIGHTS, table};
 use constriction_words::{BitArray, CoderError, Stack};
 use std::alloc::{AllocError, Global};
 use std::convert::Infallible;

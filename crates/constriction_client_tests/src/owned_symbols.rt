@@ -12,7 +12,7 @@ use constriction_client::laws::{decoder_and_encoder, there_and_back_of_two};
 use constriction_client::{
     ChainStep, DecoderForm, QuantileFault, Query, Reply, answer_queries, convert_chain,
 };
-use constriction_fixtures::any_symbols::plain_entry;
+use constriction_test_models::any_symbols::plain_entry;
 use constriction_words::{BitArray, CoderError, NonZeroBitArray};
 use std::alloc::{AllocError, Global};
 use std::process::Abort;

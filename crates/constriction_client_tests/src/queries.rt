@@ -3,8 +3,8 @@
 use crate::checks::{end_of_requests, holds, same};
 use constriction::stream::model::NonContiguousCategoricalEncoderModel;
 use constriction_client::{Query, Reply, answer_queries};
-use constriction_fixtures::any_symbols::{SYMBOLS, WEIGHTS, decoder, encoder};
-use constriction_fixtures::symbol_types::{Letter, LetterDecoder, letters};
+use constriction_test_models::any_symbols::{SYMBOLS, WEIGHTS, decoder, encoder};
+use constriction_test_models::symbol_types::{Letter, LetterDecoder, letters};
 use constriction_words::BitArray;
 use std::alloc::{AllocError, Global};
 

@@ -15,8 +15,8 @@ use constriction_client::QuantileFault;
 use constriction_client::laws::{
     CursorFault, decoder_and_encoder, there_and_back_in_a_cursor, there_and_back_of_two,
 };
-use constriction_fixtures::contiguous::{Table, WEIGHTS, table};
-use constriction_fixtures::given::of_four;
+use constriction_test_models::contiguous::{Table, WEIGHTS, table};
+use constriction_test_models::given::of_four;
 use constriction_words::{BitArray, CoderError, Pos, ReadWriteError, Seek};
 use std::alloc::{AllocError, Global};
 use std::process::Abort;

@@ -10,9 +10,9 @@ use constriction::stream::model::{
     EntropyModel, LookupDecoderModel, SearchingModel, SlottedContiguousLookupDecoderModel,
     SlottedNonContiguousLookupDecoderModel,
 };
-use constriction_fixtures::any_symbols::{Decoder, SYMBOLS, WEIGHTS, decoder};
-use constriction_fixtures::contiguous::Table;
-use constriction_fixtures::given::of_four;
+use constriction_test_models::any_symbols::{Decoder, SYMBOLS, WEIGHTS, decoder};
+use constriction_test_models::contiguous::Table;
+use constriction_test_models::given::of_four;
 use constriction_words::WholeNumber;
 use std::alloc::{AllocError, Global};
 

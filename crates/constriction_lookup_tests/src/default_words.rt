@@ -6,7 +6,7 @@ use crate::checks::same_at;
 use constriction::stream::model::{
     DecoderModel, DefaultContiguousCategoricalEntropyModel, to_generic_decoder_model,
 };
-use constriction_fixtures::tables::row;
+use constriction_test_models::tables::row;
 use std::alloc::{AllocError, Global};
 use std::process::Abort;
 

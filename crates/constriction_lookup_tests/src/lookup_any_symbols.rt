@@ -10,9 +10,9 @@ use constriction::stream::model::{
     DecoderModel, FromIterableEntropyModel, IterableEntropyModel, ModelError,
     to_generic_lookup_decoder_model, to_generic_slotted_lookup_decoder_model,
 };
-use constriction_fixtures::any_symbols::plain;
-use constriction_fixtures::lookup_any_symbols::{Lookup, lookup};
-use constriction_fixtures::own_model::three;
+use constriction_test_models::any_symbols::plain;
+use constriction_test_models::lookup_any_symbols::{Lookup, lookup};
+use constriction_test_models::own_model::three;
 use std::alloc::Global;
 use std::process::Abort;
 

@@ -6,8 +6,8 @@ use crate::checks::same;
 use constriction::stream::model::{
     AnswersRows, DecoderModel, EntropyModel, LookupDecoderModel, StoresRows, Weight,
 };
-use constriction_fixtures::any_symbols::plain;
-use constriction_fixtures::contiguous::{Table, WEIGHTS, table};
+use constriction_test_models::any_symbols::plain;
+use constriction_test_models::contiguous::{Table, WEIGHTS, table};
 use std::alloc::AllocError;
 use std::cell::Cell;
 

@@ -4,11 +4,11 @@
 use crate::checks::{end_of_requests, same};
 use crate::lookup_any_symbols::refusals;
 use constriction::stream::model::{ContiguousLookupDecoderModel, DecoderModel, ModelError, Probe};
-use constriction_fixtures::any_symbols::{SYMBOLS, WEIGHTS, decoder, plain};
-use constriction_fixtures::contiguous::table;
-use constriction_fixtures::lookup_any_symbols::Lookup;
-use constriction_fixtures::own_model::three;
-use constriction_fixtures::tables::look_up;
+use constriction_test_models::any_symbols::{SYMBOLS, WEIGHTS, decoder, plain};
+use constriction_test_models::contiguous::table;
+use constriction_test_models::lookup_any_symbols::Lookup;
+use constriction_test_models::own_model::three;
+use constriction_test_models::tables::look_up;
 use std::process::Abort;
 
 type Contiguous = ContiguousLookupDecoderModel<u8, Vec<u8>, Vec<u8>, 6>;

@@ -8,7 +8,7 @@ use constriction::stream::model::{
     ContiguousLookupDecoderModel, DecoderModel, ModelError, Probe,
     SlottedContiguousLookupDecoderModel, row_of_quantile,
 };
-use constriction_fixtures::tables::row;
+use constriction_test_models::tables::row;
 use std::alloc::Global;
 use std::iter;
 

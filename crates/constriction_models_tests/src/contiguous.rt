@@ -8,9 +8,9 @@ use constriction::stream::model::{
     DecoderModel, EncoderModel, IterableEntropyModel, ModelError, SmallUniformModel,
     UniformSymbolTable, Weight,
 };
-use constriction_fixtures::contiguous::Small;
-use constriction_fixtures::intervals::{first_row_of, have_its_row};
-use constriction_fixtures::widths::Model;
+use constriction_test_models::contiguous::Small;
+use constriction_test_models::intervals::{first_row_of, have_its_row};
+use constriction_test_models::widths::Model;
 use constriction_words::WholeNumber;
 use std::alloc::{AllocError, Global};
 use std::iter;

@@ -6,7 +6,7 @@ use constriction::stream::model::{
     FromIterableEntropyModel, IterableEntropyModel, ModelError,
     NonContiguousCategoricalEncoderModel, to_generic_decoder_model, to_generic_encoder_model,
 };
-use constriction_fixtures::conversions::Decoder;
+use constriction_test_models::conversions::Decoder;
 use std::alloc::Global;
 use std::hash::Hash;
 

@@ -15,8 +15,8 @@ use constriction::stream::model::{
     NonContiguousLookupDecoderModel, to_generic_decoder_model_of_distinct,
     to_generic_lookup_decoder_model_of_distinct,
 };
-use constriction_fixtures::any_symbols::{Decoder, SYMBOLS, WEIGHTS, plain};
-use constriction_fixtures::contiguous::Small;
+use constriction_test_models::any_symbols::{Decoder, SYMBOLS, WEIGHTS, plain};
+use constriction_test_models::contiguous::Small;
 use std::alloc::Global;
 use std::iter;
 use std::process::Abort;

@@ -17,7 +17,7 @@ use constriction::laws::{
 use constriction::stream::model::{
     DecoderModel, EncoderModel, EntropyModel, IterableEntropyModel, Weight,
 };
-use constriction_fixtures::contiguous::Table;
+use constriction_test_models::contiguous::Table;
 use constriction_words::{BitArray, WholeNumber};
 use std::alloc::{AllocError, Global};
 

@@ -2,8 +2,8 @@
 
 use crate::checks::same;
 use constriction::stream::model::{DecoderModel, ModelError};
-use constriction_fixtures::any_symbols::{Decoder, plain};
-use constriction_fixtures::contiguous::{Small, WEIGHTS, table};
+use constriction_test_models::any_symbols::{Decoder, plain};
+use constriction_test_models::contiguous::{Small, WEIGHTS, table};
 use std::alloc::Global;
 use std::process::Abort;
 

@@ -1,4 +1,4 @@
-//! A model of the caller, which stands in `constriction_fixtures`: what it answers for a symbol, and what the caller knows
+//! A model of the caller, which stands in `constriction_test_models`: what it answers for a symbol, and what the caller knows
 //! of the models that are made from it.
 
 ghost use Rattle.std.specs.Prelude.{◌≡◌, ◌∷◌, [], IfOk, IsErr, nat_eq};
@@ -12,9 +12,9 @@ use constriction::stream::model::{
     DecoderModel, EncoderModel, EntropyModel, ModelError, to_generic_decoder_model,
     to_generic_decoder_model_of_distinct, to_generic_encoder_model,
 };
-use constriction_fixtures::any_symbols::{Encoder, entry, plain, plain_entry};
-use constriction_fixtures::conversions::Decoder;
-use constriction_fixtures::own_model::{Triple, three};
+use constriction_test_models::any_symbols::{Encoder, entry, plain, plain_entry};
+use constriction_test_models::conversions::Decoder;
+use constriction_test_models::own_model::{Triple, three};
 use std::alloc::Global;
 use std::process::Abort;
 

@@ -8,12 +8,12 @@ use constriction::stream::model::{
     DecoderModel, EncoderModel, ModelError, NonContiguousCategoricalDecoderModel, UniformModel,
     row_of_quantile,
 };
-use constriction_fixtures::any_symbols::{
+use constriction_test_models::any_symbols::{
     Decoder, Encoder, SYMBOLS, WEIGHTS, decoder, encoder, entry,
 };
-use constriction_fixtures::contiguous::{Table, table};
-use constriction_fixtures::own_model::three;
-use constriction_fixtures::tables::row;
+use constriction_test_models::contiguous::{Table, table};
+use constriction_test_models::own_model::three;
+use constriction_test_models::tables::row;
 use std::alloc::Global;
 
 type Texts = NonContiguousCategoricalDecoderModel<String, u8, Vec<(u8, String)>, 6>;

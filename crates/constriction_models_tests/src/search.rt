@@ -8,7 +8,7 @@ use constriction::stream::model::{
     Alone, CdfEntry, CdfProbe, DecoderModel, DefaultContiguousCategoricalEntropyModel, Probe,
     WithSymbol, row_of_quantile,
 };
-use constriction_fixtures::tables::row;
+use constriction_test_models::tables::row;
 use constriction_words::WholeNumber;
 use std::iter;
 

@@ -11,9 +11,9 @@ use constriction::stream::model::{
     DecoderModel, EncoderModel, IterableEntropyModel, ModelError, NonContiguousSymbolTable, Weight,
     to_generic_lookup_decoder_model,
 };
-use constriction_fixtures::any_symbols::{Row, plain, plain_entry};
-use constriction_fixtures::conversions::Decoder;
-use constriction_fixtures::symbol_types::{Letter, letters};
+use constriction_test_models::any_symbols::{Row, plain, plain_entry};
+use constriction_test_models::conversions::Decoder;
+use constriction_test_models::symbol_types::{Letter, letters};
 use std::alloc::{AllocError, Global};
 use std::hash::{Hash, Hasher};
 use std::process::Abort;

@@ -9,11 +9,11 @@ use constriction::stream::model::{
     EncoderModel, ModelError, Probe, row_of_quantile, to_generic_decoder_model,
     to_generic_lookup_decoder_model,
 };
-use constriction_fixtures::any_symbols::plain_entry;
-use constriction_fixtures::contiguous::Table;
-use constriction_fixtures::conversions::Decoder;
-use constriction_fixtures::lookup_any_symbols::Lookup;
-use constriction_fixtures::symbol_types::Letter;
+use constriction_test_models::any_symbols::plain_entry;
+use constriction_test_models::contiguous::Table;
+use constriction_test_models::conversions::Decoder;
+use constriction_test_models::lookup_any_symbols::Lookup;
+use constriction_test_models::symbol_types::Letter;
 use std::alloc::Global;
 use std::hash::{Hash, Hasher};
 use std::process::Abort;

@@ -6,9 +6,9 @@ use crate::checks::{end_of_requests, holds, same};
 use constriction::laws::contiguous_symbols_differ;
 use constriction::stream::model::{ModelError, UniformModel};
 use constriction_client::{ChainStep, DecoderForm, Query, Reply, SearchOrLookup};
-use constriction_fixtures::any_symbols::{SYMBOLS, WEIGHTS, decoder};
-use constriction_fixtures::contiguous::Table;
-use constriction_fixtures::given::{encoder_of, of_four};
+use constriction_test_models::any_symbols::{SYMBOLS, WEIGHTS, decoder};
+use constriction_test_models::contiguous::Table;
+use constriction_test_models::given::{encoder_of, of_four};
 use constriction_theorem::{
     AnswersOfModel, AnswersOfWeights, FormAndReplies, RepliesByEncoder, answer_beside_encoder,
     answer_by_form, answer_by_model, answer_from_range_u8, answer_from_range_u16,

@@ -1,5 +1,5 @@
 use Rattle.constriction.specs.GivenLemmas.{gives-array, made-of-lists, refused-lists}
-use Rattle.constriction_fixtures.proofs.GivenParts.{first, second}
+use Rattle.constriction_test_models.proofs.GivenParts.{first, second}
 use Rattle.constriction_theorem_tests.proofs.known_models.decoder_of.Goals as goal
 
 pub returns-clause-rows : goal.returns-clause-rows

@@ -1,6 +1,6 @@
 use Rattle.constriction.specs.GivenLemmas.{gives-array, made-of-list, refused-list}
-use Rattle.constriction_fixtures.proofs.GivenParts.{second}
-use Rattle.constriction_fixtures.proofs.given.lookup_of_four.Goals as goal
+use Rattle.constriction_test_models.proofs.GivenParts.{second}
+use Rattle.constriction_test_models.proofs.given.lookup_of_four.Goals as goal
 
 pub returns-clause-rows : goal.returns-clause-rows
 returns-clause-rows c =
