@@ -83,7 +83,7 @@ pub fn row_of_two<R: Probe>(rows: &mut R, q: R::Word) -> usize
     usize::from(rows.at_most(1, q))
 }
 
-/// The first row of so many that are left of those from `first` on: by one question, whose answers leave equally many.
+/// Of the `size` rows from `first` on, the first of the `left` rows that are left after one question. Either answer leaves so many.
 #[inline(always)]
 fn first_left<R: Probe>(rows: &mut R, q: R::Word, first: usize, size: usize, left: usize) -> usize
     requires searchable { IsSearchable (R.cumulatives rows.old) (R.number q) }
@@ -104,7 +104,7 @@ fn first_left<R: Probe>(rows: &mut R, q: R::Word, first: usize, size: usize, lef
     }
 }
 
-/// The row of four from `first` on.
+/// The row among the four from `first` on.
 #[inline(always)]
 fn row_of_four<R: Probe>(rows: &mut R, q: R::Word, first: usize) -> usize
     requires searchable { IsSearchable (R.cumulatives rows.old) (R.number q) }
@@ -119,7 +119,7 @@ fn row_of_four<R: Probe>(rows: &mut R, q: R::Word, first: usize) -> usize
     first_left(rows, q, half, 2, 1)
 }
 
-/// The row of eight from `first` on.
+/// The row among the eight from `first` on.
 #[inline(always)]
 fn row_of_eight<R: Probe>(rows: &mut R, q: R::Word, first: usize) -> usize
     requires searchable { IsSearchable (R.cumulatives rows.old) (R.number q) }
@@ -134,7 +134,7 @@ fn row_of_eight<R: Probe>(rows: &mut R, q: R::Word, first: usize) -> usize
     row_of_four(rows, q, half)
 }
 
-/// The row of sixteen from `first` on.
+/// The row among the sixteen from `first` on.
 #[inline(always)]
 fn row_of_sixteen<R: Probe>(rows: &mut R, q: R::Word, first: usize) -> usize
     requires searchable { IsSearchable (R.cumulatives rows.old) (R.number q) }
@@ -151,8 +151,8 @@ fn row_of_sixteen<R: Probe>(rows: &mut R, q: R::Word, first: usize) -> usize
 
 /// The greatest index whose cumulative is at most `q`, of at most 32.
 ///
-/// The first question leaves a power of two, so that what each later one asks about stands a fixed number of rows after the
-/// first one that is left. How many questions there are is one choice, made before any is asked.
+/// The first question leaves a power of two, so each later one asks about the row that stands a fixed number of rows after the
+/// first one that is left. How many questions there are is chosen once, before the first: no test of what is left stands between.
 #[inline(always)]
 pub fn row_of_thirty_two<R: Probe>(rows: &mut R, q: R::Word) -> usize
     requires searchable { IsSearchable (R.cumulatives rows.old) (R.number q) }
