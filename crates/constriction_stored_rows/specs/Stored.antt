@@ -1,5 +1,5 @@
 -- How models store their rows: by the left cumulatives, and, where symbols do not stand beside these, the total after them. No public
--- clause cites this module, but the member `rows` of these models and ghost fields of models and of symbol tables do.
+-- clause cites this module, but the words for the rows of these models, and ghost fields of models and of symbol tables, do.
 use Rattle.std.specs.Prelude.{◌≡◌, ℕ, ◌+◌, ◌-◌, ◌%◌, ◌^◌, ◌<◌, ◌≤◌, List, [], ◌∷◌, ◌++◌, length, map, take, slice_index, slice_index_or}
 use Rattle.constriction_model.specs.Acceptance.{IsAccepted}
 use Rattle.constriction_model.specs.Rows.{Row, contiguous_rows, rows_of}
