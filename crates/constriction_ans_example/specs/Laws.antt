@@ -20,6 +20,10 @@ module _ {Symbol : Type 0} (Stands : Symbol → Symbol → Type 0) (eq : Symbol 
       → InTurn (IsDecoded Stands rows precision) answers full under → length answers ≡ length symbols
       → AllZip (StandsForEqual Stands eq) symbols answers × (under ≡ rest)
 
+-- symbols were encoded onto `old`, the first one first, and of the content that this led to, P holds
+abbrev pub EncodesThen : {Symbol : Type 0} → (Symbol → Option (ℕ × ℕ)) → ℕ → List Symbol → Content → (Content → Type 0) → Type 0
+EncodesThen entry precision symbols old P = (full : Content) × InTurn (IsEncoded entry precision) symbols full old × P full
+
 -- on a whole content a symbol is encoded in one way
 abbrev pub EncodedOnce : {Symbol : Type 0} → (Symbol → Option (ℕ × ℕ)) → ℕ → Type 0
 EncodedOnce {Symbol} entry precision =

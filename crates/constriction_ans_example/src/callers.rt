@@ -145,9 +145,8 @@ where
     requires can_write { Backend.can_write coder.old.words }
     requires can_next_back { I.can_next_back symbols }
     requires ends { IsFinite (I.remaining symbols) }
-    ensures { OnOk result ((rest : I → List Symbol)
-        → ((s : I) (answer : Option Symbol) (t : I) → I.next_back_gives s answer t → YieldsLast rest s answer t)
-        → InTurn (IsEncoded (entry_of E.symbol_eq (E.rows model.now)) PRECISION) (rest symbols)
+    ensures { OnOk result ((rest : I → List Symbol) → ((s : I) (answer : Option Symbol) (t : I) → I.next_back_gives s answer t
+        → YieldsLast rest s answer t) → InTurn (IsEncoded (entry_of E.symbol_eq (E.rows model.now)) PRECISION) (rest symbols)
         (content coder.new.state (Backend.words_of coder.new.words)) (content coder.old.state (Backend.words_of coder.old.words))) }
 {
     coder.encode_iid_symbols_reverse::<Symbol, E, I, PRECISION>(symbols, model)

@@ -3,7 +3,7 @@
 ghost use Rattle.std.specs.Prelude.{◌≡◌, ◌≢◌, ◌++◌, ◌∷◌, [], ◌<◌, ◌≤◌, ℕ, List, Some, Ok, Err, IsTrue, length, reverse, IfOk, OnOk};
 ghost use Rattle.std.specs.List.{AllZip};
 ghost use Rattle.constriction_ans_example.specs.Compressed.{IsCompressed, IsClosed, ClosingStops, IsOpened, OpeningStops};
-ghost use Rattle.constriction_ans_example.specs.Laws.{SymbolComesBack, SymbolsComeBack, EncodedOnce};
+ghost use Rattle.constriction_ans_example.specs.Laws.{SymbolComesBack, SymbolsComeBack, EncodedOnce, EncodesThen};
 ghost use Rattle.constriction_ans_example.specs.Steps.{Content, content, IsEncoded, IsDecoded, EncodingStops, DecodingStops};
 ghost use Rattle.constriction.specs.Coding.{InTurn, StandsForEqual};
 ghost use Rattle.constriction.specs.Model.{ClonesAreEqual};
@@ -82,21 +82,18 @@ where
     ensures back { IfOk result (λ answers. AllZip (StandsForEqual D.stands_for E.symbol_eq) (reverse symbols.now) answers.items) }
     ensures equal { IfOk result (λ answers. ClonesAreEqual E.symbol_eq D.stands_for
         → AllZip (λ symbol answer. IsTrue (E.symbol_eq answer symbol)) (reverse symbols.now) answers.items) }
-    ensures coded { IfOk result (λ answers. (full : Content)
-        × InTurn (IsEncoded (entry_of E.symbol_eq (E.rows encoder.now)) PRECISION) (reverse symbols.now) full
-        (content coder.old.state (Backend.words_of coder.old.words))
-        × InTurn (IsDecoded D.stands_for (D.rows decoder.now) PRECISION) answers.items full
-        (content coder.new.state (Backend.words_of coder.new.words))) }
+    ensures coded { IfOk result (λ answers. EncodesThen (entry_of E.symbol_eq (E.rows encoder.now)) PRECISION (reverse symbols.now)
+        (content coder.old.state (Backend.words_of coder.old.words)) (λ full. InTurn (IsDecoded D.stands_for (D.rows decoder.now) PRECISION)
+        answers.items full (content coder.new.state (Backend.words_of coder.new.words)))) }
     ensures state { OnOk result (coder.new.state ≡ coder.old.state) }
     ensures words { OnOk result (Backend.words_of coder.new.words ≡ Backend.words_of coder.old.words) }
     ensures encoding { (error : _) → result ≡ Err (MessageFault.Encoding error)
         → EncodingStops Backend.words_of (entry_of E.symbol_eq (E.rows encoder.now)) Backend.write_gives PRECISION symbols.now error
         (content coder.old.state (Backend.words_of coder.old.words)) coder.new.state coder.new.words }
-    ensures decoding { (error : _) → result ≡ Err (MessageFault.Decoding error) → (state : ℕ) × (words : List ℕ)
-        × InTurn (IsEncoded (entry_of E.symbol_eq (E.rows encoder.now)) PRECISION) (reverse symbols.now)
-        (content state words) (content coder.old.state (Backend.words_of coder.old.words))
-        × DecodingStops Backend.words_of D.stands_for D.may_refuse (D.rows decoder.now) Backend.read_gives PRECISION
-        (length symbols.now) error (content state words) coder.new.state coder.new.words }
+    ensures decoding { (error : _) → result ≡ Err (MessageFault.Decoding error) → EncodesThen (entry_of E.symbol_eq (E.rows encoder.now))
+        PRECISION (reverse symbols.now) (content coder.old.state (Backend.words_of coder.old.words)) (λ full. DecodingStops Backend.words_of
+        D.stands_for D.may_refuse (D.rows decoder.now) Backend.read_gives PRECISION (length symbols.now) error full coder.new.state
+        coder.new.words) }
 {
     symbols_come_back::<Symbol, D, E, PRECISION>(decoder, encoder);
     match coder.encode_symbols::<_, _, PRECISION>(symbols, encoder) {
@@ -121,9 +118,8 @@ pub fn compressed_comes_back<Backend: WordStack<u32> + Drop>(
     requires { Backend.can_write coder.words }
     ensures state { IfOk result (λ again. again.state ≡ coder.state) }
     ensures words { IfOk result (λ again. Backend.words_of again.words ≡ Backend.words_of coder.words) }
-    ensures between { IfOk result (λ again. (between : Backend)
-        × IsCompressed (content coder.state (Backend.words_of coder.words)) (Backend.words_of between)
-        × IsClosed Backend.write_gives coder.state coder.words between
+    ensures between { IfOk result (λ again. (between : Backend) × IsCompressed (content coder.state (Backend.words_of coder.words))
+        (Backend.words_of between) × IsClosed Backend.write_gives coder.state coder.words between
         × IsOpened Backend.read_gives between again.state again.words) }
     ensures unwritten { (error : _) → result ≡ Err (ReadWriteError.Write error)
         → ClosingStops Backend.write_gives coder.state coder.words error }

@@ -1,5 +1,5 @@
 -- What the contracts of a cursor name: its buffer, its position and its state.
-use Rattle.std.specs.Prelude.{◌≡◌, ◌↔◌, ◌-◌, ℕ, List, length, reverse, slice_set, ◌<◌, ◌≤◌, ◌⊎◌, IsOk, Result, MatchResult}
+use Rattle.std.specs.Prelude.{◌≡◌, ◌↔◌, ◌-◌, ◌++◌, ℕ, List, length, drop, reverse, slice_set, ◌<◌, ◌≤◌, ◌⊎◌, IsOk, Result, MatchResult}
 use Rattle.std.proofs.Common.{inl, inr}
 use Rattle.std.proofs.lemmas.Bool.{cases_lt}
 use Rattle.constriction_buffers.specs.declared.buf.SafeBuf.{Ghosts}
@@ -53,6 +53,13 @@ module _ {W B : Type 0} {g : Ghosts B W} (c : Cursor W B g) where
     -- lends its words becomes shorter by it.
     abbrev pub over : Cursor W B g
     over = over_if (cases_lt (length (g.words_of b)) c.pos)
+
+-- Words were written over those from the position on, and the cursor is t now: they stand after the words before the position, in the
+-- places of as many others, and the buffer is the old one with other words.
+abbrev pub OverwritesAll : {W B : Type 0} {g : Ghosts B W} → (B → List W → B) → Cursor W B g → List W → Cursor W B g → Type 0
+OverwritesAll {g = g} with_words c words t =
+    ((state_of t).before ≡ (state_of c).before ++ words) × ((state_of t).after ≡ drop (length words) (state_of c).after)
+    × (buf_of t ≡ with_words (buf_of c) (g.words_of (buf_of t)))
 
 -- A cursor was turned round, and is t now: its words are reversed in the same buffer, where `with_words b ws` is the buffer b with the
 -- words ws in it, and are cut at the same place.

@@ -1,8 +1,8 @@
 //! What follows from the steps of a cursor, and, by name, from the contracts of sources and sinks: each law the
 //! contract of a function.
 
-ghost use Rattle.std.specs.Prelude.{◌≡◌, ◌↔◌, ◌++◌, List, length, drop, reverse, Option, Result, IsOk};
-ghost use Rattle.constriction_backends.specs.Cursor.{buf_of, pos_of, state_of, SeeksTo, TurnsRound, WritesTo};
+ghost use Rattle.std.specs.Prelude.{◌≡◌, ◌↔◌, List, length, reverse, Option, Result, IsOk};
+ghost use Rattle.constriction_backends.specs.Cursor.{buf_of, pos_of, OverwritesAll, SeeksTo, TurnsRound, WritesTo};
 ghost use Rattle.constriction_backends.specs.CursorState.{State, reversal, StackReads, QueueReads};
 ghost use Rattle.constriction_sources.specs.Sink.{Writes};
 
@@ -23,10 +23,11 @@ pub fn reversal_twice<Word>()
 /// what it tells in one order is what the state tells in the other. So a [`Reverse`](crate::Reverse) of
 /// a cursor reads, and tells, as the reversal of its state does.
 pub fn reversal_reads<Word, ReadError>()
-    ensures { (s : State Word)
-        → ((r : Result (Option Word) ReadError) (t : State Word)
-        → (StackReads s r t ↔ QueueReads (reversal s) r (reversal t)) × (QueueReads s r t ↔ StackReads (reversal s) r (reversal t)))
-        × (s.after ≡ reverse (reversal s).before) × (reverse s.before ≡ (reversal s).after) }
+    ensures stack { (s : State Word) (r : Result (Option Word) ReadError) (t : State Word)
+        → StackReads s r t ↔ QueueReads (reversal s) r (reversal t) }
+    ensures queue { (s : State Word) (r : Result (Option Word) ReadError) (t : State Word)
+        → QueueReads s r t ↔ StackReads (reversal s) r (reversal t) }
+    ensures tells { (s : State Word) → (s.after ≡ reverse (reversal s).before) × (reverse s.before ≡ (reversal s).after) }
 {}
 
 /// A cursor that is turned round and back, as by both `into_reversed`, is as it was: the same
@@ -55,6 +56,5 @@ pub fn seek_back_in_a_cursor<Word, Buf: SafeBuf<Word>>()
 pub fn extending_overwrites<Word, Buf: SafeBufMut<Word>, WriteError>()
     ensures { (c : Cursor Word Buf Buf.SafeBuf) (words : List Word) (t : Cursor Word Buf Buf.SafeBuf)
         → Writes {E = WriteError} (λ s w r t. WritesTo s Buf.with_words w r t) c words t
-        → ((state_of t).before ≡ (state_of c).before ++ words) × ((state_of t).after ≡ drop (length words) (state_of c).after)
-        × (buf_of t ≡ Buf.with_words (buf_of c) (Buf.words_of (buf_of t))) }
+        → OverwritesAll Buf.with_words c words t }
 {}

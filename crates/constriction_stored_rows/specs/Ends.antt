@@ -1,4 +1,4 @@
--- How a list of weights ends, and the cdf that it fills. No public clause cites this module.
+-- How a list of weights ends, and the cdf that it fills. Of public clauses those of this crate alone cite this module.
 use Rattle.std.specs.Prelude.{◌≡◌, ℕ, ◌+◌, ◌%◌, ◌^◌, ◌<◌, ◌⊎◌, Bool, true, false, List, [], ◌∷◌, ◌++◌, map, Option, Some}
 use Rattle.std.specs.Iterator.{Yields}
 use Rattle.constriction_model.specs.Acceptance.{completed, IsAccepted}

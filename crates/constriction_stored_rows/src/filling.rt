@@ -3,10 +3,7 @@
 ghost use Rattle.std.specs.Prelude.{◌≡◌, ◌+◌, ◌%◌, ◌^◌, ◌<◌, ◌≤◌, ◌⊎◌, ℕ, List, [], ◌∷◌, ◌++◌, Some, None, IfOk, IsTrue, true, false, map};
 ghost use Rattle.std.specs.Vec.{vec_len, vec_capacity};
 ghost use Rattle.std.specs.Iterator.{IsFinite, IsFiniteIterable};
-ghost use Rattle.constriction_model.specs.Acceptance.{completed, IsAccepted};
 ghost use Rattle.constriction_stored_rows.specs.Ends.{FillsAll, IsNoLast, IsNoneInferred, AndTotal, IsCdfOf, IsNoCdf};
-ghost use Rattle.constriction_stored_rows.specs.Given.{GaveGood, GaveBad};
-ghost use Rattle.constriction_stored_rows.specs.Stored.{lefts_from};
 
 use constriction_model::ModelError;
 use constriction_numbers::WholeNumber;
@@ -250,13 +247,9 @@ pub fn cdf_of<P: WholeNumber, I: IntoIterator<Item = P>, const PRECISION: usize>
     requires fits { PRECISION ≤ P.BITS }
     requires ends { IsFiniteIterable I.into_iter_gives I.IntoIter.can_next I.IntoIter.remaining weights }
     ensures ok { IfOk result (λ v. (it : I.IntoIter) × I.into_iter_gives weights it
-        × GaveGood I.IntoIter.next_gives it (λ ws.
-        IsAccepted P.BITS PRECISION (completed PRECISION infer_last (map P.whole ws))
-        × (map P.whole v.items ≡ lefts_from 0 (completed PRECISION infer_last (map P.whole ws))
-        ++ (2 ^ PRECISION % 2 ^ P.BITS) ∷ []))) }
+        × IsCdfOf I.IntoIter.next_gives it P.whole P.BITS PRECISION infer_last v.items) }
     ensures invalid { result ≡ Err ModelError.InvalidTable → (it : I.IntoIter) × I.into_iter_gives weights it
-        × GaveBad I.IntoIter.next_gives it (λ ws.
-        IsAccepted P.BITS PRECISION (completed PRECISION infer_last (map P.whole ws))) }
+        × IsNoCdf I.IntoIter.next_gives it P.whole P.BITS PRECISION infer_last }
 {
     let mut rest = weights.into_iter();
     let cdf = room_for(

@@ -202,14 +202,12 @@ pub fn run<R: Read, W: Write>(alloc: Global, reader: &mut R, writer: &mut W) -> 
         Keeps (W.contents writer.old) (W.contents writer.new)) }
 
     // The answers to some first lines, each whole, of all that the reader had; or nothing.
-    ensures out_of_memory { result ≡ Err RunFault.OutOfMemory →
-        HasRead (R.remaining reader.old) (R.remaining reader.new) (λ input.
+    ensures out_of_memory { result ≡ Err RunFault.OutOfMemory → HasRead (R.remaining reader.old) (R.remaining reader.new) (λ input.
         WritesFirstAnswers (W.contents writer.old) (W.contents writer.new) input
         × (IsAtEnd (R.remaining reader.new) ⊎ Keeps (W.contents writer.old) (W.contents writer.new))) }
 
     // A beginning of the text of all that the reader had.
-    ensures write { result ≡ Err RunFault.Write →
-        HasRead (R.remaining reader.old) (R.remaining reader.new) (λ input.
+    ensures write { result ≡ Err RunFault.Write → HasRead (R.remaining reader.old) (R.remaining reader.new) (λ input.
         IsAtEnd (R.remaining reader.new) × (length input ≤ limit)
         × ((written rest : List ℕ) × IsTextOf input (written ++ rest) × Appends (W.contents writer.old) (W.contents writer.new) written)) }
 
