@@ -11,8 +11,8 @@ slot_count precision slot_bits = 2 ^ min precision slot_bits
 abbrev pub slot_width : (precision slot_bits : ℕ) → ℕ
 slot_width precision slot_bits = 2 ^ (precision - slot_bits)
 
--- how many comparisons the look-up of a quantile makes at least: two where there are three rows or more, and a slot for less than a
--- sixteenth of one, unless a slot holds one quantile
+-- how many comparisons the look-up of a quantile makes at least: two where there are three rows or more, and more rows than a sixteenth of
+-- the slots, unless a slot holds one quantile
 abbrev pub least_in_slots : (precision slot_bits rows : ℕ) → ℕ
 least_in_slots precision slot_bits rows =
     if nat_le (slot_width precision slot_bits) 1 || nat_le rows (max (slot_count precision slot_bits / 16) 2) then 0 else 2

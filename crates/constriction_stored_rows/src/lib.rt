@@ -1,8 +1,9 @@
-//! How models that are given by weights store their rows: reading weights and symbols into tables, telling whether
-//! they are accepted, the search of what is stored, the row at an index, and which rows meet a slot.
+//! How models that are given by weights store their rows: reading weights and symbols, telling whether they are
+//! accepted, the search of what is stored, the row at an index, and which rows meet a slot.
 //!
-//! A table is a plain list: of left cumulatives, with the total after them, or of pairs of a left cumulative and a
-//! symbol, one a row. The models of the crate above keep them, and their ghost fields cite the definitions here.
+//! What is stored is a plain list: a cdf, which is the left cumulatives with the total after them, or pairs of a left
+//! cumulative and a symbol, one a row. The models of the crate above keep it, and their ghost fields cite the
+//! definitions here.
 #![tactic(auto)]
 
 mod apart;

@@ -223,9 +223,9 @@ fn above<Entry, Kind: CdfEntry<Entry>>(entries: &[Entry], row: usize, quantile: 
     }
 }
 
-/// The last row that begins at a quantile or below it, where at most three rows meet its slot: the last of
-/// these, less those of the other two that begin above the quantile. Where fewer meet it, the first row
-/// takes the place of what is missing, and it never begins above.
+/// The last row that begins at a quantile or below it, where at most three rows meet its slot: the last of these, less
+/// one for each of the last and the middle one that begins above the quantile. Where fewer meet it, the first row takes
+/// the place of what is missing, and it never begins above.
 #[inline(always)]
 fn row_of_few<Entry, Kind: CdfEntry<Entry>, const PRECISION: usize, const SLOT_BITS: usize>(
     entries: &[Entry],
