@@ -59,12 +59,12 @@ HOW = [
 
 # What the clauses do not say, and what shows it.
 NOT_SAID = [
-    "Over which words: each `IndexWord`, as `u8` to `u128` and `usize`, for a `PRECISION` up to 63 and any `SLOT_BITS`, and of ranges those named; "
-    "without tables, and in a look-up, each `WholeNumber` up to all its bits; in a cursor whatever can be copied.",
+    "Over which words: of chains, and of models with a lookup table, each `IndexWord`, as `u8` to `u128` and `usize`, for a `PRECISION` up to 63; "
+    "of ranges those named; of models that search each `WholeNumber`, up to all its bits; of a cursor whatever can be copied.",
     "The count is the look-up's own word. That no look-up goes over all rows, tests show by time: `a_look_up_does_not_go_over_all_rows`, "
-    "`a_slot_that_4_194_304_rows_meet_is_searched`; that a table is used, `a_table_answers_in_place_of_the_search_of_its_model`.",
-    "`Reverse` has its cursor's positions as they are. A run converts them: over `n` words `p` is the cursor's `n - p`; above `n` is none.",
-    "The steps of a chain are the four of `ChainStep`: no other conversion is one, and a table that a step makes has 256 slots at most.",
+    "`a_slot_that_4_194_304_rows_meet_is_searched`; that a lookup table is used, `a_table_answers_in_place_of_the_search_of_its_model`.",
+    "`Reverse` has its cursor's positions as they are. A run converts them: its `p` is the cursor's `n - p` over `n` words; above `n` there is none.",
+    "The steps of a chain are the four of `ChainStep`: no other conversion is one, and a lookup table that a step makes has 256 slots at most.",
     "A body that always answers want of memory meets all that is quoted. Tests show that these do not: `each_model_of_weights_replies`, "
     "`what_is_made_of_letters_and_weights_replies`, `what_is_made_of_a_range_replies`, `a_range_of_wider_words_replies`, "
     "`models_without_a_table_reply_at_the_full_width`, `a_model_and_what_is_made_of_it_reply`, `contracts_leave_one_reply_after_a_chain`, "
@@ -348,7 +348,7 @@ def theorem(repository):
     for title, ending in (("## The definitions", ".antt"), ("## The types, and what the members of traits are of them", ".rt")):
         lines += [title, "", *page.block(page.downwards(it for it in rest if it.endswith(ending)))]
     kit = comma_list([f"`{it}`" for it in sorted(check(page, lines)) if re.match(WORD, it)])
-    lines += wrapped(f"Words of the kit, which mean what their names say and are glossed in [DEFINITIONS](DEFINITIONS.md): {kit}.")
+    lines += wrapped(f"Words of the kit, which mean what their names say; [DEFINITIONS](DEFINITIONS.md) has more on most: {kit}.")
     check_names(NOT_SAID)
     lines += ["", "## What is not said", "", *(line for it in NOT_SAID for line in wrapped(it, "- ", "  "))]
     return lines
