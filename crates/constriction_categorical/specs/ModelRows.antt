@@ -11,7 +11,7 @@ use Rattle.constriction_categorical.specs.declared.lookup.LookupDecoderModel.{Lo
 use Rattle.constriction_categorical.specs.declared.non_contiguous.NonContiguousCategoricalDecoderModel as decoder
 
 module _ {Word NonZero Cdf : Type 0} {precision : ℕ} {words : number.Ghosts Word NonZero} {cdf : buffer.Ghosts Cdf Word} where
-  -- the rows of a model of the symbols 0, 1, ..: their weights are those of the left cumulatives in its table
+  -- the rows of a model of the symbols 0, 1, ..: their weights are those of the left cumulatives in its cdf
   abbrev pub contiguous_model_rows : ContiguousCategoricalEntropyModel Word Cdf precision NonZero words cdf → List (Row ℕ)
   contiguous_model_rows m = contiguous_rows (weights_of precision (lefts_in (map words.whole (cdf.words_of m.cdf))))
 
@@ -25,7 +25,7 @@ module _ {Symbol Word NonZero Cdf : Type 0} {precision : ℕ} {symbols : equalit
 module _ {Model LookupTable Symbol Word NonZero : Type 0} {precision slot_bits : ℕ}
     {searching : model.Ghosts Model precision Symbol Word NonZero} {words : number.Ghosts Word NonZero}
     {table : buffer.Ghosts LookupTable Word} where
-  -- the rows of a lookup model: those of the searching model beside its table
+  -- the rows of a lookup model: those of the searching model beside its lookup table
   abbrev pub lookup_model_rows : LookupDecoderModel Model LookupTable precision slot_bits Symbol Word NonZero searching words table
       → List (Row Symbol)
   lookup_model_rows m = searching.rows m.model

@@ -45,7 +45,7 @@ pub struct ContiguousCategoricalEntropyModel<
 pub type DefaultContiguousCategoricalEntropyModel<Cdf = Vec<u32>> =
     ContiguousCategoricalEntropyModel<u32, Cdf, 24>;
 
-/// The model over 12 bits of `u16`, for small tables of symbols.
+/// The model over 12 bits of `u16`, for few symbols.
 pub type SmallContiguousCategoricalEntropyModel<Cdf = Vec<u16>> = ContiguousCategoricalEntropyModel<
     u16,
     Cdf,
@@ -67,7 +67,7 @@ impl<Probability: WholeNumber, const PRECISION: usize> ContiguousCategoricalEntr
     /// the single weight `2^PRECISION` is accepted, and so is no weight at all where one is
     /// inferred; at the full width neither exists. `InvalidTable` comes where they are not
     /// accepted, whether the iterator was read to its end or only so far that no list that begins
-    /// so is accepted. `OutOfMemory` comes where memory for the table is refused.
+    /// so is accepted. `OutOfMemory` comes where memory for the cdf is refused.
     ///
     /// One pass over the weights, one word of memory a symbol, and one allocation where the iterator
     /// announces how many weights there are.
@@ -100,9 +100,9 @@ impl<Probability: WholeNumber, const PRECISION: usize> Clone
 
     ghost is_clone = { λ x y. contiguous_model_rows y ≡ contiguous_model_rows x };
 
-    /// A model of the same rows, with a table of its own from the allocator of this one's.
+    /// A model of the same rows, with a cdf of its own from the allocator of this one's.
     ///
-    /// One allocation and one copy of the table.
+    /// One allocation and one copy of the cdf.
     fn clone(&self) -> Result<Self, AllocError> {
         self.in_vec(*self.cdf.allocator())
     }
@@ -132,7 +132,7 @@ impl<
         &cdf[..cdf.len() - 1]
     }
 
-    /// The same model over a copy of the table of this one.
+    /// The same model over a copy of the cdf of this one.
     pub(crate) fn in_vec(
         &self,
         alloc: Global,
@@ -149,7 +149,7 @@ impl<
         })
     }
 
-    /// The same model over the table of this one.
+    /// The same model over the cdf of this one.
     #[inline]
     pub fn as_view<'m>(
         &'m self,

@@ -15,7 +15,7 @@ use std::alloc::AllocError;
 
 /// A model whose rows can be walked through.
 ///
-/// It is implemented for what a symbol table is made of: for a reference to a model that the table
+/// It is implemented for what a symbol table is made of: for a reference to a model that the symbol table
 /// borrows from, and for a model that can be copied into it, whose references have it too.
 pub trait IterableEntropyModel<const PRECISION: usize>: EntropyModel<PRECISION> {
     /// The walk through the rows.
@@ -23,14 +23,14 @@ pub trait IterableEntropyModel<const PRECISION: usize>: EntropyModel<PRECISION> 
         Item = Result<(Self::Symbol, Self::Probability, Weight<Self::Probability>), AllocError>,
     >;
 
-    // That the second symbol may stand in an item, where the first one stands in the row. Of a table of clones it is what the
+    // That the second symbol may stand in an item, where the first one stands in the row. Of a symbol table of clones it is what the
     // symbols' type says of a clone. Where an implementer says nothing, it makes none, and this is equality.
     ghost stands_for: { Self.Symbol → Self.Symbol → Type 0 } = { λ s t. t ≡ s };
 
     // That a row with this symbol may be refused, for want of memory. None may be, where an implementer says nothing else.
     ghost may_refuse: { Self.Symbol → Type 0 } = { λ _. ⊥ };
 
-    // The rows that a table has yet to give.
+    // The rows that a symbol table has yet to give.
     ghost rows_left: { Self.SymbolTable → List (Row Self.Symbol) };
 
     // Whether `symbols_differ` speaks of an equality of symbols: who converts by an equality shows it. Where an implementer says

@@ -1,7 +1,7 @@
 //! Entropy models that are given by a list of weights.
 //!
 //! Models of the symbols 0, 1, .. and of any symbols, which search for the row of a quantile; the same with a
-//! table that tells where to search; and walks through their rows. Encoders that hash, and models that are made of
+//! lookup table that tells where to search; and walks through their rows. Encoders that hash, and models that are made of
 //! any model that can be walked through, stand in the crate above.
 #![tactic(auto)]
 

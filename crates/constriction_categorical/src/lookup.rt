@@ -12,18 +12,18 @@ use constriction_model::{DecoderModel, EntropyModel, ModelError, Probe, Searchin
 use constriction_stored_rows::{CdfProbe, row_in_slot, slot_probe, table_of_slots, words_of_table};
 use std::alloc::{AllocError, Global};
 
-/// A searching model with a table, for decoders: the table tells where to search for the row of a
+/// A searching model with a lookup table, for decoders: the lookup table tells where to search for the row of a
 /// quantile.
 ///
-/// The quantiles are divided into `2^min(PRECISION, SLOT_BITS)` slots of equal width. The table has two
+/// The quantiles are divided into `2^min(PRECISION, SLOT_BITS)` slots of equal width. The lookup table has two
 /// words a slot, the first and the last row that meet it, so a look-up searches the rows between these
 /// alone, and nothing at all where one row meets the slot. Where `SLOT_BITS` is at least `PRECISION`, a slot
-/// holds one quantile: the table has one word a slot, the quantile's row, and a look-up searches nothing.
-/// Beside the table stands the searching model. Of a model over any symbols the table has, after its slots, where
+/// holds one quantile: the lookup table has one word a slot, the quantile's row, and a look-up searches nothing.
+/// Beside the lookup table stands the searching model. Of a model over any symbols the lookup table has, after its slots, where
 /// each row begins and the total, so that the words of a row stand side by side.
 ///
 /// [`ContiguousLookupDecoderModel`] and [`NonContiguousLookupDecoderModel`] are names of it with 8
-/// `SLOT_BITS`. A caller's own model that [`StoresRows`] gets a table by [`with_table`](Self::with_table).
+/// `SLOT_BITS`. A caller's own model that [`StoresRows`] gets a lookup table by [`with_table`](Self::with_table).
 ///
 /// [`ContiguousLookupDecoderModel`]: crate::ContiguousLookupDecoderModel
 /// [`NonContiguousLookupDecoderModel`]: crate::NonContiguousLookupDecoderModel
@@ -63,10 +63,10 @@ impl<
 > LookupDecoderModel<Model, Vec<Model::Probability>, PRECISION, SLOT_BITS> {
     ghost use Rattle.constriction_categorical.specs.ModelRows.{lookup_model_rows};
 
-    /// The model of the same rows, with a table. Want of memory for the table is its only refusal.
+    /// The model of the same rows, with a lookup table. Want of memory for the lookup table is its only refusal.
     ///
-    /// One pass over the rows, or two where the table has where each row begins, and one allocation: of two words a
-    /// slot, or of one where a slot holds one quantile, and of one word a row and one more where the table has these.
+    /// One pass over the rows, or two where the lookup table has where each row begins, and one allocation: of two words a
+    /// slot, or of one where a slot holds one quantile, and of one word a row and one more where the lookup table has these.
     pub fn with_table(alloc: Global, model: Model) -> Result<Self, AllocError>
     where
         Model: Drop,
@@ -86,7 +86,7 @@ impl<
 }
 
 /// The model that [`LookupDecoderModel::with_table`] makes, with the refusal of a constructor, which is `OutOfMemory`. Where
-/// memory for the table is refused, the searching model is given up. Crates above call it that have made one.
+/// memory for the lookup table is refused, the searching model is given up. Crates above call it that have made one.
 #[inline]
 pub fn lookup_over<Model, const PRECISION: usize, const SLOT_BITS: usize>(
     alloc: Global,
@@ -192,7 +192,7 @@ where
 
     ghost may_refuse = { Model.may_refuse };
 
-    /// The row of a quantile, by the table, and where more than one row meets the quantile's slot by a
+    /// The row of a quantile, by the lookup table, and where more than one row meets the quantile's slot by a
     /// search of those ([`SearchingModel`]). Where the model owns its symbols the answer has a clone.
     #[inline(always)]
     fn quantile_function(
@@ -268,7 +268,7 @@ where
 {
     ghost use Rattle.constriction_categorical.specs.ModelRows.{lookup_model_rows};
 
-    /// The searching model beside the table, which is let go: of a model that [`with_table`](Self::with_table) made, the
+    /// The searching model beside the lookup table, which is let go: of a model that [`with_table`](Self::with_table) made, the
     /// one that it was given.
     #[inline]
     pub fn into_searching_model(self) -> Model

@@ -19,10 +19,10 @@ use constriction_numbers::IndexWord;
 use constriction_stored_rows::copied;
 use std::alloc::{AllocError, Global};
 
-/// A model of the symbols 0, 1, .., given by their weights, for decoders: a table of
+/// A model of the symbols 0, 1, .., given by their weights, for decoders: a lookup table of
 /// `2^min(PRECISION, SLOT_BITS)` slots tells where to search for the row of a quantile.
 ///
-/// Beside the table of a [`LookupDecoderModel`] stands what a [`ContiguousCategoricalEntropyModel`]
+/// Beside the lookup table of a [`LookupDecoderModel`] stands what a [`ContiguousCategoricalEntropyModel`]
 /// stores, one word a symbol and one word more.
 pub type SlottedContiguousLookupDecoderModel<
     Probability,
@@ -37,23 +37,23 @@ pub type SlottedContiguousLookupDecoderModel<
     SLOT_BITS,
 >;
 
-/// The model with `2^min(PRECISION, 8)` slots, whose table has 512 words at most.
+/// The model with `2^min(PRECISION, 8)` slots, whose lookup table has 512 words at most.
 pub type ContiguousLookupDecoderModel<Probability, Cdf, LookupTable, const PRECISION: usize> =
     SlottedContiguousLookupDecoderModel<Probability, Cdf, LookupTable, PRECISION, 8>;
 
-/// The model over 12 bits of `u16`, for small tables of symbols.
+/// The model over 12 bits of `u16`, for few symbols.
 pub type SmallContiguousLookupDecoderModel<Cdf = Vec<u16>, LookupTable = Vec<u16>> =
     ContiguousLookupDecoderModel<u16, Cdf, LookupTable, 12>;
 
-/// The model over 12 bits of `u16` with a slot for each quantile: its table has 4,096 words, and a look-up
+/// The model over 12 bits of `u16` with a slot for each quantile: its lookup table has 4,096 words, and a look-up
 /// searches nothing.
 pub type SmallContiguousDirectLookupDecoderModel<Cdf = Vec<u16>, LookupTable = Vec<u16>> =
     SlottedContiguousLookupDecoderModel<u16, Cdf, LookupTable, 12, 12>;
 
-/// The model over 24 bits of `u32`, as [`DefaultContiguousCategoricalEntropyModel`], with 4,096 slots: its table has
+/// The model over 24 bits of `u32`, as [`DefaultContiguousCategoricalEntropyModel`], with 4,096 slots: its lookup table has
 /// 8,192 words, 32 KiB, beside one word a symbol and one more.
 ///
-/// A look-up takes a quarter to two fifths of the time that a search of all rows takes. The table takes time to make: of
+/// A look-up takes a quarter to two fifths of the time that a search of all rows takes. The lookup table takes time to make: of
 /// 4,096 rows it pays after some 2,000 look-ups, and who decodes fewer symbols with one model searches. Where memory
 /// counts, [`ContiguousLookupDecoderModel`] has 512 words.
 ///
@@ -74,11 +74,11 @@ impl<
 > {
     /// The model of these weights. It accepts what
     /// [`ContiguousCategoricalEntropyModel::from_nonzero_fixed_point_probabilities`] accepts, and
-    /// refuses the others with `InvalidTable` as soon as that is known, before there is a table of
-    /// slots. `OutOfMemory` comes where memory for the rows or for the table is refused.
+    /// refuses the others with `InvalidTable` as soon as that is known, before there is a lookup table of
+    /// slots. `OutOfMemory` comes where memory for the rows or for the lookup table is refused.
     ///
     /// One pass over the weights and one over the rows. Beside the rows it takes one allocation for the
-    /// table, with 8 `SLOT_BITS` of 512 words at most.
+    /// lookup table, with 8 `SLOT_BITS` of 512 words at most.
     #[tactic(auto, using(crate::proofs::Remade::made_of_weights, crate::proofs::Remade::refused_weights))]
     pub fn from_nonzero_fixed_point_probabilities<I: IntoIterator<Item = Probability>>(
         alloc: Global,
@@ -113,7 +113,7 @@ impl<Probability: IndexWord, const PRECISION: usize, const SLOT_BITS: usize> Clo
     > {
     ghost is_clone = { λ x y. lookup_model_rows y ≡ lookup_model_rows x };
 
-    /// A model of the same rows, with rows and a table of its own from the allocators of this one's.
+    /// A model of the same rows, with rows and a lookup table of its own from the allocators of this one's.
     ///
     /// Two allocations, and one copy of each.
     fn clone(&self) -> Result<Self, AllocError> {
@@ -134,7 +134,7 @@ impl<
     const PRECISION: usize,
 > ContiguousCategoricalEntropyModel<Probability, Cdf, PRECISION> {
     /// The model of the same rows that looks up where to search. Its only refusal is `OutOfMemory`,
-    /// where memory for a copy of the rows, or for the table, is refused.
+    /// where memory for a copy of the rows, or for the lookup table, is refused.
     ///
     /// Two allocations, one copy of the rows and one pass over them.
     pub fn to_lookup_decoder_model(
@@ -184,7 +184,7 @@ impl<
     const PRECISION: usize,
     const SLOT_BITS: usize,
 > SlottedContiguousLookupDecoderModel<Probability, Cdf, LookupTable, PRECISION, SLOT_BITS> {
-    /// The same model over the rows and the table of this one.
+    /// The same model over the rows and the lookup table of this one.
     #[inline]
     pub fn as_view<'m>(
         &'m self,

@@ -21,11 +21,11 @@ use constriction_numbers::IndexWord;
 use constriction_stored_rows::copied;
 use std::alloc::{AllocError, Global};
 
-/// A model of any symbols, no two of which are equal, for decoders: a table of
+/// A model of any symbols, no two of which are equal, for decoders: a lookup table of
 /// `2^min(PRECISION, SLOT_BITS)` slots tells where to search for the row of a quantile.
 ///
-/// Beside the table of a [`LookupDecoderModel`] stands what a [`NonContiguousCategoricalDecoderModel`] stores, one
-/// entry a symbol. The table has one word a symbol and one more after its slots.
+/// Beside the lookup table of a [`LookupDecoderModel`] stands what a [`NonContiguousCategoricalDecoderModel`] stores, one
+/// entry a symbol. The lookup table has one word a symbol and one more after its slots.
 pub type SlottedNonContiguousLookupDecoderModel<
     Symbol,
     Probability,
@@ -40,7 +40,7 @@ pub type SlottedNonContiguousLookupDecoderModel<
     SLOT_BITS,
 >;
 
-/// The model with `2^min(PRECISION, 8)` slots, which are 512 words of its table at most.
+/// The model with `2^min(PRECISION, 8)` slots, which are 512 words of its lookup table at most.
 pub type NonContiguousLookupDecoderModel<
     Symbol,
     Probability,
@@ -49,14 +49,14 @@ pub type NonContiguousLookupDecoderModel<
     const PRECISION: usize,
 > = SlottedNonContiguousLookupDecoderModel<Symbol, Probability, Cdf, LookupTable, PRECISION, 8>;
 
-/// The model over 12 bits of `u16`, for small tables of symbols.
+/// The model over 12 bits of `u16`, for few symbols.
 pub type SmallNonContiguousLookupDecoderModel<
     Symbol,
     Cdf = Vec<(u16, Symbol)>,
     LookupTable = Vec<u16>,
 > = NonContiguousLookupDecoderModel<Symbol, u16, Cdf, LookupTable, 12>;
 
-/// The model over 12 bits of `u16` with a slot for each quantile, which are 4,096 words of its table: a look-up
+/// The model over 12 bits of `u16` with a slot for each quantile, which are 4,096 words of its lookup table: a look-up
 /// searches nothing.
 pub type SmallNonContiguousDirectLookupDecoderModel<
     Symbol,
@@ -65,7 +65,7 @@ pub type SmallNonContiguousDirectLookupDecoderModel<
 > = SlottedNonContiguousLookupDecoderModel<Symbol, u16, Cdf, LookupTable, 12, 12>;
 
 /// The model over 24 bits of `u32`, as [`DefaultNonContiguousCategoricalDecoderModel`], with 4,096 slots, which are 8,192
-/// words of its table, 32 KiB; after these stand one word a symbol and one more, and beside them an entry a symbol.
+/// words of its lookup table, 32 KiB; after these stand one word a symbol and one more, and beside them an entry a symbol.
 ///
 /// When it pays is as of [`DefaultContiguousLookupDecoderModel`]: from a few thousand symbols to decode on.
 ///
@@ -93,11 +93,11 @@ impl<
     /// The model of these symbols and weights. It accepts what
     /// [`NonContiguousCategoricalDecoderModel::from_symbols_and_nonzero_fixed_point_probabilities`]
     /// accepts, so distinct symbols alone, and refuses the others with `InvalidTable` as soon as that is
-    /// known, before there is a table of slots. `OutOfMemory` comes where memory for the rows or for the table is
+    /// known, before there is a lookup table of slots. `OutOfMemory` comes where memory for the rows or for the lookup table is
     /// refused.
     ///
     /// One pass over both, in which each symbol is compared with those before it, and two over the rows. No symbol is
-    /// cloned. Beside the rows it takes one allocation for the table, with 8 `SLOT_BITS` of 512 words at most and
+    /// cloned. Beside the rows it takes one allocation for the lookup table, with 8 `SLOT_BITS` of 512 words at most and
     /// one word a symbol and one more.
     #[tactic(auto, using(crate::proofs::Remade::made_of_both, crate::proofs::Remade::refused_both))]
     pub fn from_symbols_and_nonzero_fixed_point_probabilities<
@@ -146,7 +146,7 @@ impl<
     PRECISION,
     SLOT_BITS,
 > {
-    /// A model of the same rows with clones of the symbols, and with rows and a table of its own from the
+    /// A model of the same rows with clones of the symbols, and with rows and a lookup table of its own from the
     /// allocators of this one's. A clone has to be equal to its symbol, so that no two are equal.
     ///
     /// Two allocations, and a clone of each symbol. It is refused where memory for one of these is.
@@ -173,7 +173,7 @@ impl<
 > NonContiguousCategoricalDecoderModel<Symbol, Probability, Cdf, PRECISION> {
     /// The model of the same rows, with clones of the symbols, that looks up where to search. A clone has to be
     /// equal to its symbol, so that no two are equal. Its only refusal is `OutOfMemory`, where memory for the
-    /// rows, for a clone of a symbol, or for the table is refused.
+    /// rows, for a clone of a symbol, or for the lookup table is refused.
     ///
     /// Two allocations, a clone of each symbol, and two passes over the rows. No symbols are compared.
     pub fn to_lookup_decoder_model(
@@ -232,7 +232,7 @@ impl<
 > NonContiguousCategoricalDecoderModel<Symbol, Probability, Vec<(Probability, Symbol)>, PRECISION> {
     /// The model of the same rows, with the entries of this one, that looks up where to search. So each
     /// constructor of this type is one of a lookup model too. Its only refusal is `OutOfMemory`, where memory
-    /// for the table is refused, and then the model is given up.
+    /// for the lookup table is refused, and then the model is given up.
     ///
     /// One allocation and two passes over the rows. No symbol is cloned or compared.
     pub fn into_lookup_decoder_model(
@@ -271,7 +271,7 @@ impl<
     PRECISION,
     SLOT_BITS,
 > {
-    /// The same model over the entries and the table of this one.
+    /// The same model over the entries and the lookup table of this one.
     #[inline]
     pub fn as_view<'m>(
         &'m self,

@@ -51,7 +51,7 @@ pub struct NonContiguousCategoricalDecoderModel<
 pub type DefaultNonContiguousCategoricalDecoderModel<Symbol, Cdf = Vec<(u32, Symbol)>> =
     NonContiguousCategoricalDecoderModel<Symbol, u32, Cdf, 24>;
 
-/// The model over 12 bits of `u16`, for small tables of symbols.
+/// The model over 12 bits of `u16`, for few symbols.
 pub type SmallNonContiguousCategoricalDecoderModel<Symbol, Cdf = Vec<(u16, Symbol)>> =
     NonContiguousCategoricalDecoderModel<Symbol, u16, Cdf, 12>;
 

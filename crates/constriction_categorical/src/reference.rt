@@ -1,4 +1,4 @@
-//! A reference to a model that is copied into its table is walked through as the model is.
+//! A reference to a model that is copied into its symbol table is walked through as the model is.
 
 ghost use Rattle.std.specs.Prelude.{◌≡◌};
 

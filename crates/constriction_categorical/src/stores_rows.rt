@@ -1,4 +1,4 @@
-//! Models that store their rows, which is what a table of slots stands beside.
+//! Models that store their rows, which is what a lookup table stands beside.
 
 ghost use Rattle.std.specs.Prelude.{◌≡◌, ◌<◌, ◌≤◌, length, map, slice_get, Some, IfOk};
 ghost use Rattle.constriction_model.specs.Model.{row_of, LiesWithin};
@@ -30,7 +30,7 @@ pub trait StoresRows<const PRECISION: usize>: EntropyModel<PRECISION> {
     fn entries(&self) -> &[Self::Entry]
         ensures { map Self.Kind.cumulative result.now ≡ map (λ r. r.left) (Self.rows self.now) };
 
-    /// Whether a table of slots beside the model has, after its slots, where each row begins and the total, which
+    /// Whether a lookup table beside the model has, after its slots, where each row begins and the total, which
     /// [`AnswersRows::row_beside`] then reads. A model that tells where each row ends by itself wants none.
     #[inline]
     fn wants_ends(&self) -> bool {
@@ -57,7 +57,7 @@ pub trait AnswersRows<const PRECISION: usize>: StoresRows<PRECISION> + DecoderMo
         ensures within { IfOk result (λ x. LiesWithin PRECISION
             (row_of Self.Probability.whole Self.Probability.base x)) };
 
-    /// The same, where what stands after the slots of a table is at hand: nothing, or where each row begins and after
+    /// The same, where what stands after the slots of a lookup table is at hand: nothing, or where each row begins and after
     /// that the total.
     #[inline]
     fn row_beside(

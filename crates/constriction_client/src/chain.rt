@@ -26,7 +26,7 @@ use std::vec::IntoIter;
 pub enum ChainStep {
     /// To the form that searches all rows, by `to_generic_decoder_model_of_distinct`.
     ToSearch,
-    /// To the form with a table, by `to_generic_decoder_model_of_distinct` and `into_lookup_decoder_model`.
+    /// To the form with a lookup table, by `to_generic_decoder_model_of_distinct` and `into_lookup_decoder_model`.
     ToLookup,
     /// To the form that searches all rows, by `into_non_contiguous_categorical`, which takes no memory. A
     /// form that searches stays.
@@ -141,7 +141,7 @@ fn symbols_differ_of<Symbol: Eq, Probability: IndexWord, const PRECISION: usize>
     ensures { IsDistinct Symbol.eq (symbols_of (form_rows form.now)) }
 {}
 
-/// The form with a table of the same rows.
+/// The form with a lookup table of the same rows.
 fn tabled_of<Symbol: Eq + Drop, Probability: IndexWord, const PRECISION: usize>(
     alloc: Global,
     model: Searching<Symbol, Probability, PRECISION>,
@@ -179,7 +179,7 @@ trait Converts<Symbol>: Sized {
         ensures kind { IfOk result (λ made. looks_up made ≡ false) }
         ensures refused { IfErr result (λ e. e ≡ ModelError.OutOfMemory) };
 
-    /// The form with a table, of the same rows.
+    /// The form with a lookup table, of the same rows.
     fn to_lookup(&self, alloc: Global) -> Result<Self, ModelError>
         requires { may_convert }
         ensures rows { IfOk result (λ made. StandForRows clone_of (told made) (told self.now)) }

@@ -10,7 +10,7 @@ use Rattle.constriction_conversions.specs.declared.hashed.NonContiguousCategoric
 
 module _ {Symbol Word NonZero : Type 0} {precision : ℕ} {hashes : hash.Ghosts Symbol} {symbols : equality.Ghosts Symbol}
     {words : number.Ghosts Word NonZero} where
-  -- the rows of a hashed encoder's model: the entries of its table, in no order that means anything
+  -- the rows of a hashed encoder's model: the entries of its hash table, in no order that means anything
   abbrev pub encoder_model_rows : NonContiguousCategoricalEncoderModel Symbol Word precision NonZero hashes symbols words
       → List (Row Symbol)
   encoder_model_rows m = rows_of_table (λ e. (words.whole e.left, words.whole (words.base e.weight))) m.table.entries

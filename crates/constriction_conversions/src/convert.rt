@@ -36,7 +36,7 @@ pub type DecoderMadeOf<M, const PRECISION: usize> = NonContiguousCategoricalDeco
     PRECISION,
 >;
 
-/// The lookup model over any symbols that is made of the model `M`, with entries and a table of its own.
+/// The lookup model over any symbols that is made of the model `M`, with entries and a lookup table of its own.
 pub type LookupMadeOf<M, const PRECISION: usize, const SLOT_BITS: usize> = LookupDecoderModel<
     DecoderMadeOf<M, PRECISION>,
     Vec<<M as EntropyModel<PRECISION>>::Probability>,
@@ -249,7 +249,7 @@ where
 ///
 /// Its symbols are those that the walk gave: clones, where the model owns its symbols. `InvalidTable` comes
 /// only where two of them are equal, so where a clone is equal to its symbol exactly where two symbols of the
-/// rows are. `OutOfMemory` comes where memory for the entries, for a clone of a symbol, or for the table is
+/// rows are. `OutOfMemory` comes where memory for the entries, for a clone of a symbol, or for the lookup table is
 /// refused.
 ///
 /// One walk, in which symbols are compared as [`to_generic_decoder_model`] does, of which it asks the same, and two passes
@@ -293,7 +293,7 @@ where
 /// The encoder model of the same entries as any model that can be walked through: of each symbol that the
 /// walk gave it has the last row.
 ///
-/// The only refusal is `OutOfMemory`, where memory for the table, or for a clone of a symbol, is refused.
+/// The only refusal is `OutOfMemory`, where memory for the hash table, or for a clone of a symbol, is refused.
 ///
 /// One walk, and one hash a row.
 pub fn to_generic_encoder_model<M, const PRECISION: usize>(

@@ -12,7 +12,7 @@ use std::collections::HashMap;
 use std::fmt::Debug;
 use std::hash::Hash;
 
-/// What a table has for a symbol: where its row begins, and its weight.
+/// What a hash table has for a symbol: where its row begins, and its weight.
 #[derive(Debug)]
 pub struct Entry<Word: Copy, Positive: Copy> {
     pub left: Word,
@@ -31,7 +31,7 @@ impl<Word: Copy, Positive: Copy> Clone for Entry<Word, Positive> {
 
 impl<Word: Copy, Positive: Copy> Copy for Entry<Word, Positive> {}
 
-/// An empty table with room for so many symbols, where memory for that is not refused.
+/// An empty hash table with room for so many symbols, where memory for that is not refused.
 #[inline]
 pub fn table_for<Symbol: Hash + Eq + Drop, Value: Drop>(
     alloc: Global,
@@ -47,7 +47,7 @@ pub fn table_for<Symbol: Hash + Eq + Drop, Value: Drop>(
 }
 
 /// Puts a value at a symbol. `InvalidTable` comes exactly where there is one at an equal symbol, which is
-/// then lost: the table is of no use any more.
+/// then lost: the hash table is of no use any more.
 #[inline]
 fn insert_apart<Symbol: Hash + Eq + Drop, Value: Drop>(
     table: &mut HashMap<Symbol, Value>,

@@ -43,7 +43,7 @@ pub type DefaultNonContiguousCategoricalEncoderModel<Symbol> = NonContiguousCate
     24,
 >;
 
-/// The model over 12 bits of `u16`, for small tables of symbols.
+/// The model over 12 bits of `u16`, for few symbols.
 pub type SmallNonContiguousCategoricalEncoderModel<Symbol> = NonContiguousCategoricalEncoderModel<
     Symbol,
     u16,
@@ -112,7 +112,7 @@ impl<
     /// sum is `2^PRECISION`, each of them is a word, there is exactly one symbol for each weight, and no
     /// two symbols are equal. `InvalidTable` comes where they are not accepted, whether both iterators
     /// were read to their ends or only so far that no lists that begin so are accepted. `OutOfMemory`
-    /// comes where memory for the table is refused.
+    /// comes where memory for the hash table is refused.
     ///
     /// One pass over both, and one hash a symbol. Where the symbols' iterator announces how many there
     /// are, memory is asked for before the first one and not again: the hash table has four allocations.
@@ -157,10 +157,10 @@ impl<Symbol: Hash + Eq + Clone, Probability: WholeNumber, const PRECISION: usize
 
     ghost is_clone = { λ x y. StandForRows Symbol.is_clone (encoder_model_rows y) (encoder_model_rows x) };
 
-    /// A model of the same entries, for clones of the symbols, with a table of its own from the allocator of
+    /// A model of the same entries, for clones of the symbols, with a hash table of its own from the allocator of
     /// this one's.
     ///
-    /// A copy of the table and a clone of each symbol. It is refused where memory for one of these is.
+    /// A copy of the hash table and a clone of each symbol. It is refused where memory for one of these is.
     fn clone(&self) -> Result<Self, AllocError> {
         let table = self.table.clone()?;
         // A call on the clone tells that no two of its keys are equal, whatever is known of clones of them.

@@ -1,5 +1,5 @@
 //! What follows of symbol tables and of models over any symbols, each law the contract of a function. Those of
-//! tables hold of each model that meets the trait, those of the caller too.
+//! symbol tables hold of each model that meets the trait, those of the caller too.
 
 ghost use Rattle.std.specs.Prelude.{◌≡◌, ◌++◌, ℕ, List, length, map};
 ghost use Rattle.std.specs.Iterator.{Yields, Drains};
@@ -26,7 +26,7 @@ pub fn table_walks_rows<M: IterableEntropyModel<PRECISION>, const PRECISION: usi
 {}
 
 /// A symbol table that is walked to its end gives all rows that were left, in order and each once:
-/// where it is fresh, those of its model. So a reader of tables has from it the model's rows, and
+/// where it is fresh, those of its model. So a reader of symbol tables has from it the model's rows, and
 /// where no item is a refusal nothing else: the very rows where clones are the same values, and otherwise
 /// rows whose symbols are clones.
 pub fn table_gives_all_rows<M: IterableEntropyModel<PRECISION>, const PRECISION: usize>()
@@ -35,15 +35,15 @@ pub fn table_gives_all_rows<M: IterableEntropyModel<PRECISION>, const PRECISION:
 {}
 
 /// A symbol table that is walked to its end gives as many items as rows were left, refusals counted.
-/// Where a model tells the number of its symbols, as by `support_size`, a fresh table of it has so
+/// Where a model tells the number of its symbols, as by `support_size`, a fresh symbol table of it has so
 /// many items.
 pub fn table_length<M: IterableEntropyModel<PRECISION>, const PRECISION: usize>()
     ensures { (t : M.SymbolTable) (items : _) → Drains M.SymbolTable.next_gives t items → length items ≡ length (M.rows_left t) }
 {}
 
 /// The row of a quantile, for which [`DecoderModel::quantile_function`] answers, is in the model's symbol
-/// table, walked to its end: an item stands for it, or a refusal in its place, and no item that holds the
-/// quantile stands for another row. So a decoder may look quantiles up in a table that was read before: where
+/// symbol table, walked to its end: an item stands for it, or a refusal in its place, and no item that holds the
+/// quantile stands for another row. So a decoder may look quantiles up in a symbol table that was read before: where
 /// clones are the same values it finds the answer itself.
 pub fn answers_are_in_table<M, const PRECISION: usize>()
 where
@@ -53,8 +53,8 @@ where
         → IsInTable M.IterableEntropyModel.stands_for M.IterableEntropyModel.may_refuse M.Probability.whole M.Probability.base items q r }
 {}
 
-/// Where no two symbols of a model are equal, the symbols and the weights of its table are accepted by the
-/// constructors from symbols and weights, without inference, and give its rows again. So a table that is
+/// Where no two symbols of a model are equal, the symbols and the weights of its symbol table are accepted by the
+/// constructors from symbols and weights, without inference, and give its rows again. So a symbol table that is
 /// stored as its symbols and weights is read back by
 /// `from_symbols_and_nonzero_fixed_point_probabilities` of a decoder, which then answers `OutOfMemory` or a
 /// model of the same rows.
@@ -67,8 +67,8 @@ where
         × (rows_of (symbols_of (M.rows m)) (map (λ r. r.weight) (M.rows m)) ≡ M.rows m) }
 {}
 
-/// No two symbols of a decoder over any symbols are equal, however it was made. So a hashed encoder that
-/// is made from it has the entry of each of its rows, and [`pairs_are_quantiles`](constriction_model::laws::pairs_are_quantiles) speaks of both.
+/// No two symbols of a decoder over any symbols are equal, however it was made. So a hashed encoder that is made from it has
+/// the entry of each of its rows, and [`pairs_are_quantiles`](constriction_model::laws::pairs_are_quantiles) speaks of both.
 pub fn non_contiguous_symbols_differ<Symbol, Probability, Cdf, const PRECISION: usize>()
 where
     Symbol: Eq,

@@ -118,7 +118,7 @@ where
     Ok(entries)
 }
 
-/// A table of the entries of the rows that a walk gives, of each symbol that of the last row.
+/// A hash table of the entries of the rows that a walk gives, of each symbol that of the last row.
 #[inline]
 pub fn table_walked<Symbol, Word, Positive, Walk, const PRECISION: usize>(
     alloc: Global,

@@ -1,4 +1,4 @@
-//! A table of four weights, asked in both directions.
+//! A model of four weights, asked in both directions.
 #![tactic(auto)]
 
 use constriction::stream::model::{ContiguousCategoricalEntropyModel, DecoderModel, EncoderModel};

@@ -14,8 +14,8 @@ module _ {Symbol Word Weight Refusal : Type 0} (Stands : Symbol → Symbol → T
     pub unrefused : (xs : List (Symbol × Word × Weight)) → items ≡ map Ok xs → StandForRows Stands (map (row_of whole base) xs) rows
     pub exact : ClonesAreSame Stands → (xs : List (Symbol × Word × Weight)) → items ≡ map Ok xs → map (row_of whole base) xs ≡ rows
 
-  -- The row r of the quantile q is in the table: an item stands for it, and each item that holds q does. Where clones are the same values,
-  -- an answer of this row is that item, and each item that holds q.
+  -- The row r of the quantile q is in the symbol table: an item stands for it, and each item that holds q does. Where clones are the same
+  -- values, an answer of this row is that item, and each item that holds q.
   pub record IsInTable (items : List (Result (Symbol × Word × Weight) Refusal)) (q : ℕ) (r : Row Symbol) : Type 0 where
     pub item : Result (Symbol × Word × Weight) Refusal
     pub among : Contains items item

@@ -6,6 +6,6 @@ pub record IsPrecision (bits precision : ℕ) : Type 0 where
   pub positive : 0 < precision
   pub fits : precision ≤ bits
 
--- and at most 63, so that the number of a table's slots is an index
+-- and at most 63, so that the number of a lookup table's slots is an index
 abbrev pub IsLookupPrecision : (bits precision : ℕ) → Type 0
 IsLookupPrecision bits precision = IsPrecision bits precision × (precision ≤ 63)

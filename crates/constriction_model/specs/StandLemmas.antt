@@ -172,7 +172,7 @@ module _ {Symbol : Type 0} (eq : Symbol → Symbol → Bool) (laws : IsEquivalen
       ∙ ap (λ w. option_or (entry_of eq rs q) (cond (eq r.symbol q) (Some (r.left, w)) None)) h.0.2
       ∙ sym (entry_of-cons eq q r rs)
 
-  -- so has a table that was made of their clones
+  -- so has a symbol table that was made of their clones
   pub entries-of : (rows others : List (Row Symbol)) → HoldsEntriesOf eq Stands rows others → SameEntries eq rows others
   entries-of rows others h = λ q. h.entries q ∙ entries-made h.made others h.stand q
 

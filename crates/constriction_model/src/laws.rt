@@ -11,7 +11,7 @@ ghost use Rattle.constriction_model.specs.Scanning.{holds};
 use crate::encodes_over::EncodesOver;
 use crate::traits::{DecoderModel, EntropyModel};
 
-/// A uniform model of `n` symbols has `n` rows, and so its fresh table as many items.
+/// A uniform model of `n` symbols has `n` rows, and so its fresh symbol table as many items.
 pub fn uniform_row_count()
     ensures { (precision n : ℕ) → 0 < n → length (uniform_rows precision n) ≡ n }
 {}
@@ -41,7 +41,7 @@ pub fn contiguous_symbols_differ()
 
 /// Two decoder models of the same symbols and the same `PRECISION` have the same row for each
 /// quantile, and so answer alike, exactly where they have the same list of rows. So a model can be
-/// exchanged for another one where their tables are the same, and only there. The models may be over
+/// exchanged for another one where their symbol tables are the same, and only there. The models may be over
 /// different words.
 pub fn equal_answers<M, N, const PRECISION: usize>()
 where

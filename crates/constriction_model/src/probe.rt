@@ -4,7 +4,7 @@ ghost use Rattle.std.specs.Prelude.{◌≡◌, ◌↔◌, ◌+◌, ◌<◌, ◌�
 
 /// A list of cumulatives that is asked about one of them at a time, and counts the questions.
 ///
-/// [`row_of_quantile`](crate::row_of_quantile) searches it. A caller's own table
+/// [`row_of_quantile`](crate::row_of_quantile) searches it. A caller's own list
 /// may be one.
 pub trait Probe {
     /// What the cumulatives are compared with.

@@ -36,7 +36,7 @@ pub struct UniformModel<Probability: WholeNumber, const PRECISION: usize> {
 /// The model over 24 bits of `u32`, which suits most uses.
 pub type DefaultUniformModel = UniformModel<u32, 24>;
 
-/// The model over 12 bits of `u16`, for use beside small tables of symbols.
+/// The model over 12 bits of `u16`, for use beside other small models.
 pub type SmallUniformModel = UniformModel<u16, 12>;
 
 impl<Probability: WholeNumber, const PRECISION: usize> Copy

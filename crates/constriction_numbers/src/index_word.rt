@@ -1,12 +1,12 @@
-//! Words that may be indices of a table.
+//! Words that may be indices of a lookup table.
 
 ghost use Rattle.std.specs.Prelude.{◌≡◌, ◌<◌, ◌^◌};
 
 use crate::whole_number::WholeNumber;
 
-/// A word whose numbers below `2^64` are indices, each of them a `usize`. Lookup models are over these.
+/// A word whose numbers below `2^64` are indices, each of them a `usize`. The constructors of lookup models ask for one.
 ///
-/// A table that tells where to search holds row indices as words, and a look-up begins with the number of a quantile.
+/// A lookup table holds row indices as words, and a look-up begins with the number of a quantile.
 /// Each quantile of a lookup model lies below `2^63`, and so does each row index. The unsigned integers of std are index words.
 pub trait IndexWord: WholeNumber {
     /// The number of the word, as an index, where it is a `usize`.

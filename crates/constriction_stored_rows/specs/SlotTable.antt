@@ -8,18 +8,18 @@ pub record IsSlot (lefts : List ℕ) (width slot first last : ℕ) : Type 0 wher
   pub from : IsLastAtMost lefts (slot * width) first
   pub to : IsLastAtMost lefts (slot * width + (width - 1)) last
 
--- how many words of the table a slot has: where it holds one quantile, the first and the last row that meet it are one
+-- how many words of the lookup table a slot has: where it holds one quantile, the first and the last row that meet it are one
 abbrev pub words_a_slot : (width : ℕ) → ℕ
 words_a_slot width = min width 2
 
--- the words of a table, or of its beginning: the first word of slot j is the first row that meets it, its last word the last one
+-- the words of a lookup table, or of its beginning: the first word of slot j is the first row that meets it, its last word the last one
 pub record HasWords (width : ℕ) (lefts table : List ℕ) : Type 0 where
   pub first : (j : ℕ) → words_a_slot width * j < length table
       → IsLastAtMost lefts (j * width) (slice_index table (words_a_slot width * j))
   pub last : (j : ℕ) → words_a_slot width * j + (words_a_slot width - 1) < length table
       → IsLastAtMost lefts (j * width + (width - 1)) (slice_index table (words_a_slot width * j + (words_a_slot width - 1)))
 
--- the table has the words of so many slots
+-- the lookup table has the words of so many slots
 pub record HasSlots (width count : ℕ) (lefts table : List ℕ) : Type 0 where
   pub long : length table ≡ words_a_slot width * count
   pub words : HasWords width lefts table
@@ -28,7 +28,7 @@ pub record HasSlots (width count : ℕ) (lefts table : List ℕ) : Type 0 where
 abbrev pub MayFollow : (bits precision : ℕ) → (lefts words : List ℕ) → Type 0
 MayFollow bits precision lefts words = 0 < length words → words ≡ with_total bits precision lefts
 
--- the table begins with the words of so many slots
+-- the lookup table begins with the words of so many slots
 pub record BeginsWithSlots (bits precision width count : ℕ) (lefts table : List ℕ) : Type 0 where
   pub slots : HasSlots width count lefts (take (words_a_slot width * count) table)
   pub rest : MayFollow bits precision lefts (drop (words_a_slot width * count) table)

@@ -1,4 +1,4 @@
-//! The table of the rows that meet each slot.
+//! The lookup table of the rows that meet each slot.
 
 ghost use Rattle.std.specs.Prelude.{◌≡◌, ◌+◌, ◌++◌, ◌-◌, ◌*◌, ◌/◌, ◌^◌, ◌<◌, ◌≤◌, ℕ, length, map, take, drop, replicate, slice_index, IfOk, vec_capacity, vec_len};
 ghost use Rattle.std.specs.List.Sorted.{IsStrictlyIncreasing};
@@ -30,7 +30,7 @@ fn width_of_slots<const PRECISION: usize, const SLOT_BITS: usize>() -> usize
     1usize << PRECISION.saturating_sub(SLOT_BITS)
 }
 
-/// How many words of the table tell of slots: two a slot, or one where a slot holds one quantile.
+/// How many words of the lookup table tell of slots: two a slot, or one where a slot holds one quantile.
 #[inline]
 pub fn words_of_table<const PRECISION: usize, const SLOT_BITS: usize>() -> usize
     requires { PRECISION ≤ 63 }
@@ -40,7 +40,7 @@ pub fn words_of_table<const PRECISION: usize, const SLOT_BITS: usize>() -> usize
     words_a_slot * number_of_slots::<PRECISION, SLOT_BITS>()
 }
 
-/// The first word of the table whose quantile is not below `left`.
+/// The first word of the lookup table whose quantile is not below `left`.
 #[inline]
 fn first_word<W: WholeNumber, const PRECISION: usize, const SLOT_BITS: usize>(left: W) -> usize
     requires narrow { PRECISION ≤ 63 }
@@ -55,8 +55,8 @@ fn first_word<W: WholeNumber, const PRECISION: usize, const SLOT_BITS: usize>(le
     left / width + (left + (width - 1)) / width
 }
 
-/// The table, filled up with a row to so many words, for which it has room. No word is tested for room, and nothing of the table
-/// leaves the processor's registers, as it does around a call that may ask for memory.
+/// The lookup table, filled up with a row to so many words, for which it has room. No word is tested for room, and nothing of
+/// the table leaves the processor's registers, as it does around a call that may ask for memory.
 #[inline(always)]
 fn filled_up<W: Copy>(mut table: Vec<W>, words: usize, row: W) -> Vec<W>
     requires room { words ≤ vec_capacity table }
@@ -70,7 +70,7 @@ fn filled_up<W: Copy>(mut table: Vec<W>, words: usize, row: W) -> Vec<W>
     table
 }
 
-/// The table of the rows that meet each slot: of each slot the first and the last one, which are one row
+/// The lookup table of the rows that meet each slot: of each slot the first and the last one, which are one row
 /// where a slot holds one quantile.
 ///
 /// One pass over the rows, each of which fills the words up to where the next one begins, and one
@@ -101,7 +101,7 @@ fn slots_of<Entry, Kind: CdfEntry<Entry>, const PRECISION: usize, const SLOT_BIT
     Ok(filled_up(table, words, row))
 }
 
-/// The table of the rows that meet each slot, and after it, where that is asked for, where each row begins and the
+/// The lookup table of the rows that meet each slot, and after it, where that is asked for, where each row begins and the
 /// total, so that who looks up a row has these words side by side. A model of one quantile never has them.
 pub fn table_of_slots<Entry, Kind: CdfEntry<Entry>, const PRECISION: usize, const SLOT_BITS: usize>(
     alloc: Global,

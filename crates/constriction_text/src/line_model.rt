@@ -107,10 +107,10 @@ pub(crate) trait NumberRows<const PRECISION: usize> {
     // The rows of a model.
     ghost number_rows: { Self → List (Row ℕ) };
 
-    // The rows that a table has yet to give.
+    // The rows that a symbol table has yet to give.
     ghost left: { Self.Table → List (Row ℕ) };
 
-    // That rows can be walked through, and that a table may be asked for the next one.
+    // That rows can be walked through, and that a symbol table may be asked for the next one.
     ghost has_table: { Type 0 };
 
     ghost can_go_on: { Self.Table → Type 0 };
@@ -121,7 +121,7 @@ pub(crate) trait NumberRows<const PRECISION: usize> {
         ensures all { left result ≡ number_rows self }
         ensures callable { can_go_on result };
 
-    /// The next row of a table: its symbol, its left cumulative and its weight.
+    /// The next row of a symbol table: its symbol, its left cumulative and its weight.
     fn next_row(table: &mut Self::Table) -> Result<Option<(usize, u64, u64)>, AllocError>
         requires { can_go_on table.old }
         ensures row { IfOk result (λ found. IfSome found (λ row. left table.old

@@ -36,13 +36,13 @@ abbrev pub ReplyAsScan : {Word Weight : Type 0} → (Reply ℕ Word Weight → R
 ReplyAsScan in_numbers scanned given =
     (map in_numbers given.contiguous.items ≡ scanned) × (map in_numbers given.hashed.items ≡ scanned)
 
--- the models of one list of weights reply so, those without a table
+-- the models of one list of weights reply so, those without a lookup table
 abbrev pub BothReplyAsScan : {Word Weight Decoder : Type 0} → (Reply ℕ Word Weight → Reply ℕ ℕ ℕ) → List (Reply ℕ ℕ ℕ)
     → AnswersBySearch Word Decoder Weight → Type 0
 BothReplyAsScan in_numbers scanned answers =
     ReplyAsScan in_numbers scanned answers.contiguous × ReplyAsScan in_numbers scanned answers.non_contiguous
 
--- and the model that searches, the one with a table and the form that steps leave
+-- and the model that searches, the one with a lookup table and the form that steps leave
 abbrev pub AllReplyAsScan : {Word Weight Form : Type 0} → (Reply ℕ Word Weight → Reply ℕ ℕ ℕ) → List (Reply ℕ ℕ ℕ)
     → AnswersOfWeights Word Form Weight → Type 0
 AllReplyAsScan in_numbers scanned answers =

@@ -5,7 +5,7 @@
 //! them, accept them exactly where they tile, make the models, convert one by any steps and ask each the same
 //! queries: the replies are those that a scan of the rows of the lists gives. [`answer_from_range_u8`] and its
 //! like do so for the dividing model, [`answer_by_model`] and [`answer_by_table`] for a model of the caller's own,
-//! and [`answer_by_form`] for a decoder that stands already. These make tables, so that `PRECISION` is at most 63 in them:
+//! and [`answer_by_form`] for a decoder that stands already. These make lookup tables, so that `PRECISION` is at most 63 in them:
 //! [`answer_from_weights_by_search`] and [`answer_beside_encoder`] make none, and take any. The second half is [`run_cursor_and_reversal`].
 //!
 //! Replies do not tell which model gave them. So each of these calls hands out the form that the steps left,

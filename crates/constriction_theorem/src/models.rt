@@ -68,7 +68,7 @@ pub struct AnswersOfModel<Symbol, Word: WholeNumber, Form> {
 /// Answers queries by a decoder whose rows can be walked through, one of the caller's own too, and by the hashed encoder that is
 /// made of it. Where the symbols of its answers are the same values, the replies are those that a scan of its rows gives.
 ///
-/// The only refusal is `OutOfMemory`. No table of slots is made, so that it stands over any word at any `PRECISION`: of a model
+/// The only refusal is `OutOfMemory`. No lookup table of slots is made, so that it stands over any word at any `PRECISION`: of a model
 /// that searches, divides or looks up, and of the encoder that hashes.
 pub fn answer_beside_encoder<M, const PRECISION: usize>(
     alloc: Global,

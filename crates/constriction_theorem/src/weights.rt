@@ -35,7 +35,7 @@ pub struct RepliesByEncoder<Word: WholeNumber> {
 pub struct AnswersOfWeights<Word: WholeNumber, Form> {
     /// The model that searches all rows.
     pub searching: RepliesByEncoder<Word>,
-    /// The model with a table of as many slots as the caller asked for.
+    /// The model with a lookup table of as many slots as the caller asked for.
     pub tabled: RepliesByEncoder<Word>,
     /// The decoder over any symbols after the steps.
     pub form: Form,
@@ -101,7 +101,7 @@ fn converted_from<Probability: IndexWord, const PRECISION: usize>(
     Ok((form, hashed))
 }
 
-/// The replies of the model with a table of `2^min(PRECISION, SLOT_BITS)` slots.
+/// The replies of the model with a lookup table of `2^min(PRECISION, SLOT_BITS)` slots.
 fn asked_by_slots<Probability: IndexWord, const PRECISION: usize, const SLOT_BITS: usize>(
     alloc: Global,
     model: &Contiguous<Probability, PRECISION>,
@@ -123,7 +123,7 @@ fn asked_by_slots<Probability: IndexWord, const PRECISION: usize, const SLOT_BIT
     Ok(replies)
 }
 
-/// The replies of the model that searches, of the one with a table and of a form of the same rows.
+/// The replies of the model that searches, of the one with a lookup table and of a form of the same rows.
 fn asked_by_each<Probability: IndexWord, const PRECISION: usize, const SLOT_BITS: usize>(
     alloc: Global,
     model: &Contiguous<Probability, PRECISION>,
@@ -184,14 +184,14 @@ fn answers_of<Probability: IndexWord, const PRECISION: usize, const SLOT_BITS: u
     })
 }
 
-/// Makes the models of a list of weights, one that searches and one with a table of `2^min(PRECISION, SLOT_BITS)` slots,
+/// Makes the models of a list of weights, one that searches and one with a lookup table of `2^min(PRECISION, SLOT_BITS)` slots,
 /// converts the decoder over any symbols that is made of their rows by any steps, and answers the same queries by each of
 /// these beside the model that searches and beside the hashed encoder: the replies of each are those that a scan of the
 /// rows of the weights gives.
 ///
 /// `InvalidTable` comes only where the weights, the inferred one among them, are not accepted, `OutOfMemory`
-/// where memory is refused: the table takes two words a slot, or one where a slot holds one quantile. `PRECISION` is at
-/// most 63; [`answer_from_weights_by_search`](crate::answer_from_weights_by_search) makes no tables, and takes any.
+/// where memory is refused: the lookup table takes two words a slot, or one where a slot holds one quantile. `PRECISION` is at
+/// most 63; [`answer_from_weights_by_search`](crate::answer_from_weights_by_search) makes no lookup tables, and takes any.
 pub fn answer_from_weights<Probability: IndexWord, const PRECISION: usize, const SLOT_BITS: usize>(
     alloc: Global,
     weights: Vec<Probability>,

@@ -69,7 +69,7 @@ where
 /// The lookup model of the same rows as a model that can be walked through and no two symbols of which are
 /// equal. It asks what [`to_generic_decoder_model_of_distinct`] does, and `PRECISION` is at most 63.
 ///
-/// The only refusal is `OutOfMemory`, where memory for the entries, for a clone of a symbol, or for the table
+/// The only refusal is `OutOfMemory`, where memory for the entries, for a clone of a symbol, or for the lookup table
 /// is refused.
 ///
 /// One walk, and two passes over the rows. No symbols are compared.
