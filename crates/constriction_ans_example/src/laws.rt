@@ -90,10 +90,9 @@ where
     ensures encoding { (error : _) → result ≡ Err (MessageFault.Encoding error)
         → EncodingStops Backend.words_of (entry_of E.symbol_eq (E.rows encoder.now)) Backend.write_gives PRECISION symbols.now error
         (content coder.old.state (Backend.words_of coder.old.words)) coder.new.state coder.new.words }
-    ensures decoding { (error : _) → result ≡ Err (MessageFault.Decoding error) → EncodesThen (entry_of E.symbol_eq (E.rows encoder.now))
-        PRECISION (reverse symbols.now) (content coder.old.state (Backend.words_of coder.old.words)) (λ full. DecodingStops Backend.words_of
-        D.stands_for D.may_refuse (D.rows decoder.now) Backend.read_gives PRECISION (length symbols.now) error full coder.new.state
-        coder.new.words) }
+    ensures decoding { (e : _) → result ≡ Err (MessageFault.Decoding e) → EncodesThen (entry_of E.symbol_eq (E.rows encoder.now)) PRECISION
+        (reverse symbols.now) (content coder.old.state (Backend.words_of coder.old.words)) (λ c. DecodingStops Backend.words_of D.stands_for
+        D.may_refuse (D.rows decoder.now) Backend.read_gives PRECISION (length symbols.now) e c coder.new.state coder.new.words) }
 {
     symbols_come_back::<Symbol, D, E, PRECISION>(decoder, encoder);
     match coder.encode_symbols::<_, _, PRECISION>(symbols, encoder) {
