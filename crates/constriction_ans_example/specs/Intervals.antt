@@ -61,8 +61,8 @@ pub record Held (S : Type 0) : Type 0 where
 abbrev pub held_of : {S : Type 0} → ℕ → ℕ → S → Held S
 held_of range offset source = record { held = interval range offset; source = source }
 
--- The point lies in the part of the interval that belongs to one of these rows, the symbol stands for that of the row, and the part, stretched
--- where it is small, is held next.
+-- The point lies in the part of the interval that belongs to one of these rows, the symbol stands for that of the row, and the part,
+-- stretched where it is small, is held next.
 pub record IsRead {Symbol S E : Type 0} (Stands : Symbol → Symbol → Type 0) (rows : List (Row Symbol))
     (gives : S → Result (Option ℕ) E → S → Type 0) (precision : ℕ) (symbol : Symbol) (old new : Held S) : Type 0 where
   pub row : Row Symbol
@@ -71,8 +71,8 @@ pub record IsRead {Symbol S E : Type 0} (Stands : Symbol → Symbol → Type 0) 
   pub holds : HoldsPoint precision row.left row.weight old.held
   pub next : IsStretched gives (part_of precision row.left row.weight old.held) old.source new.held new.source
 
--- Why a symbol was not decoded: the point lies above all quantiles, or memory for the row in which it lies was refused, and nothing was read;
--- or a read answered the error.
+-- Why a symbol was not decoded: the point lies above all quantiles, or memory for the row in which it lies was refused, and nothing
+-- was read; or a read answered the error.
 abbrev pub IsReadingFault : {Symbol S E : Type 0} → (Symbol → Type 0) → List (Row Symbol) → (S → Result (Option ℕ) E → S → Type 0)
     → (precision : ℕ) → CoderError RangeDecodingFault E → Held S → S → Type 0
 IsReadingFault MayRefuse rows gives precision (Frontend InvalidData) at left = IsAboveAll precision at.held × (left ≡ at.source)

@@ -13,8 +13,8 @@ use Rattle.constriction_client.specs.Chains.{StepLeaves, ChainLeaves}
 
 module _ {Symbol : Type 0} (IsClone : Symbol → Symbol → Type 0) where
   -- one step more
-  pub leaves-more : (steps : List ChainStep) (step : ChainStep) (rows between made : List (Row Symbol)) → ChainLeaves IsClone steps rows between
-      → StepLeaves IsClone step between made → ChainLeaves IsClone (steps ++ step ∷ []) rows made
+  pub leaves-more : (steps : List ChainStep) (step : ChainStep) (rows between made : List (Row Symbol))
+      → ChainLeaves IsClone steps rows between → StepLeaves IsClone step between made → ChainLeaves IsClone (steps ++ step ∷ []) rows made
   leaves-more [] step rows between made h one =
       (made, subst (λ (rs : List (Row Symbol)). StepLeaves IsClone step rs made) h one, refl)
   leaves-more (s ∷ ss) step rows between made h one = (h.0, h.1, leaves-more ss step h.0 between made h.2 one)

@@ -1,5 +1,6 @@
 -- The number of binary digits.
 use Rattle.std.proofs.Common.{◌≡◌, ℕ, suc, zero, ◌+◌, ◌-◌, ◌/◌, ◌^◌, ◌<◌, ◌≤◌, ap, sym, refl, ◌∙◌, arith}
+use Rattle.std.proofs.lemmas.Nat.{pow_pos}
 use Rattle.constriction_model.specs.Probe.{digits, digits_in}
 
 digits_in-zero : (f : ℕ) → digits_in f 0 ≡ 0
@@ -65,21 +66,10 @@ digits_few (suc n) h =
 pub digits_two : (n : ℕ) → n ≤ 2 → digits (n - 1) ≡ n - 1
 digits_two n h = digits_few (n - 1) (omega arith)
 
--- one less than three or four rows
-pub digits_four : (n : ℕ) → 2 < n → n ≤ 4 → digits (n - 1) ≡ 2
-digits_four n more most = omega (arith, digits_step n (omega arith), digits_two (n - n / 2) (omega arith))
-
--- one less than five to eight
-pub digits_eight : (n : ℕ) → 4 < n → n ≤ 8 → digits (n - 1) ≡ 3
-digits_eight n more most =
-    omega (arith, digits_step n (omega arith), digits_four (n - n / 2) (omega arith) (omega arith))
-
--- one less than nine to sixteen
-pub digits_sixteen : (n : ℕ) → 8 < n → n ≤ 16 → digits (n - 1) ≡ 4
-digits_sixteen n more most =
-    omega (arith, digits_step n (omega arith), digits_eight (n - n / 2) (omega arith) (omega arith))
-
--- one less than seventeen to thirty-two
-pub digits_thirty_two : (n : ℕ) → 16 < n → n ≤ 32 → digits (n - 1) ≡ 5
-digits_thirty_two n more most =
-    omega (arith, digits_step n (omega arith), digits_sixteen (n - n / 2) (omega arith) (omega arith))
+-- one less than more than `2 ^ k` rows, and at most twice as many
+pub digits_between : (k n : ℕ) → 2 ^ k < n → n ≤ 2 ^ suc k → digits (n - 1) ≡ suc k
+digits_between zero n more most =
+    omega (arith, digits_step n (omega arith), digits_two (n - n / 2) (omega arith))
+digits_between (suc k) n more most =
+    omega (arith, pow_pos k, digits_step n (omega (arith, pow_pos k)),
+        digits_between k (n - n / 2) (omega arith) (omega arith))

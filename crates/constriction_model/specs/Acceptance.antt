@@ -75,6 +75,7 @@ pub record IsMadeOfBoth {Symbol Word Model : Type 0} (Accepted : List Symbol →
       → ¬ (Accepted all (completes (map whole weights))))
 
 -- no two symbols of a list that an iterator gives are equal, whichever iterator the argument becomes
-abbrev pub GivesDistinct : {J S Symbol : Type 0} → (J → S → Type 0) → (S → Option Symbol → S → Type 0) → (Symbol → Symbol → Bool) → J → Type 0
+abbrev pub GivesDistinct : {J S Symbol : Type 0} → (J → S → Type 0) → (S → Option Symbol → S → Type 0)
+    → (Symbol → Symbol → Bool) → J → Type 0
 GivesDistinct {S = S} {Symbol = Symbol} becomes steps eq from =
     (it : S) (symbols : List Symbol) → becomes from it → Drains steps it symbols → IsDistinct eq symbols

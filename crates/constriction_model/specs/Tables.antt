@@ -11,8 +11,8 @@ module _ {Symbol Word Weight Refusal : Type 0} (Stands : Symbol → Symbol → T
   StandsFor item row = IfOk item (λ x. StandsForRow Stands whole base x row) × IfErr item (λ _. MayRefuse row.symbol)
 
   module _ {T : Type 0} (rows_left : T → List (Row Symbol)) where
-    -- A step from the front of a symbol table, of which `rows_left` tells the rows that it has yet to give: it gives the first of them, by an
-    -- item that stands for it, and nothing where none is left.
+    -- A step from the front of a symbol table. `rows_left` tells the rows that it has yet to give. It gives the first of them, by an item
+    -- that stands for it, and nothing where none is left.
     abbrev pub YieldsRow : T → Option (Result (Symbol × Word × Weight) Refusal) → T → Type 0
     YieldsRow t None u = (rows_left t ≡ []) × (rows_left u ≡ [])
     YieldsRow t (Some (Ok x)) u = (own : Symbol) × Stands own x.0 × (rows_left t ≡ row_of whole base (own, x.1, x.2) ∷ rows_left u)

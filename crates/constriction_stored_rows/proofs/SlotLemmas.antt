@@ -241,7 +241,8 @@ module _ {S : Type 0} (bits precision slot_bits : ℕ) (rows : List (Row S)) (t 
         part-searchable (map (λ r. r.left) rows) up (slot_width precision slot_bits) j first told p q low
 
     slot-found : (q i : ℕ) → q < 2 ^ precision
-        → q ≤ j * slot_width precision slot_bits + (slot_width precision slot_bits - 1) → IsLastAtMost told q i → IsRowIndexOf rows q (first + i)
+        → q ≤ j * slot_width precision slot_bits + (slot_width precision slot_bits - 1) → IsLastAtMost told q i
+        → IsRowIndexOf rows q (first + i)
     slot-found q i below high f =
         tiles-found bits precision rows t q (first + i) below
         (part-found (map (λ r. r.left) rows) up (slot_width precision slot_bits) j first told p q i high f)

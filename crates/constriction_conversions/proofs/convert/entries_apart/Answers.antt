@@ -8,7 +8,8 @@ returns-clause-stored g c =
     let M = g.met.M.IterableEntropyModel in
     (walked-stored g.M.IterableEntropyModel.stands_for g.M.IterableEntropyModel.may_refuse g.M.Probability.WholeNumber.whole
     g.M.Probability.WholeNumber.base g.M.SymbolTable.Iterator.next_gives g.M.IterableEntropyModel.rows_left M.steps_law
-    (g.M.EntropyModel.rows c.args.model) c.symbol_table.result c.symbol_table.ensures.all g.M.Symbol.PartialEq.eq g.M.Probability.WholeNumber.BITS g.row.PRECISION
+    (g.M.EntropyModel.rows c.args.model) c.symbol_table.result c.symbol_table.ensures.all g.M.Symbol.PartialEq.eq
+        g.M.Probability.WholeNumber.BITS g.row.PRECISION
     (M.tile_law c.args.model) c.in_ok-cdf.cdf.items c.in_ok-cdf.ensures.ok).0
 
 pub returns-clause-distinct : goal.returns-clause-distinct
@@ -16,7 +17,8 @@ returns-clause-distinct g c =
     let M = g.met.M.IterableEntropyModel in
     (walked-distinct g.M.IterableEntropyModel.stands_for g.M.IterableEntropyModel.may_refuse g.M.Probability.WholeNumber.whole
     g.M.Probability.WholeNumber.base g.M.SymbolTable.Iterator.next_gives g.M.IterableEntropyModel.rows_left M.steps_law
-    (g.M.EntropyModel.rows c.args.model) c.symbol_table.result c.symbol_table.ensures.all g.M.Symbol.PartialEq.eq g.M.Probability.WholeNumber.BITS g.row.PRECISION
+    (g.M.EntropyModel.rows c.args.model) c.symbol_table.result c.symbol_table.ensures.all g.M.Symbol.PartialEq.eq
+        g.M.Probability.WholeNumber.BITS g.row.PRECISION
     (M.tile_law c.args.model) c.in_ok-cdf.cdf.items c.in_ok-cdf.ensures.ok).0
 
 pub returns-clause-rows : goal.returns-clause-rows
@@ -24,11 +26,13 @@ returns-clause-rows g c =
     let M = g.met.M.IterableEntropyModel in (
       (walked-stored g.M.IterableEntropyModel.stands_for g.M.IterableEntropyModel.may_refuse g.M.Probability.WholeNumber.whole
           g.M.Probability.WholeNumber.base g.M.SymbolTable.Iterator.next_gives g.M.IterableEntropyModel.rows_left M.steps_law
-          (g.M.EntropyModel.rows c.args.model) c.symbol_table.result c.symbol_table.ensures.all g.M.Symbol.PartialEq.eq g.M.Probability.WholeNumber.BITS g.row.PRECISION
+          (g.M.EntropyModel.rows c.args.model) c.symbol_table.result c.symbol_table.ensures.all g.M.Symbol.PartialEq.eq
+              g.M.Probability.WholeNumber.BITS g.row.PRECISION
           (M.tile_law c.args.model) c.in_ok-cdf.cdf.items c.in_ok-cdf.ensures.ok).1,
       (walked-distinct g.M.IterableEntropyModel.stands_for g.M.IterableEntropyModel.may_refuse g.M.Probability.WholeNumber.whole
           g.M.Probability.WholeNumber.base g.M.SymbolTable.Iterator.next_gives g.M.IterableEntropyModel.rows_left M.steps_law
-          (g.M.EntropyModel.rows c.args.model) c.symbol_table.result c.symbol_table.ensures.all g.M.Symbol.PartialEq.eq g.M.Probability.WholeNumber.BITS g.row.PRECISION
+          (g.M.EntropyModel.rows c.args.model) c.symbol_table.result c.symbol_table.ensures.all g.M.Symbol.PartialEq.eq
+              g.M.Probability.WholeNumber.BITS g.row.PRECISION
           (M.tile_law c.args.model) c.in_ok-cdf.cdf.items c.in_ok-cdf.ensures.ok).1,
     )
 
@@ -38,4 +42,5 @@ returns-in_err-cdf-clause-invalid g c = λ h.
     let e : c.entries_walked.result ≡ Err InvalidTable = search rules in
     walked-repeat g.M.IterableEntropyModel.stands_for g.M.IterableEntropyModel.may_refuse g.M.Probability.WholeNumber.whole
     g.M.Probability.WholeNumber.base g.M.SymbolTable.Iterator.next_gives g.M.IterableEntropyModel.rows_left M.steps_law
-    (g.M.EntropyModel.rows c.args.model) c.symbol_table.result c.symbol_table.ensures.all g.M.Symbol.PartialEq.eq (c.entries_walked.ensures.invalid e)
+    (g.M.EntropyModel.rows c.args.model) c.symbol_table.result c.symbol_table.ensures.all g.M.Symbol.PartialEq.eq
+        (c.entries_walked.ensures.invalid e)

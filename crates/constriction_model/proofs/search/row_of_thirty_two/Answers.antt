@@ -1,5 +1,5 @@
 use Rattle.std.proofs.Common.{ℕ, length, arith}
-use Rattle.constriction_model.proofs.Digits.{digits_four, digits_eight, digits_sixteen, digits_thirty_two}
+use Rattle.constriction_model.proofs.Digits.{digits_between}
 use Rattle.constriction_model.proofs.Halving.{narrowed_one}
 use Rattle.constriction_model.proofs.search.row_of_thirty_two.Goals as goal
 
@@ -11,7 +11,7 @@ returns-then-size-gt16-clause-found g c =
 pub returns-then-size-gt16-clause-counted : goal.returns-then-size-gt16-clause-counted
 returns-then-size-gt16-clause-counted g c =
     let rows : ℕ = length (g.R.Probe.cumulatives c.args.rows.now) in
-    let digits = digits_thirty_two rows (omega (arith, c.if-size-gt16.true, c.len-size.ensures))
+    let digits = digits_between 4 rows (omega (arith, c.if-size-gt16.true, c.len-size.ensures))
     (omega (arith, c.requires.few, c.len-size.ensures)) in
     omega (arith, digits, c.row_of_sixteen.ensures.counted, c.first_left-first.ensures.counted)
 
@@ -23,7 +23,7 @@ returns-then-size-gt8-clause-found g c =
 pub returns-then-size-gt8-clause-counted : goal.returns-then-size-gt8-clause-counted
 returns-then-size-gt8-clause-counted g c =
     let rows : ℕ = length (g.R.Probe.cumulatives c.args.rows.now) in
-    let digits = digits_sixteen rows (omega (arith, c.if-size-gt8.true, c.len-size.ensures))
+    let digits = digits_between 3 rows (omega (arith, c.if-size-gt8.true, c.len-size.ensures))
     (omega (arith, c.if-size-gt16.false, c.len-size.ensures)) in
     omega (arith, digits, c.row_of_eight.ensures.counted, c.first_left-first-then-size-gt8.ensures.counted)
 
@@ -35,7 +35,7 @@ returns-then-size-gt4-clause-found g c =
 pub returns-then-size-gt4-clause-counted : goal.returns-then-size-gt4-clause-counted
 returns-then-size-gt4-clause-counted g c =
     let rows : ℕ = length (g.R.Probe.cumulatives c.args.rows.now) in
-    let digits = digits_eight rows (omega (arith, c.if-size-gt4.true, c.len-size.ensures))
+    let digits = digits_between 2 rows (omega (arith, c.if-size-gt4.true, c.len-size.ensures))
     (omega (arith, c.if-size-gt8.false, c.len-size.ensures)) in
     omega (arith, digits, c.row_of_four.ensures.counted, c.first_left-first-then-size-gt4.ensures.counted)
 
@@ -47,6 +47,6 @@ returns-then-size-gt2-clause-found g c =
 pub returns-then-size-gt2-clause-counted : goal.returns-then-size-gt2-clause-counted
 returns-then-size-gt2-clause-counted g c =
     let rows : ℕ = length (g.R.Probe.cumulatives c.args.rows.now) in
-    let digits = digits_four rows (omega (arith, c.if-size-gt2.true, c.len-size.ensures))
+    let digits = digits_between 1 rows (omega (arith, c.if-size-gt2.true, c.len-size.ensures))
     (omega (arith, c.if-size-gt4.false, c.len-size.ensures)) in
     omega (arith, digits, c.first_left.ensures.counted, c.first_left-first-then-size-gt2.ensures.counted)

@@ -69,11 +69,13 @@ leaves_none-requires-clause-one g c = one_is (g.P.WholeNumber.whole c.greatest-o
 
 pub leaves_none-requires-clause-range : goal.leaves_none-requires-clause-range
 leaves_none-requires-clause-range g c =
-    room_below (g.P.WholeNumber.whole c.rows.left) (g.P.WholeNumber.whole c.rows.room) (2 ^ g.row.PRECISION) (2 ^ g.P.WholeNumber.BITS) c.rows.invariant.2.rest c.greatest-room.ensures.within
+    room_below (g.P.WholeNumber.whole c.rows.left) (g.P.WholeNumber.whole c.rows.room) (2 ^ g.row.PRECISION) (2 ^ g.P.WholeNumber.BITS)
+        c.rows.invariant.2.rest c.greatest-room.ensures.within
 
 pub plus-left-requires : goal.plus-left-requires
 plus-left-requires g c =
-    end_below (g.P.WholeNumber.whole c.rows.left) (g.P.WholeNumber.whole c.in-Some.weight) (g.P.WholeNumber.whole c.rows.room) (2 ^ g.row.PRECISION) (2 ^ g.P.WholeNumber.BITS)
+    end_below (g.P.WholeNumber.whole c.rows.left) (g.P.WholeNumber.whole c.in-Some.weight) (g.P.WholeNumber.whole c.rows.room)
+        (2 ^ g.row.PRECISION) (2 ^ g.P.WholeNumber.BITS)
     c.rows.invariant.2.rest c.greatest-room.ensures.within (c.leaves_none.ensures.some c.if-leaves_none.false).1
 
 pub minus-room-requires : goal.minus-room-requires
@@ -83,7 +85,8 @@ pub rows-init : goal.rows-init
 rows-init g c = (
   c.requires.goes,
   c.requires.ends,
-  begun-none g.I.Iterator.next_gives _ g.P.WholeNumber.whole g.P.WholeNumber.BITS g.row.PRECISION c.args.cdf.items c.least-left.result (g.P.WholeNumber.whole c.greatest-room.result)
+  begun-none g.I.Iterator.next_gives _ g.P.WholeNumber.whole g.P.WholeNumber.BITS g.row.PRECISION c.args.cdf.items c.least-left.result
+      (g.P.WholeNumber.whole c.greatest-room.result)
       c.requires.empty c.least-left.ensures c.greatest-room.ensures.value,
 )
 
@@ -104,7 +107,8 @@ ended-requires-clause-fits g c = c.requires.fits
 
 pub is_inferred_last-requires : goal.is_inferred_last-requires
 is_inferred_last-requires g c =
-    room_below (g.P.WholeNumber.whole c.rows.left) (g.P.WholeNumber.whole c.rows.room) (2 ^ g.row.PRECISION) (2 ^ g.P.WholeNumber.BITS) c.rows.invariant.2.rest c.greatest-room.ensures.within
+    room_below (g.P.WholeNumber.whole c.rows.left) (g.P.WholeNumber.whole c.rows.room) (2 ^ g.row.PRECISION) (2 ^ g.P.WholeNumber.BITS)
+        c.rows.invariant.2.rest c.greatest-room.ensures.within
 
 pub ended_inferred-requires-clause-positive : goal.ended_inferred-requires-clause-positive
 ended_inferred-requires-clause-positive g c = c.requires.positive

@@ -23,7 +23,8 @@ returns-in-Some-clause-invalid g c = λ _ it jt v r given.
     let fills = c.is_given_last.ensures.filled c.if-not-is_given_last.false in
     bad-weight_after g.Symbols.Iterator.next_gives _ g.Weights.Iterator.next_gives _ g.Stored.TakesRows.symbol_eq
     g.met.Stored.TakesRows.symmetry_law g.Stored.TakesRows.holds g.P.WholeNumber.whole g.P.WholeNumber.BITS g.row.PRECISION
-    c.args.stored.now c.args.symbols.now v c.args.left (g.P.WholeNumber.whole c.args.room) r c.args.infer_last _ _ c.args.weight c.in-Some.field-0 given
+    c.args.stored.now c.args.symbols.now v c.args.left (g.P.WholeNumber.whole c.args.room) r c.args.infer_last _ _ c.args.weight
+        c.in-Some.field-0 given
     c.in-Some.ensures.steps (omega (arith, fills.is))
 
 pub returns-in-Some-next-clause-invalid : goal.returns-in-Some-next-clause-invalid
@@ -33,7 +34,8 @@ returns-in-Some-next-clause-invalid g c = λ _ it jt v r given.
     let took = c.in_ok-take_next.ensures.took (refl {a = true}) in
     rw infer (bad-many g.Symbols.Iterator.next_gives _ g.Weights.Iterator.next_gives _ g.Stored.TakesRows.symbol_eq
     g.met.Stored.TakesRows.symmetry_law g.Stored.TakesRows.holds g.P.WholeNumber.whole g.P.WholeNumber.BITS g.row.PRECISION
-    c.args.stored.now c.args.symbols.now v c.args.left (g.P.WholeNumber.whole c.args.room) r _ _ _ _ c.args.weight took.symbol c.in-Some-next.field-0
+    c.args.stored.now c.args.symbols.now v c.args.left (g.P.WholeNumber.whole c.args.room) r _ _ _ _ c.args.weight took.symbol
+        c.in-Some-next.field-0
     given c.in_default.ensures.steps took.came c.in-Some-next.ensures.steps)
 
 pub returns-clause-ok : goal.returns-clause-ok

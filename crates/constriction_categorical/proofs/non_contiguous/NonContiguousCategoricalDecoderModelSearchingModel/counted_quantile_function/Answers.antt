@@ -27,7 +27,8 @@ pub cloned_row_at-requires-clause-in_bounds : goal.cloned_row_at-requires-clause
 cloned_row_at-requires-clause-in_bounds g c =
     let whole = g.Probability.WholeNumber.whole in
     let entries = g.Cdf.SafeBuf.words_of c.args.self.now.cdf in
-    let found = paired-index whole g.Probability.WholeNumber.BITS g.row.PRECISION entries c.args.self.now.stored c.cdf_entries-entries.result.now
+    let found = paired-index whole g.Probability.WholeNumber.BITS g.row.PRECISION entries c.args.self.now.stored
+        c.cdf_entries-entries.result.now
     c.cdf_entries-entries.ensures (whole c.args.quantile) c.row_in_entries-index.result.0 c.requires.in_range
     c.row_in_entries-index.ensures.found in
     rw c.cdf_entries-entries.ensures found.1
@@ -36,7 +37,8 @@ pub returns-in-Ok-clause-row : goal.returns-in-Ok-clause-row
 returns-in-Ok-clause-row g c =
     let whole = g.Probability.WholeNumber.whole in
     let entries = g.Cdf.SafeBuf.words_of c.args.self.now.cdf in
-    let found = paired-index whole g.Probability.WholeNumber.BITS g.row.PRECISION entries c.args.self.now.stored c.cdf_entries-entries.result.now
+    let found = paired-index whole g.Probability.WholeNumber.BITS g.row.PRECISION entries c.args.self.now.stored
+        c.cdf_entries-entries.result.now
     c.cdf_entries-entries.ensures (whole c.args.quantile) c.row_in_entries-index.result.0 c.requires.in_range
     c.row_in_entries-index.ensures.found in
     let at = rw c.cdf_entries-entries.ensures at c.in-Ok.ensures.row in
@@ -47,7 +49,8 @@ pub returns-in-Err-clause-refused : goal.returns-in-Err-clause-refused
 returns-in-Err-clause-refused g c =
     let whole = g.Probability.WholeNumber.whole in
     let entries = g.Cdf.SafeBuf.words_of c.args.self.now.cdf in
-    let found = paired-index whole g.Probability.WholeNumber.BITS g.row.PRECISION entries c.args.self.now.stored c.cdf_entries-entries.result.now
+    let found = paired-index whole g.Probability.WholeNumber.BITS g.row.PRECISION entries c.args.self.now.stored
+        c.cdf_entries-entries.result.now
     c.cdf_entries-entries.ensures (whole c.args.quantile) c.row_in_entries-index.result.0 c.requires.in_range
     c.row_in_entries-index.ensures.found in
     let at = rw c.cdf_entries-entries.ensures at c.in-Err.ensures.refused in

@@ -8,7 +8,8 @@ returns-clause-apart g c = λ ok rows h.
     let whole = g.Probability.WholeNumber.whole in
     let base = g.Probability.WholeNumber.base in
     let eq = g.Symbol.PartialEq.eq in
-    hashed-member eq g.met.Symbol.Eq.laws (λ e. (whole e.left, whole (base e.weight))) rows (get eq c.args.self.now.table) c.args.symbol false h.1
+    hashed-member eq g.met.Symbol.Eq.laws (λ e. (whole e.left, whole (base e.weight))) rows (get eq c.args.self.now.table) c.args.symbol
+        false h.1
     (c.insert_apart.ensures.apart ok)
 
 pub returns-clause-repeated : goal.returns-clause-repeated
@@ -16,5 +17,6 @@ returns-clause-repeated g c = λ bad rows h.
     let whole = g.Probability.WholeNumber.whole in
     let base = g.Probability.WholeNumber.base in
     let eq = g.Symbol.PartialEq.eq in
-    hashed-member eq g.met.Symbol.Eq.laws (λ e. (whole e.left, whole (base e.weight))) rows (get eq c.args.self.now.table) c.args.symbol true h.1
+    hashed-member eq g.met.Symbol.Eq.laws (λ e. (whole e.left, whole (base e.weight))) rows (get eq c.args.self.now.table) c.args.symbol
+        true h.1
     (c.insert_apart.ensures.repeated bad)
