@@ -88,9 +88,12 @@ module _ {Symbol Word Weight Refusal : Type 0} (base : Weight → Word) where
       → started ≡ walk → Drains steps started items → Parted base items symbols weights
       → (rows : List (Symbol × Word × Weight)) × Drains steps walk (map Ok rows)
       × (symbols ≡ map (λ x. x.0) rows) × (weights ≡ map (λ x. base x.2) rows)
-  parted-all steps started walk items symbols weights e drained p =
-      (p.rows, subst (λ s. Drains steps s (map Ok p.rows)) e (subst (λ xs. Drains steps started xs) p.came drained), p.symbols_are,
-          p.weights_are)
+  parted-all steps started walk items symbols weights e drained p = (
+    p.rows,
+    subst (λ s. Drains steps s (map Ok p.rows)) e (subst (λ xs. Drains steps started xs) p.came drained),
+    p.symbols_are,
+    p.weights_are,
+  )
 
 -- these are the symbols and the weights of the rows that the items are
 pub parted-rows : {Symbol Word Weight : Type 0} (base : Weight → Word) (whole : Word → ℕ) (read : List (Symbol × Word × Weight)) (symbols : List Symbol) (weights : List Word)

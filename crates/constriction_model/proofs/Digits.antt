@@ -71,5 +71,9 @@ pub digits_between : (k n : ℕ) → 2 ^ k < n → n ≤ 2 ^ suc k → digits (n
 digits_between zero n more most =
     omega (arith, digits_step n (omega arith), digits_two (n - n / 2) (omega arith))
 digits_between (suc k) n more most =
-    omega (arith, pow_pos k, digits_step n (omega (arith, pow_pos k)),
-        digits_between k (n - n / 2) (omega arith) (omega arith))
+    omega (
+      arith,
+      pow_pos k,
+      digits_step n (omega (arith, pow_pos k)),
+      digits_between k (n - n / 2) (omega arith) (omega arith),
+    )

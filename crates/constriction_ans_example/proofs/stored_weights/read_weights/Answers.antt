@@ -13,7 +13,7 @@ returns-in_err-count-clause-short g c = λ is.
     let p = err_from_is_err_and c.from_residual.result c.from_residual.ensures.1 in
     let same : c.in_err-count.field-0.0 ≡ CoderError.Frontend TooFewWords = cc (p.1, p.2) in
     short-weights g.Source.ReadWords.read_gives g.Source.ReadWords.tells_upcoming g.met.Source.ReadWords.reads_told _
-        c.next_word.new.source (record {
+    c.next_word.new.source (record {
       words = [];
       begins = tt;
       reached = c.args.source.now;

@@ -27,6 +27,6 @@ returns g c =
     let given : AlwaysYields (copies fronts) (λ x. x) c.copied.result c.args.added.now =
     subst (λ (ws : List ℕ). AlwaysYields (copies fronts) (λ x. x) c.copied.result ws) here (Copied-slice c.copied.result) in
     in-order (λ s w r t. WritesTo s g.Buf.SafeBufMut.with_words w r t) (λ s ws. (state_of s).before ≡ ws) (copies fronts)
-        (λ s w r t h. Overwrites-told state_of s w r t h.0)
+    (λ s w r t h. Overwrites-told state_of s w r t h.0)
     c.args.cursor.now c.copied.result c.args.added.now c.extending_counts.new.sink (state_of c.args.cursor.now).before
     c.extending_counts.result c.extending_counts.ensures.gives (record { runs = given }) refl

@@ -9,7 +9,7 @@ returns-clause-stored g c =
     (walked-stored g.M.IterableEntropyModel.stands_for g.M.IterableEntropyModel.may_refuse g.M.Probability.WholeNumber.whole
     g.M.Probability.WholeNumber.base g.M.SymbolTable.Iterator.next_gives g.M.IterableEntropyModel.rows_left M.steps_law
     (g.M.EntropyModel.rows c.args.model) c.symbol_table.result c.symbol_table.ensures.all g.M.Symbol.PartialEq.eq
-        g.M.Probability.WholeNumber.BITS g.row.PRECISION
+    g.M.Probability.WholeNumber.BITS g.row.PRECISION
     (M.tile_law c.args.model) c.in_ok-cdf.cdf.items c.in_ok-cdf.ensures.ok).0
 
 pub returns-clause-distinct : goal.returns-clause-distinct
@@ -18,7 +18,7 @@ returns-clause-distinct g c =
     (walked-distinct g.M.IterableEntropyModel.stands_for g.M.IterableEntropyModel.may_refuse g.M.Probability.WholeNumber.whole
     g.M.Probability.WholeNumber.base g.M.SymbolTable.Iterator.next_gives g.M.IterableEntropyModel.rows_left M.steps_law
     (g.M.EntropyModel.rows c.args.model) c.symbol_table.result c.symbol_table.ensures.all g.M.Symbol.PartialEq.eq
-        g.M.Probability.WholeNumber.BITS g.row.PRECISION
+    g.M.Probability.WholeNumber.BITS g.row.PRECISION
     (M.tile_law c.args.model) c.in_ok-cdf.cdf.items c.in_ok-cdf.ensures.ok).0
 
 pub returns-clause-rows : goal.returns-clause-rows
@@ -27,12 +27,12 @@ returns-clause-rows g c =
       (walked-stored g.M.IterableEntropyModel.stands_for g.M.IterableEntropyModel.may_refuse g.M.Probability.WholeNumber.whole
           g.M.Probability.WholeNumber.base g.M.SymbolTable.Iterator.next_gives g.M.IterableEntropyModel.rows_left M.steps_law
           (g.M.EntropyModel.rows c.args.model) c.symbol_table.result c.symbol_table.ensures.all g.M.Symbol.PartialEq.eq
-              g.M.Probability.WholeNumber.BITS g.row.PRECISION
+          g.M.Probability.WholeNumber.BITS g.row.PRECISION
           (M.tile_law c.args.model) c.in_ok-cdf.cdf.items c.in_ok-cdf.ensures.ok).1,
       (walked-distinct g.M.IterableEntropyModel.stands_for g.M.IterableEntropyModel.may_refuse g.M.Probability.WholeNumber.whole
           g.M.Probability.WholeNumber.base g.M.SymbolTable.Iterator.next_gives g.M.IterableEntropyModel.rows_left M.steps_law
           (g.M.EntropyModel.rows c.args.model) c.symbol_table.result c.symbol_table.ensures.all g.M.Symbol.PartialEq.eq
-              g.M.Probability.WholeNumber.BITS g.row.PRECISION
+          g.M.Probability.WholeNumber.BITS g.row.PRECISION
           (M.tile_law c.args.model) c.in_ok-cdf.cdf.items c.in_ok-cdf.ensures.ok).1,
     )
 
@@ -43,4 +43,4 @@ returns-in_err-cdf-clause-invalid g c = λ h.
     walked-repeat g.M.IterableEntropyModel.stands_for g.M.IterableEntropyModel.may_refuse g.M.Probability.WholeNumber.whole
     g.M.Probability.WholeNumber.base g.M.SymbolTable.Iterator.next_gives g.M.IterableEntropyModel.rows_left M.steps_law
     (g.M.EntropyModel.rows c.args.model) c.symbol_table.result c.symbol_table.ensures.all g.M.Symbol.PartialEq.eq
-        (c.entries_walked.ensures.invalid e)
+    (c.entries_walked.ensures.invalid e)

@@ -8,7 +8,7 @@ returns-in_default c = one_word c.args.line.now c.cut.result.0.now (rw c.in_defa
 pub returns-in-Some-parse_format : goal.returns-in-Some-parse_format
 returns-in-Some-parse_format c =
     with_format c.args.line.now c.cut.result.0.now c.in-Some.text.now c.cut-2.result.0.now _ c.in-Some-parse_format.format
-        c.parse_command.result
+    c.parse_command.result
     (rw c.in-Some.is at c.cut.ensures.parts) c.cut-2.ensures.parts (sym c.in-Some-parse_format.is ∙ c.parse_format.ensures)
     c.parse_command.ensures
 

@@ -14,7 +14,7 @@ returns-in-Ok-clause-row g c = (
 pub returns-in-Ok-clause-within : goal.returns-in-Ok-clause-within
 returns-in-Ok-clause-within g c =
     let row = paired-row g.P.WholeNumber.whole g.P.WholeNumber.BITS g.row.PRECISION c.args.entries.now c.requires.stored c.args.index
-        c.requires.in_bounds in
+    c.requires.in_bounds in
     rw (c.row_up_to-left.ensures.left, c.row_up_to-left.ensures.weight) (row.positive, row.within)
 
 pub returns-in-Err-clause-refused : goal.returns-in-Err-clause-refused

@@ -11,7 +11,7 @@ to_weight-requires g c =
     let told = λ (x : g.row.P.Denot × g.row.Symbol.Denot). g.P.WholeNumber.whole x.0 in
     let entries = c.args.entries.now in
     let row = paired-row g.P.WholeNumber.whole g.P.WholeNumber.BITS g.row.PRECISION entries c.requires.stored c.args.index
-        c.requires.in_bounds in
+    c.requires.in_bounds in
     let weight : g.P.WholeNumber.whole c.wrapping_minus.result ≡ get_or (weights_of g.row.PRECISION (map told entries)) c.args.index 0 =
     row-weight _ g.row.PRECISION (map told entries) c.requires.stored c.requires.fits c.args.index _ _ _
     (omega (arith, c.requires.in_bounds, length-map entries told))

@@ -70,12 +70,12 @@ leaves_none-requires-clause-one g c = one_is (g.P.WholeNumber.whole c.greatest-o
 pub leaves_none-requires-clause-range : goal.leaves_none-requires-clause-range
 leaves_none-requires-clause-range g c =
     room_below (g.P.WholeNumber.whole c.rows.left) (g.P.WholeNumber.whole c.rows.room) (2 ^ g.row.PRECISION) (2 ^ g.P.WholeNumber.BITS)
-        c.rows.invariant.2.rest c.greatest-room.ensures.within
+    c.rows.invariant.2.rest c.greatest-room.ensures.within
 
 pub plus-left-requires : goal.plus-left-requires
 plus-left-requires g c =
     end_below (g.P.WholeNumber.whole c.rows.left) (g.P.WholeNumber.whole c.in-Some.weight) (g.P.WholeNumber.whole c.rows.room)
-        (2 ^ g.row.PRECISION) (2 ^ g.P.WholeNumber.BITS)
+    (2 ^ g.row.PRECISION) (2 ^ g.P.WholeNumber.BITS)
     c.rows.invariant.2.rest c.greatest-room.ensures.within (c.leaves_none.ensures.some c.if-leaves_none.false).1
 
 pub minus-room-requires : goal.minus-room-requires
@@ -108,7 +108,7 @@ ended-requires-clause-fits g c = c.requires.fits
 pub is_inferred_last-requires : goal.is_inferred_last-requires
 is_inferred_last-requires g c =
     room_below (g.P.WholeNumber.whole c.rows.left) (g.P.WholeNumber.whole c.rows.room) (2 ^ g.row.PRECISION) (2 ^ g.P.WholeNumber.BITS)
-        c.rows.invariant.2.rest c.greatest-room.ensures.within
+    c.rows.invariant.2.rest c.greatest-room.ensures.within
 
 pub ended_inferred-requires-clause-positive : goal.ended_inferred-requires-clause-positive
 ended_inferred-requires-clause-positive g c = c.requires.positive

@@ -75,12 +75,12 @@ leaves_none-requires-clause-one g c = one_is (g.P.WholeNumber.whole c.greatest-o
 pub leaves_none-requires-clause-range : goal.leaves_none-requires-clause-range
 leaves_none-requires-clause-range g c =
     room_below (g.P.WholeNumber.whole c.rows.left) (g.P.WholeNumber.whole c.rows.room) (2 ^ g.row.PRECISION) (2 ^ g.P.WholeNumber.BITS)
-        c.rows.invariant.4.rest c.greatest-room.ensures.within
+    c.rows.invariant.4.rest c.greatest-room.ensures.within
 
 pub plus-left-requires : goal.plus-left-requires
 plus-left-requires g c =
     end_below (g.P.WholeNumber.whole c.rows.left) (g.P.WholeNumber.whole c.in-Some.weight) (g.P.WholeNumber.whole c.rows.room)
-        (2 ^ g.row.PRECISION) (2 ^ g.P.WholeNumber.BITS)
+    (2 ^ g.row.PRECISION) (2 ^ g.P.WholeNumber.BITS)
     c.rows.invariant.4.rest c.greatest-room.ensures.within (c.leaves_none.ensures.some c.if-leaves_none.false).1
 
 pub minus-room-requires : goal.minus-room-requires
@@ -113,7 +113,7 @@ take_inferred_last-requires-clause-one g c = one_is (g.P.WholeNumber.whole c.gre
 pub take_inferred_last-requires-clause-range : goal.take_inferred_last-requires-clause-range
 take_inferred_last-requires-clause-range g c =
     room_below (g.P.WholeNumber.whole c.rows.left) (g.P.WholeNumber.whole c.rows.room) (2 ^ g.row.PRECISION) (2 ^ g.P.WholeNumber.BITS)
-        c.rows.invariant.4.rest c.greatest-room.ensures.within
+    c.rows.invariant.4.rest c.greatest-room.ensures.within
 
 pub take_inferred_last-requires-clause-symbols_go : goal.take_inferred_last-requires-clause-symbols_go
 take_inferred_last-requires-clause-symbols_go g c = c.rows.invariant.2

@@ -24,7 +24,7 @@ returns-in-Some-clause-invalid g c = λ _ it jt v r given.
     bad-weight_after g.Symbols.Iterator.next_gives _ g.Weights.Iterator.next_gives _ g.Stored.TakesRows.symbol_eq
     g.met.Stored.TakesRows.symmetry_law g.Stored.TakesRows.holds g.P.WholeNumber.whole g.P.WholeNumber.BITS g.row.PRECISION
     c.args.stored.now c.args.symbols.now v c.args.left (g.P.WholeNumber.whole c.args.room) r c.args.infer_last _ _ c.args.weight
-        c.in-Some.field-0 given
+    c.in-Some.field-0 given
     c.in-Some.ensures.steps (omega (arith, fills.is))
 
 pub returns-in-Some-next-clause-invalid : goal.returns-in-Some-next-clause-invalid
@@ -35,7 +35,7 @@ returns-in-Some-next-clause-invalid g c = λ _ it jt v r given.
     rw infer (bad-many g.Symbols.Iterator.next_gives _ g.Weights.Iterator.next_gives _ g.Stored.TakesRows.symbol_eq
     g.met.Stored.TakesRows.symmetry_law g.Stored.TakesRows.holds g.P.WholeNumber.whole g.P.WholeNumber.BITS g.row.PRECISION
     c.args.stored.now c.args.symbols.now v c.args.left (g.P.WholeNumber.whole c.args.room) r _ _ _ _ c.args.weight took.symbol
-        c.in-Some-next.field-0
+    c.in-Some-next.field-0
     given c.in_default.ensures.steps took.came c.in-Some-next.ensures.steps)
 
 pub returns-clause-ok : goal.returns-clause-ok

@@ -35,5 +35,5 @@ returns-clause-ok g c = λ _ end it jt v r ends.
     rw infer (good-inferred_last g.Symbols.Iterator.next_gives _ g.Weights.Iterator.next_gives _ g.Stored.TakesRows.symbol_eq
     g.met.Stored.TakesRows.symmetry_law g.Stored.TakesRows.holds g.P.WholeNumber.whole g.P.WholeNumber.BITS g.row.PRECISION
     c.args.stored.now c.args.symbols.now v c.args.left (g.P.WholeNumber.whole c.args.room) r _ _ _ _
-        (g.P.WholeNumber.whole c.plus-weight.result)
+    (g.P.WholeNumber.whole c.plus-weight.result)
     ends took c.in_default.ensures.steps (omega (arith, c.plus-weight.ensures, c.requires.one)) last.1)

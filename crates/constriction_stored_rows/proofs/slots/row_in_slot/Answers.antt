@@ -47,7 +47,7 @@ returns-then-width_of_slots-eq1-clause-counted g c =
 pub returns-then-first-last-clause-found : goal.returns-then-first-last-clause-found
 returns-then-first-last-clause-found g c =
     slot_only g.row.PRECISION g.row.SLOT_BITS (g.Kind.Word.WholeNumber.whole c.args.quantile)
-        (map g.Kind.CdfEntry.cumulative c.args.entries.now)
+    (map g.Kind.CdfEntry.cumulative c.args.entries.now)
     c.rows_of_slot-first.result.0 c.rows_of_slot-first.result.1 c.if-first-last.true c.rows_of_slot-first.ensures.slot
 
 pub returns-then-first-last-clause-counted : goal.returns-then-first-last-clause-counted

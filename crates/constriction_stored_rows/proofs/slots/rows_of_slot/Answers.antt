@@ -27,7 +27,7 @@ to_number-row-requires g c =
     let within = alone-within width count lefts (map whole table) c.slot_of-slot.result c.requires.slots c.slot_of-slot.ensures.below one in
     let slot = slot-alone width count lefts (map whole table) c.slot_of-slot.result c.requires.slots c.slot_of-slot.ensures.below one in
     let row = read-whole whole table c.slot_of-slot.result c.index-table-slot.result (omega (arith, within, length-map table whole))
-        c.index-table-slot.is in
+    c.index-table-slot.is in
     let bound : whole c.index-table-slot.result < length c.args.entries.now =
     omega (arith, slot.from.in_bounds, row, length-map c.args.entries.now g.Kind.CdfEntry.cumulative) in
     search rules

@@ -26,11 +26,15 @@ filled_up-table-requires-clause-room g c =
     let next : ℕ = c.rows.next in
     let here : next < length entries = omega (arith, c.rows-test.true) in
     let to = entry-word g.Kind.CdfEntry.cumulative (slot_width g.row.PRECISION g.row.SLOT_BITS) entries next c.index-entries-next.result
-        _ c.first_word-end.result here
+    _ c.first_word-end.result here
     c.index-entries-next.is c.cumulative_of.ensures c.first_word-end.ensures in
     let below = c.requires.below next (omega (arith, here, length-map entries g.Kind.CdfEntry.cumulative)) in
-    omega (arith, word-within g.row.PRECISION g.row.SLOT_BITS _ c.first_word-end.result to below, c.words_of_table-words.ensures,
-        c.rows.invariant.4)
+    omega (
+      arith,
+      word-within g.row.PRECISION g.row.SLOT_BITS _ c.first_word-end.result to below,
+      c.words_of_table-words.ensures,
+      c.rows.invariant.4,
+    )
 
 pub filled_up-table-requires-clause-more : goal.filled_up-table-requires-clause-more
 filled_up-table-requires-clause-more g c =
@@ -70,9 +74,9 @@ rows-preserved g c =
     let to = entry-word g.Kind.CdfEntry.cumulative width entries next c.index-entries-next.result _ c.first_word-end.result here
     c.index-entries-next.is c.cumulative_of.ensures c.first_word-end.ensures in
     let filled = row-filled whole width (pow_pos (g.row.PRECISION - g.row.SLOT_BITS)) lefts c.rows.table.items
-        c.filled_up-table.result.items c.rows.row c.first_word-end.result
+    c.filled_up-table.result.items c.rows.row c.first_word-end.result
     c.requires.searchable.increases inv.2 inv.3 (omega (arith, inv.1, long)) c.rows.table.len c.rows.table.ok.0
-        c.filled_up-table.ensures.items next inv.0
+    c.filled_up-table.ensures.items next inv.0
     (omega (arith, here, long)) to in (
       ap (λ n. n + 1) c.from_number-row.ensures,
       rw c.from_number-row.ensures here,
@@ -102,8 +106,8 @@ returns g c =
     let inv = c.rows.invariant in
     let row : whole c.rows.row < length lefts = omega (arith, inv.1, long) in
     all-filled whole (slot_width g.row.PRECISION g.row.SLOT_BITS) (pow_pos (g.row.PRECISION - g.row.SLOT_BITS)) lefts c.rows.table.items
-        c.filled_up.result.items c.rows.row c.words_of_table-words.result
+    c.filled_up.result.items c.rows.row c.words_of_table-words.result
     c.requires.searchable.increases inv.2 inv.3 row c.rows.table.len c.rows.table.ok.0 c.filled_up.ensures.items g.row.PRECISION
-        g.row.SLOT_BITS refl
+    g.row.SLOT_BITS refl
     c.words_of_table-words.ensures (omega (arith, inv.0, row, long, c.rows-test.false))
     (c.requires.below (whole c.rows.row) row)

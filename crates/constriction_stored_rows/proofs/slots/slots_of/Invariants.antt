@@ -9,7 +9,7 @@ invariant-rows g l =
     (g.Kind.Word.WholeNumber.whole l.row + 1 ≡ l.next) ×
     (g.Kind.Word.WholeNumber.whole l.row < length l.entries) ×
     HasWords (slot_width g.row.PRECISION g.row.SLOT_BITS) (map g.Kind.CdfEntry.cumulative l.entries)
-        (map g.Kind.Word.WholeNumber.whole l.table.items) ×
+    (map g.Kind.Word.WholeNumber.whole l.table.items) ×
     IsFirstWord (slot_width g.row.PRECISION g.row.SLOT_BITS)
     (slice_index (map g.Kind.CdfEntry.cumulative l.entries) (g.Kind.Word.WholeNumber.whole l.row)) (length l.table.items) ×
     (l.words ≤ vec_capacity l.table)

@@ -12,7 +12,7 @@ turns-init g c =
       ends = ends.1;
       so_far =
           given-none g.I.IntoIter.Iterator.next_gives (entry_of g.E.EncodesOver.symbol_eq (g.E.EncodesOver.rows c.args.model.now))
-              g.row.PRECISION
+          g.row.PRECISION
           c.into_iter-given.result (content c.args.self.now.state (g.Backend.WordStack.words_of c.args.self.now.words));
     }
 
@@ -25,7 +25,7 @@ turns-preserved g c =
       ends = goes.1;
       so_far =
           given-more g.I.IntoIter.Iterator.next_gives (entry_of g.E.EncodesOver.symbol_eq (g.E.EncodesOver.rows c.args.model.now))
-              g.row.PRECISION
+          g.row.PRECISION
           _ c.turns.given c.next.new.self c.in-Some.symbol _ _ _ c.turns.invariant.so_far c.in-Some.ensures.steps
           c.in-Ok.ensures.ok;
     }

@@ -9,7 +9,7 @@ slot_probe-requires-clause-slots g c = rw c.entries.ensures c.slots.ensures
 pub returns : goal.returns
 returns g c =
     let probed = slot-probed g.Model.Probability.WholeNumber.BITS g.row.PRECISION g.row.SLOT_BITS
-        (g.Model.EntropyModel.rows c.args.self.now.model)
+    (g.Model.EntropyModel.rows c.args.self.now.model)
     (g.met.Model.StoresRows.stored_law c.args.self.now.model) (g.Model.Probability.WholeNumber.whole c.args.quantile) c.slot_probe.result.0
     (map g.Model.Kind.CdfEntry.cumulative c.entries.result.now)
     (map g.Model.Kind.CdfEntry.cumulative c.slot_probe.result.1.entries.now) c.entries.ensures

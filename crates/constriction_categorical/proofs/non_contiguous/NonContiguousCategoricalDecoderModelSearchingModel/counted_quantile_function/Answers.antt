@@ -28,7 +28,7 @@ cloned_row_at-requires-clause-in_bounds g c =
     let whole = g.Probability.WholeNumber.whole in
     let entries = g.Cdf.SafeBuf.words_of c.args.self.now.cdf in
     let found = paired-index whole g.Probability.WholeNumber.BITS g.row.PRECISION entries c.args.self.now.stored
-        c.cdf_entries-entries.result.now
+    c.cdf_entries-entries.result.now
     c.cdf_entries-entries.ensures (whole c.args.quantile) c.row_in_entries-index.result.0 c.requires.in_range
     c.row_in_entries-index.ensures.found in
     rw c.cdf_entries-entries.ensures found.1
@@ -38,7 +38,7 @@ returns-in-Ok-clause-row g c =
     let whole = g.Probability.WholeNumber.whole in
     let entries = g.Cdf.SafeBuf.words_of c.args.self.now.cdf in
     let found = paired-index whole g.Probability.WholeNumber.BITS g.row.PRECISION entries c.args.self.now.stored
-        c.cdf_entries-entries.result.now
+    c.cdf_entries-entries.result.now
     c.cdf_entries-entries.ensures (whole c.args.quantile) c.row_in_entries-index.result.0 c.requires.in_range
     c.row_in_entries-index.ensures.found in
     let at = rw c.cdf_entries-entries.ensures at c.in-Ok.ensures.row in
@@ -50,7 +50,7 @@ returns-in-Err-clause-refused g c =
     let whole = g.Probability.WholeNumber.whole in
     let entries = g.Cdf.SafeBuf.words_of c.args.self.now.cdf in
     let found = paired-index whole g.Probability.WholeNumber.BITS g.row.PRECISION entries c.args.self.now.stored
-        c.cdf_entries-entries.result.now
+    c.cdf_entries-entries.result.now
     c.cdf_entries-entries.ensures (whole c.args.quantile) c.row_in_entries-index.result.0 c.requires.in_range
     c.row_in_entries-index.ensures.found in
     let at = rw c.cdf_entries-entries.ensures at c.in-Err.ensures.refused in

@@ -18,7 +18,7 @@ returns-in-Ok g c =
     let bits = g.Probability.WholeNumber.BITS in
     let step = paired-last whole bits g.row.PRECISION t.cdf.now t.stored
     t.from t.to _ _ c.index-self-index.result some t.in_bounds c.index-self-index.is c.paired_row_at-left.ensures.left
-        c.paired_row_at-left.ensures.weight in
+    c.paired_row_at-left.ensures.weight in
     record {
       steps = (c.index-self-index.result.1, rw (← c.index-self-index.is) at c.in-Ok.ensures.cases, step);
       goes = record { on = λ _. (tt, tt, fewer-last _ _ _ step); keeps = tt; rests = λ _. tt };
@@ -32,7 +32,7 @@ returns-in-Err g c =
     let bits = g.Probability.WholeNumber.BITS in
     let step = paired-last whole bits g.row.PRECISION t.cdf.now t.stored
     t.from t.to _ _ c.index-self-index.result some t.in_bounds c.index-self-index.is c.paired_row_at-left.ensures.left
-        c.paired_row_at-left.ensures.weight in
+    c.paired_row_at-left.ensures.weight in
     record {
       steps = (_, rw (← c.index-self-index.is) at c.in-Err.ensures.cases, step);
       goes = record { on = λ _. (tt, tt, fewer-last _ _ _ step); keeps = tt; rests = λ _. tt };

@@ -11,7 +11,7 @@ returns-clause-stored g c =
     (walked-stored g.M.IterableEntropyModel.stands_for g.M.IterableEntropyModel.may_refuse g.M.Probability.WholeNumber.whole
     g.M.Probability.WholeNumber.base g.M.SymbolTable.Iterator.next_gives g.M.IterableEntropyModel.rows_left M.steps_law
     (g.M.EntropyModel.rows c.args.model) c.symbol_table.result c.symbol_table.ensures.all g.M.Symbol.PartialEq.eq
-        g.M.Probability.WholeNumber.BITS g.row.PRECISION
+    g.M.Probability.WholeNumber.BITS g.row.PRECISION
     (M.tile_law c.args.model) c.in_ok-cdf.cdf.items good).0
 
 pub returns-clause-distinct : goal.returns-clause-distinct
@@ -24,7 +24,7 @@ returns-clause-distinct g c =
     (walked-distinct g.M.IterableEntropyModel.stands_for g.M.IterableEntropyModel.may_refuse g.M.Probability.WholeNumber.whole
     g.M.Probability.WholeNumber.base g.M.SymbolTable.Iterator.next_gives g.M.IterableEntropyModel.rows_left M.steps_law
     (g.M.EntropyModel.rows c.args.model) c.symbol_table.result c.symbol_table.ensures.all g.M.Symbol.PartialEq.eq
-        g.M.Probability.WholeNumber.BITS g.row.PRECISION
+    g.M.Probability.WholeNumber.BITS g.row.PRECISION
     (M.tile_law c.args.model) c.in_ok-cdf.cdf.items good).0
 
 pub returns-clause-rows : goal.returns-clause-rows
@@ -37,11 +37,11 @@ returns-clause-rows g c =
       (walked-stored g.M.IterableEntropyModel.stands_for g.M.IterableEntropyModel.may_refuse g.M.Probability.WholeNumber.whole
           g.M.Probability.WholeNumber.base g.M.SymbolTable.Iterator.next_gives g.M.IterableEntropyModel.rows_left M.steps_law
           (g.M.EntropyModel.rows c.args.model) c.symbol_table.result c.symbol_table.ensures.all g.M.Symbol.PartialEq.eq
-              g.M.Probability.WholeNumber.BITS g.row.PRECISION
+          g.M.Probability.WholeNumber.BITS g.row.PRECISION
           (M.tile_law c.args.model) c.in_ok-cdf.cdf.items good).1,
       (walked-distinct g.M.IterableEntropyModel.stands_for g.M.IterableEntropyModel.may_refuse g.M.Probability.WholeNumber.whole
           g.M.Probability.WholeNumber.base g.M.SymbolTable.Iterator.next_gives g.M.IterableEntropyModel.rows_left M.steps_law
           (g.M.EntropyModel.rows c.args.model) c.symbol_table.result c.symbol_table.ensures.all g.M.Symbol.PartialEq.eq
-              g.M.Probability.WholeNumber.BITS g.row.PRECISION
+          g.M.Probability.WholeNumber.BITS g.row.PRECISION
           (M.tile_law c.args.model) c.in_ok-cdf.cdf.items good).1,
     )

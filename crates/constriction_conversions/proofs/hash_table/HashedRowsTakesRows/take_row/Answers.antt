@@ -9,7 +9,7 @@ returns-clause-apart g c = λ ok rows h.
     let base = g.Probability.WholeNumber.base in
     let eq = g.Symbol.PartialEq.eq in
     hashed-member eq g.met.Symbol.Eq.laws (λ e. (whole e.left, whole (base e.weight))) rows (get eq c.args.self.now.table) c.args.symbol
-        false h.1
+    false h.1
     (c.insert_apart.ensures.apart ok)
 
 pub returns-clause-repeated : goal.returns-clause-repeated
@@ -18,5 +18,5 @@ returns-clause-repeated g c = λ bad rows h.
     let base = g.Probability.WholeNumber.base in
     let eq = g.Symbol.PartialEq.eq in
     hashed-member eq g.met.Symbol.Eq.laws (λ e. (whole e.left, whole (base e.weight))) rows (get eq c.args.self.now.table) c.args.symbol
-        true h.1
+    true h.1
     (c.insert_apart.ensures.repeated bad)
