@@ -38,7 +38,8 @@ part_within precision range unit left weight within fits =
 
 module _ {Symbol S E : Type 0} (Stands : Symbol → Symbol → Type 0) (rows : List (Row Symbol))
     (gives : S → Result (Option ℕ) E → S → Type 0) (precision : ℕ) (own answer : Symbol) (range offset unit left weight quantile : ℕ)
-    (from to : S) (is : unit ≡ range / 2 ^ precision) (found : IsRowOf rows quantile (record { symbol = own; left = left; weight = weight }))
+    (from to : S) (is : unit ≡ range / 2 ^ precision) (found : IsRowOf rows quantile
+    (record { symbol = own; left = left; weight = weight }))
     (stands : Stands own answer) (low : unit * left ≤ offset) (high : offset < unit * (left + weight)) where
   holds : HoldsPoint precision left weight (interval range offset)
   holds = record {
@@ -86,7 +87,8 @@ module _ {Symbol S E : Type 0} (Stands : Symbol → Symbol → Type 0) (rows : L
 
 -- a run stops at a step that fails, which leaves what is held
 module _ {Symbol S E : Type 0} (Stands : Symbol → Symbol → Type 0) (MayRefuse : Symbol → Type 0) (rows : List (Row Symbol))
-    (gives : S → Result (Option ℕ) E → S → Type 0) (precision : ℕ) (old : Held S) (range offset : ℕ) (reached : S) (new_range new_offset : ℕ)
+    (gives : S → Result (Option ℕ) E → S → Type 0) (precision : ℕ) (old : Held S) (range offset : ℕ) (reached : S)
+    (new_range new_offset : ℕ)
     (left : S) (stays : new_range ≡ range) (stands : new_offset ≡ offset) where
   fault : {T : Type 0} (error : CoderError RangeDecodingFault E)
       → ((let r : Result T (CoderError RangeDecodingFault E) = Err error in r ≡ Err (Frontend InvalidData))

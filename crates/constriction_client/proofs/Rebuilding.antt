@@ -96,7 +96,8 @@ module _ {Symbol Word Weight Refusal : Type 0} (base : Weight → Word) where
   )
 
 -- these are the symbols and the weights of the rows that the items are
-pub parted-rows : {Symbol Word Weight : Type 0} (base : Weight → Word) (whole : Word → ℕ) (read : List (Symbol × Word × Weight)) (symbols : List Symbol) (weights : List Word)
+pub parted-rows : {Symbol Word Weight : Type 0} (base : Weight → Word) (whole : Word → ℕ) (read : List (Symbol × Word × Weight))
+    (symbols : List Symbol) (weights : List Word)
     → symbols ≡ map (λ x. x.0) read → weights ≡ map (λ x. base x.2) read
     → (symbols ≡ symbols_of (map (row_of whole base) read))
     × (map whole weights ≡ map (λ r. r.weight) (map (row_of whole base) read))

@@ -15,7 +15,8 @@ as-many R (x ∷ xs) [] h = absurd h
 as-many R (x ∷ xs) (y ∷ ys) h = ap suc (as-many R xs ys h.1)
 
 -- the pairs that were added are those of so many of the words to come
-pub pairs-of-first : {Symbol Word Source Error : Type 0} (Stands : Symbol → Symbol → Type 0) (precision : ℕ) (rows : List (Row Symbol)) (whole : Word → ℕ)
+pub pairs-of-first : {Symbol Word Source Error : Type 0} (Stands : Symbol → Symbol → Type 0) (precision : ℕ) (rows : List (Row Symbol))
+    (whole : Word → ℕ)
     (gives : Source → Result (Option Word) Error → Source → Type 0) (tells : Source → List Word → Type 0) (count : ℕ)
     (s : Source) (old : List (Symbol × Word)) (n : ℕ) (t : Source) (new : List (Symbol × Word)) (upcoming : List Word)
     → ReadsPairs Stands precision rows whole gives tells count s old (Ok n) t new → tells s upcoming
@@ -28,7 +29,8 @@ pairs-of-first Stands precision rows whole gives tells count s old n t new upcom
     ∙ take-append_seam r.words left.0 in
     (r.pairs, rw first r.of_words, r.added)
 
-pub pairs-if-read : {Symbol Word Source Error : Type 0} (Stands : Symbol → Symbol → Type 0) (precision : ℕ) (rows : List (Row Symbol)) (whole : Word → ℕ)
+pub pairs-if-read : {Symbol Word Source Error : Type 0} (Stands : Symbol → Symbol → Type 0) (precision : ℕ) (rows : List (Row Symbol))
+    (whole : Word → ℕ)
     (gives : Source → Result (Option Word) Error → Source → Type 0) (tells : Source → List Word → Type 0) (count : ℕ)
     (s : Source) (old : List (Symbol × Word)) (r : Result ℕ (CoderError ReadFault Error)) (t : Source)
     (new : List (Symbol × Word)) (upcoming : List Word)

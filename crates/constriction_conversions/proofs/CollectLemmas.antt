@@ -20,7 +20,8 @@ use Rattle.constriction_stored_rows.proofs.ReadLemmas.{not-distinct, none-distin
 
 module _ {Symbol Word Weight Refusal T : Type 0} (steps : T → Option (Result (Symbol × Word × Weight) Refusal) → T → Type 0) (it : T) where
   -- one row more of a walk
-  pub walked-more : (xs : List (Symbol × Word × Weight)) (u v : T) (o : Result (Symbol × Word × Weight) Refusal) (x : Symbol × Word × Weight)
+  pub walked-more : (xs : List (Symbol × Word × Weight)) (u v : T) (o : Result (Symbol × Word × Weight) Refusal)
+      (x : Symbol × Word × Weight)
       → Yields steps it (map Ok xs) u → steps u (Some o) v → o ≡ Ok x → Yields steps it (map Ok (xs ++ x ∷ [])) v
   walked-more xs u v o x w step e =
       let one : steps u (Some (Ok x)) v = subst (λ (p : Result (Symbol × Word × Weight) Refusal). steps u (Some p) v) e step in
@@ -94,7 +95,8 @@ module _ {Symbol Word Weight Refusal T : Type 0} (Stands : Symbol → Symbol →
     → YieldsRow Stands MayRefuse whole base rows_left t r u)
     (rows : List (Row Symbol)) (it : T) (all : rows_left it ≡ rows) where
   -- what a walk to the end gives, where it gives no refusal
-  pub walked-all : (xs : List (Symbol × Word × Weight)) → Drains steps it (map Ok xs) → StandForRows Stands (map (row_of whole base) xs) rows
+  pub walked-all : (xs : List (Symbol × Word × Weight)) → Drains steps it (map Ok xs)
+      → StandForRows Stands (map (row_of whole base) xs) rows
   walked-all xs d =
       subst (λ (rs : List (Row Symbol)). StandForRows Stands (map (row_of whole base) xs) rs) all
       ((gives-all-rows Stands MayRefuse whole base steps rows_left law it (map Ok xs) d).unrefused xs refl)
@@ -113,7 +115,8 @@ module _ {Symbol Word Weight Refusal T : Type 0} (Stands : Symbol → Symbol →
           good.1,
           (
             good.2,
-            subst (IsDistinct eq) (sym (walked-symbols good.0)) (distinct-made eq laws Stands equal made rows (walked-all good.0 good.1) differ),
+            subst (IsDistinct eq) (sym (walked-symbols good.0)) (distinct-made eq laws Stands equal made rows
+                (walked-all good.0 good.1) differ),
           ),
         )
 

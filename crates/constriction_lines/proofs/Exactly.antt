@@ -111,7 +111,8 @@ format_read U16Precision12 = refl
 
 format_spelled : (word : List ℕ) (format : Format) → read_format word ≡ Some format → word ≡ format_word format
 unfolding read_format
-format_spelled word format e = same_text word (format_word format) (sym (found_passes (λ format. bytes_eq word (format_word format)) formats format e))
+format_spelled word format e = same_text word (format_word format) (sym
+    (found_passes (λ format. bytes_eq word (format_word format)) formats format e))
 
 request_read : (request : Request) → read_request (keyword request) (format_of request) (numbers_of request) ≡ Some request
 unfolding read_request

@@ -19,7 +19,8 @@ uncompared-distinct [] = tt
 uncompared-distinct (s ∷ ss) = (all-uncompared ss, uncompared-distinct ss)
 
 module _ {Word Symbol : Type 0} (eq : Symbol → Symbol → Bool) (whole : Word → ℕ) (bits precision : ℕ) (entries : List (Word × Symbol))
-    (ss : List Symbol) (ws : List ℕ) (a : AreAccepted (λ _ _. false) bits precision ss ws) (h : HoldsRows whole entries (rows_of ss ws)) where
+    (ss : List Symbol) (ws : List ℕ) (a : AreAccepted (λ _ _. false) bits precision ss ws)
+    (h : HoldsRows whole entries (rows_of ss ws)) where
   -- the symbols of the entries are those that were read
   pub read-symbols : map (λ x. x.1) entries ≡ ss
   read-symbols = h.0 ∙ accepted-symbols (λ _ _. false) bits precision ss ws a

@@ -106,10 +106,12 @@ paired-of_rows whole bits precision rows entries t h =
     (rw h.1 cdf.0, rw (h.0, h.1) cdf.1)
 
 -- one row more is held by one entry more
-pub held-more : {Word Symbol : Type 0} (whole : Word → ℕ) (entries : List (Word × Symbol)) (rows : List (Row Symbol)) (r : Row Symbol) (left : Word)
+pub held-more : {Word Symbol : Type 0} (whole : Word → ℕ) (entries : List (Word × Symbol)) (rows : List (Row Symbol)) (r : Row Symbol)
+    (left : Word)
     → HoldsRows whole entries rows → whole left ≡ r.left → HoldsRows whole (entries ++ (left, r.symbol) ∷ []) (rows ++ r ∷ [])
 held-more whole entries rows r left h e = (
-  map-append (λ x. x.1) entries ((left, r.symbol) ∷ []) ∙ ap (λ ss. ss ++ r.symbol ∷ []) h.0 ∙ sym (map-append (λ x. x.symbol) rows (r ∷ [])),
+  map-append (λ x. x.1) entries ((left, r.symbol) ∷ []) ∙ ap (λ ss. ss ++ r.symbol ∷ []) h.0 ∙ sym
+      (map-append (λ x. x.symbol) rows (r ∷ [])),
   map-append (λ x. whole x.0) entries ((left, r.symbol) ∷ []) ∙ ap (λ ns. ns ++ whole left ∷ []) h.1
       ∙ ap (λ n. map (λ x. x.left) rows ++ n ∷ []) e ∙ sym (map-append (λ x. x.left) rows (r ∷ [])),
 )
@@ -158,7 +160,8 @@ module _ {Symbol Word : Type 0} (whole : Word → ℕ) (IsClone : Symbol → Sym
   pub cloned-rows : (precision : ℕ) (entries cloned : List (Word × Symbol)) → AreEntriesCloned IsClone entries cloned
       → StandForRows IsClone (rows_paired whole precision cloned) (rows_paired whole precision entries)
   cloned-rows precision entries cloned h =
-      subst (λ (ls : List ℕ). StandForRows IsClone (rows_of (map (λ x. x.1) cloned) (weights_of precision ls)) (rows_paired whole precision entries))
+      subst (λ (ls : List ℕ). StandForRows IsClone (rows_of (map (λ x. x.1) cloned) (weights_of precision ls))
+      (rows_paired whole precision entries))
       (sym (cloned-words entries cloned h))
       (cloned-from 0 (map (λ x. x.1) cloned) (map (λ x. x.1) entries) (weights_of precision (map (λ x. whole x.0) entries))
       (cloned-symbols entries cloned h))

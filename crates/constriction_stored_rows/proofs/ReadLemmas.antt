@@ -116,7 +116,8 @@ module _ {S T Symbol W Stored : Type 0} (steps : S → Option Symbol → S → T
     took-held : (u' : S) (stored' : Stored) (w : W) (t : TookRow steps eq holds u stored (whole left) (whole w) u' stored')
         → holds stored' (rows_of (r.symbols ++ t.symbol ∷ []) (map whole (r.weights ++ w ∷ [])))
     took-held u' stored' w t = subst (holds stored')
-        (rows-push t.symbol (whole w) (whole left) refl ∙ ap (rows_of (r.symbols ++ t.symbol ∷ [])) (sym (map-append whole r.weights (w ∷ []))))
+        (rows-push t.symbol (whole w) (whole left) refl ∙ ap (rows_of (r.symbols ++ t.symbol ∷ []))
+        (sym (map-append whole r.weights (w ∷ []))))
         (t.held (rows_of r.symbols (map whole r.weights)) r.held)
 
     took-distinct : (u' : S) (stored' : Stored) (weight : ℕ) (t : TookRow steps eq holds u stored (whole left) weight u' stored')

@@ -38,7 +38,8 @@ module _ {Word Symbol Key : Type 0} (eq : Symbol → Symbol → Bool) (laws : Is
     absent b h = ap (λ s. list_any (eq s) (map (λ x. x.1) (take n entries))) (sym is) ∙ sym (seen.holds k) ∙ h
 
     -- one symbol more, which is equal to none before it
-    pub seen-more : (next : Key → Bool) → has k ≡ false → ((q : Key) → next q ≡ cond (eq (now k) (now q)) true (has q)) → AreSeen next (n + 1)
+    pub seen-more : (next : Key → Bool) → has k ≡ false → ((q : Key) → next q ≡ cond (eq (now k) (now q)) true (has q))
+        → AreSeen next (n + 1)
     seen-more next apart updates = record {
       holds = λ q.
           updates q

@@ -44,7 +44,8 @@ returns-clause-accepted g c = λ is distinct.
     let read = table.1.told (weights_as_words weights) coming in
     let weights_are : table.0 ≡ weights = same-weights weights table.0 read.0 read.1 in
     let given = rw c.requires.symbols at distinct in
-    let good = (tiling-rebuilds g.M.Symbol.PartialEq.eq 32 g.row.PRECISION rows (g.met.M.IterableEntropyModel.tile_law c.args.model) given).0 in
+    let good = (tiling-rebuilds g.M.Symbol.PartialEq.eq 32 g.row.PRECISION rows
+    (g.met.M.IterableEntropyModel.tile_law c.args.model) given).0 in
     let accepted : AreAccepted g.M.Symbol.PartialEq.eq 32 g.row.PRECISION c.args.symbols.items table.0 =
     rw (weights_are, c.requires.symbols) good in
     table.2 accepted

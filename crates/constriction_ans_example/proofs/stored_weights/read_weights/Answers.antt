@@ -61,7 +61,8 @@ loop-done-preserved g c = record {
   );
   room = c.in-Ok.ensures.room;
   so_far =
-      subst (λ (ws : List ℕ). Reads g.Source.ReadWords.read_gives c.args.source.now (c.in_ok-count.count ∷ ws) c.next_word-in-loop-done.new.source)
+      subst (λ (ws : List ℕ). Reads g.Source.ReadWords.read_gives c.args.source.now (c.in_ok-count.count ∷ ws)
+      c.next_word-in-loop-done.new.source)
       (sym c.in-Ok.ensures.items)
       (reads_more g.Source.ReadWords.read_gives c.args.source.now (c.in_ok-count.count ∷ c.loop-done.weights.items) c.loop-done.source
       c.in_ok-weight.weight _ c.loop-done.invariant.so_far c.in_ok-weight.ensures.ok);

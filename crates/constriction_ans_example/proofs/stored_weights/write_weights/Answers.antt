@@ -32,7 +32,8 @@ loop-weight-preserved g c =
     record {
       goes_on = c.write-in-loop-weight.ensures.goes_on;
       so_far =
-          subst (λ (ws : List ℕ). Writes g.Sink.WriteWords.write_gives c.args.sink.now (length weights ∷ ws) c.write-in-loop-weight.new.self)
+          subst (λ (ws : List ℕ). Writes g.Sink.WriteWords.write_gives c.args.sink.now (length weights ∷ ws)
+          c.write-in-loop-weight.new.self)
           (sym (take_more weights i 0 c.loop-weight-test.true))
           (writes_more g.Sink.WriteWords.write_gives c.args.sink.now (length weights ∷ take i weights) c.loop-weight.sink _ _
           c.loop-weight.invariant.so_far c.in_ok-write-2.ensures.gives);

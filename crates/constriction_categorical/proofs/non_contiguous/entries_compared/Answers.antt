@@ -32,7 +32,8 @@ returns-clause-told g c =
     (WasReadOf g.W.IntoIterator.into_iter_gives g.W.IntoIter.Iterator.next_gives c.args.weights) g.Symbol.PartialEq.eq c.rows_read.result
     (read-of_both g.S.IntoIterator.into_iter_gives g.S.IntoIter.Iterator.next_gives c.args.symbols g.W.IntoIterator.into_iter_gives
     g.W.IntoIter.Iterator.next_gives c.args.weights
-    (AreAccepted g.Symbol.PartialEq.eq g.P.WholeNumber.BITS g.row.PRECISION) (completed g.row.PRECISION c.args.infer_last) g.P.WholeNumber.whole
+    (AreAccepted g.Symbol.PartialEq.eq g.P.WholeNumber.BITS g.row.PRECISION) (completed g.row.PRECISION c.args.infer_last)
+    g.P.WholeNumber.whole
     (λ v ss ws. HoldsRows g.P.WholeNumber.whole v.items (rows_of ss ws))
     c.into_iter-symbols.result c.into_iter-symbols.ensures.into_iter_gives
     c.into_iter.result c.into_iter.ensures.into_iter_gives c.rows_read.result c.rows_read.ensures.ok c.rows_read.ensures.invalid)
@@ -44,7 +45,8 @@ returns-clause-stored g c =
     (WasReadOf g.W.IntoIterator.into_iter_gives g.W.IntoIter.Iterator.next_gives c.args.weights) g.Symbol.PartialEq.eq c.rows_read.result
     (read-of_both g.S.IntoIterator.into_iter_gives g.S.IntoIter.Iterator.next_gives c.args.symbols g.W.IntoIterator.into_iter_gives
     g.W.IntoIter.Iterator.next_gives c.args.weights
-    (AreAccepted g.Symbol.PartialEq.eq g.P.WholeNumber.BITS g.row.PRECISION) (completed g.row.PRECISION c.args.infer_last) g.P.WholeNumber.whole
+    (AreAccepted g.Symbol.PartialEq.eq g.P.WholeNumber.BITS g.row.PRECISION) (completed g.row.PRECISION c.args.infer_last)
+    g.P.WholeNumber.whole
     (λ v ss ws. HoldsRows g.P.WholeNumber.whole v.items (rows_of ss ws))
     c.into_iter-symbols.result c.into_iter-symbols.ensures.into_iter_gives
     c.into_iter.result c.into_iter.ensures.into_iter_gives c.rows_read.result c.rows_read.ensures.ok c.rows_read.ensures.invalid)
@@ -56,7 +58,8 @@ returns-clause-distinct g c =
     (WasReadOf g.W.IntoIterator.into_iter_gives g.W.IntoIter.Iterator.next_gives c.args.weights) g.Symbol.PartialEq.eq c.rows_read.result
     (read-of_both g.S.IntoIterator.into_iter_gives g.S.IntoIter.Iterator.next_gives c.args.symbols g.W.IntoIterator.into_iter_gives
     g.W.IntoIter.Iterator.next_gives c.args.weights
-    (AreAccepted g.Symbol.PartialEq.eq g.P.WholeNumber.BITS g.row.PRECISION) (completed g.row.PRECISION c.args.infer_last) g.P.WholeNumber.whole
+    (AreAccepted g.Symbol.PartialEq.eq g.P.WholeNumber.BITS g.row.PRECISION) (completed g.row.PRECISION c.args.infer_last)
+    g.P.WholeNumber.whole
     (λ v ss ws. HoldsRows g.P.WholeNumber.whole v.items (rows_of ss ws))
     c.into_iter-symbols.result c.into_iter-symbols.ensures.into_iter_gives
     c.into_iter.result c.into_iter.ensures.into_iter_gives c.rows_read.result c.rows_read.ensures.ok c.rows_read.ensures.invalid)

@@ -30,6 +30,7 @@ rows-preserved g c =
 
 pub returns : goal.returns
 returns g c =
-    let all = collected-end g.Walk.Iterator.next_gives c.args.walk (λ _ _. false) (λ _ _. refl) c.rows.walk c.next.new.self c.rows.entries.items
+    let all = collected-end g.Walk.Iterator.next_gives c.args.walk (λ _ _. false) (λ _ _. refl) c.rows.walk c.next.new.self
+    c.rows.entries.items
     c.rows.invariant.3 c.in_default.ensures.steps in
     (all.0, all.1, all.2.0)

@@ -19,4 +19,5 @@ returns-in-StackRead-clause-moved g c =
 pub returns-in-QueueRead-clause-moved : goal.returns-in-QueueRead-clause-moved
 returns-in-QueueRead-clause-moved g c =
     rw c.in-QueueRead.is
-    (queue_moves (state_of c.args.cursor.now) c.read-in-QueueRead.result (state_of c.read-in-QueueRead.new.self) c.read-in-QueueRead.ensures.gives.0)
+    (queue_moves (state_of c.args.cursor.now) c.read-in-QueueRead.result (state_of c.read-in-QueueRead.new.self)
+    c.read-in-QueueRead.ensures.gives.0)

@@ -19,4 +19,5 @@ returns-in-StackRead-clause-moved g c =
 pub returns-in-QueueRead-clause-moved : goal.returns-in-QueueRead-clause-moved
 returns-in-QueueRead-clause-moved g c =
     rw c.in-QueueRead.is
-    (queue_moves_back (state_of c.args.reversed.now.0) c.read-in-QueueRead.result (state_of c.read-in-QueueRead.new.self.0) c.read-in-QueueRead.ensures.gives.0)
+    (queue_moves_back (state_of c.args.reversed.now.0) c.read-in-QueueRead.result (state_of c.read-in-QueueRead.new.self.0)
+    c.read-in-QueueRead.ensures.gives.0)

@@ -13,7 +13,8 @@ returns-then-leaves_none-clause-ok g c =
     let pushed : c.push_reserved.new.self.items ≡ c.rows.cdf.items ++ c.rows.left ∷ [] = rw (← same) c.push_reserved.ensures.items in
     if_ok-more c.ended.result c.ended.ensures.ok
     (λ v ok. begun-given g.I.Iterator.next_gives _ g.P.WholeNumber.whole g.P.WholeNumber.BITS g.row.PRECISION c.rows.cdf.items
-    c.rows.rest c.rows.left (g.P.WholeNumber.whole c.rows.room) c.rows.invariant.2 c.args.infer_last c.push_reserved.new.self.items v.items _ _
+    c.rows.rest c.rows.left (g.P.WholeNumber.whole c.rows.room) c.rows.invariant.2 c.args.infer_last c.push_reserved.new.self.items
+    v.items _ _
     c.in-Some.weight pushed c.in-Some.ensures.steps (c.is_end_of_given.ensures.filled ok.0) ok.1)
 
 pub returns-then-leaves_none-clause-invalid : goal.returns-then-leaves_none-clause-invalid

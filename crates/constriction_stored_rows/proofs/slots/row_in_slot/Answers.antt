@@ -41,7 +41,12 @@ returns-then-width_of_slots-eq1-clause-counted g c =
         from = c.rows_of_slot-first.ensures.slot.from;
         to = subst (λ n. IsLastAtMost lefts n first) ends c.rows_of_slot-first.ensures.slot.from;
       };
-      counted = rw (least-narrow g.row.PRECISION g.row.SLOT_BITS (length (map g.Kind.CdfEntry.cumulative c.args.entries.now)) (omega (arith, one)), none, digits-zero) refl;
+      counted = rw (
+        least-narrow g.row.PRECISION g.row.SLOT_BITS (length (map g.Kind.CdfEntry.cumulative c.args.entries.now))
+            (omega (arith, one)),
+        none,
+        digits-zero,
+      ) refl;
     }
 
 pub returns-then-first-last-clause-found : goal.returns-then-first-last-clause-found

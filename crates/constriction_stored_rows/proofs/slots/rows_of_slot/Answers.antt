@@ -44,7 +44,8 @@ returns-then-width_of_slots-eq1-clause-slot g c =
     let slot = slot-alone width count lefts (map whole table) c.slot_of-slot.result c.requires.slots c.slot_of-slot.ensures.below one in
     let row : c.to_number-row.result ≡ get_or (map whole table) c.slot_of-slot.result 0 =
     c.to_number-row.ensures
-    ∙ sym (read-whole whole table c.slot_of-slot.result c.index-table-slot.result (omega (arith, within, length-map table whole)) c.index-table-slot.is) in
+    ∙ sym (read-whole whole table c.slot_of-slot.result c.index-table-slot.result (omega (arith, within, length-map table whole))
+    c.index-table-slot.is) in
     rw (← c.slot_of-slot.ensures.is, row) slot
 
 pub bounds-table-slot-2 : goal.bounds-table-slot-2
@@ -105,7 +106,8 @@ to_number-requires-2 g c =
     let lefts = map g.Kind.CdfEntry.cumulative c.args.entries.now in
     let within = pair-within width count lefts (map whole table) c.slot_of-slot.result c.requires.slots c.slot_of-slot.ensures.below two in
     let slot = slot-pair width count lefts (map whole table) c.slot_of-slot.result c.requires.slots c.slot_of-slot.ensures.below two in
-    let row = read-whole whole table (2 * c.slot_of-slot.result + 1) c.index-table-slot-3.result (omega (arith, within, length-map table whole))
+    let row = read-whole whole table (2 * c.slot_of-slot.result + 1) c.index-table-slot-3.result
+    (omega (arith, within, length-map table whole))
     c.index-table-slot-3.is in
     let bound : whole c.index-table-slot-3.result < length c.args.entries.now =
     omega (arith, slot.to.in_bounds, row, length-map c.args.entries.now g.Kind.CdfEntry.cumulative) in

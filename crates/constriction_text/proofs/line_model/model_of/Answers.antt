@@ -22,7 +22,8 @@ made g c =
       alone = λ it came. came;
       narrowed =
           YieldsList-from_map_by _ g.M.Word.NumberWord.whole (narrowed_to g.M.Word.NumberWord.BITS)
-          (YieldsList-at c.map-words.ensures.source (YieldsList-from_slice c.args.weights.now c.iter.ensures.rest)) c.map-words.ensures.closure
+          (YieldsList-at c.map-words.ensures.source (YieldsList-from_slice c.args.weights.now c.iter.ensures.rest))
+          c.map-words.ensures.closure
           (λ x r q k. search (rules, tests));
     })
 
@@ -41,6 +42,7 @@ returns-clause-refused g c =
       alone = λ it came. came;
       narrowed =
           YieldsList-from_map_by _ g.M.Word.NumberWord.whole (narrowed_to g.M.Word.NumberWord.BITS)
-          (YieldsList-at c.map-words.ensures.source (YieldsList-from_slice c.args.weights.now c.iter.ensures.rest)) c.map-words.ensures.closure
+          (YieldsList-at c.map-words.ensures.source (YieldsList-from_slice c.args.weights.now c.iter.ensures.rest))
+          c.map-words.ensures.closure
           (λ x r q k. search (rules, tests));
     })

@@ -26,7 +26,8 @@ invariant_of-result g c =
     let tile = accepted-tile eq g.Probability.WholeNumber.BITS g.row.PRECISION given.0 weights good.0 in
     record {
       distinct = good.1.0;
-      within = table-rows_within eq laws (λ e. (whole e.left, whole (base e.weight))) g.row.PRECISION c.in_ok-read.read.table.entries good.1.0
+      within = table-rows_within eq laws (λ e. (whole e.left, whole (base e.weight))) g.row.PRECISION c.in_ok-read.read.table.entries
+          good.1.0
           (found-within eq laws (λ e. (whole e.left, whole (base e.weight))) g.row.PRECISION rows (get eq c.in_ok-read.read.table)
           (rows-within g.Probability.WholeNumber.BITS g.row.PRECISION rows tile) good.1.1);
     }
@@ -53,7 +54,8 @@ returns g c =
         record { iterator = c.into_iter.result; became = c.into_iter.ensures.into_iter_gives; was_read = given.3 },
         good.0,
         (
-          (λ s. table-entry_of eq laws (λ e. (whole e.left, whole (base e.weight))) c.in_ok-read.read.table.entries s good.1.0 ∙ good.1.1 s),
+          (λ s. table-entry_of eq laws (λ e. (whole e.left, whole (base e.weight))) c.in_ok-read.read.table.entries s good.1.0
+              ∙ good.1.1 s),
           table-count eq laws (λ e. (whole e.left, whole (base e.weight))) c.in_ok-read.read.table.entries rows good.1.0 good.1.1
               ∙ ap (distinct_count eq) (accepted-symbols eq g.Probability.WholeNumber.BITS g.row.PRECISION given.0 weights good.0)
               ∙ distinct_count-from_IsDistinct laws given.0 good.0.distinct,
