@@ -1,10 +1,12 @@
 """Pictures as SVG files, which read well on a light page and on a dark one.
 
 A colour is a name of COLOURS, with a value for each kind of page: the browser takes the one that its
-reader prefers. Lengths are pixels, and `y` goes downwards.
+reader prefers. Lengths are pixels, and `y` goes downwards. A picture of WIDTH with no text below SMALL can still be
+read where a page shows it 700 pixels wide: its smallest text is then 11 pixels high.
 """
 from xml.sax.saxutils import escape
 
+WIDTH, SMALL = 760, 12
 # name: on a light page, on a dark page
 COLOURS = {
     "page": ("#ffffff", "#0d1117"),
@@ -44,8 +46,11 @@ class Drawing:
         self.parts.append(part)
 
     def box(self, x, y, width, height, fill, line=None, corner=0, dashed=False, thick=1):
+        """Draws a box; where `fill` is None it is only an outline."""
         line = f" line-{line}" if line else ""
         dashes = ' stroke-dasharray="4 3"' if dashed else ""
+        if fill is None:
+            fill, dashes = "none", f'{dashes} fill="none"'
         self.add(
             f'<rect class="fill-{fill}{line}" x="{x:g}" y="{y:g}" width="{width:g}" height="{height:g}" rx="{corner:g}" '
             f'stroke-width="{thick:g}"{dashes}/>'
