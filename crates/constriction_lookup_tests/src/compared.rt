@@ -14,7 +14,7 @@ use constriction_test_models::any_symbols::{Decoder, SYMBOLS, WEIGHTS, decoder};
 use constriction_test_models::contiguous::Weighted;
 use constriction_test_models::given::of_four;
 use constriction_words::WholeNumber;
-use std::alloc::{AllocError, Global};
+use std::alloc::AllocError;
 
 /// A lookup model with four slots of 16 quantiles each.
 type Tabled = SlottedContiguousLookupDecoderModel<u8, Vec<u8>, Vec<u8>, 6, 2>;

@@ -14,7 +14,6 @@ use constriction_test_models::any_symbols::plain;
 use constriction_test_models::lookup_any_symbols::{Lookup, lookup};
 use constriction_test_models::own_model::three;
 use std::alloc::Global;
-use std::process::Abort;
 
 /// Why the function makes no lookup model of this model, and why the method makes none.
 pub fn refusals<M, const PRECISION: usize>(alloc: Global, source: M) -> [Option<ModelError>; 2]

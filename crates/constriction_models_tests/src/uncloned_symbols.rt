@@ -1,9 +1,8 @@
 //! Models of symbols that cannot be cloned, and of symbols of which the last one refuses its clone.
 
 ghost use Rattle.std.specs.Prelude.{◌==◌, ◌<◌};
-ghost use Rattle.std.specs.Hash as fed;
 
-use crate::checks::{same, same_at};
+use crate::checks::same;
 use crate::conversions::Encoder;
 use constriction::stream::model::{
     EncoderModel, ModelError, Probe, row_of_quantile, to_generic_decoder_model,
@@ -14,8 +13,6 @@ use constriction_test_models::contiguous::Weighted;
 use constriction_test_models::conversions::Decoder;
 use constriction_test_models::lookup_any_symbols::Lookup;
 use constriction_test_models::symbol_types::Letter;
-use std::alloc::Global;
-use std::hash::{Hash, Hasher};
 use std::process::Abort;
 
 /// A seal, which cannot be cloned.
