@@ -62,13 +62,13 @@ NOT_SAID = [
     "Over which words: of chains, and of models with a lookup table, each `IndexWord`, as `u8` to `u128` and `usize`, for a `PRECISION` up to 63; "
     "of ranges those named; of models that search each `WholeNumber`, up to all its bits; of a cursor whatever can be copied.",
     "The count is the look-up's own word. That no look-up goes over all rows, tests show by time: `a_look_up_does_not_go_over_all_rows`, "
-    "`a_slot_that_4_194_304_rows_meet_is_searched`; that a lookup table is used, `a_table_answers_in_place_of_the_search_of_its_model`.",
+    "`a_slot_that_4_194_304_rows_meet_is_searched`; that a lookup table is used, `a_lookup_table_answers_in_place_of_the_search_of_its_model`.",
     "`Reverse` has its cursor's positions as they are. A run converts them: its `p` is the cursor's `n - p` over `n` words; above `n` there is none.",
     "The steps of a chain are the four of `ChainStep`: no other conversion is one, and a lookup table that a step makes has 256 slots at most.",
     "A body that always answers want of memory meets all that is quoted. Tests show that these do not: `each_model_of_weights_replies`, "
     "`what_is_made_of_letters_and_weights_replies`, `what_is_made_of_a_range_replies`, `a_range_of_wider_words_replies`, "
-    "`models_without_a_table_reply_at_the_full_width`, `a_model_and_what_is_made_of_it_reply`, `contracts_leave_one_reply_after_a_chain`, "
-    "`a_search_compares_two_of_four_rows_and_a_table_those_of_a_slot`, `a_cursor_and_its_reversal_are_run_together`.",
+    "`models_without_a_lookup_table_reply_at_the_full_width`, `a_model_and_what_is_made_of_it_reply`, `contracts_leave_one_reply_after_a_chain`, "
+    "`a_search_compares_two_of_four_rows_and_a_lookup_table_those_of_a_slot`, `a_cursor_and_its_reversal_are_run_together`.",
 ]
 
 

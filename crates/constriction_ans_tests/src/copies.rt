@@ -6,7 +6,7 @@ use constriction::stream::model::DefaultUniformModel;
 use constriction_ans_example::AnsCoder;
 use std::process::Abort;
 
-/// What is copied is what the coder becomes, and the coder says how many words that are.
+/// Stops the test where the copy is not the words that the coder turns into, or where they are not so many.
 fn is_copied(rt: &impl Abort, coder: AnsCoder<Vec<u32>>, copy: Vec<u32>, count: usize) {
     same(rt, coder.num_words(), count);
     same(rt, coder.is_empty(), count == 0);
@@ -15,7 +15,7 @@ fn is_copied(rt: &impl Abort, coder: AnsCoder<Vec<u32>>, copy: Vec<u32>, count: 
     same(rt, copy.len(), count);
 }
 
-/// A coder of nothing has no word; one symbol of 1,000 has one, and ten of them have more.
+/// A coder with no symbol has no word. With one or two symbols of 1,000 it has one word, and with ten it has four.
 #[test]
 fn words_are_copied(rt: HostRuntime) {
     let alloc = rt.alloc();

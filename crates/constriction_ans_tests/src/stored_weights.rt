@@ -14,7 +14,7 @@ type Texts = StoredModel<String, 24>;
 /// The texts of the model.
 const TEXTS: [&str; 4] = ["the", "cat", "saw", "."];
 
-/// How many of the `2^24` quantiles each has. The last one has what these leave.
+/// How many of the `2^24` quantiles each of the first three texts has. The last text has the rest.
 const WEIGHTS: [u32; 3] = [6_000_000, 4_000_000, 2_500_000];
 
 /// What is coded.
@@ -30,9 +30,9 @@ fn owned(rt: &impl Abort, alloc: Global, texts: &[&str]) -> Vec<String> {
     strings
 }
 
-/// The words of its weights.
+/// The stored weights of the model of the texts.
 fn stored(rt: &impl Abort, alloc: Global) -> Vec<u32> {
-    let table = Texts::from_symbols_and_nonzero_fixed_point_probabilities(
+    let model = Texts::from_symbols_and_nonzero_fixed_point_probabilities(
         alloc,
         owned(rt, alloc, &TEXTS),
         WEIGHTS,
@@ -41,15 +41,15 @@ fn stored(rt: &impl Abort, alloc: Global) -> Vec<u32> {
     let mut words = Vec::new(alloc);
     same(
         rt,
-        write_model::<_, _, 24>(alloc, &table, &mut words).is_ok(),
+        write_model::<_, _, 24>(alloc, &model, &mut words).is_ok(),
         true,
     );
     words
 }
 
-/// The words of the message by this model.
-fn encoded(rt: &impl Abort, alloc: Global, table: &Texts) -> Vec<u32> {
-    let encoder = to_generic_encoder_model::<_, 24>(alloc, table).expect(rt, "the encoder");
+/// The words that the message is encoded to by this model.
+fn encoded(rt: &impl Abort, alloc: Global, model: &Texts) -> Vec<u32> {
+    let encoder = to_generic_encoder_model::<_, 24>(alloc, model).expect(rt, "the encoder");
     let message = owned(rt, alloc, &MESSAGE);
     let mut coder = AnsCoder::new(alloc);
     same(
@@ -62,9 +62,9 @@ fn encoded(rt: &impl Abort, alloc: Global, table: &Texts) -> Vec<u32> {
     coder.into_compressed().expect(rt, "memory")
 }
 
-/// Weights are written and read, and a message that was encoded by it is decoded.
+/// The model is read from its stored weights, and decodes what it encoded.
 #[test]
-fn a_message_by_a_stored_weights(rt: HostRuntime) {
+fn a_message_by_stored_weights(rt: HostRuntime) {
     let alloc = rt.alloc();
     let words = stored(&rt, alloc);
     same(
@@ -73,20 +73,20 @@ fn a_message_by_a_stored_weights(rt: HostRuntime) {
         [4, 6_000_000, 4_000_000, 2_500_000, 4_277_216].as_slice(),
     );
     let mut source = Cursor::new_at_write_beginning(words);
-    let table = read_model::<String, _, 24>(alloc, owned(&rt, alloc, &TEXTS), &mut source).expect(
+    let model = read_model::<String, _, 24>(alloc, owned(&rt, alloc, &TEXTS), &mut source).expect(
         &rt,
         "the model",
     );
-    let words = encoded(&rt, alloc, &table);
+    let words = encoded(&rt, alloc, &model);
     let mut coder = AnsCoder::from_compressed(words).expect(&rt, "the coder");
     let symbols = coder
-        .decode_symbols::<String, _, 24>(alloc, MESSAGE.len(), &table)
+        .decode_symbols::<String, _, 24>(alloc, MESSAGE.len(), &model)
         .expect(&rt, "the symbols");
     same(&rt, symbols, owned(&rt, alloc, &MESSAGE));
     same(&rt, coder.is_empty(), true);
 }
 
-/// How many weights the great model has.
+/// How many weights the model of numbers has.
 const MANY: u32 = 5000;
 
 /// The weight of its last number, which is what the others leave.
@@ -95,8 +95,8 @@ const LAST: u32 = 4_279_716;
 /// A model of numbers.
 type Numbers = StoredModel<u32, 24>;
 
-/// The words of the weights of the numbers below 5,000. Each has one quantile more than there are numbers below it, and the
-/// last one has all that are left.
+/// The stored weights of the model of the numbers below 5,000. The weight of a number is one more than the number; the last
+/// number has all quantiles that are left.
 fn many_stored(rt: &impl Abort, alloc: Global) -> Vec<u32> {
     let made = Numbers::from_hashable_symbols_and_nonzero_fixed_point_probabilities(
         alloc,
@@ -111,10 +111,10 @@ fn many_stored(rt: &impl Abort, alloc: Global) -> Vec<u32> {
 }
 
 /// Stops the test where these are not the rows of the numbers below 5,000.
-fn are_many_rows(rt: &impl Abort, table: &Numbers) {
+fn are_many_rows(rt: &impl Abort, model: &Numbers) {
     let mut number = 0u32;
     let mut below = 0u32;
-    for row in table.symbol_table() {
+    for row in model.symbol_table() {
         let (symbol, left, weight) = row.expect(rt, "a row");
         let expected = if number == MANY - 1 {
             LAST
@@ -128,12 +128,12 @@ fn are_many_rows(rt: &impl Abort, table: &Numbers) {
     same(rt, number, MANY);
 }
 
-/// With ample memory a great model is read back as the same rows.
+/// With ample memory the model of numbers is read back with the same rows.
 #[test]
 fn five_thousand_rows_come_back(rt: HostRuntime) {
     let alloc = rt.alloc();
     let mut source = Cursor::new_at_write_beginning(many_stored(&rt, alloc));
     let numbers = (0..MANY).collect(alloc).expect(&rt, "memory");
-    let table = read_model::<u32, _, 24>(alloc, numbers, &mut source).expect(&rt, "the model");
-    are_many_rows(&rt, &table);
+    let model = read_model::<u32, _, 24>(alloc, numbers, &mut source).expect(&rt, "the model");
+    are_many_rows(&rt, &model);
 }

@@ -4,7 +4,8 @@ use crate::checks::same;
 use constriction::stream::model::DefaultUniformModel;
 use constriction_ans_example::AnsCoder;
 
-/// A range is encoded from its back on, and decoded in order as far as is asked for; the rest stays.
+/// A range is encoded from its back on. As many symbols as are asked for are decoded, in the order of the range. The others
+/// stay.
 #[test]
 fn a_range_comes_back_in_order(rt: HostRuntime) {
     let alloc = rt.alloc();
@@ -30,7 +31,7 @@ fn a_range_comes_back_in_order(rt: HostRuntime) {
     same(&rt, coder.is_empty(), true);
 }
 
-/// What has no entry ends a message. What came before it was encoded, and what comes after it was not.
+/// A symbol that has no entry ends the encoding. The symbols before it are encoded, and those after it are not.
 #[test]
 fn an_impossible_symbol_ends_a_message(rt: HostRuntime) {
     let alloc = rt.alloc();

@@ -83,7 +83,7 @@ fn sum_of_two(first: u8, second: u8) -> u32
     total
 }
 
-/// How often a callback was called, which refuses its second word.
+/// How often a callback was called that refuses its second word, and whether that word was refused.
 fn calls_of_two(first: u8, second: u8) -> (u8, bool)
     ensures calls { result.0 ≡ 2 }
 {
@@ -176,7 +176,7 @@ fn the_second_read_ends_where_one_item_was_left(rt: HostRuntime) {
     same(&rt, two_of_items(&ITEMS), (Ok(Some(1)), Err('x')));
 }
 
-/// The number of calls that a callback answers once it was taken out of its sink.
+/// What a callback that counts its calls answers when it is taken out of its sink and called a third time.
 fn calls_of_three(word: u8) -> Result<(), u8>
     ensures { result ≡ Err 3 }
 {

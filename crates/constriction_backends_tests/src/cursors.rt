@@ -12,7 +12,7 @@ use constriction_words::{Pos, Queue, Seek, Stack, UnwrapInfallible};
 use std::alloc::{AllocError, Global};
 use std::process::Abort;
 
-/// A cursor begins at an end where its constructor says so, and at a position that it is given.
+/// A cursor begins at the end that its constructor names, or at the position that it is given.
 fn begins<Buf: SafeBufMut<u8> + Drop>(rt: &impl Abort, buf: Buf) -> Buf {
     let (buf, beginning) = Cursor::<u8, Buf>::new_at_write_beginning(buf).into_buf_and_pos();
     let (buf, end) = Cursor::<u8, Buf>::new_at_write_end(buf).into_buf_and_pos();
@@ -40,8 +40,8 @@ fn extended<Buf: SafeBufMut<u8>>(
     laws::extending_counts(cursor, added.iter().copied())
 }
 
-/// Words that are written from the second word of a cursor of three on, whether there is no place for the last one, and the
-/// words of the cursor then.
+/// Words that are written to a cursor of three words from its second one on, whether there is no place for the last of them,
+/// and the words of the cursor then.
 const FILLS: [(&[u8], bool, [u8; 3]); 2] = [
     (&[1, 2, 3], true, [10, 1, 2]),
     (&[20, 30], false, [10, 20, 30]),
@@ -58,7 +58,8 @@ fn is_filled<Buf: SafeBufMut<u8>>(rt: &impl Abort, buf: Buf) -> Buf {
     cursor.into_buf_and_pos().0
 }
 
-/// What a cursor of one word answers to the words of an iterator, the next word of that then, and the one that is written.
+/// What a cursor of one word answers to the words of an iterator, the word that the iterator gives next, and the word that was
+/// written.
 fn next_after_a_refusal(words: &[u8]) -> (Result<(), BoundedWriteError>, Option<u8>, u8) {
     let mut place = [0u8];
     let buf: &mut [u8; 1] = &mut place;
@@ -150,8 +151,7 @@ fn turned_round(cursor: Cursor<u8, Vec<u8>>) -> (Option<u8>, bool) {
     (word, taken && turned.write(6).is_err())
 }
 
-/// Words are held where memory was given for them. What reads, seeks and writes over them after that takes none, and
-/// succeeds.
+/// Words are held where memory was given for them. Reads, seeks and writes over them then ask for no memory, and succeed.
 #[test]
 fn a_refusal_of_memory_leaves_words_that_are_read_and_written_over(rt: HostRuntime) {
     if let Ok(mut words) = Vec::from_array(rt.alloc(), [10, 20, 30, 40]) {

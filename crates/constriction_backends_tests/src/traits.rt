@@ -141,7 +141,7 @@ impl BoundedWriteWords<u8> for Places {
     ghost room_counts = { λ s h. h };
 }
 
-/// Writes a word, but where the sink may be full.
+/// Writes a word, unless the sink may be full.
 fn write_where_there_is_room<Sink: WriteWords<u8>>(
     sink: &mut Sink,
     word: u8,
@@ -182,7 +182,7 @@ fn a_source_is_exhausted_where_nothing_remains(rt: HostRuntime) {
     }
 }
 
-/// Words of an iterator, how many places are free after them, and whether they are too many and one more word is refused.
+/// The words of an iterator, how many places are free after them, and whether the iterator and one more word are refused.
 const EXTENDED: [(&[u8], usize, bool); 2] = [(&[1, 2, 3], 2, false), (&[4, 5], 0, true)];
 
 #[test]

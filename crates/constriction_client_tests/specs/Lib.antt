@@ -1,1 +1,1 @@
-pub mod HeldTables
+pub mod HeldSymbolTables

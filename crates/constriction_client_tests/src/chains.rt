@@ -27,7 +27,8 @@ fn is_searching_after(
     }
 }
 
-/// A caller over any symbols and words: it has a form looked up, made anew and searched, and knows its rows.
+/// A caller over any symbols and words. It turns a form into one that looks up, makes it anew and turns it into one that
+/// searches, and it knows the rows of that.
 fn searched_again<Symbol: Eq + Clone + Drop, Probability: IndexWord, const PRECISION: usize>(
     alloc: Global,
     form: DecoderForm<Symbol, Probability, PRECISION>,
@@ -66,7 +67,7 @@ fn a_form_of_words_of_16_bits_is_searched_again(rt: HostRuntime) {
     same(&rt, (symbol, left, weight.get()), (30, 1, 4094));
 }
 
-/// How a chain of the form of letters whose clones may be refused is refused, if it is.
+/// The error of a chain that begins with the form of letters whose clones may be refused, if it has one.
 fn refusal_of(alloc: Global, steps: &[ChainStep]) -> Option<ModelError> {
     let searching = match letters(alloc) {
         Ok(model) => model,
@@ -78,7 +79,7 @@ fn refusal_of(alloc: Global, steps: &[ChainStep]) -> Option<ModelError> {
     }
 }
 
-/// The chains of one step that clones symbols.
+/// Chains of one step, which clones symbols.
 const CLONING: [[ChainStep; 1]; 3] = [
     [ChainStep::ToSearch],
     [ChainStep::ToLookup],

@@ -2,7 +2,7 @@
 //!
 //! A proof of `assert_eq!` costs much and a call of these costs nothing, so tests call these.
 
-use constriction_test_models::contiguous::{Table, WEIGHTS, table};
+use constriction_test_models::contiguous::{WEIGHTS, Weighted, weighted};
 use std::alloc::{AllocError, Global};
 use std::fmt::{Debug, Display};
 use std::process::Abort;
@@ -23,8 +23,8 @@ pub fn vec_of(rt: &impl Abort, alloc: Global, words: &[u8]) -> Vec<u8> {
 }
 
 /// The model of the weights 3, 18, 1 and 42. It stops the test where memory is refused.
-pub fn small(rt: &impl Abort, alloc: Global) -> Table<6> {
-    table::<6>(alloc, &WEIGHTS, false).expect(rt, "accepted")
+pub fn small(rt: &impl Abort, alloc: Global) -> Weighted<6> {
+    weighted::<6>(alloc, &WEIGHTS, false).expect(rt, "accepted")
 }
 
 /// Stops the test where the value is not printed as this text.

@@ -143,7 +143,7 @@ fn a_refusal_of_memory_leaves_a_cursor_or_a_reversal(rt: HostRuntime) {
     end_of_requests(&rt);
 }
 
-/// The same of both together: `1` refuses the replies of the one, `2` those of the other, and nothing was run on either.
+/// The same where both run together: where memory for the replies of one of them is refused, nothing is run on either.
 #[test]
 fn a_refusal_of_memory_leaves_a_cursor_and_its_reversal(rt: HostRuntime) {
     let mut words = [10u8, 20, 30];

@@ -3,12 +3,12 @@
 use crate::checks::{holds, same, small};
 use constriction_backends::{BoundedWriteError, Cursor, FallibleCallbackWriteWords};
 use constriction_client::{QuantileFault, write_quantiles};
-use constriction_test_models::contiguous::Table;
+use constriction_test_models::contiguous::Weighted;
 use constriction_test_models::own_model::{Triple, three};
 use constriction_words::{CoderError, Pos};
 use std::alloc::AllocError;
 
-/// What a write answers where its sink refuses a word so.
+/// What a write answers, where its sink refuses a word with a `Refusal`.
 type Written<Refusal> = Result<(), CoderError<QuantileFault, Refusal>>;
 
 #[test]
@@ -23,7 +23,7 @@ fn a_cursor_of_two_words_refuses_the_third_item(rt: HostRuntime) {
 }
 
 /// What a callback that refuses its third word was handed last, how often it was called, and the answer.
-fn handed(model: &Table<6>, items: &[(usize, u8)]) -> (Written<char>, [u8; 3], u8) {
+fn handed(model: &Weighted<6>, items: &[(usize, u8)]) -> (Written<char>, [u8; 3], u8) {
     let mut last = [0u8; 3];
     let mut calls = 0u8;
     let mut sink = FallibleCallbackWriteWords::new(|word: u8| -> Result<(), char> {

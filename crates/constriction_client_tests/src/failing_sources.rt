@@ -3,7 +3,7 @@
 use crate::checks::{holds, same, small};
 use constriction_backends::{BoundedReadWords, Cursor, FallibleIteratorReadWords};
 use constriction_client::{ReadFault, read_symbols};
-use constriction_test_models::contiguous::Table;
+use constriction_test_models::contiguous::Weighted;
 use constriction_test_models::symbol_types::{Letter, LetterDecoder, letters};
 use constriction_words::{CoderError, Pos, Queue};
 use std::convert::Infallible;
@@ -41,7 +41,7 @@ type Results = FallibleIteratorReadWords<vec::IntoIter<Result<u8, u8>>>;
 
 /// Reads pairs of numbers, and how many words and errors are left.
 fn read_results(
-    model: &Table<6>,
+    model: &Weighted<6>,
     source: &mut Results,
     count: usize,
     out: &mut Vec<(usize, u8)>,

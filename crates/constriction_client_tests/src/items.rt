@@ -1,4 +1,4 @@
-//! Items to words and back, over a worked table.
+//! Items to words and back, by the model of four weights.
 
 ghost use Rattle.std.specs.Prelude.{◌≡◌, [], ◌∷◌, nat_eq};
 ghost use Rattle.std.specs.Cmp.{nat_eq_equiv};
@@ -12,7 +12,7 @@ use constriction_client::laws::{
     the_row_found_is_the_row_of_the_quantile, there_and_back,
 };
 use constriction_client::{QuantileFault, ReadFault, read_symbols, write_quantiles};
-use constriction_test_models::contiguous::{Table, WEIGHTS, table};
+use constriction_test_models::contiguous::{WEIGHTS, Weighted, weighted};
 use constriction_words::{BitArray, CoderError, Stack};
 use std::alloc::{AllocError, Global};
 use std::convert::Infallible;
@@ -23,18 +23,23 @@ type Written = Result<(), CoderError<QuantileFault, AllocError>>;
 
 type Read = Result<usize, CoderError<ReadFault, Infallible>>;
 
-fn write(model: &Table<6>, items: &[(usize, u8)], words: &mut Vec<u8>) -> Written {
+fn write(model: &Weighted<6>, items: &[(usize, u8)], words: &mut Vec<u8>) -> Written {
     write_quantiles(model, items, words)
 }
 
-fn read(model: &Table<6>, words: &mut Vec<u8>, count: usize, out: &mut Vec<(usize, u8)>) -> Read {
+fn read(
+    model: &Weighted<6>,
+    words: &mut Vec<u8>,
+    count: usize,
+    out: &mut Vec<(usize, u8)>,
+) -> Read {
     read_symbols::<Stack, _, _, _, _, 6>(model, words, count, out)
 }
 
 type Back = Result<Vec<(usize, u8)>, CoderError<QuantileFault, AllocError>>;
 
 /// The items, as they come back.
-fn back(alloc: Global, model: &Table<6>, items: &[(usize, u8)]) -> Back {
+fn back(alloc: Global, model: &Weighted<6>, items: &[(usize, u8)]) -> Back {
     there_and_back(alloc, model, items)
 }
 
@@ -55,7 +60,7 @@ fn wrote_all_or_was_refused(rt: &impl Abort, written: Written, words: &[u8]) {
     same(rt, QUANTILES.starts_with(words), true);
 }
 
-/// All six pairs are read, or memory was refused and the word whose pair found no room is gone.
+/// All six pairs are read; or memory was refused for a pair, whose word is gone.
 fn read_all_or_was_refused(rt: &impl Abort, answer: Read, left: usize, out: &[(usize, u8)]) {
     let (expected, in_all) = match out.len() {
         6 => (Ok(6), 6),
@@ -66,11 +71,11 @@ fn read_all_or_was_refused(rt: &impl Abort, answer: Read, left: usize, out: &[(u
     same(rt, REVERSED.starts_with(out), true);
 }
 
-/// An answer, or the refusal of memory and what it leaves, whichever growth is refused: that of the words, or that of the
-/// pairs, where the word whose pair found no room has been read.
+/// Whichever growth is refused, the answer says so, and what came before stays: the words that were written, or the pairs that
+/// were read. The word whose pair found no room has been read.
 #[test]
 fn a_refusal_of_memory_ends_what_is_written_or_read(rt: HostRuntime) {
-    let Ok(model) = table::<6>(rt.alloc(), &WEIGHTS, false) else {
+    let Ok(model) = weighted::<6>(rt.alloc(), &WEIGHTS, false) else {
         return;
     };
     let mut words = Vec::new(rt.alloc());
@@ -88,7 +93,7 @@ fn a_refusal_of_memory_ends_what_is_written_or_read(rt: HostRuntime) {
 /// The same of the way there and back.
 #[test]
 fn a_refusal_of_memory_ends_the_way(rt: HostRuntime) {
-    let Ok(model) = table::<6>(rt.alloc(), &WEIGHTS, false) else {
+    let Ok(model) = weighted::<6>(rt.alloc(), &WEIGHTS, false) else {
         return;
     };
     match back(rt.alloc(), &model, &ITEMS) {

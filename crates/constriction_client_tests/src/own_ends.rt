@@ -7,7 +7,7 @@ ghost use Rattle.constriction_backends.specs.StackLaws.{Pushes-told};
 use crate::checks::{holds, same, small};
 use constriction_backends::{ReadWords, WriteWords};
 use constriction_client::{ReadFault, read_symbols, write_quantiles};
-use constriction_test_models::contiguous::Table;
+use constriction_test_models::contiguous::Weighted;
 use constriction_words::{CoderError, Queue};
 
 /// A sink of at most two words, which hands a word back where it refuses it.
@@ -76,7 +76,7 @@ impl ReadWords<u8, Queue> for Interrupted {
 }
 
 fn read_interrupted(
-    model: &Table<6>,
+    model: &Weighted<6>,
     source: &mut Interrupted,
     out: &mut Vec<(usize, u8)>,
 ) -> Result<usize, CoderError<ReadFault, &'static str>> {

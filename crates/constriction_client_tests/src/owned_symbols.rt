@@ -121,7 +121,7 @@ fn clone_searches(rt: &impl Abort, model: &Decoder) {
     answers(rt, &model.clone().expect(rt, "memory"));
 }
 
-/// The same of a model with a table.
+/// The same of a lookup model.
 fn clone_looks_up(rt: &impl Abort, made: Result<Lookup, ModelError>) {
     let made = made.expect(rt, "a model");
     answers(rt, &made.clone().expect(rt, "memory"));

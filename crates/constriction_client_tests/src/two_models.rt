@@ -15,7 +15,7 @@ use constriction_client::QuantileFault;
 use constriction_client::laws::{
     CursorFault, decoder_and_encoder, there_and_back_in_a_cursor, there_and_back_of_two,
 };
-use constriction_test_models::contiguous::{Table, WEIGHTS, table};
+use constriction_test_models::contiguous::{WEIGHTS, Weighted, weighted};
 use constriction_test_models::given::of_four;
 use constriction_words::{BitArray, CoderError, Pos, ReadWriteError, Seek};
 use std::alloc::{AllocError, Global};
@@ -96,17 +96,17 @@ const REVERSED: [(usize, u8); 3] = [(1, 0), (3, 41), (0, 2)];
 /// The same by two models of the same rows.
 fn back_of_two(
     alloc: Global,
-    decoder: &Table<6>,
-    encoder: &Table<6>,
+    decoder: &Weighted<6>,
+    encoder: &Weighted<6>,
     items: &[(usize, u8)],
 ) -> Back<usize, u8>
-    requires { ⟦<Table<6> as EntropyModel<6>>⟧.rows encoder.now ≡ ⟦<Table<6> as EntropyModel<6>>⟧.rows decoder.now }
+    requires { ⟦<Weighted<6> as EntropyModel<6>>⟧.rows encoder.now ≡ ⟦<Weighted<6> as EntropyModel<6>>⟧.rows decoder.now }
 {
     back_of_bytes(alloc, decoder, encoder, items)
 }
 
 #[test]
-fn two_models_of_one_table_give_items_back(rt: HostRuntime) {
+fn two_models_of_the_same_weights_give_items_back(rt: HostRuntime) {
     let decoder = of_four(rt.alloc(), WEIGHTS).expect(&rt, "accepted");
     let encoder = of_four(rt.alloc(), WEIGHTS).expect(&rt, "accepted");
     let back = back_of_two(rt.alloc(), &decoder, &encoder, &ITEMS).expect(&rt, "items");
@@ -117,7 +117,7 @@ fn two_models_of_one_table_give_items_back(rt: HostRuntime) {
 /// back, and the position that is left.
 fn in_a_cursor(
     alloc: Global,
-    model: &Table<6>,
+    model: &Weighted<6>,
     items: &[(usize, u8)],
     words: &mut [u8],
 ) -> (Result<Vec<(usize, u8)>, CursorFault>, usize) {
@@ -131,7 +131,7 @@ fn in_a_cursor(
 fn keeps_the_words(
     rt: &impl Abort,
     alloc: Global,
-    model: &Table<6>,
+    model: &Weighted<6>,
     items: &[(usize, u8)],
     (fault, left, end): (CursorFault, [u8; 3], usize),
 ) {
@@ -157,7 +157,7 @@ fn a_cursor_keeps_the_words_before_a_refusal(rt: HostRuntime) {
 /// The items come back in their order. Whichever request is refused, the words of all items stand then.
 #[test]
 fn a_refusal_of_memory_leaves_the_words_in_a_cursor(rt: HostRuntime) {
-    let Ok(model) = table::<6>(rt.alloc(), &WEIGHTS, false) else {
+    let Ok(model) = weighted::<6>(rt.alloc(), &WEIGHTS, false) else {
         return;
     };
     let mut words = [7u8, 8, 9, 10, 11, 12];
@@ -180,7 +180,7 @@ fn a_refusal_of_memory_leaves_the_words_in_a_cursor(rt: HostRuntime) {
 /// Whichever request is refused, nothing comes back from a stack then.
 #[test]
 fn a_refusal_of_memory_ends_the_way_by_two_models(rt: HostRuntime) {
-    let Ok(model) = table::<6>(rt.alloc(), &WEIGHTS, false) else {
+    let Ok(model) = weighted::<6>(rt.alloc(), &WEIGHTS, false) else {
         return;
     };
     match back_of_two(rt.alloc(), &model, &model, &ITEMS) {
@@ -193,7 +193,7 @@ fn a_refusal_of_memory_ends_the_way_by_two_models(rt: HostRuntime) {
 /// Both models, or none where a request is refused.
 #[test]
 fn a_refusal_of_memory_leaves_no_decoder_and_no_encoder(rt: HostRuntime) {
-    let Ok(model) = table::<6>(rt.alloc(), &WEIGHTS, false) else {
+    let Ok(model) = weighted::<6>(rt.alloc(), &WEIGHTS, false) else {
         return;
     };
     match decoder_and_encoder::<_, 6>(rt.alloc(), &model) {

@@ -6,7 +6,7 @@ ghost use Rattle.std.specs.Hash as fed;
 ghost use Rattle.std.specs.List.{IsDistinct};
 ghost use Rattle.std.proofs.Common.{rules};
 ghost use Rattle.constriction.specs.Rows.{symbols_of};
-ghost use Rattle.constriction_client_tests.specs.HeldTables.{held-step};
+ghost use Rattle.constriction_client_tests.specs.HeldSymbolTables.{held-step};
 
 use crate::checks::same;
 use constriction::laws::non_contiguous_symbols_differ;
@@ -22,10 +22,11 @@ use std::iter;
 use std::process::Abort;
 use std::rc::Rc;
 
-/// How often the symbols that share it were compared. Each of them owns it, so that it tells how many there are.
+/// How often the symbols that share the tally were compared. Each of them owns it, so that the count of its owners tells how
+/// many symbols there are.
 type Tally = Rc<Cell<usize>>;
 
-/// A symbol that says so where it is compared. Memory for a clone of the greatest one is refused.
+/// A symbol that counts its comparisons. Memory for a clone is refused where its number is the greatest `u32`.
 #[derive(Drop)]
 struct Watched {
     number: u32,
@@ -75,7 +76,7 @@ type Decoder = NonContiguousCategoricalDecoderModel<Watched, usize, Vec<(usize, 
 
 type Form = DecoderForm<Watched, usize, 24>;
 
-/// A tally of no comparisons, and of no symbol.
+/// A tally that counts no comparison, and that no symbol owns.
 fn tally(rt: &impl Abort, alloc: Global) -> Tally {
     Rc::new(alloc, Cell::new(0)).expect(rt, "memory")
 }
@@ -85,7 +86,7 @@ fn told(compared: &Tally) -> (usize, usize) {
     (compared.get(), Rc::strong_count(compared).wrapping_sub(1))
 }
 
-/// The symbols of so many numbers from 0 on, and a last one of this number.
+/// The symbols of so many numbers from 0 on, and a symbol of the number `last` after them.
 fn symbols(
     rt: &impl Abort,
     alloc: Global,
@@ -103,36 +104,36 @@ fn symbols(
     symbols
 }
 
-/// The model of these symbols, which are told apart by their hashes. Each has one quantile, but the last one, which has
-/// all that are left: so the rows of the others meet the first slot of a table.
+/// The model of these symbols, which are told apart by their hashes. Each has one quantile, but the last one has all that are
+/// left. So the rows of the others all meet the first slot of a lookup table.
 fn hashed(alloc: Global, symbols: Vec<Watched>) -> Result<Decoder, ModelError> {
     let ones = iter::repeat_n(1usize, symbols.len().saturating_sub(1));
     Decoder::from_hashable_symbols_and_nonzero_fixed_point_probabilities(alloc, symbols, ones, true)
 }
 
-/// A model of the caller: it is walked through as another one is, but its table does not announce how many rows there are.
+/// A model of the caller, which has the rows of another model. Its symbol table does not announce how many rows there are.
 #[derive(Clone, Copy)]
 struct Unannounced<Model> {
     model: Model,
 }
 
-/// Its table, whose `size_hint` is the one of the trait.
+/// Its symbol table, which keeps the default `size_hint` of the trait.
 #[derive(Drop)]
-struct UnannouncedTable<Table> {
-    table: Table,
+struct UnannouncedSymbolTable<SymbolTable> {
+    held: SymbolTable,
 }
 
-impl<Table: Iterator> Iterator for UnannouncedTable<Table> {
-    type Item = Table::Item;
+impl<SymbolTable: Iterator> Iterator for UnannouncedSymbolTable<SymbolTable> {
+    type Item = SymbolTable::Item;
 
-    ghost can_next = { λ t. Table.can_next t.table };
+    ghost can_next = { λ t. SymbolTable.can_next t.held };
 
-    ghost next_gives = { λ t r u. Table.next_gives t.table r u.table };
+    ghost next_gives = { λ t r u. SymbolTable.next_gives t.held r u.held };
 
-    ghost remaining = { λ t. Table.remaining t.table };
+    ghost remaining = { λ t. SymbolTable.remaining t.held };
 
-    fn next(&mut self) -> Option<Table::Item> {
-        self.table.next()
+    fn next(&mut self) -> Option<SymbolTable::Item> {
+        self.held.next()
     }
 }
 
@@ -145,22 +146,22 @@ impl<Model: EntropyModel<24>> EntropyModel<24> for Unannounced<Model> {
 }
 
 impl<Model: IterableEntropyModel<24>> IterableEntropyModel<24> for Unannounced<Model> {
-    type SymbolTable = UnannouncedTable<Model::SymbolTable>;
+    type SymbolTable = UnannouncedSymbolTable<Model::SymbolTable>;
 
     ghost stands_for = { Model.stands_for };
 
     ghost may_refuse = { Model.may_refuse };
 
-    ghost rows_left = { λ t. Model.rows_left t.table };
+    ghost rows_left = { λ t. Model.rows_left t.held };
 
-    fn symbol_table(self) -> UnannouncedTable<Model::SymbolTable> {
-        UnannouncedTable {
-            table: self.model.symbol_table(),
+    fn symbol_table(self) -> UnannouncedSymbolTable<Model::SymbolTable> {
+        UnannouncedSymbolTable {
+            held: self.model.symbol_table(),
         }
     }
 
-    ghost steps_law = { λ t r u step. held-step t r u (λ s. s.table) Model.stands_for Model.may_refuse Model.Probability.whole
-        Model.Probability.base Model.rows_left (Model.steps_law t.table r u.table step) };
+    ghost steps_law = { λ t r u step. held-step t r u (λ s. s.held) Model.stands_for Model.may_refuse Model.Probability.whole
+        Model.Probability.base Model.rows_left (Model.steps_law t.held r u.held step) };
 
     ghost tile_law = { λ m. Model.tile_law m.model };
 }
@@ -172,7 +173,7 @@ fn symbols_differ(model: &Decoder)
     non_contiguous_symbols_differ::<Watched, usize, Vec<(usize, Watched)>, 24>();
 }
 
-/// The form of the same rows with a table.
+/// The form of the same rows with a lookup table.
 fn looked_up(alloc: Global, model: &Decoder) -> Result<Form, ModelError> {
     symbols_differ(model);
     match to_generic_lookup_decoder_model_of_distinct::<_, 24>(alloc, model) {
@@ -200,7 +201,7 @@ const EACH_STEP: [ChainStep; 6] = [
     ChainStep::Rebuild,
 ];
 
-/// The form that is left of a model by each kind of step.
+/// The form that each kind of step leaves of a model.
 fn converted(alloc: Global, model: Decoder) -> Result<Form, ModelError> {
     convert_chain(alloc, DecoderForm::Search(model), &EACH_STEP)
 }
@@ -230,7 +231,7 @@ fn five_thousand_symbols_are_converted_without_comparing_any(rt: HostRuntime) {
     same(&rt, told(&compared), (few, 0));
 }
 
-/// Nor does the conversion to a lookup model compare any, whether or not the walk announces how many there are.
+/// The conversion to a lookup model compares no two symbols, whether or not the walk announces how many rows there are.
 #[test]
 fn five_thousand_symbols_are_looked_up_without_comparing_any(rt: HostRuntime) {
     let compared = tally(&rt, rt.alloc());

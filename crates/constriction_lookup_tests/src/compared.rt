@@ -11,10 +11,10 @@ use constriction::stream::model::{
     SlottedNonContiguousLookupDecoderModel,
 };
 use constriction_test_models::any_symbols::{Decoder, SYMBOLS, WEIGHTS, decoder};
-use constriction_test_models::contiguous::Table;
+use constriction_test_models::contiguous::Weighted;
 use constriction_test_models::given::of_four;
 use constriction_words::WholeNumber;
-use std::alloc::{AllocError, Global};
+use std::alloc::AllocError;
 
 /// A lookup model with four slots of 16 quantiles each.
 type Tabled = SlottedContiguousLookupDecoderModel<u8, Vec<u8>, Vec<u8>, 6, 2>;
@@ -30,8 +30,8 @@ type TabledLetters = SlottedNonContiguousLookupDecoderModel<
 >;
 
 /// How many of four rows a search for the quantile 20 compares.
-fn by_a_search(model: &Table<6>) -> Result<usize, AllocError>
-    requires { ⟦<Table<6> as EntropyModel<6>>⟧.rows model.now ≡ contiguous_rows (3 ∷ 18 ∷ 1 ∷ 42 ∷ []) }
+fn by_a_search(model: &Weighted<6>) -> Result<usize, AllocError>
+    requires { ⟦<Weighted<6> as EntropyModel<6>>⟧.rows model.now ≡ contiguous_rows (3 ∷ 18 ∷ 1 ∷ 42 ∷ []) }
     ensures { IfOk result (λ compared. compared ≡ digits 3) }
 {
     match model.counted_quantile_function(20) {
@@ -40,7 +40,7 @@ fn by_a_search(model: &Table<6>) -> Result<usize, AllocError>
     }
 }
 
-/// The same of however many letters.
+/// The same of any number of letters.
 fn among_letters(model: &Decoder<6>) -> Result<usize, AllocError>
     ensures { IfOk result (λ compared. compared
         ≡ digits (length (⟦<Decoder<6> as EntropyModel<6>>⟧.rows model.now) - 1)) }
@@ -51,9 +51,9 @@ fn among_letters(model: &Decoder<6>) -> Result<usize, AllocError>
     }
 }
 
-/// How often a lookup model of four rows compares the quantiles 2, whose slot two rows meet, and 40, whose slot the last
-/// row alone meets.
-fn by_a_table(model: &Tabled) -> Result<(usize, usize), AllocError>
+/// How often a lookup model of four rows compares two quantiles: 2, whose slot two rows meet, and 40, whose slot the last row
+/// alone meets.
+fn by_a_lookup_table(model: &Tabled) -> Result<(usize, usize), AllocError>
     requires { ⟦<Tabled as EntropyModel<6>>⟧.rows model.now ≡ contiguous_rows (3 ∷ 18 ∷ 1 ∷ 42 ∷ []) }
     ensures { IfOk result (λ compared. (compared.0 ≡ max 2 (digits 1)) × (compared.1 ≡ max 2 (digits 0))) }
 {
@@ -67,8 +67,8 @@ fn by_a_table(model: &Tabled) -> Result<(usize, usize), AllocError>
     }
 }
 
-/// The same of however many letters, and the quantile 20, whose slot is the second one.
-fn by_a_table_of_letters(model: &TabledLetters) -> Result<usize, AllocError>
+/// How often a lookup model of any number of letters compares the quantile 20, whose slot is the second one.
+fn by_a_lookup_table_of_letters(model: &TabledLetters) -> Result<usize, AllocError>
     ensures few { IfOk result (λ compared. compared
         ≤ digits (length (⟦<TabledLetters as EntropyModel<6>>⟧.rows model.now) - 1)) }
     ensures counted { IfOk result (λ compared. compared
@@ -96,27 +96,33 @@ where
     }
 }
 
-/// A search of four rows compares the quantile twice, and a table as often, as three rows meet the slot of 20. A
-/// reference to a model searches as the model does.
+/// A search of four rows compares the quantile 20 twice. The lookup model compares it as often, since three rows meet the slot
+/// of 20. A reference to a model searches as the model does.
 #[test]
-fn a_search_compares_two_of_four_rows_and_a_table_those_of_a_slot(rt: HostRuntime) {
+fn a_search_compares_two_of_four_rows_and_a_lookup_table_those_of_a_slot(rt: HostRuntime) {
     let model = of_four(rt.alloc(), [3, 18, 1, 42]).expect(&rt, "accepted");
     same(&rt, by_a_search(&model), Ok(2));
     same(&rt, counted(&&model, 20), Some(2));
-    let tabled: Tabled = LookupDecoderModel::with_table(rt.alloc(), model).expect(&rt, "a table");
-    same(&rt, by_a_table(&tabled), Ok((2, 2)));
+    let tabled: Tabled = LookupDecoderModel::with_table(rt.alloc(), model).expect(
+        &rt,
+        "a lookup model",
+    );
+    same(&rt, by_a_lookup_table(&tabled), Ok((2, 2)));
     same(&rt, counted(&tabled, 20), Some(2));
 }
 
-/// A model of two rows has few rows, whatever its slots are: where one row meets the slot nothing is compared, and where
-/// two do, the quantile once.
+/// Among two rows a search makes one comparison. The lookup model makes one where both rows meet the slot of the quantile, and
+/// none where one row does.
 #[test]
 fn among_two_rows_one_comparison_is_made_at_most(rt: HostRuntime) {
     let weights: [u8; 2] = [3, 61];
-    let model = Table::<6>::from_nonzero_fixed_point_probabilities(rt.alloc(), weights, false);
+    let model = Weighted::<6>::from_nonzero_fixed_point_probabilities(rt.alloc(), weights, false);
     let model = model.expect(&rt, "accepted");
     same(&rt, counted(&model, 40), Some(1));
-    let tabled: Tabled = LookupDecoderModel::with_table(rt.alloc(), model).expect(&rt, "a table");
+    let tabled: Tabled = LookupDecoderModel::with_table(rt.alloc(), model).expect(
+        &rt,
+        "a lookup model",
+    );
     same(
         &rt,
         [counted(&tabled, 2), counted(&tabled, 40)],
@@ -126,11 +132,12 @@ fn among_two_rows_one_comparison_is_made_at_most(rt: HostRuntime) {
 
 /// The same of letters.
 #[test]
-fn a_search_compares_two_of_four_letters_and_a_table_those_of_a_slot(rt: HostRuntime) {
+fn a_search_compares_two_of_four_letters_and_a_lookup_table_those_of_a_slot(rt: HostRuntime) {
     let letters = decoder::<6>(rt.alloc(), &SYMBOLS, &WEIGHTS, false).expect(&rt, "accepted");
     same(&rt, among_letters(&letters), Ok(2));
     let tabled: TabledLetters = LookupDecoderModel::with_table(rt.alloc(), letters).expect(
-        &rt, "a table",
+        &rt,
+        "a lookup model",
     );
-    same(&rt, by_a_table_of_letters(&tabled), Ok(2));
+    same(&rt, by_a_lookup_table_of_letters(&tabled), Ok(2));
 }

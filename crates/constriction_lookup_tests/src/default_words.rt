@@ -1,4 +1,4 @@
-//! Lookup models over 24 bits of `u32`, of one row and up to 4,096, answer as the models that search.
+//! Lookup models over 24 bits of `u32`, of up to 4,096 rows, answer as the models that search.
 
 ghost use Rattle.std.specs.Prelude.{◌<◌, ◌^◌};
 
@@ -6,7 +6,7 @@ use crate::checks::same_at;
 use constriction::stream::model::{
     DecoderModel, DefaultContiguousCategoricalEntropyModel, to_generic_decoder_model,
 };
-use constriction_test_models::tables::row;
+use constriction_test_models::plain_rows::row;
 use std::alloc::{AllocError, Global};
 use std::process::Abort;
 
@@ -22,7 +22,7 @@ where
     same_at(rt, quantile, found, expected);
 }
 
-/// The next of many numbers.
+/// The number after this one in a list of pseudorandom numbers.
 fn next(number: u32) -> u32 {
     number.wrapping_mul(1_664_525).wrapping_add(1_013_904_223)
 }
@@ -40,7 +40,7 @@ where
     }
 }
 
-/// All weights but the last one of so many rows, each of which is at most so great.
+/// The weights of so many rows, without the last one. None is greater than `most`.
 fn weights(alloc: Global, rows: u32, most: u32) -> Result<Vec<u32>, AllocError> {
     let mut weights = Vec::new(alloc);
     let mut number = 2024u32;
@@ -51,20 +51,21 @@ fn weights(alloc: Global, rows: u32, most: u32) -> Result<Vec<u32>, AllocError> 
     Ok(weights)
 }
 
-/// Stops the test where a lookup model with so many slots, of numbers or of any symbols, answers otherwise than the searching one.
+/// Stops the test where a lookup model with so many slots, over numbers or over any symbols, answers otherwise than the
+/// searching one.
 fn looks_up<const SLOT_BITS: usize>(
     rt: &impl Abort,
     alloc: Global,
     searching: &DefaultContiguousCategoricalEntropyModel,
 ) {
     let made = searching.to_slotted_lookup_decoder_model::<SLOT_BITS>(alloc);
-    all_alike(rt, searching, &made.expect(rt, "a table"));
+    all_alike(rt, searching, &made.expect(rt, "a lookup model"));
     let decoder = to_generic_decoder_model::<_, 24>(alloc, searching).expect(rt, "a decoder");
     let made = decoder.to_slotted_lookup_decoder_model::<SLOT_BITS>(alloc);
-    all_alike(rt, searching, &made.expect(rt, "a table"));
+    all_alike(rt, searching, &made.expect(rt, "a lookup model"));
 }
 
-/// How many rows, and how great a weight is at most.
+/// How many rows there are, and how great a weight is at most.
 const CASES: [(u32, u32); 5] = [
     (1, 1),
     (2, 16_777_215),

@@ -1,5 +1,5 @@
-//! The tests of models that look up where to search: how many rows they compare, how large their tables are, models of a
-//! caller's own, refused memory, and time.
+//! The tests of lookup models: how many rows they compare, how large their lookup tables are, models of a caller's own,
+//! refused memory, and time.
 //!
 //! A library that has tests of its own is proved twice, so none of them has any. Tests use the
 //! public interface alone.

@@ -1,4 +1,4 @@
-//! The lookup model of any symbols: made of a model of the caller, and shown.
+//! The lookup model of any symbols: it is made of a model of the caller, and shown.
 
 ghost use Rattle.std.specs.Prelude.{◌<◌, ◌≤◌};
 
@@ -14,9 +14,8 @@ use constriction_test_models::any_symbols::plain;
 use constriction_test_models::lookup_any_symbols::{Lookup, lookup};
 use constriction_test_models::own_model::three;
 use std::alloc::Global;
-use std::process::Abort;
 
-/// Why the function makes no lookup model of a model, and why the method makes none.
+/// Why the function makes no lookup model of this model, and why the method makes none.
 pub fn refusals<M, const PRECISION: usize>(alloc: Global, source: M) -> [Option<ModelError>; 2]
 where
     M: IterableEntropyModel<PRECISION, Probability = u8> + Copy,
@@ -59,7 +58,7 @@ fn a_lookup_model_of_four_slots_is_made_of_a_model_of_the_caller(rt: HostRuntime
 }
 
 #[test]
-fn a_lookup_model_shows_its_entries_and_its_table(rt: HostRuntime) {
+fn a_lookup_model_shows_its_stored_entries_and_its_lookup_table(rt: HostRuntime) {
     let model = lookup::<1>(rt.alloc(), &['a', 'b'], &[1, 1], false).expect(&rt, "accepted");
     shows(&rt, rt.alloc(), &model, "[(0, 'a'), (1, 'b')]");
     shows(&rt, rt.alloc(), &model, "[0, 1, 0, 1, 2]");

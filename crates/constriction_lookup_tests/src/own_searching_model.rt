@@ -1,4 +1,4 @@
-//! A model of the caller that stores its rows, and a table beside it.
+//! A model of the caller that stores its rows, and a lookup table beside it.
 
 ghost use Rattle.std.specs.Prelude.{◌<◌, length};
 
@@ -7,12 +7,12 @@ use constriction::stream::model::{
     AnswersRows, DecoderModel, EntropyModel, LookupDecoderModel, StoresRows, Weight,
 };
 use constriction_test_models::any_symbols::plain;
-use constriction_test_models::contiguous::{Table, WEIGHTS, table};
+use constriction_test_models::contiguous::{WEIGHTS, Weighted, weighted};
 use std::alloc::AllocError;
 use std::cell::Cell;
 
-/// A model that counts how often it is asked for the row of a quantile. It answers the row at an index, and lends its
-/// entries, without counting.
+/// A model that counts how often it is asked for the row of a quantile. It does not count where it answers the row at an
+/// index or lends its stored entries.
 #[derive(Drop)]
 struct Counting<'c, Model> {
     model: Model,
@@ -80,19 +80,20 @@ impl<'c, Model: AnswersRows<6>> AnswersRows<6> for Counting<'c, Model> {
     }
 }
 
-/// A model with four slots of 16 quantiles each beside the caller's.
-type Tabled<'c> = LookupDecoderModel<Counting<'c, Table<6>>, Vec<u8>, 6, 2>;
+/// The caller's model with a lookup table of four slots, of 16 quantiles each.
+type Tabled<'c> = LookupDecoderModel<Counting<'c, Weighted<6>>, Vec<u8>, 6, 2>;
 
 /// Three rows meet the slot of 21, and one that of 63.
 #[test]
-fn a_table_answers_in_place_of_the_search_of_its_model(rt: HostRuntime) {
+fn a_lookup_table_answers_in_place_of_the_search_of_its_model(rt: HostRuntime) {
     let searches = Cell::new(0);
     let counting = Counting {
-        model: table::<6>(rt.alloc(), &WEIGHTS, false).expect(&rt, "accepted"),
+        model: weighted::<6>(rt.alloc(), &WEIGHTS, false).expect(&rt, "accepted"),
         searches: &searches,
     };
     let tabled: Tabled<'_> = LookupDecoderModel::with_table(rt.alloc(), counting).expect(
-        &rt, "a table",
+        &rt,
+        "a lookup model",
     );
     same(&rt, plain(tabled.quantile_function(21)), Ok((2, 21, 1)));
     same(&rt, plain(tabled.quantile_function(63)), Ok((3, 22, 42)));

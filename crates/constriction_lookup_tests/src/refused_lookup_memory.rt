@@ -5,10 +5,10 @@ use crate::checks::{end_of_requests, same};
 use crate::lookup_any_symbols::refusals;
 use constriction::stream::model::{ContiguousLookupDecoderModel, DecoderModel, ModelError, Probe};
 use constriction_test_models::any_symbols::{SYMBOLS, WEIGHTS, decoder, plain};
-use constriction_test_models::contiguous::table;
+use constriction_test_models::contiguous::weighted;
 use constriction_test_models::lookup_any_symbols::Lookup;
 use constriction_test_models::own_model::three;
-use constriction_test_models::tables::look_up;
+use constriction_test_models::plain_rows::look_up;
 use std::process::Abort;
 
 type Contiguous = ContiguousLookupDecoderModel<u8, Vec<u8>, Vec<u8>, 6>;
@@ -30,7 +30,7 @@ fn are_made_or_refused(rt: &impl Abort, refusals: &[Option<ModelError>]) {
     }
 }
 
-/// The weights do not announce how many they are, so that the rows grow.
+/// The weights do not announce how many they are, so that the stored entries grow.
 #[test]
 fn a_refusal_of_memory_leaves_no_contiguous_model(rt: HostRuntime) {
     let weights = WEIGHTS.iter().copied().filter(|weight| *weight > 0);
@@ -58,7 +58,7 @@ fn a_refusal_of_memory_leaves_no_model_of_letters(rt: HostRuntime) {
     end_of_requests(&rt);
 }
 
-/// Whether a lookup model, views of it and the searching model of its rows answer, which takes no memory.
+/// Whether a lookup model, views of it and the searching model of its rows answer. None of them asks for memory.
 fn answers_without_memory(model: Contiguous) -> bool {
     let row = Some((2, 21, 1));
     let (first, rows) = model.quantile_probe(21);
@@ -70,7 +70,7 @@ fn answers_without_memory(model: Contiguous) -> bool {
 
 #[test]
 fn a_refusal_of_memory_leaves_the_searching_model(rt: HostRuntime) {
-    if let Ok(model) = table::<6>(rt.alloc(), &WEIGHTS, false) {
+    if let Ok(model) = weighted::<6>(rt.alloc(), &WEIGHTS, false) {
         let made = model.to_lookup_decoder_model(rt.alloc());
         same(&rt, is_made_or_refused(&made), true);
         same(&rt, plain(model.quantile_function(21)), Ok((2, 21, 1)));
@@ -92,7 +92,7 @@ fn a_refusal_of_memory_leaves_the_searching_model_of_letters(rt: HostRuntime) {
     end_of_requests(&rt);
 }
 
-/// The table of this model announces no row, so that what is made of it grows.
+/// The symbol table of this model announces no row, so that what is made of it grows.
 #[test]
 fn a_refusal_of_memory_leaves_a_model_of_the_caller(rt: HostRuntime) {
     are_made_or_refused(&rt, &refusals::<_, 3>(rt.alloc(), &three('p', 'q', 'r')));

@@ -1,4 +1,4 @@
-//! How many words a table has, and models that store their rows, as their bound lends them.
+//! How many words a lookup table has, and the stored entries that a model lends.
 
 ghost use Rattle.std.specs.Prelude.{◌<◌, ◌≤◌, length};
 
@@ -11,7 +11,7 @@ use constriction_words::WholeNumber;
 use std::alloc::Global;
 use std::process::Abort;
 
-/// The row at an index of a model that stores its rows, and how many entries it lends.
+/// The row at an index of a model that stores its rows, and how many stored entries it lends.
 fn stored<M>(model: &M, index: usize) -> Option<(usize, u16, u16, usize)>
 where
     M: AnswersRows<12> + EntropyModel<12, Symbol = usize, Probability = u16>,
@@ -45,7 +45,7 @@ type Slotted<const PRECISION: usize, const SLOT_BITS: usize> = SlottedContiguous
     SLOT_BITS,
 >;
 
-/// Stops the test where the lookup model of two weights is not shown with these words.
+/// Stops the test where the text that shows the lookup model of two weights does not have these words.
 fn has_words<const PRECISION: usize, const SLOT_BITS: usize>(
     rt: &impl Abort,
     alloc: Global,
@@ -61,9 +61,10 @@ fn has_words<const PRECISION: usize, const SLOT_BITS: usize>(
     shows(rt, alloc, &made.expect(rt, "accepted"), words);
 }
 
-/// A table has one word for each quantile, or two for each of the slots that are fewer. Before it stand the rows.
+/// A lookup table has one word for each slot where the slots are as many as the quantiles, and two where they are fewer. The
+/// words of the contiguous model are shown before it.
 #[test]
-fn a_table_has_as_many_words_as_its_slots_need(rt: HostRuntime) {
+fn a_lookup_table_has_as_many_words_as_its_slots_need(rt: HostRuntime) {
     has_words::<1, 8>(&rt, rt.alloc(), [1, 1], "[0, 1, 2]");
     has_words::<1, 8>(&rt, rt.alloc(), [1, 1], "[0, 1]");
     has_words::<2, 64>(&rt, rt.alloc(), [1, 3], "[0, 1, 1, 1]");

@@ -1,5 +1,5 @@
 //! Lookup models with many rows: the questions of a search among the rows that meet a slot, and weights that are refused
-//! before there is a table.
+//! before there is a lookup table.
 
 ghost use Rattle.std.specs.Prelude.{◌<◌, ◌^◌};
 
@@ -8,11 +8,11 @@ use constriction::stream::model::{
     ContiguousLookupDecoderModel, DecoderModel, ModelError, Probe,
     SlottedContiguousLookupDecoderModel, row_of_quantile,
 };
-use constriction_test_models::tables::row;
+use constriction_test_models::plain_rows::row;
 use std::alloc::Global;
 use std::iter;
 
-/// A lookup model whose number of slots is not given, which is 256 then.
+/// A lookup model with 256 slots, since their number is not given.
 type Lookup<const PRECISION: usize> = ContiguousLookupDecoderModel<
     usize,
     Vec<usize>,
@@ -20,7 +20,7 @@ type Lookup<const PRECISION: usize> = ContiguousLookupDecoderModel<
     PRECISION,
 >;
 
-/// The same whose words are `u16`.
+/// The same over words that are `u16`.
 type Narrow<const PRECISION: usize> = ContiguousLookupDecoderModel<
     u16,
     Vec<u16>,
@@ -88,9 +88,9 @@ fn is_found(model: &Lookup<40>, quantile: usize) -> bool
         && rows.asked() <= 22
 }
 
-/// The model of 4,194,303 rows of weight 1 in the first slot, and one row of all that is left. Each of these rows is
-/// found by at most 22 questions. `counted_quantile_function` says how often it compared a quantile; that it counts each
-/// comparison no clause says. If it went over the rows, these 4,194,303 look-ups would not end within a minute.
+/// The model has 4,194,303 rows of weight 1 in the first slot, and one row of all quantiles that are left. Each of the rows of
+/// weight 1 is found by at most 22 questions. `counted_quantile_function` says how often it compared a quantile, and no clause
+/// says that it counts each comparison. If it went over the rows, these 4,194,303 look-ups would not end within a minute.
 #[test]
 fn a_slot_that_4_194_304_rows_meet_is_searched(rt: HostRuntime) {
     let ones = iter::repeat_n(1usize, 4_194_303);
@@ -101,7 +101,7 @@ fn a_slot_that_4_194_304_rows_meet_is_searched(rt: HostRuntime) {
     }
 }
 
-/// A lookup model with a slot for each of 2^60 quantiles. Memory for its table is nowhere to be had.
+/// A lookup model with a slot for each of 2^60 quantiles. No machine has memory for its lookup table.
 type Vast = SlottedContiguousLookupDecoderModel<usize, Vec<usize>, Vec<usize>, 60, 60>;
 
 /// Why two weights are refused.
@@ -109,10 +109,10 @@ fn refused_for(alloc: Global, weights: [usize; 2], infer_last: bool) -> Option<M
     Vast::from_nonzero_fixed_point_probabilities(alloc, weights, infer_last).err()
 }
 
-/// Memory is refused for the table of weights that are accepted. It was not asked for where the second weight is more
-/// than there are quantiles.
+/// Where weights are accepted, memory for the lookup table is refused. Where the second weight is more than there are
+/// quantiles, the weights are refused, and that memory is not asked for.
 #[test]
-fn weights_are_refused_before_a_table_grows(rt: HostRuntime) {
+fn weights_are_refused_before_a_lookup_table_grows(rt: HostRuntime) {
     let accepted = refused_for(rt.alloc(), [1, (1 << 60) - 1], false);
     same(&rt, accepted, Some(ModelError::OutOfMemory));
     for infer_last in [false, true] {

@@ -14,9 +14,10 @@ use constriction::stream::model::{
     SmallUniformModel, UniformModel,
 };
 
-/// The entries of a model of letters over 24 bits, and over 12.
+/// The stored entries of a model of letters over 24 bits.
 type Default = Vec<(u32, char)>;
 
+/// The stored entries of a model of letters over 12 bits.
 type Small = Vec<(u16, char)>;
 
 /// The test is not built where a name stands for another type than the one that is written beside it.

@@ -58,8 +58,8 @@ fn why_there_is_no_model_is_said_in_a_sentence(rt: HostRuntime) {
     }
 }
 
-/// More weights are announced than there is memory for. It is not asked for as a whole, or not needed: they are refused
-/// by the first.
+/// More weights are announced than there is memory for. The first one is 0, so they are refused as invalid, and not for want of
+/// memory.
 #[test]
 fn an_announced_length_takes_no_memory_that_an_accepted_list_would_not(rt: HostRuntime) {
     let none_and_many = iter::once(0u64).chain(iter::repeat_n(1u64, 1 << 60));
@@ -71,8 +71,8 @@ fn an_announced_length_takes_no_memory_that_an_accepted_list_would_not(rt: HostR
     same(&rt, refused.err(), Some(ModelError::InvalidTable));
 }
 
-/// One request, for as many words as accepted weights need, is enough to refuse 2^60 weights. If as many words were asked
-/// for as are announced, that would be refused, and there would be a request for each growth.
+/// One request, for as many words as the longest accepted list needs, is enough to refuse 2^60 weights. If memory for all
+/// announced weights were asked for, it would be refused, and there would be a request for each growth.
 #[test]
 fn a_refusal_of_memory_leaves_no_model_of_more_weights_than_quantiles(rt: HostRuntime) {
     let many = iter::repeat_n(1u64, 1 << 60);
@@ -81,7 +81,7 @@ fn a_refusal_of_memory_leaves_no_model_of_more_weights_than_quantiles(rt: HostRu
     end_of_few_requests(&rt, 1);
 }
 
-/// It stores where each row begins, and the total after them.
+/// The words of a contiguous model say where each row begins, and then the total.
 #[test]
 fn a_model_shows_its_words(rt: HostRuntime) {
     let model = small(&rt, rt.alloc());
@@ -89,7 +89,7 @@ fn a_model_shows_its_words(rt: HostRuntime) {
 }
 
 #[test]
-fn a_uniform_model_is_shown_and_a_table_is_made_of_it(rt: HostRuntime) {
+fn a_uniform_model_is_shown_and_a_symbol_table_is_made_of_it(rt: HostRuntime) {
     let five = SmallUniformModel::new(5);
     shows(&rt, rt.alloc(), &five, "UniformModel");
     same(&rt, UniformSymbolTable::new(five).len(), 5);

@@ -21,7 +21,7 @@ use std::alloc::Global;
 use std::iter;
 use std::process::Abort;
 
-/// A symbol that the compiler compares, orders and hashes.
+/// A symbol whose comparison, order and hash are derived.
 #[derive(Clone, Copy, Debug, PartialEq, Eq, PartialOrd, Ord, Hash)]
 enum Move {
     Left,
@@ -39,7 +39,7 @@ type WideNumbers = NonContiguousCategoricalDecoderModel<u32, u32, Vec<(u32, u32)
 
 type NumberLookup = NonContiguousLookupDecoderModel<usize, u8, Vec<(u8, usize)>, Vec<u8>, 6>;
 
-/// Stops the test where no model was made, or it does not have the second move from 16 to 31.
+/// Stops the test where no model was made, or where its row of the quantile 31 is not that of the second move.
 fn has_moves(rt: &impl Abort, made: Result<Moves, ModelError>) {
     let model = made.expect(rt, "a model");
     let found = plain(model.quantile_function(31));
@@ -70,7 +70,7 @@ fn owned(rt: &impl Abort, alloc: Global, text: &str) -> String {
     String::from_str(alloc, text).expect(rt, "memory")
 }
 
-/// Stops the test where no model was made, or the quantile has not the text.
+/// Stops the test where no model was made, or where the row of the quantile has another text.
 fn has_text(rt: &impl Abort, made: Result<Texts, ModelError>, quantile: u8, text: &str)
     requires { quantile < 64 }
 {
@@ -117,7 +117,7 @@ fn of_distinct(alloc: Global, symbols: [usize; 4], weights: [u8; 4]) -> Result<N
     )
 }
 
-/// Stops the test where no lookup model was made, or another number has the quantile 21.
+/// Stops the test where no lookup model was made, or where the row of the quantile 21 has another number.
 fn looks_up(rt: &impl Abort, made: Result<NumberLookup, ModelError>, number: usize) {
     let model = made.expect(rt, "a model");
     same(rt, plain(model.quantile_function(21)), Ok((number, 21, 1)));
@@ -217,8 +217,9 @@ fn refused_encoder(alloc: Global) -> Option<ModelError> {
     made.err()
 }
 
-/// Entries are asked for by one request, and a hash table by four, for as many as accepted lists need, which is enough to
-/// refuse 2^60 symbols. If as many were asked for as are announced, there would be a request for each growth.
+/// Memory for the stored entries is asked for by one request, and that for a hash table by four. Each asks for as much as the
+/// longest accepted list needs, which is enough to refuse 2^60 symbols. If memory for all announced symbols were asked for, it
+/// would be refused, and there would be a request for each growth.
 #[test]
 fn a_refusal_of_memory_leaves_no_model_of_more_symbols_than_quantiles(rt: HostRuntime) {
     let [compared, hashed] = refused_decoders(rt.alloc());

@@ -12,7 +12,7 @@ use constriction::stream::model::{
 use constriction_words::{BitArray, NonZeroBitArray};
 use std::alloc::AllocError;
 
-/// Where the row after a quantile's begins, modulo `2^BITS`, by any decoder over these words.
+/// Where the row of a quantile ends, modulo `2^BITS`, by any decoder over these words.
 pub fn end_of_row<Symbol: Drop, Word: BitArray, D, const PRECISION: usize>(
     model: &D,
     quantile: Word,
@@ -29,7 +29,7 @@ where
     }
 }
 
-/// The number of quantiles of a quantile's row, by a decoder over any words that compute.
+/// The weight of the row of a quantile, by a decoder over any `BitArray`.
 pub fn weight_of_row<M: DecoderModel<PRECISION>, const PRECISION: usize>(
     model: &M,
     quantile: M::Probability,
@@ -60,7 +60,7 @@ where
     }
 }
 
-/// The quantile after the first one of a quantile's row, modulo `2^BITS`, by a model over any words.
+/// The quantile after the first one of the row of a quantile, modulo `2^BITS`, by a contiguous model over any words.
 pub fn after_the_first<Word: BitArray, const PRECISION: usize>(
     model: &ContiguousCategoricalEntropyModel<Word, Vec<Word>, PRECISION>,
     quantile: Word,
@@ -73,7 +73,7 @@ pub fn after_the_first<Word: BitArray, const PRECISION: usize>(
     }
 }
 
-/// The last quantile of a quantile's row, by any decoder over `u16`.
+/// The last quantile of the row of a quantile, by any decoder over `u16`.
 fn last_of_row<M: DecoderModel<12, Probability = u16>>(
     model: &M,
     quantile: u16,

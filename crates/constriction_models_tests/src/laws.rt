@@ -1,5 +1,5 @@
-//! What a caller has from the laws of models: over the contiguous model, and over a model of the
-//! caller with a table of its own.
+//! What a caller has from the laws of models: over the contiguous model, and over a model of the caller with a symbol table
+//! of its own.
 
 ghost use Rattle.std.specs.Prelude.{◌≡◌, ◌↔◌, ◌<◌, ◌≤◌, ◌^◌, ◌-◌, ℕ, [], ◌∷◌, length, map, drop, IfOk};
 ghost use Rattle.std.specs.Iterator.{at_most};
@@ -17,17 +17,17 @@ use constriction::laws::{
 use constriction::stream::model::{
     DecoderModel, EncoderModel, EntropyModel, IterableEntropyModel, Weight,
 };
-use constriction_test_models::contiguous::Table;
+use constriction_test_models::contiguous::Weighted;
 use constriction_words::{BitArray, WholeNumber};
 use std::alloc::{AllocError, Global};
 
-/// Decodes a quantile to a symbol and an offset, and encodes these: it comes back.
-fn back(model: &Table<6>, quantile: u8) -> u8
+/// Decodes a quantile to a symbol and an offset, and encodes these to the quantile that they came from.
+fn back(model: &Weighted<6>, quantile: u8) -> u8
     requires { quantile < 64 }
     ensures { result ≡ quantile }
 {
     contiguous_symbols_differ();
-    pairs_are_quantiles::<Table<6>, Table<6>, 6>();
+    pairs_are_quantiles::<Weighted<6>, Weighted<6>, 6>();
     let (symbol, left, _) = match model.quantile_function(quantile) {
         Ok(row) => row,
         Err(AllocError) => unreachable!(),
@@ -39,7 +39,7 @@ fn back(model: &Table<6>, quantile: u8) -> u8
     }
 }
 
-/// How many items a table has: as many as the model has rows.
+/// How many items the symbol table of a model has: as many as the model has rows.
 fn count<M, const PRECISION: usize>(model: M) -> usize
 where
     M: IterableEntropyModel<PRECISION>,
@@ -51,8 +51,8 @@ where
     model.symbol_table().count()
 }
 
-/// The rows of a model, as its table gives them.
-fn read_table<M, const PRECISION: usize>(
+/// The rows of a model, as its symbol table gives them.
+fn read_rows<M, const PRECISION: usize>(
     alloc: Global,
     model: M,
 ) -> Result<Vec<(M::Symbol, M::Probability, Weight<M::Probability>)>, AllocError>
@@ -70,7 +70,7 @@ where
     Ok(rows)
 }
 
-/// What [`read_table`] gives of a model.
+/// What [`read_rows`] gives of a model.
 type Rows<M, const PRECISION: usize> = Vec<
     (
         <M as EntropyModel<PRECISION>>::Symbol,
@@ -79,7 +79,7 @@ type Rows<M, const PRECISION: usize> = Vec<
     ),
 >;
 
-/// The rows of two models that answer alike, each by its own table: they are the same.
+/// The rows of two models that answer alike, each read from its own symbol table: they are the same.
 fn read_both<M, N, const PRECISION: usize>(
     alloc: Global,
     model: M,
@@ -99,7 +99,7 @@ where
         ≡ map (row_of N.Probability.whole N.Probability.base) t.1.items) }
 {
     equal_answers::<M, N, PRECISION>();
-    match (read_table(alloc, model), read_table(alloc, other)) {
+    match (read_rows(alloc, model), read_rows(alloc, other)) {
         (Ok(rows), Ok(others)) => Ok((rows, others)),
         _ => Err(AllocError),
     }
@@ -135,12 +135,12 @@ impl DecoderModel<2> for ThreeLetters {
 
 /// The walk through its rows.
 #[derive(Drop)]
-struct ThreeLetterTable {
+struct ThreeLetterSymbolTable {
     next: u8,
     ghost within: { next ≤ 3 },
 }
 
-impl Iterator for ThreeLetterTable {
+impl Iterator for ThreeLetterSymbolTable {
     type Item = Result<(u8, u8, Weight<u8>), AllocError>;
 
     ghost next_gives = { YieldsRow (λ s t. t ≡ s) (λ _. ⊥) ⟦<u8 as WholeNumber>⟧.whole ⟦<u8 as WholeNumber>⟧.base
@@ -161,7 +161,7 @@ impl Iterator for ThreeLetterTable {
 }
 
 impl IterableEntropyModel<2> for ThreeLetters {
-    type SymbolTable = ThreeLetterTable;
+    type SymbolTable = ThreeLetterSymbolTable;
 
     ghost stands_for = { λ s t. t ≡ s };
 
@@ -169,8 +169,8 @@ impl IterableEntropyModel<2> for ThreeLetters {
 
     ghost rows_left = { λ t. drop t.next (rows_of (97 ∷ 98 ∷ 99 ∷ []) (1 ∷ 2 ∷ 1 ∷ [])) };
 
-    fn symbol_table(self) -> ThreeLetterTable {
-        ThreeLetterTable { next: 0 }
+    fn symbol_table(self) -> ThreeLetterSymbolTable {
+        ThreeLetterSymbolTable { next: 0 }
     }
 
     ghost steps_law = { λ t r u h. h };
@@ -178,7 +178,7 @@ impl IterableEntropyModel<2> for ThreeLetters {
     ghost tile_law = { λ _. Prim.search rules };
 }
 
-/// Its table has three items.
+/// Its symbol table has three items.
 fn count_letters() -> usize
     ensures { result ≡ 3 }
 {
@@ -193,7 +193,7 @@ fn quantiles_come_back_from_symbols_and_offsets(rt: HostRuntime) {
     }
 }
 
-/// By the model, and by a reference to it.
+/// The rows that are read of the model, and of a reference to it.
 fn read_letters(
     alloc: Global,
 ) -> Result<(Rows<ThreeLetters, 2>, Rows<&'static ThreeLetters, 2>), AllocError> {
@@ -201,7 +201,7 @@ fn read_letters(
 }
 
 #[test]
-fn a_table_of_the_caller_is_read(rt: HostRuntime) {
+fn a_symbol_table_of_the_caller_is_read(rt: HostRuntime) {
     same(&rt, count_letters(), 3);
     let one = 1u8.into_nonzero_unchecked();
     let two = 2u8.into_nonzero_unchecked();

@@ -3,13 +3,13 @@
 use crate::checks::same;
 use constriction::stream::model::{DecoderModel, ModelError};
 use constriction_test_models::any_symbols::{Decoder, plain};
-use constriction_test_models::contiguous::{Small, WEIGHTS, table};
+use constriction_test_models::contiguous::{Small, WEIGHTS, weighted};
 use std::alloc::Global;
 use std::process::Abort;
 
 /// The model of the weights 3, 18, 1 and 42.
 pub fn small(rt: &impl Abort, alloc: Global) -> Small {
-    table(alloc, &WEIGHTS, false).expect(rt, "accepted")
+    weighted(alloc, &WEIGHTS, false).expect(rt, "accepted")
 }
 
 /// Stops the test where the model of letters has another row of 21.

@@ -18,8 +18,8 @@ use constriction_test_models::own_model::{Triple, three};
 use std::alloc::Global;
 use std::process::Abort;
 
-/// The decoder's model of three letters: it has exactly their rows, and there is none where the first
-/// and the third are the same.
+/// The decoder's model of three letters. It has exactly their rows. It is not made where the first letter and the third one are
+/// the same.
 fn decoder_of(alloc: Global, model: &Triple) -> Result<Decoder<char, 3>, ModelError>
     ensures ok { IfOk result (λ d. ⟦<Decoder<char, 3> as EntropyModel<3>>⟧.rows d
         ≡ rows_of (model.now.first ∷ model.now.second ∷ model.now.third ∷ []) (2 ∷ 5 ∷ 1 ∷ [])) }
@@ -35,8 +35,7 @@ fn letters_differ(model: &Decoder<char, 3>)
     non_contiguous_symbols_differ::<char, u8, Vec<(u8, char)>, 3>();
 }
 
-/// The decoder's model of three letters, which are known to differ once another one was made of them. The walk through
-/// the caller's rows announces none.
+/// The decoder's model of three letters that are known to differ, since a decoder's model that compared them was made first.
 #[tactic(auto, using(crate::proofs::DistinctLemmas::same_are_equal))]
 fn decoder_of_distinct(alloc: Global, model: &Triple) -> Result<Decoder<char, 3>, ModelError> {
     match decoder_of(alloc, model) {

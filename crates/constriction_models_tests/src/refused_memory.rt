@@ -11,17 +11,17 @@ use constriction::stream::model::{
 use constriction_test_models::any_symbols::{
     Decoder, Encoder, SYMBOLS, WEIGHTS, decoder, encoder, entry,
 };
-use constriction_test_models::contiguous::{Table, table};
+use constriction_test_models::contiguous::{Weighted, weighted};
 use constriction_test_models::own_model::three;
-use constriction_test_models::tables::row;
+use constriction_test_models::plain_rows::row;
 use std::alloc::Global;
 
 type Texts = NonContiguousCategoricalDecoderModel<String, u8, Vec<(u8, String)>, 6>;
 
-/// The contiguous model of weights that do not announce how many they are, so that its rows grow.
-fn grown_contiguous(alloc: Global) -> Result<Table<6>, ModelError> {
+/// The contiguous model of weights that do not announce how many they are, so that its words grow.
+fn grown_contiguous(alloc: Global) -> Result<Weighted<6>, ModelError> {
     let weights = WEIGHTS.iter().copied().filter(|weight| *weight > 0);
-    Table::from_nonzero_fixed_point_probabilities(alloc, weights, false)
+    Weighted::from_nonzero_fixed_point_probabilities(alloc, weights, false)
 }
 
 #[test]
@@ -34,7 +34,7 @@ fn a_refusal_of_memory_leaves_no_contiguous_model(rt: HostRuntime) {
     end_of_requests(&rt);
 }
 
-/// The letters do not announce how many they are, so that the entries grow.
+/// The letters do not announce how many they are, so that the stored entries grow.
 #[test]
 fn a_refusal_of_memory_leaves_no_decoder(rt: HostRuntime) {
     let made = Decoder::<6>::from_symbols_and_nonzero_fixed_point_probabilities(
@@ -77,7 +77,7 @@ fn a_refusal_of_memory_leaves_the_model_that_others_are_made_from(rt: HostRuntim
     end_of_requests(&rt);
 }
 
-/// The table of this model announces no row, so that what is made of it grows.
+/// The symbol table of this model announces no row, so that what is made of it grows.
 #[test]
 fn a_refusal_of_memory_leaves_a_model_of_the_caller(rt: HostRuntime) {
     let model = three('p', 'q', 'r');
@@ -101,7 +101,7 @@ fn of_texts(alloc: Global) -> Result<Texts, ModelError> {
     }
 }
 
-/// No text is cloned: the texts and the entries are all that asks for memory.
+/// No text is cloned. Memory is asked for the texts and for the stored entries alone.
 #[test]
 fn a_refusal_of_memory_leaves_no_model_of_texts(rt: HostRuntime) {
     same(&rt, is_made_or_refused(&of_texts(rt.alloc())), true);
@@ -109,7 +109,7 @@ fn a_refusal_of_memory_leaves_no_model_of_texts(rt: HostRuntime) {
 }
 
 /// Whether a contiguous model and a view of it answer.
-fn numbers_answer(model: &Table<6>) -> bool {
+fn numbers_answer(model: &Weighted<6>) -> bool {
     let view = model.as_view();
     let (first, mut rows) = view.quantile_probe(21);
     first.wrapping_add(row_of_quantile(&mut rows, 21)) == 2
@@ -124,11 +124,11 @@ fn a_uniform_model_answers() -> bool {
         && model.left_cumulative_and_probability(&10).is_none()
 }
 
-/// The models ask for memory when they are made. Whichever of these requests is refused, what is asked after that takes
-/// none, and succeeds.
+/// Memory is asked for while the models are made. Whichever of these requests is refused, the models that are there answer, for
+/// which no memory is asked for.
 #[test]
 fn a_refusal_of_memory_leaves_the_queries_that_take_none(rt: HostRuntime) {
-    let numbers = table::<6>(rt.alloc(), &WEIGHTS, false);
+    let numbers = weighted::<6>(rt.alloc(), &WEIGHTS, false);
     let letters = encoder::<6>(rt.alloc(), &SYMBOLS, &WEIGHTS, false);
     if let Ok(model) = &numbers {
         same(&rt, numbers_answer(model), true);

@@ -1,4 +1,4 @@
-//! The counted search over a table of the caller, and over as many rows as need one.
+//! The counted search over a probe of the caller, and in a model of 4,194,304 rows.
 
 ghost use Rattle.std.specs.Prelude.{◌≤◌, ◌<◌, ◌^◌, ◌+◌};
 ghost use Rattle.constriction_models_tests.specs.Evens.{evens};
@@ -8,11 +8,11 @@ use constriction::stream::model::{
     Alone, CdfEntry, CdfProbe, DecoderModel, DefaultContiguousCategoricalEntropyModel, Probe,
     WithSymbol, row_of_quantile,
 };
-use constriction_test_models::tables::row;
+use constriction_test_models::plain_rows::row;
 use constriction_words::WholeNumber;
 use std::iter;
 
-/// A table of the caller that is computed: the even numbers from 0 on.
+/// A probe of the caller, whose cumulatives are computed: the even numbers from 0 on.
 #[derive(Drop)]
 struct Evens {
     size: usize,
@@ -47,7 +47,7 @@ impl Probe for Evens {
 
 #[test]
 #[tactic(auto, using(crate::proofs::EvenLemmas::length_evens))]
-fn a_table_of_the_caller_is_searched(rt: HostRuntime) {
+fn a_probe_of_the_caller_is_searched(rt: HostRuntime) {
     let mut rows = Evens {
         size: 1000,
         asked: 0,
@@ -57,7 +57,7 @@ fn a_table_of_the_caller_is_searched(rt: HostRuntime) {
 }
 
 #[test]
-fn entries_tell_their_cumulatives(rt: HostRuntime) {
+fn stored_entries_tell_their_cumulatives(rt: HostRuntime) {
     same(&rt, <Alone as CdfEntry<u8>>::cumulative_of(&7), 7);
     same(
         &rt,
@@ -67,7 +67,7 @@ fn entries_tell_their_cumulatives(rt: HostRuntime) {
 }
 
 #[test]
-fn a_probe_of_entries_counts_its_questions(rt: HostRuntime) {
+fn a_probe_of_stored_entries_counts_its_questions(rt: HostRuntime) {
     let entries: [u8; 4] = [0, 3, 21, 22];
     let mut rows = CdfProbe::<u8, Alone>::new(entries.as_slice());
     same(&rt, [rows.len(), rows.asked()], [4, 0]);
@@ -81,8 +81,8 @@ fn a_probe_of_entries_counts_its_questions(rt: HostRuntime) {
 
 type Wide = DefaultContiguousCategoricalEntropyModel;
 
-/// Whether a symbol has the last of the four quantiles from `left` on, and the counted search finds it by
-/// at most 22 questions.
+/// Whether the row of a quantile, the last one of four from `left` on, has this symbol, and whether the counted search finds
+/// it by at most 22 questions.
 fn is_found(model: &Wide, symbol: usize, left: u32) -> bool
     requires { left + 3 < 2 ^ 24 }
 {
@@ -92,9 +92,8 @@ fn is_found(model: &Wide, symbol: usize, left: u32) -> bool
     answer == Some((symbol, left, 4)) && found == symbol && rows.asked() <= 22
 }
 
-/// The last quantile of each of 4,194,304 rows. `counted_quantile_function` says how often it compared a quantile; that it
-/// counts each comparison no clause says. If it went over the rows, these look-ups would not end within a
-/// minute.
+/// The last quantile of each of 4,194,304 rows is looked up. `counted_quantile_function` says how often it compared a quantile,
+/// and no clause says that it counts each comparison. If it went over the rows, these look-ups would not end within a minute.
 #[test]
 fn a_look_up_does_not_go_over_all_rows(rt: HostRuntime) {
     let fours = iter::repeat_n(4u32, 4_194_304);

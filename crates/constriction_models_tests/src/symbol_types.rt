@@ -1,4 +1,4 @@
-//! Models of symbols whose type says itself what is equal, or which values may be cloned.
+//! Models of symbols whose type says itself which symbols are equal, or which may be cloned.
 
 ghost use Rattle.std.specs.Prelude.{◌%◌, ◌==◌, ◌<◌};
 ghost use Rattle.std.specs.Cmp.Rules.{comparing, hashing};
@@ -18,7 +18,7 @@ use std::alloc::{AllocError, Global};
 use std::hash::{Hash, Hasher};
 use std::process::Abort;
 
-/// A tag, which is told by its last digit alone.
+/// A tag. Two tags are equal where their numbers have the same last digit.
 #[derive(Clone, Copy)]
 struct Tag(u32);
 
@@ -58,7 +58,7 @@ fn tag_row(answer: Result<(Tag, u8, Weight<u8>), AllocError>) -> Option<(u32, u8
     }
 }
 
-/// Two rows of tags, of the quantiles 31 and 32.
+/// The rows of the quantiles 31 and 32, over tags.
 type TagRows = [Option<(u32, u8, u8)>; 2];
 
 /// The rows of the decoder's model of two tags, 32 quantiles each.
@@ -118,7 +118,7 @@ fn letter_row(answer: Result<(Letter, u8, Weight<u8>), AllocError>) -> Result<Ro
     }
 }
 
-/// Whether a step is from the back, and the row that it gives, or the refusal in its place.
+/// Whether a step is from the back, and what it gives: a row, or the refusal in the place of one.
 type Step = (bool, Option<Result<Row, AllocError>>);
 
 const STEPS: [[Step; 5]; 2] = [
@@ -138,15 +138,19 @@ const STEPS: [[Step; 5]; 2] = [
     ],
 ];
 
-/// Stops the test where the walk does not go in these steps.
-fn walks(rt: &impl Abort, table: NonContiguousSymbolTable<'_, Letter, u8, 6>, steps: &[Step]) {
-    let mut table = table;
+/// Stops the test where a walk through the symbol table does not give what these steps say.
+fn walks(
+    rt: &impl Abort,
+    symbol_table: NonContiguousSymbolTable<'_, Letter, u8, 6>,
+    steps: &[Step],
+) {
+    let mut walk = symbol_table;
     for each in steps {
         let (from_the_back, expected) = *each;
         let step = if from_the_back {
-            table.next_back()
+            walk.next_back()
         } else {
-            table.next()
+            walk.next()
         };
         let found = match step {
             Some(answer) => Some(letter_row(answer)),
@@ -175,7 +179,7 @@ fn a_refused_clone_stands_in_the_place_of_its_row(rt: HostRuntime) {
 fn a_refused_clone_stands_in_the_place_of_the_row_that_is_looked_up(rt: HostRuntime) {
     let model = letters(rt.alloc()).expect(&rt, "accepted");
     let made = model.into_lookup_decoder_model(rt.alloc());
-    let model = made.expect(&rt, "a table");
+    let model = made.expect(&rt, "a lookup model");
     let first = letter_row(model.quantile_function(15));
     let second = letter_row(model.quantile_function(16));
     same(&rt, [first, second], ANSWERS);

@@ -1,24 +1,21 @@
-//! Models of symbols that cannot be cloned, and of symbols the last of which refuses its clone.
+//! Models of symbols that cannot be cloned, and of symbols of which the last one refuses its clone.
 
 ghost use Rattle.std.specs.Prelude.{◌==◌, ◌<◌};
-ghost use Rattle.std.specs.Hash as fed;
 
-use crate::checks::{same, same_at};
+use crate::checks::same;
 use crate::conversions::Encoder;
 use constriction::stream::model::{
     EncoderModel, ModelError, Probe, row_of_quantile, to_generic_decoder_model,
     to_generic_lookup_decoder_model,
 };
 use constriction_test_models::any_symbols::plain_entry;
-use constriction_test_models::contiguous::Table;
+use constriction_test_models::contiguous::Weighted;
 use constriction_test_models::conversions::Decoder;
 use constriction_test_models::lookup_any_symbols::Lookup;
 use constriction_test_models::symbol_types::Letter;
-use std::alloc::Global;
-use std::hash::{Hash, Hasher};
 use std::process::Abort;
 
-/// A seal, of which there is one: its type has no clone.
+/// A seal, which cannot be cloned.
 #[derive(Debug, PartialEq, Eq, PartialOrd, Ord, Hash, Drop)]
 struct Seal(u32);
 
@@ -41,7 +38,7 @@ fn found(model: &SealDecoder, quantile: u8) -> usize
     row_of_quantile(&mut rows, quantile)
 }
 
-/// Stops the test where no model was made, or it has other rows than the seals.
+/// Stops the test where no model was made, or where it has other rows than those of the seals.
 fn has_seals(rt: &impl Abort, made: Result<SealDecoder, ModelError>) {
     let model = made.expect(rt, "accepted");
     same(
@@ -124,12 +121,12 @@ fn symbols_without_a_clone_are_encoded(rt: HostRuntime) {
     );
 }
 
-/// A letter whose clone is refused stands last.
+/// Letters, of which the last one refuses its clone.
 fn letters() -> [Letter; 3] {
     [Letter('a'), Letter('c'), Letter('r')]
 }
 
-/// Stops the test where no model was made, or it has not three rows.
+/// Stops the test where no model was made, or where it does not have three rows.
 fn has_three(rt: &impl Abort, made: Result<Decoder<Letter, 6>, ModelError>) {
     same(rt, made.map(|model| model.support_size()), Ok(3));
 }
@@ -172,12 +169,12 @@ fn no_constructor_clones_the_last_symbol(rt: HostRuntime) {
 #[test]
 fn a_conversion_refuses_for_the_clones_of_its_walk(rt: HostRuntime) {
     let alloc = rt.alloc();
-    let table = Table::<6>::from_nonzero_fixed_point_probabilities(alloc, WEIGHTS, false).expect(
-        &rt, "accepted",
-    );
+    let numbers = Weighted::<6>::from_nonzero_fixed_point_probabilities(
+        alloc, WEIGHTS, false,
+    ).expect(&rt, "accepted");
     same(
         &rt,
-        to_generic_decoder_model::<_, 6>(alloc, &table).map(|model| model.support_size()),
+        to_generic_decoder_model::<_, 6>(alloc, &numbers).map(|model| model.support_size()),
         Ok(3),
     );
     let made = Decoder::from_symbols_and_nonzero_fixed_point_probabilities(

@@ -1,4 +1,4 @@
-//! Models of any symbols, over worked tables.
+//! Models of given letters and weights.
 
 ghost use Rattle.std.specs.Prelude.{◌<◌, ◌≤◌};
 

@@ -1,28 +1,32 @@
-//! The contiguous model, over worked tables.
+//! The contiguous model of given weights.
 
 ghost use Rattle.std.specs.Prelude.{◌<◌, ◌≤◌};
 
 use constriction::stream::model::{ContiguousCategoricalEntropyModel, ModelError};
 use std::alloc::Global;
 
-/// A model whose words are `u8`.
-pub type Table<const PRECISION: usize> = ContiguousCategoricalEntropyModel<u8, Vec<u8>, PRECISION>;
+/// A contiguous model whose words are `u8`.
+pub type Weighted<const PRECISION: usize> = ContiguousCategoricalEntropyModel<
+    u8,
+    Vec<u8>,
+    PRECISION,
+>;
 
-pub type Small = Table<6>;
+pub type Small = Weighted<6>;
 
 /// The weights of a small model.
 pub const WEIGHTS: [u8; 4] = [3, 18, 1, 42];
 
 /// The model of these weights.
-pub fn table<const PRECISION: usize>(
+pub fn weighted<const PRECISION: usize>(
     alloc: Global,
     weights: &[u8],
     infer: bool,
-) -> Result<Table<PRECISION>, ModelError>
+) -> Result<Weighted<PRECISION>, ModelError>
     requires positive { 0 < PRECISION }
     requires fits { PRECISION ≤ 8 }
 {
-    Table::from_nonzero_fixed_point_probabilities(alloc, weights.iter().copied(), infer)
+    Weighted::from_nonzero_fixed_point_probabilities(alloc, weights.iter().copied(), infer)
 }
 
 /// The row of a quantile by a plain scan of the weights.

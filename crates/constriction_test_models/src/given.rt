@@ -6,7 +6,7 @@ ghost use Rattle.constriction.specs.Entries.{SameEntries};
 ghost use Rattle.constriction.specs.Rows.{contiguous_rows};
 
 use crate::any_symbols::{Decoder, Encoder};
-use crate::contiguous::Table;
+use crate::contiguous::Weighted;
 use constriction::stream::model::{
     ContiguousLookupDecoderModel, EntropyModel, ModelError, to_generic_encoder_model,
 };
@@ -15,15 +15,15 @@ use std::alloc::Global;
 
 pub type Lookup = ContiguousLookupDecoderModel<u8, Vec<u8>, Vec<u8>, 6>;
 
-/// The model of four weights: its rows are those of the weights, which are accepted, and where there is none
-/// but for want of memory, they are not.
-pub fn of_four(alloc: Global, weights: [u8; 4]) -> Result<Table<6>, ModelError>
-    ensures rows { IfOk result (λ m. ⟦<Table<6> as EntropyModel<6>>⟧.rows m
+/// The model of four weights. Where it is made, its rows are those of the weights, and these are accepted. Where it is refused,
+/// and not for want of memory, they are not accepted.
+pub fn of_four(alloc: Global, weights: [u8; 4]) -> Result<Weighted<6>, ModelError>
+    ensures rows { IfOk result (λ m. ⟦<Weighted<6> as EntropyModel<6>>⟧.rows m
         ≡ contiguous_rows (map ⟦<u8 as WholeNumber>⟧.whole weights)) }
     ensures accepted { IfOk result (λ _. IsAccepted 8 6 (map ⟦<u8 as WholeNumber>⟧.whole weights)) }
     ensures invalid { result ≡ Err ModelError.InvalidTable → ¬ (IsAccepted 8 6 (map ⟦<u8 as WholeNumber>⟧.whole weights)) }
 {
-    Table::from_nonzero_fixed_point_probabilities(alloc, weights, false)
+    Weighted::from_nonzero_fixed_point_probabilities(alloc, weights, false)
 }
 
 /// The same of the lookup model of four weights.
@@ -35,7 +35,7 @@ pub fn lookup_of_four(alloc: Global, weights: [u8; 4]) -> Result<Lookup, ModelEr
     Lookup::from_nonzero_fixed_point_probabilities(alloc, weights, false)
 }
 
-/// The encoder's model that is made of a decoder's: it has its entries, since clones of letters are the letters.
+/// The encoder's model that is made of a decoder's. It has the same entries, since a clone of a letter is that letter.
 pub fn encoder_of(alloc: Global, model: &Decoder<6>) -> Result<Encoder<6>, ModelError>
     ensures { IfOk result (λ e. SameEntries nat_eq
         (⟦<Encoder<6> as EntropyModel<6>>⟧.rows e) (⟦<Decoder<6> as EntropyModel<6>>⟧.rows model.now)) }

@@ -9,6 +9,6 @@ pub mod intervals;
 pub mod lookup_any_symbols;
 pub mod marked;
 pub mod own_model;
+pub mod plain_rows;
 pub mod symbol_types;
-pub mod tables;
 pub mod widths;

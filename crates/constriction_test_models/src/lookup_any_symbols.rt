@@ -1,4 +1,4 @@
-//! The lookup model of any symbols, over worked tables.
+//! The lookup model of given letters and weights.
 
 ghost use Rattle.std.specs.Prelude.{◌<◌, ◌≤◌};
 

@@ -89,12 +89,12 @@ pub fn three(first: char, second: char, third: char) -> Triple {
 
 /// The walk through the rows of such a model, from the one at `next` on.
 #[derive(Drop)]
-pub struct TripleTable<'m> {
+pub struct TripleSymbolTable<'m> {
     model: &'m Triple,
     next: usize,
 }
 
-impl<'m> Iterator for TripleTable<'m> {
+impl<'m> Iterator for TripleSymbolTable<'m> {
     type Item = Result<(char, u8, Weight<u8>), AllocError>;
 
     ghost next_gives = { YieldsRow (λ s t. t ≡ s) (λ _. ⊥) ⟦<u8 as WholeNumber>⟧.whole ⟦<u8 as WholeNumber>⟧.base
@@ -115,7 +115,7 @@ impl<'m> Iterator for TripleTable<'m> {
 }
 
 impl<'m> IterableEntropyModel<3> for &'m Triple {
-    type SymbolTable = TripleTable<'m>;
+    type SymbolTable = TripleSymbolTable<'m>;
 
     ghost stands_for = { λ s t. t ≡ s };
 
@@ -123,8 +123,8 @@ impl<'m> IterableEntropyModel<3> for &'m Triple {
 
     ghost rows_left = { λ t. drop t.next (⟦<Triple as EntropyModel<3>>⟧.rows t.model.now) };
 
-    fn symbol_table(self) -> TripleTable<'m> {
-        TripleTable {
+    fn symbol_table(self) -> TripleSymbolTable<'m> {
+        TripleSymbolTable {
             model: self,
             next: 0,
         }

@@ -1,12 +1,10 @@
 //! Models of symbols whose type says itself what is equal, or which values may be cloned.
 
 ghost use Rattle.std.specs.Prelude.{◌≡◌, ◌==◌, ◌<◌};
-ghost use Rattle.std.specs.Hash as fed;
 
 use crate::conversions::Decoder;
-use constriction::stream::model::{DecoderModel, EncoderModel, IterableEntropyModel, ModelError};
+use constriction::stream::model::ModelError;
 use std::alloc::{AllocError, Global};
-use std::hash::{Hash, Hasher};
 
 /// A letter, of which memory for a clone is refused where it is `r`.
 #[derive(Debug, PartialEq, Eq, Hash, Drop)]

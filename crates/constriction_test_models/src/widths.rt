@@ -1,4 +1,4 @@
-//! Contiguous models over each width of words, over worked tables.
+//! Contiguous models of given weights, over each width of words.
 
 ghost use Rattle.std.specs.Prelude.{◌<◌, ◌≤◌};
 

@@ -1,4 +1,5 @@
-//! What the contracts of the grammar, of answers and of texts tell their callers. No body that answers otherwise meets them.
+//! What the contracts of the grammar, of answers and of texts tell their callers. No body that answers otherwise meets these
+//! contracts.
 
 ghost use Rattle.std.specs.Prelude.{◌≡◌, ◌++◌, ℕ, List, IfOk, IsNone, OnOk, Some, codes, string_bytes};
 ghost use Rattle.std.specs.Option.{option_map};
@@ -89,7 +90,7 @@ fn run_over_letters(alloc: Global, written: &mut Vec<u8>) -> Result<(), RunFault
     run(alloc, &mut input, written)
 }
 
-/// Stops the test where a line asks for something, or for nothing, and is not to.
+/// Stops the test where a line is a request and is expected to be none, or the other way round.
 fn asks(rt: &impl Abort, found: Result<Option<Command>, AllocError>, is_request: bool) {
     match found {
         Ok(command) => same(rt, command.is_some(), is_request),

@@ -1,4 +1,4 @@
-//! What the calls that parse and answer lines say where memory is refused: what they say else, or that.
+//! What the calls that parse and answer lines say where memory is refused: the same as with memory, or that it was refused.
 //! `tools/refused-memory` refuses each request in turn.
 
 use crate::checks::{end_of_requests, same};
@@ -7,7 +7,7 @@ use constriction_text::{Command, Format, RunFault, answer, parse};
 use std::alloc::{AllocError, Global};
 use std::process::Abort;
 
-/// A keyword, the format, the number that stands before the weights or alone, and the weights.
+/// A keyword, the format, the number before the weights or in their place, and the weights.
 type Asked<'a> = (&'static str, Format, Option<u64>, &'a [u64]);
 
 /// What a command asks for.
@@ -30,7 +30,7 @@ fn asked(command: &Command) -> Asked<'_> {
     }
 }
 
-/// Stops the test where a line is neither found to ask for this, or for nothing, nor refused.
+/// Stops the test where a line asks for something else than this, unless memory was refused for it.
 fn is_parsed(rt: &impl Abort, alloc: Global, line: &[u8], expected: Option<Asked<'_>>) {
     match parse(alloc, line) {
         Ok(Some(command)) => same(rt, Some(asked(&command)), expected),
@@ -39,7 +39,7 @@ fn is_parsed(rt: &impl Abort, alloc: Global, line: &[u8], expected: Option<Asked
     }
 }
 
-/// Lines, and what they ask for.
+/// Lines, and what they ask for: a request, or nothing.
 const LINES: [(&[u8], Option<Asked<'static>>); 6] = [
     (
         b"table u8/6 3 018 18446744073709551615",
@@ -78,8 +78,8 @@ fn a_refusal_of_memory_parses_no_line(rt: HostRuntime) {
     end_of_requests(&rt);
 }
 
-/// Stops the test where a line is neither answered by this text nor refused, or where a run over it neither
-/// writes the text nor is refused and writes nothing.
+/// Stops the test where the answer to a line is not this text, or a run over the line does not write it, unless memory was
+/// refused. A run that is refused is to write nothing.
 fn is_answered(rt: &impl Abort, alloc: Global, line: &str, text: &str) {
     match answer(alloc, line.as_bytes()) {
         Ok(found) => same(rt, found.as_str(), text),
@@ -101,7 +101,7 @@ fn is_answered(rt: &impl Abort, alloc: Global, line: &str, text: &str) {
 }
 
 #[test]
-fn a_refusal_of_memory_answers_no_table(rt: HostRuntime) {
+fn a_refusal_of_memory_answers_no_rows(rt: HostRuntime) {
     is_answered(
         &rt,
         rt.alloc(),

@@ -187,7 +187,7 @@ fn empty_lines(rt: &impl Abort, alloc: Global, count: usize) -> Vec<u8> {
     lines
 }
 
-/// Each line is this one.
+/// Stops the test where a line of the text is not this one.
 fn are_lines(rt: &impl Abort, text: &[u8], expected: &[u8; 9]) {
     for line in text.chunks(9) {
         same(rt, line, expected.as_slice());
@@ -229,7 +229,7 @@ fn faults_have_their_status(rt: HostRuntime) {
     );
 }
 
-/// What a run over an input answers, and what it writes in which turns.
+/// What a run over an input answers, how many bytes it writes, and in how many turns.
 fn run_counted(alloc: Global, mut input: &[u8]) -> (Result<(), RunFault>, usize, usize) {
     let mut writer = CountingWriter { bytes: 0, turns: 0 };
     let result = run(alloc, &mut input, &mut writer);
@@ -243,7 +243,7 @@ fn answers_are_written_in_large_pieces(rt: HostRuntime) {
     same(&rt, run_counted(rt.alloc(), &input), (Ok(()), 180_000, 3));
 }
 
-/// All is written, or the answers before a refusal of memory, each of them whole.
+/// Stops the test where not all is written, unless memory was refused and the answers that are written are whole.
 fn is_whole_or_refused(rt: &impl Abort, answer: Result<(), RunFault>, places: usize) {
     match answer {
         Ok(()) => same(rt, places, 0),
@@ -254,7 +254,7 @@ fn is_whole_or_refused(rt: &impl Abort, answer: Result<(), RunFault>, places: us
     }
 }
 
-/// The bytes that are written are those of the text, in their places.
+/// Stops the test where a byte that was written is not that of the text in its place.
 fn is_beginning(rt: &impl Abort, room: &[u8], text: &[u8]) {
     for (byte, expected) in room.iter().zip(text) {
         assert!(rt; *byte == *expected || *byte == 0);

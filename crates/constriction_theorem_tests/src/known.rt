@@ -1,5 +1,5 @@
-//! What contracts alone tell a caller of the client, and of a form that stands already: which words, which items, which
-//! replies. No body that answers otherwise meets them, however a proof of it may be refused.
+//! What contracts alone tell a caller of the client, and of a form that stands already: words, items and replies. No body that
+//! answers otherwise meets these contracts, even where it is refused at a written proof.
 
 ghost use Rattle.std.specs.Prelude.{◌≡◌, ◌++◌, [], ◌∷◌, Some, IfOk, IfSome, OnOk, IsTrue, map, nat_eq, true};
 ghost use Rattle.constriction.specs.Entries.{SameEntries};
@@ -20,7 +20,7 @@ use constriction_client::{
     run_cursor, run_reversed, write_quantiles,
 };
 use constriction_test_models::any_symbols::Encoder;
-use constriction_test_models::contiguous::Table;
+use constriction_test_models::contiguous::Weighted;
 use constriction_test_models::given::{encoder_of, of_four};
 use constriction_theorem::{FormAndReplies, answer_by_form};
 use constriction_words::{CoderError, WholeNumber};
@@ -28,8 +28,8 @@ use std::alloc::{AllocError, Global};
 use std::process::Abort;
 
 /// Whether an item of the second symbol was written, where 3, 18, 1 and 42 are the weights of 0, 1, 2 and 3.
-fn written(model: &Table<6>, sink: &mut Vec<u8>) -> bool
-    requires { ⟦<Table<6> as EntropyModel<6>>⟧.rows model.now ≡ contiguous_rows (3 ∷ 18 ∷ 1 ∷ 42 ∷ []) }
+fn written(model: &Weighted<6>, sink: &mut Vec<u8>) -> bool
+    requires { ⟦<Weighted<6> as EntropyModel<6>>⟧.rows model.now ≡ contiguous_rows (3 ∷ 18 ∷ 1 ∷ 42 ∷ []) }
     ensures { IsTrue result → sink.new.items ≡ sink.old.items ++ 5 ∷ [] }
 {
     write_quantiles::<_, _, _, _, 6>(model, &[(1, 2)], sink).is_ok()
@@ -38,7 +38,7 @@ fn written(model: &Table<6>, sink: &mut Vec<u8>) -> bool
 /// What comes back of an item.
 fn back(
     alloc: Global,
-    model: &Table<6>,
+    model: &Weighted<6>,
 ) -> Result<Vec<(usize, u8)>, CoderError<QuantileFault, AllocError>>
     ensures { IfOk result (λ pairs. pairs.items ≡ (1, 2) ∷ []) }
 {
@@ -48,10 +48,10 @@ fn back(
 /// The same through a cursor of two words.
 fn through_a_cursor(
     alloc: Global,
-    model: &Table<6>,
+    model: &Weighted<6>,
     cursor: &mut Cursor<u8, Vec<u8>>,
 ) -> Option<Vec<(usize, u8)>>
-    requires rows { ⟦<Table<6> as EntropyModel<6>>⟧.rows model.now ≡ contiguous_rows (3 ∷ 18 ∷ 1 ∷ 42 ∷ []) }
+    requires rows { ⟦<Weighted<6> as EntropyModel<6>>⟧.rows model.now ≡ contiguous_rows (3 ∷ 18 ∷ 1 ∷ 42 ∷ []) }
     requires at { state_of cursor.old ≡ record { before = []; after = 0 ∷ 1 ∷ [] } }
     ensures items { IfSome result (λ pairs. pairs.items ≡ (1, 2) ∷ []) }
     ensures words { IfSome result (λ _. state_of cursor.new ≡ record { before = 5 ∷ []; after = 1 ∷ [] }) }
@@ -70,8 +70,8 @@ fn at_0(alloc: Global) -> Result<Cursor<u8, Vec<u8>>, AllocError>
 }
 
 /// The replies to three queries.
-fn replies(alloc: Global, model: &Table<6>) -> Result<Vec<Reply<usize, u8>>, AllocError>
-    requires { ⟦<Table<6> as EntropyModel<6>>⟧.rows model.now ≡ contiguous_rows (3 ∷ 18 ∷ 1 ∷ 42 ∷ []) }
+fn replies(alloc: Global, model: &Weighted<6>) -> Result<Vec<Reply<usize, u8>>, AllocError>
+    requires { ⟦<Weighted<6> as EntropyModel<6>>⟧.rows model.now ≡ contiguous_rows (3 ∷ 18 ∷ 1 ∷ 42 ∷ []) }
     ensures { IfOk result (λ replies.
         map (in_numbers ⟦<u8 as WholeNumber>⟧.whole ⟦<u8 as WholeNumber>⟧.base) replies.items
         ≡ answer.Row 1 3 18 ∷ answer.OutOfRange ∷ answer.Entry (Some (3, 18)) ∷ []) }
@@ -155,8 +155,8 @@ fn turned_calls(
 }
 
 /// Stops the test where the model does not write the item, does not give it back, or does not reply.
-fn leaves_one_result(rt: &impl Abort, alloc: Global, model: &Table<6>)
-    requires { ⟦<Table<6> as EntropyModel<6>>⟧.rows model.now ≡ contiguous_rows (3 ∷ 18 ∷ 1 ∷ 42 ∷ []) }
+fn leaves_one_result(rt: &impl Abort, alloc: Global, model: &Weighted<6>)
+    requires { ⟦<Weighted<6> as EntropyModel<6>>⟧.rows model.now ≡ contiguous_rows (3 ∷ 18 ∷ 1 ∷ 42 ∷ []) }
 {
     let mut sink = Vec::new(alloc);
     same(rt, written(model, &mut sink), true);

@@ -1,5 +1,5 @@
-//! What contracts alone tell a caller who knows the rows of a model: which row, which entry, which ends of a
-//! table. No body that answers otherwise meets them, however a proof of it may be refused.
+//! What contracts alone tell a caller who knows the rows of a model: a row, an entry, and the ends of a symbol table. No body
+//! that answers otherwise meets these contracts, even where it is refused at a written proof.
 
 ghost use Rattle.std.specs.Prelude.{◌≡◌, ◌+◌, [], ◌∷◌, Some, Ok, Err, IfOk, true, false, map, nat_eq};
 ghost use Rattle.constriction.specs.Acceptance.{AreAccepted};
@@ -13,7 +13,7 @@ use constriction::stream::model::{
     NonContiguousCategoricalDecoderModel, NonContiguousCategoricalEncoderModel,
     NonContiguousLookupDecoderModel, SmallUniformModel, is_quantile, row_of_quantile,
 };
-use constriction_test_models::contiguous::Table;
+use constriction_test_models::contiguous::Weighted;
 use constriction_test_models::given::{Lookup, encoder_of, lookup_of_four, of_four};
 use constriction_words::{NonZeroBitArray, WholeNumber};
 use std::alloc::{AllocError, Global};
@@ -26,8 +26,8 @@ type Encoder = NonContiguousCategoricalEncoderModel<char, u8, 6>;
 type Tabled = NonContiguousLookupDecoderModel<char, u8, Vec<(u8, char)>, Vec<u8>, 6>;
 
 /// The row of the quantile 20 of a contiguous model.
-fn row_of_20(model: &Table<6>) -> Result<(usize, u8, u8), AllocError>
-    requires { ⟦<Table<6> as EntropyModel<6>>⟧.rows model.now ≡ contiguous_rows (3 ∷ 18 ∷ 1 ∷ 42 ∷ []) }
+fn row_of_20(model: &Weighted<6>) -> Result<(usize, u8, u8), AllocError>
+    requires { ⟦<Weighted<6> as EntropyModel<6>>⟧.rows model.now ≡ contiguous_rows (3 ∷ 18 ∷ 1 ∷ 42 ∷ []) }
     ensures { result ≡ Ok (1, 3, 18) }
 {
     match model.quantile_function(20) {
@@ -36,7 +36,7 @@ fn row_of_20(model: &Table<6>) -> Result<(usize, u8, u8), AllocError>
     }
 }
 
-/// The same by a table.
+/// The same of a lookup model.
 fn looked_up(model: &Lookup) -> Result<(usize, u8, u8), AllocError>
     requires { ⟦<Lookup as EntropyModel<6>>⟧.rows model.now ≡ contiguous_rows (3 ∷ 18 ∷ 1 ∷ 42 ∷ []) }
     ensures { result ≡ Ok (1, 3, 18) }
@@ -70,7 +70,7 @@ fn letter_of_20(model: &Decoder) -> Result<(char, u8, u8), AllocError>
     }
 }
 
-/// The same by a table.
+/// The same of a lookup model of letters.
 fn letter_looked_up(model: &Tabled) -> Result<(char, u8, u8), AllocError>
     requires { ⟦<Tabled as EntropyModel<6>>⟧.rows model.now
         ≡ rows_of (97 ∷ 120 ∷ 99 ∷ 121 ∷ []) (3 ∷ 18 ∷ 1 ∷ 42 ∷ []) }
@@ -92,8 +92,8 @@ fn letter_looked_up_in_a_clone(model: &Tabled) -> Result<(char, u8, u8), AllocEr
 }
 
 /// How many symbols a contiguous model has, and a decoder of letters.
-fn sizes(model: &Table<6>, letters: &Decoder) -> (usize, usize)
-    requires rows { ⟦<Table<6> as EntropyModel<6>>⟧.rows model.now ≡ contiguous_rows (3 ∷ 18 ∷ 1 ∷ 42 ∷ []) }
+fn sizes(model: &Weighted<6>, letters: &Decoder) -> (usize, usize)
+    requires rows { ⟦<Weighted<6> as EntropyModel<6>>⟧.rows model.now ≡ contiguous_rows (3 ∷ 18 ∷ 1 ∷ 42 ∷ []) }
     requires letters { ⟦<Decoder as EntropyModel<6>>⟧.rows letters.now
         ≡ rows_of (97 ∷ 120 ∷ 99 ∷ 121 ∷ []) (3 ∷ 18 ∷ 1 ∷ 42 ∷ []) }
     ensures { result ≡ (4, 4) }
@@ -122,8 +122,8 @@ fn cloned(model: &Encoder) -> Result<Encoder, AllocError>
 }
 
 /// The entry of the second symbol.
-fn second_entry(model: &Table<6>) -> Option<(u8, u8)>
-    requires { ⟦<Table<6> as EntropyModel<6>>⟧.rows model.now ≡ contiguous_rows (3 ∷ 18 ∷ 1 ∷ 42 ∷ []) }
+fn second_entry(model: &Weighted<6>) -> Option<(u8, u8)>
+    requires { ⟦<Weighted<6> as EntropyModel<6>>⟧.rows model.now ≡ contiguous_rows (3 ∷ 18 ∷ 1 ∷ 42 ∷ []) }
     ensures { result ≡ Some (3, 18) }
 {
     let (left, weight) = model.left_cumulative_and_probability(&1)?;
@@ -131,8 +131,8 @@ fn second_entry(model: &Table<6>) -> Option<(u8, u8)>
 }
 
 /// The same, asked of it as an encoder over these symbols and words.
-fn second_entry_over(model: &Table<6>) -> Option<(u8, u8)>
-    requires { ⟦<Table<6> as EntropyModel<6>>⟧.rows model.now ≡ contiguous_rows (3 ∷ 18 ∷ 1 ∷ 42 ∷ []) }
+fn second_entry_over(model: &Weighted<6>) -> Option<(u8, u8)>
+    requires { ⟦<Weighted<6> as EntropyModel<6>>⟧.rows model.now ≡ contiguous_rows (3 ∷ 18 ∷ 1 ∷ 42 ∷ []) }
     ensures { result ≡ Some (3, 18) }
 {
     let (left, weight) = EncodesOver::<usize, u8, 6>::entry(model, &1)?;
@@ -157,37 +157,37 @@ fn last_entry() -> Option<(u16, u16)>
     Some((left, weight.get()))
 }
 
-/// The symbols at both ends of a table, and how many rows are left between them.
-fn ends(model: &Table<6>) -> (Option<usize>, Option<usize>, usize)
-    requires { ⟦<Table<6> as EntropyModel<6>>⟧.rows model.now ≡ contiguous_rows (3 ∷ 18 ∷ 1 ∷ 42 ∷ []) }
+/// The symbols at both ends of a symbol table, and how many rows are left between them.
+fn ends(model: &Weighted<6>) -> (Option<usize>, Option<usize>, usize)
+    requires { ⟦<Weighted<6> as EntropyModel<6>>⟧.rows model.now ≡ contiguous_rows (3 ∷ 18 ∷ 1 ∷ 42 ∷ []) }
     ensures { result ≡ (Some 0, Some 3, 2) }
 {
-    let mut table = model.symbol_table();
-    let first = match table.next() {
+    let mut walk = model.symbol_table();
+    let first = match walk.next() {
         Some(Ok((symbol, _, _))) => Some(symbol),
         _ => None,
     };
-    let last = match table.next_back() {
+    let last = match walk.next_back() {
         Some(Ok((symbol, _, _))) => Some(symbol),
         _ => None,
     };
-    (first, last, table.len())
+    (first, last, walk.len())
 }
 
 /// The same of a uniform model of five symbols.
 fn uniform_ends() -> (Option<usize>, Option<usize>, usize)
     ensures { result ≡ (Some 0, Some 4, 3) }
 {
-    let mut table = SmallUniformModel::new(5).symbol_table();
-    let first = match table.next() {
+    let mut walk = SmallUniformModel::new(5).symbol_table();
+    let first = match walk.next() {
         Some(Ok((symbol, _, _))) => Some(symbol),
         _ => None,
     };
-    let last = match table.next_back() {
+    let last = match walk.next_back() {
         Some(Ok((symbol, _, _))) => Some(symbol),
         _ => None,
     };
-    (first, last, table.len())
+    (first, last, walk.len())
 }
 
 /// The same of a decoder of letters.
@@ -196,21 +196,21 @@ fn letters_at_the_ends(model: &Decoder) -> (Option<char>, Option<char>, usize)
         ≡ rows_of (97 ∷ 120 ∷ 99 ∷ 121 ∷ []) (3 ∷ 18 ∷ 1 ∷ 42 ∷ []) }
     ensures { result ≡ (Some 97, Some 121, 2) }
 {
-    let mut table = model.symbol_table();
-    let first = match table.next() {
+    let mut walk = model.symbol_table();
+    let first = match walk.next() {
         Some(Ok((symbol, _, _))) => Some(symbol),
         _ => None,
     };
-    let last = match table.next_back() {
+    let last = match walk.next_back() {
         Some(Ok((symbol, _, _))) => Some(symbol),
         _ => None,
     };
-    (first, last, table.len())
+    (first, last, walk.len())
 }
 
 /// Which row the probe of the quantile 20 begins with, and which one the counted search finds from there on.
-fn index_of_20(model: &Table<6>) -> (usize, usize)
-    ensures { IsRowIndexOf (⟦<Table<6> as EntropyModel<6>>⟧.rows model.now) 20 (result.0 + result.1) }
+fn index_of_20(model: &Weighted<6>) -> (usize, usize)
+    ensures { IsRowIndexOf (⟦<Weighted<6> as EntropyModel<6>>⟧.rows model.now) 20 (result.0 + result.1) }
 {
     let (first, mut rows) = model.quantile_probe(20);
     (first, row_of_quantile(&mut rows, 20))
@@ -238,8 +238,8 @@ fn last_quantile() -> u8
     u8::greatest(6)
 }
 
-/// The decoder of four letters: its rows are those of the letters and their weights, which are accepted, and
-/// where there is none but for want of memory, they are not.
+/// The decoder of four letters. Where it is made, its rows are those of the letters and their weights, and these are accepted.
+/// Where it is refused, and not for want of memory, they are not accepted.
 pub fn decoder_of(
     alloc: Global,
     symbols: [char; 4],
@@ -265,8 +265,8 @@ fn lookup_of(alloc: Global, symbols: [char; 4], weights: [u8; 4]) -> Result<Tabl
 }
 
 /// Stops the test where the contiguous model answers otherwise than its rows leave.
-fn leaves_one_answer(rt: &impl Abort, model: &Table<6>)
-    requires { ⟦<Table<6> as EntropyModel<6>>⟧.rows model.now ≡ contiguous_rows (3 ∷ 18 ∷ 1 ∷ 42 ∷ []) }
+fn leaves_one_answer(rt: &impl Abort, model: &Weighted<6>)
+    requires { ⟦<Weighted<6> as EntropyModel<6>>⟧.rows model.now ≡ contiguous_rows (3 ∷ 18 ∷ 1 ∷ 42 ∷ []) }
 {
     same(rt, row_of_20(model), Ok((1, 3, 18)));
     same(rt, second_entry(model), Some((3, 18)));
@@ -320,7 +320,7 @@ fn contracts_leave_one_answer_over_letters(rt: HostRuntime) {
 }
 
 #[test]
-fn contracts_leave_one_answer_over_letters_by_a_table(rt: HostRuntime) {
+fn contracts_leave_one_answer_over_letters_by_a_lookup_table(rt: HostRuntime) {
     let tabled = lookup_of(rt.alloc(), ['a', 'x', 'c', 'y'], [3, 18, 1, 42]);
     let tabled = tabled.expect(&rt, "accepted");
     same(&rt, letter_looked_up(&tabled), Ok(('x', 3, 18)));

@@ -7,7 +7,7 @@ use constriction::laws::contiguous_symbols_differ;
 use constriction::stream::model::{ModelError, UniformModel};
 use constriction_client::{ChainStep, DecoderForm, Query, Reply, SearchOrLookup};
 use constriction_test_models::any_symbols::{SYMBOLS, WEIGHTS, decoder};
-use constriction_test_models::contiguous::Table;
+use constriction_test_models::contiguous::Weighted;
 use constriction_test_models::given::{encoder_of, of_four};
 use constriction_theorem::{
     AnswersOfModel, AnswersOfWeights, FormAndReplies, RepliesByEncoder, answer_beside_encoder,
@@ -19,16 +19,16 @@ use constriction_words::BitArray;
 use std::alloc::Global;
 use std::process::Abort;
 
-/// A chain that leaves a table.
+/// A chain that leaves the form with a lookup table.
 const STEPS: [ChainStep; 2] = [ChainStep::ToLookup, ChainStep::Rebuild];
 
-/// Stops the test where a form has no table.
-fn has_table<S, T>(rt: &impl Abort, form: &SearchOrLookup<S, T>) {
-    let table = match form {
+/// Stops the test where a form has no lookup table.
+fn has_lookup_table<S, T>(rt: &impl Abort, form: &SearchOrLookup<S, T>) {
+    let looks_up = match form {
         SearchOrLookup::Search(_) => false,
         SearchOrLookup::Lookup(_) => true,
     };
-    same(rt, table, true);
+    same(rt, looks_up, true);
 }
 
 /// The reply that is a row.
@@ -79,7 +79,7 @@ fn of_letters(
 #[test]
 fn what_is_made_of_letters_and_weights_replies(rt: HostRuntime) {
     let (form, found) = of_letters(&rt, rt.alloc(), &WEIGHTS).expect(&rt, "accepted");
-    has_table(&rt, &form);
+    has_lookup_table(&rt, &form);
     holds(&rt, &found, &replies_of_letters());
     let refused = of_letters(&rt, rt.alloc(), &WEIGHTS[1..]).err();
     same(&rt, refused, Some(ModelError::InvalidTable));
@@ -148,7 +148,7 @@ fn are_of_numbers(rt: &impl Abort, found: &RepliesByEncoder<u8>) {
 #[test]
 fn each_model_of_weights_replies(rt: HostRuntime) {
     let made = of_weights(rt.alloc(), &[3, 18, 1]).expect(&rt, "accepted");
-    has_table(&rt, &made.form);
+    has_lookup_table(&rt, &made.form);
     are_of_numbers(&rt, &made.searching);
     are_of_numbers(&rt, &made.tabled);
     are_of_numbers(&rt, &made.converted);
@@ -167,9 +167,9 @@ fn a_refusal_of_memory_leaves_no_replies_of_weights(rt: HostRuntime) {
 }
 
 /// Asks a model of four numbers and what is made of it.
-fn of_table(
+fn of_model(
     alloc: Global,
-    model: &Table<6>,
+    model: &Weighted<6>,
 ) -> Result<AnswersOfModel<usize, u8, DecoderForm<usize, u8, 6>>, ModelError> {
     contiguous_symbols_differ();
     answer_by_model::<_, 6>(alloc, model, &STEPS, &NUMBERS)
@@ -178,8 +178,8 @@ fn of_table(
 #[test]
 fn a_model_and_what_is_made_of_it_reply(rt: HostRuntime) {
     let model = of_four(rt.alloc(), [3, 18, 1, 42]).expect(&rt, "accepted");
-    let answers = of_table(rt.alloc(), &model).expect(&rt, "replies");
-    has_table(&rt, &answers.form);
+    let answers = of_model(rt.alloc(), &model).expect(&rt, "replies");
+    has_lookup_table(&rt, &answers.form);
     holds(&rt, &answers.by_model, &replies_of_numbers());
     holds(&rt, &answers.converted, &replies_of_numbers());
 }
@@ -193,7 +193,7 @@ fn what_is_made_of_a_range_replies(rt: HostRuntime) {
     ];
     let answers = answer_from_range_u8::<8>(rt.alloc(), 3, &STEPS, &queries);
     let answers = answers.expect(&rt, "replies");
-    has_table(&rt, &answers.form);
+    has_lookup_table(&rt, &answers.form);
     let expected = [row(2, 170, 86), entry(170, 86), Reply::Entry(None)];
     holds(&rt, &answers.by_model, &expected);
     holds(&rt, &answers.converted, &expected);
@@ -223,7 +223,7 @@ fn each_model_of_default_words_replies(rt: HostRuntime) {
     let queries = [Query::OfQuantile(16_777_215), Query::OfQuantile(16_777_216)];
     let made = answer_from_weights::<u32, 24, 12>(rt.alloc(), weights, true, &STEPS, &queries);
     let made = made.expect(&rt, "accepted");
-    has_table(&rt, &made.form);
+    has_lookup_table(&rt, &made.form);
     let expected = [
         Reply::Row(2, 16_000_001, 777_215u32.into_nonzero_unchecked()),
         Reply::OutOfRange,
@@ -233,7 +233,7 @@ fn each_model_of_default_words_replies(rt: HostRuntime) {
 }
 
 #[test]
-fn models_without_a_table_reply_at_the_full_width(rt: HostRuntime) {
+fn models_without_a_lookup_table_reply_at_the_full_width(rt: HostRuntime) {
     let half = 1u128 << 127;
     let weights = [half, half].to_vec(rt.alloc()).expect(&rt, "memory");
     let queries = [Query::OfQuantile(u128::MAX), Query::OfSymbol(0)];

@@ -45,13 +45,13 @@ fn operations_give_the_exact_number(rt: HostRuntime) {
     );
 }
 
-/// The number of the word that a word which is not 0 holds, where there is one.
+/// The number of the word in a `NonZero`, where there is one.
 fn held<P: BitArray>(word: Option<P::NonZero>) -> Option<u128> {
     word?.get().to_u128()
 }
 
-/// Stops the test where this number is not that of the greatest word, where a call does not wrap after it and before 0, or
-/// where a word that is not 0 is not made of 1 and of the greatest word alone, and holds it.
+/// Stops the test where this is not the number of the greatest word, or where a call does not wrap after it or before 0. It
+/// stops too where a `NonZero` is made of 0, or where none is made of 1 or of the greatest word, or one with another number.
 fn has_ends<P: BitArray>(rt: &impl Abort, greatest_number: u128) {
     let (zero, one, greatest) = (P::zero(), P::one(), P::max_value());
     let last = Some(greatest_number);
@@ -110,7 +110,7 @@ fn weights_are_compared_by_their_numbers(rt: HostRuntime) {
     );
 }
 
-/// How many bits are 1 and 0: of all, of the highest and of the lowest ones.
+/// How many bits are 1, and how many are 0: of all bits, from the highest one on, and from the lowest one on.
 fn counted_bits<W: BitArray>(x: W) -> [u32; 6] {
     [
         x.count_ones(),
@@ -122,7 +122,7 @@ fn counted_bits<W: BitArray>(x: W) -> [u32; 6] {
     ]
 }
 
-/// The bits moved by one place, first round the ends and then over them; by bytes; and turned round.
+/// The bits rotated by one place, shifted by one place, in the other order of bytes, and in the other order of bits.
 fn moved_bits<W: BitArray>(x: W) -> (W, W, W, W, W, W, W)
     requires { W.BITS ≡ 16 }
 {
@@ -137,7 +137,7 @@ fn moved_bits<W: BitArray>(x: W) -> (W, W, W, W, W, W, W)
     )
 }
 
-/// The bits turned over, all but the lowest, all, and none; and there and back in both orders of
+/// The complement of a word, the word without its lowest bit, all bits, no bit, and the word there and back in both orders of
 /// bytes.
 fn combined_bits<W: BitArray>(x: W) -> (W, W, W, W, W, W) {
     (
@@ -202,7 +202,7 @@ fn from_numbers<W: BitArray>() -> (Option<W>, bool, Option<W>) {
     )
 }
 
-/// What is checked, where it fits and where it does not.
+/// What checked operations answer, where the result fits and where it does not.
 fn checked<W: BitArray>(x: W) -> [Option<W>; 7] {
     [
         x.checked_add(&x),
@@ -215,7 +215,7 @@ fn checked<W: BitArray>(x: W) -> [Option<W>; 7] {
     ]
 }
 
-/// What stops at the greatest word and at the least, and the least word.
+/// A sum that stops at the greatest word, a difference that stops at the least one, and the least word.
 fn saturated<W: BitArray>(x: W) -> [W; 3] {
     [
         x.saturating_add(x),

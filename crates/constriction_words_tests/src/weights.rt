@@ -50,7 +50,7 @@ fn weights_are_compared_by_their_numbers(rt: HostRuntime) {
     same(&rt, greatest_is_same_as::<u8>(), Some([true, false, false]));
 }
 
-/// Whether two rows, whose weights are words yet, are the same.
+/// Whether two rows are the very same one, whose weights are given as words.
 fn rows_agree<P: BitArray>(a: (usize, P, P), b: (usize, P, P)) -> Option<bool> {
     let (Some(first), Some(second)) = (a.2.into_nonzero(), b.2.into_nonzero()) else {
         return None;

@@ -1,5 +1,5 @@
 use Rattle.std.proofs.Common.{ap, ◌∙◌}
-use Rattle.constriction_models_tests.proofs.laws.read_table.Goals as goal
+use Rattle.constriction_models_tests.proofs.laws.read_rows.Goals as goal
 
 pub returns : goal.returns
 returns g c =

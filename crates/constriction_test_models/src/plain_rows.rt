@@ -1,4 +1,4 @@
-//! What walks and look-ups give, as plain words.
+//! The rows that walks and look-ups give, with weights as plain words.
 
 ghost use Rattle.std.specs.Prelude.{◌<◌, ◌≤◌};
 
