@@ -3,7 +3,7 @@ import json
 import math
 import os
 
-from drawing import HUES, Drawing
+from drawing import HUES, SMALL, WIDTH, Drawing
 
 # Why a kernel that is far behind is so.
 WHY = {
@@ -147,32 +147,49 @@ def draw_ratios(saved):
     made = [it for it in saved["kernels"] if is_measured(it)]
     names = list(dict.fromkeys(it["name"] for it in made))
     ticks = steps(min(ratio(it) for it in made), max(ratio(it) for it in made))
-    left, right, top, step = 352, 800, 100, 22
-    it = Drawing(860, top + step * len(names) + 50, "How many times the Rust crate's time each kernel takes")
-    it.text(24, 32, "The time of each kernel, over the Rust crate's", bold=True, size=14)
-    it.text(24, 52, "A dot for each number of rows. Left of 1 this library is faster; dots to the right of 1.1 are orange.", "faint", 12)
+    left, top, step = 36 + 6.2 * max(map(len, names)), 118, 22
+    of = {name: [one for one in made if one["name"] == name] for name in names}
+    worst = {name: max(these, key=ratio) for name, these in of.items()}
+    labels = {name: f"{nanoseconds(ratio(it))}{f' at {rows_of(it)}' if it['rows'] else ''}" for name, it in worst.items() if ratio(it) > 2}
 
     def x(value):
         return left + (right - left) * math.log(value / ticks[0]) / math.log(ticks[-1] / ticks[0])
 
+    def side(name):
+        """Returns on which side of its dot a label has room, or None."""
+        at, wide = x(ratio(worst[name])), 10 + 6.5 * len(labels[name])
+        if at + wide < WIDTH - 12:
+            return "start"
+        return "end" if not any(at - wide - 6 < x(ratio(one)) < at - 1 for one in of[name]) else None
+
+    # where a label has no room on either side of its dot, all have it on the right of a narrower plot
+    right = WIDTH - 32
+    if any(side(name) is None for name in labels):
+        right = WIDTH - 22 - 6.5 * max(map(len, labels.values()))
     bottom = top + step * len(names)
+    it = Drawing(WIDTH, bottom + 64, "How many times the Rust crate's time each kernel takes")
+    it.text(24, 32, "The time of each kernel, over the Rust crate's", bold=True, size=14)
+    it.text(24, 52, "A dot for each number of rows. Left of 1 this library is faster; dots to the right of 1.1 are orange.", "faint", SMALL)
+    it.text(24, 70, "A kernel whose worst dot is right of 2 has the ratio of that dot, and at how many rows it is.", "faint", SMALL)
+    # with little room only the powers of ten have a number
+    is_close = (right - left) / (len(ticks) - 1) < 34
     for tick in ticks:
         it.line(x(tick), top - 8, x(tick), bottom, "ink" if tick == 1 else "edge", 1.5 if tick == 1 else 1)
-        it.text(x(tick), top - 16, f"{tick:g}", "ink" if tick == 1 else "faint", 12, at="middle", bold=tick == 1)
-        it.text(x(tick), bottom + 18, f"{tick:g}", "ink" if tick == 1 else "faint", 12, at="middle", bold=tick == 1)
+        if is_close and not math.log10(tick).is_integer():
+            continue
+        for y in (top - 16, bottom + 18):
+            it.text(x(tick), y, f"{tick:,g}", "ink" if tick == 1 else "faint", SMALL, at="middle", bold=tick == 1)
+    it.text((left + right) / 2, bottom + 42, "time here / time of the Rust crate, on a logarithmic scale", "faint", SMALL, at="middle")
     for index, name in enumerate(names):
         y = top + step * index + step / 2
-        it.text(left - 16, y + 4, name, size=12, at="end")
+        it.text(left - 12, y + 4, name, size=SMALL, at="end")
         it.line(left, y, right, y, "edge", 0.6)
-        these = [one for one in made if one["name"] == name]
-        worst = max(these, key=ratio)
-        for one in these:
-            hue = "orange" if ratio(one) > 1.1 else "blue"
-            it.dot(x(ratio(one)), y, 4.5, hue, "page")
-        if ratio(worst) > 2:
-            it.text(x(ratio(worst)) + 8, y + 4, f"{nanoseconds(ratio(worst)).removesuffix('.00')}, {rows_of(worst)} rows" if worst["rows"] else f"{ratio(worst):.2f}", "orange", 11) if x(ratio(worst)) < right - 90 else it.text(
-                x(ratio(worst)) - 8, y + 4, f"{nanoseconds(ratio(worst))}, {rows_of(worst)} rows", "orange", 11, at="end"
-            )
+        if name in labels:
+            at, wide, where = x(ratio(worst[name])), 6.5 * len(labels[name]), side(name)
+            it.box(at + 6 if where == "start" else at - 10 - wide, y - 8, wide + 4, 16, "page")
+            it.text(at + 8 if where == "start" else at - 8, y + 4, labels[name], "orange", SMALL, at=where)
+        for one in sorted(of[name], key=ratio):
+            it.dot(x(ratio(one)), y, 4.5, "orange" if ratio(one) > 1.1 else "blue", "page")
     return it
 
 
@@ -205,10 +222,11 @@ def plotted(title, heading, lines):
     times = [time for points in points_of for _, time in points]
     ticks = steps(min(times), max(times))
     bits = sorted({rows.bit_length() - 1 for points in points_of for rows, _ in points})
-    left, right, top, bottom = 64, 640, 84, 440
-    it = Drawing(776, 500, title)
+    left, right, top, bottom = 64, WIDTH - 136, 96, 440
+    it = Drawing(WIDTH, 500, title)
     it.text(24, 32, heading, bold=True, size=14)
-    it.text(24, 52, "Nanoseconds; full lines are this library, dashed lines the Rust crate.", "faint", 12)
+    it.text(24, 52, "Full lines are this library, dashed lines the Rust crate. Both scales are logarithmic.", "faint", SMALL)
+    it.text(left - 10, top - 18, "ns", "faint", SMALL, at="end")
 
     def x(rows):
         return left + (right - left) * (math.log2(rows) - bits[0]) / (bits[-1] - bits[0])
@@ -218,11 +236,11 @@ def plotted(title, heading, lines):
 
     for tick in ticks:
         it.line(left, y(tick), right, y(tick), "edge")
-        it.text(left - 10, y(tick) + 4, f"{tick:g}", "faint", 12, at="end")
+        it.text(left - 10, y(tick) + 4, f"{tick:,g}", "faint", SMALL, at="end")
     for bit in bits:
         it.line(x(2**bit), bottom, x(2**bit), bottom + 5, "faint")
-        it.text(x(2**bit), bottom + 22, f"2^{bit}", "faint", 12, at="middle")
-    it.text((left + right) / 2, bottom + 44, "rows", "faint", 12, at="middle")
+        it.text(x(2**bit), bottom + 22, f"2^{bit}", "faint", SMALL, at="middle")
+    it.text((left + right) / 2, bottom + 44, "number of rows", "faint", SMALL, at="middle")
     for _, hue, is_dashed, points in lines:
         places = [(x(rows), y(time)) for rows, time in points]
         it.path("M" + "L".join(f"{a:.1f} {b:.1f}" for a, b in places), hue, 1.4 if is_dashed else 2, dashed=is_dashed)
@@ -230,9 +248,10 @@ def plotted(title, heading, lines):
             it.dot(a, b, 3.2, "page" if is_dashed else hue, hue)
     # a name at the end of each line, kept apart from the others
     ends = sorted(([y(points[-1][1]), x(points[-1][0]), kind, hue] for kind, hue, _, points in lines if kind), key=lambda it: it[0])
-    for one, next_one in zip(ends, ends[1:]):
-        if abs(next_one[1] - one[1]) < 60:
-            next_one[0] = max(next_one[0], one[0] + 18)
+    for index, one in enumerate(ends):
+        for before in ends[:index]:
+            if abs(one[1] - before[1]) < 110:
+                one[0] = max(one[0], before[0] + 18)
     for height, at, kind, hue in ends:
         it.text(at + 10, height + 4, kind, hue, 13, bold=True)
     return it
