@@ -9,6 +9,8 @@ mod checks;
 #[cfg(test)]
 mod copies;
 #[cfg(test)]
+mod refused_memory;
+#[cfg(test)]
 mod stored_weights;
 #[cfg(test)]
 mod walks;
