@@ -193,11 +193,11 @@ where
     }
 }
 
-/// The decoder model of the same rows as any model that can be walked through.
+/// The decoder model whose rows stand for those of a model that can be walked through, in the same order and with the same weights.
 ///
 /// Its symbols are those that the walk gave: clones, where the model owns its symbols. `InvalidTable` comes
-/// only where two of them are equal, so where a clone is equal to its symbol exactly where two symbols of the
-/// rows are. `OutOfMemory` comes where memory for the entries, or for a clone of a symbol, is refused.
+/// only where two of them are equal. Where a clone is equal to its symbol, that is exactly where two symbols of the
+/// model's rows are equal. `OutOfMemory` comes where memory for the entries, or for a clone of a symbol, is refused.
 ///
 /// Where the model knows that its symbols differ, as each model of this library does, none are compared; where it does
 /// not, each is compared with those before it: `n * (n - 1) / 2` comparisons for `n` rows. One walk in both cases, and no
@@ -245,11 +245,11 @@ where
     }
 }
 
-/// The lookup model of the same rows as any model that can be walked through.
+/// The lookup model whose rows stand for those of a model that can be walked through, in the same order and with the same weights.
 ///
 /// Its symbols are those that the walk gave: clones, where the model owns its symbols. `InvalidTable` comes
-/// only where two of them are equal, so where a clone is equal to its symbol exactly where two symbols of the
-/// rows are. `OutOfMemory` comes where memory for the entries, for a clone of a symbol, or for the lookup table is
+/// only where two of them are equal. Where a clone is equal to its symbol, that is exactly where two symbols of the
+/// model's rows are equal. `OutOfMemory` comes where memory for the entries, for a clone of a symbol, or for the lookup table is
 /// refused.
 ///
 /// One walk, in which symbols are compared as [`to_generic_decoder_model`] does, of which it asks the same, and two passes

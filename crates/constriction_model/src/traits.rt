@@ -90,12 +90,12 @@ pub trait SearchingModel<const PRECISION: usize>: DecoderModel<PRECISION> {
     // How many rows are in question for a quantile: all of them, or of a model with a lookup table those that meet the quantile's slot.
     ghost rows_in_question: { Self → ℕ → ℕ };
 
-    // How many comparisons a look-up makes at least, however few rows are in question. None, where an implementer says nothing else.
+    // How many comparisons a look-up makes at least, however few rows are in question: none, where an implementer says nothing else.
     ghost least_compared: { Self → ℕ } = { λ m. 0 };
 
     /// The row of a quantile, as [`quantile_function`](DecoderModel::quantile_function) answers it, and how many
-    /// times the quantile was compared with where a row begins. A search of the rows in question makes as many
-    /// comparisons as one less than their number has binary digits. A model with a lookup table may make two without a jump
+    /// times the quantile was compared with where a row begins. A search of the `n` rows in question makes as many
+    /// comparisons as the number `n - 1` has binary digits. A model with a lookup table may make two without a jump
     /// where fewer would do; it never makes more than a search of all rows.
     fn counted_quantile_function(
         &self,

@@ -227,7 +227,7 @@ fn above<Entry, Kind: CdfEntry<Entry>>(entries: &[Entry], row: usize, quantile: 
 /// one for each of the last and the middle one that begins above the quantile. Where fewer meet it, the first row takes
 /// the place of what is missing, and it never begins above.
 #[inline(always)]
-fn row_of_few<Entry, Kind: CdfEntry<Entry>, const PRECISION: usize, const SLOT_BITS: usize>(
+fn row_of_up_to_three<Entry, Kind: CdfEntry<Entry>, const PRECISION: usize, const SLOT_BITS: usize>(
     entries: &[Entry],
     first: usize,
     last: usize,
@@ -280,7 +280,7 @@ pub fn row_in_slot<Entry, Kind: CdfEntry<Entry>, const PRECISION: usize, const S
         return row_among::<Entry, Kind, PRECISION, SLOT_BITS>(entries, first, last, quantile);
     }
     if last - first <= 2 {
-        let row = row_of_few::<Entry, Kind, PRECISION, SLOT_BITS>(entries, first, last, quantile);
+        let row = row_of_up_to_three::<Entry, Kind, PRECISION, SLOT_BITS>(entries, first, last, quantile);
         return (row, 2);
     }
     row_among::<Entry, Kind, PRECISION, SLOT_BITS>(entries, first, last, quantile)

@@ -21,8 +21,9 @@ pub type FormAndReplies<Symbol, Probability, const PRECISION: usize> = (
 );
 
 /// Converts a decoder by any steps, and answers queries by the form that they leave and by an encoder of the
-/// same rows. The form has the kind that the steps say and the rows that they leave, and the replies are those
-/// that a scan of its rows gives; where clones of symbols are the same values, a scan of the rows before.
+/// same entries. The form has the kind that the steps say and the rows that they leave. The replies stand for those of a
+/// scan of its rows, as a clone stands for its symbol. Where a clone is the same value as its symbol, the rows are those
+/// from before, and the replies are exactly those of a scan of them.
 ///
 /// A clone has to be equal to its symbol, by the symbols' own equality and by the encoder's. The only refusal
 /// is `OutOfMemory`. The form is then given up. `PRECISION` is at most 63.
