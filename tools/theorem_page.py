@@ -54,7 +54,7 @@ HOW = [
     "`v.items` are a `Vec`'s elements, `r.now` what a reference holds, `r.old` and `r.new` before and after the call, `x.0` a pair's first.",
     "`A × B` is both, `A → B` if then, `¬` not, `(x : A) → P` for each `x`, `(x : A) × P` for some, `≡` the same; `x ∷ xs` is `x`, then `xs`.",
     "`M.rows`, or `⟦<M as Trait>⟧.rows`, is a `ghost` member of a trait at the type `M`, for contracts alone; `Ghosts` are all at one type.",
-    "A definition has a type, then equations: the first that fits counts. A `record` is its fields together. No number has a bound; `2 - 3` is 0.",
+    "A definition has a type, then equations: the first that fits counts. A `record` is all its fields. Numbers have no bound; `2 - 3` is 0.",
 ]
 
 # What the clauses do not say, and what shows it.
@@ -65,8 +65,7 @@ NOT_SAID = [
     "The count is what the look-up answers: no clause says that it made so many comparisons. The tests `a_look_up_does_not_go_over_all_rows` and "
     "`a_slot_that_4_194_304_rows_meet_is_searched` show by time that no look-up goes over all rows, and "
     "`a_table_answers_in_place_of_the_search_of_its_model` shows that a lookup table is used.",
-    "A `Reverse` keeps its cursor's positions. A run on it converts them: over `n` words its position `p` is `n - p` of the cursor, and above `n` "
-    "there is none.",
+    "`Reverse` keeps its cursor's positions, and a run converts them: over `n` words its `p` is the cursor's `n - p`, and none is above `n`.",
     "The steps of a chain are the four of `ChainStep`: no other conversion is one, and a lookup table that a step makes has 256 slots at most.",
     "A call that always answers want of memory would meet all that is quoted. These tests have a call of each, with ample memory, answer "
     "otherwise: `each_model_of_weights_replies`, "
