@@ -44,28 +44,31 @@ THEOREM = [
 WHOLE = "constriction_theorem"
 
 ABOUT = """Each part of it is a clause of a public call, proved of the call on every input. Below stands each call once, with what it
-requires and what it gives, then each definition that these rest on, once, from the calls down, and at the end what is not said.
-`tools/reading theorem` quotes them from the sources, and the gate compares: `;` joins two lines, `..` stands for fields that nothing here
-names; of a `///` comment the first sentence is quoted, and of an `impl` no bounds."""
+requires and what it ensures; then each definition that the clauses rest on, once, from the calls down; and at the end what is not said.
+What is quoted comes from the sources by `tools/reading theorem`, and the gate compares. `;` joins two lines, and `..` stands for fields
+that nothing here names. Of a `///` comment the first sentence is quoted, and of an `impl` no bounds."""
 
 # How a clause is read, for who knows neither Rattle nor the kit.
 HOW = [
     "A call `requires` what its caller shows; each clause that it `ensures` is proved. `IfOk result (λ x. P)`: where it answers `Ok(x)`, `P`.",
     "`v.items` are a `Vec`'s elements, `r.now` what a reference holds, `r.old` and `r.new` before and after the call, `x.0` a pair's first.",
     "`A × B` is both, `A → B` if then, `¬` not, `(x : A) → P` for each `x`, `(x : A) × P` for some, `≡` the same; `x ∷ xs` is `x`, then `xs`.",
-    "`M.rows`, or `⟦<M as Trait>⟧.rows`, is a `ghost` member of a trait at the type `M`, said in contracts alone; `Ghosts` are all of one type.",
+    "`M.rows`, or `⟦<M as Trait>⟧.rows`, is a `ghost` member of a trait at the type `M`, for contracts alone; `Ghosts` are all at one type.",
     "A definition has a type, then equations: the first that fits counts. A `record` is all its fields. Numbers have no bound; `2 - 3` is 0.",
 ]
 
 # What the clauses do not say, and what shows it.
 NOT_SAID = [
-    "Over which words: of chains, and of models with a lookup table, each `IndexWord`, as `u8` to `u128` and `usize`, for a `PRECISION` up to 63; "
-    "of ranges those named; of models that search each `WholeNumber`, up to all its bits; of a cursor whatever can be copied.",
-    "The count is the look-up's own word. That no look-up goes over all rows, tests show by time: `a_look_up_does_not_go_over_all_rows`, "
-    "`a_slot_that_4_194_304_rows_meet_is_searched`; that a lookup table is used, `a_lookup_table_answers_in_place_of_the_search_of_its_model`.",
-    "`Reverse` has its cursor's positions as they are. A run converts them: its `p` is the cursor's `n - p` over `n` words; above `n` there is none.",
+    "Not all of it is over all words. Chains, and models with a lookup table, are over each `IndexWord`, as `u8` to `u128` and `usize`, with a "
+    "`PRECISION` up to 63. Ranges are over the words of the calls. Models that search are over each `WholeNumber`, up to all its bits, and "
+    "cursors over all that can be copied.",
+    "The count is what the look-up answers: no clause says that it made so many comparisons. The tests `a_look_up_does_not_go_over_all_rows` and "
+    "`a_slot_that_4_194_304_rows_meet_is_searched` show by time that no look-up goes over all rows, and "
+    "`a_lookup_table_answers_in_place_of_the_search_of_its_model` shows that a lookup table is used.",
+    "`Reverse` keeps its cursor's positions, and a run converts them: over `n` words its `p` is the cursor's `n - p`, and none is above `n`.",
     "The steps of a chain are the four of `ChainStep`: no other conversion is one, and a lookup table that a step makes has 256 slots at most.",
-    "A body that always answers want of memory meets all that is quoted. Tests show that these do not: `each_model_of_weights_replies`, "
+    "A call that always answers want of memory would meet all that is quoted. These tests have a call of each, with ample memory, answer "
+    "otherwise: `each_model_of_weights_replies`, "
     "`what_is_made_of_letters_and_weights_replies`, `what_is_made_of_a_range_replies`, `a_range_of_wider_words_replies`, "
     "`models_without_a_lookup_table_reply_at_the_full_width`, `a_model_and_what_is_made_of_it_reply`, `contracts_leave_one_reply_after_a_chain`, "
     "`a_search_compares_two_of_four_rows_and_a_lookup_table_those_of_a_slot`, `a_cursor_and_its_reversal_are_run_together`.",
