@@ -62,6 +62,7 @@ NOT_SAID = [
     "Not all of it is over all words. Chains, and models with a lookup table, are over each `IndexWord`, as `u8` to `u128` and `usize`, with a "
     "`PRECISION` up to 63. Ranges are over the words of the calls. Models that search are over each `WholeNumber`, up to all its bits, and "
     "cursors over all that can be copied.",
+    "Weights that tile are refused where the inferred one is no word: at the full width, with none given, it is `2^PRECISION`.",
     "The count is what the look-up answers: no clause says that it made so many comparisons. The tests `a_look_up_does_not_go_over_all_rows` and "
     "`a_slot_that_4_194_304_rows_meet_is_searched` show by time that no look-up goes over all rows, and "
     "`a_lookup_table_answers_in_place_of_the_search_of_its_model` shows that a lookup table is used.",
