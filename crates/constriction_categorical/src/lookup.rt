@@ -143,7 +143,7 @@ where
 
     /// A probe of the rows in question for a quantile, which are those that meet its slot, and the
     /// index of the first of them. What [`row_of_quantile`] answers on it, plus that index, is the
-    /// index of the quantile's row. Where `m` rows meet the slot it asks as many questions at most as
+    /// index of the quantile's row. Where `m` rows meet the slot, the search asks as many questions as
     /// `m - 1` has binary digits.
     ///
     /// [`row_of_quantile`]: constriction_model::row_of_quantile

@@ -17,7 +17,7 @@ use std::iter::FusedIterator;
 ///
 /// Each row is given once, whichever end it is taken from, and either end answers `None` exactly
 /// where none is left. Every item is `Ok`, as the walk takes no memory. A step reads two neighbours
-/// of the model's table.
+/// of the model's cdf.
 ///
 /// [`ContiguousCategoricalEntropyModel`]: crate::ContiguousCategoricalEntropyModel
 #[derive(Debug, Drop)]

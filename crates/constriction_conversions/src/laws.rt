@@ -42,7 +42,7 @@ pub fn table_length<M: IterableEntropyModel<PRECISION>, const PRECISION: usize>(
 {}
 
 /// The row of a quantile, for which [`DecoderModel::quantile_function`] answers, is in the model's symbol
-/// symbol table, walked to its end: an item stands for it, or a refusal in its place, and no item that holds the
+/// table, walked to its end: an item stands for it, or a refusal in its place, and no item that holds the
 /// quantile stands for another row. So a decoder may look quantiles up in a symbol table that was read before: where
 /// clones are the same values it finds the answer itself.
 pub fn answers_are_in_table<M, const PRECISION: usize>()

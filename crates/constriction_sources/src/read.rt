@@ -55,7 +55,7 @@ pub trait BoundedReadWords<Word, S: Semantics>: ReadWords<Word, S> {
     // How many items are left.
     ghost items_left: { Self → ℕ };
 
-    // The count is surely right. A source whose items come from elsewhere can have it on trust. Each read keeps it.
+    // That the count is right. Each read keeps it right. Where an implementer says nothing else, it always is.
     ghost is_exact: { Self → Type 0 } = { λ _. ⊤ };
 
     /// How many items are left.

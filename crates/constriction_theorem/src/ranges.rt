@@ -1,7 +1,7 @@
 //! A range of symbols of equal weight, and what the dividing model replies.
 //!
-//! A law over any word would hold a model of three such words in itself, whose size nothing bounds; so it stands for
-//! each index word.
+//! A law over any word would hold a model of three such words in itself, whose size nothing bounds. So there is one for
+//! each of `u8`, `u16`, `u32`, `u64` and `usize`.
 
 ghost use Rattle.std.specs.Prelude.{◌≡◌, ◌^◌, ◌<◌, ◌≤◌, IfOk, IfErr};
 ghost use Rattle.constriction.specs.Precision.{IsPrecision};

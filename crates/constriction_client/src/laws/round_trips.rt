@@ -123,7 +123,7 @@ where
 /// them. They agree, so that what the one writes the other reads: they are the two models that
 /// [`there_and_back_of_two`] and [`there_and_back_in_a_cursor`] take.
 ///
-/// `InvalidTable` comes exactly where two symbols of the rows are equal, `OutOfMemory` where memory is
+/// `InvalidTable` comes only where two symbols of the rows are equal, `OutOfMemory` where memory is
 /// refused. The model is walked through twice.
 pub fn decoder_and_encoder<M, const PRECISION: usize>(
     alloc: Global,
