@@ -280,7 +280,9 @@ pub fn row_in_slot<Entry, Kind: CdfEntry<Entry>, const PRECISION: usize, const S
         return row_among::<Entry, Kind, PRECISION, SLOT_BITS>(entries, first, last, quantile);
     }
     if last - first <= 2 {
-        let row = row_of_up_to_three::<Entry, Kind, PRECISION, SLOT_BITS>(entries, first, last, quantile);
+        let row = row_of_up_to_three::<Entry, Kind, PRECISION, SLOT_BITS>(
+            entries, first, last, quantile,
+        );
         return (row, 2);
     }
     row_among::<Entry, Kind, PRECISION, SLOT_BITS>(entries, first, last, quantile)
