@@ -1,10 +1,7 @@
 -- How an input is cut into lines.
-use Rattle.std.proofs.Common.{refl, ◌≡◌, ℕ, ◌+◌, ◌-◌, ◌<◌, ◌≤◌, Bool, true, false, List, [], ◌∷◌, Some, None, ap, sym, ◌∙◌, length, take, drop, arith, eqb, nat_lt, cond, take_all, length-drop}
-use Rattle.std.specs.List.{position, position_or_len, slice_split}
-use Rattle.std.proofs.lemmas.Bool.{ltb-true, ltb-false}
-use Rattle.std.proofs.lemmas.List.Splits.{slice_split_first, slice_split_none, length-slice_split}
-use Rattle.std.proofs.lemmas.Grind.{common_steps}
-use Rattle.std.proofs.lemmas.List.Sums.{fails_before_first}
+use Rattle.std.proofs.Common.{refl, ◌≡◌, ℕ, ◌-◌, ◌<◌, List, [], ◌∷◌, ap, ◌∙◌, length, arith, eqb}
+use Rattle.std.specs.List.{slice_split}
+use Rattle.std.proofs.lemmas.List.Splits.{length-slice_split}
 use Rattle.constriction_text.specs.Text.{lines_of, without_last_empty}
 
 -- a part before others is a line
