@@ -12,7 +12,8 @@ use crate::checks::same;
 use constriction::laws::non_contiguous_symbols_differ;
 use constriction::stream::model::{
     DecoderModel, EntropyModel, IterableEntropyModel, ModelError,
-    NonContiguousCategoricalDecoderModel, to_generic_lookup_decoder_model_of_distinct,
+    NonContiguousCategoricalDecoderModel, to_generic_decoder_model,
+    to_generic_lookup_decoder_model_of_distinct,
 };
 use constriction_client::{ChainStep, DecoderForm, convert_chain};
 use std::alloc::{AllocError, Global};
@@ -191,6 +192,14 @@ fn looked_up_unannounced(alloc: Global, model: &Decoder) -> Result<Form, ModelEr
     }
 }
 
+/// The form of the same rows, of a model that knows whether its symbols differ.
+fn walked(alloc: Global, model: &Decoder) -> Result<Form, ModelError> {
+    match to_generic_decoder_model::<_, 24>(alloc, model) {
+        Ok(made) => Ok(DecoderForm::Search(made)),
+        Err(refusal) => Err(refusal),
+    }
+}
+
 /// Each kind of step, and a rebuilding of each form.
 const EACH_STEP: [ChainStep; 6] = [
     ChainStep::ToSearch,
@@ -243,6 +252,18 @@ fn five_thousand_symbols_are_looked_up_without_comparing_any(rt: HostRuntime) {
     let unannounced = looked_up_unannounced(rt.alloc(), &model).expect(&rt, "a form");
     same(&rt, number_at(&unannounced, 4321), Some(4321));
     same(&rt, told(&compared), (few, 15_000));
+}
+
+/// The conversion of a model that knows that its symbols differ compares none.
+#[test]
+fn five_thousand_symbols_that_differ_are_not_compared(rt: HostRuntime) {
+    let compared = tally(&rt, rt.alloc());
+    let made = hashed(rt.alloc(), symbols(&rt, rt.alloc(), &compared, 4999, 5000));
+    let model = made.expect(&rt, "accepted");
+    let (few, _alive) = told(&compared);
+    let form = walked(rt.alloc(), &model).expect(&rt, "a form");
+    same(&rt, number_at(&form, 4321), Some(4321));
+    same(&rt, told(&compared), (few, 10_000));
 }
 
 /// Where a symbol is there twice, and where a clone is refused, no symbol is left.

@@ -11,6 +11,7 @@ use constriction::stream::model::{
     to_generic_lookup_decoder_model, to_generic_slotted_lookup_decoder_model,
 };
 use constriction_test_models::any_symbols::plain;
+use constriction_test_models::contiguous::weighted;
 use constriction_test_models::lookup_any_symbols::{Lookup, lookup};
 use constriction_test_models::own_model::three;
 use std::alloc::Global;
@@ -62,4 +63,24 @@ fn a_lookup_model_shows_its_stored_entries_and_its_lookup_table(rt: HostRuntime)
     let model = lookup::<1>(rt.alloc(), &['a', 'b'], &[1, 1], false).expect(&rt, "accepted");
     shows(&rt, rt.alloc(), &model, "[(0, 'a'), (1, 'b')]");
     shows(&rt, rt.alloc(), &model, "[0, 1, 0, 1, 2]");
+}
+
+/// Lookup models of numbers and of any symbols say that their symbols differ.
+#[test]
+fn lookup_models_know_that_their_symbols_differ(rt: HostRuntime) {
+    let searching = weighted::<1>(rt.alloc(), &[1, 1], false).expect(&rt, "accepted");
+    let numbers = searching
+        .to_lookup_decoder_model(rt.alloc())
+        .expect(&rt, "memory");
+    same(
+        &rt,
+        IterableEntropyModel::<1>::symbols_differ(&&numbers),
+        true,
+    );
+    let letters = lookup::<1>(rt.alloc(), &['a', 'b'], &[1, 1], false).expect(&rt, "accepted");
+    same(
+        &rt,
+        IterableEntropyModel::<1>::symbols_differ(&&letters),
+        true,
+    );
 }
