@@ -31,7 +31,7 @@ pub record IsOnTop (precision left weight : ℕ) (full rest : Content) : Type 0 
   pub to : full.state % 2 ^ precision < left + weight
   pub under : Refills (taken precision left weight full.state) full.words rest
 
--- `full` has the symbol on top of `rest`, with the entry that it has
+-- `full` has the symbol on top of `rest`, by the entry of that symbol
 pub record IsEncoded {Symbol : Type 0} (entry : Symbol → Option (ℕ × ℕ)) (precision : ℕ) (symbol : Symbol) (full rest : Content)
     : Type 0 where
   pub left : ℕ

@@ -36,7 +36,8 @@ module _ {W B : Type 0} {g : Ghosts B W} (c : Cursor W B g) where
       (λ _. (g.words_of t.buf ≡ slice_set (g.words_of c.buf) p w) × (t.buf ≡ with_words c.buf (g.words_of t.buf)))
       (λ _. t ≡ c)
 
-  -- a write: the step of the state, the word is put at the position, and it is refused exactly where that is not below the number of words
+  -- a write: the step of the state, the word is put at the position, and it is refused exactly where the position is not below the
+  -- number of words
   abbrev pub WritesTo : {E : Type 0} → (B → List W → B) → W → Result (Unit {0}) E → Cursor W B g → Type 0
   WritesTo with_words w r t =
       Overwrites (state_of) w r (state (g.words_of t.buf) t.pos)

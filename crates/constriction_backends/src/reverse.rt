@@ -1,5 +1,5 @@
-//! A backend that is read in the other order. Where it is a cursor, it reads, writes and counts words as a cursor in the `reversal` of
-//! its state does, and keeps its own positions. Of reads, which are the backend's own, the law `reversal_reads` says so.
+//! A backend that is read in the other order. Its positions are those of the backend. Where that is a cursor, it reads, writes and counts
+//! words as a cursor in the `reversal` of the state does. Of reads, which are the backend's own, the law `reversal_reads` says so.
 
 ghost use Rattle.std.specs.Prelude.{◌≡◌, ◌<◌, ◌↔◌, refl, true, length, reverse, IsOk};
 ghost use Rattle.std.proofs.Common.{ap, sym, ◌∙◌};

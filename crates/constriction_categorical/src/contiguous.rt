@@ -64,8 +64,8 @@ impl<Probability: WholeNumber, const PRECISION: usize> ContiguousCategoricalEntr
     ///
     /// The weights are accepted exactly where they are all positive, the inferred one included,
     /// their sum is `2^PRECISION`, and each of them is a word. So below the full width of the word
-    /// the single weight `2^PRECISION` is accepted, and so is no weight at all where one is
-    /// inferred; at the full width neither exists. `InvalidTable` comes where they are not
+    /// the single weight `2^PRECISION` is accepted, and so is the empty list where the last weight is
+    /// inferred. At the full width neither is, as `2^PRECISION` is no word. `InvalidTable` comes where they are not
     /// accepted, whether the iterator was read to its end or only so far that no list that begins
     /// so is accepted. `OutOfMemory` comes where memory for the cdf is refused.
     ///

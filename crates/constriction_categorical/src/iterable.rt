@@ -33,8 +33,8 @@ pub trait IterableEntropyModel<const PRECISION: usize>: EntropyModel<PRECISION> 
     // The rows that a symbol table has yet to give.
     ghost rows_left: { Self.SymbolTable → List (Row Self.Symbol) };
 
-    // Whether `symbols_differ` speaks of an equality of symbols: who converts by an equality shows it. Where an implementer says
-    // nothing, it speaks of all, and who answers `true` has to say of which.
+    // Whether `symbols_differ` speaks of this equality of symbols. A caller who converts by an equality shows it. Where an implementer
+    // says nothing, it speaks of all. One who answers `true` says of which, and may ask here that a clone is equal to its symbol.
     ghost is_equality: { (Self.Symbol → Self.Symbol → Bool) → Type 0 } = { λ _. ⊤ };
 
     /// Whether it is known that no two symbols of the rows are equal, nor two that a walk gives: who reads a

@@ -42,7 +42,7 @@ abbrev pub StandApart : {Symbol : Type 0} → (Symbol → Symbol → Bool) → (
     → List (Row Symbol) → List (Row Symbol) → Type 0
 StandApart eq Stands made rows = StandForRows Stands made rows × IsDistinct eq (symbols_of made)
 
--- two equal symbols are among those that stand for the symbols of the first of these rows
+-- among symbols that may stand for those of the first few of these rows, two are equal
 abbrev pub ClonesRepeat : {Symbol : Type 0} → (Symbol → Symbol → Bool) → (Symbol → Symbol → Type 0) → List (Row Symbol) → Type 0
 ClonesRepeat {Symbol} eq Stands rows =
     (made first rest : List (Row Symbol)) × (rows ≡ first ++ rest) × StandForRows Stands made first × ¬ (IsDistinct eq (symbols_of made))

@@ -16,7 +16,7 @@ pub type Weight<P> = <P as WholeNumber>::NonZero;
 /// An entropy model in fixed-point arithmetic: a list of rows, each of which gives a symbol an
 /// interval of the quantiles `0..2^PRECISION`.
 ///
-/// `PRECISION` is at least 1 and at most the width of the words that quantiles are.
+/// Constructors ask that `PRECISION` is at least 1, and at most the width of the words that quantiles are.
 pub trait EntropyModel<const PRECISION: usize> {
     /// What is coded.
     type Symbol;

@@ -6,8 +6,9 @@ use crate::whole_number::WholeNumber;
 
 /// A word whose numbers below `2^64` are indices, each of them a `usize`. The constructors of lookup models ask for one.
 ///
-/// A lookup table holds row indices as words, and a look-up begins with the number of a quantile.
-/// Each quantile of a lookup model lies below `2^63`, and so does each row index. The unsigned integers of std are index words.
+/// A lookup table holds row indices as words, and a look-up begins with the number of a quantile. Each of both lies below `2^63`. The
+/// bound says that a word is meant as an index; a look-up itself calls `to_number` and `from_number` of [`WholeNumber`]. The unsigned
+/// integers of std are index words.
 pub trait IndexWord: WholeNumber {
     /// The number of the word, as an index, where it is a `usize`.
     fn to_index(self) -> usize

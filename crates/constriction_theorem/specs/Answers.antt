@@ -13,9 +13,9 @@ use Rattle.constriction_theorem.specs.declared.searches.AnswersBySearch.{Answers
 use Rattle.constriction_theorem.specs.declared.weights.AnswersOfWeights.{AnswersOfWeights}
 use Rattle.constriction_theorem.specs.declared.weights.RepliesByEncoder.{RepliesByEncoder}
 
--- The form that steps leave of one that was made of the rows `first`, which was a lookup form or not, and what it replies beside an
--- encoder of these rows. `Walks s t` says that a walk may give `t` for the symbol `s` of a row, `IsClone s t` that `t` may be a clone
--- of `s`. `scan` gives the replies of a row list.
+-- What steps leave of a form of the rows `first`, which was a lookup form or not, and what that replies beside an encoder of the same
+-- entries. `Walks s t` says that a walk may give `t` for the symbol `s` of a row, `IsClone s t` that `t` may be a clone of `s`. `scan`
+-- gives the replies of a row list.
 pub record AnswersAfter {Symbol : Type 0} (Walks IsClone : Symbol → Symbol → Type 0) (scan : List (Row Symbol) → List (Reply Symbol ℕ ℕ))
     (steps : List ChainStep) (was_lookup : Bool) (first : List (Row Symbol))
     (now_lookup : Bool) (made : List (Row Symbol)) (given : List (Reply Symbol ℕ ℕ)) : Type 0 where
