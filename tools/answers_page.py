@@ -7,15 +7,16 @@ from quotes import with_comment, wrapped
 from sources import TOP, Wrong, cut_angles, read
 
 # How many lines the page has at most, and a section of it.
-PAGE_LINES, SECTION_LINES = 420, 40
+PAGE_LINES, SECTION_LINES = 450, 45
 
 # Where the questions stand, in the first column of a table, and how a row of it begins: with a link to the section of its question.
 TABLE, HEADING, QUESTION = "docs/ARCHITECTURE.md", "## Where to look\n", re.compile(r"\| \[(.+?)\]\(ANSWERS\.md#[\w-]+\) ")
 
 ABOUT = """Each question of the table in [ARCHITECTURE](ARCHITECTURE.md#where-to-look) has a section here: what you may rely on, the
 definitions and the clauses that decide it, and the tests. What is quoted comes from the sources by `tools/reading answers`, and the gate
-compares. In it `..` stands for type parameters and for the type of an answer. Of a definition with equations these alone are quoted: before
-their arguments come those of the module around them. Of a comment the first sentence is quoted.
+compares. In it `..` stands for type parameters and for the type of an answer. Of a definition by
+equations these alone are quoted; a name that nothing in them binds is an argument of the module around them, and is given first. Of a comment the
+first sentence is quoted, up to a colon where it is longer than a line, and `..` after it.
 [THEOREM](THEOREM.md#how-to-read-a-clause) says how to read a clause, and `tools/reading NAME` prints all that a name rests on."""
 
 # Each question, and what is said of it; what is quoted, file by file, where `CALL: LABEL..` is a call with some of its clauses, a lone one
@@ -30,7 +31,7 @@ ANSWERS = [
         comes only where what was read is accepted, and `InvalidTable` only where it is not, whatever might follow it. Any other refusal
         is `OutOfMemory`.""",
         {
-            "constriction_model/Acceptance.antt": "Tiles, completed, IsAccepted, AreAccepted",
+            "constriction_model/Acceptance.antt": "Tiles, completed, IsAccepted, AreAccepted, IsMadeOfWeights",
             "constriction_categorical/contiguous.rt": "ContiguousCategoricalEntropyModel::from_nonzero_fixed_point_probabilities: ensures",
         },
         {"constriction_theorem_tests/theorem.rt": "each_model_of_weights_replies what_is_made_of_letters_and_weights_replies"},
@@ -82,8 +83,8 @@ ANSWERS = [
     (
         "How many comparisons does it make?",
         """Of `n` rows at most `digits (n - 1)`, which is how many binary digits `n - 1` has, and a search of all rows makes exactly so
-        many. A lookup model makes as many as one less than the number of rows that meet the quantile's slot has digits; but two where
-        that is fewer, and it has three rows or more, more rows than a sixteenth of its slots, and slots wider than a quantile. No
+        many. A lookup model makes `digits (m - 1)`, where `m` rows meet the quantile's slot; but two where that is
+        fewer, and the model has three rows or more, more rows than a sixteenth of its slots, and slots wider than a quantile. No
         clause says that the count is true: two tests show by their time that no look-up goes over all rows, and a third that a lookup
         table is used. [THEOREM](THEOREM.md#4-a-search-making-at-most-as-many-comparisons-as-the-row-count-has-binary-digits) has all
         that this rests on.""",
@@ -108,8 +109,11 @@ ANSWERS = [
         - to decode, `DecoderModel`: `quantile_function` and the law `tile_law`; where symbols are cloned, also `stands_for`,
         `may_refuse`;
         - to be walked through and converted, `Iterator` with `next`, `next_gives` and `remaining`; and `IterableEntropyModel`: the type
-        `SymbolTable`, `symbol_table`, the member `rows_left`, the laws `steps_law` and `tile_law`, the two members as above;
-        - to have a lookup table, `StoresRows`: the types `Entry` and `Kind` (`Alone` or `WithSymbol`), `entries`, the laws
+        `SymbolTable`, `symbol_table`, the member `rows_left`, the laws `steps_law` and `tile_law`, and where symbols are cloned
+        `stands_for` and `may_refuse`; where it is known that no two symbols are equal, also `symbols_differ` and `is_equality`;
+        - to tell how many rows a look-up compared, `SearchingModel`: `counted_quantile_function`, the members `rows_in_question` and
+        `least_compared`, the laws `question_law` and `least_law`;
+        - to have a lookup table, `StoresRows`: the types `Entry` (what is stored of a row) and `Kind` (`Alone` or `WithSymbol`), `entries`, the laws
         `precise_law` and `stored_law`; and `AnswersRows`: `row_at`. Then `LookupDecoderModel::with_table` makes it, at a `PRECISION` up
         to 63.""",
         {
@@ -139,7 +143,7 @@ ANSWERS = [
     (
         "How is `Reverse<Cursor>` tied to `Cursor`?",
         """Each of its reads, writes and counts is one of a cursor in the `reversal` of the inner cursor's state: the words in the other
-        order, cut at the same place. So it reads as a stack the word at the inner position, and as a queue the one before it; a write
+        order, cut at the same place. Its reads are the inner cursor's in the other order (`read_gives`): it reads as a stack the word at the inner position, and as a queue the one before it; a write
         overwrites the word before the inner position and moves down over it. `pos` and `seek` are the inner cursor's, unconverted.
         `Reverse(cursor)` changes nothing but the order. `into_reversed` reverses the words in place too: what it gives reads, in each
         order, and overwrites the same words as the cursor did. Done again, it gives the very same cursor back.""",
@@ -171,7 +175,9 @@ ANSWERS = [
         with the symbol that the walk gave: the row's own, or what its type says of a clone. `InvalidTable` comes only where two symbols
         that a walk may give are equal. These are refused for want of memory alone: `to_generic_encoder_model`, which of equal symbols
         keeps the entry of the last row; the conversions `.._of_distinct`; `to_lookup_decoder_model` and `into_lookup_decoder_model`.
-        Symbols are compared only where `symbols_differ` answers `false`; that models of the library answer `true`, tests alone show.""",
+        `to_generic_decoder_model` and those for
+        lookup models compare symbols only where `symbols_differ` answers `false`, and models of the library answer `true`: no clause says
+        either, tests do.""",
         {
             "constriction_model/Model.antt": "StandForRows, StandApart, ClonesRepeat",
             "constriction_model/Entries.antt": "HoldsEntriesOf",
@@ -187,16 +193,16 @@ ANSWERS = [
         "When is memory refused, and what does that leave?",
         """- No clause says when a constructor or a conversion is refused: a body that always answers `OutOfMemory` meets all their
         clauses. Tests call each with ample memory.
-        - A look-up is refused only where `RowMayBeRefused`: where the clone of its row's symbol may be. So is a row of a walk, and the
-        walk goes on.
+        - A look-up is refused only where `RowMayBeRefused`: where the clone of its row's symbol may be. A row of a walk is
+        refused only where the clone of its own symbol may be, and the walk goes on after it.
         - A write where there is room is refused for want of memory alone (`room_suffices`, `lacks_memory`). A `Vec` and a `SmallVec`
         always have room, and with capacity left no write to them is refused. A cursor has room where a place is free, and no write is
         refused there.
         - What was lent stays as it was, but for what was done by then: words that `extend_from_iter` or a coder wrote before stay
         written. What was handed over by value is given up: an iterator, a form, a searching model that was to get a lookup table.
 
-        All tests with `refusal_of_memory` in their names pass whichever request is refused: `tools/refused-memory` refuses each in
-        turn.""",
+        All tests with `refusal_of_memory` in their names have to pass whichever request is refused. `tools/refused-memory` refuses each in
+        turn; a release runs it, and the gate does not.""",
         {
             "constriction_model/traits.rt": "DecoderModel::quantile_function: refused",
             "constriction_sources/write.rt": "WriteWords::has_room, WriteWords::lacks_memory, WriteWords::room_suffices",
@@ -208,13 +214,15 @@ ANSWERS = [
             "constriction_lookup_tests/refused_lookup_memory.rt": "a_refusal_of_memory_leaves_the_searching_model",
             "constriction_client_tests/chains.rt": "a_refusal_of_memory_gives_up_the_form",
             "constriction_backends_tests/stacks.rt": "each_refusal_of_memory_keeps_the_words_before",
+            "constriction_ans_tests/refused_memory.rt": "a_refusal_of_memory_leaves_the_symbols_that_are_encoded",
         },
     ),
     (
         "What does a query reply after conversions?",
-        """What a scan of the rows that the conversions left gives: for a quantile the first row that holds it, or that it is out of
-        range; for a symbol the entry of its last row, or none. These rows stand for those from before, in order and with their weights;
-        where a clone is the same value they are those from before, and the replies are exactly those of a scan of them. The caller
+        """Replies that stand for those of a scan of the rows that the conversions left, as a clone stands for its symbol. A scan replies for a
+        quantile the first row that holds it, or that it is out of range; for a symbol the entry of its last row, or none. Each step leaves
+        rows that stand for those before it, in order and with their weights. Where a clone is the same value the rows are those from
+        before, and the replies are exactly those of a scan of them. Words are an `IndexWord`, and `PRECISION` is 1 to 63. The caller
         shows that a clone is equal to its symbol, and that the encoder has the entries of the form's rows. The only refusal is
         `OutOfMemory`, and the form is then given up.
         [THEOREM](THEOREM.md#3-after-any-chain-of-conversions-answer-every-list-of-queries-as-a-scan-of-the-rows-does) has
@@ -224,14 +232,14 @@ ANSWERS = [
     ),
     (
         "What shows that a coder decodes what it encoded?",
-        """Two contracts, of which neither names the other direction: `encode_symbol` promises `IsEncoded` by the encoder's entry, and
-        `decode_symbol` `IsDecoded` by the decoder's row. From these two alone `symbol_comes_back` shows that what is decoded stands for
+        """Two contracts, which both say what is on top by the formula of decoding (`IsOnTop`): `encode_symbol` promises `IsEncoded` by the
+        encoder's entry, and `decode_symbol` `IsDecoded` by the decoder's row. From these two, where the entries are equal, `symbol_comes_back` shows that what is decoded stands for
         an equal symbol, and that what was under it is left. `there_and_back` says so of a message: its symbols come back in reverse,
         and the state and the words are as before (`state`, `words`). The encoder has to have the entries of the decoder's rows
         (`alike`). This is of `AnsCoder`; the range decoder has no encoder here. [CODERS](CODERS.md) says how such a proof goes, and
         which lemma serves which goal.""",
         {
-            "constriction_ans_example/Steps.antt": "IsEncoded, IsDecoded",
+            "constriction_ans_example/Steps.antt": "IsOnTop, IsEncoded, IsDecoded",
             "constriction_ans_example/Laws.antt": "SymbolComesBack",
             "constriction_ans_example/laws.rt": "there_and_back: alike back equal",
         },
@@ -259,7 +267,7 @@ ANSWERS = [
         """Those of at least `PRECISION` bits: at 24 `u32`, `u64`, `u128`, and `usize`, which has 64 bits here; `u8` and `u16` are too
         narrow. A lookup model asks at most 63 too, and its constructors an `IndexWord`, as all of these are; a uniform model asks at
         most 64; the coders of `constriction_ans_example` are over `u32` alone. A caller shows it where it makes a model: it is the
-        condition `precision`. A word of one's own, of 24 bits or more, is a `WholeNumber`: it shows the three laws below, and the
+        condition `precision`, and where only the bound 63 or 64 is asked `narrow`, or one without a name. A word of one's own, of 24 bits or more, is a `WholeNumber`: it shows the three laws below, and the
         clauses of its calls. With `IndexWord`, which is two calls more, it serves the constructors of lookup models. Code that shifts
         or wraps words asks a `BitArray` ([WORDS](WORDS.md)).""",
         {

@@ -147,7 +147,8 @@ def briefly(it):
     at = next((at for at, line in enumerate(lines) if at and indent_of(line) == 0), 0) if has_equations else 0
     comment = wrapped(first_sentence(it.comment), "-- ") if it.comment else []
     if len(comment) > 1:
-        comment = wrapped(told_by(it.comment), "-- ")
+        text = told_by(it.comment)
+        comment = wrapped(text if text == first_sentence(it.comment) else f"{text.removesuffix('.')} ..", "-- ")
     return [*comment, *packed(joined(lines[at:]))]
 
 
