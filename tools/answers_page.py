@@ -15,11 +15,13 @@ TABLE, HEADING, QUESTION = "docs/ARCHITECTURE.md", "## Where to look\n", re.comp
 ABOUT = """Each question of the table in [ARCHITECTURE](ARCHITECTURE.md#where-to-look) has a section here: what you may rely on, the
 definitions and the clauses that decide it, and the tests. What is quoted comes from the sources by `tools/reading answers`, and the gate
 compares. In it `..` stands for type parameters and for the type of an answer. Of a definition by
-equations these alone are quoted; a name that nothing in them binds is an argument of the module around them, and is given first. Of a comment the
+equations these alone are quoted; a name that nothing in them binds is an argument of the module around them, and is given first. Of a
+comment the
 first sentence is quoted, up to a colon where it is longer than a line, and `..` after it.
 [THEOREM](THEOREM.md#how-to-read-a-clause) says how to read a clause, and `tools/reading NAME` prints all that a name rests on."""
 
-# Each question, and what is said of it; what is quoted, file by file, where `CALL: LABEL..` is a call with some of its clauses, a lone one
+# Each question, and what is said of it; what is quoted, file by file, where `CALL: LABEL..` is a call with some of its clauses, a lone
+one
 # by its word, and `TRAIT::NAME` or `TRAIT for TYPE::NAME` a member; and the tests, file by file.
 ANSWERS = [
     (
@@ -113,7 +115,8 @@ ANSWERS = [
         `stands_for` and `may_refuse`; where it is known that no two symbols are equal, also `symbols_differ` and `is_equality`;
         - to tell how many rows a look-up compared, `SearchingModel`: `counted_quantile_function`, the members `rows_in_question` and
         `least_compared`, the laws `question_law` and `least_law`;
-        - to have a lookup table, `StoresRows`: the types `Entry` (what is stored of a row) and `Kind` (`Alone` or `WithSymbol`), `entries`, the laws
+        - to have a lookup table, `StoresRows`: the types `Entry` (what is stored of a row) and `Kind` (`Alone` or `WithSymbol`),
+        `entries`, the laws
         `precise_law` and `stored_law`; and `AnswersRows`: `row_at`. Then `LookupDecoderModel::with_table` makes it, at a `PRECISION` up
         to 63.""",
         {
@@ -143,7 +146,8 @@ ANSWERS = [
     (
         "How is `Reverse<Cursor>` tied to `Cursor`?",
         """Each of its reads, writes and counts is one of a cursor in the `reversal` of the inner cursor's state: the words in the other
-        order, cut at the same place. Its reads are the inner cursor's in the other order (`read_gives`): it reads as a stack the word at the inner position, and as a queue the one before it; a write
+        order, cut at the same place. Its reads are the inner cursor's in the other order (`read_gives`): it reads as a stack the word
+        at the inner position, and as a queue the one before it; a write
         overwrites the word before the inner position and moves down over it. `pos` and `seek` are the inner cursor's, unconverted.
         `Reverse(cursor)` changes nothing but the order. `into_reversed` reverses the words in place too: what it gives reads, in each
         order, and overwrites the same words as the cursor did. Done again, it gives the very same cursor back.""",
@@ -201,7 +205,8 @@ ANSWERS = [
         - What was lent stays as it was, but for what was done by then: words that `extend_from_iter` or a coder wrote before stay
         written. What was handed over by value is given up: an iterator, a form, a searching model that was to get a lookup table.
 
-        All tests with `refusal_of_memory` in their names have to pass whichever request is refused. `tools/refused-memory` refuses each in
+        All tests with `refusal_of_memory` in their names have to pass whichever request is refused. `tools/refused-memory` refuses each
+        in
         turn; a release runs it, and the gate does not.""",
         {
             "constriction_model/traits.rt": "DecoderModel::quantile_function: refused",
@@ -219,8 +224,10 @@ ANSWERS = [
     ),
     (
         "What does a query reply after conversions?",
-        """Replies that stand for those of a scan of the rows that the conversions left, as a clone stands for its symbol. A scan replies for a
-        quantile the first row that holds it, or that it is out of range; for a symbol the entry of its last row, or none. Each step leaves
+        """Replies that stand for those of a scan of the rows that the conversions left, as a clone stands for its symbol. A scan
+        replies for a
+        quantile the first row that holds it, or that it is out of range; for a symbol the entry of its last row, or none. Each step
+        leaves
         rows that stand for those before it, in order and with their weights. Where a clone is the same value the rows are those from
         before, and the replies are exactly those of a scan of them. Words are an `IndexWord`, and `PRECISION` is 1 to 63. The caller
         shows that a clone is equal to its symbol, and that the encoder has the entries of the form's rows. The only refusal is
@@ -232,8 +239,10 @@ ANSWERS = [
     ),
     (
         "What shows that a coder decodes what it encoded?",
-        """Two contracts, which both say what is on top by the formula of decoding (`IsOnTop`): `encode_symbol` promises `IsEncoded` by the
-        encoder's entry, and `decode_symbol` `IsDecoded` by the decoder's row. From these two, where the entries are equal, `symbol_comes_back` shows that what is decoded stands for
+        """Two contracts, which both say what is on top by the formula of decoding (`IsOnTop`): `encode_symbol` promises `IsEncoded` by
+        the
+        encoder's entry, and `decode_symbol` `IsDecoded` by the decoder's row. From these two, where the entries are equal,
+        `symbol_comes_back` shows that what is decoded stands for
         an equal symbol, and that what was under it is left. `there_and_back` says so of a message: its symbols come back in reverse,
         and the state and the words are as before (`state`, `words`). The encoder has to have the entries of the decoder's rows
         (`alike`). This is of `AnsCoder`; the range decoder has no encoder here. [CODERS](CODERS.md) says how such a proof goes, and
@@ -267,7 +276,8 @@ ANSWERS = [
         """Those of at least `PRECISION` bits: at 24 `u32`, `u64`, `u128`, and `usize`, which has 64 bits here; `u8` and `u16` are too
         narrow. A lookup model asks at most 63 too, and its constructors an `IndexWord`, as all of these are; a uniform model asks at
         most 64; the coders of `constriction_ans_example` are over `u32` alone. A caller shows it where it makes a model: it is the
-        condition `precision`, and where only the bound 63 or 64 is asked `narrow`, or one without a name. A word of one's own, of 24 bits or more, is a `WholeNumber`: it shows the three laws below, and the
+        condition `precision`, and where only the bound 63 or 64 is asked `narrow`, or one without a name. A word of one's own, of 24
+        bits or more, is a `WholeNumber`: it shows the three laws below, and the
         clauses of its calls. With `IndexWord`, which is two calls more, it serves the constructors of lookup models. Code that shifts
         or wraps words asks a `BitArray` ([WORDS](WORDS.md)).""",
         {
