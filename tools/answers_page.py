@@ -12,26 +12,24 @@ PAGE_LINES, SECTION_LINES = 450, 45
 # Where the questions stand, in the first column of a table, and how a row of it begins: with a link to the section of its question.
 TABLE, HEADING, QUESTION = "docs/ARCHITECTURE.md", "## Where to look\n", re.compile(r"\| \[(.+?)\]\(ANSWERS\.md#[\w-]+\) ")
 
-ABOUT = """Each question of the table in [ARCHITECTURE](ARCHITECTURE.md#where-to-look) has a section here: what you may rely on, the
-definitions and the clauses that decide it, and the tests. What is quoted comes from the sources by `tools/reading answers`, and the gate
-compares. In it `..` stands for type parameters and for the type of an answer. Of a definition by
-equations these alone are quoted; a name that nothing in them binds is an argument of the module around them, and is given first. Of a
-comment the
-first sentence is quoted, up to a colon where it is longer than a line, and `..` after it.
-[THEOREM](THEOREM.md#how-to-read-a-clause) says how to read a clause, and `tools/reading NAME` prints all that a name rests on."""
+ABOUT = """Each question of the table in [ARCHITECTURE](ARCHITECTURE.md#where-to-look) has a section here: what you may rely on, the definitions
+and the clauses that decide it, and the tests. What is quoted comes from the sources by `tools/reading answers`, and the gate
+compares. In it `..` stands for type parameters and for the type of an answer. Of a definition by equations these alone are quoted; a
+name that nothing in them binds is an argument of the module around them, and is given first. Of a comment the first sentence is
+quoted, up to a colon where it is longer than a line, and `..` after it. [THEOREM](THEOREM.md#how-to-read-a-clause) says how to read a
+clause, and `tools/reading NAME` prints all that a name rests on."""
 
-# Each question, and what is said of it; what is quoted, file by file, where `CALL: LABEL..` is a call with some of its clauses, a lone
-one
+# Each question, and what is said of it; what is quoted, file by file, where `CALL: LABEL..` is a call with some of its clauses, a lone one
 # by its word, and `TRAIT::NAME` or `TRAIT for TYPE::NAME` a member; and the tests, file by file.
 ANSWERS = [
     (
         "Which weights make a model?",
         """Those that tile, and each of which is a word: none is 0, they add up to `2^PRECISION`, and each is below `2^BITS`. An
         inferred weight counts as one of them. So at the full width of a word no single weight makes a model, given or inferred, as
-        `2^PRECISION` is no word there; below the full width it does. A model over any symbols asks one symbol for each weight too, no
-        two of them equal; the constructor of symbols in order asks that each is less than the next. A constructor has one clause: `Ok`
-        comes only where what was read is accepted, and `InvalidTable` only where it is not, whatever might follow it. Any other refusal
-        is `OutOfMemory`.""",
+        `2^PRECISION` is no word there; below the full width it does. A model over any symbols asks one symbol for each weight too,
+        no two of them equal; the constructor of symbols in order asks that each is less than the next. A constructor has one
+        clause: `Ok` comes only where what was read is accepted, and `InvalidTable` only where it is not, whatever might follow it.
+        Any other refusal is `OutOfMemory`.""",
         {
             "constriction_model/Acceptance.antt": "Tiles, completed, IsAccepted, AreAccepted, IsMadeOfWeights",
             "constriction_categorical/contiguous.rt": "ContiguousCategoricalEntropyModel::from_nonzero_fixed_point_probabilities: ensures",
@@ -42,10 +40,10 @@ ANSWERS = [
         "What does a refused write leave?",
         """A `Vec` and a `SmallVec` keep their words and their capacity, and refuse only where no capacity is left. A cursor stays the
         very same cursor, and refuses exactly where its position is not below the number of words; [a
-        `Reverse<Cursor>`](#how-is-reversecursor-tied-to-cursor) does so exactly at inner position 0. A sink over a callback tells no
-        words: what is left is what the callback's own clause says (`step`). `extend_from_iter` stops at the first refused word: the
-        words before it stay written, and that word leaves what any refused write leaves. The iterator is given up; that it is asked for
-        no item after the refused one is tested alone.""",
+        `Reverse<Cursor>`](#how-is-reversecursor-tied-to-cursor) does so exactly at inner position 0. A sink over a callback tells
+        no words: what is left is what the callback's own clause says (`step`). `extend_from_iter` stops at the first refused word:
+        the words before it stay written, and that word leaves what any refused write leaves. The iterator is given up; that it is
+        asked for no item after the refused one is tested alone.""",
         {
             "constriction_sources/Stack.antt": "PushesTo",
             "constriction_sources/Sink.antt": "ExtendsBy",
@@ -65,12 +63,12 @@ ANSWERS = [
         """It answers the row that holds the quantile; of a model that owns its symbols the answer has what their type says of a clone.
         It is refused only where the clone of this row's symbol may be, so never where none is cloned.
 
-        - A searching model: `counted_quantile_function`; `row_in_entries`, which makes a probe of all rows; `row_of_quantile`, which
-        halves them (of at most two rows `row_of_two`); `contiguous_row_at` or, with a clone of the symbol, `cloned_row_at`.
-        - A lookup model: `counted_quantile_function`; `row_in_slot`, which reads the first and the last row that meet the quantile's
-        slot. Where a slot is one quantile, these are one row, which is the answer; in a model of few rows so is a row that is alone in
-        its slot. In any other model two comparisons find one of up to three (`row_of_up_to_three`). Else `row_among` searches, by
-        `row_in_slot_entries`. Then `row_beside` answers the row.
+        - A searching model: `counted_quantile_function`; `row_in_entries`, which makes a probe of all rows; `row_of_quantile`,
+        which halves them (of at most two rows `row_of_two`); `contiguous_row_at` or, with a clone of the symbol, `cloned_row_at`.
+        - A lookup model: `counted_quantile_function`; `row_in_slot`, which reads the first and the last row that meet the
+        quantile's slot. Where a slot is one quantile, these are one row, which is the answer; in a model of few rows so is a row
+        that is alone in its slot. In any other model two comparisons find one of up to three (`row_of_up_to_three`). Else
+        `row_among` searches, by `row_in_slot_entries`. Then `row_beside` answers the row.
         - A uniform model divides (`symbol_of`). [Three ways through](ARCHITECTURE.md#three-ways-through) has the files.""",
         {
             "constriction_model/Rows.antt": "IsRowOf",
@@ -85,11 +83,11 @@ ANSWERS = [
     (
         "How many comparisons does it make?",
         """Of `n` rows at most `digits (n - 1)`, which is how many binary digits `n - 1` has, and a search of all rows makes exactly so
-        many. A lookup model makes `digits (m - 1)`, where `m` rows meet the quantile's slot; but two where that is
-        fewer, and the model has three rows or more, more rows than a sixteenth of its slots, and slots wider than a quantile. No
-        clause says that the count is true: two tests show by their time that no look-up goes over all rows, and a third that a lookup
-        table is used. [THEOREM](THEOREM.md#4-a-search-making-at-most-as-many-comparisons-as-the-row-count-has-binary-digits) has all
-        that this rests on.""",
+        many. A lookup model makes `digits (m - 1)`, where `m` rows meet the quantile's slot; but two where that is fewer, and the
+        model has three rows or more, more rows than a sixteenth of its slots, and slots wider than a quantile. No clause says that
+        the count is true: two tests show by their time that no look-up goes over all rows, and a third that a lookup table is used.
+        [THEOREM](THEOREM.md#4-a-search-making-at-most-as-many-comparisons-as-the-row-count-has-binary-digits) has all that this
+        rests on.""",
         {"constriction_model/traits.rt": "SearchingModel::counted_quantile_function: few counted"},
         {
             "constriction_lookup_tests/compared.rt": "a_search_compares_two_of_four_rows_and_a_lookup_table_those_of_a_slot",
@@ -110,15 +108,15 @@ ANSWERS = [
         `within_law`;
         - to decode, `DecoderModel`: `quantile_function` and the law `tile_law`; where symbols are cloned, also `stands_for`,
         `may_refuse`;
-        - to be walked through and converted, `Iterator` with `next`, `next_gives` and `remaining`; and `IterableEntropyModel`: the type
-        `SymbolTable`, `symbol_table`, the member `rows_left`, the laws `steps_law` and `tile_law`, and where symbols are cloned
-        `stands_for` and `may_refuse`; where it is known that no two symbols are equal, also `symbols_differ` and `is_equality`;
-        - to tell how many rows a look-up compared, `SearchingModel`: `counted_quantile_function`, the members `rows_in_question` and
-        `least_compared`, the laws `question_law` and `least_law`;
+        - to be walked through and converted, `Iterator` with `next`, `next_gives` and `remaining`; and `IterableEntropyModel`: the
+        type `SymbolTable`, `symbol_table`, the member `rows_left`, the laws `steps_law` and `tile_law`, and where symbols are
+        cloned `stands_for` and `may_refuse`; where it is known that no two symbols are equal, also `symbols_differ` and
+        `is_equality`;
+        - to tell how many rows a look-up compared, `SearchingModel`: `counted_quantile_function`, the members `rows_in_question`
+        and `least_compared`, the laws `question_law` and `least_law`;
         - to have a lookup table, `StoresRows`: the types `Entry` (what is stored of a row) and `Kind` (`Alone` or `WithSymbol`),
-        `entries`, the laws
-        `precise_law` and `stored_law`; and `AnswersRows`: `row_at`. Then `LookupDecoderModel::with_table` makes it, at a `PRECISION` up
-        to 63.""",
+        `entries`, the laws `precise_law` and `stored_law`; and `AnswersRows`: `row_at`. Then `LookupDecoderModel::with_table` makes
+        it, at a `PRECISION` up to 63.""",
         {
             "constriction_model/Rows.antt": "RowsTile",
             "constriction_model/traits.rt": "DecoderModel::tile_law",
@@ -131,10 +129,10 @@ ANSWERS = [
     ),
     (
         "How is a kind of line added to `./rows`?",
-        """[The steps](ARCHITECTURE.md#a-new-kind-of-line) name each file. A new `Request` gets its spelling in `Spells` and its text in
-        `Answers`; a `Command` is found by `parse` and answered by `push_at`. `parse` finds a request only where the line spells it, and
-        none only where the line spells none; no line spells two. Every line has one answer, `bad line` where it spells nothing. Want of
-        memory is the only refusal.""",
+        """[The steps](ARCHITECTURE.md#a-new-kind-of-line) name each file. A new `Request` gets its spelling in `Spells` and its text
+        in `Answers`; a `Command` is found by `parse` and answered by `push_at`. `parse` finds a request only where the line spells
+        it, and none only where the line spells none; no line spells two. Every line has one answer, `bad line` where it spells
+        nothing. Want of memory is the only refusal.""",
         {
             "constriction_lines/Grammar.antt": "Spells",
             "constriction_text/Text.antt": "IsAnswer",
@@ -145,12 +143,12 @@ ANSWERS = [
     ),
     (
         "How is `Reverse<Cursor>` tied to `Cursor`?",
-        """Each of its reads, writes and counts is one of a cursor in the `reversal` of the inner cursor's state: the words in the other
-        order, cut at the same place. Its reads are the inner cursor's in the other order (`read_gives`): it reads as a stack the word
-        at the inner position, and as a queue the one before it; a write
-        overwrites the word before the inner position and moves down over it. `pos` and `seek` are the inner cursor's, unconverted.
-        `Reverse(cursor)` changes nothing but the order. `into_reversed` reverses the words in place too: what it gives reads, in each
-        order, and overwrites the same words as the cursor did. Done again, it gives the very same cursor back.""",
+        """Each of its reads, writes and counts is one of a cursor in the `reversal` of the inner cursor's state: the words in the
+        other order, cut at the same place. Its reads are the inner cursor's in the other order (`read_gives`): it reads as a stack
+        the word at the inner position, and as a queue the one before it; a write overwrites the word before the inner position and
+        moves down over it. `pos` and `seek` are the inner cursor's, unconverted. `Reverse(cursor)` changes nothing but the order.
+        `into_reversed` reverses the words in place too: what it gives reads, in each order, and overwrites the same words as the
+        cursor did. Done again, it gives the very same cursor back.""",
         {
             "constriction_backends/CursorState.antt": "reversal, Overwrites",
             "constriction_backends/Cursor.antt": "TurnsRound",
@@ -165,8 +163,8 @@ ANSWERS = [
     (
         "Which entry does a symbol get that stands in two rows?",
         """That of the last one, whichever the encoder is. Such rows are those of a model of one's own: no constructor accepts lists
-        with two equal symbols, nor does that of the hashed encoder. `to_generic_encoder_model` takes such a model, and keeps the entry
-        of the last row; `to_generic_decoder_model` refuses it, where no symbol is cloned.""",
+        with two equal symbols, nor does that of the hashed encoder. `to_generic_encoder_model` takes such a model, and keeps the
+        entry of the last row; `to_generic_decoder_model` refuses it, where no symbol is cloned.""",
         {
             "constriction_model/Rows.antt": "entry_of",
             "constriction_model/traits.rt": "EncoderModel::left_cumulative_and_probability: entry",
@@ -176,12 +174,11 @@ ANSWERS = [
     (
         "What does a conversion keep, and when is it refused?",
         """`to_generic_decoder_model`, and those for lookup models, keep each row in its place with its left cumulative and weight, and
-        with the symbol that the walk gave: the row's own, or what its type says of a clone. `InvalidTable` comes only where two symbols
-        that a walk may give are equal. These are refused for want of memory alone: `to_generic_encoder_model`, which of equal symbols
-        keeps the entry of the last row; the conversions `.._of_distinct`; `to_lookup_decoder_model` and `into_lookup_decoder_model`.
-        `to_generic_decoder_model` and those for
-        lookup models compare symbols only where `symbols_differ` answers `false`, and models of the library answer `true`: no clause says
-        either, tests do.""",
+        with the symbol that the walk gave: the row's own, or what its type says of a clone. `InvalidTable` comes only where two
+        symbols that a walk may give are equal. These are refused for want of memory alone: `to_generic_encoder_model`, which of
+        equal symbols keeps the entry of the last row; the conversions `.._of_distinct`; `to_lookup_decoder_model` and
+        `into_lookup_decoder_model`. `to_generic_decoder_model` and those for lookup models compare symbols only where
+        `symbols_differ` answers `false`, and models of the library answer `true`: no clause says either, tests do.""",
         {
             "constriction_model/Model.antt": "StandForRows, StandApart, ClonesRepeat",
             "constriction_model/Entries.antt": "HoldsEntriesOf",
@@ -197,17 +194,16 @@ ANSWERS = [
         "When is memory refused, and what does that leave?",
         """- No clause says when a constructor or a conversion is refused: a body that always answers `OutOfMemory` meets all their
         clauses. Tests call each with ample memory.
-        - A look-up is refused only where `RowMayBeRefused`: where the clone of its row's symbol may be. A row of a walk is
-        refused only where the clone of its own symbol may be, and the walk goes on after it.
-        - A write where there is room is refused for want of memory alone (`room_suffices`, `lacks_memory`). A `Vec` and a `SmallVec`
-        always have room, and with capacity left no write to them is refused. A cursor has room where a place is free, and no write is
-        refused there.
+        - A look-up is refused only where `RowMayBeRefused`: where the clone of its row's symbol may be. A row of a walk is refused
+        only where the clone of its own symbol may be, and the walk goes on after it.
+        - A write where there is room is refused for want of memory alone (`room_suffices`, `lacks_memory`). A `Vec` and a
+        `SmallVec` always have room, and with capacity left no write to them is refused. A cursor has room where a place is free,
+        and no write is refused there.
         - What was lent stays as it was, but for what was done by then: words that `extend_from_iter` or a coder wrote before stay
         written. What was handed over by value is given up: an iterator, a form, a searching model that was to get a lookup table.
 
-        All tests with `refusal_of_memory` in their names have to pass whichever request is refused. `tools/refused-memory` refuses each
-        in
-        turn; a release runs it, and the gate does not.""",
+        All tests with `refusal_of_memory` in their names have to pass whichever request is refused. `tools/refused-memory` refuses
+        each in turn; a release runs it, and the gate does not.""",
         {
             "constriction_model/traits.rt": "DecoderModel::quantile_function: refused",
             "constriction_sources/write.rt": "WriteWords::has_room, WriteWords::lacks_memory, WriteWords::room_suffices",
@@ -225,13 +221,11 @@ ANSWERS = [
     (
         "What does a query reply after conversions?",
         """Replies that stand for those of a scan of the rows that the conversions left, as a clone stands for its symbol. A scan
-        replies for a
-        quantile the first row that holds it, or that it is out of range; for a symbol the entry of its last row, or none. Each step
-        leaves
-        rows that stand for those before it, in order and with their weights. Where a clone is the same value the rows are those from
-        before, and the replies are exactly those of a scan of them. Words are an `IndexWord`, and `PRECISION` is 1 to 63. The caller
-        shows that a clone is equal to its symbol, and that the encoder has the entries of the form's rows. The only refusal is
-        `OutOfMemory`, and the form is then given up.
+        replies for a quantile the first row that holds it, or that it is out of range; for a symbol the entry of its last row, or
+        none. Each step leaves rows that stand for those before it, in order and with their weights. Where a clone is the same value
+        the rows are those from before, and the replies are exactly those of a scan of them. Words are an `IndexWord`, and
+        `PRECISION` is 1 to 63. The caller shows that a clone is equal to its symbol, and that the encoder has the entries of the
+        form's rows. The only refusal is `OutOfMemory`, and the form is then given up.
         [THEOREM](THEOREM.md#3-after-any-chain-of-conversions-answer-every-list-of-queries-as-a-scan-of-the-rows-does) has
         `AnswersAfter`, and all that it rests on.""",
         {"constriction_theorem/forms.rt": "answer_by_form: clones equal alike answers refused"},
@@ -240,13 +234,11 @@ ANSWERS = [
     (
         "What shows that a coder decodes what it encoded?",
         """Two contracts, which both say what is on top by the formula of decoding (`IsOnTop`): `encode_symbol` promises `IsEncoded` by
-        the
-        encoder's entry, and `decode_symbol` `IsDecoded` by the decoder's row. From these two, where the entries are equal,
-        `symbol_comes_back` shows that what is decoded stands for
-        an equal symbol, and that what was under it is left. `there_and_back` says so of a message: its symbols come back in reverse,
-        and the state and the words are as before (`state`, `words`). The encoder has to have the entries of the decoder's rows
-        (`alike`). This is of `AnsCoder`; the range decoder has no encoder here. [CODERS](CODERS.md) says how such a proof goes, and
-        which lemma serves which goal.""",
+        the encoder's entry, and `decode_symbol` `IsDecoded` by the decoder's row. From these two, where the entries are equal,
+        `symbol_comes_back` shows that what is decoded stands for an equal symbol, and that what was under it is left.
+        `there_and_back` says so of a message: its symbols come back in reverse, and the state and the words are as before (`state`,
+        `words`). The encoder has to have the entries of the decoder's rows (`alike`). This is of `AnsCoder`; the range decoder has
+        no encoder here. [CODERS](CODERS.md) says how such a proof goes, and which lemma serves which goal.""",
         {
             "constriction_ans_example/Steps.antt": "IsOnTop, IsEncoded, IsDecoded",
             "constriction_ans_example/Laws.antt": "SymbolComesBack",
@@ -260,10 +252,10 @@ ANSWERS = [
     (
         "What does a coder know of the words that it holds?",
         """Over a `WordStack` all of them, by `words_of`, the one on top last: so of a `Vec`, a `SmallVec`, a `Cursor` and a
-        `Reverse<Cursor>`. Of a cursor these are the words before its position; of a `Reverse<Cursor>` those from the inner position on,
-        backwards. `push` puts a word on top, or is refused and leaves them. `pop` answers the word on top and drops it, and none only
-        where there is none; or it fails where there is one, and leaves them. Over a `StackBackend` alone the words may be untold: there
-        `written_is_read` and `push_then_pop` speak of whatever words it tells.""",
+        `Reverse<Cursor>`. Of a cursor these are the words before its position; of a `Reverse<Cursor>` those from the inner position
+        on, backwards. `push` puts a word on top, or is refused and leaves them. `pop` answers the word on top and drops it, and
+        none only where there is none; or it fails where there is one, and leaves them. Over a `StackBackend` alone the words may be
+        untold: there `written_is_read` and `push_then_pop` speak of whatever words it tells.""",
         {
             "constriction_sources/Stack.antt": "Pushes, PopsOrFails",
             "constriction_sources/stack.rt": "WordStack::words_of, WordStack::tells_words, WordStack::tells_no_others",
@@ -274,12 +266,12 @@ ANSWERS = [
     (
         "Which words at which `PRECISION`?",
         """Those of at least `PRECISION` bits: at 24 `u32`, `u64`, `u128`, and `usize`, which has 64 bits here; `u8` and `u16` are too
-        narrow. A lookup model asks at most 63 too, and its constructors an `IndexWord`, as all of these are; a uniform model asks at
-        most 64; the coders of `constriction_ans_example` are over `u32` alone. A caller shows it where it makes a model: it is the
-        condition `precision`, and where only the bound 63 or 64 is asked `narrow`, or one without a name. A word of one's own, of 24
-        bits or more, is a `WholeNumber`: it shows the three laws below, and the
-        clauses of its calls. With `IndexWord`, which is two calls more, it serves the constructors of lookup models. Code that shifts
-        or wraps words asks a `BitArray` ([WORDS](WORDS.md)).""",
+        narrow. A lookup model asks at most 63 too, and its constructors an `IndexWord`, as all of these are; a uniform model asks
+        at most 64; the coders of `constriction_ans_example` are over `u32` alone. A caller shows it where it makes a model: it is
+        the condition `precision`, and where only the bound 63 or 64 is asked `narrow`, or one without a name. A word of one's own,
+        of 24 bits or more, is a `WholeNumber`: it shows the three laws below, and the clauses of its calls. With `IndexWord`, which
+        is two calls more, it serves the constructors of lookup models. Code that shifts or wraps words asks a `BitArray`
+        ([WORDS](WORDS.md)).""",
         {
             "constriction_model/Precision.antt": "IsPrecision, IsLookupPrecision",
             "constriction_numbers/whole_number.rt": "WholeNumber::same_law, WholeNumber::weight_law, WholeNumber::same_weight_law",
