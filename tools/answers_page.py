@@ -12,12 +12,12 @@ PAGE_LINES, SECTION_LINES = 450, 45
 # Where the questions stand, in the first column of a table, and how a row of it begins: with a link to the section of its question.
 TABLE, HEADING, QUESTION = "docs/ARCHITECTURE.md", "## Where to look\n", re.compile(r"\| \[(.+?)\]\(ANSWERS\.md#[\w-]+\) ")
 
-ABOUT = """Each question of the table in [ARCHITECTURE](ARCHITECTURE.md#where-to-look) has a section here: what you may rely on, the definitions
-and the clauses that decide it, and the tests. What is quoted comes from the sources by `tools/reading answers`, and the gate
-compares. In it `..` stands for type parameters and for the type of an answer. Of a definition by equations these alone are quoted; a
-name that nothing in them binds is an argument of the module around them, and is given first. Of a comment the first sentence is
-quoted, up to a colon where it is longer than a line, and `..` after it. [THEOREM](THEOREM.md#how-to-read-a-clause) says how to read a
-clause, and `tools/reading NAME` prints all that a name rests on."""
+ABOUT = """Each question of the table in [ARCHITECTURE](ARCHITECTURE.md#where-to-look) has a section here: what you may rely on, the
+definitions and the clauses that decide it, and the tests. What is quoted comes from the sources by `tools/reading answers`, and the gate
+compares. In it `..` stands for type parameters and for the type of an answer. Of a definition by equations these alone are quoted; a name
+that nothing in them binds is an argument of the module around them, and is given first. Of a comment the first sentence is quoted, up to
+a colon where it is longer than a line, and `..` after it. [THEOREM](THEOREM.md#how-to-read-a-clause) says how to read a clause, and
+`tools/reading NAME` prints all that a name rests on."""
 
 # Each question, and what is said of it; what is quoted, file by file, where `CALL: LABEL..` is a call with some of its clauses, a lone one
 # by its word, and `TRAIT::NAME` or `TRAIT for TYPE::NAME` a member; and the tests, file by file.
