@@ -25,12 +25,12 @@ fn a_refusal_of_memory_leaves_the_symbols_that_are_encoded(rt: HostRuntime) {
             }
         }
     }
-    while encoded > 0 {
-        encoded = encoded.wrapping_sub(1);
+    for decoded in 0..encoded {
+        let expected = encoded.wrapping_sub(decoded).wrapping_sub(1);
         same(
             &rt,
             coder.decode_symbol::<usize, _, 24>(&model).ok(),
-            Some(encoded),
+            Some(expected),
         );
     }
     same(&rt, coder.is_empty(), true);
