@@ -7,7 +7,7 @@ from quotes import with_comment, wrapped
 from sources import TOP, Wrong, cut_angles, read
 
 # How many lines the page has at most, and a section of it.
-PAGE_LINES, SECTION_LINES = 450, 45
+PAGE_LINES, SECTION_LINES = 480, 48
 
 # Where the questions stand, in the first column of a table, and how a row of it begins: with a link to the section of its question.
 TABLE, HEADING, QUESTION = "docs/ARCHITECTURE.md", "## Where to look\n", re.compile(r"\| \[(.+?)\]\(ANSWERS\.md#[\w-]+\) ")
@@ -48,6 +48,7 @@ ANSWERS = [
             "constriction_sources/Stack.antt": "PushesTo",
             "constriction_sources/Sink.antt": "ExtendsBy",
             "constriction_backends/Cursor.antt": "PutsAt, WritesTo",
+            "constriction_sources/write.rt": "WriteWords::write: gives, WriteWords::extend_from_iter: gives",
             "constriction_sources/vec.rt": "WriteWords for Vec::write_gives",
             "constriction_backends/cursor/write.rt": "WriteWords for Cursor::write_gives",
             "constriction_sources/callbacks/fallible.rt": "WriteWords for FallibleCallbackWriteWords::write_gives",
@@ -66,9 +67,10 @@ ANSWERS = [
         - A searching model: `counted_quantile_function`; `row_in_entries`, which makes a probe of all rows; `row_of_quantile`,
         which halves them (of at most two rows `row_of_two`); `contiguous_row_at` or, with a clone of the symbol, `cloned_row_at`.
         - A lookup model: `counted_quantile_function`; `row_in_slot`, which reads the first and the last row that meet the
-        quantile's slot. Where a slot is one quantile, these are one row, which is the answer; in a model of few rows so is a row
-        that is alone in its slot. In any other model two comparisons find one of up to three (`row_of_up_to_three`). Else
-        `row_among` searches, by `row_in_slot_entries`. Then `row_beside` answers the row.
+        quantile's slot (`rows_of_slot`). Where a slot is one quantile, these are one row, which is the answer; in a model of few
+        rows so is a row that is alone in its slot. In any other model two comparisons find one of up to three
+        (`row_of_up_to_three`). Else `row_among` searches, by `row_in_slot_entries`, up to 32 rows by `row_of_thirty_two` and more
+        by `row_of_quantile`. Then `row_beside` answers the row; over any symbols by `cloned_row_among`, which clones the symbol.
         - A uniform model divides (`symbol_of`). [Three ways through](ARCHITECTURE.md#three-ways-through) has the files.""",
         {
             "constriction_model/Rows.antt": "IsRowOf",
@@ -88,7 +90,12 @@ ANSWERS = [
         the count is true: two tests show by their time that no look-up goes over all rows, and a third that a lookup table is used.
         [THEOREM](THEOREM.md#4-a-search-making-at-most-as-many-comparisons-as-the-row-count-has-binary-digits) has all that this
         rests on.""",
-        {"constriction_model/traits.rt": "SearchingModel::counted_quantile_function: few counted"},
+        {
+            "constriction_model/Probe.antt": "digits_in, digits",
+            "constriction_model/traits.rt": "SearchingModel::counted_quantile_function: few counted",
+            "constriction_categorical/lookup.rt": "SearchingModel for LookupDecoderModel::rows_in_question, "
+            "SearchingModel for LookupDecoderModel::least_compared",
+        },
         {
             "constriction_lookup_tests/compared.rt": "a_search_compares_two_of_four_rows_and_a_lookup_table_those_of_a_slot",
             "constriction_models_tests/search.rt": "a_look_up_does_not_go_over_all_rows",
@@ -104,10 +111,10 @@ ANSWERS = [
         `crates/constriction_lookup_tests/src/own_searching_model.rt`. Write
 
         - `EntropyModel`: the types `Symbol` and `Probability`, the member `rows`;
-        - to encode, `EncoderModel`: `left_cumulative_and_probability`, the member `symbol_eq`, the laws `equality_law` and
-        `within_law`;
-        - to decode, `DecoderModel`: `quantile_function` and the law `tile_law`; where symbols are cloned, also `stands_for`,
-        `may_refuse`;
+        - to encode, `EncoderModel`: `left_cumulative_and_probability` with its clauses `entry` and `within`, the member
+        `symbol_eq`, the laws `equality_law` and `within_law`;
+        - to decode, `DecoderModel`: `quantile_function` with its clauses `row`, `within` and `refused`, and the law `tile_law`;
+        where symbols are cloned, also `stands_for`, `may_refuse`;
         - to be walked through and converted, `Iterator` with `next`, `next_gives` and `remaining`; and `IterableEntropyModel`: the
         type `SymbolTable`, `symbol_table`, the member `rows_left`, the laws `steps_law` and `tile_law`, and where symbols are
         cloned `stands_for` and `may_refuse`; where it is known that no two symbols are equal, also `symbols_differ` and
@@ -152,7 +159,8 @@ ANSWERS = [
         {
             "constriction_backends/CursorState.antt": "reversal, Overwrites",
             "constriction_backends/Cursor.antt": "TurnsRound",
-            "constriction_backends/reverse.rt": "WriteWords for Reverse::write_gives, Seek for Reverse::seek_gives, Cursor::into_reversed",
+            "constriction_backends/reverse.rt": "ReadWords<Word,Stack> for Reverse::read_gives, "
+            "WriteWords for Reverse::write_gives, Seek for Reverse::seek_gives, Cursor::into_reversed",
             "constriction_backends/laws.rt": "reversal_reads: stack, turned_twice",
         },
         {
@@ -240,6 +248,7 @@ ANSWERS = [
         `words`). The encoder has to have the entries of the decoder's rows (`alike`). This is of `AnsCoder`; the range decoder has
         no encoder here. [CODERS](CODERS.md) says how such a proof goes, and which lemma serves which goal.""",
         {
+            "constriction_model/Coding.antt": "StandsForEqual",
             "constriction_ans_example/Steps.antt": "IsOnTop, IsEncoded, IsDecoded",
             "constriction_ans_example/Laws.antt": "SymbolComesBack",
             "constriction_ans_example/laws.rt": "there_and_back: alike back equal",
@@ -266,12 +275,12 @@ ANSWERS = [
     (
         "Which words at which `PRECISION`?",
         """Those of at least `PRECISION` bits: at 24 `u32`, `u64`, `u128`, and `usize`, which has 64 bits here; `u8` and `u16` are too
-        narrow. A lookup model asks at most 63 too, and its constructors an `IndexWord`, as all of these are; a uniform model asks
-        at most 64; the coders of `constriction_ans_example` are over `u32` alone. A caller shows it where it makes a model: it is
-        the condition `precision`, and where only the bound 63 or 64 is asked `narrow`, or one without a name. A word of one's own,
-        of 24 bits or more, is a `WholeNumber`: it shows the three laws below, and the clauses of its calls. With `IndexWord`, which
-        is two calls more, it serves the constructors of lookup models. Code that shifts or wraps words asks a `BitArray`
-        ([WORDS](WORDS.md)).""",
+        narrow. A lookup model asks at most 63 too, and its constructors, but `with_table`, an `IndexWord`, as all of these are; a
+        uniform model asks at most 64; the coders of `constriction_ans_example` are over `u32` alone. A caller shows it where it
+        makes a model: it is the condition `precision`, and where only the bound 63 or 64 is asked `narrow`, or one without a name.
+        A word of one's own, of 24 bits or more, is a `WholeNumber`: it shows the three laws below, and the clauses of its calls.
+        With `IndexWord`, which is two calls more, it serves the constructors of lookup models. Code that shifts or wraps words asks
+        a `BitArray` ([WORDS](WORDS.md)).""",
         {
             "constriction_model/Precision.antt": "IsPrecision, IsLookupPrecision",
             "constriction_numbers/whole_number.rt": "WholeNumber::same_law, WholeNumber::weight_law, WholeNumber::same_weight_law",
@@ -332,7 +341,11 @@ def is_block(it, trait, kind):
     """Whether an item is that trait, its impl for a type, or where no type is named an impl of that type's own."""
     if it.kind == "trait":
         return not kind and it.name == trait
-    return it.kind == "impl" and it.trait[:2] == ((trait, kind) if kind else (None, trait))
+    # (a trait with arguments tells impls of it apart)
+    name, angle, _ = trait.partition("<")
+    if angle and f" {trait.replace(',', ', ')} for " not in one_line(it.lines):
+        return False
+    return it.kind == "impl" and it.trait[:2] == ((name, kind) if kind else (None, trait))
 
 
 def lines_of(block, parts):

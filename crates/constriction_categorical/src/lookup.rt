@@ -17,8 +17,9 @@ use std::alloc::{AllocError, Global};
 ///
 /// The quantiles are divided into `2^min(PRECISION, SLOT_BITS)` slots of equal width. The lookup table has two
 /// words a slot, the first and the last row that meet it, so a look-up searches the rows between these
-/// alone, and nothing at all where one row meets the slot. Where `SLOT_BITS` is at least `PRECISION`, a slot
-/// holds one quantile: the lookup table has one word a slot, the quantile's row, and a look-up searches nothing.
+/// alone. Two comparisons tell up to three of them apart; none is made where the model has few rows and one of them meets the
+/// slot. Where `SLOT_BITS` is at least `PRECISION`, a slot holds one quantile: the lookup table has one word a slot, the
+/// quantile's row, and a look-up searches nothing.
 /// Beside the lookup table stands the searching model. Of a model over any symbols the lookup table has, after its slots, where
 /// each row begins and the total, so that the words of a row stand side by side.
 ///
