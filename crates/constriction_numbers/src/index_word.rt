@@ -4,7 +4,8 @@ ghost use Rattle.std.specs.Prelude.{◌≡◌, ◌<◌, ◌^◌};
 
 use crate::whole_number::WholeNumber;
 
-/// A word whose numbers below `2^64` are indices, each of them a `usize`. The constructors of lookup models ask for one.
+/// A word whose numbers below `2^64` are indices, each of them a `usize`. The constructors of lookup models ask for one, but that of a
+/// table beside a caller's own model.
 ///
 /// A lookup table holds row indices as words, and a look-up begins with the number of a quantile. Each of both lies below `2^63`. The
 /// bound says that a word is meant as an index; a look-up itself calls `to_number` and `from_number` of [`WholeNumber`]. The unsigned
