@@ -197,7 +197,8 @@ where
 ///
 /// Its symbols are those that the walk gave: clones, where the model owns its symbols. `InvalidTable` comes
 /// only where two symbols that a walk may give are equal. Where a clone is equal to its symbol, these are two equal symbols of the
-/// rows, and no model is made of rows with two equal symbols. `OutOfMemory` comes where memory for the entries, or for a clone of a symbol, is refused.
+/// rows, and no model is made of rows with two equal symbols. `OutOfMemory` comes where memory for the entries, or for a
+/// clone of a symbol, is refused.
 ///
 /// Where the model knows that its symbols differ, as each model of this library does, none are compared; where it does
 /// not, each is compared with those before it: `n * (n - 1) / 2` comparisons for `n` rows. One walk in both cases, and no
@@ -249,8 +250,8 @@ where
 ///
 /// Its symbols are those that the walk gave: clones, where the model owns its symbols. `InvalidTable` comes
 /// only where two symbols that a walk may give are equal. Where a clone is equal to its symbol, these are two equal symbols of the
-/// rows, and no model is made of rows with two equal symbols. `OutOfMemory` comes where memory for the entries, for a clone of a symbol, or for the lookup table is
-/// refused.
+/// rows, and no model is made of rows with two equal symbols. `OutOfMemory` comes where memory for the entries, for a
+/// clone of a symbol, or for the lookup table is refused.
 ///
 /// One walk, in which symbols are compared as [`to_generic_decoder_model`] does, of which it asks the same, and two passes
 /// over the rows.

@@ -67,7 +67,10 @@ returns g c =
 pub rows_read-requires-clause-none : goal.rows_read-requires-clause-none
 rows_read-requires-clause-none g c = (
   c.table_for-table.ensures.unique,
-  λ s. ap (option_map (λ e. (g.Probability.WholeNumber.whole e.left, g.Probability.WholeNumber.whole (g.Probability.WholeNumber.base e.weight))))
+  λ s. ap (option_map (λ e. (
+    g.Probability.WholeNumber.whole e.left,
+    g.Probability.WholeNumber.whole (g.Probability.WholeNumber.base e.weight),
+  )))
       (ap (lookup (g.Symbol.PartialEq.eq s)) c.table_for-table.ensures.empty),
 )
 
