@@ -4,8 +4,8 @@ ghost use Rattle.std.specs.Prelude.{◌≡◌, ◌<◌, ◌≤◌, fold, map, na
 ghost use Rattle.constriction.specs.Acceptance.{completed, IsAccepted};
 ghost use Rattle.constriction.specs.EncoderRows.{encoder_model_rows};
 ghost use Rattle.constriction.specs.Entries.{SameEntries};
-ghost use Rattle.constriction.specs.Model.{ClonesAreSame};
-ghost use Rattle.constriction.specs.ModelRows.{contiguous_model_rows};
+ghost use Rattle.constriction.specs.Model.{ClonesAreEqual, ClonesAreSame};
+ghost use Rattle.constriction.specs.ModelRows.{contiguous_model_rows, decoder_model_rows};
 ghost use Rattle.constriction.specs.Rows.{contiguous_rows};
 ghost use Rattle.constriction.specs.Precision.{IsLookupPrecision};
 ghost use Rattle.constriction_client.specs.Chains.{is_lookup, is_lookup_after};
@@ -13,7 +13,7 @@ ghost use Rattle.constriction_client.specs.FormRows.{form_rows};
 ghost use Rattle.constriction_client.specs.Replies.{in_numbers, replies_by_scan};
 ghost use Rattle.constriction_theorem.specs.Answers.{AllReplyAsScan, ReplyAsScan};
 
-use crate::made::{Contiguous, both_of_contiguous, contiguous_from};
+use crate::made::{Contiguous, Searching, both_of_contiguous, contiguous_from};
 use constriction::stream::model::{
     DecodesOver, EncodesOver, ModelError, NonContiguousCategoricalEncoderModel,
 };
@@ -76,6 +76,22 @@ where
     })
 }
 
+/// The form that the steps leave of a decoder that searches.
+fn form_after<Probability: IndexWord, const PRECISION: usize>(
+    alloc: Global,
+    decoder: Searching<usize, Probability, PRECISION>,
+    steps: &[ChainStep],
+) -> Result<DecoderForm<usize, Probability, PRECISION>, ModelError>
+    requires precision { IsLookupPrecision Probability.BITS PRECISION }
+    requires clones { ClonesAreEqual nat_eq ⟦<usize as Clone>⟧.is_clone }
+    requires same { ClonesAreSame ⟦<usize as Clone>⟧.is_clone }
+    ensures kind { IfOk result (λ form. is_lookup form ≡ fold is_lookup_after false steps.now) }
+    ensures rows { IfOk result (λ form. form_rows form ≡ decoder_model_rows decoder) }
+    ensures refused { IfErr result (λ e. e ≡ ModelError.OutOfMemory) }
+{
+    convert_chain(alloc, DecoderForm::Search(decoder), steps)
+}
+
 /// The form that the steps leave of a model's rows, and the hashed encoder of these.
 fn converted_from<Probability: IndexWord, const PRECISION: usize>(
     alloc: Global,
@@ -97,7 +113,7 @@ fn converted_from<Probability: IndexWord, const PRECISION: usize>(
     ensures refused { IfErr result (λ e. e ≡ ModelError.OutOfMemory) }
 {
     let (decoder, hashed) = both_of_contiguous(alloc, model)?;
-    let form = convert_chain(alloc, DecoderForm::Search(decoder), steps)?;
+    let form = form_after(alloc, decoder, steps)?;
     Ok((form, hashed))
 }
 
