@@ -1,5 +1,5 @@
 -- How an input is cut into lines.
-use Rattle.std.proofs.Common.{refl, ◌≡◌, ℕ, ◌-◌, ◌<◌, List, [], ◌∷◌, ap, ◌∙◌, length, arith, eqb}
+use Rattle.std.proofs.Common.{refl, ◌≡◌, ℕ, ◌<◌, List, [], ◌∷◌, ap, ◌∙◌, length, arith, eqb}
 use Rattle.std.specs.List.{slice_split}
 use Rattle.std.proofs.lemmas.List.Splits.{length-slice_split}
 use Rattle.constriction_text.specs.Text.{lines_of, without_last_empty}
