@@ -1,7 +1,7 @@
 //! Messages whose symbols an iterator gives.
 
 ghost use Rattle.std.specs.Prelude.{◌<◌, ◌≤◌, IfErr, OnOk};
-ghost use Rattle.std.specs.Iterator.{IsFinite, IsFiniteIterable};
+ghost use Rattle.std.specs.Iterator.{IsFiniteIterable};
 ghost use Rattle.constriction.specs.Rows.{entry_of};
 ghost use Rattle.constriction_ans_example.specs.Steps.{content};
 ghost use Rattle.constriction_ans_example.specs.Walks.{EncodesGiven, GivenStops};

@@ -1,10 +1,10 @@
 //! What comes back, each law the contract of a function.
 
-ghost use Rattle.std.specs.Prelude.{◌≡◌, ◌≢◌, ◌++◌, ◌∷◌, [], ◌<◌, ◌≤◌, ℕ, List, Some, Ok, Err, IsTrue, length, reverse, IfOk, OnOk};
+ghost use Rattle.std.specs.Prelude.{◌≡◌, ◌≢◌, ◌++◌, ◌∷◌, [], ◌<◌, ◌≤◌, ℕ, Some, Ok, Err, IsTrue, length, reverse, IfOk, OnOk};
 ghost use Rattle.std.specs.List.{AllZip};
 ghost use Rattle.constriction_ans_example.specs.Compressed.{IsCompressed, IsClosed, ClosingStops, IsOpened, OpeningStops};
 ghost use Rattle.constriction_ans_example.specs.Laws.{SymbolComesBack, SymbolsComeBack, EncodedOnce, EncodesThen};
-ghost use Rattle.constriction_ans_example.specs.Steps.{Content, content, IsEncoded, IsDecoded, EncodingStops, DecodingStops};
+ghost use Rattle.constriction_ans_example.specs.Steps.{content, IsDecoded, EncodingStops, DecodingStops};
 ghost use Rattle.constriction.specs.Coding.{InTurn, StandsForEqual};
 ghost use Rattle.constriction.specs.Model.{ClonesAreEqual};
 ghost use Rattle.constriction.specs.Rows.{entry_of};

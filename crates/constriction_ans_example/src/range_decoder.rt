@@ -1,7 +1,7 @@
 //! A range decoder: what was encoded first is decoded first.
 
-ghost use Rattle.std.specs.Prelude.{◌≡◌, ◌≢◌, ◌+◌, ◌-◌, ◌*◌, ◌/◌, ◌^◌, ◌<◌, ◌≤◌, ℕ, List, Some, None, Ok, Err, IfOk, IfErr, OnErr, length};
-ghost use Rattle.constriction_ans_example.specs.Intervals.{interval, held_of, word_or_zero, IsAboveAll, IsStretched, IsStart, IsRead, HoldsPoint, ReadingStops};
+ghost use Rattle.std.specs.Prelude.{◌≡◌, ◌+◌, ◌-◌, ◌^◌, ◌<◌, ◌≤◌, ℕ, Some, None, Ok, Err, IfOk, IfErr, OnErr, length};
+ghost use Rattle.constriction_ans_example.specs.Intervals.{interval, held_of, word_or_zero, IsAboveAll, IsStart, IsRead, HoldsPoint, ReadingStops};
 ghost use Rattle.constriction.specs.Coding.{InTurn};
 ghost use Rattle.constriction.specs.Model.{RowMayBeRefused};
 

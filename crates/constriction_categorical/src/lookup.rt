@@ -1,6 +1,6 @@
 //! Models that look up where to search for the row of a quantile.
 
-ghost use Rattle.std.specs.Prelude.{◌≡◌, ◌/◌, ◌-◌, ◌*◌, ◌^◌, ◌<◌, ◌≤◌, length, map, max, min, take, drop, count_by, IsTrue, IfOk, IfErr};
+ghost use Rattle.std.specs.Prelude.{◌≡◌, ◌/◌, ◌-◌, ◌^◌, ◌<◌, ◌≤◌, length, map, max, min, count_by, IsTrue, IfOk, IfErr};
 ghost use Rattle.constriction_model.specs.Probe.{digits, IsProbeFor, IsRowIndexOf};
 ghost use Rattle.constriction_stored_rows.specs.QuestionLemmas.{least-most, met-in-question};
 ghost use Rattle.constriction_stored_rows.specs.Slots.{least_in_slots, meets_slot, slot_width};

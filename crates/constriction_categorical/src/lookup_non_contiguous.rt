@@ -77,19 +77,24 @@ pub type DefaultNonContiguousLookupDecoderModel<
     LookupTable = Vec<u32>,
 > = SlottedNonContiguousLookupDecoderModel<Symbol, u32, Cdf, LookupTable, 24, 12>;
 
+// The model whose rows and lookup table are its own. Its short name keeps the names of modules of proofs below 239 characters:
+// longer ones are not kept, and each crate above checks them anew.
+type OwnLookupDecoderModel<Symbol, Probability, const PRECISION: usize, const SLOT_BITS: usize> =
+    SlottedNonContiguousLookupDecoderModel<
+        Symbol,
+        Probability,
+        Vec<(Probability, Symbol)>,
+        Vec<Probability>,
+        PRECISION,
+        SLOT_BITS,
+    >;
+
 impl<
     Symbol: Eq + Drop,
     Probability: IndexWord,
     const PRECISION: usize,
     const SLOT_BITS: usize,
-> SlottedNonContiguousLookupDecoderModel<
-    Symbol,
-    Probability,
-    Vec<(Probability, Symbol)>,
-    Vec<Probability>,
-    PRECISION,
-    SLOT_BITS,
-> {
+> OwnLookupDecoderModel<Symbol, Probability, PRECISION, SLOT_BITS> {
     /// The model of these symbols and weights. It accepts what
     /// [`NonContiguousCategoricalDecoderModel::from_symbols_and_nonzero_fixed_point_probabilities`]
     /// accepts, so distinct symbols alone, and refuses the others with `InvalidTable` as soon as that is
@@ -138,14 +143,7 @@ impl<
     Probability: IndexWord,
     const PRECISION: usize,
     const SLOT_BITS: usize,
-> SlottedNonContiguousLookupDecoderModel<
-    Symbol,
-    Probability,
-    Vec<(Probability, Symbol)>,
-    Vec<Probability>,
-    PRECISION,
-    SLOT_BITS,
-> {
+> OwnLookupDecoderModel<Symbol, Probability, PRECISION, SLOT_BITS> {
     /// A model of the same rows with clones of the symbols, and with rows and a lookup table of its own from the
     /// allocators of this one's. A clone has to be equal to its symbol, so that no two are equal.
     ///

@@ -1,6 +1,6 @@
 //! The walk through the rows of a model that stores its symbols.
 
-ghost use Rattle.std.specs.Prelude.{◌≡◌, ◌^◌, ◌<◌, ◌≤◌, length, map};
+ghost use Rattle.std.specs.Prelude.{◌<◌, ◌≤◌, length, map};
 ghost use Rattle.std.specs.Iterator.{at_most, size};
 ghost use Rattle.std.specs.Iterator.SizeHint.{IsExactHint};
 ghost use Rattle.constriction_stored_rows.specs.Stored.{IsStored, rows_paired};

@@ -1,7 +1,5 @@
 //! A reference to a model that is copied into its symbol table is walked through as the model is.
 
-ghost use Rattle.std.specs.Prelude.{◌≡◌};
-
 use crate::iterable::IterableEntropyModel;
 
 impl<M: IterableEntropyModel<PRECISION> + Copy, const PRECISION: usize> IterableEntropyModel<

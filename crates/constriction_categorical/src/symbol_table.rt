@@ -1,6 +1,6 @@
 //! The walk through the rows of a contiguous model.
 
-ghost use Rattle.std.specs.Prelude.{◌≡◌, ◌^◌, ◌<◌, ◌≤◌, length, map};
+ghost use Rattle.std.specs.Prelude.{◌≡◌, ◌<◌, ◌≤◌, length, map};
 ghost use Rattle.std.specs.Iterator.{at_most, size};
 ghost use Rattle.std.specs.Iterator.SizeHint.{IsExactHint};
 ghost use Rattle.constriction_stored_rows.specs.Stored.{IsCdf};

@@ -1,6 +1,6 @@
 //! What follows from the definitions that the contracts cite, each law the contract of a function.
 
-ghost use Rattle.std.specs.Prelude.{◌≡◌, List, reverse};
+ghost use Rattle.std.specs.Prelude.{reverse};
 ghost use Rattle.constriction_client.specs.ThereAndBack.{ReadsBack};
 
 mod forms;

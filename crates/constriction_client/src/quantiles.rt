@@ -1,6 +1,6 @@
 //! Items as quantiles into a sink, and words from a source as pairs.
 
-ghost use Rattle.std.specs.Prelude.{◌≡◌, ◌↔◌, ◌+◌, ◌^◌, ◌<◌, ◌≤◌, ℕ, IsTrue, IfOk, IfErr, OnOk};
+ghost use Rattle.std.specs.Prelude.{◌≡◌, ◌+◌, ◌^◌, ◌<◌, ◌≤◌, ℕ, IfOk, IfErr, OnOk};
 ghost use Rattle.std.specs.Prelude.{Option, Some};
 ghost use Rattle.constriction.specs.Rows.{entry_of};
 ghost use Rattle.constriction.specs.Precision.{IsPrecision};

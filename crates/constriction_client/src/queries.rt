@@ -1,6 +1,6 @@
 //! Questions to two models, and the replies to them.
 
-ghost use Rattle.std.specs.Prelude.{◌≡◌, ◌<◌, ◌≤◌, IfOk, map};
+ghost use Rattle.std.specs.Prelude.{◌<◌, ◌≤◌, IfOk, map};
 ghost use Rattle.constriction.specs.Entries.{SameEntries};
 ghost use Rattle.constriction.specs.Rows.{entry_of};
 ghost use Rattle.constriction.specs.Precision.{IsPrecision};

@@ -7,7 +7,8 @@ ghost use Rattle.constriction_client.specs.declared.chain.ChainStep.TheVariants.
 
 use crate::checks::{end_of_requests, same};
 use constriction::stream::model::{
-    DecoderModel, EntropyModel, ModelError, SmallNonContiguousCategoricalDecoderModel,
+    DecoderModel, EntropyModel, IterableEntropyModel, ModelError,
+    SmallNonContiguousCategoricalDecoderModel,
 };
 use constriction_client::{ChainStep, DecoderForm, convert_chain};
 use constriction_test_models::any_symbols::{SYMBOLS, WEIGHTS, decoder};
@@ -65,6 +66,18 @@ fn a_form_of_words_of_16_bits_is_searched_again(rt: HostRuntime) {
     let made = searched_again(rt.alloc(), form).expect(&rt, "a form");
     let (symbol, left, weight) = made.quantile_function(4094).expect(&rt, "a row");
     same(&rt, (symbol, left, weight.get()), (30, 1, 4094));
+}
+
+/// So a conversion of a form compares no symbols.
+#[test]
+fn a_form_knows_that_its_symbols_differ(rt: HostRuntime) {
+    let model = decoder::<6>(rt.alloc(), &SYMBOLS, &WEIGHTS, false).expect(&rt, "accepted");
+    let searching = DecoderForm::Search(model);
+    let differ = IterableEntropyModel::<6>::symbols_differ(&&searching);
+    same(&rt, differ, true);
+    let made = convert_chain(rt.alloc(), searching, &[ChainStep::ToLookup]).expect(&rt, "a form");
+    let differ = IterableEntropyModel::<6>::symbols_differ(&&made);
+    same(&rt, differ, true);
 }
 
 /// The error of a chain that begins with the form of letters whose clones may be refused, if it has one.

@@ -1,6 +1,6 @@
 //! A model of the caller that stores its rows, and a lookup table beside it.
 
-ghost use Rattle.std.specs.Prelude.{◌<◌, length};
+ghost use Rattle.std.specs.Prelude.{◌<◌};
 
 use crate::checks::same;
 use constriction::stream::model::{

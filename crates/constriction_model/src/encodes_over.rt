@@ -1,6 +1,6 @@
 //! Encoders over given symbols and words: the bound that joins an encoder to a decoder.
 
-ghost use Rattle.std.specs.Prelude.{◌≡◌, ◌+◌, ◌^◌, ◌<◌, ◌≤◌, Bool, List, All, IfSome};
+ghost use Rattle.std.specs.Prelude.{◌≡◌, ◌<◌, Bool, List, All, IfSome};
 ghost use Rattle.std.specs.Cmp.{IsEquivalence};
 ghost use Rattle.std.specs.Option.{option_map};
 ghost use Rattle.constriction_model.specs.Model.{entry_in, row_of, LiesWithin};

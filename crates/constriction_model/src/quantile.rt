@@ -1,6 +1,6 @@
 //! Which words are quantiles.
 
-ghost use Rattle.std.specs.Prelude.{◌≡◌, ◌↔◌, ◌^◌, ◌<◌, IsTrue};
+ghost use Rattle.std.specs.Prelude.{◌↔◌, ◌^◌, ◌<◌, IsTrue};
 ghost use Rattle.constriction_model.specs.Precision.{IsPrecision};
 
 use constriction_numbers::WholeNumber;

@@ -1,6 +1,6 @@
 //! A reference to a model is a model.
 
-ghost use Rattle.std.specs.Prelude.{◌≡◌, ◌<◌, ◌^◌};
+ghost use Rattle.std.specs.Prelude.{◌<◌};
 
 use crate::traits::{DecoderModel, EncoderModel, EntropyModel, SearchingModel, Weight};
 use std::alloc::AllocError;

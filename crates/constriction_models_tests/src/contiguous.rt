@@ -1,6 +1,6 @@
 //! The contiguous model and the uniform one, beyond what they answer.
 
-ghost use Rattle.std.specs.Prelude.{◌^◌, ◌<◌, ◌≤◌};
+ghost use Rattle.std.specs.Prelude.{◌^◌, ◌<◌};
 
 use crate::checks::{end_of_few_requests, same, shows};
 use crate::model_checks::small;

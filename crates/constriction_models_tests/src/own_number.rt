@@ -1,6 +1,6 @@
 //! A word of the caller's own that is a whole number and nothing more, as the words of a model.
 
-ghost use Rattle.std.specs.Prelude.{◌^◌, ◌<◌};
+ghost use Rattle.std.specs.Prelude.{◌<◌};
 ghost use Rattle.std.proofs.Common.{ap};
 ghost use Rattle.constriction_words.specs.Word.{same-above-0};
 

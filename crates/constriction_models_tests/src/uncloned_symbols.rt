@@ -1,6 +1,6 @@
 //! Models of symbols that cannot be cloned, and of symbols of which the last one refuses its clone.
 
-ghost use Rattle.std.specs.Prelude.{◌==◌, ◌<◌};
+ghost use Rattle.std.specs.Prelude.{◌<◌};
 
 use crate::checks::same;
 use crate::conversions::Encoder;

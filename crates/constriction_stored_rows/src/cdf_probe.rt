@@ -1,6 +1,6 @@
 //! What is stored of a row, and the search of stored rows.
 
-ghost use Rattle.std.specs.Prelude.{◌≡◌, ◌+◌, ◌-◌, ◌<◌, ◌≤◌, ℕ, length, map};
+ghost use Rattle.std.specs.Prelude.{◌≡◌, ◌+◌, ◌-◌, ◌<◌, ℕ, length, map};
 ghost use Rattle.constriction_model.specs.Probe.{digits, IsSearchable, IsLastAtMost};
 
 use constriction_model::{Probe, row_of_quantile, row_of_thirty_two, row_of_two};

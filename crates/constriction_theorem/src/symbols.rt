@@ -1,6 +1,6 @@
 //! Symbols and weights, and what the models of them reply.
 
-ghost use Rattle.std.specs.Prelude.{◌≡◌, ◌<◌, ◌≤◌, map, false, IfOk};
+ghost use Rattle.std.specs.Prelude.{◌≡◌, ◌<◌, map, false, IfOk};
 ghost use Rattle.constriction.specs.Acceptance.{completed, AreAccepted};
 ghost use Rattle.constriction.specs.Model.{ClonesAreEqual};
 ghost use Rattle.constriction.specs.Rows.{rows_of};

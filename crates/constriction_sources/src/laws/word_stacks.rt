@@ -1,6 +1,5 @@
 //! What a stack whose words are known does to them.
 
-ghost use Rattle.std.specs.Prelude.{◌≡◌};
 ghost use Rattle.constriction_sources.specs.Stack.{Pushes, PopsOrFails};
 
 use crate::stack::WordStack;

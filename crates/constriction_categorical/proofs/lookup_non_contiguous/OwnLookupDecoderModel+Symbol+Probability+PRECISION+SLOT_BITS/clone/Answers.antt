@@ -1,6 +1,6 @@
 use Rattle.constriction_model.specs.StandLemmas.{lefts-made}
 use Rattle.constriction_stored_rows.specs.Stored.{rows_paired}
-use Rattle.constriction_categorical.proofs.lookup_non_contiguous.SlottedNonContiguousLookupDecoderModel+Symbol+Probability+Vec+tuple2+Probability+Symbol+Vec+Probability+PRECISION+SLOT_BITS.clone.Goals as goal
+use Rattle.constriction_categorical.proofs.lookup_non_contiguous.OwnLookupDecoderModel+Symbol+Probability+PRECISION+SLOT_BITS.clone.Goals as goal
 
 pub invariant_of-result : goal.invariant_of-result
 invariant_of-result g c =
