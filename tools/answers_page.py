@@ -196,6 +196,7 @@ ANSWERS = [
             "constriction_models_tests/own_model.rt": "two_rows_of_one_letter_make_an_encoder_and_no_decoder",
             "constriction_models_tests/told_to_differ.rt": "models_of_the_library_know_that_their_symbols_differ",
             "constriction_lookup_tests/lookup_any_symbols.rt": "lookup_models_know_that_their_symbols_differ",
+            "constriction_client_tests/chains.rt": "a_form_knows_that_its_symbols_differ",
         },
     ),
     (
