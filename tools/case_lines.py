@@ -109,7 +109,7 @@ class Maker:
         if weights and not self.one_in(3):
             row = self.random.randrange(len(weights))
             left = sum(weights[:row])
-            return min(self.random.choice([left, left + weights[row] - 1, left + weights[row]]), (1 << 128) - 1)
+            return min(self.random.choice([left, max(left, left + weights[row] - 1), left + weights[row]]), (1 << 128) - 1)
         if self.one_in(8):
             return min(self.random.choice([total, total + 1, 2 * total - 1]), (1 << 128) - 1)
         return self.random.randrange(total)
