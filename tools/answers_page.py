@@ -97,10 +97,10 @@ ANSWERS = [
             "SearchingModel for LookupDecoderModel::least_compared",
         },
         {
-            "constriction_lookup_tests/compared.rt": "a_search_compares_two_of_four_rows_and_a_lookup_table_those_of_a_slot",
+            "constriction_models_tests/compared.rt": "a_search_compares_two_of_four_rows_and_a_lookup_table_those_of_a_slot",
             "constriction_models_tests/search.rt": "a_look_up_does_not_go_over_all_rows",
-            "constriction_lookup_tests/wide_slots.rt": "a_slot_that_4_194_304_rows_meet_is_searched",
-            "constriction_lookup_tests/own_searching_model.rt": "a_lookup_table_answers_in_place_of_the_search_of_its_model",
+            "constriction_models_tests/wide_slots.rt": "a_slot_that_4_194_304_rows_meet_is_searched",
+            "constriction_models_tests/own_searching_model.rt": "a_lookup_table_answers_in_place_of_the_search_of_its_model",
         },
     ),
     (
@@ -108,7 +108,7 @@ ANSWERS = [
         """That its rows tile, and that each answer stands for its row. [MODELS](MODELS.md) says what each member means. The example is
         `crates/constriction_test_models/src/own_model.rt`; what a caller knows of what is made of it,
         `crates/constriction_models_tests/src/own_model.rt`; one with a lookup table,
-        `crates/constriction_lookup_tests/src/own_searching_model.rt`. Write
+        `crates/constriction_models_tests/src/own_searching_model.rt`. Write
 
         - `EntropyModel`: the types `Symbol` and `Probability`, the member `rows`;
         - to encode, `EncoderModel`: `left_cumulative_and_probability` with its clauses `entry` and `within`, the member
@@ -131,7 +131,7 @@ ANSWERS = [
         },
         {
             "constriction_models_tests/own_model.rt": "a_decoder_has_the_rows_of_three_letters_of_the_caller",
-            "constriction_lookup_tests/own_searching_model.rt": "a_lookup_table_answers_in_place_of_the_search_of_its_model",
+            "constriction_models_tests/own_searching_model.rt": "a_lookup_table_answers_in_place_of_the_search_of_its_model",
         },
     ),
     (
@@ -146,7 +146,7 @@ ANSWERS = [
             "constriction_lines/line.rt": "parse",
             "constriction_text/answers.rt": "answer",
         },
-        {"constriction_text_tests/known.rt": "contracts_leave_one_request contracts_leave_one_answer"},
+        {"constriction_programs_tests/known.rt": "contracts_leave_one_request contracts_leave_one_answer"},
     ),
     (
         "How is `Reverse<Cursor>` tied to `Cursor`?",
@@ -195,7 +195,7 @@ ANSWERS = [
         {
             "constriction_models_tests/own_model.rt": "two_rows_of_one_letter_make_an_encoder_and_no_decoder",
             "constriction_models_tests/told_to_differ.rt": "models_of_the_library_know_that_their_symbols_differ",
-            "constriction_lookup_tests/lookup_any_symbols.rt": "lookup_models_know_that_their_symbols_differ",
+            "constriction_models_tests/lookup_any_symbols.rt": "lookup_models_know_that_their_symbols_differ",
             "constriction_client_tests/chains.rt": "a_form_knows_that_its_symbols_differ",
         },
     ),
@@ -221,10 +221,10 @@ ANSWERS = [
         },
         {
             "constriction_models_tests/refused_memory.rt": "a_refusal_of_memory_leaves_the_model_that_others_are_made_from",
-            "constriction_lookup_tests/refused_lookup_memory.rt": "a_refusal_of_memory_leaves_the_searching_model",
+            "constriction_models_tests/refused_lookup_memory.rt": "a_refusal_of_memory_leaves_the_searching_model",
             "constriction_client_tests/chains.rt": "a_refusal_of_memory_gives_up_the_form",
             "constriction_backends_tests/stacks.rt": "each_refusal_of_memory_keeps_the_words_before",
-            "constriction_ans_tests/refused_memory.rt": "a_refusal_of_memory_leaves_the_symbols_that_are_encoded",
+            "constriction_programs_tests/refused_memory.rt": "a_refusal_of_memory_leaves_the_symbols_that_are_encoded",
         },
     ),
     (
@@ -255,8 +255,8 @@ ANSWERS = [
             "constriction_ans_example/laws.rt": "there_and_back: alike back equal",
         },
         {
-            "constriction_ans_tests/walks.rt": "a_range_comes_back_in_order",
-            "constriction_ans_tests/stored_weights.rt": "a_message_by_stored_weights",
+            "constriction_programs_tests/walks.rt": "a_range_comes_back_in_order",
+            "constriction_programs_tests/stored_weights.rt": "a_message_by_stored_weights",
         },
     ),
     (
@@ -288,7 +288,7 @@ ANSWERS = [
         },
         {
             "constriction_models_tests/own_number.rt": "a_model_over_shares_answers_in_both_directions",
-            "constriction_words_tests/own_word.rt": "samples_are_the_probabilities_of_a_model",
+            "constriction_backends_tests/own_word.rt": "samples_are_the_probabilities_of_a_model",
         },
     ),
 ]

@@ -96,7 +96,8 @@ module _ {Symbol S E : Type 0} (Stands : Symbol → Symbol → Type 0) (MayRefus
       → ((let r : Result T (CoderError RangeDecodingFault E) = Err error in r ≡ Err (Frontend OutOfMemory))
       → (quantile : ℕ) × HoldsPoint precision quantile 1 (interval range offset) × RowMayBeRefused MayRefuse rows quantile)
       → ((e : E) → (let r : Result T (CoderError RangeDecodingFault E) = Err error in r ≡ Err (Backend e)) → gives reached (Err e) left)
-      → ((f : RangeDecodingFault) → (let r : Result T (CoderError RangeDecodingFault E) = Err error in r ≡ Err (Frontend f)) → left ≡ reached)
+      → ((f : RangeDecodingFault)
+      → (let r : Result T (CoderError RangeDecodingFault E) = Err error in r ≡ Err (Frontend f)) → left ≡ reached)
       → IsReadingFault MayRefuse rows gives precision error (held_of range offset reached) left
   fault (Frontend InvalidData) invalid memory failed source = (invalid refl, source InvalidData refl)
   fault (Frontend OutOfMemory) invalid memory failed source = (memory refl, source OutOfMemory refl)
@@ -109,7 +110,8 @@ module _ {Symbol S E : Type 0} (Stands : Symbol → Symbol → Type 0) (MayRefus
       → ((let r : Result T (CoderError RangeDecodingFault E) = Err error in r ≡ Err (Frontend OutOfMemory))
       → (quantile : ℕ) × HoldsPoint precision quantile 1 (interval range offset) × RowMayBeRefused MayRefuse rows quantile)
       → ((e : E) → (let r : Result T (CoderError RangeDecodingFault E) = Err error in r ≡ Err (Backend e)) → gives reached (Err e) left)
-      → ((f : RangeDecodingFault) → (let r : Result T (CoderError RangeDecodingFault E) = Err error in r ≡ Err (Frontend f)) → left ≡ reached)
+      → ((f : RangeDecodingFault)
+      → (let r : Result T (CoderError RangeDecodingFault E) = Err error in r ≡ Err (Frontend f)) → left ≡ reached)
       → ReadingStops Stands MayRefuse rows gives precision count error old (interval new_range new_offset) left
   reading_stops symbols count error fewer led invalid memory failed source =
       let same : interval range offset ≡ interval new_range new_offset =

@@ -5,7 +5,7 @@
 use constriction_backends::{Cursor, SafeBuf};
 use constriction_words::Pos;
 use std::alloc::{AllocError, Global};
-use std::fmt::Debug;
+use std::fmt::{Debug, Display};
 use std::process::Abort;
 
 /// Stops the test where the two differ, and shows both.
@@ -16,6 +16,23 @@ pub fn same<T: PartialEq + Debug + Drop>(rt: &impl Abort, found: T, expected: T)
 /// Stops the test where a `Vec` does not hold these words.
 pub fn holds(rt: &impl Abort, found: &Vec<u8>, expected: &[u8]) {
     same(rt, found.as_slice(), expected);
+}
+
+/// A clone. It stops the test where memory is refused.
+pub fn clone_of<T: Clone>(rt: &impl Abort, value: &T) -> T {
+    value.clone().expect(rt, "memory was refused")
+}
+
+/// Stops the test where the value is not printed as this text.
+pub fn prints<T: Display>(rt: &impl Abort, alloc: Global, value: &T, text: &str) {
+    let printed = format!(in alloc; "{value}").expect(rt, "memory was refused");
+    same(rt, printed.as_str(), text);
+}
+
+/// Stops the test where the value is not shown to a programmer as this text.
+pub fn shows<T: Debug>(rt: &impl Abort, alloc: Global, value: &T, text: &str) {
+    let shown = format!(in alloc; "{value:?}").expect(rt, "memory was refused");
+    same(rt, shown.as_str(), text);
 }
 
 /// These words in memory of their own. It stops the test where memory is refused.

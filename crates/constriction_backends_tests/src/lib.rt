@@ -1,4 +1,6 @@
-//! The tests of sources, sinks, buffers and cursors, and of words that a cursor lends.
+//! The tests of words, of sources, sinks, buffers and cursors of words, and of words that a cursor lends.
+//!
+//! Those of words are calls through a bound, and calls at a word type of a caller's own.
 //!
 //! A library that has tests of its own is proved twice, so none of them has any. Tests use the
 //! public interface alone.
@@ -19,6 +21,12 @@ mod errors;
 #[cfg(test)]
 mod lent;
 #[cfg(test)]
+mod numbers;
+#[cfg(test)]
+mod own_word;
+#[cfg(test)]
+mod positions;
+#[cfg(test)]
 mod references;
 #[cfg(test)]
 mod reversals;
@@ -26,3 +34,9 @@ mod reversals;
 mod stacks;
 #[cfg(test)]
 mod traits;
+#[cfg(test)]
+mod weights;
+#[cfg(test)]
+mod whole_numbers;
+#[cfg(test)]
+mod word_errors;

@@ -1,5 +1,5 @@
-//! The tests of entropy models and of the counted search: callers that know contracts alone, types of a caller's own,
-//! refused memory, and time.
+//! The tests of entropy models, of the counted search and of lookup models: callers that know contracts alone, types and
+//! models of a caller's own, how many rows are compared, how large lookup tables are, refused memory, and time.
 //!
 //! A library that has tests of its own is proved twice, so none of them has any. Tests use the
 //! public interface alone.
@@ -10,9 +10,13 @@ mod aliases;
 #[cfg(test)]
 mod checks;
 #[cfg(test)]
+mod compared;
+#[cfg(test)]
 mod contiguous;
 #[cfg(test)]
 mod conversions;
+#[cfg(test)]
+mod default_words;
 #[cfg(test)]
 mod distinct_symbols;
 #[cfg(test)]
@@ -20,18 +24,28 @@ mod generic_callers;
 #[cfg(test)]
 mod laws;
 #[cfg(test)]
+mod lookup_any_symbols;
+#[cfg(test)]
 mod model_checks;
 #[cfg(test)]
 mod own_model;
 #[cfg(test)]
 mod own_number;
 #[cfg(test)]
+mod own_searching_model;
+#[cfg(test)]
+mod refused_lookup_memory;
+#[cfg(test)]
 mod refused_memory;
 #[cfg(test)]
 mod search;
+#[cfg(test)]
+mod slot_bits;
 #[cfg(test)]
 mod symbol_types;
 #[cfg(test)]
 mod told_to_differ;
 #[cfg(test)]
 mod uncloned_symbols;
+#[cfg(test)]
+mod wide_slots;
