@@ -9,7 +9,7 @@ ghost use Rattle.constriction.specs.Rows.{entry_of};
 use crate::state::{is_full_for, quantile_of, with_entry, without_entry};
 use constriction::backends::WordStack;
 use constriction::backends::laws::{pop, push};
-use constriction::stream::model::{DecodesOver, EncodesOver};
+use constriction::stream::model::{DecoderModel, EncoderModel};
 use constriction::{CoderError, DefaultEncoderFrontendError};
 use std::alloc::AllocError;
 
@@ -84,13 +84,13 @@ impl<Backend: WordStack<u32>> AnsCoder<Backend> {
     ///
     /// `ImpossibleSymbol` comes only where the model has no entry for it, and the backend's error only where a write answered that.
     /// An error leaves the state and the words.
-    pub fn encode_symbol<Symbol, E, const PRECISION: usize>(
+    pub fn encode_symbol<E, const PRECISION: usize>(
         &mut self,
-        symbol: &Symbol,
+        symbol: &E::Symbol,
         model: &E,
     ) -> Result<(), CoderError<DefaultEncoderFrontendError, Backend::WriteError>>
     where
-        E: EncodesOver<Symbol, u32, PRECISION>,
+        E: EncoderModel<PRECISION, Probability = u32>,
         requires positive { 0 < PRECISION }
         requires fits { PRECISION ≤ 32 }
         requires can_write { Backend.can_write self.old.words }
@@ -104,7 +104,7 @@ impl<Backend: WordStack<u32>> AnsCoder<Backend> {
         ensures state { OnErr result (self.new.state ≡ self.old.state) }
         ensures words { OnErr result (Backend.words_of self.new.words ≡ Backend.words_of self.old.words) }
     {
-        let Some((left, weight)) = model.entry(symbol) else {
+        let Some((left, weight)) = model.left_cumulative_and_probability(symbol) else {
             return Err(CoderError::Frontend(DefaultEncoderFrontendError::ImpossibleSymbol));
         };
         let weight = weight.get();
@@ -121,12 +121,13 @@ impl<Backend: WordStack<u32>> AnsCoder<Backend> {
     ///
     /// Memory is refused only where the model may refuse the row of the state's quantile, and the backend's error comes only where
     /// the state needs a word, and a read answered that. An error leaves the state and the words.
-    pub fn decode_symbol<Symbol: Drop, D, const PRECISION: usize>(
+    pub fn decode_symbol<D, const PRECISION: usize>(
         &mut self,
         model: &D,
-    ) -> Result<Symbol, CoderError<AllocError, Backend::ReadError>>
+    ) -> Result<D::Symbol, CoderError<AllocError, Backend::ReadError>>
     where
-        D: DecodesOver<Symbol, u32, PRECISION>,
+        D: DecoderModel<PRECISION, Probability = u32>,
+        D::Symbol: Drop,
         requires positive { 0 < PRECISION }
         requires fits { PRECISION ≤ 32 }
         requires can_read { Backend.can_read self.old.words }
@@ -142,7 +143,7 @@ impl<Backend: WordStack<u32>> AnsCoder<Backend> {
         ensures words { OnErr result (Backend.words_of self.new.words ≡ Backend.words_of self.old.words) }
     {
         let quantile = quantile_of::<PRECISION>(self.state);
-        let (symbol, left, weight) = match model.row(quantile) {
+        let (symbol, left, weight) = match model.quantile_function(quantile) {
             Ok(row) => row,
             Err(error) => return Err(CoderError::Frontend(error)),
         };

@@ -11,9 +11,8 @@ use crate::ans_coder::AnsCoder;
 use crate::laws::{compressed_comes_back, symbols_come_back, there_and_back};
 use constriction::backends::{Cursor, WordStack};
 use constriction::stream::model::{
-    DecoderModel, DecodesOver, DefaultNonContiguousCategoricalDecoderModel,
-    DefaultNonContiguousCategoricalEncoderModel, EncoderModel, EncodesOver, EntropyModel,
-    UniformModel,
+    DecoderModel, DefaultNonContiguousCategoricalDecoderModel,
+    DefaultNonContiguousCategoricalEncoderModel, EncoderModel, EntropyModel, UniformModel,
 };
 use constriction::{CoderError, DefaultEncoderFrontendError};
 use std::alloc::{AllocError, Global};
@@ -38,7 +37,7 @@ where
     requires fits { PRECISION ≤ 32 }
     ensures { IfSome result (λ answers. AllZip (StandsForEqual M.stands_for M.symbol_eq) (reverse symbols.now) answers.items) }
 {
-    there_and_back::<M::Symbol, Vec<u32>, M, M, PRECISION>(alloc, coder, model, model, symbols).ok()
+    there_and_back::<Vec<u32>, M, M, PRECISION>(alloc, coder, model, model, symbols).ok()
 }
 
 /// Symbols that were encoded from the last one on come back in order.
@@ -55,12 +54,12 @@ where
     requires fits { PRECISION ≤ 32 }
     ensures { IfSome result (λ answers. AllZip (StandsForEqual M.stands_for M.symbol_eq) symbols.now answers.items) }
 {
-    symbols_come_back::<M::Symbol, M, M, PRECISION>(model, model);
-    match coder.encode_symbols_reverse::<M::Symbol, M, PRECISION>(symbols, model) {
+    symbols_come_back::<M, M, PRECISION>(model, model);
+    match coder.encode_symbols_reverse::<M, PRECISION>(symbols, model) {
         Ok(()) => {}
         Err(_) => return None,
     }
-    match coder.decode_symbols::<M::Symbol, M, PRECISION>(alloc, symbols.len(), model) {
+    match coder.decode_symbols::<M, PRECISION>(alloc, symbols.len(), model) {
         Ok(answers) => Some(answers),
         Err(_) => None,
     }
@@ -75,7 +74,7 @@ pub fn over_a_cursor(
 ) -> Option<Vec<usize>>
     ensures { IfSome result (λ answers. AllZip (λ symbol answer. IsTrue (nat_eq answer symbol)) (reverse symbols.now) answers.items) }
 {
-    there_and_back::<_, _, _, _, 24>(alloc, coder, model, model, symbols).ok()
+    there_and_back::<_, _, _, 24>(alloc, coder, model, model, symbols).ok()
 }
 
 /// A message of texts by a decoder of them and an encoder of its entries.
@@ -91,7 +90,7 @@ pub fn of_texts(
     ensures { IfSome result (λ answers. AllZip (λ symbol answer. IsTrue (string_eq answer symbol))
         (reverse symbols.now) answers.items) }
 {
-    there_and_back::<_, _, _, _, 24>(alloc, coder, texts, encoder, symbols).ok()
+    there_and_back::<_, _, _, 24>(alloc, coder, texts, encoder, symbols).ok()
 }
 
 /// The words of a coder over a `Vec`, and the coder of them: nothing is lost.
@@ -102,15 +101,16 @@ pub fn opened_again(coder: AnsCoder<Vec<u32>>) -> Option<AnsCoder<Vec<u32>>>
 }
 
 /// The symbols that a walk gives, one after the other, are a run.
-pub fn by_a_walk<Symbol: Drop, Backend, D, const PRECISION: usize>(
+pub fn by_a_walk<Backend, D, const PRECISION: usize>(
     alloc: Global,
     coder: &mut AnsCoder<Backend>,
     count: usize,
     model: &D,
-) -> Result<Vec<Symbol>, CoderError<AllocError, Backend::ReadError>>
+) -> Result<Vec<D::Symbol>, CoderError<AllocError, Backend::ReadError>>
 where
     Backend: WordStack<u32>,
-    D: DecodesOver<Symbol, u32, PRECISION>,
+    D: DecoderModel<PRECISION, Probability = u32>,
+    D::Symbol: Drop,
     requires positive { 0 < PRECISION }
     requires fits { PRECISION ≤ 32 }
     requires can_read { Backend.can_read coder.old.words }
@@ -118,7 +118,7 @@ where
         (content coder.old.state (Backend.words_of coder.old.words)) (content coder.new.state (Backend.words_of coder.new.words))) }
 {
     let mut symbols = Vec::new(alloc);
-    for answer in coder.decode_iid_symbols::<Symbol, D, PRECISION>(count, model) {
+    for answer in coder.decode_iid_symbols::<D, PRECISION>(count, model) {
         match answer {
             Ok(symbol) => match symbols.push(symbol) {
                 Ok(()) => {}
@@ -131,23 +131,24 @@ where
 }
 
 /// What an iterator has left, where its states tell that, is encoded such that decoding gives it in order.
-pub fn from_an_iterator<Symbol: Drop, Backend, E, I, const PRECISION: usize>(
+pub fn from_an_iterator<Backend, E, I, const PRECISION: usize>(
     coder: &mut AnsCoder<Backend>,
     symbols: I,
     model: &E,
 ) -> Result<(), CoderError<DefaultEncoderFrontendError, Backend::WriteError>>
 where
     Backend: WordStack<u32>,
-    E: EncodesOver<Symbol, u32, PRECISION>,
-    I: DoubleEndedIterator<Item = Symbol>,
+    E: EncoderModel<PRECISION, Probability = u32>,
+    E::Symbol: Drop,
+    I: DoubleEndedIterator<Item = E::Symbol>,
     requires positive { 0 < PRECISION }
     requires fits { PRECISION ≤ 32 }
     requires can_write { Backend.can_write coder.old.words }
     requires can_next_back { I.can_next_back symbols }
     requires ends { IsFinite (I.remaining symbols) }
-    ensures { OnOk result ((rest : I → List Symbol) → ((s : I) (answer : Option Symbol) (t : I) → I.next_back_gives s answer t
+    ensures { OnOk result ((rest : I → List E.Symbol) → ((s : I) (answer : Option E.Symbol) (t : I) → I.next_back_gives s answer t
         → YieldsLast rest s answer t) → InTurn (IsEncoded (entry_of E.symbol_eq (E.rows model.now)) PRECISION) (rest symbols)
         (content coder.new.state (Backend.words_of coder.new.words)) (content coder.old.state (Backend.words_of coder.old.words))) }
 {
-    coder.encode_iid_symbols_reverse::<Symbol, E, I, PRECISION>(symbols, model)
+    coder.encode_iid_symbols_reverse::<E, I, PRECISION>(symbols, model)
 }

@@ -8,10 +8,9 @@ ghost use Rattle.constriction_ans_example.specs.Walks.{walk, StepsOn};
 use crate::ans_coder::AnsCoder;
 use constriction::CoderError;
 use constriction::backends::WordStack;
-use constriction::stream::model::DecodesOver;
+use constriction::stream::model::DecoderModel;
 use std::alloc::AllocError;
 use std::iter::FusedIterator;
-use std::marker::PhantomData;
 
 /// Symbols of a coder, each of which is decoded when it is asked for.
 ///
@@ -21,27 +20,27 @@ use std::marker::PhantomData;
 pub struct DecodeIidSymbols<
     'c,
     'm,
-    Symbol,
     Backend: WordStack<u32>,
-    D: DecodesOver<Symbol, u32, PRECISION>,
+    D: DecoderModel<PRECISION, Probability = u32>,
     const PRECISION: usize,
 > {
     pub(crate) coder: &'c mut AnsCoder<Backend>,
     pub(crate) model: &'m D,
     pub(crate) left: usize,
-    phantom: PhantomData<Symbol>,
     ghost precise: { (0 < PRECISION) × (PRECISION ≤ 32) },
 }
 
 impl<
     'c,
     'm,
-    Symbol: Drop,
     Backend: WordStack<u32>,
-    D: DecodesOver<Symbol, u32, PRECISION>,
+    D: DecoderModel<PRECISION, Probability = u32>,
     const PRECISION: usize,
-> Iterator for DecodeIidSymbols<'c, 'm, Symbol, Backend, D, PRECISION> {
-    type Item = Result<Symbol, CoderError<AllocError, Backend::ReadError>>;
+> Iterator for DecodeIidSymbols<'c, 'm, Backend, D, PRECISION>
+where
+    D::Symbol: Drop,
+{
+    type Item = Result<D::Symbol, CoderError<AllocError, Backend::ReadError>>;
 
     ghost can_next = { λ s. Backend.can_read s.coder.now.words };
 
@@ -51,12 +50,12 @@ impl<
 
     ghost remaining = { λ s. at_most s.left };
 
-    fn next(&mut self) -> Option<Result<Symbol, CoderError<AllocError, Backend::ReadError>>> {
+    fn next(&mut self) -> Option<Result<D::Symbol, CoderError<AllocError, Backend::ReadError>>> {
         if self.left == 0 {
             return None;
         }
         self.left -= 1;
-        Some(self.coder.decode_symbol::<Symbol, D, PRECISION>(self.model))
+        Some(self.coder.decode_symbol::<D, PRECISION>(self.model))
     }
 
     /// How many answers are left, exactly.
@@ -71,11 +70,13 @@ impl<
 impl<
     'c,
     'm,
-    Symbol: Drop,
     Backend: WordStack<u32>,
-    D: DecodesOver<Symbol, u32, PRECISION>,
+    D: DecoderModel<PRECISION, Probability = u32>,
     const PRECISION: usize,
-> ExactSizeIterator for DecodeIidSymbols<'c, 'm, Symbol, Backend, D, PRECISION> {
+> ExactSizeIterator for DecodeIidSymbols<'c, 'm, Backend, D, PRECISION>
+where
+    D::Symbol: Drop,
+{
     /// How many answers are left.
     fn len(&self) -> usize {
         self.left
@@ -85,21 +86,24 @@ impl<
 impl<
     'c,
     'm,
-    Symbol: Drop,
     Backend: WordStack<u32>,
-    D: DecodesOver<Symbol, u32, PRECISION>,
+    D: DecoderModel<PRECISION, Probability = u32>,
     const PRECISION: usize,
-> FusedIterator for DecodeIidSymbols<'c, 'm, Symbol, Backend, D, PRECISION> {}
+> FusedIterator for DecodeIidSymbols<'c, 'm, Backend, D, PRECISION>
+where
+    D::Symbol: Drop,
+{}
 
 impl<Backend: WordStack<u32>> AnsCoder<Backend> {
     /// The next symbols, so many of them, the one that was encoded last first. Nothing is decoded before the first is asked for.
-    pub fn decode_iid_symbols<'c, 'm, Symbol: Drop, D, const PRECISION: usize>(
+    pub fn decode_iid_symbols<'c, 'm, D, const PRECISION: usize>(
         &'c mut self,
         count: usize,
         model: &'m D,
-    ) -> DecodeIidSymbols<'c, 'm, Symbol, Backend, D, PRECISION>
+    ) -> DecodeIidSymbols<'c, 'm, Backend, D, PRECISION>
     where
-        D: DecodesOver<Symbol, u32, PRECISION>,
+        D: DecoderModel<PRECISION, Probability = u32>,
+        D::Symbol: Drop,
         requires positive { 0 < PRECISION }
         requires fits { PRECISION ≤ 32 }
         ensures same_reference { result.coder.ghost_name ≡ self.entry.ghost_name }
@@ -111,7 +115,6 @@ impl<Backend: WordStack<u32>> AnsCoder<Backend> {
             coder: self,
             model,
             left: count,
-            phantom: PhantomData,
         }
     }
 }

@@ -8,19 +8,20 @@ ghost use Rattle.constriction_ans_example.specs.Walks.{EncodesGiven, GivenStops}
 
 use crate::ans_coder::AnsCoder;
 use constriction::backends::WordStack;
-use constriction::stream::model::EncodesOver;
+use constriction::stream::model::EncoderModel;
 use constriction::{CoderError, DefaultEncoderFrontendError};
 
 impl<Backend: WordStack<u32>> AnsCoder<Backend> {
     /// Encodes what an iterator gives, from its front on, until it ends or a symbol is not encoded.
-    pub fn encode_iid_symbols<Symbol: Drop, E, I, const PRECISION: usize>(
+    pub fn encode_iid_symbols<E, I, const PRECISION: usize>(
         &mut self,
         symbols: I,
         model: &E,
     ) -> Result<(), CoderError<DefaultEncoderFrontendError, Backend::WriteError>>
     where
-        E: EncodesOver<Symbol, u32, PRECISION>,
-        I: IntoIterator<Item = Symbol>,
+        E: EncoderModel<PRECISION, Probability = u32>,
+        E::Symbol: Drop,
+        I: IntoIterator<Item = E::Symbol>,
         requires positive { 0 < PRECISION }
         requires fits { PRECISION ≤ 32 }
         requires can_write { Backend.can_write self.old.words }
@@ -35,7 +36,7 @@ impl<Backend: WordStack<u32>> AnsCoder<Backend> {
     {
         let mut given = symbols.into_iter();
         'turns: while let Some(symbol) = given.next() {
-            match self.encode_symbol::<Symbol, E, PRECISION>(&symbol, model) {
+            match self.encode_symbol::<E, PRECISION>(&symbol, model) {
                 Ok(()) => {}
                 Err(error) => return Err(error),
             }
@@ -44,14 +45,15 @@ impl<Backend: WordStack<u32>> AnsCoder<Backend> {
     }
 
     /// Encodes what an iterator gives, from its back on, so that decoding gives it from its front on.
-    pub fn encode_iid_symbols_reverse<Symbol: Drop, E, I, const PRECISION: usize>(
+    pub fn encode_iid_symbols_reverse<E, I, const PRECISION: usize>(
         &mut self,
         symbols: I,
         model: &E,
     ) -> Result<(), CoderError<DefaultEncoderFrontendError, Backend::WriteError>>
     where
-        E: EncodesOver<Symbol, u32, PRECISION>,
-        I: IntoIterator<Item = Symbol>,
+        E: EncoderModel<PRECISION, Probability = u32>,
+        E::Symbol: Drop,
+        I: IntoIterator<Item = E::Symbol>,
         I::IntoIter: DoubleEndedIterator,
         requires positive { 0 < PRECISION }
         requires fits { PRECISION ≤ 32 }
@@ -67,7 +69,7 @@ impl<Backend: WordStack<u32>> AnsCoder<Backend> {
     {
         let mut given = symbols.into_iter();
         'turns: while let Some(symbol) = given.next_back() {
-            match self.encode_symbol::<Symbol, E, PRECISION>(&symbol, model) {
+            match self.encode_symbol::<E, PRECISION>(&symbol, model) {
                 Ok(()) => {}
                 Err(error) => return Err(error),
             }

@@ -11,7 +11,7 @@ ghost use Rattle.constriction.specs.Rows.{entry_of};
 
 use crate::ans_coder::AnsCoder;
 use constriction::backends::{ReadWriteError, WordStack};
-use constriction::stream::model::{DecodesOver, EncodesOver};
+use constriction::stream::model::{DecoderModel, EncoderModel};
 use constriction::{CoderError, DefaultEncoderFrontendError};
 use std::alloc::{AllocError, Global};
 use thiserror::Error;
@@ -28,28 +28,28 @@ pub enum MessageFault<EncodingError, DecodingError> {
 }
 
 /// What encodes and decodes by these two models: each symbol comes back.
-pub fn symbol_comes_back<Symbol, D, E, const PRECISION: usize>(decoder: &D, encoder: &E)
+pub fn symbol_comes_back<D, E, const PRECISION: usize>(decoder: &D, encoder: &E)
 where
-    D: DecodesOver<Symbol, u32, PRECISION>,
-    E: EncodesOver<Symbol, u32, PRECISION>,
-    requires { (s : Symbol) → entry_of E.symbol_eq (E.rows encoder.now) s ≡ entry_of E.symbol_eq (D.rows decoder.now) s }
+    D: DecoderModel<PRECISION, Probability = u32>,
+    E: EncoderModel<PRECISION, Symbol = D::Symbol, Probability = u32>,
+    requires { (s : D.Symbol) → entry_of E.symbol_eq (E.rows encoder.now) s ≡ entry_of E.symbol_eq (D.rows decoder.now) s }
     ensures { SymbolComesBack D.stands_for E.symbol_eq (entry_of E.symbol_eq (E.rows encoder.now)) (D.rows decoder.now) PRECISION }
 {}
 
 /// So does each run of symbols.
-pub fn symbols_come_back<Symbol, D, E, const PRECISION: usize>(decoder: &D, encoder: &E)
+pub fn symbols_come_back<D, E, const PRECISION: usize>(decoder: &D, encoder: &E)
 where
-    D: DecodesOver<Symbol, u32, PRECISION>,
-    E: EncodesOver<Symbol, u32, PRECISION>,
-    requires { (s : Symbol) → entry_of E.symbol_eq (E.rows encoder.now) s ≡ entry_of E.symbol_eq (D.rows decoder.now) s }
+    D: DecoderModel<PRECISION, Probability = u32>,
+    E: EncoderModel<PRECISION, Symbol = D::Symbol, Probability = u32>,
+    requires { (s : D.Symbol) → entry_of E.symbol_eq (E.rows encoder.now) s ≡ entry_of E.symbol_eq (D.rows decoder.now) s }
     ensures { SymbolsComeBack D.stands_for E.symbol_eq (entry_of E.symbol_eq (E.rows encoder.now)) (D.rows decoder.now) PRECISION }
 {}
 
 /// What encodes by this model: what a coder holds after a symbol follows from what it held before, so that the words of a message are
 /// the same whoever encoded it.
-pub fn encoded_once<Symbol, E, const PRECISION: usize>(encoder: &E)
+pub fn encoded_once<E, const PRECISION: usize>(encoder: &E)
 where
-    E: EncodesOver<Symbol, u32, PRECISION>,
+    E: EncoderModel<PRECISION, Probability = u32>,
     requires { PRECISION ≤ 32 }
     ensures { EncodedOnce (entry_of E.symbol_eq (E.rows encoder.now)) PRECISION }
 {}
@@ -58,14 +58,14 @@ where
 ///
 /// What comes back stands for equal symbols: where the decoder owns its symbols it is a clone, and where a clone equals its symbol it is
 /// equal to what was encoded.
-pub fn there_and_back<Symbol: Drop, Backend, D, E, const PRECISION: usize>(
+pub fn there_and_back<Backend, D, E, const PRECISION: usize>(
     alloc: Global,
     coder: &mut AnsCoder<Backend>,
     decoder: &D,
     encoder: &E,
-    symbols: &[Symbol],
+    symbols: &[D::Symbol],
 ) -> Result<
-    Vec<Symbol>,
+    Vec<D::Symbol>,
     MessageFault<
         CoderError<DefaultEncoderFrontendError, Backend::WriteError>,
         CoderError<AllocError, Backend::ReadError>,
@@ -73,12 +73,13 @@ pub fn there_and_back<Symbol: Drop, Backend, D, E, const PRECISION: usize>(
 >
 where
     Backend: WordStack<u32>,
-    D: DecodesOver<Symbol, u32, PRECISION>,
-    E: EncodesOver<Symbol, u32, PRECISION>,
+    D: DecoderModel<PRECISION, Probability = u32>,
+    D::Symbol: Drop,
+    E: EncoderModel<PRECISION, Symbol = D::Symbol, Probability = u32>,
     requires positive { 0 < PRECISION }
     requires fits { PRECISION ≤ 32 }
     requires can_write { Backend.can_write coder.old.words }
-    requires alike { (s : Symbol) → entry_of E.symbol_eq (E.rows encoder.now) s ≡ entry_of E.symbol_eq (D.rows decoder.now) s }
+    requires alike { (s : D.Symbol) → entry_of E.symbol_eq (E.rows encoder.now) s ≡ entry_of E.symbol_eq (D.rows decoder.now) s }
     ensures back { IfOk result (λ answers. AllZip (StandsForEqual D.stands_for E.symbol_eq) (reverse symbols.now) answers.items) }
     ensures equal { IfOk result (λ answers. ClonesAreEqual E.symbol_eq D.stands_for
         → AllZip (λ symbol answer. IsTrue (E.symbol_eq answer symbol)) (reverse symbols.now) answers.items) }
@@ -94,12 +95,12 @@ where
         (reverse symbols.now) (content coder.old.state (Backend.words_of coder.old.words)) (λ c. DecodingStops Backend.words_of D.stands_for
         D.may_refuse (D.rows decoder.now) Backend.read_gives PRECISION (length symbols.now) e c coder.new.state coder.new.words) }
 {
-    symbols_come_back::<Symbol, D, E, PRECISION>(decoder, encoder);
-    match coder.encode_symbols::<_, _, PRECISION>(symbols, encoder) {
+    symbols_come_back::<D, E, PRECISION>(decoder, encoder);
+    match coder.encode_symbols::<_, PRECISION>(symbols, encoder) {
         Ok(()) => {}
         Err(error) => return Err(MessageFault::Encoding(error)),
     }
-    match coder.decode_symbols::<_, _, PRECISION>(alloc, symbols.len(), decoder) {
+    match coder.decode_symbols::<_, PRECISION>(alloc, symbols.len(), decoder) {
         Ok(answers) => Ok(answers),
         Err(error) => Err(MessageFault::Decoding(error)),
     }

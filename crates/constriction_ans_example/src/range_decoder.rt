@@ -7,7 +7,7 @@ ghost use Rattle.constriction.specs.Model.{RowMayBeRefused};
 
 use crate::interval::{part_of, quantile_at, unit_of};
 use constriction::backends::ReadWords;
-use constriction::stream::model::DecodesOver;
+use constriction::stream::model::DecoderModel;
 use constriction::{CoderError, Queue};
 use std::alloc::Global;
 use thiserror::Error;
@@ -86,12 +86,13 @@ impl<Source: ReadWords<u32, Queue>> RangeDecoder<Source> {
     /// `InvalidData` comes only where the point lies above all quantiles, `OutOfMemory` only where the model may refuse the row
     /// in which it lies, and the backend's error only where a read answered that. An error leaves what is held, and only a read
     /// that failed may change the source.
-    pub fn decode_symbol<Symbol: Drop, D, const PRECISION: usize>(
+    pub fn decode_symbol<D, const PRECISION: usize>(
         &mut self,
         model: &D,
-    ) -> Result<Symbol, CoderError<RangeDecodingFault, Source::ReadError>>
+    ) -> Result<D::Symbol, CoderError<RangeDecodingFault, Source::ReadError>>
     where
-        D: DecodesOver<Symbol, u32, PRECISION>,
+        D: DecoderModel<PRECISION, Probability = u32>,
+        D::Symbol: Drop,
         requires fits { PRECISION ≤ 32 }
         requires can_read { Source.can_read self.old.words }
         ensures goes_on { Source.can_read self.new.words }
@@ -113,7 +114,7 @@ impl<Source: ReadWords<u32, Queue>> RangeDecoder<Source> {
         let Some(quantile) = quantile_at::<PRECISION>(unit, self.offset) else {
             return Err(CoderError::Frontend(RangeDecodingFault::InvalidData));
         };
-        let Ok((symbol, left, weight)) = model.row(quantile) else {
+        let Ok((symbol, left, weight)) = model.quantile_function(quantile) else {
             return Err(CoderError::Frontend(RangeDecodingFault::OutOfMemory));
         };
         let (range, offset) = part_of::<PRECISION>(
@@ -140,14 +141,15 @@ impl<Source: ReadWords<u32, Queue>> RangeDecoder<Source> {
     }
 
     /// Decodes so many symbols, the one that was encoded first first.
-    pub fn decode_symbols<Symbol: Drop, D, const PRECISION: usize>(
+    pub fn decode_symbols<D, const PRECISION: usize>(
         &mut self,
         alloc: Global,
         count: usize,
         model: &D,
-    ) -> Result<Vec<Symbol>, CoderError<RangeDecodingFault, Source::ReadError>>
+    ) -> Result<Vec<D::Symbol>, CoderError<RangeDecodingFault, Source::ReadError>>
     where
-        D: DecodesOver<Symbol, u32, PRECISION>,
+        D: DecoderModel<PRECISION, Probability = u32>,
+        D::Symbol: Drop,
         requires fits { PRECISION ≤ 32 }
         requires can_read { Source.can_read self.old.words }
         ensures goes_on { Source.can_read self.new.words }
@@ -161,7 +163,7 @@ impl<Source: ReadWords<u32, Queue>> RangeDecoder<Source> {
             return Err(CoderError::Frontend(RangeDecodingFault::OutOfMemory));
         };
         for done in 0..count {
-            match self.decode_symbol::<_, _, PRECISION>(model) {
+            match self.decode_symbol::<_, PRECISION>(model) {
                 Ok(symbol) => symbols.push_reserved(symbol),
                 Err(error) => return Err(error),
             }

@@ -7,19 +7,19 @@ ghost use Rattle.constriction.specs.Rows.{entry_of};
 
 use crate::ans_coder::AnsCoder;
 use constriction::backends::WordStack;
-use constriction::stream::model::{DecodesOver, EncodesOver};
+use constriction::stream::model::{DecoderModel, EncoderModel};
 use constriction::{CoderError, DefaultEncoderFrontendError};
 use std::alloc::{AllocError, Global};
 
 impl<Backend: WordStack<u32>> AnsCoder<Backend> {
     /// Encodes the symbols, the first one first.
-    pub fn encode_symbols<Symbol, E, const PRECISION: usize>(
+    pub fn encode_symbols<E, const PRECISION: usize>(
         &mut self,
-        symbols: &[Symbol],
+        symbols: &[E::Symbol],
         model: &E,
     ) -> Result<(), CoderError<DefaultEncoderFrontendError, Backend::WriteError>>
     where
-        E: EncodesOver<Symbol, u32, PRECISION>,
+        E: EncoderModel<PRECISION, Probability = u32>,
         requires positive { 0 < PRECISION }
         requires fits { PRECISION ≤ 32 }
         requires can_write { Backend.can_write self.old.words }
@@ -31,7 +31,7 @@ impl<Backend: WordStack<u32>> AnsCoder<Backend> {
             self.new.state self.new.words) }
     {
         for symbol in symbols {
-            match self.encode_symbol::<_, _, PRECISION>(symbol, model) {
+            match self.encode_symbol::<_, PRECISION>(symbol, model) {
                 Ok(()) => {}
                 Err(error) => return Err(error),
             }
@@ -40,13 +40,13 @@ impl<Backend: WordStack<u32>> AnsCoder<Backend> {
     }
 
     /// Encodes the symbols, the last one first, so that decoding gives them in order.
-    pub fn encode_symbols_reverse<Symbol, E, const PRECISION: usize>(
+    pub fn encode_symbols_reverse<E, const PRECISION: usize>(
         &mut self,
-        symbols: &[Symbol],
+        symbols: &[E::Symbol],
         model: &E,
     ) -> Result<(), CoderError<DefaultEncoderFrontendError, Backend::WriteError>>
     where
-        E: EncodesOver<Symbol, u32, PRECISION>,
+        E: EncoderModel<PRECISION, Probability = u32>,
         requires positive { 0 < PRECISION }
         requires fits { PRECISION ≤ 32 }
         requires can_write { Backend.can_write self.old.words }
@@ -59,7 +59,7 @@ impl<Backend: WordStack<u32>> AnsCoder<Backend> {
     {
         let count = symbols.len();
         for done in 0..count {
-            match self.encode_symbol::<_, _, PRECISION>(&symbols[count - 1 - done], model) {
+            match self.encode_symbol::<_, PRECISION>(&symbols[count - 1 - done], model) {
                 Ok(()) => {}
                 Err(error) => return Err(error),
             }
@@ -68,14 +68,15 @@ impl<Backend: WordStack<u32>> AnsCoder<Backend> {
     }
 
     /// Decodes so many symbols, the one that was encoded last first.
-    pub fn decode_symbols<Symbol: Drop, D, const PRECISION: usize>(
+    pub fn decode_symbols<D, const PRECISION: usize>(
         &mut self,
         alloc: Global,
         count: usize,
         model: &D,
-    ) -> Result<Vec<Symbol>, CoderError<AllocError, Backend::ReadError>>
+    ) -> Result<Vec<D::Symbol>, CoderError<AllocError, Backend::ReadError>>
     where
-        D: DecodesOver<Symbol, u32, PRECISION>,
+        D: DecoderModel<PRECISION, Probability = u32>,
+        D::Symbol: Drop,
         requires positive { 0 < PRECISION }
         requires fits { PRECISION ≤ 32 }
         requires can_read { Backend.can_read self.old.words }
@@ -92,7 +93,7 @@ impl<Backend: WordStack<u32>> AnsCoder<Backend> {
             Err(error) => return Err(CoderError::Frontend(error)),
         };
         for done in 0..count {
-            match self.decode_symbol::<_, _, PRECISION>(model) {
+            match self.decode_symbol::<_, PRECISION>(model) {
                 Ok(symbol) => symbols.push_reserved(symbol),
                 Err(error) => return Err(error),
             }

@@ -7,7 +7,7 @@ ghost use Rattle.constriction.specs.Precision.{IsPrecision};
 ghost use Rattle.constriction_client.specs.Quantiles.{IsQuantileOf, IsFaultOf, WritesItems, StopsAtItem};
 ghost use Rattle.constriction_client.specs.Quantiles.{IsPairOf, IsReadFaultOf, ReadsPairs};
 
-use constriction::stream::model::{DecodesOver, EncodesOver, is_quantile};
+use constriction::stream::model::{DecoderModel, EncoderModel, is_quantile};
 use constriction_backends::{ReadWords, WriteWords};
 use constriction_words::{CoderError, Semantics, WholeNumber};
 use thiserror::Error;
@@ -58,43 +58,41 @@ fn quantile_within<Symbol, P: WholeNumber>(
 
 /// The quantile of an item.
 #[inline]
-fn quantile_of<Symbol, Word, E, const PRECISION: usize>(
+fn quantile_of<E, const PRECISION: usize>(
     encoder: &E,
-    item: &(Symbol, Word),
-) -> Result<Word, QuantileFault>
+    item: &(E::Symbol, E::Probability),
+) -> Result<E::Probability, QuantileFault>
 where
-    Word: WholeNumber,
-    E: EncodesOver<Symbol, Word, PRECISION>,
-    requires { PRECISION ≤ Word.BITS }
-    ensures ok { IfOk result (λ word. IsQuantileOf (entry_of E.symbol_eq (E.rows encoder.now)) Word.whole
-        item.now (Word.whole word)) }
-    ensures err { IfErr result (IsFaultOf (entry_of E.symbol_eq (E.rows encoder.now)) Word.whole item.now) }
+    E: EncoderModel<PRECISION>,
+    requires { PRECISION ≤ E.Probability.BITS }
+    ensures ok { IfOk result (λ word. IsQuantileOf (entry_of E.symbol_eq (E.rows encoder.now)) E.Probability.whole
+        item.now (E.Probability.whole word)) }
+    ensures err { IfErr result (IsFaultOf (entry_of E.symbol_eq (E.rows encoder.now)) E.Probability.whole item.now) }
 {
-    match encoder.entry(&item.0) {
-        Some((left, weight)) => quantile_within(item, left, Word::from_weight(weight)),
+    match encoder.left_cumulative_and_probability(&item.0) {
+        Some((left, weight)) => quantile_within(item, left, E::Probability::from_weight(weight)),
         None => Err(QuantileFault::ImpossibleSymbol),
     }
 }
 
 /// The pair of a word, where it is a quantile.
 #[inline]
-fn pair_of<Symbol, Word, M, const PRECISION: usize>(
+fn pair_of<M, const PRECISION: usize>(
     model: &M,
-    word: Word,
-) -> Result<(Symbol, Word), ReadFault>
+    word: M::Probability,
+) -> Result<(M::Symbol, M::Probability), ReadFault>
 where
-    Word: WholeNumber,
-    M: DecodesOver<Symbol, Word, PRECISION>,
+    M: DecoderModel<PRECISION>,
     requires positive { 0 < PRECISION }
-    requires fits { PRECISION ≤ Word.BITS }
-    ensures ok { IfOk result (IsPairOf M.stands_for (M.rows model.now) Word.whole word) }
-    ensures in_range { OnOk result (Word.whole word < 2 ^ PRECISION) }
-    ensures err { IfErr result (IsReadFaultOf PRECISION (Word.whole word)) }
+    requires fits { PRECISION ≤ M.Probability.BITS }
+    ensures ok { IfOk result (IsPairOf M.stands_for (M.rows model.now) M.Probability.whole word) }
+    ensures in_range { OnOk result (M.Probability.whole word < 2 ^ PRECISION) }
+    ensures err { IfErr result (IsReadFaultOf PRECISION (M.Probability.whole word)) }
 {
-    if !is_quantile::<Word, PRECISION>(word) {
+    if !is_quantile::<M::Probability, PRECISION>(word) {
         return Err(ReadFault::QuantileTooLarge);
     }
-    match model.row(word) {
+    match model.quantile_function(word) {
         Ok((symbol, left, _)) => Ok((symbol, word.minus(left))),
         Err(_) => Err(ReadFault::OutOfMemory),
     }
@@ -106,20 +104,19 @@ where
 /// It stops at the first item that is refused, with `Frontend` where the item has no quantile and
 /// with `Backend` where the sink refuses it. The words of the items before it stay written, and
 /// those after it are not looked at. One pass over the items, and one write for each.
-pub fn write_quantiles<Symbol, Word, E, W, const PRECISION: usize>(
+pub fn write_quantiles<E, W, const PRECISION: usize>(
     encoder: &E,
-    items: &[(Symbol, Word)],
+    items: &[(E::Symbol, E::Probability)],
     sink: &mut W,
 ) -> Result<(), CoderError<QuantileFault, W::WriteError>>
 where
-    Word: WholeNumber,
-    E: EncodesOver<Symbol, Word, PRECISION>,
-    W: WriteWords<Word>,
-    requires fits { PRECISION ≤ Word.BITS }
+    E: EncoderModel<PRECISION>,
+    W: WriteWords<E::Probability>,
+    requires fits { PRECISION ≤ E.Probability.BITS }
     requires can_write { W.can_write sink.old }
-    ensures ok { OnOk result (WritesItems (entry_of E.symbol_eq (E.rows encoder.now)) Word.whole
+    ensures ok { OnOk result (WritesItems (entry_of E.symbol_eq (E.rows encoder.now)) E.Probability.whole
         W.write_gives W.tells_written items.now sink.old sink.new) }
-    ensures err { IfErr result (λ fault. StopsAtItem (entry_of E.symbol_eq (E.rows encoder.now)) Word.whole
+    ensures err { IfErr result (λ fault. StopsAtItem (entry_of E.symbol_eq (E.rows encoder.now)) E.Probability.whole
         W.write_gives W.tells_written items.now sink.old fault sink.new) }
     ensures goes_on { W.can_write sink.new }
 {
@@ -145,19 +142,19 @@ where
 /// for a pair is refused: that word has been read. `Backend` is answered where a read fails. In
 /// each case `out` keeps its pairs and those of the words before, and reading may go on after the
 /// fault. One look-up for each word; memory for the symbols and for `out` alone.
-pub fn read_symbols<S: Semantics, Symbol: Drop, Word, M, R, const PRECISION: usize>(
+pub fn read_symbols<S: Semantics, M, R, const PRECISION: usize>(
     model: &M,
     source: &mut R,
     count: usize,
-    out: &mut Vec<(Symbol, Word)>,
+    out: &mut Vec<(M::Symbol, M::Probability)>,
 ) -> Result<usize, CoderError<ReadFault, R::ReadError>>
 where
-    Word: WholeNumber,
-    M: DecodesOver<Symbol, Word, PRECISION>,
-    R: ReadWords<Word, S>,
-    requires precision { IsPrecision Word.BITS PRECISION }
+    M: DecoderModel<PRECISION>,
+    M::Symbol: Drop,
+    R: ReadWords<M::Probability, S>,
+    requires precision { IsPrecision M.Probability.BITS PRECISION }
     requires can_read { R.can_read source.old }
-    ensures pairs { ReadsPairs M.stands_for PRECISION (M.rows model.now) Word.whole R.read_gives R.tells_upcoming
+    ensures pairs { ReadsPairs M.stands_for PRECISION (M.rows model.now) M.Probability.whole R.read_gives R.tells_upcoming
         count source.old out.old.items result source.new out.new.items }
     ensures goes_on { R.can_read source.new }
 {

@@ -7,7 +7,7 @@ ghost use Rattle.constriction.specs.Precision.{IsPrecision};
 ghost use Rattle.constriction_client.specs.Replies.{in_numbers, reply_to_query, replies_by_scan};
 ghost use Rattle.constriction_client.specs.Replies.{StandsForReply, AreRepliesOf};
 
-use constriction::stream::model::{DecodesOver, EncodesOver, Weight, is_quantile};
+use constriction::stream::model::{DecoderModel, EncoderModel, Weight, is_quantile};
 use constriction_words::WholeNumber;
 use std::alloc::{AllocError, Global};
 use std::fmt::Debug;
@@ -36,30 +36,32 @@ pub enum Reply<Symbol, Word: WholeNumber> {
 }
 
 /// The reply to one query.
-fn answer_query<Symbol, Word, D, E, const PRECISION: usize>(
+fn answer_query<D, E, const PRECISION: usize>(
     form: &D,
     encoder: &E,
-    query: &Query<Symbol, Word>,
-) -> Result<Reply<Symbol, Word>, AllocError>
+    query: &Query<D::Symbol, D::Probability>,
+) -> Result<Reply<D::Symbol, D::Probability>, AllocError>
 where
-    Word: WholeNumber,
-    D: DecodesOver<Symbol, Word, PRECISION>,
-    E: EncodesOver<Symbol, Word, PRECISION>,
+    D: DecoderModel<PRECISION>,
+    E: EncoderModel<PRECISION, Symbol = D::Symbol, Probability = D::Probability>,
     requires positive { 0 < PRECISION }
-    requires fits { PRECISION ≤ Word.BITS }
-    ensures { IfOk result (λ reply. StandsForReply D.stands_for (in_numbers Word.whole Word.base reply)
-        (reply_to_query PRECISION Word.whole (D.rows form.now)
+    requires fits { PRECISION ≤ D.Probability.BITS }
+    ensures { IfOk result (λ reply. StandsForReply D.stands_for (in_numbers D.Probability.whole D.Probability.base reply)
+        (reply_to_query PRECISION D.Probability.whole (D.rows form.now)
         (entry_of E.symbol_eq (E.rows encoder.now)) query.now)) }
 {
     match query {
         Query::OfQuantile(word) => {
-            if !is_quantile::<Word, PRECISION>(*word) {
+            if !is_quantile::<D::Probability, PRECISION>(*word) {
                 return Ok(Reply::OutOfRange);
             }
-            let (symbol, left, weight) = form.row(*word)?;
+            let (symbol, left, weight) = form.quantile_function(*word)?;
             Ok(Reply::Row(symbol, left, weight))
         }
-        Query::OfSymbol(symbol) => Ok(Reply::Entry(encoder.entry(symbol))),
+        Query::OfSymbol(symbol) => {
+            let entry = encoder.left_cumulative_and_probability(symbol);
+            Ok(Reply::Entry(entry))
+        }
     }
 }
 
@@ -72,23 +74,23 @@ where
 ///
 /// Memory for the replies is asked for once, before the first query. It fails where that is refused, or
 /// memory for a clone of a symbol.
-pub fn answer_queries<Symbol: Drop, Word, D, E, const PRECISION: usize>(
+pub fn answer_queries<D, E, const PRECISION: usize>(
     alloc: Global,
     form: &D,
     encoder: &E,
-    queries: &[Query<Symbol, Word>],
-) -> Result<Vec<Reply<Symbol, Word>>, AllocError>
+    queries: &[Query<D::Symbol, D::Probability>],
+) -> Result<Vec<Reply<D::Symbol, D::Probability>>, AllocError>
 where
-    Word: WholeNumber,
-    D: DecodesOver<Symbol, Word, PRECISION>,
-    E: EncodesOver<Symbol, Word, PRECISION>,
-    requires precision { IsPrecision Word.BITS PRECISION }
+    D: DecoderModel<PRECISION>,
+    D::Symbol: Drop,
+    E: EncoderModel<PRECISION, Symbol = D::Symbol, Probability = D::Probability>,
+    requires precision { IsPrecision D.Probability.BITS PRECISION }
     ensures ok { IfOk result (λ replies. AreRepliesOf D.stands_for
-        (map (reply_to_query PRECISION Word.whole (D.rows form.now) (entry_of E.symbol_eq (E.rows encoder.now))) queries.now)
-        (map (in_numbers Word.whole Word.base) replies.items)) }
+        (map (reply_to_query PRECISION D.Probability.whole (D.rows form.now) (entry_of E.symbol_eq (E.rows encoder.now))) queries.now)
+        (map (in_numbers D.Probability.whole D.Probability.base) replies.items)) }
     ensures of_one { IfOk result (λ replies. SameEntries E.symbol_eq (E.rows encoder.now) (D.rows form.now)
-        → AreRepliesOf D.stands_for (replies_by_scan PRECISION Word.whole E.symbol_eq queries.now (D.rows form.now))
-        (map (in_numbers Word.whole Word.base) replies.items)) }
+        → AreRepliesOf D.stands_for (replies_by_scan PRECISION D.Probability.whole E.symbol_eq queries.now (D.rows form.now))
+        (map (in_numbers D.Probability.whole D.Probability.base) replies.items)) }
 {
     let mut replies = Vec::with_capacity(alloc, queries.len())?;
     for query in queries {

@@ -22,7 +22,7 @@ fn read_slice(model: &Small, words: &[u8], count: usize, out: &mut Vec<(usize, u
         × (out.new.items ≡ out.old.items ++ pairs)) }
 {
     let mut source = InfallibleIteratorReadWords::new(words.iter().copied());
-    read_symbols::<Queue, _, _, _, _, 6>(model, &mut source, count, out)
+    read_symbols::<Queue, _, _, 6>(model, &mut source, count, out)
 }
 
 #[test]

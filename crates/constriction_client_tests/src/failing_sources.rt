@@ -21,7 +21,7 @@ fn read_letters(
     count: usize,
     out: &mut Vec<(Letter, u8)>,
 ) -> Read {
-    read_symbols::<Queue, _, _, _, _, 6>(model, source, count, out)
+    read_symbols::<Queue, _, _, 6>(model, source, count, out)
 }
 
 #[test]
@@ -46,7 +46,7 @@ fn read_results(
     count: usize,
     out: &mut Vec<(usize, u8)>,
 ) -> (Result<usize, CoderError<ReadFault, u8>>, usize) {
-    let read = read_symbols::<Queue, _, _, _, _, 6>(model, source, count, out);
+    let read = read_symbols::<Queue, _, _, 6>(model, source, count, out);
     (read, BoundedReadWords::<u8, Queue>::remaining(source))
 }
 

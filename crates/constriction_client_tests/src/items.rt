@@ -33,7 +33,7 @@ fn read(
     count: usize,
     out: &mut Vec<(usize, u8)>,
 ) -> Read {
-    read_symbols::<Stack, _, _, _, _, 6>(model, words, count, out)
+    read_symbols::<Stack, _, _, 6>(model, words, count, out)
 }
 
 type Back = Result<Vec<(usize, u8)>, CoderError<QuantileFault, AllocError>>;

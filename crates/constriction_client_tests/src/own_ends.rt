@@ -80,7 +80,7 @@ fn read_interrupted(
     source: &mut Interrupted,
     out: &mut Vec<(usize, u8)>,
 ) -> Result<usize, CoderError<ReadFault, &'static str>> {
-    read_symbols::<Queue, _, _, _, _, 6>(model, source, 3, out)
+    read_symbols::<Queue, _, _, 6>(model, source, 3, out)
 }
 
 #[test]

@@ -163,7 +163,7 @@ fn ask(
     encoder: &Encoder,
     queries: &[Query<String, u8>],
 ) -> Result<Vec<Reply<String, u8>>, AllocError> {
-    answer_queries::<_, _, _, _, 6>(alloc, form, encoder, queries)
+    answer_queries::<_, _, 6>(alloc, form, encoder, queries)
 }
 
 /// Stops the test where a form does not reply to two quantiles and to two texts as the rows of the texts do.

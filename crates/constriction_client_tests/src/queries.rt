@@ -43,7 +43,7 @@ fn ask_for_row(
     encoder: &LetterEncoder,
     quantile: u8,
 ) -> Result<Vec<Reply<Letter, u8>>, AllocError> {
-    answer_queries::<_, _, _, _, 6>(alloc, form, encoder, &[Query::OfQuantile(quantile)])
+    answer_queries::<_, _, 6>(alloc, form, encoder, &[Query::OfQuantile(quantile)])
 }
 
 #[test]
@@ -72,7 +72,7 @@ fn a_refusal_of_memory_leaves_no_replies(rt: HostRuntime) {
     let Ok(encoder) = encoder::<6>(rt.alloc(), &SYMBOLS, &WEIGHTS, false) else {
         return;
     };
-    match answer_queries::<_, _, _, _, 6>(rt.alloc(), &form, &encoder, &QUERIES) {
+    match answer_queries::<_, _, 6>(rt.alloc(), &form, &encoder, &QUERIES) {
         Ok(found) => holds(&rt, &found, &replies()),
         Err(error) => same(&rt, error, AllocError),
     }

@@ -7,9 +7,7 @@ ghost use Rattle.constriction.specs.Rows.{entry_of};
 
 use crate::checks::{end_of_requests, holds, same, small};
 use crate::items::Letters;
-use constriction::stream::model::{
-    DecoderModel, EncoderModel, EncodesOver, EntropyModel, ModelError, Weight,
-};
+use constriction::stream::model::{DecoderModel, EncoderModel, EntropyModel, ModelError, Weight};
 use constriction_backends::{BoundedWriteError, Cursor};
 use constriction_client::QuantileFault;
 use constriction_client::laws::{
@@ -61,7 +59,7 @@ fn back_of_any<D, E, const PRECISION: usize>(
 where
     D: DecoderModel<PRECISION>,
     D::Symbol: Drop,
-    E: EncodesOver<D::Symbol, D::Probability, PRECISION>,
+    E: EncoderModel<PRECISION, Symbol = D::Symbol, Probability = D::Probability>,
     requires positive { 0 < PRECISION }
     requires fits { PRECISION ≤ D.Probability.BITS }
     requires alike { (s : D.Symbol) → entry_of E.symbol_eq (E.rows encoder.now) s
@@ -80,7 +78,7 @@ fn back_of_bytes<D, E, const PRECISION: usize>(
 where
     D: DecoderModel<PRECISION, Probability = u8>,
     D::Symbol: Drop,
-    E: EncodesOver<D::Symbol, u8, PRECISION>,
+    E: EncoderModel<PRECISION, Symbol = D::Symbol, Probability = u8>,
     requires positive { 0 < PRECISION }
     requires fits { PRECISION ≤ 8 }
     requires alike { (s : D.Symbol) → entry_of E.symbol_eq (E.rows encoder.now) s ≡ entry_of E.symbol_eq (D.rows decoder.now) s }

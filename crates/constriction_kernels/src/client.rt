@@ -62,13 +62,7 @@ pub extern "C" fn kernel_read_symbols(
     for _ in 0..repeats {
         let mut source = Cursor::<u32, &[u32]>::new_at_write_beginning(words);
         let mut pairs: Vec<(usize, u32)> = Vec::new(alloc);
-        if read_symbols::<Queue, _, _, _, _, 24>(
-            &model,
-            &mut source,
-            words.len(),
-            &mut pairs,
-        ).is_err()
-        {
+        if read_symbols::<Queue, _, _, 24>(&model, &mut source, words.len(), &mut pairs).is_err() {
             return 1;
         }
         let middle = match pairs.get(pairs.len() / 2) {

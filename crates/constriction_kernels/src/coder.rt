@@ -2,7 +2,7 @@
 
 use crate::checksum::mix;
 use crate::contiguous::contiguous_of;
-use constriction::stream::model::{DecodesOver, DefaultContiguousLookupDecoderModel};
+use constriction::stream::model::{DecoderModel, DefaultContiguousLookupDecoderModel};
 use constriction_ans_example::AnsCoder;
 use std::alloc::{AllocError, Global};
 
@@ -24,7 +24,7 @@ pub extern "C" fn kernel_coder_encode(
         let mut coder = AnsCoder::new(alloc);
         for symbol in symbols {
             if coder
-                .encode_symbol::<_, _, 24>(&(*symbol as usize), &model)
+                .encode_symbol::<_, 24>(&(*symbol as usize), &model)
                 .is_err()
             {
                 return 1;
@@ -51,7 +51,7 @@ fn copy_of(alloc: Global, words: &[u32]) -> Result<Vec<u32>, AllocError> {
 #[inline(always)]
 fn decoded<D>(alloc: Global, model: &D, words: &[u32], repeats: u32) -> u64
 where
-    D: DecodesOver<usize, u32, 24>,
+    D: DecoderModel<24, Symbol = usize, Probability = u32>,
 {
     let half = &words[..words.len() / 2];
     let mut sum = 0u64;
@@ -63,7 +63,7 @@ where
             return 1;
         };
         for _ in 0..words.len() {
-            let Ok(symbol) = coder.decode_symbol::<usize, _, 24>(model) else {
+            let Ok(symbol) = coder.decode_symbol::<_, 24>(model) else {
                 return 1;
             };
             sum = mix(sum, symbol as u64);

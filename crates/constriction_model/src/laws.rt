@@ -8,8 +8,7 @@ ghost use Rattle.constriction_model.specs.Laws.{HasOneRow, IsOneToOne};
 ghost use Rattle.constriction_model.specs.Rows.{Row, RowsTile, IsRowOf, contiguous_rows, entry_of, symbols_of, uniform_rows};
 ghost use Rattle.constriction_model.specs.Scanning.{holds};
 
-use crate::encodes_over::EncodesOver;
-use crate::traits::{DecoderModel, EntropyModel};
+use crate::traits::{DecoderModel, EncoderModel, EntropyModel};
 
 /// A uniform model of `n` symbols has `n` rows, and so its fresh symbol table as many items.
 pub fn uniform_row_count()
@@ -29,7 +28,7 @@ pub fn quantiles_have_one_row<M: DecoderModel<PRECISION>, const PRECISION: usize
 pub fn pairs_are_quantiles<D, E, const PRECISION: usize>()
 where
     D: DecoderModel<PRECISION>,
-    E: EncodesOver<D::Symbol, D::Probability, PRECISION>,
+    E: EncoderModel<PRECISION, Symbol = D::Symbol>,
     ensures { (d : D) (e : E) → IsDistinct E.symbol_eq (symbols_of (D.rows d)) → SameEntries E.symbol_eq (E.rows e) (D.rows d)
         → IsOneToOne E.symbol_eq (entry_of E.symbol_eq (E.rows e)) PRECISION (D.rows d) }
 {}

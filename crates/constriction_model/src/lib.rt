@@ -6,8 +6,6 @@
 //! list of cumulatives, the laws of all models, and the uniform models, which divide and store nothing.
 #![tactic(auto)]
 
-mod decodes_over;
-mod encodes_over;
 mod error;
 pub mod laws;
 mod probe;
@@ -17,8 +15,6 @@ mod search;
 mod traits;
 mod uniform;
 
-pub use crate::decodes_over::DecodesOver;
-pub use crate::encodes_over::EncodesOver;
 pub use crate::error::ModelError;
 pub use crate::probe::Probe;
 pub use crate::quantile::is_quantile;

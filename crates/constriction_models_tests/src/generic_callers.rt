@@ -6,24 +6,24 @@ ghost use Rattle.constriction.specs.Rows.{Row, IsRowOf};
 use crate::checks::same;
 use crate::model_checks::small;
 use constriction::stream::model::{
-    ContiguousCategoricalEntropyModel, DecoderModel, DecodesOver, EncoderModel, EncodesOver,
-    SmallUniformModel,
+    ContiguousCategoricalEntropyModel, DecoderModel, EncoderModel, SmallUniformModel,
 };
 use constriction_words::{BitArray, NonZeroBitArray};
 use std::alloc::AllocError;
 
 /// Where the row of a quantile ends, modulo `2^BITS`, by any decoder over these words.
-pub fn end_of_row<Symbol: Drop, Word: BitArray, D, const PRECISION: usize>(
+pub fn end_of_row<Word: BitArray, D, const PRECISION: usize>(
     model: &D,
     quantile: Word,
 ) -> Result<Word, AllocError>
 where
-    D: DecodesOver<Symbol, Word, PRECISION>,
+    D: DecoderModel<PRECISION, Probability = Word>,
+    D::Symbol: Drop,
     requires in_range { Word.whole quantile < 2 ^ PRECISION }
-    ensures { IfOk result (λ end. (row : Row Symbol) × IsRowOf (D.rows model.now) (Word.whole quantile) row
+    ensures { IfOk result (λ end. (row : Row D.Symbol) × IsRowOf (D.rows model.now) (Word.whole quantile) row
         × (Word.whole end ≡ (row.left + row.weight) % 2 ^ Word.BITS)) }
 {
-    match model.row(quantile) {
+    match model.quantile_function(quantile) {
         Ok((_symbol, left, weight)) => Ok(left.wrapping_add(&weight.get())),
         Err(refusal) => Err(refusal),
     }
@@ -47,14 +47,11 @@ where
 }
 
 /// The weight of a symbol as a word, by any encoder over these words: 0 where it has none.
-pub fn weight_or_0<Symbol, Word: BitArray, E, const PRECISION: usize>(
-    model: &E,
-    symbol: &Symbol,
-) -> Word
+pub fn weight_or_0<Word: BitArray, E, const PRECISION: usize>(model: &E, symbol: &E::Symbol) -> Word
 where
-    E: EncodesOver<Symbol, Word, PRECISION>,
+    E: EncoderModel<PRECISION, Probability = Word>,
 {
-    match model.entry(symbol) {
+    match model.left_cumulative_and_probability(symbol) {
         Some((_left, weight)) => weight.get(),
         None => Word::zero(),
     }
@@ -94,17 +91,14 @@ fn callers_that_compute_with_words(rt: HostRuntime) {
     same(
         &rt,
         [
-            end_of_row::<_, _, _, 6>(&model, 20),
-            end_of_row::<_, _, _, 6>(&model, 63),
-            weight_of_row::<_, 6>(&model, 20),
+            end_of_row(&model, 20),
+            end_of_row(&model, 63),
+            weight_of_row(&model, 20),
             after_the_first(&model, 22),
         ],
         [Ok(21), Ok(64), Ok(18), Ok(23)],
     );
-    let weights: [u8; 2] = [
-        weight_or_0::<_, _, _, 6>(&model, &1),
-        weight_or_0::<_, _, _, 6>(&model, &4),
-    ];
+    let weights: [u8; 2] = [weight_or_0(&model, &1), weight_or_0(&model, &4)];
     same(&rt, weights, [18, 0]);
 }
 
@@ -112,8 +106,8 @@ fn callers_that_compute_with_words(rt: HostRuntime) {
 fn callers_that_compute_with_words_of_16_bits(rt: HostRuntime) {
     let uniform = SmallUniformModel::new(5);
     let rows = (
-        end_of_row::<_, _, _, 12>(&uniform, 4095),
-        weight_or_0::<_, _, _, 12>(&uniform, &4),
+        end_of_row(&uniform, 4095),
+        weight_or_0(&uniform, &4),
         last_of_row(&uniform, 3276),
     );
     same(&rt, rows, (Ok(4096u16), 820u16, Ok(4095)));

@@ -17,7 +17,7 @@ fn a_refusal_of_memory_leaves_the_symbols_that_are_encoded(rt: HostRuntime) {
     let mut coder = AnsCoder::new(rt.alloc());
     let mut encoded = 0usize;
     for symbol in 0..40usize {
-        match coder.encode_symbol::<usize, _, 24>(&symbol, &model) {
+        match coder.encode_symbol::<_, 24>(&symbol, &model) {
             Ok(()) => encoded = encoded.wrapping_add(1),
             Err(error) => {
                 same(&rt, error, CoderError::Backend(AllocError));
@@ -29,7 +29,7 @@ fn a_refusal_of_memory_leaves_the_symbols_that_are_encoded(rt: HostRuntime) {
         let expected = encoded.wrapping_sub(decoded).wrapping_sub(1);
         same(
             &rt,
-            coder.decode_symbol::<usize, _, 24>(&model).ok(),
+            coder.decode_symbol::<_, 24>(&model).ok(),
             Some(expected),
         );
     }
@@ -51,7 +51,7 @@ fn a_refusal_of_memory_answers_no_copy_and_no_symbols(rt: HostRuntime) {
         Ok(copy) => same(&rt, copy.as_slice(), [1, 2, 3].as_slice()),
         Err(error) => same(&rt, error, AllocError),
     }
-    match coder.decode_symbols::<usize, _, 24>(rt.alloc(), 2, &model) {
+    match coder.decode_symbols::<_, 24>(rt.alloc(), 2, &model) {
         Ok(symbols) => same(&rt, symbols.len(), 2),
         Err(error) => {
             same(&rt, error, CoderError::Frontend(AllocError));

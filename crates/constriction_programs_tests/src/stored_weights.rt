@@ -55,7 +55,7 @@ fn encoded(rt: &impl Abort, alloc: Global, model: &Texts) -> Vec<u32> {
     same(
         rt,
         coder
-            .encode_symbols_reverse::<_, _, 24>(&message, &encoder)
+            .encode_symbols_reverse::<_, 24>(&message, &encoder)
             .is_ok(),
         true,
     );
@@ -80,7 +80,7 @@ fn a_message_by_stored_weights(rt: HostRuntime) {
     let words = encoded(&rt, alloc, &model);
     let mut coder = AnsCoder::from_compressed(words).expect(&rt, "the coder");
     let symbols = coder
-        .decode_symbols::<String, _, 24>(alloc, MESSAGE.len(), &model)
+        .decode_symbols::<_, 24>(alloc, MESSAGE.len(), &model)
         .expect(&rt, "the symbols");
     same(&rt, symbols, owned(&rt, alloc, &MESSAGE));
     same(&rt, coder.is_empty(), true);

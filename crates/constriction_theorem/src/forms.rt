@@ -9,7 +9,7 @@ ghost use Rattle.constriction_client.specs.FormRows.{form_rows};
 ghost use Rattle.constriction_client.specs.Replies.{in_numbers, replies_by_scan};
 ghost use Rattle.constriction_theorem.specs.Answers.{AnswersAfter};
 
-use constriction::stream::model::{EncodesOver, ModelError};
+use constriction::stream::model::{EncoderModel, ModelError};
 use constriction_client::{ChainStep, DecoderForm, Query, Reply, answer_queries, convert_chain};
 use constriction_words::IndexWord;
 use std::alloc::Global;
@@ -35,7 +35,7 @@ pub fn answer_by_form<Symbol: Eq + Clone + Drop, Probability: IndexWord, E, cons
     queries: &[Query<Symbol, Probability>],
 ) -> Result<FormAndReplies<Symbol, Probability, PRECISION>, ModelError>
 where
-    E: EncodesOver<Symbol, Probability, PRECISION>,
+    E: EncoderModel<PRECISION, Symbol = Symbol, Probability = Probability>,
     requires precision { IsLookupPrecision Probability.BITS PRECISION }
     requires clones { ClonesAreEqual Symbol.eq Symbol.is_clone }
     requires equal { ClonesAreEqual E.symbol_eq Symbol.is_clone }
@@ -46,6 +46,6 @@ where
     ensures refused { IfErr result (λ e. e ≡ ModelError.OutOfMemory) }
 {
     let converted = convert_chain(alloc, form, steps)?;
-    let replies = answer_queries::<_, _, _, _, PRECISION>(alloc, &converted, encoder, queries)?;
+    let replies = answer_queries::<_, _, PRECISION>(alloc, &converted, encoder, queries)?;
     Ok((converted, replies))
 }

@@ -86,7 +86,7 @@ where
     ensures refused { IfErr result (λ e. e ≡ ModelError.OutOfMemory) }
 {
     let encoder = encoder_of::<M, PRECISION>(alloc, model)?;
-    let replies = answer_queries::<_, _, _, _, PRECISION>(alloc, &model, &encoder, queries)?;
+    let replies = answer_queries::<_, _, PRECISION>(alloc, &model, &encoder, queries)?;
     Ok(replies)
 }
 

@@ -34,7 +34,7 @@ pub fn answer_from_range_u8<const PRECISION: usize>(
 {
     contiguous_symbols_differ();
     let model = UniformModel::<u8, PRECISION>::new(range);
-    let by_model = answer_queries::<_, _, _, _, PRECISION>(alloc, &model, &model, queries)?;
+    let by_model = answer_queries::<_, _, PRECISION>(alloc, &model, &model, queries)?;
     let (form, converted) = answer_by_table::<_, PRECISION>(alloc, model, steps, queries)?;
     Ok(AnswersOfModel {
         by_model,
@@ -58,7 +58,7 @@ pub fn answer_from_range_u16<const PRECISION: usize>(
 {
     contiguous_symbols_differ();
     let model = UniformModel::<u16, PRECISION>::new(range);
-    let by_model = answer_queries::<_, _, _, _, PRECISION>(alloc, &model, &model, queries)?;
+    let by_model = answer_queries::<_, _, PRECISION>(alloc, &model, &model, queries)?;
     let (form, converted) = answer_by_table::<_, PRECISION>(alloc, model, steps, queries)?;
     Ok(AnswersOfModel {
         by_model,
@@ -82,7 +82,7 @@ pub fn answer_from_range_u32<const PRECISION: usize>(
 {
     contiguous_symbols_differ();
     let model = UniformModel::<u32, PRECISION>::new(range);
-    let by_model = answer_queries::<_, _, _, _, PRECISION>(alloc, &model, &model, queries)?;
+    let by_model = answer_queries::<_, _, PRECISION>(alloc, &model, &model, queries)?;
     let (form, converted) = answer_by_table::<_, PRECISION>(alloc, model, steps, queries)?;
     Ok(AnswersOfModel {
         by_model,
@@ -107,7 +107,7 @@ pub fn answer_from_range_u64<const PRECISION: usize>(
 {
     contiguous_symbols_differ();
     let model = UniformModel::<u64, PRECISION>::new(range);
-    let by_model = answer_queries::<_, _, _, _, PRECISION>(alloc, &model, &model, queries)?;
+    let by_model = answer_queries::<_, _, PRECISION>(alloc, &model, &model, queries)?;
     let (form, converted) = answer_by_table::<_, PRECISION>(alloc, model, steps, queries)?;
     Ok(AnswersOfModel {
         by_model,
@@ -132,7 +132,7 @@ pub fn answer_from_range_usize<const PRECISION: usize>(
 {
     contiguous_symbols_differ();
     let model = UniformModel::<usize, PRECISION>::new(range);
-    let by_model = answer_queries::<_, _, _, _, PRECISION>(alloc, &model, &model, queries)?;
+    let by_model = answer_queries::<_, _, PRECISION>(alloc, &model, &model, queries)?;
     let (form, converted) = answer_by_table::<_, PRECISION>(alloc, model, steps, queries)?;
     Ok(AnswersOfModel {
         by_model,

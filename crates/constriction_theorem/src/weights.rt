@@ -15,7 +15,7 @@ ghost use Rattle.constriction_theorem.specs.Answers.{AllReplyAsScan, ReplyAsScan
 
 use crate::made::{Contiguous, Searching, both_of_contiguous, contiguous_from};
 use constriction::stream::model::{
-    DecodesOver, EncodesOver, ModelError, NonContiguousCategoricalEncoderModel,
+    DecoderModel, EncoderModel, ModelError, NonContiguousCategoricalEncoderModel,
 };
 use constriction_client::{ChainStep, DecoderForm, Query, Reply, answer_queries, convert_chain};
 use constriction_words::{IndexWord, WholeNumber};
@@ -44,32 +44,29 @@ pub struct AnswersOfWeights<Word: WholeNumber, Form> {
 }
 
 /// The replies of a decoder beside each of two encoders of its rows.
-pub(crate) fn asked_beside_both<Word, D, E, F, const PRECISION: usize>(
+pub(crate) fn asked_beside_both<D, E, F, const PRECISION: usize>(
     alloc: Global,
     decoder: &D,
     contiguous: &E,
     hashed: &F,
-    queries: &[Query<usize, Word>],
-) -> Result<RepliesByEncoder<Word>, AllocError>
+    queries: &[Query<usize, D::Probability>],
+) -> Result<RepliesByEncoder<D::Probability>, AllocError>
 where
-    Word: WholeNumber,
-    D: DecodesOver<usize, Word, PRECISION>,
-    E: EncodesOver<usize, Word, PRECISION>,
-    F: EncodesOver<usize, Word, PRECISION>,
+    D: DecoderModel<PRECISION, Symbol = usize>,
+    E: EncoderModel<PRECISION, Symbol = usize, Probability = D::Probability>,
+    F: EncoderModel<PRECISION, Symbol = usize, Probability = D::Probability>,
     requires positive { 0 < PRECISION }
-    requires fits { PRECISION ≤ Word.BITS }
+    requires fits { PRECISION ≤ D.Probability.BITS }
     requires same { ClonesAreSame D.stands_for }
     requires contiguous { SameEntries E.symbol_eq (E.rows contiguous.now) (D.rows decoder.now) }
     requires hashed { SameEntries F.symbol_eq (F.rows hashed.now) (D.rows decoder.now) }
-    ensures contiguous { IfOk result (λ replies. map (in_numbers Word.whole Word.base) replies.contiguous.items
-        ≡ replies_by_scan PRECISION Word.whole E.symbol_eq queries.now (D.rows decoder.now)) }
-    ensures hashed { IfOk result (λ replies. map (in_numbers Word.whole Word.base) replies.hashed.items
-        ≡ replies_by_scan PRECISION Word.whole F.symbol_eq queries.now (D.rows decoder.now)) }
+    ensures contiguous { IfOk result (λ replies. map (in_numbers D.Probability.whole D.Probability.base) replies.contiguous.items
+        ≡ replies_by_scan PRECISION D.Probability.whole E.symbol_eq queries.now (D.rows decoder.now)) }
+    ensures hashed { IfOk result (λ replies. map (in_numbers D.Probability.whole D.Probability.base) replies.hashed.items
+        ≡ replies_by_scan PRECISION D.Probability.whole F.symbol_eq queries.now (D.rows decoder.now)) }
 {
-    let beside_contiguous = answer_queries::<_, _, _, _, PRECISION>(
-        alloc, decoder, contiguous, queries,
-    )?;
-    let beside_hashed = answer_queries::<_, _, _, _, PRECISION>(alloc, decoder, hashed, queries)?;
+    let beside_contiguous = answer_queries::<_, _, PRECISION>(alloc, decoder, contiguous, queries)?;
+    let beside_hashed = answer_queries::<_, _, PRECISION>(alloc, decoder, hashed, queries)?;
     Ok(RepliesByEncoder {
         contiguous: beside_contiguous,
         hashed: beside_hashed,
@@ -133,9 +130,7 @@ fn asked_by_slots<Probability: IndexWord, const PRECISION: usize, const SLOT_BIT
     ensures refused { IfErr result (λ e. e ≡ ModelError.OutOfMemory) }
 {
     let tabled = model.to_slotted_lookup_decoder_model::<SLOT_BITS>(alloc)?;
-    let replies = asked_beside_both::<_, _, _, _, PRECISION>(
-        alloc, &tabled, model, hashed, queries,
-    )?;
+    let replies = asked_beside_both::<_, _, _, PRECISION>(alloc, &tabled, model, hashed, queries)?;
     Ok(replies)
 }
 
@@ -164,11 +159,9 @@ fn asked_by_each<Probability: IndexWord, const PRECISION: usize, const SLOT_BITS
         AsScan three.0 × AsScan three.1 × AsScan three.2) }
     ensures refused { IfErr result (λ e. e ≡ ModelError.OutOfMemory) }
 {
-    let by_search = asked_beside_both::<_, _, _, _, PRECISION>(
-        alloc, model, model, hashed, queries,
-    )?;
+    let by_search = asked_beside_both::<_, _, _, PRECISION>(alloc, model, model, hashed, queries)?;
     let by_table = asked_by_slots::<_, PRECISION, SLOT_BITS>(alloc, model, hashed, queries)?;
-    let by_form = asked_beside_both::<_, _, _, _, PRECISION>(alloc, form, model, hashed, queries)?;
+    let by_form = asked_beside_both::<_, _, _, PRECISION>(alloc, form, model, hashed, queries)?;
     Ok((by_search, by_table, by_form))
 }
 

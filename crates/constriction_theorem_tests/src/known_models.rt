@@ -9,7 +9,7 @@ ghost use Rattle.constriction.specs.Rows.{contiguous_rows, rows_of};
 
 use crate::checks::same;
 use constriction::stream::model::{
-    DecoderModel, EncoderModel, EncodesOver, EntropyModel, IterableEntropyModel, ModelError,
+    DecoderModel, EncoderModel, EntropyModel, IterableEntropyModel, ModelError,
     NonContiguousCategoricalDecoderModel, NonContiguousCategoricalEncoderModel,
     NonContiguousLookupDecoderModel, SmallUniformModel, is_quantile, row_of_quantile,
 };
@@ -127,15 +127,6 @@ fn second_entry(model: &Weighted<6>) -> Option<(u8, u8)>
     ensures { result ≡ Some (3, 18) }
 {
     let (left, weight) = model.left_cumulative_and_probability(&1)?;
-    Some((left, weight.get()))
-}
-
-/// The same, asked of it as an encoder over these symbols and words.
-fn second_entry_over(model: &Weighted<6>) -> Option<(u8, u8)>
-    requires { ⟦<Weighted<6> as EntropyModel<6>>⟧.rows model.now ≡ contiguous_rows (3 ∷ 18 ∷ 1 ∷ 42 ∷ []) }
-    ensures { result ≡ Some (3, 18) }
-{
-    let (left, weight) = EncodesOver::<usize, u8, 6>::entry(model, &1)?;
     Some((left, weight.get()))
 }
 
@@ -270,7 +261,6 @@ fn leaves_one_answer(rt: &impl Abort, model: &Weighted<6>)
 {
     same(rt, row_of_20(model), Ok((1, 3, 18)));
     same(rt, second_entry(model), Some((3, 18)));
-    same(rt, second_entry_over(model), Some((3, 18)));
     same(rt, ends(model), (Some(0), Some(3), 2));
     same(rt, index_of_20(model), (0, 1));
 }

@@ -18,14 +18,12 @@ ghost use Rattle.constriction_client.specs.ThereAndBack.{StandForItems, HasFault
 use crate::decoder_form::Searching;
 use crate::quantiles::{QuantileFault, ReadFault, read_symbols, write_quantiles};
 use constriction::stream::model::{
-    DecoderModel, DecodesOver, EncoderModel, EncodesOver, IterableEntropyModel, ModelError,
+    DecoderModel, EncoderModel, IterableEntropyModel, ModelError,
     NonContiguousCategoricalEncoderModel, to_generic_decoder_model, to_generic_encoder_model,
 };
 use constriction_backends::laws::extending_overwrites;
 use constriction_backends::{BoundedWriteError, Cursor, ReadWords, SafeBufMut};
-use constriction_words::{
-    CoderError, Pos, Queue, ReadWriteError, Seek, Semantics, Stack, WholeNumber,
-};
+use constriction_words::{CoderError, Pos, Queue, ReadWriteError, Seek, Semantics, Stack};
 use std::alloc::{AllocError, Global};
 use std::convert::Infallible;
 use std::hash::Hash;
@@ -41,27 +39,27 @@ pub type DecoderAndEncoder<Symbol, Probability, const PRECISION: usize> = (
 );
 
 /// Reads so many words, which are quantiles, and answers their pairs.
-fn read_back<S: Semantics, Symbol: Drop, Word, D, R, const PRECISION: usize>(
+fn read_back<S: Semantics, D, R, const PRECISION: usize>(
     alloc: Global,
     decoder: &D,
     source: &mut R,
     count: usize,
-) -> Result<Vec<(Symbol, Word)>, AllocError>
+) -> Result<Vec<(D::Symbol, D::Probability)>, AllocError>
 where
-    Word: WholeNumber,
-    D: DecodesOver<Symbol, Word, PRECISION>,
-    R: ReadWords<Word, S, ReadError = Infallible>,
+    D: DecoderModel<PRECISION>,
+    D::Symbol: Drop,
+    R: ReadWords<D::Probability, S, ReadError = Infallible>,
     requires positive { 0 < PRECISION }
-    requires fits { PRECISION ≤ Word.BITS }
+    requires fits { PRECISION ≤ D.Probability.BITS }
     requires can_read { R.can_read source.old }
-    requires come { QuantilesCome PRECISION Word.whole R.tells_upcoming count source.old }
-    ensures ok { IfOk result (λ pairs. (words : List Word) → ComeNext R.tells_upcoming source.old words
-        → length words ≡ count → ArePairs D.stands_for (D.rows decoder.now) Word.whole words pairs.items
+    requires come { QuantilesCome PRECISION D.Probability.whole R.tells_upcoming count source.old }
+    ensures ok { IfOk result (λ pairs. (words : List D.Probability) → ComeNext R.tells_upcoming source.old words
+        → length words ≡ count → ArePairs D.stands_for (D.rows decoder.now) D.Probability.whole words pairs.items
         × Reads R.read_gives source.old words source.new) }
-    ensures err { OnErr result ((words : List Word) × Reads R.read_gives source.old words source.new) }
+    ensures err { OnErr result ((words : List D.Probability) × Reads R.read_gives source.old words source.new) }
 {
     let mut pairs = Vec::new(alloc);
-    match read_symbols::<S, _, _, _, _, PRECISION>(decoder, source, count, &mut pairs) {
+    match read_symbols::<S, _, _, PRECISION>(decoder, source, count, &mut pairs) {
         Ok(_) => Ok(pairs),
         Err(CoderError::Frontend(ReadFault::OutOfMemory)) => Err(AllocError),
         Err(CoderError::Frontend(ReadFault::QuantileTooLarge)) => unreachable!(),
@@ -74,28 +72,28 @@ where
 /// equal to those of the items, or where the decoder owns its symbols clones of such ones.
 ///
 /// It fails with the fault of the first item that has no quantile, or where memory is refused.
-pub fn there_and_back_of_two<Symbol: Drop, Word, D, E, const PRECISION: usize>(
+pub fn there_and_back_of_two<D, E, const PRECISION: usize>(
     alloc: Global,
     decoder: &D,
     encoder: &E,
-    items: &[(Symbol, Word)],
-) -> Result<Vec<(Symbol, Word)>, CoderError<QuantileFault, AllocError>>
+    items: &[(D::Symbol, D::Probability)],
+) -> Result<Vec<(D::Symbol, D::Probability)>, CoderError<QuantileFault, AllocError>>
 where
-    Word: WholeNumber,
-    D: DecodesOver<Symbol, Word, PRECISION>,
-    E: EncodesOver<Symbol, Word, PRECISION>,
-    requires precision { IsPrecision Word.BITS PRECISION }
+    D: DecoderModel<PRECISION>,
+    D::Symbol: Drop,
+    E: EncoderModel<PRECISION, Symbol = D::Symbol, Probability = D::Probability>,
+    requires precision { IsPrecision D.Probability.BITS PRECISION }
     requires alike { SameEntries E.symbol_eq (E.rows encoder.now) (D.rows decoder.now) }
     ensures ok { IfOk result (λ pairs. StandForItems D.stands_for E.symbol_eq (reverse items.now) pairs.items) }
     ensures fault { (fault : QuantileFault) → result ≡ Err (CoderError.Frontend fault)
-        → HasFault (entry_of E.symbol_eq (E.rows encoder.now)) Word.whole items.now fault }
+        → HasFault (entry_of E.symbol_eq (E.rows encoder.now)) D.Probability.whole items.now fault }
 {
     let mut words = Vec::new(alloc);
     match write_quantiles(encoder, items, &mut words) {
         Ok(()) => {}
         Err(fault) => return Err(fault),
     }
-    match read_back::<Stack, _, _, _, _, PRECISION>(alloc, decoder, &mut words, items.len()) {
+    match read_back::<Stack, _, _, PRECISION>(alloc, decoder, &mut words, items.len()) {
         Ok(pairs) => Ok(pairs),
         Err(error) => Err(CoderError::Backend(error)),
     }
@@ -145,22 +143,21 @@ where
 }
 
 /// Writes items to a cursor, and goes back to where it stood.
-fn write_and_go_back<Symbol, Word, E, Buf, const PRECISION: usize>(
+fn write_and_go_back<E, Buf, const PRECISION: usize>(
     encoder: &E,
-    items: &[(Symbol, Word)],
-    cursor: &mut Cursor<Word, Buf>,
+    items: &[(E::Symbol, E::Probability)],
+    cursor: &mut Cursor<E::Probability, Buf>,
 ) -> Result<(), CursorFault>
 where
-    Word: WholeNumber,
-    E: EncodesOver<Symbol, Word, PRECISION>,
-    Buf: SafeBufMut<Word>,
-    requires { PRECISION ≤ Word.BITS }
-    ensures ok { OnOk result (GoesBack (entry_of E.symbol_eq (E.rows encoder.now)) Word.whole Buf.with_words
+    E: EncoderModel<PRECISION>,
+    Buf: SafeBufMut<E::Probability>,
+    requires { PRECISION ≤ E.Probability.BITS }
+    ensures ok { OnOk result (GoesBack (entry_of E.symbol_eq (E.rows encoder.now)) E.Probability.whole Buf.with_words
         cursor.old items.now cursor.new) }
-    ensures err { IfErr result (λ fault. EndsPlacing (entry_of E.symbol_eq (E.rows encoder.now)) Word.whole
+    ensures err { IfErr result (λ fault. EndsPlacing (entry_of E.symbol_eq (E.rows encoder.now)) E.Probability.whole
         Buf.with_words cursor.old items.now fault cursor.new) }
 {
-    extending_overwrites::<Word, Buf, BoundedWriteError>();
+    extending_overwrites::<E::Probability, Buf, BoundedWriteError>();
     let start = cursor.pos();
     match write_quantiles(encoder, items, cursor) {
         Ok(()) => {}
@@ -184,31 +181,31 @@ where
 /// quantile finds no place, and `Read` where memory is refused. The words of the items before it
 /// stay, and the cursor stands after them; where memory is refused those of all items do. No word
 /// of the buffer changes but those.
-pub fn there_and_back_in_a_cursor<Symbol: Drop, Word, D, E, Buf, const PRECISION: usize>(
+pub fn there_and_back_in_a_cursor<D, E, Buf, const PRECISION: usize>(
     alloc: Global,
     decoder: &D,
     encoder: &E,
-    items: &[(Symbol, Word)],
-    cursor: &mut Cursor<Word, Buf>,
-) -> Result<Vec<(Symbol, Word)>, CursorFault>
+    items: &[(D::Symbol, D::Probability)],
+    cursor: &mut Cursor<D::Probability, Buf>,
+) -> Result<Vec<(D::Symbol, D::Probability)>, CursorFault>
 where
-    Word: WholeNumber,
-    D: DecodesOver<Symbol, Word, PRECISION>,
-    E: EncodesOver<Symbol, Word, PRECISION>,
-    Buf: SafeBufMut<Word>,
-    requires precision { IsPrecision Word.BITS PRECISION }
+    D: DecoderModel<PRECISION>,
+    D::Symbol: Drop,
+    E: EncoderModel<PRECISION, Symbol = D::Symbol, Probability = D::Probability>,
+    Buf: SafeBufMut<D::Probability>,
+    requires precision { IsPrecision D.Probability.BITS PRECISION }
     requires alike { SameEntries E.symbol_eq (E.rows encoder.now) (D.rows decoder.now) }
     ensures ok { IfOk result (λ pairs. StandForItems D.stands_for E.symbol_eq items.now pairs.items) }
-    ensures placed { OnOk result (PlacesItems (entry_of E.symbol_eq (E.rows encoder.now)) Word.whole
+    ensures placed { OnOk result (PlacesItems (entry_of E.symbol_eq (E.rows encoder.now)) D.Probability.whole
         Buf.with_words cursor.old items.now cursor.new) }
-    ensures err { IfErr result (λ fault. EndsPlacing (entry_of E.symbol_eq (E.rows encoder.now)) Word.whole
+    ensures err { IfErr result (λ fault. EndsPlacing (entry_of E.symbol_eq (E.rows encoder.now)) D.Probability.whole
         Buf.with_words cursor.old items.now fault cursor.new) }
 {
     match write_and_go_back(encoder, items, cursor) {
         Ok(()) => {}
         Err(error) => return Err(error),
     }
-    match read_back::<Queue, _, _, _, _, PRECISION>(alloc, decoder, cursor, items.len()) {
+    match read_back::<Queue, _, _, PRECISION>(alloc, decoder, cursor, items.len()) {
         Ok(pairs) => Ok(pairs),
         Err(error) => Err(CoderError::Backend(ReadWriteError::Read(error))),
     }

@@ -14,9 +14,9 @@ loop-answer-preserved g c =
       same_model = ap (λ m. m.now) step.1 ∙ c.loop-answer.invariant.same_model;
       so_far =
           rw c.in-Ok-push.ensures.items
-          (turn-last (IsDecoded g.D.DecodesOver.stands_for (g.D.DecodesOver.rows c.args.model.now) g.row.PRECISION)
+          (turn-last (IsDecoded g.D.DecoderModel.stands_for (g.D.EntropyModel.rows c.args.model.now) g.row.PRECISION)
           c.loop-answer.symbols.items c.in-Ok.symbol _ _ _ c.loop-answer.invariant.so_far
-          (subst (λ m. IsDecoded g.D.DecodesOver.stands_for (g.D.DecodesOver.rows m) g.row.PRECISION c.in-Ok.symbol
+          (subst (λ m. IsDecoded g.D.DecoderModel.stands_for (g.D.EntropyModel.rows m) g.row.PRECISION c.in-Ok.symbol
           (content walk.coder.now.state (words_of walk.coder.now.words))
           (content c.next.new.self.coder.now.state (words_of c.next.new.self.coder.now.words)))
           c.loop-answer.invariant.same_model step.2.1));

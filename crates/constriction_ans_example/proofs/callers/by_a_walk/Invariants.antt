@@ -9,7 +9,7 @@ invariant-loop-answer g l = record {
   goes_on : g.Backend.ReadWords.can_read l.answer-iterator.coder.now.words;
   same_coder : l.answer-iterator.coder.ghost_name ≡ l.initial.answer-iterator.coder.ghost_name;
   same_model : l.answer-iterator.model.now ≡ l.model;
-  so_far : InTurn (IsDecoded g.D.DecodesOver.stands_for (g.D.DecodesOver.rows l.model) g.row.PRECISION) l.symbols.items
+  so_far : InTurn (IsDecoded g.D.DecoderModel.stands_for (g.D.EntropyModel.rows l.model) g.row.PRECISION) l.symbols.items
       (content l.fn.coder.state (g.Backend.WordStack.words_of l.fn.coder.words))
       (content l.answer-iterator.coder.now.state (g.Backend.WordStack.words_of l.answer-iterator.coder.now.words));
 }

@@ -9,9 +9,9 @@ some-inj x y e = cc
 
 pub returns : goal.returns
 returns g c = λ symbol a b rest fa fb wa wb p q.
-    let eq = g.E.EncodesOver.symbol_eq in
-    let rows = g.E.EncodesOver.rows c.args.encoder.now in
-    let within = g.met.E.EncodesOver.within_law c.args.encoder.now in
+    let eq = g.E.EncoderModel.symbol_eq in
+    let rows = g.E.EntropyModel.rows c.args.encoder.now in
+    let within = g.met.E.EncoderModel.within_law c.args.encoder.now in
     let known : entry_of eq rows symbol ≡ Some (p.left, p.weight) = p.known in
     let same : ◌≡◌ {A = ℕ × ℕ} (q.left, q.weight) (p.left, p.weight) = some-inj _ _ (sym q.known ∙ p.known) in
     let lefts : q.left ≡ p.left = ap (λ (x : ℕ × ℕ). x.0) same in

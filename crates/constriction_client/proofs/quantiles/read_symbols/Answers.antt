@@ -6,14 +6,14 @@ pub loop-done-init : goal.loop-done-init
 loop-done-init g c = record {
   goes_on = c.requires.can_read;
   so_far =
-      read-none g.M.DecodesOver.stands_for g.row.PRECISION (g.M.DecodesOver.rows c.args.model.now) g.Word.WholeNumber.whole
+      read-none g.M.DecoderModel.stands_for g.row.PRECISION (g.M.EntropyModel.rows c.args.model.now) g.M.Probability.WholeNumber.whole
       g.R.ReadWords.read_gives g.R.ReadWords.tells_upcoming g.met.R.ReadWords.reads_told _ _;
 }
 
 pub returns-in-Ok-None : goal.returns-in-Ok-None
 returns-in-Ok-None g c = record {
   pairs =
-      read-to-end g.M.DecodesOver.stands_for g.row.PRECISION (g.M.DecodesOver.rows c.args.model.now) g.Word.WholeNumber.whole
+      read-to-end g.M.DecoderModel.stands_for g.row.PRECISION (g.M.EntropyModel.rows c.args.model.now) g.M.Probability.WholeNumber.whole
       g.R.ReadWords.read_gives g.R.ReadWords.tells_upcoming g.met.R.ReadWords.reads_told
       _ _ _ c.loop-done.done _ _ _ c.loop-done.invariant.so_far c.loop-done-test.true
       (rw c.in-Ok-None.field-0-is at c.in-Ok-None.ensures.gives);
@@ -23,7 +23,7 @@ returns-in-Ok-None g c = record {
 pub returns-in-Err : goal.returns-in-Err
 returns-in-Err g c = record {
   pairs =
-      read-failed g.M.DecodesOver.stands_for g.row.PRECISION (g.M.DecodesOver.rows c.args.model.now) g.Word.WholeNumber.whole
+      read-failed g.M.DecoderModel.stands_for g.row.PRECISION (g.M.EntropyModel.rows c.args.model.now) g.M.Probability.WholeNumber.whole
       g.R.ReadWords.read_gives g.R.ReadWords.tells_upcoming g.met.R.ReadWords.reads_told
       _ _ _ _ _ _ _ _ c.loop-done.invariant.so_far c.loop-done-test.true c.in-Err.ensures.gives;
   goes_on = c.read.ensures.goes_on;
@@ -32,7 +32,7 @@ returns-in-Err g c = record {
 pub returns-in-Err-pair_of : goal.returns-in-Err-pair_of
 returns-in-Err-pair_of g c = record {
   pairs =
-      read-fault g.M.DecodesOver.stands_for g.row.PRECISION (g.M.DecodesOver.rows c.args.model.now) g.Word.WholeNumber.whole
+      read-fault g.M.DecoderModel.stands_for g.row.PRECISION (g.M.EntropyModel.rows c.args.model.now) g.M.Probability.WholeNumber.whole
       g.R.ReadWords.read_gives g.R.ReadWords.tells_upcoming g.met.R.ReadWords.reads_told
       _ _ _ _ _ c.in-Ok-Some.word _ _ _ c.loop-done.invariant.so_far c.loop-done-test.true
       (rw c.in-Ok-Some.field-0-is at c.in-Ok-Some.ensures.gives) c.in-Err-pair_of.ensures.err;
@@ -43,7 +43,7 @@ pub returns-in-Err-push : goal.returns-in-Err-push
 returns-in-Err-push g c = record {
   pairs =
       rw c.in-Err-push.ensures.items
-      (read-fault g.M.DecodesOver.stands_for g.row.PRECISION (g.M.DecodesOver.rows c.args.model.now) g.Word.WholeNumber.whole
+      (read-fault g.M.DecoderModel.stands_for g.row.PRECISION (g.M.EntropyModel.rows c.args.model.now) g.M.Probability.WholeNumber.whole
       g.R.ReadWords.read_gives g.R.ReadWords.tells_upcoming g.met.R.ReadWords.reads_told
       _ _ _ _ _ c.in-Ok-Some.word _ _ _ c.loop-done.invariant.so_far c.loop-done-test.true
       (rw c.in-Ok-Some.field-0-is at c.in-Ok-Some.ensures.gives) c.in-Ok.ensures.in_range);
@@ -54,7 +54,7 @@ pub loop-done-preserved : goal.loop-done-preserved
 loop-done-preserved g c = record {
   goes_on = c.read.ensures.goes_on;
   so_far =
-      read-more g.M.DecodesOver.stands_for g.row.PRECISION (g.M.DecodesOver.rows c.args.model.now) g.Word.WholeNumber.whole
+      read-more g.M.DecoderModel.stands_for g.row.PRECISION (g.M.EntropyModel.rows c.args.model.now) g.M.Probability.WholeNumber.whole
       g.R.ReadWords.read_gives g.R.ReadWords.tells_upcoming g.met.R.ReadWords.reads_told
       _ _ _ _ _ c.in-Ok-Some.word c.in-Ok.pair _ _ c.loop-done.invariant.so_far
       (rw c.in-Ok-Some.field-0-is at c.in-Ok-Some.ensures.gives) c.in-Ok.ensures.in_range c.in-Ok.ensures.ok
@@ -64,7 +64,7 @@ loop-done-preserved g c = record {
 pub returns : goal.returns
 returns g c = record {
   pairs =
-      read-all g.M.DecodesOver.stands_for g.row.PRECISION (g.M.DecodesOver.rows c.args.model.now) g.Word.WholeNumber.whole
+      read-all g.M.DecoderModel.stands_for g.row.PRECISION (g.M.EntropyModel.rows c.args.model.now) g.M.Probability.WholeNumber.whole
       g.R.ReadWords.read_gives g.R.ReadWords.tells_upcoming g.met.R.ReadWords.reads_told
       _ _ c.args.count c.loop-done.done _ _ c.loop-done.invariant.so_far (omega (arith, c.loop-done.auto.done-end, c.loop-done-test.false));
   goes_on = c.loop-done.invariant.goes_on;

@@ -5,6 +5,6 @@ use Rattle.constriction_client.proofs.quantiles.read_symbols.Given as goal
 abbrev pub invariant-loop-done : goal.invariant-loop-done
 invariant-loop-done g l = record {
   goes_on : g.R.ReadWords.can_read l.source;
-  so_far : HasRead g.M.DecodesOver.stands_for g.row.PRECISION (g.M.DecodesOver.rows l.model) g.Word.WholeNumber.whole g.R.ReadWords.read_gives
+  so_far : HasRead g.M.DecoderModel.stands_for g.row.PRECISION (g.M.EntropyModel.rows l.model) g.M.Probability.WholeNumber.whole g.R.ReadWords.read_gives
       g.R.ReadWords.tells_upcoming l.initial.source l.initial.out.items l.done l.source l.out.items;
 }

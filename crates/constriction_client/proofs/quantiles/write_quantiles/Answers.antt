@@ -6,7 +6,7 @@ pub returns-in-Err : goal.returns-in-Err
 returns-in-Err g c = record {
   ok = tt;
   err =
-      stopped-at-fault (entry_of g.E.EncodesOver.symbol_eq (g.E.EncodesOver.rows c.args.encoder.now)) g.Word.WholeNumber.whole
+      stopped-at-fault (entry_of g.E.EncoderModel.symbol_eq (g.E.EntropyModel.rows c.args.encoder.now)) g.E.Probability.WholeNumber.whole
       g.W.WriteWords.write_gives g.W.WriteWords.tells_written g.met.W.WriteWords.writes_told
       c.args.items.now c.loop-item.item-index c.item-item.result _ _ _
       c.loop-item-test.true c.item-item.is c.loop-item.invariant.so_far c.in-Err.ensures.err;
@@ -17,7 +17,7 @@ pub returns-in-Err-write : goal.returns-in-Err-write
 returns-in-Err-write g c = record {
   ok = tt;
   err =
-      stopped-at-refusal (entry_of g.E.EncodesOver.symbol_eq (g.E.EncodesOver.rows c.args.encoder.now)) g.Word.WholeNumber.whole
+      stopped-at-refusal (entry_of g.E.EncoderModel.symbol_eq (g.E.EntropyModel.rows c.args.encoder.now)) g.E.Probability.WholeNumber.whole
       g.W.WriteWords.write_gives g.W.WriteWords.tells_written g.met.W.WriteWords.writes_told
       c.args.items.now c.loop-item.item-index c.item-item.result c.in-Ok.word _ _ _ _
       c.loop-item-test.true c.item-item.is c.loop-item.invariant.so_far c.in-Ok.ensures.ok c.in-Err-write.ensures.gives;
@@ -28,7 +28,7 @@ pub loop-item-preserved : goal.loop-item-preserved
 loop-item-preserved g c = record {
   goes_on = c.write.ensures.goes_on;
   so_far =
-      wrote-more (entry_of g.E.EncodesOver.symbol_eq (g.E.EncodesOver.rows c.args.encoder.now)) g.Word.WholeNumber.whole
+      wrote-more (entry_of g.E.EncoderModel.symbol_eq (g.E.EntropyModel.rows c.args.encoder.now)) g.E.Probability.WholeNumber.whole
       g.W.WriteWords.write_gives g.W.WriteWords.tells_written g.met.W.WriteWords.writes_told
       c.args.items.now c.loop-item.item-index c.item-item.result c.in-Ok.word _ _ _
       c.loop-item-test.true c.item-item.is c.loop-item.invariant.so_far c.in-Ok.ensures.ok c.in-Ok-write.ensures.gives;
@@ -37,7 +37,7 @@ loop-item-preserved g c = record {
 pub returns : goal.returns
 returns g c = record {
   ok =
-      wrote-all (entry_of g.E.EncodesOver.symbol_eq (g.E.EncodesOver.rows c.args.encoder.now)) g.Word.WholeNumber.whole
+      wrote-all (entry_of g.E.EncoderModel.symbol_eq (g.E.EntropyModel.rows c.args.encoder.now)) g.E.Probability.WholeNumber.whole
       g.W.WriteWords.write_gives g.W.WriteWords.tells_written g.met.W.WriteWords.writes_told
       c.args.items.now c.loop-item.item-index _ _ c.loop-item-test.false c.loop-item.invariant.so_far;
   err = tt;

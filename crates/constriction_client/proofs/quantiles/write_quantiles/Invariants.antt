@@ -7,6 +7,6 @@ use Rattle.constriction_client.proofs.quantiles.write_quantiles.Given as goal
 abbrev pub invariant-loop-item : goal.invariant-loop-item
 invariant-loop-item g l = record {
   goes_on : g.W.WriteWords.can_write l.sink;
-  so_far : WritesItems (entry_of g.E.EncodesOver.symbol_eq (g.E.EncodesOver.rows l.encoder)) g.Word.WholeNumber.whole
+  so_far : WritesItems (entry_of g.E.EncoderModel.symbol_eq (g.E.EntropyModel.rows l.encoder)) g.E.Probability.WholeNumber.whole
       g.W.WriteWords.write_gives g.W.WriteWords.tells_written (take l.item-index l.items) l.initial.sink l.sink;
 }

@@ -7,7 +7,7 @@ use Rattle.constriction_client.proofs.queries.answer_queries.Given as goal
 -- the replies so far
 abbrev pub invariant-loop-query : goal.invariant-loop-query
 invariant-loop-query g l =
-    let whole = g.Word.WholeNumber.whole in
-    StandForReplies g.D.DecodesOver.stands_for (map (in_numbers whole g.Word.WholeNumber.base) l.replies.items)
-    (replies_of_two g.row.PRECISION whole (g.D.DecodesOver.rows l.form)
-    (entry_of g.E.EncodesOver.symbol_eq (g.E.EncodesOver.rows l.encoder)) (take l.query-index l.queries))
+    let whole = g.D.Probability.WholeNumber.whole in
+    StandForReplies g.D.DecoderModel.stands_for (map (in_numbers whole g.D.Probability.WholeNumber.base) l.replies.items)
+    (replies_of_two g.row.PRECISION whole (g.D.EntropyModel.rows l.form)
+    (entry_of g.E.EncoderModel.symbol_eq (g.E.EntropyModel.rows l.encoder)) (take l.query-index l.queries))

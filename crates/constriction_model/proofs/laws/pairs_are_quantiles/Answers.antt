@@ -3,5 +3,5 @@ use Rattle.constriction_model.proofs.laws.pairs_are_quantiles.Goals as goal
 
 pub returns : goal.returns
 returns g c =
-    pairs-are-quantiles g.E.EncodesOver.symbol_eq g.D.Probability.WholeNumber.BITS g.row.PRECISION g.D.EntropyModel.rows
-    g.E.EncodesOver.rows g.met.D.DecoderModel.tile_law g.met.E.EncodesOver.equality_law
+    pairs-are-quantiles g.E.EncoderModel.symbol_eq g.D.Probability.WholeNumber.BITS g.row.PRECISION g.D.EntropyModel.rows
+    g.E.EntropyModel.rows g.met.D.DecoderModel.tile_law g.met.E.EncoderModel.equality_law

@@ -13,12 +13,12 @@ returns-clause-answers g c =
       walk = leaves.1;
       rows = leaves.2;
       replies =
-          c.in_ok-replies.ensures.of_one (λ s. c.requires.alike s ∙ sym (entries-after g.Symbol.Clone.is_clone g.E.EncodesOver.symbol_eq
-          g.met.E.EncodesOver.equality_law c.requires.equal c.args.steps.now _ _ c.in_ok-converted.ensures.rows s));
+          c.in_ok-replies.ensures.of_one (λ s. c.requires.alike s ∙ sym (entries-after g.Symbol.Clone.is_clone g.E.EncoderModel.symbol_eq
+          g.met.E.EncoderModel.equality_law c.requires.equal c.args.steps.now _ _ c.in_ok-converted.ensures.rows s));
       exact = λ walks same. (
         c.in_ok-converted.ensures.exact same,
         c.in_ok-replies.ensures.ok.exact same
-            ∙ scan-of-rows g.row.PRECISION g.Probability.WholeNumber.whole g.E.EncodesOver.symbol_eq _ _ _ c.args.queries.now
+            ∙ scan-of-rows g.row.PRECISION g.Probability.WholeNumber.whole g.E.EncoderModel.symbol_eq _ _ _ c.args.queries.now
             (c.in_ok-converted.ensures.exact same) c.requires.alike,
       );
     }

@@ -9,7 +9,7 @@ invariant-loop-done g l = record {
   goes_on : g.Backend.ReadWords.can_read l.self.words;
   counted : length l.symbols.items ≡ l.done;
   room : l.count ≤ vec_capacity l.symbols;
-  so_far : InTurn (IsDecoded g.D.DecodesOver.stands_for (g.D.DecodesOver.rows l.model) g.row.PRECISION) l.symbols.items
+  so_far : InTurn (IsDecoded g.D.DecoderModel.stands_for (g.D.EntropyModel.rows l.model) g.row.PRECISION) l.symbols.items
       (content l.initial.self.state (g.Backend.WordStack.words_of l.initial.self.words))
       (content l.self.state (g.Backend.WordStack.words_of l.self.words));
 }

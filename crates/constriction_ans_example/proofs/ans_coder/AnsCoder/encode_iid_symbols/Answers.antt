@@ -11,7 +11,7 @@ turns-init g c =
       next = ends.0;
       ends = ends.1;
       so_far =
-          given-none g.I.IntoIter.Iterator.next_gives (entry_of g.E.EncodesOver.symbol_eq (g.E.EncodesOver.rows c.args.model.now))
+          given-none g.I.IntoIter.Iterator.next_gives (entry_of g.E.EncoderModel.symbol_eq (g.E.EntropyModel.rows c.args.model.now))
           g.row.PRECISION
           c.into_iter-given.result (content c.args.self.now.state (g.Backend.WordStack.words_of c.args.self.now.words));
     }
@@ -24,7 +24,7 @@ turns-preserved g c =
       next = goes.0;
       ends = goes.1;
       so_far =
-          given-more g.I.IntoIter.Iterator.next_gives (entry_of g.E.EncodesOver.symbol_eq (g.E.EncodesOver.rows c.args.model.now))
+          given-more g.I.IntoIter.Iterator.next_gives (entry_of g.E.EncoderModel.symbol_eq (g.E.EntropyModel.rows c.args.model.now))
           g.row.PRECISION
           _ c.turns.given c.next.new.self c.in-Some.symbol _ _ _ c.turns.invariant.so_far c.in-Some.ensures.steps
           c.in-Ok.ensures.ok;
@@ -34,7 +34,7 @@ pub returns-clause-ok : goal.returns-clause-ok
 returns-clause-ok g c = (
   c.into_iter-given.result,
   c.into_iter-given.ensures.into_iter_gives,
-  given-all g.I.IntoIter.Iterator.next_gives (entry_of g.E.EncodesOver.symbol_eq (g.E.EncodesOver.rows c.args.model.now)) g.row.PRECISION
+  given-all g.I.IntoIter.Iterator.next_gives (entry_of g.E.EncoderModel.symbol_eq (g.E.EntropyModel.rows c.args.model.now)) g.row.PRECISION
       _ c.turns.given c.next.new.self _ _ c.turns.invariant.so_far c.in_default.ensures.steps,
 )
 
@@ -42,7 +42,7 @@ pub returns-in-Err-clause-err : goal.returns-in-Err-clause-err
 returns-in-Err-clause-err g c = (
   c.into_iter-given.result,
   c.into_iter-given.ensures.into_iter_gives,
-  given-stops g.I.IntoIter.Iterator.next_gives (entry_of g.E.EncodesOver.symbol_eq (g.E.EncodesOver.rows c.args.model.now)) g.row.PRECISION
+  given-stops g.I.IntoIter.Iterator.next_gives (entry_of g.E.EncoderModel.symbol_eq (g.E.EntropyModel.rows c.args.model.now)) g.row.PRECISION
       g.Backend.WordStack.words_of g.Backend.WriteWords.write_gives _ c.turns.given c.next.new.self c.in-Some.symbol
       (content c.args.self.now.state (g.Backend.WordStack.words_of c.args.self.now.words)) c.turns.self.state c.turns.self.words
       c.encode_symbol.new.self.state c.encode_symbol.new.self.words c.in-Err.error c.in-Err.ensures.state c.in-Err.ensures.words

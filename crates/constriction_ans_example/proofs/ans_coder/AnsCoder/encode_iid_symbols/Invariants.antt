@@ -10,7 +10,7 @@ invariant-turns g l = record {
   goes_on : g.Backend.WriteWords.can_write l.self.words;
   next : g.I.IntoIter.Iterator.can_next l.given;
   ends : IsFinite (g.I.IntoIter.Iterator.remaining l.given);
-  so_far : GivenSoFar g.I.IntoIter.Iterator.next_gives (entry_of g.E.EncodesOver.symbol_eq (g.E.EncodesOver.rows l.model)) g.row.PRECISION
+  so_far : GivenSoFar g.I.IntoIter.Iterator.next_gives (entry_of g.E.EncoderModel.symbol_eq (g.E.EntropyModel.rows l.model)) g.row.PRECISION
       l.initial.given l.given (content l.initial.self.state (g.Backend.WordStack.words_of l.initial.self.words))
       (content l.self.state (g.Backend.WordStack.words_of l.self.words));
 }

@@ -10,7 +10,7 @@ returns-in-Ok-clause-ok g c =
     encoded g.row.PRECISION c.in-Some.left c.get-weight.result c.in-Ok.kept c.with_entry-self.result 0
     (g.Backend.WordStack.words_of c.with_room.new.words)
     (content c.args.self.now.state (g.Backend.WordStack.words_of c.args.self.now.words))
-    (entry_of g.E.EncodesOver.symbol_eq (g.E.EncodesOver.rows c.args.model.now))
+    (entry_of g.E.EncoderModel.symbol_eq (g.E.EntropyModel.rows c.args.model.now))
     c.args.symbol.now (omega (arith, c.get-weight.ensures.nonzero)) (rw weight_is c.in-Some.ensures.within.1)
     (rw weight_is (sym c.in-Some.ensures.entry)) c.with_entry-self.ensures c.in-Ok.ensures.ok
 

@@ -8,14 +8,14 @@ pub loop-symbol-preserved : goal.loop-symbol-preserved
 loop-symbol-preserved g c = record {
   goes_on = c.encode_symbol.ensures.goes_on;
   so_far =
-      turn-first (IsEncoded (entry_of g.E.EncodesOver.symbol_eq (g.E.EncodesOver.rows c.args.model.now)) g.row.PRECISION)
+      turn-first (IsEncoded (entry_of g.E.EncoderModel.symbol_eq (g.E.EntropyModel.rows c.args.model.now)) g.row.PRECISION)
       c.args.symbols.now c.loop-symbol.symbol-index c.symbol-item.result _ _ _ c.loop-symbol-test.true c.symbol-item.is
       c.in-Ok.ensures.ok c.loop-symbol.invariant.so_far;
 }
 
 pub returns-in-Err-clause-err : goal.returns-in-Err-clause-err
 returns-in-Err-clause-err g c =
-    encoding-stops g.Backend.WordStack.words_of (entry_of g.E.EncodesOver.symbol_eq (g.E.EncodesOver.rows c.args.model.now))
+    encoding-stops g.Backend.WordStack.words_of (entry_of g.E.EncoderModel.symbol_eq (g.E.EntropyModel.rows c.args.model.now))
     g.Backend.WriteWords.write_gives g.row.PRECISION _ c.loop-symbol.self.state c.loop-symbol.self.words c.encode_symbol.new.self.state
     c.encode_symbol.new.self.words c.in-Err.ensures.state c.in-Err.ensures.words
     c.args.symbols.now c.loop-symbol.symbol-index c.symbol-item.result c.in-Err.error c.loop-symbol-test.true c.symbol-item.is

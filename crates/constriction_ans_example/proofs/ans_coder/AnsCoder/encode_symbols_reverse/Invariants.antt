@@ -9,7 +9,7 @@ abbrev pub invariant-loop-done : goal.invariant-loop-done
 invariant-loop-done g l = record {
   goes_on : g.Backend.WriteWords.can_write l.self.words;
   counted : l.count ≡ length l.symbols;
-  so_far : InTurn (IsEncoded (entry_of g.E.EncodesOver.symbol_eq (g.E.EncodesOver.rows l.model)) g.row.PRECISION)
+  so_far : InTurn (IsEncoded (entry_of g.E.EncoderModel.symbol_eq (g.E.EntropyModel.rows l.model)) g.row.PRECISION)
       (drop (length l.symbols - l.done) l.symbols) (content l.self.state (g.Backend.WordStack.words_of l.self.words))
       (content l.initial.self.state (g.Backend.WordStack.words_of l.initial.self.words));
 }

@@ -11,7 +11,7 @@ pub returns-then-range-clause-ok : goal.returns-then-range-clause-ok
 returns-then-range-clause-ok g c =
     let row = c.in-Ok.ensures.row in
     let weight_is = c.get.ensures.value in
-    read_wide g.D.DecodesOver.stands_for (g.D.DecodesOver.rows c.args.model.now) g.Source.ReadWords.read_gives g.row.PRECISION row.0
+    read_wide g.D.DecoderModel.stands_for (g.D.EntropyModel.rows c.args.model.now) g.Source.ReadWords.read_gives g.row.PRECISION row.0
     c.in-Ok.symbol c.args.self.now.range c.args.self.now.offset c.unit_of-unit.result c.in-Ok.left c.get.result c.in-Some.quantile
     c.args.self.now.words c.args.self.now.words c.unit_of-unit.ensures.value (rw weight_is row.2) row.1 c.part_of-range.ensures.low
     c.part_of-range.ensures.high c.part_of-range.result.0 c.part_of-range.result.1 c.part_of-range.ensures.range
@@ -34,7 +34,7 @@ returns-in-Ok-next_or_zero-clause-ok g c =
     let row = c.in-Ok.ensures.row in
     let weight_is = c.get.ensures.value in
     let read = c.in-Ok-next_or_zero.ensures.ok in
-    read_small g.D.DecodesOver.stands_for (g.D.DecodesOver.rows c.args.model.now) g.Source.ReadWords.read_gives g.row.PRECISION row.0
+    read_small g.D.DecoderModel.stands_for (g.D.EntropyModel.rows c.args.model.now) g.Source.ReadWords.read_gives g.row.PRECISION row.0
     c.in-Ok.symbol c.args.self.now.range c.args.self.now.offset c.unit_of-unit.result c.in-Ok.left c.get.result c.in-Some.quantile
     c.args.self.now.words c.next_or_zero.new.source c.unit_of-unit.ensures.value (rw weight_is row.2) row.1 c.part_of-range.ensures.low
     c.part_of-range.ensures.high c.part_of-range.result.0 c.part_of-range.result.1 c.in-Ok-next_or_zero.word

@@ -16,13 +16,13 @@ loop-done-preserved g c = record {
   room = omega (arith, c.push_reserved.ensures.capacity, c.loop-done.invariant.room);
   so_far =
       rw c.push_reserved.ensures.items
-      (turn-last (IsRead g.D.DecodesOver.stands_for (g.D.DecodesOver.rows c.args.model.now) g.Source.ReadWords.read_gives g.row.PRECISION)
+      (turn-last (IsRead g.D.DecoderModel.stands_for (g.D.EntropyModel.rows c.args.model.now) g.Source.ReadWords.read_gives g.row.PRECISION)
       c.loop-done.symbols.items c.in-Ok-decode_symbol.symbol _ _ _ c.loop-done.invariant.so_far c.in-Ok-decode_symbol.ensures.ok);
 }
 
 pub returns-in-Err-clause-err : goal.returns-in-Err-clause-err
 returns-in-Err-clause-err g c =
-    reading_stops g.D.DecodesOver.stands_for g.D.DecodesOver.may_refuse (g.D.DecodesOver.rows c.args.model.now)
+    reading_stops g.D.DecoderModel.stands_for g.D.DecoderModel.may_refuse (g.D.EntropyModel.rows c.args.model.now)
     g.Source.ReadWords.read_gives g.row.PRECISION _ c.loop-done.self.range c.loop-done.self.offset c.loop-done.self.words
     c.decode_symbol.new.self.range c.decode_symbol.new.self.offset c.decode_symbol.new.self.words c.in-Err.ensures.range
     c.in-Err.ensures.offset c.loop-done.symbols.items c.args.count c.in-Err.error

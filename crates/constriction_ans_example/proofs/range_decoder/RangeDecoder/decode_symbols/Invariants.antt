@@ -9,7 +9,7 @@ invariant-loop-done g l = record {
   goes_on : g.Source.ReadWords.can_read l.self.words;
   counted : length l.symbols.items ≡ l.done;
   room : l.count ≤ vec_capacity l.symbols;
-  so_far : InTurn (IsRead g.D.DecodesOver.stands_for (g.D.DecodesOver.rows l.model) g.Source.ReadWords.read_gives g.row.PRECISION)
+  so_far : InTurn (IsRead g.D.DecoderModel.stands_for (g.D.EntropyModel.rows l.model) g.Source.ReadWords.read_gives g.row.PRECISION)
       l.symbols.items (held_of l.initial.self.range l.initial.self.offset l.initial.self.words)
       (held_of l.self.range l.self.offset l.self.words);
 }

@@ -8,35 +8,35 @@ use Rattle.constriction_client.proofs.laws.round_trips.there_and_back_in_a_curso
 pub read_back-requires-clause-come : goal.read_back-requires-clause-come
 read_back-requires-clause-come g c =
     let back = c.in-Ok.ensures.ok in
-    let entry = entry_of g.E.EncodesOver.symbol_eq (g.E.EncodesOver.rows c.args.encoder.now) in
+    let entry = entry_of g.E.EncoderModel.symbol_eq (g.E.EntropyModel.rows c.args.encoder.now) in
     record {
       words = back.placed.words;
       next =
-          come-next entry g.Word.WholeNumber.whole g.Buf.SafeBufMut.with_words c.args.cursor.now c.args.items.now
+          come-next entry g.D.Probability.WholeNumber.whole g.Buf.SafeBufMut.with_words c.args.cursor.now c.args.items.now
           c.write_and_go_back.new.cursor back;
-      many = as-many entry g.Word.WholeNumber.whole c.args.items.now back.placed.words back.placed.quantiles;
+      many = as-many entry g.D.Probability.WholeNumber.whole c.args.items.now back.placed.words back.placed.quantiles;
       in_range =
-          quantiles-below g.E.EncodesOver.symbol_eq g.Word.WholeNumber.whole g.row.PRECISION
-          (g.E.EncodesOver.rows c.args.encoder.now) c.args.items.now back.placed.words
-          (g.met.E.EncodesOver.within_law c.args.encoder.now) back.placed.quantiles;
+          quantiles-below g.E.EncoderModel.symbol_eq g.D.Probability.WholeNumber.whole g.row.PRECISION
+          (g.E.EntropyModel.rows c.args.encoder.now) c.args.items.now back.placed.words
+          (g.met.E.EncoderModel.within_law c.args.encoder.now) back.placed.quantiles;
     }
 
 pub returns-in-Ok-read_back : goal.returns-in-Ok-read_back
 returns-in-Ok-read_back g c =
     let back = c.in-Ok.ensures.ok in
-    let entry = entry_of g.E.EncodesOver.symbol_eq (g.E.EncodesOver.rows c.args.encoder.now) in
+    let entry = entry_of g.E.EncoderModel.symbol_eq (g.E.EntropyModel.rows c.args.encoder.now) in
     let read = c.in-Ok-read_back.ensures.ok back.placed.words
-    (come-next entry g.Word.WholeNumber.whole g.Buf.SafeBufMut.with_words c.args.cursor.now c.args.items.now
+    (come-next entry g.D.Probability.WholeNumber.whole g.Buf.SafeBufMut.with_words c.args.cursor.now c.args.items.now
     c.write_and_go_back.new.cursor back)
-    (as-many entry g.Word.WholeNumber.whole c.args.items.now back.placed.words back.placed.quantiles) in
+    (as-many entry g.D.Probability.WholeNumber.whole c.args.items.now back.placed.words back.placed.quantiles) in
     record {
       ok =
-          stand-back g.D.DecodesOver.stands_for g.E.EncodesOver.symbol_eq g.met.E.EncodesOver.equality_law entry g.Word.WholeNumber.whole
-          g.Word.WholeNumber.BITS g.row.PRECISION (g.D.DecodesOver.rows c.args.decoder.now) c.args.items.now
-          c.in-Ok-read_back.pairs.items back.placed.words (g.met.D.DecodesOver.tile_law c.args.decoder.now)
-          g.met.Word.WholeNumber.same_law c.requires.alike back.placed.quantiles read.0;
+          stand-back g.D.DecoderModel.stands_for g.E.EncoderModel.symbol_eq g.met.E.EncoderModel.equality_law entry g.D.Probability.WholeNumber.whole
+          g.D.Probability.WholeNumber.BITS g.row.PRECISION (g.D.EntropyModel.rows c.args.decoder.now) c.args.items.now
+          c.in-Ok-read_back.pairs.items back.placed.words (g.met.D.DecoderModel.tile_law c.args.decoder.now)
+          g.met.D.Probability.WholeNumber.same_law c.requires.alike back.placed.quantiles read.0;
       placed =
-          placed-again entry g.Word.WholeNumber.whole g.Buf.SafeBufMut.with_words c.args.cursor.now c.args.items.now Infallible back.reached
+          placed-again entry g.D.Probability.WholeNumber.whole g.Buf.SafeBufMut.with_words c.args.cursor.now c.args.items.now Infallible back.reached
           c.write_and_go_back.new.cursor c.read_back.new.source back.placed back.buf back.pos read.1;
       err = tt;
     }

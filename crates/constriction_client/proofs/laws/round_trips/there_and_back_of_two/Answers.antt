@@ -14,36 +14,36 @@ returns-in-Err g c = record {
 pub read_back-requires-clause-come : goal.read_back-requires-clause-come
 read_back-requires-clause-come g c =
     let wrote = c.in-Ok.ensures.ok in
-    let entry = entry_of g.E.EncodesOver.symbol_eq (g.E.EncodesOver.rows c.args.encoder.now) in
+    let entry = entry_of g.E.EncoderModel.symbol_eq (g.E.EntropyModel.rows c.args.encoder.now) in
     let stored : wrote.words ≡ c.write_quantiles.new.sink.items = wrote.told [] (sym c.new-words.ensures.items) in
     record {
       words = reverse wrote.words;
       next = record { rest = []; told = append-nil (reverse wrote.words) ∙ ap reverse stored };
       many =
           length-reverse wrote.words
-          ∙ as-many entry g.Word.WholeNumber.whole c.args.items.now wrote.words wrote.quantiles;
+          ∙ as-many entry g.D.Probability.WholeNumber.whole c.args.items.now wrote.words wrote.quantiles;
       in_range =
-          quantiles-below g.E.EncodesOver.symbol_eq g.Word.WholeNumber.whole g.row.PRECISION
-          (g.E.EncodesOver.rows c.args.encoder.now) (reverse c.args.items.now) (reverse wrote.words)
-          (g.met.E.EncodesOver.within_law c.args.encoder.now)
-          (AllZip-reverse (λ item word. IsQuantileOf entry g.Word.WholeNumber.whole item (g.Word.WholeNumber.whole word))
+          quantiles-below g.E.EncoderModel.symbol_eq g.D.Probability.WholeNumber.whole g.row.PRECISION
+          (g.E.EntropyModel.rows c.args.encoder.now) (reverse c.args.items.now) (reverse wrote.words)
+          (g.met.E.EncoderModel.within_law c.args.encoder.now)
+          (AllZip-reverse (λ item word. IsQuantileOf entry g.D.Probability.WholeNumber.whole item (g.D.Probability.WholeNumber.whole word))
           c.args.items.now wrote.words wrote.quantiles);
     }
 
 pub returns-in-Ok-read_back : goal.returns-in-Ok-read_back
 returns-in-Ok-read_back g c =
     let wrote = c.in-Ok.ensures.ok in
-    let entry = entry_of g.E.EncodesOver.symbol_eq (g.E.EncodesOver.rows c.args.encoder.now) in
+    let entry = entry_of g.E.EncoderModel.symbol_eq (g.E.EntropyModel.rows c.args.encoder.now) in
     let stored : wrote.words ≡ c.write_quantiles.new.sink.items = wrote.told [] (sym c.new-words.ensures.items) in
     record {
       ok =
-          stand-back-reversed g.D.DecodesOver.stands_for g.E.EncodesOver.symbol_eq g.met.E.EncodesOver.equality_law entry
-          g.Word.WholeNumber.whole g.Word.WholeNumber.BITS g.row.PRECISION (g.D.DecodesOver.rows c.args.decoder.now) c.args.items.now
-          c.in-Ok-read_back.pairs.items wrote.words (g.met.D.DecodesOver.tile_law c.args.decoder.now) g.met.Word.WholeNumber.same_law
+          stand-back-reversed g.D.DecoderModel.stands_for g.E.EncoderModel.symbol_eq g.met.E.EncoderModel.equality_law entry
+          g.D.Probability.WholeNumber.whole g.D.Probability.WholeNumber.BITS g.row.PRECISION (g.D.EntropyModel.rows c.args.decoder.now) c.args.items.now
+          c.in-Ok-read_back.pairs.items wrote.words (g.met.D.DecoderModel.tile_law c.args.decoder.now) g.met.D.Probability.WholeNumber.same_law
           c.requires.alike wrote.quantiles
           (c.in-Ok-read_back.ensures.ok (reverse wrote.words)
           (record { rest = []; told = append-nil (reverse wrote.words) ∙ ap reverse stored })
           (length-reverse wrote.words
-          ∙ as-many entry g.Word.WholeNumber.whole c.args.items.now wrote.words wrote.quantiles)).0;
+          ∙ as-many entry g.D.Probability.WholeNumber.whole c.args.items.now wrote.words wrote.quantiles)).0;
       fault = λ fault e. absurd (cc);
     }

@@ -8,7 +8,7 @@ returns-in-Err-Frontend g c = record {
   ok = tt;
   err =
       fault-placed g.Buf.SafeBufMut.with_words
-      (entry_of g.E.EncodesOver.symbol_eq (g.E.EncodesOver.rows c.args.encoder.now)) g.Word.WholeNumber.whole
+      (entry_of g.E.EncoderModel.symbol_eq (g.E.EntropyModel.rows c.args.encoder.now)) g.E.Probability.WholeNumber.whole
       _ c.extending_overwrites.ensures c.args.cursor.now c.args.items.now c.write_quantiles.new.sink
       c.in-Err-Frontend.fault (rw c.in-Err-Frontend.field-0-is at c.in-Err-Frontend.ensures.err);
 }
@@ -18,7 +18,7 @@ returns-in-Err-Backend g c = record {
   ok = tt;
   err =
       full-placed g.Buf.SafeBufMut.with_words
-      (entry_of g.E.EncodesOver.symbol_eq (g.E.EncodesOver.rows c.args.encoder.now)) g.Word.WholeNumber.whole
+      (entry_of g.E.EncoderModel.symbol_eq (g.E.EntropyModel.rows c.args.encoder.now)) g.E.Probability.WholeNumber.whole
       _ c.extending_overwrites.ensures c.args.cursor.now c.args.items.now c.write_quantiles.new.sink
       c.in-Err-Backend.full (rw c.in-Err-Backend.field-0-is at c.in-Err-Backend.ensures.err);
 }
@@ -26,9 +26,9 @@ returns-in-Err-Backend g c = record {
 pub unreachable-requires : goal.unreachable-requires
 unreachable-requires g c =
     let placed = items-placed g.Buf.SafeBufMut.with_words
-    (entry_of g.E.EncodesOver.symbol_eq (g.E.EncodesOver.rows c.args.encoder.now)) g.Word.WholeNumber.whole
+    (entry_of g.E.EncoderModel.symbol_eq (g.E.EntropyModel.rows c.args.encoder.now)) g.E.Probability.WholeNumber.whole
     _ c.extending_overwrites.ensures c.args.cursor.now c.args.items.now c.write_quantiles.new.sink c.in-Ok.ensures.ok in
-    let fits = in-range (entry_of g.E.EncodesOver.symbol_eq (g.E.EncodesOver.rows c.args.encoder.now)) g.Word.WholeNumber.whole
+    let fits = in-range (entry_of g.E.EncoderModel.symbol_eq (g.E.EntropyModel.rows c.args.encoder.now)) g.E.Probability.WholeNumber.whole
     g.Buf.SafeBufMut.with_words c.args.cursor.now c.args.items.now c.write_quantiles.new.sink c.write_quantiles.new.sink
     placed g.met.Buf.SafeBufMut.keeps_length in
     omega (arith, fits, c.pos-start.ensures, c.in-Err.ensures.gives.0)
@@ -39,7 +39,7 @@ returns g c = record {
     reached = c.write_quantiles.new.sink;
     placed =
         items-placed g.Buf.SafeBufMut.with_words
-        (entry_of g.E.EncodesOver.symbol_eq (g.E.EncodesOver.rows c.args.encoder.now)) g.Word.WholeNumber.whole
+        (entry_of g.E.EncoderModel.symbol_eq (g.E.EntropyModel.rows c.args.encoder.now)) g.E.Probability.WholeNumber.whole
         _ c.extending_overwrites.ensures c.args.cursor.now c.args.items.now c.write_quantiles.new.sink c.in-Ok.ensures.ok;
     buf = c.in-Ok-seek.ensures.gives.1;
     pos = c.in-Ok-seek.ensures.gives.2 ∙ c.pos-start.ensures;
