@@ -2,7 +2,7 @@
 //! words as a cursor in the `reversal` of the state does. Of reads, which are the backend's own, the law `reversal_reads` says so.
 
 ghost use Rattle.std.specs.Prelude.{◌≡◌, ◌<◌, ◌↔◌, refl, true, length, reverse, IsOk};
-ghost use Rattle.std.proofs.Common.{ap, sym, ◌∙◌};
+ghost use Rattle.std.proofs.Common.{sym, ◌∙◌};
 ghost use Rattle.std.proofs.lemmas.List.{reverse-reverse};
 ghost use Rattle.constriction_backends.specs.Cursor.{pos_of, state_of, PutsAt, TurnsRound};
 ghost use Rattle.constriction_backends.specs.CursorState.{reversal, Overwrites};
@@ -12,9 +12,7 @@ ghost use Rattle.constriction_sources.specs.SinkLaws.{free_is_taken};
 use crate::cursor::Cursor;
 use crate::error::BoundedWriteError;
 use constriction_buffers::SafeBufMut;
-use constriction_sources::{
-    BoundedReadWords, BoundedWriteWords, ReadWords, StackBackend, WordStack, WriteWords,
-};
+use constriction_sources::{BoundedReadWords, BoundedWriteWords, ReadWords, WordStack, WriteWords};
 use constriction_words::{Pos, PosSeek, Queue, Seek, Stack};
 
 /// A backend whose order of reading is exchanged: a stack is read as a queue, and a queue as a
@@ -218,20 +216,18 @@ impl<Word: Drop, Buf: SafeBufMut<Word>> BoundedWriteWords<Word> for Reverse<Curs
     ghost room_counts = { λ _ h. h };
 }
 
-impl<Word: Copy, Buf: SafeBufMut<Word>> StackBackend<Word> for Reverse<Cursor<Word, Buf>> {
-    ghost written_is_upcoming = { λ s words told. ap reverse (sym told) ∙ reverse-reverse (state_of s.0).after };
-
-    ghost upcoming_is_written = { λ s words told. sym (ap reverse told) };
-
-    ghost writable_is_readable = { λ s may. may };
-
-    ghost readable_is_writable = { λ s may. may };
-}
-
 impl<Word: Copy, Buf: SafeBufMut<Word>> WordStack<Word> for Reverse<Cursor<Word, Buf>> {
     ghost words_of = { λ s. (reversal (state_of s.0)).before };
 
     ghost tells_words = { λ s. refl };
 
     ghost tells_no_others = { λ s words told. sym told };
+
+    ghost words_come = { λ s. reverse-reverse (state_of s.0).after };
+
+    ghost no_others_come = { λ s words told. told ∙ sym (reverse-reverse (state_of s.0).after) };
+
+    ghost always_writable = { λ s. tt };
+
+    ghost always_readable = { λ s. tt };
 }

@@ -35,20 +35,11 @@ pub record PushesTo {S W E : Type 0} (words : S → List W) (capacity : S → �
   pub grows : capacity old ≤ capacity new
   pub at_least : least ≤ capacity old
 
--- A read of a stack to which these words were written: the last one is answered and dropped; or nothing is, where there is none; or the
--- read fails, where there is a word, and they stay.
-abbrev pub PopsTold : {S W E : Type 0} → (S → List W → Type 0) → List W → Result (Option W) E → S → Type 0
-PopsTold {W = W} tells words r t =
-    MatchResult r
-    (λ o. MatchOption o ((words ≡ []) × tells t words) (λ w. (rest : List W) × (words ≡ rest ++ w ∷ []) × tells t rest))
-    (λ _. (words ≢ []) × tells t words)
-
--- A stack whose writes, reads and told words are these reads what was written to it.
+-- A stack whose writes, reads and words are these reads what was written to it.
 pub record ReadsWhatWasWritten {S W R E : Type 0} (writes : S → W → Result (Unit {0}) E → S → Type 0)
-    (reads : S → Result (Option W) R → S → Type 0) (tells : S → List W → Type 0) : Type 0 where
-  -- a word whose write succeeded is told after those before it
-  pub told : (old new : S) (w : W) (words : List W) → writes old w (Ok tt) new → tells old words → tells new (words ++ w ∷ [])
-  -- From any state that tells words and this word after them, the word is read, and they are told again; or the read fails, and the
-  -- word still comes after them.
-  pub read : (later new : S) (w : W) (r : Result (Option W) R) (words : List W) → tells later (words ++ w ∷ []) → reads later r new
-      → MatchResult r (λ o. (o ≡ Some w) × tells new words) (λ _. tells new (words ++ w ∷ []))
+    (reads : S → Result (Option W) R → S → Type 0) (words_of : S → List W) : Type 0 where
+  -- a word whose write succeeded stands after those before it
+  pub written : (old new : S) (w : W) → writes old w (Ok tt) new → words_of new ≡ words_of old ++ w ∷ []
+  -- From any state with this word after others, the word is read, and the others are left; or the read fails, and all are left.
+  pub read : (later new : S) (w : W) (r : Result (Option W) R) (words : List W) → words_of later ≡ words ++ w ∷ [] → reads later r new
+      → MatchResult r (λ o. (o ≡ Some w) × (words_of new ≡ words)) (λ _. words_of new ≡ words ++ w ∷ [])

@@ -3,11 +3,11 @@
 use Rattle.std.specs.Prelude.{◌≡◌, ◌≢◌, ◌↔◌, List, [], ◌∷◌, ◌++◌, ⊤, reverse, length, Option, Some, None, Result, Ok, Err, IfErr}
 use Rattle.std.specs.Prelude.{Bool, true, false, IsTrue}
 use Rattle.std.specs.Bool.{OnFalse}
-use Rattle.std.proofs.Common.{sym, ◌∙◌, ap, subst, refl}
+use Rattle.std.proofs.Common.{sym, ◌∙◌, ap}
 use Rattle.std.proofs.lemmas.List.{reverse-append, reverse-reverse, length-append, length-reverse}
 use Rattle.constriction_sources.specs.Source.{ReadsTold, CountsRead}
 use Rattle.constriction_sources.specs.Sink.{WritesTold}
-use Rattle.constriction_sources.specs.Stack.{Pops, Pushes, PopsTold, PopsOrFails}
+use Rattle.constriction_sources.specs.Stack.{Pops, Pushes, PopsOrFails}
 
 module _ {S W : Type 0} (items : S → List W) {E : Type 0} where
   -- a stack gives its words back in reverse
@@ -41,37 +41,6 @@ pub any_error : {E : Type 0} (r : Result (Unit {0}) E) → IfErr r (λ _. ⊤)
 any_error (Ok x) = tt
 any_error (Err e) = tt
 
--- a read of a stack that tells no words answers that there is none, and none are told then
-pub none_to_read : {S W E : Type 0} (upcoming written : S → List W → Type 0)
-    → ((s : S) (words : List W) → upcoming s words → written s (reverse words))
-    → (r : Result (Option W) E) (t : S) → ReadsTold upcoming [] r t → (r ≡ Ok None) × written t []
-none_to_read upcoming written upcoming_is_written (Ok None) t h = (refl, upcoming_is_written t [] h.1)
-none_to_read upcoming written upcoming_is_written (Ok (Some w)) t (rest, e, told) = absurd (let none = e in cc)
-none_to_read upcoming written upcoming_is_written (Err e) t h = absurd (h.0 refl)
-
-last_first : {W : Type 0} (words : List W) (w : W) → reverse (words ++ w ∷ []) ≡ w ∷ reverse words
-last_first words w = reverse-append words (w ∷ [])
-
-module _ {S W : Type 0} (E : Type 0) (upcoming written : S → List W → Type 0)
-    (upcoming_is_written : (s : S) (words : List W) → upcoming s words → written s (reverse words))
-    (words : List W) (w : W) (t : S) where
-  -- a read of a stack where a word was written last answers that word, and the words before it are left
-  pub read_back : (o : Option W) → (let r : Result (Option W) E = Ok o in ReadsTold upcoming (reverse (words ++ w ∷ [])) r t)
-      → (o ≡ Some w) × written t words
-  read_back None h = absurd (let e = h.0 in cc (last_first words w))
-  read_back (Some x) (rest, e, told) =
-      let same : x ≡ w = cc (last_first words w) in
-      let left : rest ≡ reverse words = cc (last_first words w) in
-      let back : reverse rest ≡ words = ap reverse left ∙ reverse-reverse words in
-      (ap Some same, subst (λ (ws : List W). written t ws) back (upcoming_is_written t rest told))
-
-  -- or it fails, and the word is still there
-  pub still_there : (e : E) → (let r : Result (Option W) E = Err e in ReadsTold upcoming (reverse (words ++ w ∷ [])) r t)
-      → written t (words ++ w ∷ [])
-  still_there e h =
-      subst (λ (ws : List W). written t ws) (reverse-reverse (words ++ w ∷ []))
-      (upcoming_is_written t (reverse (words ++ w ∷ [])) h.1)
-
 -- a stack that is not empty has words to come
 pub tells_end : {W : Type 0} (items : List W) (ended : Bool) → IsTrue ended ↔ (items ≡ [])
     → OnFalse ended ((words : List W) → words ≡ reverse items → words ≢ [])
@@ -85,36 +54,23 @@ pub always_room : (full : Bool) → OnFalse full ⊤
 always_room true = tt
 always_room false = tt
 
--- a read of a stack takes the last of the words that were written to it
-module _ {S W : Type 0} (upcoming written : S → List W → Type 0)
-    (written_is_upcoming : (s : S) (words : List W) → written s words → upcoming s (reverse words))
-    (upcoming_is_written : (s : S) (words : List W) → upcoming s words → written s (reverse words)) where
-  pub pops_written : {E : Type 0} (s : S) (r : Result (Option W) E) (t : S)
-      → ((ws : List W) → upcoming s ws → ReadsTold upcoming ws r t) → (words : List W) → written s words → PopsTold written words r t
-  pops_written s (Ok None) t reads words told =
-      let read = reads (reverse words) (written_is_upcoming s words told) in
-      let none : words ≡ [] = sym (reverse-reverse words) ∙ ap reverse read.0 in
-      (none, subst (λ (ws : List W). written t ws) (sym none) (upcoming_is_written t [] read.1))
-  pops_written s (Ok (Some w)) t reads words told =
-      let read = reads (reverse words) (written_is_upcoming s words told) in (
-        reverse read.0,
-        sym (reverse-reverse words) ∙ ap reverse read.1 ∙ reverse-append (w ∷ []) read.0,
-        upcoming_is_written t read.0 read.2,
-      )
-  pops_written s (Err e) t reads words told =
-      let read = reads (reverse words) (written_is_upcoming s words told) in (
-        λ none. read.0 (ap reverse none),
-        subst (λ (ws : List W). written t ws) (reverse-reverse words) (upcoming_is_written t (reverse words) read.1),
-      )
-
 -- what a stack tells before and after a step is what the step does to its words, where it tells these and no others
-module _ {S W E : Type 0} (tells : S → List W → Type 0) (words_of : S → List W)
-    (no_others : (s : S) (words : List W) → tells s words → words ≡ words_of s) (old : List W) where
-  pub known_pushes : (w : W) (r : Result (Unit {0}) E) (t : S) → WritesTold tells old w r t → Pushes old w r (words_of t)
-  known_pushes w (Ok x) t h = sym (no_others t (old ++ w ∷ []) h)
-  known_pushes w (Err e) t h = sym (no_others t old h)
+module _ {S W E : Type 0} (tells : S → List W → Type 0) (words_of : S → List W) (old : List W) where
+  pub known_pushes : ((s : S) (words : List W) → tells s words → words ≡ words_of s) → (w : W) (r : Result (Unit {0}) E) (t : S)
+      → WritesTold tells old w r t → Pushes old w r (words_of t)
+  known_pushes no_others w (Ok x) t h = sym (no_others t (old ++ w ∷ []) h)
+  known_pushes no_others w (Err e) t h = sym (no_others t old h)
 
-  pub known_pops : (r : Result (Option W) E) (t : S) → PopsTold tells old r t → PopsOrFails old r (words_of t)
-  known_pops (Ok None) t h = (h.0, sym (no_others t old h.1) ∙ h.0)
-  known_pops (Ok (Some w)) t h = h.1 ∙ ap (λ ws. ws ++ w ∷ []) (no_others t h.0 h.2)
-  known_pops (Err e) t h = (h.0, sym (no_others t old h.1))
+  pub known_pops : ((s : S) (words : List W) → tells s words → words ≡ reverse (words_of s)) → (r : Result (Option W) E) (t : S)
+      → ReadsTold tells (reverse old) r t → PopsOrFails old r (words_of t)
+  known_pops no_others (Ok None) t h = (
+    sym (reverse-reverse old) ∙ ap reverse h.0,
+    sym (reverse-reverse (words_of t)) ∙ ap reverse (sym (no_others t [] h.1)),
+  )
+  known_pops no_others (Ok (Some w)) t (rest, e, told) =
+      sym (reverse-reverse old) ∙ ap reverse e ∙ reverse-append (w ∷ []) rest
+      ∙ ap (λ ws. ws ++ w ∷ []) (ap reverse (no_others t rest told) ∙ reverse-reverse (words_of t))
+  known_pops no_others (Err e) t h = (
+    λ none. h.0 (ap reverse none),
+    sym (reverse-reverse (words_of t)) ∙ ap reverse (sym (no_others t (reverse old) h.1)) ∙ reverse-reverse old,
+  )

@@ -5,7 +5,7 @@ ghost use Rattle.std.specs.Iterator.{IsFinite};
 ghost use Rattle.constriction_words.specs.Rewinding.{Rewinds};
 ghost use Rattle.constriction_sources.specs.Source.{GivesAnswers};
 ghost use Rattle.constriction_sources.specs.Sink.{TakesItems, ExtendsBy};
-ghost use Rattle.constriction_sources.specs.Stack.{Pops, Pushes, PopsTold, ReadsWhatWasWritten};
+ghost use Rattle.constriction_sources.specs.Stack.{Pops, Pushes, ReadsWhatWasWritten};
 
 mod iterators;
 mod word_stacks;
@@ -13,7 +13,7 @@ mod word_stacks;
 pub use self::iterators::{item_end_is_for_good, word_end_is_for_good};
 pub use self::word_stacks::{pop, push};
 use crate::read::BoundedReadWords;
-use crate::stack::StackBackend;
+use crate::stack::WordStack;
 use crate::write::{BoundedWriteWords, WriteWords};
 use constriction_words::{ReadWriteError, Semantics};
 
@@ -24,51 +24,32 @@ pub fn pushed_is_popped<Word, WriteError, ReadError>()
         → (r ≡ Ok (Some w)) × (new ≡ old) }
 {}
 
-/// A word that was written to a stack is told after its old words. In whatever state they are told so,
-/// the word is read next, and then the stack tells the old words again; or the read fails, and the word
-/// still comes after them. So it is of each backend that is a stack, where it tells its words.
-pub fn written_is_read<Word, Backend: StackBackend<Word>>()
-    ensures { ReadsWhatWasWritten Backend.write_gives Backend.read_gives Backend.tells_written }
+/// A word that was written to a stack stands on top of its old words. From whatever state has it there,
+/// the word is read next, and then the stack has the old words again; or the read fails, and the word is
+/// still on top of them.
+pub fn written_is_read<Word, Backend: WordStack<Word>>()
+    ensures { ReadsWhatWasWritten Backend.write_gives Backend.read_gives Backend.words_of }
 {}
 
-/// Reads a stack: where it tells its words, the last one is answered and dropped.
-#[inline]
-pub fn read_last<Word, Backend: StackBackend<Word>>(
-    backend: &mut Backend,
-) -> Result<Option<Word>, Backend::ReadError>
-    requires { Backend.can_read backend.old }
-    ensures gives { Backend.read_gives backend.old result backend.new }
-    ensures pops { (words : List Word) → Backend.tells_written backend.old words
-        → PopsTold Backend.tells_written words result backend.new }
-    ensures goes_on { Backend.can_read backend.new }
-{
-    backend.read()
-}
-
-/// Writes a word to a stack and reads it back. Where the stack tells its words, the word is read,
-/// and the stack is left with its old words, also where the write is refused; where the read fails,
-/// the word still comes after them.
-pub fn push_then_pop<Word, Backend: StackBackend<Word>>(
+/// Writes a word to a stack and reads it back. The word is read, and the stack is left with its old
+/// words, also where the write is refused; where the read fails, the word is still on top of them.
+pub fn push_then_pop<Word, Backend: WordStack<Word>>(
     backend: &mut Backend,
     word: Word,
 ) -> Result<Option<Word>, ReadWriteError<Backend::ReadError, Backend::WriteError>>
-    requires { Backend.can_write backend.old }
     ensures steps { IfOk result (λ read. (between : Backend) × Backend.write_gives backend.old word (Ok tt) between
         × Backend.read_gives between (Ok read) backend.new) }
-    ensures read { IfOk result (λ read. (words : List Word) → Backend.tells_written backend.old words
-        → (read ≡ Some word) × Backend.tells_written backend.new words) }
+    ensures read { IfOk result (λ read. (read ≡ Some word) × (Backend.words_of backend.new ≡ Backend.words_of backend.old)) }
     ensures refused { (error : Backend.WriteError) → result ≡ Err (ReadWriteError.Write error)
-        → (words : List Word) → Backend.tells_written backend.old words → Backend.tells_written backend.new words }
+        → Backend.words_of backend.new ≡ Backend.words_of backend.old }
     ensures failed { (error : Backend.ReadError) → result ≡ Err (ReadWriteError.Read error)
-        → (words : List Word) → Backend.tells_written backend.old words
-        → Backend.tells_written backend.new (words ++ word ∷ []) }
-    ensures goes_on { Backend.can_write backend.new }
+        → Backend.words_of backend.new ≡ Backend.words_of backend.old ++ word ∷ [] }
 {
-    match backend.write(word) {
+    match push(backend, word) {
         Ok(()) => {}
         Err(error) => return Err(ReadWriteError::Write(error)),
     }
-    match backend.read() {
+    match pop(backend) {
         Ok(read) => Ok(read),
         Err(error) => Err(ReadWriteError::Read(error)),
     }

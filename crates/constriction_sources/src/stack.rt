@@ -1,8 +1,6 @@
-//! Backends that give back, the last one first, what was written to them.
+//! Stacks: backends that give back, the last one first, what was written to them.
 
 ghost use Rattle.std.specs.Prelude.{◌≡◌, List, refl, reverse};
-ghost use Rattle.std.proofs.Common.{ap, ◌∙◌};
-ghost use Rattle.std.proofs.lemmas.List.{reverse-reverse};
 
 use crate::read::ReadWords;
 use crate::write::WriteWords;
@@ -13,48 +11,10 @@ use std::default::MadeWith;
 
 /// A sink that is a source as well, which reads what was written to it: the last word first.
 ///
-/// It has laws alone. A stack coder over any such backend knows that it reads what it wrote, and
-/// that it may go from writing to reading and back.
-pub trait StackBackend<Word>: WriteWords<Word> + ReadWords<Word, Stack> {
-    // What was written is to come, the last word first; and what is to come was written.
-    ghost written_is_upcoming: { (s : Self) (words : List Word) → Self.tells_written s words
-        → Self.tells_upcoming s (reverse words) };
-
-    ghost upcoming_is_written: { (s : Self) (words : List Word) → Self.tells_upcoming s words
-        → Self.tells_written s (reverse words) };
-
-    // It may be read in each state in which it may be written, and the other way round.
-    ghost writable_is_readable: { (s : Self) → Self.can_write s → Self.can_read s };
-
-    ghost readable_is_writable: { (s : Self) → Self.can_read s → Self.can_write s };
-}
-
-impl<Word: Drop> StackBackend<Word> for Vec<Word> {
-    ghost written_is_upcoming = { λ s words told. ap reverse told };
-
-    ghost upcoming_is_written = { λ s words told. ap reverse told ∙ reverse-reverse s.items };
-
-    ghost writable_is_readable = { λ s may. may };
-
-    ghost readable_is_writable = { λ s may. may };
-}
-
-impl<Word: MadeWith<A> + Drop, const N: usize, A: Allocator + Copy> StackBackend<Word>
-    for SmallVec<Word, N, A> {
-    ghost written_is_upcoming = { λ s words told. ap reverse told };
-
-    ghost upcoming_is_written = { λ s words told. ap reverse told ∙ reverse-reverse s.items };
-
-    ghost writable_is_readable = { λ s may. may };
-
-    ghost readable_is_writable = { λ s may. may };
-}
-
-/// A stack whose words are known.
-///
-/// It tells the words that it has, and no others, so that a contract may name them: an invariant may tie
-/// them to what a coder holds beside them.
-pub trait WordStack<Word>: StackBackend<Word> {
+/// It has laws alone. Its words are known, so that a contract may name them: an invariant may tie them
+/// to what a coder holds beside them. It may be written and read in every state, so that a coder over
+/// any such stack goes from writing to reading and back, and asks for no condition.
+pub trait WordStack<Word>: WriteWords<Word> + ReadWords<Word, Stack> {
     // The words, the one on top last.
     ghost words_of: { Self → List Word };
 
@@ -63,6 +23,17 @@ pub trait WordStack<Word>: StackBackend<Word> {
 
     // and no others.
     ghost tells_no_others: { (s : Self) (words : List Word) → Self.tells_written s words → words ≡ words_of s };
+
+    // They are to come, the one on top first,
+    ghost words_come: { (s : Self) → Self.tells_upcoming s (reverse (words_of s)) };
+
+    // and no others.
+    ghost no_others_come: { (s : Self) (words : List Word) → Self.tells_upcoming s words → words ≡ reverse (words_of s) };
+
+    // It may be written and read in every state.
+    ghost always_writable: { (s : Self) → Self.can_write s };
+
+    ghost always_readable: { (s : Self) → Self.can_read s };
 }
 
 impl<Word: Drop> WordStack<Word> for Vec<Word> {
@@ -71,6 +42,14 @@ impl<Word: Drop> WordStack<Word> for Vec<Word> {
     ghost tells_words = { λ s. refl };
 
     ghost tells_no_others = { λ s words told. told };
+
+    ghost words_come = { λ s. refl };
+
+    ghost no_others_come = { λ s words told. told };
+
+    ghost always_writable = { λ s. tt };
+
+    ghost always_readable = { λ s. tt };
 }
 
 impl<Word: MadeWith<A> + Drop, const N: usize, A: Allocator + Copy> WordStack<Word>
@@ -80,4 +59,12 @@ impl<Word: MadeWith<A> + Drop, const N: usize, A: Allocator + Copy> WordStack<Wo
     ghost tells_words = { λ s. refl };
 
     ghost tells_no_others = { λ s words told. told };
+
+    ghost words_come = { λ s. refl };
+
+    ghost no_others_come = { λ s words told. told };
+
+    ghost always_writable = { λ s. tt };
+
+    ghost always_readable = { λ s. tt };
 }

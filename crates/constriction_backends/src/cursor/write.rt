@@ -1,8 +1,7 @@
 //! A cursor as a sink, whose write overwrites the word at the position, and as a stack, which reads back what was written.
 
-ghost use Rattle.std.specs.Prelude.{◌≡◌, ◌<◌, refl, true, length, reverse};
-ghost use Rattle.std.proofs.Common.{ap, sym, ◌∙◌};
-ghost use Rattle.std.proofs.lemmas.List.{reverse-reverse};
+ghost use Rattle.std.specs.Prelude.{◌≡◌, ◌<◌, refl, true, length};
+ghost use Rattle.std.proofs.Common.{sym};
 ghost use Rattle.constriction_backends.specs.Cursor.{state_of, WritesTo};
 ghost use Rattle.constriction_backends.specs.CursorLaws.{Overwrites-told, Overwrites-counts};
 ghost use Rattle.constriction_sources.specs.SinkLaws.{free_is_taken};
@@ -10,7 +9,7 @@ ghost use Rattle.constriction_sources.specs.SinkLaws.{free_is_taken};
 use crate::cursor::Cursor;
 use crate::error::BoundedWriteError;
 use constriction_buffers::{SafeBuf, SafeBufMut};
-use constriction_sources::{BoundedWriteWords, StackBackend, WordStack, WriteWords};
+use constriction_sources::{BoundedWriteWords, WordStack, WriteWords};
 
 impl<Word: Drop, Buf: SafeBufMut<Word>> WriteWords<Word> for Cursor<Word, Buf> {
     type WriteError = BoundedWriteError;
@@ -59,20 +58,18 @@ impl<Word: Drop, Buf: SafeBufMut<Word>> BoundedWriteWords<Word> for Cursor<Word,
     ghost room_counts = { λ _ h. h };
 }
 
-impl<Word: Copy, Buf: SafeBufMut<Word>> StackBackend<Word> for Cursor<Word, Buf> {
-    ghost written_is_upcoming = { λ s words told. ap reverse (sym told) };
-
-    ghost upcoming_is_written = { λ s words told. sym (ap reverse told ∙ reverse-reverse (state_of s).before) };
-
-    ghost writable_is_readable = { λ s may. may };
-
-    ghost readable_is_writable = { λ s may. may };
-}
-
 impl<Word: Copy, Buf: SafeBufMut<Word>> WordStack<Word> for Cursor<Word, Buf> {
     ghost words_of = { λ s. (state_of s).before };
 
     ghost tells_words = { λ s. refl };
 
     ghost tells_no_others = { λ s words told. sym told };
+
+    ghost words_come = { λ s. refl };
+
+    ghost no_others_come = { λ s words told. told };
+
+    ghost always_writable = { λ s. tt };
+
+    ghost always_readable = { λ s. tt };
 }

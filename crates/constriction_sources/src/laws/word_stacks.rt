@@ -1,4 +1,4 @@
-//! What a stack whose words are known does to them.
+//! What a stack does to its words.
 
 ghost use Rattle.constriction_sources.specs.Stack.{Pushes, PopsOrFails};
 
@@ -10,8 +10,6 @@ pub fn push<Word, Backend: WordStack<Word>>(
     backend: &mut Backend,
     word: Word,
 ) -> Result<(), Backend::WriteError>
-    requires { Backend.can_write backend.old }
-    ensures goes_on { Backend.can_write backend.new }
     ensures gives { Backend.write_gives backend.old word result backend.new }
     ensures pushes { Pushes (Backend.words_of backend.old) word result (Backend.words_of backend.new) }
 {
@@ -23,8 +21,6 @@ pub fn push<Word, Backend: WordStack<Word>>(
 pub fn pop<Word, Backend: WordStack<Word>>(
     backend: &mut Backend,
 ) -> Result<Option<Word>, Backend::ReadError>
-    requires { Backend.can_read backend.old }
-    ensures goes_on { Backend.can_read backend.new }
     ensures gives { Backend.read_gives backend.old result backend.new }
     ensures pops { PopsOrFails (Backend.words_of backend.old) result (Backend.words_of backend.new) }
 {
