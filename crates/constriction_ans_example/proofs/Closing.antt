@@ -1,5 +1,5 @@
 -- The words of a state: that there are some, how many, and what writing them gives.
-use Rattle.std.proofs.Common.{◌≡◌, ℕ, ◌+◌, ◌/◌, ◌%◌, ◌^◌, ◌<◌, ◌≤◌, List, [], ◌∷◌, ◌++◌, suc, zero, Result, Ok, Err, length, refl, ap, sym, ◌∙◌, arith, inl, inr}
+use Rattle.std.proofs.Common.{◌≡◌, ℕ, ◌+◌, ◌/◌, ◌⊎◌, ◌%◌, ◌^◌, ◌<◌, ◌≤◌, List, [], ◌∷◌, ◌++◌, suc, zero, Result, Ok, Err, length, refl, ap, sym, ◌∙◌, arith, inl, inr}
 use Rattle.std.proofs.lemmas.Bool.{cases_lt}
 use Rattle.std.proofs.lemmas.List.{append_assoc, length-append, same_from_push}
 use Rattle.constriction_ans_example.specs.Compressed.{AreWordsOf, IsCompressed, IsClosed, ClosingStops}
@@ -96,3 +96,35 @@ not-compressed c all others whole (inr (inr p)) e =
     let parts = same_from_push (c.words ++ c.state % 2 ^ 32 ∷ []) others (c.state / 2 ^ 32) 0
     (append_assoc c.words (c.state % 2 ^ 32 ∷ []) (c.state / 2 ^ 32 ∷ []) ∙ sym p.1 ∙ e) in
     absurd (omega (arith, p.0, parts.1))
+
+-- how many words a whole coder has as words alone
+count-alone : (c : Content) (all : List ℕ) → IsWhole c.state c.words → IsCompressed c all
+    → ((c.words ≡ []) × (length all ≤ 1)) ⊎ (all ≡ (c.words ++ c.state % 2 ^ 32 ∷ []) ++ c.state / 2 ^ 32 ∷ [])
+count-alone c all whole (inl p) = let none = whole (omega (arith, p.0)) in inl (none, omega (arith, ap length (p.1 ∙ none)))
+count-alone c all whole (inr (inl p)) =
+    let none = whole p.1 in inl (none, omega (arith, ap length p.2, ap length none, length-append c.words (c.state ∷ [])))
+count-alone c all whole (inr (inr p)) =
+    inr (p.1 ∙ sym (append_assoc c.words (c.state % 2 ^ 32 ∷ []) (c.state / 2 ^ 32 ∷ [])))
+
+-- two words at the end are no fewer than two
+two-at-least : (words all : List ℕ) (low high : ℕ) → length all ≤ 1 → all ≡ (words ++ low ∷ []) ++ high ∷ [] → ⊥
+two-at-least words all low high few is =
+    omega (arith, few, ap length is, length-append (words ++ low ∷ []) (high ∷ []), length-append words (low ∷ []))
+
+-- whole coders with the same words as words alone have the same words under their states
+pub same-under : (a b : Content) (all : List ℕ) → IsWhole a.state a.words → IsWhole b.state b.words → IsCompressed a all
+    → IsCompressed b all → b.words ≡ a.words
+same-under a b all wa wb p q =
+    elim (count-alone a all wa p) [
+      | inl x ↦ elim (count-alone b all wb q) [
+        | inl y ↦ y.0 ∙ sym x.0
+        | inr y ↦ absurd (two-at-least b.words all _ _ x.1 y)
+      ]
+      | inr x ↦ elim (count-alone b all wb q) [
+        | inl y ↦ absurd (two-at-least a.words all _ _ y.1 x)
+        | inr y ↦
+            let tops = same_from_push (b.words ++ b.state % 2 ^ 32 ∷ []) (a.words ++ a.state % 2 ^ 32 ∷ []) (b.state / 2 ^ 32)
+            (a.state / 2 ^ 32) (sym y ∙ x) in
+            (same_from_push b.words a.words (b.state % 2 ^ 32) (a.state % 2 ^ 32) tops.0).0
+      ]
+    ]

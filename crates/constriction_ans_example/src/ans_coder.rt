@@ -34,9 +34,7 @@ fn with_room<Backend: WordStack<u32>, const PRECISION: usize>(
     requires positive { 0 < PRECISION }
     requires fits { PRECISION ≤ 32 }
     requires some { 0 < weight }
-    requires can_write { Backend.can_write words.old }
     requires whole { IsWhole state (Backend.words_of words.old) }
-    ensures goes_on { Backend.can_write words.new }
     ensures room { IfOk result (λ kept. kept < weight * 2 ^ (64 - PRECISION)) }
     ensures whole { IfOk result (λ kept. (left : ℕ) → left + weight ≤ 2 ^ PRECISION
         → IsWhole (put PRECISION left weight kept) (Backend.words_of words.new)) }
@@ -60,8 +58,6 @@ fn refilled<Backend: WordStack<u32>>(
     state: u64,
 ) -> Result<u64, Backend::ReadError>
     requires some { state ≡ 0 → Backend.words_of words.old ≡ [] }
-    requires can_read { Backend.can_read words.old }
-    ensures goes_on { Backend.can_read words.new }
     ensures whole { IfOk result (λ new. IsWhole new (Backend.words_of words.new)) }
     ensures ok { IfOk result (λ new. Refills state (Backend.words_of words.old) (content new (Backend.words_of words.new))) }
     ensures below { OnErr result (state < 2 ^ 32) }
@@ -93,8 +89,6 @@ impl<Backend: WordStack<u32>> AnsCoder<Backend> {
         E: EncoderModel<PRECISION, Probability = u32>,
         requires positive { 0 < PRECISION }
         requires fits { PRECISION ≤ 32 }
-        requires can_write { Backend.can_write self.old.words }
-        ensures goes_on { Backend.can_write self.new.words }
         ensures ok { IfOk result (λ _. IsEncoded (entry_of E.symbol_eq (E.rows model.now)) PRECISION symbol.now
             (content self.new.state (Backend.words_of self.new.words)) (content self.old.state (Backend.words_of self.old.words))) }
         ensures impossible { (fault : _) → result ≡ Err (CoderError.Frontend fault)
@@ -130,8 +124,6 @@ impl<Backend: WordStack<u32>> AnsCoder<Backend> {
         D::Symbol: Drop,
         requires positive { 0 < PRECISION }
         requires fits { PRECISION ≤ 32 }
-        requires can_read { Backend.can_read self.old.words }
-        ensures goes_on { Backend.can_read self.new.words }
         ensures ok { IfOk result (λ symbol. IsDecoded D.stands_for (D.rows model.now) PRECISION symbol
             (content self.old.state (Backend.words_of self.old.words)) (content self.new.state (Backend.words_of self.new.words))) }
         ensures memory { (fault : _) → result ≡ Err (CoderError.Frontend fault)

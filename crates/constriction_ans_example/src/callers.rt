@@ -113,7 +113,6 @@ where
     D::Symbol: Drop,
     requires positive { 0 < PRECISION }
     requires fits { PRECISION ≤ 32 }
-    requires can_read { Backend.can_read coder.old.words }
     ensures { IfOk result (λ symbols. InTurn (IsDecoded D.stands_for (D.rows model.now) PRECISION) symbols.items
         (content coder.old.state (Backend.words_of coder.old.words)) (content coder.new.state (Backend.words_of coder.new.words))) }
 {
@@ -143,7 +142,6 @@ where
     I: DoubleEndedIterator<Item = E::Symbol>,
     requires positive { 0 < PRECISION }
     requires fits { PRECISION ≤ 32 }
-    requires can_write { Backend.can_write coder.old.words }
     requires can_next_back { I.can_next_back symbols }
     requires ends { IsFinite (I.remaining symbols) }
     ensures { OnOk result ((rest : I → List E.Symbol) → ((s : I) (answer : Option E.Symbol) (t : I) → I.next_back_gives s answer t

@@ -55,8 +55,6 @@ impl<Backend: WordStack<u32> + Drop> AnsCoder<Backend> {
     ///
     /// Two words at most are written. An error is that of a write, and the words are let go.
     pub fn into_compressed(self) -> Result<Backend, Backend::WriteError>
-        requires { Backend.can_write self.words }
-        ensures goes_on { IfOk result Backend.can_write }
         ensures ok { IfOk result (λ words. IsCompressed (content self.state (Backend.words_of self.words)) (Backend.words_of words)) }
         ensures wrote { IfOk result (λ words. IsClosed Backend.write_gives self.state self.words words) }
         ensures failed { (error : _) → result ≡ Err error → ClosingStops Backend.write_gives self.state self.words error }
@@ -84,8 +82,6 @@ impl<Backend: WordStack<u32> + Drop> AnsCoder<Backend> {
     /// At most two words are read, the last one first. Words that end in 0 are those of no coder: they are handed back without
     /// that 0. Any other words are accepted, and no words are the coder that holds nothing.
     pub fn from_compressed(words: Backend) -> Result<Self, CoderError<Backend, Backend::ReadError>>
-        requires { Backend.can_read words }
-        ensures goes_on { IfOk result (λ coder. Backend.can_read coder.words) }
         ensures ok { IfOk result (λ coder. IsCompressed (content coder.state (Backend.words_of coder.words)) (Backend.words_of words)) }
         ensures read { IfOk result (λ coder. IsOpened Backend.read_gives words coder.state coder.words) }
         ensures refused { (left : _) → result ≡ Err (CoderError.Frontend left)

@@ -42,8 +42,6 @@ where
 {
     type Item = Result<D::Symbol, CoderError<AllocError, Backend::ReadError>>;
 
-    ghost can_next = { λ s. Backend.can_read s.coder.now.words };
-
     ghost next_gives = { λ s r t. (t.coder.ghost_name ≡ s.coder.ghost_name) × (t.model ≡ s.model)
         × StepsOn Backend.words_of D.stands_for D.may_refuse Backend.read_gives (D.rows s.model.now) PRECISION
         (walk s.left s.coder.now.state s.coder.now.words) r (walk t.left t.coder.now.state t.coder.now.words) };

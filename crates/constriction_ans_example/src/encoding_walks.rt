@@ -24,9 +24,7 @@ impl<Backend: WordStack<u32>> AnsCoder<Backend> {
         I: IntoIterator<Item = E::Symbol>,
         requires positive { 0 < PRECISION }
         requires fits { PRECISION ≤ 32 }
-        requires can_write { Backend.can_write self.old.words }
         requires ends { IsFiniteIterable I.into_iter_gives I.IntoIter.can_next I.IntoIter.remaining symbols }
-        ensures goes_on { Backend.can_write self.new.words }
         ensures ok { OnOk result ((it : I.IntoIter) × I.into_iter_gives symbols it
             × EncodesGiven I.IntoIter.next_gives (entry_of E.symbol_eq (E.rows model.now)) PRECISION it
             (content self.old.state (Backend.words_of self.old.words)) (content self.new.state (Backend.words_of self.new.words))) }
@@ -57,9 +55,7 @@ impl<Backend: WordStack<u32>> AnsCoder<Backend> {
         I::IntoIter: DoubleEndedIterator,
         requires positive { 0 < PRECISION }
         requires fits { PRECISION ≤ 32 }
-        requires can_write { Backend.can_write self.old.words }
         requires ends { IsFiniteIterable I.into_iter_gives I.IntoIter.can_next_back I.IntoIter.remaining symbols }
-        ensures goes_on { Backend.can_write self.new.words }
         ensures ok { OnOk result ((it : I.IntoIter) × I.into_iter_gives symbols it
             × EncodesGiven I.IntoIter.next_back_gives (entry_of E.symbol_eq (E.rows model.now)) PRECISION it
             (content self.old.state (Backend.words_of self.old.words)) (content self.new.state (Backend.words_of self.new.words))) }

@@ -78,7 +78,6 @@ where
     E: EncoderModel<PRECISION, Symbol = D::Symbol, Probability = u32>,
     requires positive { 0 < PRECISION }
     requires fits { PRECISION ≤ 32 }
-    requires can_write { Backend.can_write coder.old.words }
     requires alike { (s : D.Symbol) → entry_of E.symbol_eq (E.rows encoder.now) s ≡ entry_of E.symbol_eq (D.rows decoder.now) s }
     ensures back { IfOk result (λ answers. AllZip (StandsForEqual D.stands_for E.symbol_eq) (reverse symbols.now) answers.items) }
     ensures equal { IfOk result (λ answers. ClonesAreEqual E.symbol_eq D.stands_for
@@ -115,7 +114,6 @@ pub fn compressed_comes_back<Backend: WordStack<u32> + Drop>(
     AnsCoder<Backend>,
     ReadWriteError<CoderError<Backend, Backend::ReadError>, Backend::WriteError>,
 >
-    requires { Backend.can_write coder.words }
     ensures state { IfOk result (λ again. again.state ≡ coder.state) }
     ensures words { IfOk result (λ again. Backend.words_of again.words ≡ Backend.words_of coder.words) }
     ensures between { IfOk result (λ again. (between : Backend) × IsCompressed (content coder.state (Backend.words_of coder.words))
@@ -142,7 +140,6 @@ pub fn compressed_comes_back<Backend: WordStack<u32> + Drop>(
 pub fn coder_comes_back<Backend: WordStack<u32> + Drop>(
     words: Backend,
 ) -> Result<Backend, ReadWriteError<CoderError<Backend, Backend::ReadError>, Backend::WriteError>>
-    requires { Backend.can_read words }
     ensures words { IfOk result (λ again. Backend.words_of again ≡ Backend.words_of words) }
     ensures between { IfOk result (λ again. (state : ℕ) × (between : Backend)
         × IsCompressed (content state (Backend.words_of between)) (Backend.words_of words)

@@ -22,8 +22,6 @@ impl<Backend: WordStack<u32>> AnsCoder<Backend> {
         E: EncoderModel<PRECISION, Probability = u32>,
         requires positive { 0 < PRECISION }
         requires fits { PRECISION ≤ 32 }
-        requires can_write { Backend.can_write self.old.words }
-        ensures goes_on { Backend.can_write self.new.words }
         ensures ok { OnOk result (InTurn (IsEncoded (entry_of E.symbol_eq (E.rows model.now)) PRECISION) (reverse symbols.now)
             (content self.new.state (Backend.words_of self.new.words)) (content self.old.state (Backend.words_of self.old.words))) }
         ensures err { IfErr result (λ error. EncodingStops Backend.words_of (entry_of E.symbol_eq (E.rows model.now))
@@ -49,8 +47,6 @@ impl<Backend: WordStack<u32>> AnsCoder<Backend> {
         E: EncoderModel<PRECISION, Probability = u32>,
         requires positive { 0 < PRECISION }
         requires fits { PRECISION ≤ 32 }
-        requires can_write { Backend.can_write self.old.words }
-        ensures goes_on { Backend.can_write self.new.words }
         ensures ok { OnOk result (InTurn (IsEncoded (entry_of E.symbol_eq (E.rows model.now)) PRECISION) symbols.now
             (content self.new.state (Backend.words_of self.new.words)) (content self.old.state (Backend.words_of self.old.words))) }
         ensures err { IfErr result (λ error. EncodingStops Backend.words_of (entry_of E.symbol_eq (E.rows model.now))
@@ -79,8 +75,6 @@ impl<Backend: WordStack<u32>> AnsCoder<Backend> {
         D::Symbol: Drop,
         requires positive { 0 < PRECISION }
         requires fits { PRECISION ≤ 32 }
-        requires can_read { Backend.can_read self.old.words }
-        ensures goes_on { Backend.can_read self.new.words }
         ensures ok { IfOk result (λ symbols. InTurn (IsDecoded D.stands_for (D.rows model.now) PRECISION) symbols.items
             (content self.old.state (Backend.words_of self.old.words)) (content self.new.state (Backend.words_of self.new.words))) }
         ensures count { IfOk result (λ symbols. length symbols.items ≡ count) }

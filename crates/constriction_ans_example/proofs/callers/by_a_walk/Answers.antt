@@ -9,7 +9,6 @@ loop-answer-preserved g c =
     let walk = c.loop-answer.answer-iterator in
     let words_of = g.Backend.WordStack.words_of in
     record {
-      goes_on = c.in-Some.ensures.goes.keeps;
       same_coder = step.0 ∙ c.loop-answer.invariant.same_coder;
       same_model = ap (λ m. m.now) step.1 ∙ c.loop-answer.invariant.same_model;
       so_far =

@@ -15,7 +15,6 @@ returns-in-Err-decode_symbol-clause-err g c =
 
 pub loop-done-preserved : goal.loop-done-preserved
 loop-done-preserved g c = record {
-  goes_on = c.decode_symbol.ensures.goes_on;
   counted = omega (
     arith,
     ap length c.push_reserved.ensures.items,

@@ -6,7 +6,6 @@ use Rattle.constriction_ans_example.proofs.ans_coder.AnsCoder.decode_symbols.Giv
 -- as many symbols as turns were decoded
 abbrev pub invariant-loop-done : goal.invariant-loop-done
 invariant-loop-done g l = record {
-  goes_on : g.Backend.ReadWords.can_read l.self.words;
   counted : length l.symbols.items ≡ l.done;
   room : l.count ≤ vec_capacity l.symbols;
   so_far : InTurn (IsDecoded g.D.DecoderModel.stands_for (g.D.EntropyModel.rows l.model) g.row.PRECISION) l.symbols.items

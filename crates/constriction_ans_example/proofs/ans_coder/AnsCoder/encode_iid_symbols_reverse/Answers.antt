@@ -7,7 +7,6 @@ pub turns-init : goal.turns-init
 turns-init g c =
     let ends = c.requires.ends c.into_iter-given.result c.into_iter-given.ensures.into_iter_gives in
     record {
-      goes_on = c.requires.can_write;
       next = ends.0;
       ends = ends.1;
       so_far =
@@ -20,7 +19,6 @@ pub turns-preserved : goal.turns-preserved
 turns-preserved g c =
     let goes = c.in-Some.ensures.goes.on c.turns.invariant.ends in
     record {
-      goes_on = c.encode_symbol.ensures.goes_on;
       next = goes.0;
       ends = goes.1;
       so_far =

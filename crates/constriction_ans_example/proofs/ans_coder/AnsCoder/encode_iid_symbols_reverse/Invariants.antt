@@ -7,7 +7,6 @@ use Rattle.constriction_ans_example.proofs.ans_coder.AnsCoder.encode_iid_symbols
 -- what was given so far was encoded
 abbrev pub invariant-turns : goal.invariant-turns
 invariant-turns g l = record {
-  goes_on : g.Backend.WriteWords.can_write l.self.words;
   next : g.I.IntoIter.DoubleEndedIterator.can_next_back l.given;
   ends : IsFinite (g.I.IntoIter.Iterator.remaining l.given);
   so_far : GivenSoFar g.I.IntoIter.DoubleEndedIterator.next_back_gives (entry_of g.E.EncoderModel.symbol_eq

@@ -5,13 +5,10 @@ use Rattle.constriction_ans_example.proofs.Stopping.{encoding-stops}
 use Rattle.constriction_ans_example.proofs.ans_coder.AnsCoder.encode_symbols.Goals as goal
 
 pub loop-symbol-preserved : goal.loop-symbol-preserved
-loop-symbol-preserved g c = record {
-  goes_on = c.encode_symbol.ensures.goes_on;
-  so_far =
-      turn-first (IsEncoded (entry_of g.E.EncoderModel.symbol_eq (g.E.EntropyModel.rows c.args.model.now)) g.row.PRECISION)
-      c.args.symbols.now c.loop-symbol.symbol-index c.symbol-item.result _ _ _ c.loop-symbol-test.true c.symbol-item.is
-      c.in-Ok.ensures.ok c.loop-symbol.invariant.so_far;
-}
+loop-symbol-preserved g c =
+    turn-first (IsEncoded (entry_of g.E.EncoderModel.symbol_eq (g.E.EntropyModel.rows c.args.model.now)) g.row.PRECISION)
+    c.args.symbols.now c.loop-symbol.symbol-index c.symbol-item.result _ _ _ c.loop-symbol-test.true c.symbol-item.is
+    c.in-Ok.ensures.ok c.loop-symbol.invariant
 
 pub returns-in-Err-clause-err : goal.returns-in-Err-clause-err
 returns-in-Err-clause-err g c =
@@ -19,4 +16,4 @@ returns-in-Err-clause-err g c =
     g.Backend.WriteWords.write_gives g.row.PRECISION _ c.loop-symbol.self.state c.loop-symbol.self.words c.encode_symbol.new.self.state
     c.encode_symbol.new.self.words c.in-Err.ensures.state c.in-Err.ensures.words
     c.args.symbols.now c.loop-symbol.symbol-index c.symbol-item.result c.in-Err.error c.loop-symbol-test.true c.symbol-item.is
-    c.loop-symbol.invariant.so_far c.in-Err.ensures.impossible c.in-Err.ensures.failed
+    c.loop-symbol.invariant c.in-Err.ensures.impossible c.in-Err.ensures.failed

@@ -6,9 +6,7 @@ use Rattle.constriction_ans_example.proofs.ans_coder.AnsCoder.encode_symbols.Giv
 
 -- the symbols so far were encoded
 abbrev pub invariant-loop-symbol : goal.invariant-loop-symbol
-invariant-loop-symbol g l = record {
-  goes_on : g.Backend.WriteWords.can_write l.self.words;
-  so_far : InTurn (IsEncoded (entry_of g.E.EncoderModel.symbol_eq (g.E.EntropyModel.rows l.model)) g.row.PRECISION)
-      (reverse (take l.symbol-index l.symbols)) (content l.self.state (g.Backend.WordStack.words_of l.self.words))
-      (content l.initial.self.state (g.Backend.WordStack.words_of l.initial.self.words));
-}
+invariant-loop-symbol g l =
+    InTurn (IsEncoded (entry_of g.E.EncoderModel.symbol_eq (g.E.EntropyModel.rows l.model)) g.row.PRECISION)
+    (reverse (take l.symbol-index l.symbols)) (content l.self.state (g.Backend.WordStack.words_of l.self.words))
+    (content l.initial.self.state (g.Backend.WordStack.words_of l.initial.self.words))

@@ -7,7 +7,6 @@ use Rattle.constriction_ans_example.proofs.ans_coder.AnsCoder.encode_symbols_rev
 -- the last symbols were encoded
 abbrev pub invariant-loop-done : goal.invariant-loop-done
 invariant-loop-done g l = record {
-  goes_on : g.Backend.WriteWords.can_write l.self.words;
   counted : l.count ≡ length l.symbols;
   so_far : InTurn (IsEncoded (entry_of g.E.EncoderModel.symbol_eq (g.E.EntropyModel.rows l.model)) g.row.PRECISION)
       (drop (length l.symbols - l.done) l.symbols) (content l.self.state (g.Backend.WordStack.words_of l.self.words))
