@@ -1,9 +1,9 @@
 //! `Vec` and `SmallVec` as stacks.
 
-ghost use Rattle.std.specs.Prelude.{◌≡◌, ◌<◌, List, [], Some, None, Ok, IfSome, IsOk, length, vec_capacity};
+ghost use Rattle.std.specs.Prelude.{◌≡◌, ◌<◌, [], Some, None, Ok, IfSome, IsOk, length, vec_capacity};
 
 use crate::checks::{end_of_requests, holds, same, vec_of};
-use constriction_backends::{Cursor, ReadWords, Reverse, StackBackend, WriteWords, laws};
+use constriction_backends::{Cursor, ReadWords, Reverse, WordStack, WriteWords, laws};
 use constriction_words::{Queue, ReadWriteError, Stack};
 use smallvec::SmallVec;
 use std::alloc::{AllocError, Global};
@@ -97,14 +97,13 @@ fn there_and_back_in_a_vec(words: &mut Vec<u8>, word: u8) -> Result<Option<u8>, 
     }
 }
 
-/// A read of any stack: where nothing was written, nothing comes.
-fn read_once<Backend: StackBackend<u8>>(
+/// A read of any stack: where there are no words, nothing comes.
+fn read_once<Backend: WordStack<u8>>(
     backend: &mut Backend,
 ) -> Result<Option<u8>, Backend::ReadError>
-    requires { Backend.can_read backend.old }
-    ensures { Backend.tells_written backend.old [] → (result ≡ Ok None) × Backend.tells_written backend.new [] }
+    ensures { Backend.words_of backend.old ≡ [] → (result ≡ Ok None) × (Backend.words_of backend.new ≡ []) }
 {
-    backend.read()
+    laws::pop(backend)
 }
 
 #[test]
@@ -153,8 +152,8 @@ fn a_popped_word_leaves_its_place(rt: HostRuntime) {
 }
 
 /// Two words through any stack, as a stack coder writes and reads them: they come back, the second one
-/// first, and then the stack tells its old words.
-fn there_and_back<Backend: StackBackend<u8>>(
+/// first, and then the stack has its old words.
+fn there_and_back<Backend: WordStack<u8>>(
     backend: &mut Backend,
     first: u8,
     second: u8,
@@ -162,9 +161,7 @@ fn there_and_back<Backend: StackBackend<u8>>(
 where
     Backend::WriteError: Drop,
     Backend::ReadError: Drop,
-    requires { Backend.can_write backend.old }
-    ensures { IfSome result (λ read. (words : List _) → Backend.tells_written backend.old words
-        → (read ≡ (Some second, Some first)) × Backend.tells_written backend.new words) }
+    ensures { IfSome result (λ read. (read ≡ (Some second, Some first)) × (Backend.words_of backend.new ≡ Backend.words_of backend.old)) }
 {
     laws::written_is_read::<u8, Backend>();
     let Ok(()) = backend.write(first) else {
@@ -182,11 +179,10 @@ where
     Some((last, next))
 }
 
-fn gives_back<Backend: StackBackend<u8> + Drop>(rt: &impl Abort, backend: Backend)
+fn gives_back<Backend: WordStack<u8> + Drop>(rt: &impl Abort, backend: Backend)
 where
     Backend::WriteError: Drop,
     Backend::ReadError: Drop,
-    requires { Backend.can_write backend }
 {
     let mut backend = backend;
     let read = there_and_back(&mut backend, 1, 2);

@@ -2,10 +2,11 @@ use Rattle.std.proofs.Common.{[], ◌∷◌, ◌++◌, Ok, Some, ap, ◌∙◌}
 use Rattle.constriction_backends_tests.proofs.stacks.there_and_back.Goals as goal
 
 pub returns : goal.returns
-returns g c = λ words told.
+returns g c =
     let law = c.written_is_read.ensures in
-    let one = law.told _ _ c.args.first words c.in-Ok.ensures.gives told in
-    let two = law.told _ _ c.args.second (words ++ c.args.first ∷ []) c.in-Ok-write.ensures.gives one in
+    let words = g.Backend.WordStack.words_of c.args.backend.now in
+    let one = law.written _ _ c.args.first c.in-Ok.ensures.gives in
+    let two = law.written _ _ c.args.second c.in-Ok-write.ensures.gives ∙ ap (λ ws. ws ++ c.args.second ∷ []) one in
     let last = law.read _ _ c.args.second (Ok c.in-Ok-read.last) (words ++ c.args.first ∷ []) two c.in-Ok-read.ensures.gives in
     let next = law.read _ _ c.args.first (Ok c.in-Ok-read-2.next) words last.1 c.in-Ok-read-2.ensures.gives in
     (ap (λ o. (o, c.in-Ok-read-2.next)) last.0 ∙ ap (λ o. (Some c.args.second, o)) next.0, next.1)
