@@ -112,15 +112,4 @@ impl WholeNumber for u128 {
     ghost same_weight_law = { λ a b e. same-above-0 (λ n h. record { value = n; ok = h }) a.ok b.ok e };
 }
 
-impl IndexWord for u128 {
-    /// The low 64 bits.
-    #[inline]
-    fn to_index(self) -> usize {
-        (self & 0xffff_ffff_ffff_ffff) as usize
-    }
-
-    #[inline]
-    fn from_index(i: usize) -> u128 {
-        i as u128
-    }
-}
+impl IndexWord for u128 {}

@@ -112,14 +112,4 @@ impl WholeNumber for u16 {
     ghost same_weight_law = { λ a b e. same-above-0 (λ n h. record { value = n; ok = h }) a.ok b.ok e };
 }
 
-impl IndexWord for u16 {
-    #[inline]
-    fn to_index(self) -> usize {
-        usize::from(self)
-    }
-
-    #[inline]
-    fn from_index(i: usize) -> u16 {
-        i as u16
-    }
-}
+impl IndexWord for u16 {}

@@ -112,14 +112,4 @@ impl WholeNumber for u32 {
     ghost same_weight_law = { λ a b e. same-above-0 (λ n h. record { value = n; ok = h }) a.ok b.ok e };
 }
 
-impl IndexWord for u32 {
-    #[inline]
-    fn to_index(self) -> usize {
-        self.to_number()
-    }
-
-    #[inline]
-    fn from_index(i: usize) -> u32 {
-        i as u32
-    }
-}
+impl IndexWord for u32 {}

@@ -112,14 +112,4 @@ impl WholeNumber for u8 {
     ghost same_weight_law = { λ a b e. same-above-0 (λ n h. record { value = n; ok = h }) a.ok b.ok e };
 }
 
-impl IndexWord for u8 {
-    #[inline]
-    fn to_index(self) -> usize {
-        usize::from(self)
-    }
-
-    #[inline]
-    fn from_index(i: usize) -> u8 {
-        i as u8
-    }
-}
+impl IndexWord for u8 {}

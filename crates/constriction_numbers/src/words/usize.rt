@@ -112,14 +112,4 @@ impl WholeNumber for usize {
     ghost same_weight_law = { λ a b e. same-above-0 (λ n h. record { value = n; ok = h }) a.ok b.ok e };
 }
 
-impl IndexWord for usize {
-    #[inline]
-    fn to_index(self) -> usize {
-        self
-    }
-
-    #[inline]
-    fn from_index(i: usize) -> usize {
-        i
-    }
-}
+impl IndexWord for usize {}

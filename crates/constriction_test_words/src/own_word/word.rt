@@ -80,12 +80,4 @@ impl BitArray for Sample {
     ghost shr_law = { λ a n r e. e };
 }
 
-impl IndexWord for Sample {
-    fn to_index(self) -> usize {
-        self.0.to_index()
-    }
-
-    fn from_index(i: usize) -> Sample {
-        Sample(u16::from_index(i))
-    }
-}
+impl IndexWord for Sample {}
