@@ -87,8 +87,6 @@ impl<Backend: WordStack<u32>> AnsCoder<Backend> {
     ) -> Result<(), CoderError<DefaultEncoderFrontendError, Backend::WriteError>>
     where
         E: EncoderModel<PRECISION, Probability = u32>,
-        requires positive { 0 < PRECISION }
-        requires fits { PRECISION ≤ 32 }
         ensures ok { IfOk result (λ _. IsEncoded (entry_of E.symbol_eq (E.rows model.now)) PRECISION symbol.now
             (content self.new.state (Backend.words_of self.new.words)) (content self.old.state (Backend.words_of self.old.words))) }
         ensures impossible { (fault : _) → result ≡ Err (CoderError.Frontend fault)
@@ -122,8 +120,6 @@ impl<Backend: WordStack<u32>> AnsCoder<Backend> {
     where
         D: DecoderModel<PRECISION, Probability = u32>,
         D::Symbol: Drop,
-        requires positive { 0 < PRECISION }
-        requires fits { PRECISION ≤ 32 }
         ensures ok { IfOk result (λ symbol. IsDecoded D.stands_for (D.rows model.now) PRECISION symbol
             (content self.old.state (Backend.words_of self.old.words)) (content self.new.state (Backend.words_of self.new.words))) }
         ensures memory { (fault : _) → result ≡ Err (CoderError.Frontend fault)

@@ -1,6 +1,6 @@
 //! What callers learn from the contracts alone.
 
-ghost use Rattle.std.specs.Prelude.{◌≡◌, ◌<◌, ◌≤◌, nat_eq, reverse, string_eq, IfOk, IfSome, IsTrue, List, OnOk, Option};
+ghost use Rattle.std.specs.Prelude.{◌≡◌, nat_eq, reverse, string_eq, IfOk, IfSome, IsTrue, List, OnOk, Option};
 ghost use Rattle.constriction.specs.Rows.{entry_of};
 ghost use Rattle.std.specs.Iterator.{IsFinite, YieldsLast};
 ghost use Rattle.std.specs.List.{AllZip};
@@ -33,8 +33,6 @@ pub fn over_a_vec<M, const PRECISION: usize>(
 where
     M: EncoderModel<PRECISION, Probability = u32> + DecoderModel<PRECISION, Probability = u32>,
     M::Symbol: Drop,
-    requires positive { 0 < PRECISION }
-    requires fits { PRECISION ≤ 32 }
     ensures { IfSome result (λ answers. AllZip (StandsForEqual M.stands_for M.symbol_eq) (reverse symbols.now) answers.items) }
 {
     there_and_back::<Vec<u32>, M, M, PRECISION>(alloc, coder, model, model, symbols).ok()
@@ -50,8 +48,6 @@ pub fn in_order<M, const PRECISION: usize>(
 where
     M: EncoderModel<PRECISION, Probability = u32> + DecoderModel<PRECISION, Probability = u32>,
     M::Symbol: Drop,
-    requires positive { 0 < PRECISION }
-    requires fits { PRECISION ≤ 32 }
     ensures { IfSome result (λ answers. AllZip (StandsForEqual M.stands_for M.symbol_eq) symbols.now answers.items) }
 {
     symbols_come_back::<M, M, PRECISION>(model, model);
@@ -111,8 +107,6 @@ where
     Backend: WordStack<u32>,
     D: DecoderModel<PRECISION, Probability = u32>,
     D::Symbol: Drop,
-    requires positive { 0 < PRECISION }
-    requires fits { PRECISION ≤ 32 }
     ensures { IfOk result (λ symbols. InTurn (IsDecoded D.stands_for (D.rows model.now) PRECISION) symbols.items
         (content coder.old.state (Backend.words_of coder.old.words)) (content coder.new.state (Backend.words_of coder.new.words))) }
 {
@@ -140,8 +134,6 @@ where
     E: EncoderModel<PRECISION, Probability = u32>,
     E::Symbol: Drop,
     I: DoubleEndedIterator<Item = E::Symbol>,
-    requires positive { 0 < PRECISION }
-    requires fits { PRECISION ≤ 32 }
     requires can_next_back { I.can_next_back symbols }
     requires ends { IsFinite (I.remaining symbols) }
     ensures { OnOk result ((rest : I → List E.Symbol) → ((s : I) (answer : Option E.Symbol) (t : I) → I.next_back_gives s answer t

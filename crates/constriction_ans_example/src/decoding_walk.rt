@@ -1,6 +1,6 @@
 //! Symbols that are decoded as they are asked for.
 
-ghost use Rattle.std.specs.Prelude.{◌≡◌, ◌<◌, ◌≤◌};
+ghost use Rattle.std.specs.Prelude.{◌≡◌};
 ghost use Rattle.std.specs.Iterator.{at_most, size};
 ghost use Rattle.std.specs.Iterator.SizeHint.{IsExactHint};
 ghost use Rattle.constriction_ans_example.specs.Walks.{walk, StepsOn};
@@ -27,7 +27,6 @@ pub struct DecodeIidSymbols<
     pub(crate) coder: &'c mut AnsCoder<Backend>,
     pub(crate) model: &'m D,
     pub(crate) left: usize,
-    ghost precise: { (0 < PRECISION) × (PRECISION ≤ 32) },
 }
 
 impl<
@@ -102,8 +101,6 @@ impl<Backend: WordStack<u32>> AnsCoder<Backend> {
     where
         D: DecoderModel<PRECISION, Probability = u32>,
         D::Symbol: Drop,
-        requires positive { 0 < PRECISION }
-        requires fits { PRECISION ≤ 32 }
         ensures same_reference { result.coder.ghost_name ≡ self.entry.ghost_name }
         ensures coder { result.coder.now ≡ self.old }
         ensures model { result.model.now ≡ model.now }

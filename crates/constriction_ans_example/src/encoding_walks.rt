@@ -1,6 +1,6 @@
 //! Messages whose symbols an iterator gives.
 
-ghost use Rattle.std.specs.Prelude.{◌<◌, ◌≤◌, IfErr, OnOk};
+ghost use Rattle.std.specs.Prelude.{IfErr, OnOk};
 ghost use Rattle.std.specs.Iterator.{IsFiniteIterable};
 ghost use Rattle.constriction.specs.Rows.{entry_of};
 ghost use Rattle.constriction_ans_example.specs.Steps.{content};
@@ -22,8 +22,6 @@ impl<Backend: WordStack<u32>> AnsCoder<Backend> {
         E: EncoderModel<PRECISION, Probability = u32>,
         E::Symbol: Drop,
         I: IntoIterator<Item = E::Symbol>,
-        requires positive { 0 < PRECISION }
-        requires fits { PRECISION ≤ 32 }
         requires ends { IsFiniteIterable I.into_iter_gives I.IntoIter.can_next I.IntoIter.remaining symbols }
         ensures ok { OnOk result ((it : I.IntoIter) × I.into_iter_gives symbols it
             × EncodesGiven I.IntoIter.next_gives (entry_of E.symbol_eq (E.rows model.now)) PRECISION it
@@ -53,8 +51,6 @@ impl<Backend: WordStack<u32>> AnsCoder<Backend> {
         E::Symbol: Drop,
         I: IntoIterator<Item = E::Symbol>,
         I::IntoIter: DoubleEndedIterator,
-        requires positive { 0 < PRECISION }
-        requires fits { PRECISION ≤ 32 }
         requires ends { IsFiniteIterable I.into_iter_gives I.IntoIter.can_next_back I.IntoIter.remaining symbols }
         ensures ok { OnOk result ((it : I.IntoIter) × I.into_iter_gives symbols it
             × EncodesGiven I.IntoIter.next_back_gives (entry_of E.symbol_eq (E.rows model.now)) PRECISION it

@@ -1,6 +1,6 @@
 //! What comes back, each law the contract of a function.
 
-ghost use Rattle.std.specs.Prelude.{◌≡◌, ◌≢◌, ◌++◌, ◌∷◌, [], ◌<◌, ◌≤◌, ℕ, Some, Ok, Err, IsTrue, length, reverse, IfOk, OnOk};
+ghost use Rattle.std.specs.Prelude.{◌≡◌, ◌≢◌, ◌++◌, ◌∷◌, [], ℕ, Some, Ok, Err, IsTrue, length, reverse, IfOk, OnOk};
 ghost use Rattle.std.specs.List.{AllZip};
 ghost use Rattle.constriction_ans_example.specs.Compressed.{IsCompressed, IsClosed, ClosingStops, IsOpened, OpeningStops};
 ghost use Rattle.constriction_ans_example.specs.Laws.{SymbolComesBack, SymbolsComeBack, EncodedOnce, EncodesThen};
@@ -50,7 +50,6 @@ where
 pub fn encoded_once<E, const PRECISION: usize>(encoder: &E)
 where
     E: EncoderModel<PRECISION, Probability = u32>,
-    requires { PRECISION ≤ 32 }
     ensures { EncodedOnce (entry_of E.symbol_eq (E.rows encoder.now)) PRECISION }
 {}
 
@@ -76,9 +75,7 @@ where
     D: DecoderModel<PRECISION, Probability = u32>,
     D::Symbol: Drop,
     E: EncoderModel<PRECISION, Symbol = D::Symbol, Probability = u32>,
-    requires positive { 0 < PRECISION }
-    requires fits { PRECISION ≤ 32 }
-    requires alike { (s : D.Symbol) → entry_of E.symbol_eq (E.rows encoder.now) s ≡ entry_of E.symbol_eq (D.rows decoder.now) s }
+    requires { (s : D.Symbol) → entry_of E.symbol_eq (E.rows encoder.now) s ≡ entry_of E.symbol_eq (D.rows decoder.now) s }
     ensures back { IfOk result (λ answers. AllZip (StandsForEqual D.stands_for E.symbol_eq) (reverse symbols.now) answers.items) }
     ensures equal { IfOk result (λ answers. ClonesAreEqual E.symbol_eq D.stands_for
         → AllZip (λ symbol answer. IsTrue (E.symbol_eq answer symbol)) (reverse symbols.now) answers.items) }

@@ -1,6 +1,6 @@
 //! A range decoder: what was encoded first is decoded first.
 
-ghost use Rattle.std.specs.Prelude.{◌≡◌, ◌+◌, ◌-◌, ◌^◌, ◌<◌, ◌≤◌, ℕ, Some, None, Ok, Err, IfOk, IfErr, OnErr, length};
+ghost use Rattle.std.specs.Prelude.{◌≡◌, ◌+◌, ◌^◌, ◌<◌, ◌≤◌, ℕ, Some, None, Ok, Err, IfOk, IfErr, OnErr, length};
 ghost use Rattle.constriction_ans_example.specs.Intervals.{interval, held_of, word_or_zero, IsAboveAll, IsStart, IsRead, HoldsPoint, ReadingStops};
 ghost use Rattle.constriction.specs.Coding.{InTurn};
 ghost use Rattle.constriction.specs.Model.{RowMayBeRefused};
@@ -93,8 +93,7 @@ impl<Source: ReadWords<u32, Queue>> RangeDecoder<Source> {
     where
         D: DecoderModel<PRECISION, Probability = u32>,
         D::Symbol: Drop,
-        requires fits { PRECISION ≤ 32 }
-        requires can_read { Source.can_read self.old.words }
+        requires { Source.can_read self.old.words }
         ensures goes_on { Source.can_read self.new.words }
         ensures ok { IfOk result (λ symbol. IsRead D.stands_for (D.rows model.now) Source.read_gives PRECISION symbol
             (held_of self.old.range self.old.offset self.old.words) (held_of self.new.range self.new.offset self.new.words)) }
@@ -150,8 +149,7 @@ impl<Source: ReadWords<u32, Queue>> RangeDecoder<Source> {
     where
         D: DecoderModel<PRECISION, Probability = u32>,
         D::Symbol: Drop,
-        requires fits { PRECISION ≤ 32 }
-        requires can_read { Source.can_read self.old.words }
+        requires { Source.can_read self.old.words }
         ensures goes_on { Source.can_read self.new.words }
         ensures ok { IfOk result (λ symbols. InTurn (IsRead D.stands_for (D.rows model.now) Source.read_gives PRECISION) symbols.items
             (held_of self.old.range self.old.offset self.old.words) (held_of self.new.range self.new.offset self.new.words)) }

@@ -1,6 +1,6 @@
 //! Messages of any number of symbols.
 
-ghost use Rattle.std.specs.Prelude.{◌≡◌, ◌<◌, ◌≤◌, length, reverse, IfOk, IfErr, OnOk};
+ghost use Rattle.std.specs.Prelude.{◌≡◌, length, reverse, IfOk, IfErr, OnOk};
 ghost use Rattle.constriction_ans_example.specs.Steps.{content, IsEncoded, IsDecoded, EncodingStops, DecodingStops};
 ghost use Rattle.constriction.specs.Coding.{InTurn};
 ghost use Rattle.constriction.specs.Rows.{entry_of};
@@ -20,8 +20,6 @@ impl<Backend: WordStack<u32>> AnsCoder<Backend> {
     ) -> Result<(), CoderError<DefaultEncoderFrontendError, Backend::WriteError>>
     where
         E: EncoderModel<PRECISION, Probability = u32>,
-        requires positive { 0 < PRECISION }
-        requires fits { PRECISION ≤ 32 }
         ensures ok { OnOk result (InTurn (IsEncoded (entry_of E.symbol_eq (E.rows model.now)) PRECISION) (reverse symbols.now)
             (content self.new.state (Backend.words_of self.new.words)) (content self.old.state (Backend.words_of self.old.words))) }
         ensures err { IfErr result (λ error. EncodingStops Backend.words_of (entry_of E.symbol_eq (E.rows model.now))
@@ -45,8 +43,6 @@ impl<Backend: WordStack<u32>> AnsCoder<Backend> {
     ) -> Result<(), CoderError<DefaultEncoderFrontendError, Backend::WriteError>>
     where
         E: EncoderModel<PRECISION, Probability = u32>,
-        requires positive { 0 < PRECISION }
-        requires fits { PRECISION ≤ 32 }
         ensures ok { OnOk result (InTurn (IsEncoded (entry_of E.symbol_eq (E.rows model.now)) PRECISION) symbols.now
             (content self.new.state (Backend.words_of self.new.words)) (content self.old.state (Backend.words_of self.old.words))) }
         ensures err { IfErr result (λ error. EncodingStops Backend.words_of (entry_of E.symbol_eq (E.rows model.now))
@@ -73,8 +69,6 @@ impl<Backend: WordStack<u32>> AnsCoder<Backend> {
     where
         D: DecoderModel<PRECISION, Probability = u32>,
         D::Symbol: Drop,
-        requires positive { 0 < PRECISION }
-        requires fits { PRECISION ≤ 32 }
         ensures ok { IfOk result (λ symbols. InTurn (IsDecoded D.stands_for (D.rows model.now) PRECISION) symbols.items
             (content self.old.state (Backend.words_of self.old.words)) (content self.new.state (Backend.words_of self.new.words))) }
         ensures count { IfOk result (λ symbols. length symbols.items ≡ count) }

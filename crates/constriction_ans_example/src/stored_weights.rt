@@ -246,9 +246,7 @@ pub fn model_comes_back<M, const PRECISION: usize>(
 where
     M: IterableEntropyModel<PRECISION, Probability = u32>,
     M::Symbol: Eq + Drop,
-    requires positive { 0 < PRECISION }
-    requires fits { PRECISION ≤ 32 }
-    requires symbols { symbols.items ≡ symbols_of (M.rows model) }
+    requires { symbols.items ≡ symbols_of (M.rows model) }
     ensures rows { IfOk result (λ read. decoder_model_rows read ≡ M.rows model) }
     ensures too_many { result ≡ Err (ReadWriteError.Write (CoderError.Frontend StoringFault.TooManyWeights))
         → 2 ^ 32 ≤ length (M.rows model) }

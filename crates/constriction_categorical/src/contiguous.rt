@@ -1,13 +1,12 @@
 //! Models of the symbols 0, 1, .., which find the row of a quantile by a search.
 
-ghost use Rattle.std.specs.Prelude.{◌≡◌, ◌+◌, ◌^◌, ◌<◌, ◌≤◌, length, map, nat_eq, IfOk, ⊤};
+ghost use Rattle.std.specs.Prelude.{◌≡◌, ◌+◌, ◌^◌, ◌<◌, length, map, nat_eq, IfOk, ⊤};
 ghost use Rattle.std.specs.Iterator.{IsFiniteIterable};
 ghost use Rattle.constriction_model.specs.Acceptance.{completed, IsAccepted, WasReadOf, IsMadeOfWeights};
 ghost use Rattle.std.specs.Cmp.{nat_eq_equiv};
 ghost use Rattle.constriction_model.specs.Precision.{IsPrecision};
 ghost use Rattle.constriction_model.specs.Probe.{IsProbeFor};
 ghost use Rattle.constriction_model.specs.Rows.{contiguous_rows};
-ghost use Rattle.constriction_stored_rows.specs.QuestionLemmas.{all-in-question, none-most};
 ghost use Rattle.constriction_stored_rows.specs.Stored.{IsCdf, lefts_in};
 ghost use Rattle.constriction_stored_rows.specs.StoredRowLemmas.{stored-within, stored-tiles};
 ghost use Rattle.constriction_stored_rows.specs.Stored.{rows_stored};
@@ -16,12 +15,10 @@ use crate::iterable::IterableEntropyModel;
 use crate::symbol_table::ContiguousSymbolTable;
 use constriction_buffers::SafeBuf;
 use constriction_model::{
-    DecoderModel, EncoderModel, EntropyModel, ModelError, Probe, SearchingModel, Weight,
+    DecoderModel, EncoderModel, EntropyModel, ModelError, Probe, Weight, row_in_probe,
 };
 use constriction_numbers::WholeNumber;
-use constriction_stored_rows::{
-    Alone, CdfProbe, cdf_of, contiguous_row_at, copied, row_at, row_in_entries,
-};
+use constriction_stored_rows::{Alone, CdfProbe, cdf_of, contiguous_row_at, copied, row_at};
 use std::alloc::{AllocError, Global};
 use std::marker::PhantomData;
 
@@ -37,7 +34,7 @@ pub struct ContiguousCategoricalEntropyModel<
 > {
     pub(crate) cdf: Cdf,
     probability: PhantomData<Probability>,
-    ghost precise: { (0 < PRECISION) × (PRECISION ≤ Probability.BITS) },
+    ghost precise: { IsPrecision Probability.BITS PRECISION },
     ghost stored: { IsCdf Probability.BITS PRECISION (map Probability.whole (Cdf.words_of cdf)) },
 }
 
@@ -190,6 +187,8 @@ impl<Probability: WholeNumber, Cdf: SafeBuf<Probability>, const PRECISION: usize
     ghost use Rattle.constriction_categorical.specs.ModelRows.{contiguous_model_rows};
 
     ghost rows = { contiguous_model_rows };
+
+    ghost precision_law = { λ m. m.precise };
 }
 
 impl<Probability: WholeNumber, Cdf: SafeBuf<Probability>, const PRECISION: usize> EncoderModel<
@@ -218,43 +217,19 @@ impl<Probability: WholeNumber, Cdf: SafeBuf<Probability>, const PRECISION: usize
 impl<Probability: WholeNumber, Cdf: SafeBuf<Probability>, const PRECISION: usize> DecoderModel<
     PRECISION,
 > for ContiguousCategoricalEntropyModel<Probability, Cdf, PRECISION> {
-    /// The row of a quantile, by a search ([`SearchingModel`]). It takes no memory and always succeeds.
+    /// The row of a quantile, by a search. It takes no memory and always succeeds.
     #[inline(always)]
     fn quantile_function(
         &self,
         quantile: Probability,
     ) -> Result<(usize, Probability, Weight<Probability>), AllocError> {
-        match self.counted_quantile_function(quantile) {
-            Ok((row, _compared)) => Ok(row),
-            Err(refused) => Err(refused),
-        }
+        let cdf = self.cdf.words();
+        let (_, rows) = self.quantile_probe(quantile);
+        let index = row_in_probe::<_, 2>(rows, quantile);
+        Ok(contiguous_row_at::<Probability, PRECISION>(cdf, index))
     }
 
     ghost tile_law = { λ m. stored-tiles _ _ _ m.stored.stored };
-}
-
-impl<Probability: WholeNumber, Cdf: SafeBuf<Probability>, const PRECISION: usize> SearchingModel<
-    PRECISION,
-> for ContiguousCategoricalEntropyModel<Probability, Cdf, PRECISION> {
-    ghost use Rattle.constriction_categorical.specs.ModelRows.{contiguous_model_rows};
-
-    ghost rows_in_question = { λ m q. length (contiguous_model_rows m) };
-
-    /// The row of a quantile, by [`row_in_entries`], and how often that compared it. It takes no memory and
-    /// always succeeds.
-    #[inline(always)]
-    fn counted_quantile_function(
-        &self,
-        quantile: Probability,
-    ) -> Result<((usize, Probability, Weight<Probability>), usize), AllocError> {
-        let (index, asked) = row_in_entries::<Probability, Alone>(self.cdf_entries(), quantile);
-        let row = contiguous_row_at::<Probability, PRECISION>(self.cdf.words(), index);
-        Ok((row, asked))
-    }
-
-    ghost question_law = { λ m. all-in-question _ _ _ (stored-tiles _ _ _ m.stored.stored) };
-
-    ghost least_law = { λ m. none-most };
 }
 
 impl<

@@ -1,14 +1,13 @@
 //! Models that look up where to search for the row of a quantile.
 
-ghost use Rattle.std.specs.Prelude.{◌≡◌, ◌/◌, ◌-◌, ◌^◌, ◌<◌, ◌≤◌, length, map, max, min, count_by, IsTrue, IfOk, IfErr};
-ghost use Rattle.constriction_model.specs.Probe.{digits, IsProbeFor, IsRowIndexOf};
-ghost use Rattle.constriction_stored_rows.specs.QuestionLemmas.{least-most, met-in-question};
-ghost use Rattle.constriction_stored_rows.specs.Slots.{least_in_slots, meets_slot, slot_width};
+ghost use Rattle.std.specs.Prelude.{◌≡◌, ◌/◌, ◌^◌, ◌<◌, ◌≤◌, length, map, min, IsTrue, IfOk, IfErr};
+ghost use Rattle.constriction_model.specs.Probe.{IsProbeFor, IsRowIndexOf};
+ghost use Rattle.constriction_stored_rows.specs.Slots.{meets_slot, slot_width};
 ghost use Rattle.constriction_stored_rows.specs.SlotTable.{BeginsWithSlots, HasSlots, MayFollow};
 
 use crate::stores_rows::{AnswersRows, OfAnySymbols, OfNumbers, StoresRows};
 use constriction_buffers::SafeBuf;
-use constriction_model::{DecoderModel, EntropyModel, ModelError, Probe, SearchingModel, Weight};
+use constriction_model::{DecoderModel, EntropyModel, ModelError, Probe, Weight};
 use constriction_stored_rows::{CdfProbe, row_in_slot, slot_probe, table_of_slots, words_of_table};
 use std::alloc::{AllocError, Global};
 
@@ -55,6 +54,8 @@ where
     ghost use Rattle.constriction_categorical.specs.ModelRows.{lookup_model_rows};
 
     ghost rows = { lookup_model_rows };
+
+    ghost precision_law = { λ m. Model.precision_law m.model };
 }
 
 impl<
@@ -165,15 +166,11 @@ where
         )
     }
 
-    /// The index of a quantile's row, and how often the quantile was compared with where a row begins.
+    /// The index of a quantile's row.
     #[inline(always)]
-    fn row_index(&self, quantile: Model::Probability) -> (usize, usize)
+    fn row_index(&self, quantile: Model::Probability) -> usize
         requires { Model.Probability.whole quantile < 2 ^ PRECISION }
-        ensures index { IsRowIndexOf (Model.rows self.now.model) (Model.Probability.whole quantile) result.0 }
-        ensures few { result.1 ≤ digits (length (Model.rows self.now.model) - 1) }
-        ensures counted { result.1 ≡ max (least_in_slots PRECISION SLOT_BITS (length (Model.rows self.now.model)))
-            (digits (count_by (meets_slot (slot_width PRECISION SLOT_BITS)
-            (Model.Probability.whole quantile / slot_width PRECISION SLOT_BITS)) (Model.rows self.now.model) - 1)) }
+        ensures { IsRowIndexOf (Model.rows self.now.model) (Model.Probability.whole quantile) result }
     {
         row_in_slot::<Model::Entry, Model::Kind, PRECISION, SLOT_BITS>(
             self.model.entries(),
@@ -193,8 +190,8 @@ where
 
     ghost may_refuse = { Model.may_refuse };
 
-    /// The row of a quantile, by the lookup table, and where more than one row meets the quantile's slot by a
-    /// search of those ([`SearchingModel`]). Where the model owns its symbols the answer has a clone.
+    /// The row of a quantile, by the lookup table, and where more than one row meets the quantile's slot by comparing
+    /// the quantile with where these begin. Where the model owns its symbols the answer has a clone.
     #[inline(always)]
     fn quantile_function(
         &self,
@@ -207,54 +204,11 @@ where
         ),
         AllocError,
     > {
-        match self.counted_quantile_function(quantile) {
-            Ok((row, _compared)) => Ok(row),
-            Err(refused) => Err(refused),
-        }
+        let index = self.row_index(quantile);
+        self.model.row_beside(self.after_slots(), index)
     }
 
     ghost tile_law = { λ m. Model.tile_law m.model };
-}
-
-impl<Model, LookupTable, const PRECISION: usize, const SLOT_BITS: usize> SearchingModel<PRECISION>
-    for LookupDecoderModel<Model, LookupTable, PRECISION, SLOT_BITS>
-where
-    Model: AnswersRows<PRECISION>,
-    LookupTable: SafeBuf<Model::Probability>,
-{
-    ghost rows_in_question = { λ m q. count_by
-        (meets_slot (slot_width PRECISION SLOT_BITS) (q / slot_width PRECISION SLOT_BITS)) (Model.rows m.model) };
-
-    ghost least_compared = { λ m. least_in_slots PRECISION SLOT_BITS (length (Model.rows m.model)) };
-
-    /// The row of a quantile, and how often it was compared with where a row begins. Where a slot holds one quantile
-    /// that is never. A model of at most two rows, or of at most a sixteenth as many rows as there are slots, searches
-    /// the rows that meet the slot. Any other makes two comparisons where up to three rows meet it, and searches more.
-    #[inline(always)]
-    fn counted_quantile_function(
-        &self,
-        quantile: Model::Probability,
-    ) -> Result<
-        (
-            (
-                Model::Symbol,
-                Model::Probability,
-                Weight<Model::Probability>,
-            ),
-            usize,
-        ),
-        AllocError,
-    > {
-        let (index, compared) = self.row_index(quantile);
-        match self.model.row_beside(self.after_slots(), index) {
-            Ok(row) => Ok((row, compared)),
-            Err(refused) => Err(refused),
-        }
-    }
-
-    ghost question_law = { λ m. met-in-question _ _ _ (Model.rows m.model) (Model.tile_law m.model) };
-
-    ghost least_law = { λ m. least-most PRECISION SLOT_BITS (length (Model.rows m.model)) };
 }
 
 impl<Model, LookupTable, const PRECISION: usize, const SLOT_BITS: usize> LookupDecoderModel<

@@ -9,7 +9,6 @@ ghost use Rattle.constriction_model.specs.Model.{StandForRows, ClonesAreEqual};
 ghost use Rattle.constriction_model.specs.Precision.{IsPrecision};
 ghost use Rattle.constriction_model.specs.Probe.{IsProbeFor};
 ghost use Rattle.constriction_model.specs.Rows.{rows_of};
-ghost use Rattle.constriction_stored_rows.specs.QuestionLemmas.{all-in-question, none-most};
 ghost use Rattle.constriction_stored_rows.specs.Stored.{IsStored, StandBeside, rows_paired};
 ghost use Rattle.constriction_stored_rows.specs.SymbolRowLemmas.{paired-tiles};
 ghost use Rattle.constriction_model.specs.Tables.{rows_between};
@@ -17,11 +16,11 @@ ghost use Rattle.constriction_model.specs.Tables.{rows_between};
 use crate::iterable::IterableEntropyModel;
 use crate::non_contiguous_table::NonContiguousSymbolTable;
 use constriction_buffers::SafeBuf;
-use constriction_model::{DecoderModel, EntropyModel, ModelError, Probe, SearchingModel, Weight};
+use constriction_model::{DecoderModel, EntropyModel, ModelError, Probe, Weight, row_in_probe};
 use constriction_numbers::WholeNumber;
 use constriction_stored_rows::{
-    CdfProbe, WithSymbol, cloned_row_at, entries_announced, entries_cloned, room_for,
-    row_in_entries, rows_read, words_beside,
+    CdfProbe, WithSymbol, cloned_row_at, entries_announced, entries_cloned, room_for, rows_read,
+    words_beside,
 };
 use std::alloc::{AllocError, Global};
 use std::marker::PhantomData;
@@ -40,7 +39,7 @@ pub struct NonContiguousCategoricalDecoderModel<
     pub(crate) cdf: Cdf,
     pub(crate) beside: [Probability; 2],
     pub(crate) entries: PhantomData<(Probability, Symbol)>,
-    ghost precise: { (0 < PRECISION) × (PRECISION ≤ Probability.BITS) },
+    ghost precise: { IsPrecision Probability.BITS PRECISION },
     ghost stored: { IsStored Probability.BITS PRECISION (map (λ x. Probability.whole x.0) (Cdf.words_of cdf)) },
     ghost aided: { StandBeside Probability.BITS PRECISION (map (λ x. Probability.whole x.0) (Cdf.words_of cdf))
         (map Probability.whole beside) },
@@ -69,6 +68,8 @@ impl<
     ghost use Rattle.constriction_categorical.specs.ModelRows.{decoder_model_rows};
 
     ghost rows = { decoder_model_rows };
+
+    ghost precision_law = { λ m. m.precise };
 }
 
 /// The entries of these symbols and weights, if no symbol is equal to one before it.
@@ -315,49 +316,19 @@ impl<
 
     ghost may_refuse = { λ s. ¬ (Symbol.is_infallible s) };
 
-    /// The row of a quantile, by a search ([`SearchingModel`]), with a clone of its symbol.
+    /// The row of a quantile, by a search, with a clone of its symbol.
     #[inline(always)]
     fn quantile_function(
         &self,
         quantile: Probability,
     ) -> Result<(Symbol, Probability, Weight<Probability>), AllocError> {
-        match self.counted_quantile_function(quantile) {
-            Ok((row, _compared)) => Ok(row),
-            Err(refused) => Err(refused),
-        }
+        let entries = self.cdf_entries();
+        let (_, rows) = self.quantile_probe(quantile);
+        let index = row_in_probe::<_, 2>(rows, quantile);
+        cloned_row_at::<Probability, Symbol, PRECISION>(entries, &self.beside, index)
     }
 
     ghost tile_law = { λ m. paired-tiles Probability.whole _ _ _ m.stored };
-}
-
-impl<
-    Symbol: Eq + Clone,
-    Probability: WholeNumber,
-    Cdf: SafeBuf<(Probability, Symbol)>,
-    const PRECISION: usize,
-> SearchingModel<PRECISION>
-    for NonContiguousCategoricalDecoderModel<Symbol, Probability, Cdf, PRECISION> {
-    ghost use Rattle.constriction_categorical.specs.ModelRows.{decoder_model_rows};
-
-    ghost rows_in_question = { λ m q. length (decoder_model_rows m) };
-
-    /// The row of a quantile, by [`row_in_entries`], with a clone of its symbol, and how often that compared it.
-    #[inline(always)]
-    fn counted_quantile_function(
-        &self,
-        quantile: Probability,
-    ) -> Result<((Symbol, Probability, Weight<Probability>), usize), AllocError> {
-        let entries = self.cdf_entries();
-        let (index, asked) = row_in_entries::<(Probability, Symbol), WithSymbol>(entries, quantile);
-        match cloned_row_at::<Probability, Symbol, PRECISION>(entries, &self.beside, index) {
-            Ok(row) => Ok((row, asked)),
-            Err(refused) => Err(refused),
-        }
-    }
-
-    ghost question_law = { λ m. all-in-question _ _ _ (paired-tiles Probability.whole _ _ _ m.stored) };
-
-    ghost least_law = { λ m. none-most };
 }
 
 impl<

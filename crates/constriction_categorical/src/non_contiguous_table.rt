@@ -1,8 +1,9 @@
 //! The walk through the rows of a model that stores its symbols.
 
-ghost use Rattle.std.specs.Prelude.{◌<◌, ◌≤◌, length, map};
+ghost use Rattle.std.specs.Prelude.{◌≤◌, length, map};
 ghost use Rattle.std.specs.Iterator.{at_most, size};
 ghost use Rattle.std.specs.Iterator.SizeHint.{IsExactHint};
+ghost use Rattle.constriction_model.specs.Precision.{IsPrecision};
 ghost use Rattle.constriction_stored_rows.specs.Stored.{IsStored, rows_paired};
 ghost use Rattle.constriction_model.specs.Tables.{YieldsRow, YieldsLastRow, rows_between};
 
@@ -25,7 +26,7 @@ pub struct NonContiguousSymbolTable<'m, Symbol, Probability: WholeNumber, const 
     pub(crate) cdf: &'m [(Probability, Symbol)],
     pub(crate) from: usize,
     pub(crate) to: usize,
-    ghost precise: { (0 < PRECISION) × (PRECISION ≤ Probability.BITS) },
+    ghost precise: { IsPrecision Probability.BITS PRECISION },
     ghost stored: { IsStored Probability.BITS PRECISION (map (λ x. Probability.whole x.0) cdf.now) },
     ghost in_order: { from ≤ to },
     ghost in_bounds: { to ≤ length cdf.now },

@@ -1,6 +1,6 @@
 //! Models that store their rows, which is what a lookup table stands beside.
 
-ghost use Rattle.std.specs.Prelude.{◌≡◌, ◌<◌, ◌≤◌, length, map, slice_get, Some, IfOk};
+ghost use Rattle.std.specs.Prelude.{◌≡◌, ◌<◌, length, map, slice_get, Some, IfOk};
 ghost use Rattle.constriction_model.specs.Model.{row_of, LiesWithin};
 ghost use Rattle.constriction_model.specs.Rows.{Row, RowsTile};
 ghost use Rattle.constriction_model.specs.Tables.{StandsFor};
@@ -36,9 +36,6 @@ pub trait StoresRows<const PRECISION: usize>: EntropyModel<PRECISION> {
     fn wants_ends(&self) -> bool {
         false
     }
-
-    // The precision is one of the words.
-    ghost precise_law: { (m : Self) → PRECISION ≤ Self.Probability.BITS };
 
     // The rows tile the quantiles.
     ghost stored_law: { (m : Self) → RowsTile Self.Probability.BITS PRECISION (Self.rows m) };
@@ -89,8 +86,6 @@ impl<Probability: WholeNumber, Cdf: SafeBuf<Probability>, const PRECISION: usize
         self.cdf_entries()
     }
 
-    ghost precise_law = { λ m. m.precise.1 };
-
     ghost stored_law = { λ m. stored-tiles _ _ _ m.stored.stored };
 }
 
@@ -126,8 +121,6 @@ impl<
     fn wants_ends(&self) -> bool {
         true
     }
-
-    ghost precise_law = { λ m. m.precise.1 };
 
     ghost stored_law = { λ m. paired-tiles Probability.whole _ _ _ m.stored };
 }

@@ -32,5 +32,5 @@ impl<Probability: WholeNumber, const PRECISION: usize> IterableEntropyModel<PREC
 
     ghost steps_law = { λ t r u step. step };
 
-    ghost tile_law = { λ m. uniform-tiles PRECISION _ m.within _ m.fits m.some };
+    ghost tile_law = { λ m. uniform-tiles PRECISION _ m.within _ m.precise.fits m.some };
 }

@@ -7,7 +7,6 @@ ghost use Rattle.constriction.specs.Acceptance.{completed, AreAccepted, WasReadO
 ghost use Rattle.constriction.specs.Model.{StandForRows, ClonesAreSame, ClonesAreEqual};
 ghost use Rattle.constriction.specs.ModelRows.{decoder_model_rows};
 ghost use Rattle.constriction.specs.Rows.{Row, rows_of, symbols_of};
-ghost use Rattle.constriction.specs.Precision.{IsLookupPrecision};
 ghost use Rattle.constriction_client.specs.Chains.{is_lookup, is_lookup_after, StepLeaves, ChainLeaves};
 ghost use Rattle.constriction_client.specs.FormRows.{form_rows};
 
@@ -122,8 +121,6 @@ fn searched<Symbol: Eq + Clone + Drop, Probability: IndexWord, const PRECISION: 
     alloc: Global,
     form: &DecoderForm<Symbol, Probability, PRECISION>,
 ) -> Result<Searching<Symbol, Probability, PRECISION>, ModelError>
-    requires positive { 0 < PRECISION }
-    requires fits { PRECISION ≤ Probability.BITS }
     requires clones { ClonesAreEqual Symbol.eq Symbol.is_clone }
     requires distinct { IsDistinct Symbol.eq (symbols_of (form_rows form.now)) }
     ensures rows { IfOk result (λ m. StandForRows Symbol.is_clone (decoder_model_rows m) (form_rows form.now)) }
@@ -207,8 +204,7 @@ impl<Symbol: Eq + Clone + Drop, Probability: IndexWord, const PRECISION: usize> 
 
     ghost looks_up = { is_lookup };
 
-    ghost may_convert = { (0 < PRECISION) × (PRECISION ≤ Probability.BITS) × (PRECISION ≤ 63)
-        × ClonesAreEqual Symbol.eq Symbol.is_clone
+    ghost may_convert = { (PRECISION ≤ 63) × ClonesAreEqual Symbol.eq Symbol.is_clone
         × ((form : _) → IsDistinct Symbol.eq (symbols_of
         (⟦<DecoderForm<Symbol, Probability, PRECISION> as EntropyModel<PRECISION>>⟧.rows form))) };
 
@@ -300,7 +296,7 @@ pub fn convert_chain<Symbol: Eq + Clone + Drop, Probability: IndexWord, const PR
     form: DecoderForm<Symbol, Probability, PRECISION>,
     steps: &[ChainStep],
 ) -> Result<DecoderForm<Symbol, Probability, PRECISION>, ModelError>
-    requires precision { IsLookupPrecision Probability.BITS PRECISION }
+    requires narrow { PRECISION ≤ 63 }
     requires clones { ClonesAreEqual Symbol.eq Symbol.is_clone }
     ensures rows { IfOk result (λ made. ChainLeaves Symbol.is_clone steps.now (form_rows form) (form_rows made)) }
     ensures exact { IfOk result (λ made. ClonesAreSame Symbol.is_clone → form_rows made ≡ form_rows form) }

@@ -44,12 +44,18 @@ pub type DecoderForm<Symbol, Probability, const PRECISION: usize> = SearchOrLook
 impl<Symbol: Eq, Probability: IndexWord, const PRECISION: usize> EntropyModel<PRECISION>
     for DecoderForm<Symbol, Probability, PRECISION> {
     ghost use Rattle.constriction_client.specs.FormRows.{form_rows};
+    ghost use Rattle.constriction_client.specs.declared.decoder_form.SearchOrLookup.TheVariants as form;
 
     type Symbol = Symbol;
 
     type Probability = Probability;
 
     ghost rows = { form_rows };
+
+    ghost precision_law = { elim [
+      | form.Search s ↦ s.precise
+      | form.Lookup s ↦ s.model.precise
+    ] };
 }
 
 impl<Symbol: Eq + Clone, Probability: IndexWord, const PRECISION: usize> DecoderModel<PRECISION>

@@ -3,7 +3,6 @@
 ghost use Rattle.std.specs.Prelude.{◌≡◌, ◌+◌, ◌^◌, ◌<◌, ◌≤◌, ℕ, IfOk, IfErr, OnOk};
 ghost use Rattle.std.specs.Prelude.{Option, Some};
 ghost use Rattle.constriction.specs.Rows.{entry_of};
-ghost use Rattle.constriction.specs.Precision.{IsPrecision};
 ghost use Rattle.constriction_client.specs.Quantiles.{IsQuantileOf, IsFaultOf, WritesItems, StopsAtItem};
 ghost use Rattle.constriction_client.specs.Quantiles.{IsPairOf, IsReadFaultOf, ReadsPairs};
 
@@ -64,7 +63,6 @@ fn quantile_of<E, const PRECISION: usize>(
 ) -> Result<E::Probability, QuantileFault>
 where
     E: EncoderModel<PRECISION>,
-    requires { PRECISION ≤ E.Probability.BITS }
     ensures ok { IfOk result (λ word. IsQuantileOf (entry_of E.symbol_eq (E.rows encoder.now)) E.Probability.whole
         item.now (E.Probability.whole word)) }
     ensures err { IfErr result (IsFaultOf (entry_of E.symbol_eq (E.rows encoder.now)) E.Probability.whole item.now) }
@@ -83,8 +81,6 @@ fn pair_of<M, const PRECISION: usize>(
 ) -> Result<(M::Symbol, M::Probability), ReadFault>
 where
     M: DecoderModel<PRECISION>,
-    requires positive { 0 < PRECISION }
-    requires fits { PRECISION ≤ M.Probability.BITS }
     ensures ok { IfOk result (IsPairOf M.stands_for (M.rows model.now) M.Probability.whole word) }
     ensures in_range { OnOk result (M.Probability.whole word < 2 ^ PRECISION) }
     ensures err { IfErr result (IsReadFaultOf PRECISION (M.Probability.whole word)) }
@@ -112,7 +108,6 @@ pub fn write_quantiles<E, W, const PRECISION: usize>(
 where
     E: EncoderModel<PRECISION>,
     W: WriteWords<E::Probability>,
-    requires fits { PRECISION ≤ E.Probability.BITS }
     requires can_write { W.can_write sink.old }
     ensures ok { OnOk result (WritesItems (entry_of E.symbol_eq (E.rows encoder.now)) E.Probability.whole
         W.write_gives W.tells_written items.now sink.old sink.new) }
@@ -152,7 +147,6 @@ where
     M: DecoderModel<PRECISION>,
     M::Symbol: Drop,
     R: ReadWords<M::Probability, S>,
-    requires precision { IsPrecision M.Probability.BITS PRECISION }
     requires can_read { R.can_read source.old }
     ensures pairs { ReadsPairs M.stands_for PRECISION (M.rows model.now) M.Probability.whole R.read_gives R.tells_upcoming
         count source.old out.old.items result source.new out.new.items }

@@ -1,9 +1,8 @@
 //! Questions to two models, and the replies to them.
 
-ghost use Rattle.std.specs.Prelude.{◌<◌, ◌≤◌, IfOk, map};
+ghost use Rattle.std.specs.Prelude.{IfOk, map};
 ghost use Rattle.constriction.specs.Entries.{SameEntries};
 ghost use Rattle.constriction.specs.Rows.{entry_of};
-ghost use Rattle.constriction.specs.Precision.{IsPrecision};
 ghost use Rattle.constriction_client.specs.Replies.{in_numbers, reply_to_query, replies_by_scan};
 ghost use Rattle.constriction_client.specs.Replies.{StandsForReply, AreRepliesOf};
 
@@ -44,8 +43,6 @@ fn answer_query<D, E, const PRECISION: usize>(
 where
     D: DecoderModel<PRECISION>,
     E: EncoderModel<PRECISION, Symbol = D::Symbol, Probability = D::Probability>,
-    requires positive { 0 < PRECISION }
-    requires fits { PRECISION ≤ D.Probability.BITS }
     ensures { IfOk result (λ reply. StandsForReply D.stands_for (in_numbers D.Probability.whole D.Probability.base reply)
         (reply_to_query PRECISION D.Probability.whole (D.rows form.now)
         (entry_of E.symbol_eq (E.rows encoder.now)) query.now)) }
@@ -84,7 +81,6 @@ where
     D: DecoderModel<PRECISION>,
     D::Symbol: Drop,
     E: EncoderModel<PRECISION, Symbol = D::Symbol, Probability = D::Probability>,
-    requires precision { IsPrecision D.Probability.BITS PRECISION }
     ensures ok { IfOk result (λ replies. AreRepliesOf D.stands_for
         (map (reply_to_query PRECISION D.Probability.whole (D.rows form.now) (entry_of E.symbol_eq (E.rows encoder.now))) queries.now)
         (map (in_numbers D.Probability.whole D.Probability.base) replies.items)) }

@@ -1,6 +1,6 @@
 //! Chains of conversions, and the forms that they leave.
 
-ghost use Rattle.std.specs.Prelude.{◌<◌, ◌≤◌, [], ◌∷◌, IfOk};
+ghost use Rattle.std.specs.Prelude.{◌≤◌, [], ◌∷◌, IfOk};
 ghost use Rattle.constriction.specs.Model.{ClonesAreEqual};
 ghost use Rattle.constriction_client.specs.Chains.{ChainLeaves};
 ghost use Rattle.constriction_client.specs.declared.chain.ChainStep.TheVariants.{ToLookup, Rebuild, IntoSearch};
@@ -34,8 +34,6 @@ fn searched_again<Symbol: Eq + Clone + Drop, Probability: IndexWord, const PRECI
     alloc: Global,
     form: DecoderForm<Symbol, Probability, PRECISION>,
 ) -> Result<DecoderForm<Symbol, Probability, PRECISION>, ModelError>
-    requires positive { 0 < PRECISION }
-    requires fits { PRECISION ≤ Probability.BITS }
     requires narrow { PRECISION ≤ 63 }
     requires clones { ClonesAreEqual Symbol.eq Symbol.is_clone }
     ensures { IfOk result (λ made. ChainLeaves Symbol.is_clone (ToLookup ∷ Rebuild ∷ IntoSearch ∷ [])

@@ -2,7 +2,7 @@
 
 ghost use Rattle.std.specs.Prelude.{◌≡◌, [], ◌∷◌, nat_eq};
 ghost use Rattle.std.specs.Cmp.{nat_eq_equiv};
-ghost use Rattle.std.proofs.Common.{rules};
+ghost use Rattle.std.proofs.Common.{lit<, lit≤, rules};
 ghost use Rattle.constriction.specs.Rows.{rows_of};
 
 use crate::checks::{end_of_requests, holds, prints, same};
@@ -113,6 +113,8 @@ impl EntropyModel<2> for Letters {
     type Probability = u8;
 
     ghost rows = { λ _. rows_of (97 ∷ 98 ∷ 97 ∷ []) (1 ∷ 2 ∷ 1 ∷ []) };
+
+    ghost precision_law = { λ _. record { positive = lit< tt; fits = lit≤ tt } };
 }
 
 impl EncoderModel<2> for Letters {

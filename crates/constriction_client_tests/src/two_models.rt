@@ -1,8 +1,8 @@
 //! Items that one model writes and another one reads back: through a stack, and in a cursor.
 
-ghost use Rattle.std.specs.Prelude.{◌≡◌, ◌<◌, ◌≤◌, [], ◌∷◌, nat_eq};
+ghost use Rattle.std.specs.Prelude.{◌≡◌, [], ◌∷◌, nat_eq};
 ghost use Rattle.std.specs.Cmp.{nat_eq_equiv};
-ghost use Rattle.std.proofs.Common.{rules};
+ghost use Rattle.std.proofs.Common.{lit<, lit≤, rules};
 ghost use Rattle.constriction.specs.Rows.{entry_of};
 
 use crate::checks::{end_of_requests, holds, same, small};
@@ -29,6 +29,8 @@ impl EntropyModel<2> for LetterEntries {
     type Probability = u8;
 
     ghost rows = { λ _. record { symbol = 98; left = 1; weight = 2 } ∷ record { symbol = 97; left = 3; weight = 1 } ∷ [] };
+
+    ghost precision_law = { λ _. record { positive = lit< tt; fits = lit≤ tt } };
 }
 
 impl EncoderModel<2> for LetterEntries {
@@ -60,9 +62,7 @@ where
     D: DecoderModel<PRECISION>,
     D::Symbol: Drop,
     E: EncoderModel<PRECISION, Symbol = D::Symbol, Probability = D::Probability>,
-    requires positive { 0 < PRECISION }
-    requires fits { PRECISION ≤ D.Probability.BITS }
-    requires alike { (s : D.Symbol) → entry_of E.symbol_eq (E.rows encoder.now) s
+    requires { (s : D.Symbol) → entry_of E.symbol_eq (E.rows encoder.now) s
         ≡ entry_of E.symbol_eq (D.rows decoder.now) s }
 {
     there_and_back_of_two(alloc, decoder, encoder, items)
@@ -79,9 +79,7 @@ where
     D: DecoderModel<PRECISION, Probability = u8>,
     D::Symbol: Drop,
     E: EncoderModel<PRECISION, Symbol = D::Symbol, Probability = u8>,
-    requires positive { 0 < PRECISION }
-    requires fits { PRECISION ≤ 8 }
-    requires alike { (s : D.Symbol) → entry_of E.symbol_eq (E.rows encoder.now) s ≡ entry_of E.symbol_eq (D.rows decoder.now) s }
+    requires { (s : D.Symbol) → entry_of E.symbol_eq (E.rows encoder.now) s ≡ entry_of E.symbol_eq (D.rows decoder.now) s }
 {
     back_of_any(alloc, decoder, encoder, items)
 }

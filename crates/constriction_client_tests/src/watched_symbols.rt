@@ -144,6 +144,8 @@ impl<Model: EntropyModel<24>> EntropyModel<24> for Unannounced<Model> {
     type Probability = Model::Probability;
 
     ghost rows = { λ m. Model.rows m.model };
+
+    ghost precision_law = { λ m. Model.precision_law m.model };
 }
 
 impl<Model: IterableEntropyModel<24>> IterableEntropyModel<24> for Unannounced<Model> {

@@ -1,10 +1,9 @@
 //! Models that are made from any model that can be walked through.
 
-ghost use Rattle.std.specs.Prelude.{◌≡◌, ◌<◌, ◌≤◌, map, IfOk, IfErr, ⊤};
+ghost use Rattle.std.specs.Prelude.{◌≡◌, ◌≤◌, map, IfOk, IfErr, ⊤};
 ghost use Rattle.std.specs.List.{IsDistinct};
 ghost use Rattle.constriction_model.specs.Entries.{HoldsEntriesOf};
 ghost use Rattle.constriction_model.specs.Model.{StandApart, ClonesRepeat};
-ghost use Rattle.constriction_model.specs.Precision.{IsPrecision, IsLookupPrecision};
 ghost use Rattle.constriction_stored_rows.specs.Stored.{IsStored, rows_paired};
 ghost use Rattle.constriction_categorical.specs.ModelRows.{decoder_model_rows, lookup_model_rows};
 ghost use Rattle.constriction_conversions.specs.EncoderRows.{encoder_model_rows};
@@ -65,13 +64,14 @@ pub trait FromIterableEntropyModel<
     // Where none is made of a model, want of memory aside. Of a type that refuses no model it is ⊥.
     ghost refuses: { M → Type 0 };
 
-    // What the type asks of PRECISION and, where it may compare symbols, that the model's `symbols_differ` speaks of their equality.
-    ghost precise: { Type 0 };
+    // Where one can be made: of a lookup model that `PRECISION` is at most 63, and of each type that may compare symbols that the
+    // model's `symbols_differ` speaks of their equality.
+    ghost can_make: { Type 0 };
 
     /// The model of the same rows. `OutOfMemory` comes where memory for it, or for a clone of a symbol, is
     /// refused, `InvalidTable` where the type says so.
     fn from_iterable_entropy_model(alloc: Global, model: M) -> Result<Self, ModelError>
-        requires { precise }
+        requires { can_make }
         ensures ok { IfOk result (tells model) }
         ensures invalid { result ≡ Err ModelError.InvalidTable → refuses model };
 }
@@ -94,7 +94,7 @@ where
 
     ghost refuses = { λ m. ClonesRepeat M.Symbol.eq M.stands_for (M.rows m) };
 
-    ghost precise = { IsPrecision M.Probability.BITS PRECISION × M.is_equality M.Symbol.eq };
+    ghost can_make = { M.is_equality M.Symbol.eq };
 
     fn from_iterable_entropy_model(alloc: Global, model: M) -> Result<Self, ModelError> {
         to_generic_decoder_model::<M, PRECISION>(alloc, model)
@@ -120,7 +120,7 @@ where
 
     ghost refuses = { λ m. ClonesRepeat M.Symbol.eq M.stands_for (M.rows m) };
 
-    ghost precise = { IsLookupPrecision M.Probability.BITS PRECISION × M.is_equality M.Symbol.eq };
+    ghost can_make = { (PRECISION ≤ 63) × M.is_equality M.Symbol.eq };
 
     fn from_iterable_entropy_model(alloc: Global, model: M) -> Result<Self, ModelError> {
         to_generic_slotted_lookup_decoder_model::<M, PRECISION, SLOT_BITS>(alloc, model)
@@ -139,7 +139,7 @@ where
 
     ghost refuses = { λ _. ⊥ };
 
-    ghost precise = { ⊤ };
+    ghost can_make = { ⊤ };
 
     fn from_iterable_entropy_model(alloc: Global, model: M) -> Result<Self, ModelError> {
         to_generic_encoder_model::<M, PRECISION>(alloc, model)
@@ -156,8 +156,6 @@ fn entries_apart<M, const PRECISION: usize>(
 where
     M: IterableEntropyModel<PRECISION>,
     M::Symbol: Eq + Drop,
-    requires positive { 0 < PRECISION }
-    requires fits { PRECISION ≤ M.Probability.BITS }
     ensures stored { IfOk result (λ v. IsStored M.Probability.BITS PRECISION (map (λ x. M.Probability.whole x.0) v.items)) }
     ensures distinct { IfOk result (λ v. IsDistinct M.Symbol.eq (map (λ x. x.1) v.items)) }
     ensures rows { IfOk result (λ v. StandApart M.Symbol.eq M.stands_for
@@ -177,9 +175,7 @@ fn entries_told<M, const PRECISION: usize>(
 where
     M: IterableEntropyModel<PRECISION>,
     M::Symbol: Eq + Drop,
-    requires positive { 0 < PRECISION }
-    requires fits { PRECISION ≤ M.Probability.BITS }
-    requires equality { M.is_equality M.Symbol.eq }
+    requires { M.is_equality M.Symbol.eq }
     ensures stored { IfOk result (λ v. IsStored M.Probability.BITS PRECISION (map (λ x. M.Probability.whole x.0) v.items)) }
     ensures distinct { IfOk result (λ v. IsDistinct M.Symbol.eq (map (λ x. x.1) v.items)) }
     ensures rows { IfOk result (λ v. StandApart M.Symbol.eq M.stands_for
@@ -216,8 +212,7 @@ pub fn to_generic_decoder_model<M, const PRECISION: usize>(
 where
     M: IterableEntropyModel<PRECISION>,
     M::Symbol: Eq + Drop,
-    requires precision { IsPrecision M.Probability.BITS PRECISION }
-    requires equality { M.is_equality M.Symbol.eq }
+    requires { M.is_equality M.Symbol.eq }
     ensures ok { IfOk result (λ d. StandApart M.Symbol.eq M.stands_for (decoder_model_rows d) (M.rows model)) }
     ensures invalid { result ≡ Err ModelError.InvalidTable → ClonesRepeat M.Symbol.eq M.stands_for (M.rows model) }
 {
@@ -236,7 +231,6 @@ pub fn to_generic_decoder_model_by_comparison<M, const PRECISION: usize>(
 where
     M: IterableEntropyModel<PRECISION>,
     M::Symbol: Eq + Drop,
-    requires precision { IsPrecision M.Probability.BITS PRECISION }
     ensures ok { IfOk result (λ d. StandApart M.Symbol.eq M.stands_for (decoder_model_rows d) (M.rows model)) }
     ensures invalid { result ≡ Err ModelError.InvalidTable → ClonesRepeat M.Symbol.eq M.stands_for (M.rows model) }
 {
@@ -263,7 +257,7 @@ where
     M: IterableEntropyModel<PRECISION>,
     M::Symbol: Eq + Drop,
     M::Probability: IndexWord,
-    requires precision { IsLookupPrecision M.Probability.BITS PRECISION }
+    requires narrow { PRECISION ≤ 63 }
     requires equality { M.is_equality M.Symbol.eq }
     ensures ok { IfOk result (λ d. StandApart M.Symbol.eq M.stands_for (lookup_model_rows d) (M.rows model)) }
     ensures invalid { result ≡ Err ModelError.InvalidTable → ClonesRepeat M.Symbol.eq M.stands_for (M.rows model) }
@@ -280,7 +274,7 @@ where
     M: IterableEntropyModel<PRECISION>,
     M::Symbol: Eq + Drop,
     M::Probability: IndexWord,
-    requires precision { IsLookupPrecision M.Probability.BITS PRECISION }
+    requires narrow { PRECISION ≤ 63 }
     requires equality { M.is_equality M.Symbol.eq }
     ensures ok { IfOk result (λ d. StandApart M.Symbol.eq M.stands_for (lookup_model_rows d) (M.rows model)) }
     ensures invalid { result ≡ Err ModelError.InvalidTable → ClonesRepeat M.Symbol.eq M.stands_for (M.rows model) }

@@ -1,6 +1,6 @@
 //! Models of any symbols for encoders, which find the entry of a symbol by its hash.
 
-ghost use Rattle.std.specs.Prelude.{◌≡◌, ◌<◌, All, length};
+ghost use Rattle.std.specs.Prelude.{◌≡◌, All, length};
 ghost use Rattle.std.specs.Iterator.{IsFiniteIterable};
 ghost use Rattle.std.specs.List.{IsDistinct};
 ghost use Rattle.std.specs.Map.{keys_of};
@@ -31,6 +31,7 @@ pub struct NonContiguousCategoricalEncoderModel<
     const PRECISION: usize,
 > {
     pub(crate) table: HashMap<Symbol, Entry<Probability, Weight<Probability>>>,
+    ghost precise: { IsPrecision Probability.BITS PRECISION },
     ghost distinct: { IsDistinct Symbol.eq (keys_of table.entries) } by { Prim.hlevel props },
     ghost within: { All (LiesWithin PRECISION) (rows_of_table
         (λ e. (Probability.whole e.left, Probability.whole (Probability.base e.weight))) table.entries) },
@@ -59,6 +60,8 @@ impl<Symbol: Hash + Eq, Probability: WholeNumber, const PRECISION: usize> Entrop
     ghost use Rattle.constriction_conversions.specs.EncoderRows.{encoder_model_rows};
 
     ghost rows = { encoder_model_rows };
+
+    ghost precision_law = { λ m. m.precise };
 }
 
 impl<Symbol: Hash + Eq, Probability: WholeNumber, const PRECISION: usize> EncoderModel<PRECISION>

@@ -1,7 +1,5 @@
 //! Kernels of conversions of contiguous models.
 
-ghost use Rattle.std.specs.Prelude.{◌<◌, ◌≤◌};
-
 use crate::checksum::{mix, row};
 use crate::contiguous::contiguous_of;
 use crate::searches::small_of;
@@ -25,10 +23,7 @@ fn decoder_of_distinct<Probability: WholeNumber, const PRECISION: usize>(
 ) -> Result<
     NonContiguousCategoricalDecoderModel<usize, Probability, Vec<(Probability, usize)>, PRECISION>,
     ModelError,
->
-    requires positive { 0 < PRECISION }
-    requires fits { PRECISION ≤ Probability.BITS }
-{
+> {
     contiguous_symbols_differ();
     to_generic_decoder_model_of_distinct::<_, PRECISION>(alloc, source)
 }

@@ -77,3 +77,7 @@ digits_between (suc k) n more most =
       digits_step n (omega (arith, pow_pos k)),
       digits_between k (n - n / 2) (omega arith) (omega arith),
     )
+
+-- one less than some of so many rows
+pub digits_some : (first m n : ℕ) → first + m ≤ n → digits (m - 1) ≤ digits (n - 1)
+digits_some first m n h = digits_grow (m - 1) (n - 1) (omega arith)

@@ -1,5 +1,5 @@
 -- Searching a list of cumulatives by questions that are counted, and which rows a model's probe tells.
-use Rattle.std.specs.Prelude.{◌≡◌, ◌↔◌, ℕ, suc, zero, ◌+◌, ◌/◌, ◌<◌, ◌≤◌, List, length, map, take, drop, slice_index, slice_index_or}
+use Rattle.std.specs.Prelude.{◌≡◌, ◌↔◌, ℕ, suc, zero, ◌+◌, ◌-◌, ◌/◌, ◌<◌, ◌≤◌, List, length, map, take, drop, slice_index, slice_index_or}
 use Rattle.std.specs.List.Sorted.{IsStrictlyIncreasing}
 use Rattle.constriction_model.specs.Rows.{Row, IsRowOf}
 use Rattle.constriction_model.specs.declared.probe.Probe.{Ghosts}
@@ -32,7 +32,8 @@ pub record IsRowIndexOf {Symbol : Type 0} (rows : List (Row Symbol)) (q i : ℕ)
   pub row : (r : Row Symbol) → IsRowOf rows q (slice_index_or rows i r)
 
 -- A probe that was asked nothing yet tells the rows in question for the quantile q: those from `first` on, and no other row. It tells their
--- left cumulatives, in order, and the greatest index whose cumulative is at most q, plus `first`, is the index of the quantile's row.
+-- left cumulatives, in order, and the greatest index whose cumulative is at most q, plus `first`, is the index of the quantile's row. A
+-- search of it asks no more than one of all rows.
 pub record IsProbeFor {Symbol P Word : Type 0} (g : Ghosts P Word) (rows : List (Row Symbol)) (InQuestion : Row Symbol → Type 0)
     (q first : ℕ) (probe : P) : Type 0 where
   pub exactly : (i : ℕ) (r : Row Symbol) → i < length rows
@@ -41,4 +42,5 @@ pub record IsProbeFor {Symbol P Word : Type 0} (g : Ghosts P Word) (rows : List 
   pub in_order : g.cumulatives probe ≡ take (length (g.cumulatives probe)) (drop first (map (λ r. r.left) rows))
   pub searchable : IsSearchable (g.cumulatives probe) q
   pub fresh : g.questions probe ≡ 0
+  pub few : digits (length (g.cumulatives probe) - 1) ≤ digits (length rows - 1)
   pub found : (i : ℕ) → IsLastAtMost (g.cumulatives probe) q i → IsRowIndexOf rows q (first + i)

@@ -1,8 +1,6 @@
 //! A reference to a model is a model.
 
-ghost use Rattle.std.specs.Prelude.{◌<◌};
-
-use crate::traits::{DecoderModel, EncoderModel, EntropyModel, SearchingModel, Weight};
+use crate::traits::{DecoderModel, EncoderModel, EntropyModel, Weight};
 use std::alloc::AllocError;
 
 impl<M: EntropyModel<PRECISION>, const PRECISION: usize> EntropyModel<PRECISION> for &M {
@@ -11,6 +9,8 @@ impl<M: EntropyModel<PRECISION>, const PRECISION: usize> EntropyModel<PRECISION>
     type Probability = M::Probability;
 
     ghost rows = { λ m. M.rows m.now };
+
+    ghost precision_law = { λ m. M.precision_law m.now };
 }
 
 impl<M: EncoderModel<PRECISION>, const PRECISION: usize> EncoderModel<PRECISION> for &M {
@@ -41,21 +41,4 @@ impl<M: DecoderModel<PRECISION>, const PRECISION: usize> DecoderModel<PRECISION>
     }
 
     ghost tile_law = { λ m. M.tile_law m.now };
-}
-
-impl<M: SearchingModel<PRECISION>, const PRECISION: usize> SearchingModel<PRECISION> for &M {
-    ghost rows_in_question = { λ m. M.rows_in_question m.now };
-
-    ghost least_compared = { λ m. M.least_compared m.now };
-
-    fn counted_quantile_function(
-        &self,
-        quantile: M::Probability,
-    ) -> Result<((M::Symbol, M::Probability, Weight<M::Probability>), usize), AllocError> {
-        (**self).counted_quantile_function(quantile)
-    }
-
-    ghost question_law = { λ m. M.question_law m.now };
-
-    ghost least_law = { λ m. M.least_law m.now };
 }

@@ -69,7 +69,7 @@ fn sixteenth<R: Probe>(rows: &mut R, q: R::Word, first: usize, size: usize) -> (
 /// between two rows is compiled to a jump, which the processor has to guess.
 #[inline(always)]
 #[tactic(auto, using(crate::proofs::Digits::digits_two))]
-pub fn row_of_two<R: Probe>(rows: &mut R, q: R::Word) -> usize
+fn row_of_two<R: Probe>(rows: &mut R, q: R::Word) -> usize
     requires searchable { IsSearchable (R.cumulatives rows.old) (R.number q) }
     requires two { length (R.cumulatives rows.old) ≤ 2 }
     requires room { R.questions rows.old ≤ usize.MAX - 64 }
@@ -149,13 +149,14 @@ fn row_of_sixteen<R: Probe>(rows: &mut R, q: R::Word, first: usize) -> usize
     row_of_eight(rows, q, half)
 }
 
-/// The greatest index whose cumulative is at most `q`, of at most 32.
+/// The greatest index whose cumulative is at most `q`, of three to 32.
 ///
 /// The first question leaves a power of two, so each later one asks about the row that stands a fixed number of rows after the
 /// first one that is left. How many questions there are is chosen once, before the first: no test of what is left stands between.
 #[inline(always)]
-pub fn row_of_thirty_two<R: Probe>(rows: &mut R, q: R::Word) -> usize
+fn row_of_thirty_two<R: Probe>(rows: &mut R, q: R::Word) -> usize
     requires searchable { IsSearchable (R.cumulatives rows.old) (R.number q) }
+    requires more { 2 < length (R.cumulatives rows.old) }
     requires few { length (R.cumulatives rows.old) ≤ 32 }
     requires room { R.questions rows.old ≤ usize.MAX - 64 }
     ensures found { IsLastAtMost (R.cumulatives rows.old) (R.number q) result }
@@ -175,11 +176,8 @@ pub fn row_of_thirty_two<R: Probe>(rows: &mut R, q: R::Word) -> usize
         let first = first_left(rows, q, 0, size, 4);
         return row_of_four(rows, q, first);
     }
-    if size > 2 {
-        let first = first_left(rows, q, 0, size, 2);
-        return first_left(rows, q, first, 2, 1);
-    }
-    row_of_two(rows, q)
+    let first = first_left(rows, q, 0, size, 2);
+    first_left(rows, q, first, 2, 1)
 }
 
 /// The greatest index whose cumulative is at most `q`.
@@ -207,4 +205,28 @@ pub fn row_of_quantile<R: Probe>(rows: &mut R, q: R::Word) -> usize
         size = left;
     }
     first
+}
+
+/// The index that [`row_of_quantile`] answers on a probe that is not asked afterwards, by as many questions.
+///
+/// A probe that is handed to the part of the search that is out of line stands in memory, and a caller's loop writes it there for
+/// each quantile. So one of at most `FEW` rows, 32 or fewer, has a search of its own, at fixed distances, and stays in registers.
+/// In a loop the questions about more than two rows are compiled to jumps there: out of a loop `FEW` may be 32.
+#[inline(always)]
+pub fn row_in_probe<R: Probe + Drop, const FEW: usize>(rows: R, q: R::Word) -> usize
+    requires searchable { IsSearchable (R.cumulatives rows) (R.number q) }
+    requires room { R.questions rows ≤ usize.MAX - 64 }
+    requires few { FEW ≤ 32 }
+    ensures { IsLastAtMost (R.cumulatives rows) (R.number q) result }
+{
+    let mut few = rows;
+    let size = few.len();
+    if size <= FEW {
+        if size <= 2 {
+            return row_of_two(&mut few, q);
+        }
+        return row_of_thirty_two(&mut few, q);
+    }
+    let mut many = few;
+    row_of_quantile(&mut many, q)
 }

@@ -23,7 +23,7 @@ pub struct UniformModel<Probability: WholeNumber, const PRECISION: usize> {
     last_symbol: Probability,
     probability_per_bin: Probability,
     last_probability: Probability,
-    ghost fits: { PRECISION ≤ Probability.BITS },
+    ghost precise: { IsPrecision Probability.BITS PRECISION },
     ghost some: { 0 < Probability.whole last_symbol },
     ghost within: { Probability.whole last_symbol < 2 ^ PRECISION },
     ghost index: { Probability.whole last_symbol + 1 < 2 ^ 64 },
@@ -115,6 +115,8 @@ impl<Probability: WholeNumber, const PRECISION: usize> EntropyModel<PRECISION>
     type Probability = Probability;
 
     ghost rows = { λ m. uniform_rows PRECISION (Probability.whole m.last_symbol + 1) };
+
+    ghost precision_law = { λ m. m.precise };
 }
 
 impl<Probability: WholeNumber, const PRECISION: usize> EncoderModel<PRECISION>
@@ -137,7 +139,7 @@ impl<Probability: WholeNumber, const PRECISION: usize> EncoderModel<PRECISION>
 
     ghost equality_law = { nat_eq_equiv };
 
-    ghost within_law = { λ m. uniform-within PRECISION _ m.within _ m.fits m.some };
+    ghost within_law = { λ m. uniform-within PRECISION _ m.within _ m.precise.fits m.some };
 }
 
 impl<Probability: WholeNumber, const PRECISION: usize> DecoderModel<PRECISION>
@@ -153,5 +155,5 @@ impl<Probability: WholeNumber, const PRECISION: usize> DecoderModel<PRECISION>
         Ok((symbol.to_number(), left, weight))
     }
 
-    ghost tile_law = { λ m. uniform-tiles PRECISION _ m.within _ m.fits m.some };
+    ghost tile_law = { λ m. uniform-tiles PRECISION _ m.within _ m.precise.fits m.some };
 }

@@ -1,7 +1,5 @@
 //! Models that are made from models that can be walked through.
 
-ghost use Rattle.std.specs.Prelude.{◌<◌, ◌≤◌};
-
 use constriction::stream::model::{
     FromIterableEntropyModel, IterableEntropyModel, ModelError,
     NonContiguousCategoricalEncoderModel, to_generic_decoder_model, to_generic_encoder_model,
@@ -22,9 +20,7 @@ pub fn refusals<M, const PRECISION: usize>(alloc: Global, source: M) -> [Option<
 where
     M: IterableEntropyModel<PRECISION, Probability = u8> + Copy,
     M::Symbol: Hash + Eq + Clone + Drop,
-    requires positive { 0 < PRECISION }
-    requires fits { PRECISION ≤ 8 }
-    requires equality { M.is_equality M.Symbol.eq }
+    requires { M.is_equality M.Symbol.eq }
 {
     [
         to_generic_decoder_model::<M, PRECISION>(alloc, source).err(),

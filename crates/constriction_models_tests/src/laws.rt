@@ -3,7 +3,7 @@
 
 ghost use Rattle.std.specs.Prelude.{◌≡◌, ◌↔◌, ◌<◌, ◌≤◌, ◌^◌, ◌-◌, ℕ, [], ◌∷◌, length, map, drop, IfOk};
 ghost use Rattle.std.specs.Iterator.{at_most};
-ghost use Rattle.std.proofs.Common.{rules};
+ghost use Rattle.std.proofs.Common.{lit<, lit≤, rules};
 ghost use Rattle.constriction.specs.Rows.{Row, IsRowOf, rows_of};
 ghost use Rattle.constriction.specs.Model.{row_of, ClonesAreSame};
 ghost use Rattle.constriction.specs.Tables.{YieldsRow};
@@ -115,6 +115,8 @@ impl EntropyModel<2> for ThreeLetters {
     type Probability = u8;
 
     ghost rows = { λ _. rows_of (97 ∷ 98 ∷ 99 ∷ []) (1 ∷ 2 ∷ 1 ∷ []) };
+
+    ghost precision_law = { λ _. record { positive = lit< tt; fits = lit≤ tt } };
 }
 
 impl DecoderModel<2> for ThreeLetters {

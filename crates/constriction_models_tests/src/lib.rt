@@ -1,5 +1,5 @@
 //! The tests of entropy models, of the counted search and of lookup models: callers that know contracts alone, types and
-//! models of a caller's own, how many rows are compared, how large lookup tables are, refused memory, and time.
+//! models of a caller's own, how many questions a search asks, how large lookup tables are, refused memory, and time.
 //!
 //! A library that has tests of its own is proved twice, so none of them has any. Tests use the
 //! public interface alone.

@@ -1,6 +1,6 @@
 //! The lookup model of any symbols: it is made of a model of the caller, and shown.
 
-ghost use Rattle.std.specs.Prelude.{◌<◌, ◌≤◌};
+ghost use Rattle.std.specs.Prelude.{◌≤◌};
 
 use crate::checks::{same, shows};
 use constriction::laws::{
@@ -21,8 +21,7 @@ pub fn refusals<M, const PRECISION: usize>(alloc: Global, source: M) -> [Option<
 where
     M: IterableEntropyModel<PRECISION, Probability = u8> + Copy,
     M::Symbol: Eq + Clone + Drop,
-    requires positive { 0 < PRECISION }
-    requires fits { PRECISION ≤ 8 }
+    requires narrow { PRECISION ≤ 63 }
     requires equality { M.is_equality M.Symbol.eq }
 {
     [

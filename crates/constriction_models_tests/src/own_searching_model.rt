@@ -1,7 +1,5 @@
 //! A model of the caller that stores its rows, and a lookup table beside it.
 
-ghost use Rattle.std.specs.Prelude.{◌<◌};
-
 use crate::checks::same;
 use constriction::stream::model::{
     AnswersRows, DecoderModel, EntropyModel, LookupDecoderModel, StoresRows, Weight,
@@ -25,6 +23,8 @@ impl<'c, Model: EntropyModel<6>> EntropyModel<6> for Counting<'c, Model> {
     type Probability = Model::Probability;
 
     ghost rows = { λ m. Model.rows m.model };
+
+    ghost precision_law = { λ m. Model.precision_law m.model };
 }
 
 impl<'c, Model: DecoderModel<6>> DecoderModel<6> for Counting<'c, Model> {
@@ -58,8 +58,6 @@ impl<'c, Model: StoresRows<6>> StoresRows<6> for Counting<'c, Model> {
     fn entries(&self) -> &[Model::Entry] {
         self.model.entries()
     }
-
-    ghost precise_law = { λ m. Model.precise_law m.model };
 
     ghost stored_law = { λ m. Model.stored_law m.model };
 }

@@ -4,9 +4,10 @@ ghost use Rattle.std.specs.Prelude.{◌≤◌, ◌<◌, ◌^◌, ◌+◌};
 ghost use Rattle.constriction_models_tests.specs.Evens.{evens};
 
 use crate::checks::{same, same_at};
+use constriction::laws::contiguous_symbols_differ;
 use constriction::stream::model::{
     Alone, CdfEntry, CdfProbe, DecoderModel, DefaultContiguousCategoricalEntropyModel, Probe,
-    WithSymbol, row_of_quantile,
+    WithSymbol, row_of_quantile, to_generic_decoder_model_of_distinct,
 };
 use constriction_test_models::plain_rows::row;
 use constriction_words::WholeNumber;
@@ -92,8 +93,8 @@ fn is_found(model: &Wide, symbol: usize, left: u32) -> bool
     answer == Some((symbol, left, 4)) && found == symbol && rows.asked() <= 22
 }
 
-/// The last quantile of each of 4,194,304 rows is looked up. `counted_quantile_function` says how often it compared a quantile,
-/// and no clause says that it counts each comparison. If it went over the rows, these look-ups would not end within a minute.
+/// The last quantile of each of 4,194,304 rows is looked up. A search of the probe finds its row by at most 22 questions. That a
+/// look-up goes this way no clause says: if it went over the rows, these look-ups would not end within a minute.
 #[test]
 fn a_look_up_does_not_go_over_all_rows(rt: HostRuntime) {
     let fours = iter::repeat_n(4u32, 4_194_304);
@@ -102,5 +103,20 @@ fn a_look_up_does_not_go_over_all_rows(rt: HostRuntime) {
     for symbol in 0..4_194_304u32 {
         let found = is_found(&model, symbol as usize, 4 * symbol);
         same_at(&rt, symbol, found, true);
+    }
+}
+
+/// The same of the decoder over any symbols that has these rows.
+#[test]
+fn a_look_up_of_any_symbols_does_not_go_over_all_rows(rt: HostRuntime) {
+    let fours = iter::repeat_n(4u32, 4_194_304);
+    let numbers = Wide::from_nonzero_fixed_point_probabilities(rt.alloc(), fours, false);
+    let numbers = numbers.expect(&rt, "accepted");
+    contiguous_symbols_differ();
+    let made = to_generic_decoder_model_of_distinct::<_, 24>(rt.alloc(), &numbers);
+    let model = made.expect(&rt, "a model");
+    for symbol in 0..4_194_304u32 {
+        let answer = row(Some(model.quantile_function(4 * symbol + 3)));
+        same_at(&rt, symbol, answer, Some((symbol as usize, 4 * symbol, 4)));
     }
 }

@@ -4,9 +4,10 @@
 ghost use Rattle.std.specs.Prelude.{◌<◌, ◌^◌};
 
 use crate::checks::{same, same_at};
+use constriction::laws::contiguous_symbols_differ;
 use constriction::stream::model::{
     ContiguousLookupDecoderModel, DecoderModel, ModelError, Probe,
-    SlottedContiguousLookupDecoderModel, row_of_quantile,
+    SlottedContiguousLookupDecoderModel, row_of_quantile, to_generic_decoder_model_of_distinct,
 };
 use constriction_test_models::plain_rows::row;
 use std::alloc::Global;
@@ -88,9 +89,9 @@ fn is_found(model: &Lookup<40>, quantile: usize) -> bool
         && rows.asked() <= 22
 }
 
-/// The model has 4,194,303 rows of weight 1 in the first slot, and one row of all quantiles that are left. Each of the rows of
-/// weight 1 is found by at most 22 questions. `counted_quantile_function` says how often it compared a quantile, and no clause
-/// says that it counts each comparison. If it went over the rows, these 4,194,303 look-ups would not end within a minute.
+/// The model has 4,194,303 rows of weight 1 in the first slot, and one row of all quantiles that are left. A search of
+/// the probe finds each of the rows of weight 1 by at most 22 questions. That a look-up goes this way no clause says: if it went
+/// over the rows, these 4,194,303 look-ups would not end within a minute.
 #[test]
 fn a_slot_that_4_194_304_rows_meet_is_searched(rt: HostRuntime) {
     let ones = iter::repeat_n(1usize, 4_194_303);
@@ -98,6 +99,24 @@ fn a_slot_that_4_194_304_rows_meet_is_searched(rt: HostRuntime) {
     let model = made.expect(&rt, "accepted");
     for quantile in 0..4_194_303usize {
         same_at(&rt, quantile, is_found(&model, quantile), true);
+    }
+}
+
+/// The same of the lookup model over any symbols that has these rows.
+#[test]
+fn a_slot_of_any_symbols_that_4_194_304_rows_meet_is_searched(rt: HostRuntime) {
+    let ones = iter::repeat_n(1usize, 4_194_303);
+    let made = Lookup::<40>::from_nonzero_fixed_point_probabilities(rt.alloc(), ones, true);
+    let numbers = made.expect(&rt, "accepted").into_contiguous_categorical();
+    contiguous_symbols_differ();
+    let made = to_generic_decoder_model_of_distinct::<_, 40>(rt.alloc(), &numbers);
+    let searching = made.expect(&rt, "a model");
+    let model = searching
+        .into_lookup_decoder_model(rt.alloc())
+        .expect(&rt, "a lookup model");
+    for quantile in 0..4_194_303usize {
+        let answer = row(Some(model.quantile_function(quantile)));
+        same_at(&rt, quantile, answer, Some((quantile, quantile, 1)));
     }
 }
 

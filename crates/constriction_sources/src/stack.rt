@@ -30,9 +30,10 @@ pub trait WordStack<Word>: WriteWords<Word> + ReadWords<Word, Stack> {
     // and no others.
     ghost no_others_come: { (s : Self) (words : List Word) → Self.tells_upcoming s words → words ≡ reverse (words_of s) };
 
-    // It may be written and read in every state.
+    // It may be written in every state,
     ghost always_writable: { (s : Self) → Self.can_write s };
 
+    // and read in every state.
     ghost always_readable: { (s : Self) → Self.can_read s };
 }
 

@@ -8,9 +8,9 @@ pub mod PairedLemmas
 pub mod ProbeLemmas
 pub mod ReadLemmas
 pub mod SeenLemmas
-pub mod SlotCounting
 pub mod SlotFilling
 pub mod SlotLemmas
+pub mod SlotTests
 pub mod StoredSteps
 pub mod CdfLemmas
 pub mod TileLemmas

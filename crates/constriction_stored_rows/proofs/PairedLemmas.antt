@@ -43,14 +43,6 @@ module _ {Symbol Word : Type 0} (whole : Word → ℕ) (bits precision : ℕ) (e
         tiles-probed bits precision (rows_paired whole precision entries) (paired-tiles whole bits precision entries t)
         (map (λ x. whole x.0) lent) lent-lefts
 
-    -- the row of a quantile is one of an entry
-    pub paired-index : (q i : ℕ) → q < 2 ^ precision → IsLastAtMost (map (λ x. whole x.0) lent) q i
-        → IsRowIndexOf (rows_paired whole precision entries) q i × (i < length entries)
-    paired-index q i below f =
-        let same : 0 + i ≡ i = omega arith in
-        let found : IsRowIndexOf (rows_paired whole precision entries) q i = rw same at (paired-probed.2 q i below f) in
-        (found, omega (arith, found.in_bounds, paired-many))
-
   symbol-here : (i : ℕ) (s : Symbol) (x : Word × Symbol) → i < length entries → x ≡ get_or entries i x → s ≡ x.1
       → s ≡ get_or (map (λ y. y.1) entries) i s
   symbol-here i s x h is se = se ∙ ap (λ y. y.1) is ∙ sym (get_or-map (λ y. y.1) entries i x s h)

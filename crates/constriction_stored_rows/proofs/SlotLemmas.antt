@@ -1,6 +1,6 @@
 -- The rows that meet a slot.
-use Rattle.std.proofs.Common.{◌≡◌, ℕ, ◌+◌, ◌-◌, ◌*◌, ◌/◌, ◌^◌, ◌<◌, ◌≤◌, max, nat_le, refl, List, length, get_or, map, take, drop, ap, sym, ◌∙◌, arith, inl, inr}
-use Rattle.std.proofs.lemmas.Bool.{cases_Bool, cases_lt, le-leb, lt-leb}
+use Rattle.std.proofs.Common.{◌≡◌, ℕ, ◌+◌, ◌-◌, ◌*◌, ◌/◌, ◌^◌, ◌<◌, ◌≤◌, List, length, get_or, map, take, drop, ap, sym, ◌∙◌, arith, inl, inr}
+use Rattle.std.proofs.lemmas.Bool.{cases_lt}
 use Rattle.std.proofs.lemmas.List.{take-map, drop-map, get_or-take, get_or-drop, length-take-le, length-drop}
 use Rattle.std.proofs.Math.Nat.{div-mul-le_self, lt-div-mul-add}
 use Rattle.std.proofs.lemmas.Nat.{pow_pos}
@@ -8,7 +8,7 @@ use Rattle.std.specs.List.Sorted.{IsStrictlyIncreasing}
 use Rattle.constriction_model.specs.Rows.{Row, RowsTile}
 use Rattle.constriction_model.specs.Probe.{IsSearchable, IsLastAtMost, IsRowIndexOf}
 use Rattle.constriction_model.specs.Searching.{TellsRows}
-use Rattle.constriction_stored_rows.specs.Slots.{least_in_slots, slot_width, slot_count}
+use Rattle.constriction_stored_rows.specs.Slots.{slot_width, slot_count}
 use Rattle.constriction_stored_rows.specs.SlotTable.{words_a_slot, HasSlots, IsSlot, IsSlotPart}
 use Rattle.constriction_model.proofs.Halving.{later}
 use Rattle.constriction_stored_rows.proofs.SlotFilling.{slot-within, slot-below}
@@ -79,22 +79,6 @@ last-order lefts x y i k a b h = elim (cases_lt k i) [
 pub slot-order : (lefts : List ℕ) (width slot first last : ℕ) → IsSlot lefts width slot first last → first ≤ last
 slot-order lefts width slot first last s =
     last-order lefts (slot * width) (slot * width + (width - 1)) first last s.from s.to (omega arith)
-
--- a look-up makes no comparison at least where a slot holds one quantile, or rows are few, and else two
-pub least-narrow : (precision slot_bits rows : ℕ) → slot_width precision slot_bits ≤ 1 → least_in_slots precision slot_bits rows ≡ 0
-least-narrow precision slot_bits rows h = rw (le-leb (slot_width precision slot_bits) 1 h) refl
-
-pub least-none : (precision slot_bits rows : ℕ) → rows ≤ max (slot_count precision slot_bits / 16) 2
-    → least_in_slots precision slot_bits rows ≡ 0
-least-none precision slot_bits rows h = elim (cases_Bool (nat_le (slot_width precision slot_bits) 1)) [
-  | inl narrow ↦ rw narrow refl
-  | inr wide ↦ rw (wide, le-leb rows (max (slot_count precision slot_bits / 16) 2) h) refl
-]
-
-pub least-two : (precision slot_bits rows : ℕ) → 1 < slot_width precision slot_bits
-    → max (slot_count precision slot_bits / 16) 2 < rows → least_in_slots precision slot_bits rows ≡ 2
-least-two precision slot_bits rows wide more =
-    rw (lt-leb (slot_width precision slot_bits) 1 wide, lt-leb rows (max (slot_count precision slot_bits / 16) 2) more) refl
 
 pub part-whole : {W : Type 0} (whole : W → ℕ) (xs : List W) (first count : ℕ)
     → map whole (take count (drop first xs)) ≡ take count (drop first (map whole xs))

@@ -11,7 +11,6 @@ use Rattle.constriction_stored_rows.specs.StoredLemmas.{stored-row, stored-of_ro
 use Rattle.constriction_stored_rows.specs.StoredRowLemmas.{stored-tiles}
 use Rattle.constriction_stored_rows.specs.SymbolRowLemmas.{symbol-row_at}
 use Rattle.constriction_stored_rows.proofs.ProbeLemmas.{stored-increases, stored-lefts, stored-searchable, symbol-tells, symbol-found}
-use Rattle.constriction_stored_rows.proofs.CdfLemmas.{cdf-rows}
 
 -- rows that tile: the row at an index
 pub record IsTile {S : Type 0} (precision : ℕ) (rows : List (Row S)) (i : ℕ) (r : Row S) : Type 0 where
@@ -85,11 +84,3 @@ module _ (bits precision : ℕ) (cdf lefts : List ℕ) (t : IsCdf bits precision
   cdf-probed =
       tiles-probed bits precision (contiguous_rows (weights_of precision (lefts_in cdf)))
       (stored-tiles bits precision (lefts_in cdf) t.stored) lefts cdf-lefts
-
-  -- the row of a quantile is one of the cdf
-  pub cdf-index : (q i : ℕ) → q < 2 ^ precision → IsLastAtMost lefts q i
-      → IsRowIndexOf (contiguous_rows (weights_of precision (lefts_in cdf))) q i × (i + 1 < length cdf)
-  cdf-index q i below f =
-      let same : 0 + i ≡ i = omega arith in
-      let found : IsRowIndexOf (contiguous_rows (weights_of precision (lefts_in cdf))) q i = rw same at (cdf-probed.2 q i below f) in
-      (found, omega (arith, found.in_bounds, cdf-rows bits precision cdf t))

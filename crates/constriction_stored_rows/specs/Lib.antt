@@ -1,7 +1,6 @@
 pub mod Ends
 pub mod Filling
 pub mod Given
-pub mod QuestionLemmas
 pub mod Reading
 pub mod SlotTable
 pub mod Slots

@@ -1,6 +1,6 @@
 -- How lookup models store which rows meet a slot. No public clause cites this module, but a ghost field of the model does.
-use Rattle.std.specs.Prelude.{◌≡◌, ◌↔◌, ℕ, ◌+◌, ◌-◌, ◌*◌, ◌<◌, ◌≤◌, min, max, List, length, take, drop, slice_index}
-use Rattle.constriction_model.specs.Probe.{IsLastAtMost, digits}
+use Rattle.std.specs.Prelude.{◌≡◌, ◌↔◌, ℕ, ◌+◌, ◌-◌, ◌*◌, ◌<◌, ◌≤◌, min, List, length, take, drop, slice_index}
+use Rattle.constriction_model.specs.Probe.{IsLastAtMost}
 use Rattle.constriction_stored_rows.specs.Stored.{with_total}
 
 -- the first and the last row that meet the slot: the rows of its first and of its last quantile
@@ -44,11 +44,3 @@ pub record IsSlotPart (lefts : List ℕ) (width slot first : ℕ) (told : List �
   pub rows : IsSlot lefts width slot first last
   pub long : first + length told ≡ last + 1
   pub in_order : told ≡ take (length told) (drop first lefts)
-
--- the quantile is compared so often as a search of the rows that meet the slot compares it, which is as often as the number of those
--- after the first one has binary digits, and so often at least
-pub record IsSlotSearch (lefts : List ℕ) (width slot least compared : ℕ) : Type 0 where
-  pub first : ℕ
-  pub last : ℕ
-  pub rows : IsSlot lefts width slot first last
-  pub counted : compared ≡ max least (digits (last - first))

@@ -1,5 +1,5 @@
 -- The slots of lookup models, and which rows meet one.
-use Rattle.std.specs.Prelude.{ℕ, ◌+◌, ◌-◌, ◌*◌, ◌/◌, ◌^◌, min, max, Bool, ltb, ◌&&◌, ◌||◌, nat_le, if◌then◌else◌}
+use Rattle.std.specs.Prelude.{ℕ, ◌+◌, ◌-◌, ◌*◌, ◌^◌, min, Bool, ltb, ◌&&◌}
 use Rattle.constriction_model.specs.Rows.{Row}
 
 -- how many slots there are, of a model that divides its quantiles into 2 ^ slot_bits of them, or into as many as there are quantiles
@@ -10,12 +10,6 @@ slot_count precision slot_bits = 2 ^ min precision slot_bits
 -- how many quantiles each slot holds: one where the precision is at most slot_bits
 abbrev pub slot_width : (precision slot_bits : ℕ) → ℕ
 slot_width precision slot_bits = 2 ^ (precision - slot_bits)
-
--- how many comparisons the look-up of a quantile makes at least: two where there are three rows or more, and more rows than a sixteenth of
--- the slots, unless a slot holds one quantile
-abbrev pub least_in_slots : (precision slot_bits rows : ℕ) → ℕ
-least_in_slots precision slot_bits rows =
-    if nat_le (slot_width precision slot_bits) 1 || nat_le rows (max (slot_count precision slot_bits / 16) 2) then 0 else 2
 
 -- whether a row with quantiles meets a slot, which is that some quantile lies in both: it begins before the slot ends, and ends after the
 -- slot begins

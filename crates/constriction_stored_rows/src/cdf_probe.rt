@@ -1,9 +1,8 @@
-//! What is stored of a row, and the search of stored rows.
+//! What is stored of a row, and a probe of stored rows.
 
-ghost use Rattle.std.specs.Prelude.{◌≡◌, ◌+◌, ◌-◌, ◌<◌, ℕ, length, map};
-ghost use Rattle.constriction_model.specs.Probe.{digits, IsSearchable, IsLastAtMost};
+ghost use Rattle.std.specs.Prelude.{◌≡◌, ℕ, map};
 
-use constriction_model::{Probe, row_of_quantile, row_of_thirty_two, row_of_two};
+use constriction_model::Probe;
 use constriction_numbers::WholeNumber;
 use std::marker::PhantomData;
 
@@ -97,56 +96,4 @@ impl<'c, Entry, Kind: CdfEntry<Entry>> Probe for CdfProbe<'c, Entry, Kind> {
         self.asked += 1;
         Kind::cumulative_of(&self.entries[index]).is_at_most(q)
     }
-}
-
-/// The greatest index of an entry whose cumulative is at most `q`, by [`row_of_quantile`], and how many entries were
-/// compared.
-///
-/// At most two entries have a probe of their own, which no call takes by its address: in a loop the other one is written to
-/// memory for each quantile.
-#[inline(always)]
-pub fn row_in_entries<Entry, Kind: CdfEntry<Entry>>(
-    entries: &[Entry],
-    q: Kind::Word,
-) -> (usize, usize)
-    requires { IsSearchable (map Kind.cumulative entries.now) (Kind.Word.whole q) }
-    ensures found { IsLastAtMost (map Kind.cumulative entries.now) (Kind.Word.whole q) result.0 }
-    ensures counted { result.1 ≡ digits (length entries.now - 1) }
-{
-    if entries.len() <= 2 {
-        let mut rows = CdfProbe::<Entry, Kind>::new(entries);
-        let index = row_of_two(&mut rows, q);
-        return (index, rows.asked());
-    }
-    searched::<Entry, Kind>(entries, q)
-}
-
-/// The same, by a probe of any number of entries.
-#[inline(always)]
-fn searched<Entry, Kind: CdfEntry<Entry>>(entries: &[Entry], q: Kind::Word) -> (usize, usize)
-    requires { IsSearchable (map Kind.cumulative entries.now) (Kind.Word.whole q) }
-    ensures found { IsLastAtMost (map Kind.cumulative entries.now) (Kind.Word.whole q) result.0 }
-    ensures counted { result.1 ≡ digits (length entries.now - 1) }
-{
-    let mut rows = CdfProbe::<Entry, Kind>::new(entries);
-    let index = row_of_quantile(&mut rows, q);
-    (index, rows.asked())
-}
-
-/// The same of the entries of a slot, which mostly are few: at most 32 have a search of their own.
-#[inline(always)]
-pub fn row_in_slot_entries<Entry, Kind: CdfEntry<Entry>>(
-    entries: &[Entry],
-    q: Kind::Word,
-) -> (usize, usize)
-    requires { IsSearchable (map Kind.cumulative entries.now) (Kind.Word.whole q) }
-    ensures found { IsLastAtMost (map Kind.cumulative entries.now) (Kind.Word.whole q) result.0 }
-    ensures counted { result.1 ≡ digits (length entries.now - 1) }
-{
-    if entries.len() <= 32 {
-        let mut rows = CdfProbe::<Entry, Kind>::new(entries);
-        let row = row_of_thirty_two(&mut rows, q);
-        return (row, rows.asked());
-    }
-    searched::<Entry, Kind>(entries, q)
 }

@@ -1,5 +1,5 @@
 //! How models that are given by weights store their rows: reading weights and symbols, telling whether they are
-//! accepted, the search of what is stored, the row at an index, and which rows meet a slot.
+//! accepted, a probe of what is stored, the row at an index, and which rows meet a slot.
 //!
 //! What is stored is a plain list: a cdf, which is the left cumulatives with the total after them, or pairs of a left
 //! cumulative and a symbol, one a row. The models of the crate above keep it, and their ghost fields cite the
@@ -17,7 +17,7 @@ mod stored;
 mod uncompared;
 
 pub use crate::apart::{are_apart, are_in_order};
-pub use crate::cdf_probe::{Alone, CdfEntry, CdfProbe, WithSymbol, row_in_entries};
+pub use crate::cdf_probe::{Alone, CdfEntry, CdfProbe, WithSymbol};
 pub use crate::ends::{
     cloned_row_among, cloned_row_at, end_before, paired_row_at, row_up_to, with_ends, words_beside,
 };

@@ -2,13 +2,13 @@
 
 ghost use Rattle.std.specs.Prelude.{◌≡◌, ◌+◌, ◌++◌, ◌-◌, ◌*◌, ◌/◌, ◌^◌, ◌<◌, ◌≤◌, ℕ, length, map, take, drop, replicate, slice_index, IfOk, vec_capacity, vec_len};
 ghost use Rattle.std.specs.List.Sorted.{IsStrictlyIncreasing};
-ghost use Rattle.constriction_model.specs.Probe.{digits, IsLastAtMost, IsSearchable};
-ghost use Rattle.constriction_stored_rows.specs.Slots.{least_in_slots, slot_count, slot_width};
-ghost use Rattle.constriction_stored_rows.specs.SlotTable.{words_a_slot, BeginsWithSlots, HasSlots, IsFirstWord, IsSlot, IsSlotPart, IsSlotSearch};
+ghost use Rattle.constriction_model.specs.Probe.{IsLastAtMost, IsSearchable};
+ghost use Rattle.constriction_stored_rows.specs.Slots.{slot_count, slot_width};
+ghost use Rattle.constriction_stored_rows.specs.SlotTable.{words_a_slot, BeginsWithSlots, HasSlots, IsFirstWord, IsSlot, IsSlotPart};
 
-use crate::cdf_probe::{CdfEntry, CdfProbe, row_in_slot_entries};
+use crate::cdf_probe::{CdfEntry, CdfProbe};
 use crate::ends::with_ends;
-use constriction_model::Probe;
+use constriction_model::{Probe, row_in_probe};
 use constriction_numbers::WholeNumber;
 use std::alloc::{AllocError, Global};
 
@@ -158,20 +158,6 @@ fn rows_of_slot<Entry, Kind: CdfEntry<Entry>, const PRECISION: usize, const SLOT
     (table[2 * slot].to_number(), table[2 * slot + 1].to_number())
 }
 
-/// The entries from `first` to `last`.
-#[inline]
-fn entries_of<'c, Entry, Kind: CdfEntry<Entry>>(
-    entries: &'c [Entry],
-    first: usize,
-    last: usize,
-) -> &'c [Entry]
-    requires order { first ≤ last }
-    requires within { last < length entries.now }
-    ensures { map Kind.cumulative result.now ≡ take (last + 1 - first) (drop first (map Kind.cumulative entries.now)) }
-{
-    &entries[first..last + 1]
-}
-
 /// A probe of the entries from `first` to `last`.
 #[inline]
 fn probe_of<'c, Entry, Kind: CdfEntry<Entry>>(
@@ -185,7 +171,7 @@ fn probe_of<'c, Entry, Kind: CdfEntry<Entry>>(
         ≡ take (last + 1 - first) (drop first (map Kind.cumulative entries.now)) }
     ensures fresh { ⟦<CdfProbe<'c, Entry, Kind> as Probe>⟧.questions result ≡ 0 }
 {
-    CdfProbe::new(entries_of::<Entry, Kind>(entries, first, last))
+    CdfProbe::new(&entries[first..last + 1])
 }
 
 /// A probe of the rows that meet a quantile's slot, and the index of the first of them.
@@ -245,9 +231,9 @@ fn row_of_up_to_three<Entry, Kind: CdfEntry<Entry>, const PRECISION: usize, cons
         + above::<Entry, Kind>(entries, middle, quantile))
 }
 
-/// The last row that begins at a quantile or below it, among the rows that meet its slot, and how often the quantile
-/// was compared with where a row begins: never where a slot holds one quantile, else by two comparisons without a jump
-/// where at most three rows meet the slot, and by a search where more do.
+/// The last row that begins at a quantile or below it, among the rows that meet its slot: the row of the slot where
+/// that holds one quantile, else by two comparisons without a jump where at most three rows meet the slot, and by a
+/// search where more do.
 ///
 /// Of a model of few rows, one row alone meets nearly all slots, and is found by no comparison. That is a jump, which is
 /// guessed right for 15 of 16 quantiles at least, if these are spread evenly. All else of such a model is out of line: a
@@ -258,32 +244,28 @@ pub fn row_in_slot<Entry, Kind: CdfEntry<Entry>, const PRECISION: usize, const S
     entries: &[Entry],
     table: &[Kind::Word],
     quantile: Kind::Word,
-) -> (usize, usize)
+) -> usize
     requires narrow { PRECISION ≤ 63 }
     requires increases { IsStrictlyIncreasing (map Kind.cumulative entries.now) }
     requires slots { HasSlots (slot_width PRECISION SLOT_BITS) (slot_count PRECISION SLOT_BITS)
         (map Kind.cumulative entries.now) (map Kind.Word.whole table.now) }
     requires below { Kind.Word.whole quantile < 2 ^ PRECISION }
-    ensures found { IsLastAtMost (map Kind.cumulative entries.now) (Kind.Word.whole quantile) result.0 }
-    ensures counted { IsSlotSearch (map Kind.cumulative entries.now) (slot_width PRECISION SLOT_BITS)
-        (Kind.Word.whole quantile / slot_width PRECISION SLOT_BITS) (least_in_slots PRECISION SLOT_BITS
-        (length (map Kind.cumulative entries.now))) result.1 }
+    ensures { IsLastAtMost (map Kind.cumulative entries.now) (Kind.Word.whole quantile) result }
 {
     let (first, last) = rows_of_slot::<Entry, Kind, PRECISION, SLOT_BITS>(entries, table, quantile);
     if width_of_slots::<PRECISION, SLOT_BITS>() == 1 {
-        return (first, 0);
+        return first;
     }
     if entries.len() <= (number_of_slots::<PRECISION, SLOT_BITS>() / 16).max(2) {
         if first == last {
-            return (first, 0);
+            return first;
         }
         return row_among::<Entry, Kind, PRECISION, SLOT_BITS>(entries, first, last, quantile);
     }
     if last - first <= 2 {
-        let row = row_of_up_to_three::<Entry, Kind, PRECISION, SLOT_BITS>(
+        return row_of_up_to_three::<Entry, Kind, PRECISION, SLOT_BITS>(
             entries, first, last, quantile,
         );
-        return (row, 2);
     }
     row_among::<Entry, Kind, PRECISION, SLOT_BITS>(entries, first, last, quantile)
 }
@@ -296,15 +278,13 @@ fn row_among<Entry, Kind: CdfEntry<Entry>, const PRECISION: usize, const SLOT_BI
     first: usize,
     last: usize,
     quantile: Kind::Word,
-) -> (usize, usize)
+) -> usize
     requires increases { IsStrictlyIncreasing (map Kind.cumulative entries.now) }
     requires slot { IsSlot (map Kind.cumulative entries.now) (slot_width PRECISION SLOT_BITS)
         (Kind.Word.whole quantile / slot_width PRECISION SLOT_BITS) first last }
     requires order { first ≤ last }
-    ensures found { IsLastAtMost (map Kind.cumulative entries.now) (Kind.Word.whole quantile) result.0 }
-    ensures counted { result.1 ≡ digits (last - first) }
+    ensures { IsLastAtMost (map Kind.cumulative entries.now) (Kind.Word.whole quantile) result }
 {
-    let rows = entries_of::<Entry, Kind>(entries, first, last);
-    let (row, compared) = row_in_slot_entries::<Entry, Kind>(rows, quantile);
-    (first + row, compared)
+    let rows = probe_of::<Entry, Kind>(entries, first, last);
+    first + row_in_probe::<_, 32>(rows, quantile)
 }

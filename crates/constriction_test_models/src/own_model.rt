@@ -3,7 +3,7 @@
 ghost use Rattle.std.specs.Prelude.{◌≡◌, ◌<◌, ◌-◌, ◌∷◌, [], drop, nat_eq};
 ghost use Rattle.std.specs.Iterator.{at_most};
 ghost use Rattle.std.specs.Cmp.{nat_eq_equiv};
-ghost use Rattle.std.proofs.Common.{refl, rules};
+ghost use Rattle.std.proofs.Common.{lit<, lit≤, refl, rules};
 ghost use Rattle.std.proofs.lemmas.Grind.{common_steps};
 ghost use Rattle.constriction.specs.Rows.{rows_of};
 ghost use Rattle.constriction.specs.Tables.{YieldsRow};
@@ -29,6 +29,8 @@ impl EntropyModel<3> for Triple {
     type Probability = u8;
 
     ghost rows = { λ m. rows_of (m.first ∷ m.second ∷ m.third ∷ []) (2 ∷ 5 ∷ 1 ∷ []) };
+
+    ghost precision_law = { λ _. record { positive = lit< tt; fits = lit≤ tt } };
 }
 
 /// The entry of a letter is that of its last row.

@@ -1,9 +1,8 @@
 //! Forms of a decoder, and what they reply after any conversions.
 
-ghost use Rattle.std.specs.Prelude.{◌≡◌, ◌<◌, map, IfOk, IfErr};
+ghost use Rattle.std.specs.Prelude.{◌≡◌, ◌≤◌, map, IfOk, IfErr};
 ghost use Rattle.constriction.specs.Entries.{SameEntries};
 ghost use Rattle.constriction.specs.Model.{ClonesAreEqual};
-ghost use Rattle.constriction.specs.Precision.{IsLookupPrecision};
 ghost use Rattle.constriction_client.specs.Chains.{is_lookup};
 ghost use Rattle.constriction_client.specs.FormRows.{form_rows};
 ghost use Rattle.constriction_client.specs.Replies.{in_numbers, replies_by_scan};
@@ -36,7 +35,7 @@ pub fn answer_by_form<Symbol: Eq + Clone + Drop, Probability: IndexWord, E, cons
 ) -> Result<FormAndReplies<Symbol, Probability, PRECISION>, ModelError>
 where
     E: EncoderModel<PRECISION, Symbol = Symbol, Probability = Probability>,
-    requires precision { IsLookupPrecision Probability.BITS PRECISION }
+    requires narrow { PRECISION ≤ 63 }
     requires clones { ClonesAreEqual Symbol.eq Symbol.is_clone }
     requires equal { ClonesAreEqual E.symbol_eq Symbol.is_clone }
     requires alike { SameEntries E.symbol_eq (E.rows encoder.now) (form_rows form) }

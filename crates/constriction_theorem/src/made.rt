@@ -147,8 +147,6 @@ pub(crate) fn both_of<M, const PRECISION: usize>(
 where
     M: IterableEntropyModel<PRECISION> + Copy,
     M::Symbol: Hash + Eq + Drop,
-    requires positive { 0 < PRECISION }
-    requires fits { PRECISION ≤ M.Probability.BITS }
     requires clones { ClonesAreEqual M.Symbol.eq M.stands_for }
     requires distinct { IsDistinct M.Symbol.eq (symbols_of (M.rows model)) }
     ensures rows { IfOk result (λ both. StandForRows M.stands_for (decoder_model_rows both.0) (M.rows model)) }
@@ -165,8 +163,6 @@ pub(crate) fn both_of_contiguous<Probability: WholeNumber, const PRECISION: usiz
     alloc: Global,
     model: &Contiguous<Probability, PRECISION>,
 ) -> Result<DecoderAndEncoder<usize, Probability, PRECISION>, ModelError>
-    requires positive { 0 < PRECISION }
-    requires fits { PRECISION ≤ Probability.BITS }
     ensures rows { IfOk result (λ both. decoder_model_rows both.0 ≡ contiguous_model_rows model.now) }
     ensures entries { IfOk result (λ both. SameEntries nat_eq (encoder_model_rows both.1) (contiguous_model_rows model.now)) }
     ensures refused { IfErr result (λ e. e ≡ ModelError.OutOfMemory) }

@@ -1,10 +1,9 @@
 //! Any model whose rows can be walked through, and what it and the form that is made of it reply.
 
-ghost use Rattle.std.specs.Prelude.{◌≡◌, map, false, IfOk, IfErr};
+ghost use Rattle.std.specs.Prelude.{◌≡◌, ◌≤◌, map, false, IfOk, IfErr};
 ghost use Rattle.std.specs.List.{IsDistinct};
 ghost use Rattle.constriction.specs.Model.{ClonesAreEqual};
 ghost use Rattle.constriction.specs.Rows.{symbols_of};
-ghost use Rattle.constriction.specs.Precision.{IsPrecision, IsLookupPrecision};
 ghost use Rattle.constriction_client.specs.Chains.{is_lookup};
 ghost use Rattle.constriction_client.specs.FormRows.{form_rows};
 ghost use Rattle.constriction_client.specs.Replies.{in_numbers, replies_by_scan, AreRepliesOf};
@@ -35,7 +34,7 @@ where
     M: IterableEntropyModel<PRECISION> + Copy,
     M::Symbol: Hash + Eq + Clone + Drop,
     M::Probability: IndexWord,
-    requires precision { IsLookupPrecision M.Probability.BITS PRECISION }
+    requires narrow { PRECISION ≤ 63 }
     requires walked { ClonesAreEqual M.Symbol.eq M.stands_for }
     requires clones { ClonesAreEqual M.Symbol.eq M.Symbol.is_clone }
     requires distinct { IsDistinct M.Symbol.eq (symbols_of (M.rows model)) }
@@ -78,8 +77,7 @@ pub fn answer_beside_encoder<M, const PRECISION: usize>(
 where
     M: DecoderModel<PRECISION> + IterableEntropyModel<PRECISION> + Copy,
     M::Symbol: Hash + Eq + Drop,
-    requires precision { IsPrecision M.Probability.BITS PRECISION }
-    requires walked { ClonesAreEqual M.Symbol.eq M.IterableEntropyModel.stands_for }
+    requires { ClonesAreEqual M.Symbol.eq M.IterableEntropyModel.stands_for }
     ensures ok { IfOk result (λ replies. AreRepliesOf M.DecoderModel.stands_for
         (replies_by_scan PRECISION M.Probability.whole M.Symbol.eq queries.now (M.rows model))
         (map (in_numbers M.Probability.whole M.Probability.base) replies.items)) }
@@ -110,7 +108,7 @@ where
     M: DecoderModel<PRECISION> + IterableEntropyModel<PRECISION> + Copy,
     M::Symbol: Hash + Eq + Clone + Drop,
     M::Probability: IndexWord,
-    requires precision { IsLookupPrecision M.Probability.BITS PRECISION }
+    requires narrow { PRECISION ≤ 63 }
     requires walked { ClonesAreEqual M.Symbol.eq M.IterableEntropyModel.stands_for }
     requires clones { ClonesAreEqual M.Symbol.eq M.Symbol.is_clone }
     requires distinct { IsDistinct M.Symbol.eq (symbols_of (M.rows model)) }

@@ -1,6 +1,6 @@
 //! Weights alone, and what models without a lookup table reply, over any word.
 
-ghost use Rattle.std.specs.Prelude.{◌≡◌, ◌<◌, ◌≤◌, map, nat_eq, IfOk, IfErr};
+ghost use Rattle.std.specs.Prelude.{◌≡◌, map, nat_eq, IfOk, IfErr};
 ghost use Rattle.constriction.specs.Acceptance.{completed, IsAccepted};
 ghost use Rattle.constriction.specs.ModelRows.{contiguous_model_rows, decoder_model_rows};
 ghost use Rattle.constriction.specs.Rows.{contiguous_rows};
@@ -32,8 +32,6 @@ fn asked_by_search<Probability: WholeNumber, const PRECISION: usize>(
     model: &Contiguous<Probability, PRECISION>,
     queries: &[Query<usize, Probability>],
 ) -> Result<AnswersBySearch<Probability, Searching<usize, Probability, PRECISION>>, ModelError>
-    requires positive { 0 < PRECISION }
-    requires fits { PRECISION ≤ Probability.BITS }
     ensures ok { IfOk result (BothReplyAsScan (in_numbers Probability.whole Probability.base)
         (replies_by_scan PRECISION Probability.whole nat_eq queries.now (contiguous_model_rows model.now))) }
     ensures rows { IfOk result (λ answers. decoder_model_rows answers.decoder ≡ contiguous_model_rows model.now) }

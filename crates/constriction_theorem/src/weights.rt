@@ -1,6 +1,6 @@
 //! Weights alone, and what the models of the symbols 0, 1, .. reply.
 
-ghost use Rattle.std.specs.Prelude.{◌≡◌, ◌<◌, ◌≤◌, fold, map, nat_eq, false, IfOk, IfErr};
+ghost use Rattle.std.specs.Prelude.{◌≡◌, ◌≤◌, fold, map, nat_eq, false, IfOk, IfErr};
 ghost use Rattle.constriction.specs.Acceptance.{completed, IsAccepted};
 ghost use Rattle.constriction.specs.EncoderRows.{encoder_model_rows};
 ghost use Rattle.constriction.specs.Entries.{SameEntries};
@@ -55,8 +55,6 @@ where
     D: DecoderModel<PRECISION, Symbol = usize>,
     E: EncoderModel<PRECISION, Symbol = usize, Probability = D::Probability>,
     F: EncoderModel<PRECISION, Symbol = usize, Probability = D::Probability>,
-    requires positive { 0 < PRECISION }
-    requires fits { PRECISION ≤ D.Probability.BITS }
     requires same { ClonesAreSame D.stands_for }
     requires contiguous { SameEntries E.symbol_eq (E.rows contiguous.now) (D.rows decoder.now) }
     requires hashed { SameEntries F.symbol_eq (F.rows hashed.now) (D.rows decoder.now) }
@@ -79,7 +77,7 @@ fn form_after<Probability: IndexWord, const PRECISION: usize>(
     decoder: Searching<usize, Probability, PRECISION>,
     steps: &[ChainStep],
 ) -> Result<DecoderForm<usize, Probability, PRECISION>, ModelError>
-    requires precision { IsLookupPrecision Probability.BITS PRECISION }
+    requires narrow { PRECISION ≤ 63 }
     requires clones { ClonesAreEqual nat_eq ⟦<usize as Clone>⟧.is_clone }
     requires same { ClonesAreSame ⟦<usize as Clone>⟧.is_clone }
     ensures kind { IfOk result (λ form. is_lookup form ≡ fold is_lookup_after false steps.now) }
@@ -101,8 +99,6 @@ fn converted_from<Probability: IndexWord, const PRECISION: usize>(
     ),
     ModelError,
 >
-    requires positive { 0 < PRECISION }
-    requires fits { PRECISION ≤ Probability.BITS }
     requires narrow { PRECISION ≤ 63 }
     ensures kind { IfOk result (λ both. is_lookup both.0 ≡ fold is_lookup_after false steps.now) }
     ensures rows { IfOk result (λ both. form_rows both.0 ≡ contiguous_model_rows model.now) }
@@ -121,8 +117,6 @@ fn asked_by_slots<Probability: IndexWord, const PRECISION: usize, const SLOT_BIT
     hashed: &NonContiguousCategoricalEncoderModel<usize, Probability, PRECISION>,
     queries: &[Query<usize, Probability>],
 ) -> Result<RepliesByEncoder<Probability>, ModelError>
-    requires positive { 0 < PRECISION }
-    requires fits { PRECISION ≤ Probability.BITS }
     requires narrow { PRECISION ≤ 63 }
     requires hashed { SameEntries nat_eq (encoder_model_rows hashed.now) (contiguous_model_rows model.now) }
     ensures ok { IfOk result (ReplyAsScan (in_numbers Probability.whole Probability.base)
@@ -149,8 +143,6 @@ fn asked_by_each<Probability: IndexWord, const PRECISION: usize, const SLOT_BITS
     ),
     ModelError,
 >
-    requires positive { 0 < PRECISION }
-    requires fits { PRECISION ≤ Probability.BITS }
     requires narrow { PRECISION ≤ 63 }
     requires form { form_rows form.now ≡ contiguous_model_rows model.now }
     requires hashed { SameEntries nat_eq (encoder_model_rows hashed.now) (contiguous_model_rows model.now) }
@@ -172,8 +164,6 @@ fn answers_of<Probability: IndexWord, const PRECISION: usize, const SLOT_BITS: u
     steps: &[ChainStep],
     queries: &[Query<usize, Probability>],
 ) -> Result<AnswersOfWeights<Probability, DecoderForm<usize, Probability, PRECISION>>, ModelError>
-    requires positive { 0 < PRECISION }
-    requires fits { PRECISION ≤ Probability.BITS }
     requires narrow { PRECISION ≤ 63 }
     ensures replies { IfOk result (AllReplyAsScan (in_numbers Probability.whole Probability.base)
         (replies_by_scan PRECISION Probability.whole nat_eq queries.now (contiguous_model_rows model.now))) }

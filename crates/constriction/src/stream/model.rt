@@ -21,8 +21,7 @@ pub use constriction_conversions::{
     to_generic_lookup_decoder_model_of_distinct, to_generic_slotted_lookup_decoder_model,
 };
 pub use constriction_model::{
-    DecoderModel, DefaultUniformModel, EncoderModel, EntropyModel,
-    ModelError, Probe, SearchingModel, SmallUniformModel, UniformModel, UniformSymbolTable, Weight,
-    is_quantile, row_of_quantile,
+    DecoderModel, DefaultUniformModel, EncoderModel, EntropyModel, ModelError, Probe,
+    SmallUniformModel, UniformModel, UniformSymbolTable, Weight, is_quantile, row_of_quantile,
 };
 pub use constriction_stored_rows::{Alone, CdfEntry, CdfProbe, WithSymbol};

@@ -1,13 +1,12 @@
 //! Items that are written and read back, by one model or by two.
 
-ghost use Rattle.std.specs.Prelude.{◌≡◌, ◌<◌, ◌≤◌, List, length, reverse, Err, IfOk, IfErr, OnOk, OnErr};
+ghost use Rattle.std.specs.Prelude.{◌≡◌, List, length, reverse, Err, IfOk, IfErr, OnOk, OnErr};
 ghost use Rattle.std.specs.List.{IsDistinct};
 ghost use Rattle.constriction.specs.EncoderRows.{encoder_model_rows};
 ghost use Rattle.constriction.specs.Entries.{SameEntries};
 ghost use Rattle.constriction.specs.Model.{StandForRows, ClonesAreEqual};
 ghost use Rattle.constriction.specs.ModelRows.{decoder_model_rows};
 ghost use Rattle.constriction.specs.Rows.{entry_of, symbols_of};
-ghost use Rattle.constriction.specs.Precision.{IsPrecision};
 ghost use Rattle.constriction_client.specs.Coming.{ComeNext, QuantilesCome, GoesBack};
 ghost use Rattle.constriction_client.specs.declared.quantiles.QuantileFault.{QuantileFault};
 ghost use Rattle.constriction_client.specs.Placing.{PlacesItems, EndsPlacing};
@@ -49,8 +48,6 @@ where
     D: DecoderModel<PRECISION>,
     D::Symbol: Drop,
     R: ReadWords<D::Probability, S, ReadError = Infallible>,
-    requires positive { 0 < PRECISION }
-    requires fits { PRECISION ≤ D.Probability.BITS }
     requires can_read { R.can_read source.old }
     requires come { QuantilesCome PRECISION D.Probability.whole R.tells_upcoming count source.old }
     ensures ok { IfOk result (λ pairs. (words : List D.Probability) → ComeNext R.tells_upcoming source.old words
@@ -82,7 +79,6 @@ where
     D: DecoderModel<PRECISION>,
     D::Symbol: Drop,
     E: EncoderModel<PRECISION, Symbol = D::Symbol, Probability = D::Probability>,
-    requires precision { IsPrecision D.Probability.BITS PRECISION }
     requires alike { SameEntries E.symbol_eq (E.rows encoder.now) (D.rows decoder.now) }
     ensures ok { IfOk result (λ pairs. StandForItems D.stands_for E.symbol_eq (reverse items.now) pairs.items) }
     ensures fault { (fault : QuantileFault) → result ≡ Err (CoderError.Frontend fault)
@@ -108,7 +104,6 @@ pub fn there_and_back<M, const PRECISION: usize>(
 where
     M: EncoderModel<PRECISION> + DecoderModel<PRECISION>,
     M::Symbol: Drop,
-    requires precision { IsPrecision M.Probability.BITS PRECISION }
     ensures ok { IfOk result (λ pairs. StandForItems M.stands_for M.symbol_eq (reverse items.now) pairs.items) }
     ensures fault { (fault : QuantileFault) → result ≡ Err (CoderError.Frontend fault)
         → HasFault (entry_of M.symbol_eq (M.rows model.now)) M.Probability.whole items.now fault }
@@ -130,7 +125,6 @@ pub fn decoder_and_encoder<M, const PRECISION: usize>(
 where
     M: IterableEntropyModel<PRECISION> + Copy,
     M::Symbol: Hash + Eq + Drop,
-    requires precision { IsPrecision M.Probability.BITS PRECISION }
     requires clones { ClonesAreEqual M.Symbol.eq M.stands_for }
     requires equality { M.is_equality M.Symbol.eq }
     ensures rows { IfOk result (λ both. StandForRows M.stands_for (decoder_model_rows both.0) (M.rows model)) }
@@ -151,7 +145,6 @@ fn write_and_go_back<E, Buf, const PRECISION: usize>(
 where
     E: EncoderModel<PRECISION>,
     Buf: SafeBufMut<E::Probability>,
-    requires { PRECISION ≤ E.Probability.BITS }
     ensures ok { OnOk result (GoesBack (entry_of E.symbol_eq (E.rows encoder.now)) E.Probability.whole Buf.with_words
         cursor.old items.now cursor.new) }
     ensures err { IfErr result (λ fault. EndsPlacing (entry_of E.symbol_eq (E.rows encoder.now)) E.Probability.whole
@@ -193,7 +186,6 @@ where
     D::Symbol: Drop,
     E: EncoderModel<PRECISION, Symbol = D::Symbol, Probability = D::Probability>,
     Buf: SafeBufMut<D::Probability>,
-    requires precision { IsPrecision D.Probability.BITS PRECISION }
     requires alike { SameEntries E.symbol_eq (E.rows encoder.now) (D.rows decoder.now) }
     ensures ok { IfOk result (λ pairs. StandForItems D.stands_for E.symbol_eq items.now pairs.items) }
     ensures placed { OnOk result (PlacesItems (entry_of E.symbol_eq (E.rows encoder.now)) D.Probability.whole

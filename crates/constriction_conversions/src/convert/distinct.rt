@@ -1,9 +1,8 @@
 //! Models that are made, without comparing symbols, from models whose symbols are known to differ.
 
-ghost use Rattle.std.specs.Prelude.{◌≡◌, ◌<◌, ◌≤◌, map, IfOk, IfErr};
+ghost use Rattle.std.specs.Prelude.{◌≡◌, ◌≤◌, map, IfOk, IfErr};
 ghost use Rattle.std.specs.List.{IsDistinct};
 ghost use Rattle.constriction_model.specs.Model.{StandApart, ClonesAreEqual};
-ghost use Rattle.constriction_model.specs.Precision.{IsPrecision, IsLookupPrecision};
 ghost use Rattle.constriction_model.specs.Rows.{symbols_of};
 ghost use Rattle.constriction_stored_rows.specs.Stored.{IsStored, rows_paired};
 ghost use Rattle.constriction_categorical.specs.ModelRows.{decoder_model_rows, lookup_model_rows};
@@ -24,8 +23,6 @@ pub(crate) fn entries_of_distinct<M, const PRECISION: usize>(
 where
     M: IterableEntropyModel<PRECISION>,
     M::Symbol: Eq + Drop,
-    requires positive { 0 < PRECISION }
-    requires fits { PRECISION ≤ M.Probability.BITS }
     requires clones { ClonesAreEqual M.Symbol.eq M.stands_for }
     requires differ { IsDistinct M.Symbol.eq (symbols_of (M.rows model)) }
     ensures stored { IfOk result (λ v. IsStored M.Probability.BITS PRECISION (map (λ x. M.Probability.whole x.0) v.items)) }
@@ -54,7 +51,6 @@ pub fn to_generic_decoder_model_of_distinct<M, const PRECISION: usize>(
 where
     M: IterableEntropyModel<PRECISION>,
     M::Symbol: Eq + Drop,
-    requires precision { IsPrecision M.Probability.BITS PRECISION }
     requires clones { ClonesAreEqual M.Symbol.eq M.stands_for }
     requires distinct { IsDistinct M.Symbol.eq (symbols_of (M.rows model)) }
     ensures ok { IfOk result (λ d. StandApart M.Symbol.eq M.stands_for (decoder_model_rows d) (M.rows model)) }
@@ -81,7 +77,7 @@ where
     M: IterableEntropyModel<PRECISION>,
     M::Symbol: Eq + Drop,
     M::Probability: IndexWord,
-    requires precision { IsLookupPrecision M.Probability.BITS PRECISION }
+    requires narrow { PRECISION ≤ 63 }
     requires clones { ClonesAreEqual M.Symbol.eq M.stands_for }
     requires distinct { IsDistinct M.Symbol.eq (symbols_of (M.rows model)) }
     ensures ok { IfOk result (λ d. StandApart M.Symbol.eq M.stands_for (lookup_model_rows d) (M.rows model)) }

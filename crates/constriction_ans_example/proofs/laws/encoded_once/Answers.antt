@@ -16,7 +16,7 @@ returns g c = λ symbol a b rest fa fb wa wb p q.
     let same : ◌≡◌ {A = ℕ × ℕ} (q.left, q.weight) (p.left, p.weight) = some-inj _ _ (sym q.known ∙ p.known) in
     let lefts : q.left ≡ p.left = ap (λ (x : ℕ × ℕ). x.0) same in
     let weights : q.weight ≡ p.weight = ap (λ (x : ℕ × ℕ). x.1) same in
-    put-once g.row.PRECISION p.left p.weight a b rest c.requires
+    put-once g.row.PRECISION p.left p.weight a b rest (g.met.E.EntropyModel.precision_law c.args.encoder.now).fits
     (entry-positive g.row.PRECISION eq rows symbol (p.left, p.weight) (sym known) within)
     (entry-within g.row.PRECISION eq rows symbol (p.left, p.weight) (sym known) within) fa fb wa wb p.top
     (rw (lefts, weights) at q.top)

@@ -19,7 +19,7 @@ returns-in-Ok-read_model-clause-rows g c =
     let read = table.reads.told (weights_as_words weights) coming in
     let same : table.weights ≡ weights = same-weights weights table.weights read.0 read.1 in
     let made : rows_of c.args.symbols.items table.weights ≡ rows =
-    rw (same, c.requires.symbols) (sym (g.met.M.IterableEntropyModel.tile_law c.args.model).in_order) in
+    rw (same, c.requires) (sym (g.met.M.IterableEntropyModel.tile_law c.args.model).in_order) in
     table.rows_are ∙ made
 
 pub returns-clause-whole : goal.returns-clause-whole
@@ -43,9 +43,9 @@ returns-clause-accepted g c = λ is distinct.
     let table = c.in-Err-read_model.ensures.not_accepted (ap Err same) in
     let read = table.1.told (weights_as_words weights) coming in
     let weights_are : table.0 ≡ weights = same-weights weights table.0 read.0 read.1 in
-    let given = rw c.requires.symbols at distinct in
+    let given = rw c.requires at distinct in
     let good = (tiling-rebuilds g.M.Symbol.PartialEq.eq 32 g.row.PRECISION rows
     (g.met.M.IterableEntropyModel.tile_law c.args.model) given).0 in
     let accepted : AreAccepted g.M.Symbol.PartialEq.eq 32 g.row.PRECISION c.args.symbols.items table.0 =
-    rw (weights_are, c.requires.symbols) good in
+    rw (weights_are, c.requires) good in
     table.2 accepted

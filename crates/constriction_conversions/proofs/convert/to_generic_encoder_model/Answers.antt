@@ -22,6 +22,7 @@ invariant_of-result g c =
     g.M.SymbolTable.Iterator.next_gives g.M.IterableEntropyModel.rows_left M.steps_law rows c.symbol_table.result
     c.symbol_table.ensures.all found.0 found.1 in
     record {
+      precise = g.met.M.EntropyModel.precision_law c.args.model;
       distinct = c.in_ok-table.ensures.unique;
       within = table-rows_within eq laws (λ e. (whole e.left, whole (base e.weight))) g.row.PRECISION c.in_ok-table.table.entries
           c.in_ok-table.ensures.unique

@@ -13,7 +13,7 @@ invariant_of-result g c =
     let good = given.2.2 in
     let weights = completed g.row.PRECISION c.args.infer_last_probability (map whole given.2.0) in
     record {
-      precise = (c.requires.precision.positive, c.requires.precision.fits);
+      precise = c.requires.precision;
       stored = (cdf-of g.Probability.WholeNumber.BITS g.row.PRECISION (map whole c.in_ok-cdf.cdf.items) weights good.0 good.1).0;
     }
 

@@ -1,4 +1,5 @@
 use Rattle.std.proofs.Common.{map}
+use Rattle.constriction_model.proofs.Digits.{digits_some}
 use Rattle.constriction_stored_rows.proofs.TileLemmas.{cdf-probed}
 use Rattle.constriction_categorical.proofs.contiguous.ContiguousCategoricalEntropyModel.quantile_probe.Goals as goal
 
@@ -13,6 +14,7 @@ returns g c =
       within = rw c.new.ensures.cumulatives probed.0.within;
       in_order = rw c.new.ensures.cumulatives probed.0.in_order;
       searchable = rw c.new.ensures.cumulatives (probed.1 (whole c.args.quantile));
+      few = rw c.new.ensures.cumulatives (digits_some 0 _ _ probed.0.within);
       fresh = c.new.ensures.fresh;
       found = rw c.new.ensures.cumulatives (λ i f. probed.2 (whole c.args.quantile) i c.requires f);
     }

@@ -13,4 +13,4 @@ overflow_sub-result g c = (lent-cdf g.Probability.WholeNumber.whole _ g.row.PREC
 pub invariant_of-result : goal.invariant_of-result
 invariant_of-result g c =
     let table = lent-cdf g.Probability.WholeNumber.whole _ g.row.PRECISION _ _ c.args.self.now.stored c.words-cdf.ensures in
-    record { narrow = c.args.self.now.precise.1; stored = table.0; in_order = table.1; in_bounds = table.2 }
+    record { narrow = c.args.self.now.precise.fits; stored = table.0; in_order = table.1; in_bounds = table.2 }

@@ -1,6 +1,7 @@
 use Rattle.std.proofs.Common.{map}
+use Rattle.constriction_model.proofs.Digits.{digits_some}
 use Rattle.constriction_stored_rows.proofs.SlotLemmas.{slot-probed}
-use Rattle.constriction_stored_rows.proofs.SlotCounting.{tells-tested}
+use Rattle.constriction_stored_rows.proofs.SlotTests.{tells-tested}
 use Rattle.constriction_categorical.proofs.lookup.LookupDecoderModel.quantile_probe.Goals as goal
 
 pub slot_probe-requires-clause-slots : goal.slot_probe-requires-clause-slots
@@ -22,6 +23,7 @@ returns g c =
       within = tells.within;
       in_order = tells.in_order;
       searchable = probed.1;
+      few = digits_some c.slot_probe.result.0 _ _ tells.within;
       fresh = c.slot_probe.ensures.fresh;
       found = probed.2;
     }

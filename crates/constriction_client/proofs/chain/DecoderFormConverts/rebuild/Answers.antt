@@ -3,10 +3,10 @@ use Rattle.constriction_client.proofs.Rebuilding.{rows_stand}
 use Rattle.constriction_client.proofs.chain.DecoderFormConverts.rebuild.Goals as goal
 
 pub symbols_and_weights-requires-clause-distinct : goal.symbols_and_weights-requires-clause-distinct
-symbols_and_weights-requires-clause-distinct g c = c.requires.4 c.args.self.now
+symbols_and_weights-requires-clause-distinct g c = c.requires.2 c.args.self.now
 
 pub symbols_and_weights-requires-clause-clones : goal.symbols_and_weights-requires-clause-clones
-symbols_and_weights-requires-clause-clones g c = c.requires.3
+symbols_and_weights-requires-clause-clones g c = c.requires.1
 
 pub returns-in-Search : goal.returns-in-Search
 returns-in-Search g c = record {

@@ -25,6 +25,7 @@ invariant_of-result g c =
     let rows = rows_of given.0 weights in
     let tile = accepted-tile eq g.Probability.WholeNumber.BITS g.row.PRECISION given.0 weights good.0 in
     record {
+      precise = c.requires.precision;
       distinct = good.1.0;
       within = table-rows_within eq laws (λ e. (whole e.left, whole (base e.weight))) g.row.PRECISION c.in_ok-read.read.table.entries
           good.1.0

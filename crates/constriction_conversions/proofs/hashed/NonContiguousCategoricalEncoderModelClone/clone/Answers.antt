@@ -8,6 +8,7 @@ invariant_of-result g c =
     let base = g.Probability.WholeNumber.base in
     let m = c.args.self.now in
     record {
+      precise = m.precise;
       distinct = c.len-len.ensures.unique;
       within =
           within-made g.Symbol.Clone.is_clone g.row.PRECISION

@@ -13,7 +13,7 @@ invariant_of-result g c =
     let last = last-fits g.Probability.WholeNumber.BITS g.row.PRECISION c.args.range _ c.requires.precision.fits c.requires.some
     c.requires.within c.from_number-last_symbol.ensures in
     record {
-      fits = c.requires.precision.fits;
+      precise = c.requires.precision;
       some = last.0;
       within = last.1;
       index = omega (arith, last.3);

@@ -5,7 +5,7 @@ use Rattle.constriction_model.proofs.uniform.UniformModel.row_words_of.Goals as 
 pub times-left-requires : goal.times-left-requires
 times-left-requires g c =
     let m = c.args.self.now in
-    rw m.bin (left-fits g.row.PRECISION _ m.within _ _ m.fits c.requires)
+    rw m.bin (left-fits g.row.PRECISION _ m.within _ _ m.precise.fits c.requires)
 
 pub returns-clause-left : goal.returns-clause-left
 returns-clause-left g c =

@@ -20,6 +20,6 @@ returns g c =
       within =
           row-within g.Probability.WholeNumber.BITS g.row.PRECISION _ _
           (row_of whole base (c.to_number.result, answered.0, answered.1))
-          (uniform-tiles g.row.PRECISION _ m.within _ m.fits m.some) held;
+          (uniform-tiles g.row.PRECISION _ m.within _ m.precise.fits m.some) held;
       refused = tt;
     }

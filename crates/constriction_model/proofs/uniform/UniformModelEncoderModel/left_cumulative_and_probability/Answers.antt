@@ -18,7 +18,7 @@ returns-then-symbol-to_number g c =
     record {
       entry = found;
       within = words-within g.row.PRECISION nat_eq _ c.args.symbol.now whole base (Some answered) found
-          (uniform-within g.row.PRECISION _ m.within _ m.fits m.some);
+          (uniform-within g.row.PRECISION _ m.within _ m.precise.fits m.some);
     }
 
 pub returns-else-symbol-to_number : goal.returns-else-symbol-to_number

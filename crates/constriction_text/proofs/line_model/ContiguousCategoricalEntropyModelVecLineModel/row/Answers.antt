@@ -10,7 +10,7 @@ pub returns : goal.returns
 returns g c =
     let whole = g.Word.WholeNumber.whole in
     let same : whole c.narrowed.result ≡ c.args.quantile =
-    c.narrowed.ensures ∙ narrowed_same g.Word.WholeNumber.BITS g.row.PRECISION c.args.quantile c.args.self.now.precise.1 c.requires in
+    c.narrowed.ensures ∙ narrowed_same g.Word.WholeNumber.BITS g.row.PRECISION c.args.quantile c.args.self.now.precise.fits c.requires in
     same_row (contiguous_rows (weights_of g.row.PRECISION (lefts_in (map whole c.args.self.now.cdf.items)))) c.args.quantile
     (whole c.narrowed.result) c.in_ok-symbol.symbol c.number.result (whole c.in_ok-symbol.left) c.number-2.result _
     (exact-row (λ s t. t ≡ s) (λ s t is. is) whole g.Word.WholeNumber.base _ _ _ c.in_ok-symbol.ensures.row) same c.number.ensures

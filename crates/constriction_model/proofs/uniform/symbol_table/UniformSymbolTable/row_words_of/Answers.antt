@@ -7,7 +7,7 @@ use Rattle.constriction_model.proofs.uniform.symbol_table.UniformSymbolTable.row
 pub times-left-requires : goal.times-left-requires
 times-left-requires g c =
     let m = c.args.self.now.model in
-    rw m.bin (left-fits g.row.PRECISION _ m.within _ _ m.fits c.requires)
+    rw m.bin (left-fits g.row.PRECISION _ m.within _ _ m.precise.fits c.requires)
 
 pub returns-clause-left : goal.returns-clause-left
 returns-clause-left g c =
