@@ -83,7 +83,7 @@ class Maker:
             weights = [width // 2] * (2 + 2 * total // width if total == width else 2) + weights
         else:
             weights = [total if total < width else 0]
-        return [min(it, (1 << 128) - 1) for it in weights]
+        return [min(it, width - 1) for it in weights]
 
     def symbols(self, count):
         """Returns the field of symbols: mostly as many and different ones, at times in order, at times not."""
@@ -132,9 +132,8 @@ class Maker:
     def of_uniform(self, kind, form):
         total = 1 << self.precision(form)
         largest = min(total, (1 << 64) - 1)
-        count = self.random.choice([2, 3, self.random.randint(2, max(2, min(largest, 300))), self.random.randint(0, largest), largest])
-        if kind in ("uniform", "uends"):
-            count = min(count, 300)
+        count = self.random.choice([2, 3, self.random.randint(2, min(largest, 300)), self.random.randint(2, largest), largest])
+        count = min(count, largest, 300 if kind in ("uniform", "uends") else largest)
         if kind == "uends":
             return [kind, form, self.letters(6), count]
         if kind == "uquant":

@@ -1,4 +1,5 @@
-"""The Rust crate constriction 0.5.0, from a folder or from cargo's registry, and programs that are built over it."""
+"""The Rust crate constriction 0.5.0, from a folder or from cargo's registry, its checksums, and programs that are built over it."""
+import hashlib
 import json
 import os
 import re
@@ -33,6 +34,26 @@ def patches(folder):
             if package["name"] in ("num-traits", "smallvec") and package["source"] is None:
                 paths[package["name"]] = os.path.dirname(package["manifest_path"])
     return [word for name, path in paths.items() for word in ("--config", f"patch.crates-io.{name}.path={json.dumps(path)}")]
+
+
+def fetched(stop):
+    """Returns the folder of the crate that cargo fetched from its registry."""
+    words = ["cargo", "metadata", "--format-version", "1", "--manifest-path", f"{TOP}/bench/cases/Cargo.toml"]
+    ran = subprocess.run(words, capture_output=True, text=True)
+    if ran.returncode:
+        stop("cargo does not say where the crate constriction 0.5.0 is: give the folder of its sources, by --crate FOLDER")
+    return next(os.path.dirname(it["manifest_path"]) for it in json.loads(ran.stdout)["packages"] if it["name"] == "constriction")
+
+
+def sources(folder, stop):
+    """Returns the first 16 digits of the sha256 of each source of the crate in a folder, or of the registry's."""
+    folder = folder or fetched(stop)
+    found = {}
+    for at, _, names in os.walk(f"{folder}/src"):
+        for path in (f"{at}/{name}" for name in names if name.endswith(".rs")):
+            with open(path, "rb") as file:
+                found[os.path.relpath(path, folder)] = hashlib.sha256(file.read()).hexdigest()[:16]
+    return dict(sorted(found.items()))
 
 
 def is_unfetched(said):

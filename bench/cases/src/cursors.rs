@@ -16,8 +16,7 @@ pub fn moved(answer: Result<(), ()>) -> String {
     if answer.is_ok() { "mv".into() } else { "no".into() }
 }
 
-/// One call of a backend. Of a reversal the length is given: then positions count from its other end where the line says so,
-/// and the free places are the inner position, since the crate answers the length.
+/// One call of a backend. Where a length is given, positions count from its other end; where free places are, they are answered.
 fn reply<W: Word, B>(backend: &mut B, call: &str, len: Option<usize>, free: Option<usize>) -> Result<String, String>
 where
     B: BoundedReadWords<W, Stack, ReadError = Infallible>
@@ -57,19 +56,29 @@ fn end<W: Word>(cursor: Cursor<W, Vec<W>>) -> String {
     format!("| {} @{pos}", commas(&buf))
 }
 
-fn of_reversal<W: Word>(mut reversed: Reverse<Cursor<W, Vec<W>>>, calls: &[&str], len: Option<usize>) -> Result<(Vec<String>, Reverse<Cursor<W, Vec<W>>>), String> {
-    let mut replies = vec![];
-    for call in calls {
-        let free = Some(reversed.0.pos());
-        replies.push(reply::<W, _>(&mut reversed, call, len, free)?);
+/// The replies of a cursor or of a reversal of it, and then the cursor. The crate answers the length for the free places of a reversal; where
+/// they are `mended`, the answer is the inner position.
+fn replies<W: Word>(kind: &str, mut cursor: Cursor<W, Vec<W>>, calls: &[&str], mended: bool) -> Result<String, String> {
+    let len = (kind != "inner").then_some(cursor.buf().len());
+    let mut replies: Vec<String>;
+    if kind == "cursor" {
+        replies = calls.iter().map(|call| reply::<W, _>(&mut cursor, call, None, None)).collect::<Result<_, _>>()?;
+    } else {
+        let mut reversed = if kind == "turned" { cursor.into_reversed() } else { Reverse(cursor) };
+        let of_reversal = |call: &&str| {
+            let free = mended.then_some(reversed.0.pos());
+            reply::<W, _>(&mut reversed, call, len, free)
+        };
+        replies = calls.iter().map(of_reversal).collect::<Result<_, _>>()?;
+        cursor = if kind == "turned" { reversed.into_reversed() } else { reversed.0 };
     }
-    Ok((replies, reversed))
+    replies.push(end(cursor));
+    Ok(replies.join(" "))
 }
 
 pub fn answer<W: Word>(kind: &str, mut fields: Fields) -> Result<Said, String> {
     let pos = fields.index()?;
     let buf = fields.list::<W>()?;
-    let len = buf.len();
     let Ok(mut cursor) = Cursor::<W, Vec<W>>::new_at_pos(buf, pos) else { return said("notpos") };
     if kind == "extend" || kind == "rextend" {
         let more = fields.words::<W>()?;
@@ -82,26 +91,8 @@ pub fn answer<W: Word>(kind: &str, mut fields: Fields) -> Result<Said, String> {
         return said(format!("{} {}", if answer.is_ok() { "ok" } else { "oos" }, end(cursor)));
     }
     let calls = fields.rest();
-    let rule = if kind != "cursor" && calls.iter().any(|it| matches!(*it, "sl" | "fu")) { "free places of a reversal" } else { "" };
-    let (replies, cursor) = match kind {
-        "cursor" => {
-            let replies = calls.iter().map(|call| reply::<W, _>(&mut cursor, call, None, None)).collect::<Result<Vec<_>, String>>()?;
-            (replies, cursor)
-        }
-        "turned" => {
-            let (replies, turned) = of_reversal(cursor.into_reversed(), &calls, Some(len))?;
-            (replies, turned.into_reversed())
-        }
-        "reversed" => {
-            let (replies, reversed) = of_reversal(Reverse(cursor), &calls, Some(len))?;
-            (replies, reversed.0)
-        }
-        "inner" => {
-            let (replies, reversed) = of_reversal(Reverse(cursor), &calls, None)?;
-            (replies, reversed.0)
-        }
-        _ => return Err("no kind of line".into()),
-    };
-    let said = replies.into_iter().chain([end(cursor)]).collect::<Vec<_>>().join(" ");
-    by(rule, said)
+    let own = replies(kind, cursor.clone(), &calls, false)?;
+    let answer = replies(kind, cursor, &calls, true)?;
+    let rule = if own == answer { "" } else { "free places of a reversal" };
+    by(rule, answer)
 }

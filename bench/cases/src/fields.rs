@@ -3,10 +3,17 @@ use constriction::BitArray;
 use std::fmt::{Debug, Display};
 use std::hash::Hash;
 
-/// An answer: its lines, and the rule that it is by, or "" where it is the crate's own.
+/// An answer: its lines, and the rule that it is by, or "" where the crate gave it to this very call.
 pub struct Said {
     pub text: String,
     pub rule: &'static str,
+}
+
+impl Said {
+    /// The same answer by a rule of its kind or its form, if there is one. That a quantile is out of range stands whatever the kind is.
+    pub fn ruled(self, rule: &'static str) -> Self {
+        if rule.is_empty() || self.text == "range" { self } else { Self { rule, ..self } }
+    }
 }
 
 pub fn said(text: impl Display) -> Result<Said, String> {
@@ -31,6 +38,15 @@ impl<'l> Fields<'l> {
         self.left.next().ok_or_else(|| "a field is missing".into())
     }
 
+    /// The field of a quantile, a symbol or letters before the others, where the kind has one.
+    pub fn argument(&mut self, kind: &str) -> Result<&'l str, String> {
+        match kind.trim_end_matches('i') {
+            "quantile" | "symbol" | "genenc" | "probe" | "ends" | "look" | "tolook" | "lprobe" | "lends" | "slot" | "sprobe" | "dec" | "enc" | "encof"
+            | "tagenc" | "dprobe" | "dends" | "nlook" | "nprobe" | "nends" | "nslot" | "ask" => self.word(),
+            _ => Ok(""),
+        }
+    }
+
     pub fn number(&mut self) -> Result<u128, String> {
         number(self.word()?)
     }
@@ -43,12 +59,8 @@ impl<'l> Fields<'l> {
         self.left.by_ref().collect()
     }
 
-    pub fn numbers(&mut self) -> Result<Vec<u128>, String> {
-        self.rest().into_iter().map(number).collect()
-    }
-
-    pub fn counted(&mut self) -> Result<Vec<u128>, String> {
-        (0..self.index()?).map(|_| self.number()).collect()
+    pub fn counted<W: Word>(&mut self) -> Result<Vec<W>, String> {
+        (0..self.index()?).map(|_| word(self.word()?)).collect()
     }
 
     pub fn symbols(&mut self) -> Result<Vec<u64>, String> {

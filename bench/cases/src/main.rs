@@ -1,9 +1,10 @@
 //! Answers lines of cases, from standard input, by the Rust crate constriction 0.5.0; `cases/README.md` says which
 //! lines there are.
 //!
-//! An answer that is not the crate's, since this repository's library differs from it there by rule or has a call that
-//! the crate lacks, begins with a line `! RULE`. After each answer stands a line `;`. A line of no kind ends the program
-//! with status 1, and so does an answer of the crate that differs from the rules where no rule says so.
+//! An answer is what the crate says to the very call of the line. Where it has no such call, or where this repository's
+//! library differs from it there by rule, a line `! RULE` stands before the answer. After each answer stands a line `;`.
+//! A line of no kind ends the program with status 1, and so does an answer of the crate that differs from the rules where
+//! no rule says so.
 mod adapters;
 mod cursors;
 mod fields;
@@ -19,36 +20,53 @@ use fields::{Fields, Said};
 use std::io::{stdin, stdout, BufRead, BufWriter, Write};
 use std::process::ExitCode;
 
+macro_rules! over {
+    ($words:expr, $module:ident, $kind:expr, $fields:expr) => {
+        match $words {
+            "u8" => $module::answer::<u8>($kind, $fields),
+            "u32" => $module::answer::<u32>($kind, $fields),
+            "u64" => $module::answer::<u64>($kind, $fields),
+            _ => Err(format!("{} is no word type", $words)),
+        }
+    };
+}
+
+/// The rule of a kind of line whose call the crate lacks, or "".
+fn lacking(kind: &str) -> &'static str {
+    match kind.trim_end_matches('i') {
+        "ends" | "uends" | "lends" | "dends" | "nends" => "tables from both ends",
+        "gendist" | "probe" | "lprobe" | "sprobe" | "dprobe" | "nprobe" | "hashed" | "sorted" | "distinct" | "slot" | "slottable" | "nslot"
+        | "nslottable" | "chain" | "ask" | "wq" | "rs" => "a call that the crate lacks",
+        _ => "",
+    }
+}
+
 fn answer(line: &str) -> Result<Said, String> {
     let mut fields = Fields::new(line);
     let kind = fields.word()?;
-    match kind {
-        "table" | "infer" | "quantile" | "symbol" | "size" | "sizei" | "gendec" | "gendist" | "genenc" | "probe" | "ends" => {
+    let said = match kind.trim_end_matches('i') {
+        "table" | "infer" | "quantile" | "symbol" | "size" | "gendec" | "gendist" | "genenc" | "probe" | "ends" | "slot" | "slottable" | "sprobe" => {
             forms::contiguous(kind, fields)
         }
         "uniform" | "uquant" | "usym" | "uends" => forms::uniform(kind, fields),
-        "look" | "looki" | "looktable" | "looktablei" | "tolook" | "intotable" | "lprobe" | "lends" => forms::lookup(kind, fields),
-        "dec" | "deci" | "dectable" | "dectablei" | "decsize" | "decsizei" | "enc" | "enci" | "encsize" | "encsizei" | "encof" | "encofsize"
-        | "tagenc" | "hashed" | "hashedi" | "sorted" | "sortedi" | "distinct" | "distincti" | "dprobe" | "dends" => forms::symbols(kind, fields),
-        "nlook" | "nlooki" | "nlooktable" | "nlooktablei" | "nprobe" | "nends" | "chain" | "ask" => forms::symbol_lookup(kind, fields),
-        "slot" | "slottable" | "sprobe" => forms::slotted(kind, fields),
-        "nslot" | "nslottable" => forms::symbol_slotted(kind, fields),
+        "look" | "looktable" | "tolook" | "intotable" | "lprobe" | "lends" => forms::lookup(kind, fields),
+        "dec" | "dectable" | "decsize" | "enc" | "encsize" | "encof" | "encofsize" | "tagenc" | "hashed" | "sorted" | "distinct" | "dprobe"
+        | "dends" | "nslot" | "nslottable" | "chain" | "ask" => forms::symbols(kind, fields),
+        "nlook" | "nlooktable" | "nprobe" | "nends" => forms::symbol_lookup(kind, fields),
         "wq" | "rs" => forms::items(kind, fields),
-        "cursor" | "reversed" | "inner" | "turned" | "extend" | "rextend" => cursors::answer::<u32>(kind, fields),
-        "vec" | "smallvec" => stacks::answer::<u32>(kind, fields),
-        "iter" | "words" | "sink" | "calls" | "asread" | "intoread" => adapters::answer::<u32>(kind, fields),
         "word" => words::arithmetic(fields),
         "texts" => words::texts(fields),
-        _ => match kind.split_once('/') {
-            Some((kind @ ("vec" | "smallvec"), "u8")) => stacks::answer::<u8>(kind, fields),
-            Some((kind @ ("vec" | "smallvec"), "u64")) => stacks::answer::<u64>(kind, fields),
-            Some((kind @ ("iter" | "words" | "sink" | "calls" | "asread" | "intoread"), "u8")) => adapters::answer::<u8>(kind, fields),
-            Some((kind @ ("iter" | "words" | "sink" | "calls" | "asread" | "intoread"), "u64")) => adapters::answer::<u64>(kind, fields),
-            Some((kind, "u8")) => cursors::answer::<u8>(kind, fields),
-            Some((kind, "u64")) => cursors::answer::<u64>(kind, fields),
-            _ => Err("no kind of line".into()),
-        },
-    }
+        _ => {
+            let (kind, words) = kind.split_once('/').unwrap_or((kind, "u32"));
+            match kind {
+                "cursor" | "reversed" | "inner" | "turned" | "extend" | "rextend" => over!(words, cursors, kind, fields),
+                "vec" | "smallvec" => over!(words, stacks, kind, fields),
+                "iter" | "words" | "sink" | "calls" | "asread" | "intoread" => over!(words, adapters, kind, fields),
+                _ => Err("no kind of line".into()),
+            }
+        }
+    };
+    Ok(said?.ruled(lacking(kind)))
 }
 
 fn main() -> ExitCode {

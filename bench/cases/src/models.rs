@@ -1,159 +1,158 @@
-//! Models of the symbols 0, 1, ..: searching and uniform ones; rows; and what is accepted.
-use crate::fields::{below, by, index, number, said, Fields, Said, Word};
+//! What is asked of models and of rows; models of the symbols 0, 1, ..: searching and uniform ones.
+use crate::fields::{below, by, index, number, said, word, Fields, Said, Word};
 use constriction::stream::model::{ContiguousCategoricalEntropyModel, DecoderModel, EncoderModel, IterableEntropyModel, UniformModel};
 use constriction::NonZeroBitArray;
 use num_traits::AsPrimitive;
-use std::fmt::Display;
+use std::collections::HashSet;
+use std::hash::Hash;
 
 /// A row: symbol, left cumulative and weight.
 pub type Row = (u64, u128, u128);
 
-pub type Contiguous<P, const N: usize> = ContiguousCategoricalEntropyModel<P, Vec<P>, N>;
+type Contiguous<P, const N: usize> = ContiguousCategoricalEntropyModel<P, Vec<P>, N>;
 
-/// All weights, the last one too, where they tile `0..2^N` and each is a word of so many bits.
-pub fn tiling(weights: &[u128], infer: bool, precision: usize, bits: usize) -> Option<Vec<u128>> {
+/// A model, or nothing where it is refused, and the rule by which that is not the crate's own answer, or "".
+pub type Made<M> = Result<(Option<M>, &'static str), String>;
+
+/// All weights, the last one too, where they tile `0..2^precision`.
+fn tiling<P: Word>(weights: &[P], infer: bool, precision: usize) -> Option<Vec<P>> {
     // what is left of the total, less one, or nothing
-    let mut left = Some(if precision == 128 { u128::MAX } else { (1 << precision) - 1 });
+    let mut left = Some(u128::MAX >> (128 - precision));
     for weight in weights {
-        let less_one = left?;
-        if *weight == 0 || weight - 1 > less_one {
-            return None;
-        }
-        left = if weight - 1 == less_one { None } else { Some(less_one - weight) };
+        left = left?.checked_sub(weight.number().checked_sub(1)?)?.checked_sub(1);
     }
-    let mut all = weights.to_vec();
     match (left, infer) {
-        (None, false) => {}
-        (Some(less_one), true) => all.push(less_one.checked_add(1)?),
-        _ => return None,
-    }
-    all.iter().all(|it| below(*it, bits)).then_some(all)
-}
-
-/// What the crate's constructor is to make of weights, and which rule says so where it does otherwise.
-pub fn judged<M>(made: Result<M, ()>, accepted: bool, infer: bool, full: bool) -> Result<(Option<M>, &'static str), String> {
-    match (made, accepted) {
-        (Ok(model), true) => Ok((Some(model), "")),
-        (Err(()), false) => Ok((None, "")),
-        (Ok(_), false) | (Err(()), true) if full && infer => Ok((None, "last weight at full width")),
-        (Ok(_), false) if full => Ok((None, "zero at full width")),
-        (Ok(_), false) => Err("the crate accepts it".into()),
-        (Err(()), true) => Err("the crate refuses it".into()),
+        (None, false) => Some(weights.to_vec()),
+        (Some(less_one), true) => Some([weights, &[P::of(less_one.checked_add(1)?)?]].concat()),
+        _ => None,
     }
 }
 
-/// The words of numbers, where each has one.
-pub fn words<P: Word>(numbers: &[u128]) -> Option<Vec<P>> {
-    numbers.iter().map(|it| P::of(*it)).collect()
+/// Asks a constructor of the crate, and says where a rule answers otherwise. Fails where it answers otherwise by no rule.
+pub fn judged<P: Word, S: Hash + Eq, M, F>(symbols: &[S], weights: &[P], infer: bool, precision: usize, make: F) -> Made<M>
+where
+    F: Fn(&[P], bool) -> Result<M, ()>,
+{
+    let mut seen = HashSet::new();
+    let repeats = !symbols.iter().all(|it| seen.insert(it));
+    let full = precision == P::BITS;
+    let all = tiling(weights, infer, precision).filter(|all| all.len() == symbols.len() && !repeats);
+    match (make(weights, infer), all) {
+        (Ok(model), Some(_)) => Ok((Some(model), "")),
+        (Err(()), None) => Ok((None, "")),
+        (Ok(_), None) if repeats => Ok((None, "equal symbols")),
+        (Ok(_), None) if full && weights == [P::zero()] => Ok((None, "zero at full width")),
+        (Ok(_), None) => Err("the crate accepts it".into()),
+        (Err(()), Some(all)) if full && infer => match make(&all, false) {
+            Ok(model) => Ok((Some(model), "last weight at full width")),
+            Err(()) => Err("the crate refuses the completed weights".into()),
+        },
+        (Err(()), Some(_)) => Err("the crate refuses it".into()),
+    }
 }
 
-pub fn row<P: Word>((symbol, left, weight): (u64, P, P::NonZero)) -> Row {
-    (symbol, left.number(), weight.get().number())
+/// The same of models of the symbols 0, 1, ..
+pub fn judged_numbers<P: Word, M>(weights: &[P], infer: bool, precision: usize, make: impl Fn(&[P], bool) -> Result<M, ()>) -> Made<M> {
+    let symbols: Vec<usize> = (0..weights.len() + infer as usize).collect();
+    judged(&symbols, weights, infer, precision, make)
 }
 
-pub fn rows_of<P: Word>(walk: impl Iterator<Item = (u64, P, P::NonZero)>) -> Vec<Row> {
+pub fn searching<P: Word, const N: usize>(weights: &[P], infer: bool) -> Made<Contiguous<P, N>> {
+    judged_numbers(weights, infer, N, |given, infer| Contiguous::from_nonzero_fixed_point_probabilities(given, infer))
+}
+
+fn row<S: AsPrimitive<u64>, P: Word>((symbol, left, weight): (S, P, P::NonZero)) -> Row {
+    (symbol.as_(), left.number(), weight.get().number())
+}
+
+pub fn rows_of<S: AsPrimitive<u64>, P: Word>(walk: impl Iterator<Item = (S, P, P::NonZero)>) -> Vec<Row> {
     walk.map(row).collect()
 }
 
-pub fn line((symbol, left, weight): &Row) -> String {
+pub fn line((symbol, left, weight): Row) -> String {
     format!("{symbol} {left} {weight}")
 }
 
-pub fn lines(rows: &[Row]) -> String {
-    rows.iter().map(line).collect::<Vec<_>>().join("\n")
+pub fn lines(rows: Vec<Row>) -> String {
+    rows.into_iter().map(line).collect::<Vec<_>>().join("\n")
 }
 
 pub fn entry<P: Word>(found: Option<(P, P::NonZero)>) -> String {
     found.map_or("none".into(), |(left, weight)| format!("{left} {}", weight.get()))
 }
 
-/// The rows from the front (`f`) or the back (`b`), and how many are left before each.
-pub fn walked(rows: Vec<Row>, letters: &str) -> Result<String, String> {
-    let mut left: std::collections::VecDeque<Row> = rows.into();
+/// The row of a quantile, or `range` where no call may be asked for it.
+pub fn of_quantile<M, const N: usize>(model: &M, asked: &str) -> Result<Said, String>
+where
+    M: DecoderModel<N, Symbol: AsPrimitive<u64>, Probability: Word>,
+{
+    if !below(number(asked)?, N) {
+        return by("quantile out of range", "range");
+    }
+    said(line(row(model.quantile_function(word(asked)?))))
+}
+
+/// So many rows, from the front (`f`) or the back (`b`), and how many are left before each.
+fn walked(count: usize, row: impl Fn(usize) -> Row, letters: &str) -> Result<String, String> {
+    let mut left = 0..count;
     let mut out = String::new();
     for letter in letters.chars() {
         out += &format!("#{} ", left.len());
         let found = match letter {
-            'f' => left.pop_front(),
-            'b' => left.pop_back(),
+            'f' => left.next(),
+            'b' => left.next_back(),
             _ => return Err("a row is taken from the front, f, or the back, b".into()),
         };
-        out += &found.map_or("- ".into(), |(symbol, left, weight)| format!("{symbol}:{left}:{weight} "));
+        out += &found.map(&row).map_or("- ".into(), |(symbol, left, weight)| format!("{symbol}:{left}:{weight} "));
     }
     Ok(out + &format!("#{}", left.len()))
 }
 
 /// The first of the rows that share a quantile with the slot of the asked one, and how many do, where `2^bits` slots of equal width divide
-/// all quantiles. The precision is below 128.
-pub fn in_question(rows: &[Row], asked: u128, precision: usize, bits: usize) -> String {
-    let width = 1u128 << (precision - bits.min(precision));
-    let slot = asked / width;
-    let meets = |it: &&Row| it.1 <= slot * width + (width - 1) && slot * width <= it.1 + (it.2 - 1);
+/// all quantiles.
+fn in_question(rows: &[Row], asked: u128, precision: usize, bits: usize) -> String {
+    let within = u128::MAX.checked_shr((128 - precision + bits.min(precision)) as u32).unwrap_or(0);
+    let meets = |it: &&Row| it.1 <= asked | within && asked & !within <= it.1 + (it.2 - 1);
     let first = rows.iter().position(|it| meets(&it)).unwrap_or(0);
     format!("{first} {}", rows.iter().filter(meets).count())
 }
 
-pub fn contiguous<P: Word, const N: usize>(kind: &str, mut fields: Fields) -> Result<Said, String> {
-    let argument = match kind {
-        "quantile" | "symbol" | "genenc" | "probe" | "ends" => fields.word()?,
-        _ => "",
-    };
-    let weights = fields.numbers()?;
-    let infer = kind == "infer" || kind == "sizei";
-    let Some(given) = words::<P>(&weights) else { return by("no word", "invalid") };
-    let made = Contiguous::<P, N>::from_nonzero_fixed_point_probabilities(&given, infer);
-    let accepted = tiling(&weights, infer, N, P::BITS).is_some();
-    let full = N == P::BITS;
-    let made = match made {
-        // the crate has no model to be asked, and the rows are those of the weights
-        Err(()) if accepted && full && infer => return inferred::<P, N>(kind, &tiling(&weights, infer, N, P::BITS).unwrap()),
-        made => made,
-    };
-    let (model, rule) = judged(made, accepted, infer, full)?;
-    let Some(model) = model else { return by(rule, "invalid") };
-    let rows = rows_of(model.symbol_table().map(|(symbol, left, weight)| (symbol as u64, left, weight)));
-    match kind {
-        "table" | "infer" => said(lines(&rows)),
-        "size" | "sizei" => said(model.support_size()),
-        "quantile" => {
-            let asked = number(argument)?;
-            if !below(asked, N) {
-                return by("quantile out of range", "range");
-            }
-            let (symbol, left, weight) = model.quantile_function(P::of(asked).ok_or("no word")?);
-            said(line(&row((symbol as u64, left, weight))))
+/// What a line asks of a model: a walk from both ends, the rows in question, the row of a quantile, or all rows.
+pub fn asked<'m, M, const N: usize>(kind: &str, argument: &str, bits: usize, model: &'m M) -> Result<Said, String>
+where
+    M: DecoderModel<N, Symbol: AsPrimitive<u64>, Probability: Word> + IterableEntropyModel<'m, N>,
+{
+    let rows = rows_of(model.symbol_table());
+    match kind.trim_end_matches('i') {
+        "ends" | "lends" | "dends" | "nends" => said(walked(rows.len(), |it| rows[it], argument)?),
+        "probe" | "lprobe" | "sprobe" | "dprobe" | "nprobe" => {
+            let found = of_quantile(model, argument)?;
+            if found.text == "range" { Ok(found) } else { said(in_question(&rows, number(argument)?, N, bits)) }
         }
-        "symbol" => match usize::try_from(number(argument)?) {
-            Err(_) => said("none"),
-            Ok(symbol) => said(model.left_cumulative_and_probability(symbol).map_or("none".into(), |(left, weight)| line(&row((symbol as u64, left, weight))))),
-        },
-        "gendec" => {
-            let decoder = model.to_generic_decoder_model();
-            let rows = rows_of(decoder.symbol_table().map(|(symbol, left, weight)| (symbol as u64, left, weight)));
-            said(format!("{}\n{}", decoder.support_size(), lines(&rows)))
-        }
-        "gendist" => by("a call that the crate lacks", format!("{}\n{}", rows.len(), lines(&rows))),
-        "genenc" => said(entry(model.to_generic_encoder_model().left_cumulative_and_probability(index(argument)?))),
-        "probe" => {
-            let asked = number(argument)?;
-            if !below(asked, N) {
-                return by("quantile out of range", "range");
-            }
-            by("a call that the crate lacks", format!("0 {}", rows.len()))
-        }
-        _ => by("tables from both ends", walked(rows, argument)?),
+        "quantile" | "look" | "tolook" | "slot" | "dec" | "nlook" | "nslot" => of_quantile(model, argument),
+        _ => said(lines(rows)),
     }
 }
 
-/// What is asked of weights whose last one is inferred at the full width of their words, which the crate refuses.
-fn inferred<P: Word, const N: usize>(kind: &str, weights: &[u128]) -> Result<Said, String> {
-    let rule = "last weight at full width";
-    let model = Contiguous::<P, N>::from_nonzero_fixed_point_probabilities(words::<P>(weights).unwrap(), false);
-    let model = model.map_err(|()| "the crate refuses the completed weights")?;
-    match kind {
-        "infer" => by(rule, lines(&rows_of(model.symbol_table().map(|(symbol, left, weight)| (symbol as u64, left, weight))))),
-        _ => by(rule, model.support_size()),
-    }
+/// What a line asks of the searching model, or of the crate's searching model in place of a lookup model with `2^bits` slots.
+pub fn contiguous<P: Word, const N: usize>(kind: &str, bits: usize, mut fields: Fields) -> Result<Said, String> {
+    let argument = fields.argument(kind)?;
+    let (model, rule) = searching::<P, N>(&fields.words()?, kind == "infer" || kind.ends_with('i'))?;
+    let Some(model) = model else { return by(rule, "invalid") };
+    let answer = match kind {
+        "size" | "sizei" => said(model.support_size()),
+        "symbol" => {
+            let symbol = index(argument)?;
+            said(model.left_cumulative_and_probability(symbol).map_or("none".into(), |(left, weight)| line(row((symbol, left, weight)))))
+        }
+        "gendec" | "gendist" => {
+            let decoder = model.to_generic_decoder_model();
+            said(format!("{}\n{}", decoder.support_size(), lines(rows_of(decoder.symbol_table()))))
+        }
+        "genenc" => said(entry(model.to_generic_encoder_model().left_cumulative_and_probability(index(argument)?))),
+        _ => asked(kind, argument, bits, &model),
+    };
+    Ok(answer?.ruled(rule))
 }
 
 pub fn uniform<P: Word + AsPrimitive<usize>, const N: usize>(kind: &str, mut fields: Fields) -> Result<Said, String>
@@ -161,54 +160,19 @@ where
     usize: AsPrimitive<P>,
 {
     let letters = if kind == "uends" { fields.word()? } else { "" };
-    let count = fields.number()?;
-    let asked = if kind == "uquant" || kind == "usym" { fields.number()? } else { 0 };
-    if count < 2 || !below(count - 1, N) {
-        return by("range out of range", "range");
-    }
-    let Ok(count) = usize::try_from(count) else { return by("range out of range", "range") };
+    let count = fields.index()?;
     let model = UniformModel::<P, N>::new(count);
-    let rows = || rows_of(model.symbol_table().map(|(symbol, left, weight)| (symbol as u64, left, weight)));
     match kind {
-        "uniform" => said(lines(&rows())),
-        "uquant" => {
-            if !below(asked, N) {
-                return by("quantile out of range", "range");
-            }
-            let (symbol, left, weight) = model.quantile_function(P::of(asked).ok_or("no word")?);
-            said(line(&row((symbol as u64, left, weight))))
-        }
+        "uquant" => of_quantile(&model, fields.word()?),
         "usym" => {
-            let Ok(symbol) = usize::try_from(asked) else { return by("truncated symbol", "none") };
+            let symbol = fields.index()?;
             let found = entry(model.left_cumulative_and_probability(symbol));
-            if symbol >= count && found != "none" {
-                return by("truncated symbol", "none");
-            }
-            said(found)
+            if symbol >= count && found != "none" { by("truncated symbol", "none") } else { said(found) }
         }
-        _ => {
-            // of as many rows at either end as the line takes
-            let ends = letters.len().min(count);
-            let row_of = |symbol: usize| model.left_cumulative_and_probability(symbol).map(|(left, weight)| row((symbol as u64, left, weight)));
-            let front = (0..ends).map(row_of).collect::<Option<Vec<_>>>().ok_or("no row")?;
-            let back = (count - ends..count).rev().map(row_of).collect::<Option<Vec<_>>>().ok_or("no row")?;
-            let (mut front, mut back, mut left, mut out) = (front.into_iter(), back.into_iter(), count, String::new());
-            for letter in letters.chars() {
-                let found = if letter == 'f' { front.next() } else { back.next() }.filter(|_| left > 0);
-                out += &format!("#{left} ");
-                left -= found.is_some() as usize;
-                out += &found.map_or("- ".into(), |(symbol, left, weight)| format!("{symbol}:{left}:{weight} "));
-            }
-            by("tables from both ends", out + &format!("#{left}"))
+        "uends" => {
+            let row_of = |symbol: usize| model.left_cumulative_and_probability(symbol).map(|(left, weight)| row((symbol, left, weight)));
+            said(walked(count, |symbol| row_of(symbol).expect("it has an entry"), letters)?)
         }
+        _ => said(lines(rows_of(model.symbol_table()))),
     }
-}
-
-/// Fails where what two calls of the crate answer differs.
-pub fn same(a: impl Display, b: impl Display) -> Result<(), String> {
-    let (a, b) = (a.to_string(), b.to_string());
-    if a == b {
-        return Ok(());
-    }
-    Err(format!("the crate answers {a} and {b}"))
 }

@@ -1,12 +1,12 @@
 //! Models of any symbols: decoders that search, and encoders that are hashed.
-use crate::fields::{below, by, index, number, Fields, Said, Word};
-use crate::models::{entry, line, lines, row, rows_of, tiling, walked, words, Row};
+use crate::fields::{by, index, said, Fields, Said, Word};
+use crate::models::{asked, entry, judged, lines, of_quantile, rows_of, Made};
 use constriction::stream::model::{
-    DecoderModel, EncoderModel, IterableEntropyModel, NonContiguousCategoricalDecoderModel, NonContiguousCategoricalEncoderModel,
+    EncoderModel, IterableEntropyModel, NonContiguousCategoricalDecoderModel, NonContiguousCategoricalEncoderModel,
 };
 use std::hash::{Hash, Hasher};
 
-pub type Decoder<P, const N: usize> = NonContiguousCategoricalDecoderModel<u64, P, Vec<(P, u64)>, N>;
+type Decoder<P, const N: usize> = NonContiguousCategoricalDecoderModel<u64, P, Vec<(P, u64)>, N>;
 type Encoder<S, P, const N: usize> = NonContiguousCategoricalEncoderModel<S, P, N>;
 
 /// Equal where the numbers agree modulo 10.
@@ -27,108 +27,60 @@ impl Hash for Tag {
     }
 }
 
-/// Whether two symbols are equal.
-pub fn repeats(symbols: &[u64]) -> bool {
-    let mut seen = std::collections::HashSet::new();
-    !symbols.iter().all(|it| seen.insert(*it))
+/// What a line asks of a hashed encoder: the entry of a symbol, or how many there are where none is given.
+fn encoder<S: Hash + Eq + Copy, P: Word, const N: usize>(symbols: &[S], weights: &[P], infer: bool, symbol: Option<S>) -> Result<Said, String> {
+    let make = |given: &[P], infer| Encoder::<S, P, N>::from_symbols_and_nonzero_fixed_point_probabilities(symbols.iter().copied(), given, infer);
+    let (model, rule) = judged(symbols, weights, infer, N, make)?;
+    let Some(model) = model else { return by(rule, "invalid") };
+    by(rule, symbol.map_or_else(|| model.support_size().to_string(), |it| entry(model.left_cumulative_and_probability(it))))
 }
 
-/// The weights where the crate accepts them with the symbols, and the answer `invalid` where it does not or a rule refuses them.
-pub fn judged<P: Word, const N: usize>(symbols: &[u64], weights: &[u128], infer: bool) -> Result<Result<(Decoder<P, N>, &'static str), Said>, String> {
-    let refused = |rule| Ok(Err(by(rule, "invalid")?));
-    let Some(given) = words::<P>(weights) else { return refused("no word") };
-    let full = N == P::BITS;
-    let all = tiling(weights, infer, N, P::BITS).filter(|all| all.len() == symbols.len());
-    if repeats(symbols) {
-        return refused(if all.is_some() { "equal symbols" } else { "" });
-    }
-    let made = |given: &[P], infer| Decoder::<P, N>::from_symbols_and_nonzero_fixed_point_probabilities(symbols.iter().copied(), given, infer);
-    match (made(&given, infer), all) {
-        (Ok(model), Some(_)) => Ok(Ok((model, ""))),
-        (Err(()), None) => refused(""),
-        (Err(()), Some(all)) if full && infer => {
-            let model = made(&words::<P>(&all).unwrap(), false).map_err(|()| "the crate refuses the completed weights")?;
-            Ok(Ok((model, "last weight at full width")))
-        }
-        (Ok(_), None) if full => refused(if infer { "last weight at full width" } else { "zero at full width" }),
-        (Ok(_), None) => Err("the crate accepts it".into()),
-        (Err(()), Some(_)) => Err("the crate refuses it".into()),
-    }
+fn decoder<P: Word, const N: usize>(symbols: &[u64], weights: &[P], infer: bool) -> Made<Decoder<P, N>> {
+    let make = |given: &[P], infer| Decoder::from_symbols_and_nonzero_fixed_point_probabilities(symbols.iter().copied(), given, infer);
+    judged(symbols, weights, infer, N, make)
 }
 
-fn encoder<S: Hash + Eq, P: Word, const N: usize>(symbols: Vec<S>, weights: &[u128], infer: bool) -> Result<(Option<Encoder<S, P, N>>, &'static str), String> {
-    let Some(given) = words::<P>(weights) else { return Ok((None, "no word")) };
-    let full = N == P::BITS;
-    let all = tiling(weights, infer, N, P::BITS).filter(|all| all.len() == symbols.len());
-    if full && infer {
-        let all = all.and_then(|all| words::<P>(&all));
-        return Ok((all.and_then(|all| Encoder::from_symbols_and_nonzero_fixed_point_probabilities(symbols, all, false).ok()), "last weight at full width"));
-    }
-    match Encoder::from_symbols_and_nonzero_fixed_point_probabilities(symbols, given, infer) {
-        Ok(_) if all.is_none() && full => Ok((None, "zero at full width")),
-        Ok(_) if all.is_none() => Err("the crate accepts it".into()),
-        Ok(model) => Ok((Some(model), "")),
-        Err(()) => Ok((None, "")),
-    }
-}
-
-pub fn table<P: Word, const N: usize>(model: &Decoder<P, N>) -> Vec<Row> {
-    rows_of(model.symbol_table())
-}
-
-pub fn symbols<P: Word, const N: usize>(kind: &str, mut fields: Fields) -> Result<Said, String> {
-    let base = kind.strip_suffix('i').unwrap_or(kind);
-    let infer = base != kind;
-    let argument = match base {
-        "dec" | "enc" | "encof" | "tagenc" | "dprobe" | "dends" => fields.word()?,
-        _ => "",
-    };
+/// What a line asks of a decoder that searches, of an encoder, or of the crate's searching decoder in place of a lookup model with `2^bits`
+/// slots and of what a chain of conversions leads to.
+pub fn symbols<P: Word, const N: usize>(kind: &str, bits: usize, mut fields: Fields) -> Result<Said, String> {
+    let infer = kind.ends_with('i');
+    let steps = if kind == "chain" || kind == "ask" { fields.word()? } else { "" };
+    let argument = fields.argument(kind)?;
     let symbols = fields.symbols()?;
-    let weights = fields.numbers()?;
-    match base {
-        "enc" | "encsize" => {
-            let (Some(model), rule) = encoder::<u64, P, N>(symbols, &weights, infer)? else { return by("", "invalid") };
-            if base == "encsize" {
-                return by(rule, model.support_size());
-            }
-            return by(rule, entry(model.left_cumulative_and_probability(index(argument)? as u64)));
-        }
+    let weights = fields.words::<P>()?;
+    match kind {
+        "enc" | "enci" => return encoder::<_, P, N>(&symbols, &weights, infer, Some(index(argument)? as u64)),
+        "encsize" | "encsizei" => return encoder::<_, P, N>(&symbols, &weights, infer, None),
         "tagenc" => {
-            let tags = symbols.into_iter().map(Tag).collect();
-            let (Some(model), rule) = encoder::<Tag, P, N>(tags, &weights, false)? else { return by("", "invalid") };
-            return by(rule, entry(model.left_cumulative_and_probability(Tag(index(argument)? as u64))));
+            let tags: Vec<Tag> = symbols.into_iter().map(Tag).collect();
+            return encoder::<_, P, N>(&tags, &weights, infer, Some(Tag(index(argument)? as u64)));
         }
         _ => {}
     }
-    let (model, rule) = match judged::<P, N>(&symbols, &weights, infer)? {
-        Ok(made) => made,
-        Err(_) if matches!(base, "hashed" | "sorted" | "distinct") => return by("a call that the crate lacks", "invalid"),
-        Err(refused) => return Ok(refused),
+    let (model, rule) = decoder::<P, N>(&symbols, &weights, infer)?;
+    let Some(model) = model else { return by(rule, "invalid") };
+    let answer = match kind {
+        "decsize" | "decsizei" => said(model.support_size()),
+        "encof" => said(entry(Encoder::from_iterable_entropy_model(&model).left_cumulative_and_probability(index(argument)? as u64))),
+        "encofsize" => said(model.to_generic_encoder_model().support_size()),
+        "sorted" | "sortedi" if !symbols.windows(2).all(|it| it[0] < it[1]) => said("invalid"),
+        "chain" => {
+            let form = if steps.trim_end_matches('R').ends_with('L') { "Lookup" } else { "Search" };
+            said(format!("{form}\n{}", lines(rows_of(model.symbol_table()))))
+        }
+        "ask" => replies::<P, N>(argument, &model),
+        _ => asked(kind, argument, bits, &model),
     };
-    let rows = table(&model);
-    match base {
-        "dec" => {
-            let asked = number(argument)?;
-            if !below(asked, N) {
-                return by("quantile out of range", "range");
-            }
-            by(rule, line(&row(model.quantile_function(P::of(asked).ok_or("no word")?))))
-        }
-        "dectable" => by(rule, lines(&rows)),
-        "decsize" => by(rule, model.support_size()),
-        "encof" => by(rule, entry(Encoder::from_iterable_entropy_model(&model).left_cumulative_and_probability(index(argument)? as u64))),
-        "encofsize" => by(rule, model.to_generic_encoder_model().support_size()),
-        "hashed" | "distinct" => by("a call that the crate lacks", lines(&rows)),
-        "sorted" if symbols.windows(2).all(|it| it[0] < it[1]) => by("a call that the crate lacks", lines(&rows)),
-        "sorted" => by("a call that the crate lacks", "invalid"),
-        "dprobe" => {
-            let asked = number(argument)?;
-            if !below(asked, N) {
-                return by("quantile out of range", "range");
-            }
-            by("a call that the crate lacks", format!("0 {}", rows.len()))
-        }
-        "dends" => by("tables from both ends", walked(rows, argument)?),
-        _ => Err("no kind of line".into()),
-    }
+    Ok(answer?.ruled(rule))
+}
+
+/// The replies to queries of quantiles and symbols.
+fn replies<P: Word, const N: usize>(queries: &str, model: &Decoder<P, N>) -> Result<Said, String> {
+    let encoder = model.to_generic_encoder_model();
+    let reply = |query: &str| match query.split_at(1) {
+        ("q", asked) => Ok(of_quantile(model, asked)?.text),
+        ("s", symbol) => Ok(entry(encoder.left_cumulative_and_probability(index(symbol)? as u64))),
+        _ => Err(format!("{query} is no query")),
+    };
+    said(queries.split(',').map(reply).collect::<Result<Vec<_>, _>>()?.join("\n"))
 }
