@@ -64,13 +64,12 @@ ANSWERS = [
         """It answers the row that holds the quantile; of a model that owns its symbols the answer has what their type says of a clone.
         It is refused only where the clone of this row's symbol may be, so never where none is cloned.
 
-        - A searching model: `counted_quantile_function`; `row_in_entries`, which makes a probe of all rows; `row_of_quantile`,
-        which halves them (of at most two rows `row_of_two`); `contiguous_row_at` or, with a clone of the symbol, `cloned_row_at`.
-        - A lookup model: `counted_quantile_function`; `row_in_slot`, which reads the first and the last row that meet the
-        quantile's slot (`rows_of_slot`). Where a slot is one quantile, these are one row, which is the answer; in a model of few
-        rows so is a row that is alone in its slot. In any other model two comparisons find one of up to three
-        (`row_of_up_to_three`). Else `row_among` searches, by `row_in_slot_entries`, up to 32 rows by `row_of_thirty_two` and more
-        by `row_of_quantile`. Then `row_beside` answers the row; over any symbols by `cloned_row_among`, which clones the symbol.
+        - A searching model: `quantile_probe`, a probe of all rows; `row_in_probe`, which halves them by `row_of_quantile`;
+        `contiguous_row_at` or, with a clone of the symbol, `cloned_row_at`.
+        - A lookup model: `row_in_slot`, which reads the first and the last row that meet the quantile's slot (`rows_of_slot`).
+        Where a slot is one quantile, these are one row, which is the answer; in a model of few rows so is a row that is alone in
+        its slot. In any other model two comparisons find one of up to three (`row_of_up_to_three`). Else `row_among` searches, by
+        `row_of_quantile`. Then `row_beside` answers the row; over any symbols by `cloned_row_among`, which clones the symbol.
         - A uniform model divides (`symbol_of`). [Three ways through](ARCHITECTURE.md#three-ways-through) has the files.""",
         {
             "constriction_model/Rows.antt": "IsRowOf",
@@ -84,20 +83,22 @@ ANSWERS = [
     ),
     (
         "How many comparisons does it make?",
-        """Of `n` rows at most `digits (n - 1)`, which is how many binary digits `n - 1` has, and a search of all rows makes exactly so
-        many. A lookup model makes `digits (m - 1)`, where `m` rows meet the quantile's slot; but two where that is fewer, and the
-        model has three rows or more, more rows than a sixteenth of its slots, and slots wider than a quantile. No clause says that
-        the count is true: two tests show by their time that no look-up goes over all rows, and a third that a lookup table is used.
-        [THEOREM](THEOREM.md#4-a-search-making-at-most-as-many-comparisons-as-the-row-count-has-binary-digits) has all that this
-        rests on.""",
+        """`row_of_quantile`, on a model's `quantile_probe`, asks exactly `digits (n - 1)` questions where `n` rows are in question:
+        as many as `n - 1` has binary digits. In a searching model all rows are in question, in a lookup model those that meet the
+        quantile's slot; never more questions are asked than by a search of all rows (`few` of `IsProbeFor`). Only
+        `Probe::at_most` raises the count. How often `quantile_function` compares no clause says: two tests show by their time that
+        no look-up goes over all rows, and a third that a lookup table is used.
+        [THEOREM](THEOREM.md#4-a-search-making-at-most-as-many-comparisons-as-the-row-count-has-binary-digits) has `IsProbeFor`, and
+        all that this rests on.""",
         {
             "constriction_model/Probe.antt": "digits_in, digits",
-            "constriction_model/traits.rt": "SearchingModel::counted_quantile_function: few counted",
-            "constriction_categorical/lookup.rt": "SearchingModel for LookupDecoderModel::rows_in_question, "
-            "SearchingModel for LookupDecoderModel::least_compared",
+            "constriction_model/probe.rt": "Probe::at_most: counted",
+            "constriction_model/search.rt": "row_of_quantile: counted",
+            "constriction_categorical/contiguous.rt": "ContiguousCategoricalEntropyModel::quantile_probe: ensures",
+            "constriction_categorical/lookup.rt": "LookupDecoderModel::quantile_probe: ensures",
         },
         {
-            "constriction_models_tests/compared.rt": "a_search_compares_two_of_four_rows_and_a_lookup_table_those_of_a_slot",
+            "constriction_models_tests/compared.rt": "a_search_asks_of_all_rows_and_beside_a_lookup_table_of_those_of_a_slot",
             "constriction_models_tests/search.rt": "a_look_up_does_not_go_over_all_rows",
             "constriction_models_tests/wide_slots.rt": "a_slot_that_4_194_304_rows_meet_is_searched",
             "constriction_models_tests/own_searching_model.rt": "a_lookup_table_answers_in_place_of_the_search_of_its_model",
@@ -110,7 +111,7 @@ ANSWERS = [
         `crates/constriction_models_tests/src/own_model.rt`; one with a lookup table,
         `crates/constriction_models_tests/src/own_searching_model.rt`. Write
 
-        - `EntropyModel`: the types `Symbol` and `Probability`, the member `rows`;
+        - `EntropyModel`: the types `Symbol` and `Probability`, the member `rows`, the law `precision_law`;
         - to encode, `EncoderModel`: `left_cumulative_and_probability` with its clauses `entry` and `within`, the member
         `symbol_eq`, the laws `equality_law` and `within_law`;
         - to decode, `DecoderModel`: `quantile_function` with its clauses `row`, `within` and `refused`, and the law `tile_law`;
@@ -119,14 +120,12 @@ ANSWERS = [
         type `SymbolTable`, `symbol_table`, the member `rows_left`, the laws `steps_law` and `tile_law`, and where symbols are
         cloned `stands_for` and `may_refuse`; where it is known that no two symbols are equal, also `symbols_differ` and
         `is_equality`;
-        - to tell how many rows a look-up compared, `SearchingModel`: `counted_quantile_function`, the members `rows_in_question`
-        and `least_compared`, the laws `question_law` and `least_law`;
         - to have a lookup table, `StoresRows`: the types `Entry` (what is stored of a row) and `Kind` (`Alone` or `WithSymbol`),
-        `entries`, the laws `precise_law` and `stored_law`; and `AnswersRows`: `row_at`. Then `LookupDecoderModel::with_table` makes
+        `entries`, the law `stored_law`; and `AnswersRows`: `row_at`. Then `LookupDecoderModel::with_table` makes
         it, at a `PRECISION` up to 63.""",
         {
             "constriction_model/Rows.antt": "RowsTile",
-            "constriction_model/traits.rt": "DecoderModel::tile_law",
+            "constriction_model/traits.rt": "EntropyModel::precision_law, DecoderModel::tile_law",
             "constriction_categorical/stores_rows.rt": "StoresRows::entries, AnswersRows::row_at: row",
         },
         {
@@ -232,12 +231,12 @@ ANSWERS = [
         """Replies that stand for those of a scan of the rows that the conversions left, as a clone stands for its symbol. A scan
         replies for a quantile the first row that holds it, or that it is out of range; for a symbol the entry of its last row, or
         none. Each step leaves rows that stand for those before it, in order and with their weights. Where a clone is the same value
-        the rows are those from before, and the replies are exactly those of a scan of them. Words are an `IndexWord`, and
-        `PRECISION` is 1 to 63. The caller shows that a clone is equal to its symbol, and that the encoder has the entries of the
+        the rows are those from before, and the replies are exactly those of a scan of them. Words are an `IndexWord`. The caller
+        shows that `PRECISION` is at most 63, that a clone is equal to its symbol, and that the encoder has the entries of the
         form's rows. The only refusal is `OutOfMemory`, and the form is then given up.
         [THEOREM](THEOREM.md#3-after-any-chain-of-conversions-answer-every-list-of-queries-as-a-scan-of-the-rows-does) has
         `AnswersAfter`, and all that it rests on.""",
-        {"constriction_theorem/forms.rt": "answer_by_form: clones equal alike answers refused"},
+        {"constriction_theorem/forms.rt": "answer_by_form: narrow clones equal alike answers refused"},
         {"constriction_theorem_tests/known.rt": "contracts_leave_one_reply_after_a_chain"},
     ),
     (
@@ -246,13 +245,13 @@ ANSWERS = [
         the encoder's entry, and `decode_symbol` `IsDecoded` by the decoder's row. From these two, where the entries are equal,
         `symbol_comes_back` shows that what is decoded stands for an equal symbol, and that what was under it is left.
         `there_and_back` says so of a message: its symbols come back in reverse, and the state and the words are as before (`state`,
-        `words`). The encoder has to have the entries of the decoder's rows (`alike`). This is of `AnsCoder`; the range decoder has
+        `words`). It requires that the encoder has the entries of the decoder's rows. This is of `AnsCoder`; the range decoder has
         no encoder here. [CODERS](CODERS.md) says how such a proof goes, and which lemma serves which goal.""",
         {
             "constriction_model/Coding.antt": "StandsForEqual",
             "constriction_ans_example/Steps.antt": "IsOnTop, IsEncoded, IsDecoded",
             "constriction_ans_example/Laws.antt": "SymbolComesBack",
-            "constriction_ans_example/laws.rt": "there_and_back: alike back equal",
+            "constriction_ans_example/laws.rt": "there_and_back: requires back equal",
         },
         {
             "constriction_programs_tests/walks.rt": "a_range_comes_back_in_order",
@@ -264,11 +263,11 @@ ANSWERS = [
         """Over a `WordStack` all of them, by `words_of`, the one on top last: so of a `Vec`, a `SmallVec`, a `Cursor` and a
         `Reverse<Cursor>`. Of a cursor these are the words before its position; of a `Reverse<Cursor>` those from the inner position
         on, backwards. `push` puts a word on top, or is refused and leaves them. `pop` answers the word on top and drops it, and
-        none only where there is none; or it fails where there is one, and leaves them. Over a `StackBackend` alone the words may be
-        untold: there `written_is_read` and `push_then_pop` speak of whatever words it tells.""",
+        none only where there is none; or it fails where there is one, and leaves them. Each stack may be written and read in every
+        state (`always_writable`, `always_readable`), so a coder over one has no condition on it.""",
         {
             "constriction_sources/Stack.antt": "Pushes, PopsOrFails",
-            "constriction_sources/stack.rt": "WordStack::words_of, WordStack::tells_words, WordStack::tells_no_others",
+            "constriction_sources/stack.rt": "WordStack::words_of, WordStack::always_writable, WordStack::always_readable",
             "constriction_sources/laws/word_stacks.rt": "push: pushes, pop: pops",
         },
         {"constriction_backends_tests/stacks.rt": "any_stack_gives_back_what_was_written what_was_pushed_is_popped"},
@@ -278,9 +277,10 @@ ANSWERS = [
         """Those of at least `PRECISION` bits: at 24 `u32`, `u64`, `u128`, and `usize`, which has 64 bits here; `u8` and `u16` are too
         narrow. A lookup model asks at most 63 too, and its constructors, but `with_table`, an `IndexWord`, as all of these are; a
         uniform model asks at most 64; the coders of `constriction_ans_example` are over `u32` alone. A caller shows it where it
-        makes a model: it is the condition `precision`, and where only the bound 63 or 64 is asked `narrow`, or one without a name.
+        calls a constructor: it is the condition `precision`, and where only the bound 63 or 64 is asked `narrow`, or one without a
+        name. Every model has it by `precision_law`, so no call over a model asks for it.
         A word of one's own, of 24 bits or more, is a `WholeNumber`: it shows the three laws below, and the clauses of its calls.
-        With `IndexWord`, which is two calls more, it serves the constructors of lookup models. Code that shifts or wraps words asks
+        With `IndexWord`, for which an empty `impl` will do, it serves the constructors of lookup models. Code that shifts or wraps words asks
         a `BitArray` ([WORDS](WORDS.md)).""",
         {
             "constriction_model/Precision.antt": "IsPrecision, IsLookupPrecision",

@@ -11,7 +11,7 @@ WORDS = ("u8", "u16", "u32", "u64", "u128", "usize")
 PLAIN = ("u8", "u16", "usize", "Vec")
 
 # Traits of which a reader is told what a member is of every type.
-TOLD = ("SearchingModel",)
+TOLD = ("Probe",)
 
 
 class Reading:

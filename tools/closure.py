@@ -5,8 +5,8 @@ from citations import WORDS, file_of
 from quotes import code_of, entries_of, name_of, one_line, parts_of, type_of
 from sources import AT_TYPE, PATH, WORD, Wrong, plain
 
-# What the kit calls the elements of a Vec, what a reference holds, and members of its traits; types of the kit; and the language's own words.
-KIT_MEMBERS = {"items", "now", "old", "new", "eq", "is_clone", "Ghosts"}
+# What the kit calls the elements of a Vec, what a reference holds, the greatest number of a type, and members of its traits; types of the kit; and the language's own words.
+KIT_MEMBERS = {"items", "now", "old", "new", "eq", "is_clone", "Ghosts", "MAX"}
 KIT_TYPES = {*WORDS, "Vec", "Result", "Option"}
 LANGUAGE = set("λ Type record data where abbrev pub unfoldable module let in if then else elim as do Unit tt _ result self Self Ok Err Some None".split())
 

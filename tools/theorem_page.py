@@ -7,7 +7,7 @@ from closure import check
 from quotes import block_of, call_of, clause_of, comma_list, definition_of, followed, member_of, one_line, type_of, wrapped
 from sources import TOP, WORD, Wrong, read
 
-# The parts of the theorem's text: its words, and the clauses that say it, of which calls.
+# The parts of the theorem's text: its words, and the clauses that say it, of which calls. No name is that of a lone clause.
 THEOREM = [
     (
         "Weights are accepted exactly where they tile `0..2^PRECISION`",
@@ -32,7 +32,15 @@ THEOREM = [
     ),
     (
         "a search making at most as many comparisons as the row count has binary digits",
-        [("row few counted", "SearchingModel::counted_quantile_function")],
+        [
+            ("found same counted", "row_of_quantile"),
+            ("answer same counted", "Probe::at_most"),
+            (
+                "",
+                "ContiguousCategoricalEntropyModel::quantile_probe NonContiguousCategoricalDecoderModel::quantile_probe "
+                "LookupDecoderModel::quantile_probe",
+            ),
+        ],
     ),
     (
         "and a `Cursor` and its reversal answer every list of calls alike",
@@ -63,16 +71,18 @@ NOT_SAID = [
     "`PRECISION` up to 63. Ranges are over the words of the calls. Models that search are over each `WholeNumber`, up to all its bits, and "
     "cursors over all that can be copied.",
     "Weights that tile are refused where the inferred one is no word: at the full width, with none given, it is `2^PRECISION`.",
-    "The count is what the look-up answers: no clause says that it made so many comparisons. The tests `a_look_up_does_not_go_over_all_rows` and "
-    "`a_slot_that_4_194_304_rows_meet_is_searched` show by time that no look-up goes over all rows, and "
+    "A search is `row_of_quantile` on the probe of a quantile. That `quantile_function` goes this way, or how often it compares, no clause "
+    "says. By time `a_look_up_does_not_go_over_all_rows`, `a_look_up_of_any_symbols_does_not_go_over_all_rows`, "
+    "`a_slot_that_4_194_304_rows_meet_is_searched` and `a_slot_of_any_symbols_that_4_194_304_rows_meet_is_searched` show that no look-up goes "
+    "over all rows, and "
     "`a_lookup_table_answers_in_place_of_the_search_of_its_model` shows that a lookup table is used.",
     "`Reverse` keeps its cursor's positions, and a run converts them: over `n` words its `p` is the cursor's `n - p`, and none is above `n`.",
     "The steps of a chain are the four of `ChainStep`: no other conversion is one, and a lookup table that a step makes has 256 slots at most.",
-    "A call that always answers want of memory would meet all that is quoted. These tests have a call of each, with ample memory, answer "
-    "otherwise: `each_model_of_weights_replies`, "
+    "A call that always answers want of memory would meet all that is quoted of it. These tests have a call of each that may, with ample "
+    "memory, answer otherwise: `each_model_of_weights_replies`, "
     "`what_is_made_of_letters_and_weights_replies`, `what_is_made_of_a_range_replies`, `a_range_of_wider_words_replies`, "
     "`models_without_a_lookup_table_reply_at_the_full_width`, `a_model_and_what_is_made_of_it_reply`, `contracts_leave_one_reply_after_a_chain`, "
-    "`a_search_compares_two_of_four_rows_and_a_lookup_table_those_of_a_slot`, `a_cursor_and_its_reversal_are_run_together`.",
+    "`a_cursor_and_its_reversal_are_run_together`.",
 ]
 
 
@@ -84,7 +94,7 @@ class Page:
         for _, said in THEOREM:
             for labels, calls in said:
                 for name in calls.split():
-                    self.labels.setdefault(name, []).extend(labels.split())
+                    self.labels.setdefault(name, []).extend(labels.split() or [""])
         self.calls = {name: self.call(name) for name in self.labels}
         self.like = {name: self.calls_like(it) for name, it in self.calls.items()}
         for name, it in self.calls.items():
@@ -318,7 +328,8 @@ def said_by(said, like):
     found = []
     for labels, calls in said:
         calls = [f"`{it}`{' and its like' if like[it] else ''}" for it in calls.split()]
-        found.append(f"{comma_list([f'`{it}`' for it in labels.split()])} of {comma_list(calls)}")
+        names = comma_list([f"`{it}`" for it in labels.split()]) if labels else "the lone clause"
+        found.append(f"{names} of {comma_list(calls)}")
     return f"By {'; '.join(found)}."
 
 
