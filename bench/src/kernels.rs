@@ -6,8 +6,34 @@ use std::hint::black_box;
 /// Goes over the input so many times, and answers a checksum.
 pub type Run = Box<dyn FnMut(u32) -> u64>;
 
+/// What the two sides of a kernel do.
+#[derive(Clone, Copy)]
+pub enum Sides {
+    /// the same work
+    Same,
+    /// Both make a model. The one here looks for symbols that repeat, and refuses them.
+    Repeats,
+    /// Both have a lookup table: here one of 256 slots, there one with a slot for each quantile.
+    Slots,
+    /// Here is a lookup table. The Rust crate has none over such words, and its model that searches stands there.
+    Search,
+}
+
+impl Sides {
+    /// The name that figures are saved with.
+    pub fn name(self) -> &'static str {
+        match self {
+            Sides::Same => "same",
+            Sides::Repeats => "repeats",
+            Sides::Slots => "slots",
+            Sides::Search => "search",
+        }
+    }
+}
+
 pub struct Kernel {
     pub name: &'static str,
+    pub sides: Sides,
     /// the words of the model and its precision, or the words that are read and written
     pub words: &'static str,
     /// how many rows the model has; 0 where there is none
@@ -19,6 +45,11 @@ pub struct Kernel {
 }
 
 impl Kernel {
+    /// The kernel, whose sides do what is said here, and not the same.
+    fn with(self, sides: Sides) -> Self {
+        Kernel { sides, ..self }
+    }
+
     /// Whether both sides see the same.
     pub fn agrees(&mut self) -> bool {
         [0, 1, 2].into_iter().all(|repeats| (self.rust)(repeats) == (self.here)(repeats))
@@ -31,6 +62,7 @@ macro_rules! kernel {
     ($name:literal, $words:literal, $rows:expr, $items:expr, $function:ident($($argument:expr),*)) => {
         Kernel {
             name: $name,
+            sides: Sides::Same,
             words: $words,
             rows: $rows,
             items: $items,
@@ -47,6 +79,7 @@ macro_rules! writing {
         let [mut first, mut second] = std::mem::take(&mut buffers);
         Kernel {
             name: $name,
+            sides: Sides::Same,
             words: "u32",
             rows: 0,
             items: MANY,
@@ -98,7 +131,7 @@ pub fn usual() -> Vec<Kernel> {
     }
     for table in &small {
         let (weights, symbols, quantiles) = (table.weights, table.symbols, inputs.small_quantiles);
-        kernels.push(kernel!("256-slot lookup of symbols quantile_function", "u16/12", table.rows, MANY, slotted_symbol_lookup_quantile(weights, symbols, quantiles)));
+        kernels.push(kernel!("256-slot lookup of symbols quantile_function", "u16/12", table.rows, MANY, slotted_symbol_lookup_quantile(weights, symbols, quantiles)).with(Sides::Slots));
     }
     for table in &wide {
         let (weights, symbols, quantiles) = (table.weights, table.symbols, inputs.small_quantiles);
@@ -114,12 +147,12 @@ pub fn usual() -> Vec<Kernel> {
     }
     for table in &tables[1..] {
         let (weights, quantiles) = (table.weights, inputs.quantiles);
-        kernels.push(kernel!("wide 256-slot lookup quantile_function", "u32/24", table.rows, MANY, wide_lookup_8_quantile(weights, quantiles)));
-        kernels.push(kernel!("wide 4,096-slot lookup quantile_function", "u32/24", table.rows, MANY, wide_lookup_12_quantile(weights, quantiles)));
-        kernels.push(kernel!("wide 65,536-slot lookup quantile_function", "u32/24", table.rows, MANY, wide_lookup_16_quantile(weights, quantiles)));
-        kernels.push(kernel!("wide 256-slot lookup made", "u32/24", table.rows, table.rows, wide_lookup_8_build(weights)));
-        kernels.push(kernel!("wide 4,096-slot lookup made", "u32/24", table.rows, table.rows, wide_lookup_12_build(weights)));
-        kernels.push(kernel!("wide 65,536-slot lookup made", "u32/24", table.rows, table.rows, wide_lookup_16_build(weights)));
+        kernels.push(kernel!("wide 256-slot lookup quantile_function", "u32/24", table.rows, MANY, wide_lookup_8_quantile(weights, quantiles)).with(Sides::Search));
+        kernels.push(kernel!("wide 4,096-slot lookup quantile_function", "u32/24", table.rows, MANY, wide_lookup_12_quantile(weights, quantiles)).with(Sides::Search));
+        kernels.push(kernel!("wide 65,536-slot lookup quantile_function", "u32/24", table.rows, MANY, wide_lookup_16_quantile(weights, quantiles)).with(Sides::Search));
+        kernels.push(kernel!("wide 256-slot lookup made", "u32/24", table.rows, table.rows, wide_lookup_8_build(weights)).with(Sides::Search));
+        kernels.push(kernel!("wide 4,096-slot lookup made", "u32/24", table.rows, table.rows, wide_lookup_12_build(weights)).with(Sides::Search));
+        kernels.push(kernel!("wide 65,536-slot lookup made", "u32/24", table.rows, table.rows, wide_lookup_16_build(weights)).with(Sides::Search));
     }
     let (weights, symbols) = (tables[3].weights, tables[3].symbols);
     kernels.push(kernel!("decoder of symbols symbol_table", "u32/24", 4096, 4096, decoder_table(weights, symbols)));
@@ -132,11 +165,11 @@ pub fn usual() -> Vec<Kernel> {
     for table in &small[2..] {
         let weights = table.weights;
         kernels.push(kernel!("direct lookup made", "u16/12", table.rows, table.rows, direct_lookup_build(weights)));
-        kernels.push(kernel!("256-slot lookup made", "u16/12", table.rows, table.rows, slotted_lookup_build(weights)));
+        kernels.push(kernel!("256-slot lookup made", "u16/12", table.rows, table.rows, slotted_lookup_build(weights)).with(Sides::Slots));
     }
     for table in &small[1..3] {
         let (weights, symbols) = (table.weights, table.symbols);
-        kernels.push(kernel!("direct lookup of symbols made", "u16/12", table.rows, table.rows, direct_symbol_lookup_build(weights, symbols)));
+        kernels.push(kernel!("direct lookup of symbols made", "u16/12", table.rows, table.rows, direct_symbol_lookup_build(weights, symbols)).with(Sides::Repeats));
     }
     for table in &tables[1..4] {
         kernels.push(decoder_build(table));
@@ -172,7 +205,7 @@ pub fn usual() -> Vec<Kernel> {
         let (weights, indices) = (table.weights, table.indices);
         kernels.push(kernel!("stack coder encode_symbol", "u32/24", table.rows, MANY, coder_encode(weights, indices)));
         kernels.push(kernel!("stack coder decode_symbol", "u32/24", table.rows, MANY, coder_decode(weights, words)));
-        kernels.push(kernel!("stack coder decode_symbol, 4,096-slot lookup", "u32/24", table.rows, MANY, coder_lookup_decode(weights, words)));
+        kernels.push(kernel!("stack coder decode_symbol, 4,096-slot lookup", "u32/24", table.rows, MANY, coder_lookup_decode(weights, words)).with(Sides::Search));
     }
     kernels.push(writing!("Cursor write", cursor_write(words)));
     kernels.push(kernel!("Cursor read, Queue", "u32", 0, MANY, cursor_queue_read(words)));
@@ -237,7 +270,7 @@ fn direct_lookup_quantile(inputs: &Inputs, table: &SmallTable) -> Kernel {
 
 fn slotted_lookup_quantile(inputs: &Inputs, table: &SmallTable) -> Kernel {
     let (weights, quantiles) = (table.weights, inputs.small_quantiles);
-    kernel!("256-slot lookup quantile_function", "u16/12", table.rows, MANY, slotted_lookup_quantile(weights, quantiles))
+    kernel!("256-slot lookup quantile_function", "u16/12", table.rows, MANY, slotted_lookup_quantile(weights, quantiles)).with(Sides::Slots)
 }
 
 fn encoder_symbol(table: &Table) -> Kernel {
@@ -252,7 +285,7 @@ fn contiguous_build(table: &Table) -> Kernel {
 
 fn decoder_build(table: &Table) -> Kernel {
     let (weights, symbols) = (table.weights, table.symbols);
-    kernel!("decoder of symbols made, comparing", "u32/24", table.rows, table.rows, decoder_build(weights, symbols))
+    kernel!("decoder of symbols made, comparing", "u32/24", table.rows, table.rows, decoder_build(weights, symbols)).with(Sides::Repeats)
 }
 
 fn decoder_build_distinct(table: &Table) -> Kernel {
@@ -262,14 +295,14 @@ fn decoder_build_distinct(table: &Table) -> Kernel {
 
 fn decoder_build_hashable(table: &Table) -> Kernel {
     let (weights, symbols) = (table.weights, table.symbols);
-    kernel!("decoder of symbols made, hashing", "u32/24", table.rows, table.rows, decoder_build_hashable(weights, symbols))
+    kernel!("decoder of symbols made, hashing", "u32/24", table.rows, table.rows, decoder_build_hashable(weights, symbols)).with(Sides::Repeats)
 }
 
 fn decoder_build_sorted(table: &Table) -> Kernel {
     let mut sorted = table.symbols.to_vec();
     sorted.sort_unstable();
     let (weights, symbols): (_, &'static [u32]) = (table.weights, sorted.leak());
-    kernel!("decoder of symbols made, in order", "u32/24", table.rows, table.rows, decoder_build_sorted(weights, symbols))
+    kernel!("decoder of symbols made, in order", "u32/24", table.rows, table.rows, decoder_build_sorted(weights, symbols)).with(Sides::Repeats)
 }
 
 fn encoder_build(table: &Table) -> Kernel {

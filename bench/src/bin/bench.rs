@@ -1,5 +1,5 @@
-//! Prints a line for each kernel: its name, its words, its rows, and the nanoseconds of an item by the Rust crate
-//! and by this library, with a tab between each two.
+//! Prints a line for each kernel: its name, what its sides do, its words, its rows, and the nanoseconds of an item by
+//! the Rust crate and by this library, with a tab between each two.
 //!
 //! usage: bench [--growth] [--quick] [--list] [WORD..]
 //!
@@ -42,7 +42,7 @@ fn main() -> ExitCode {
     kernels.retain(|kernel| words.is_empty() || words.iter().any(|word| kernel.name.contains(word.as_str())));
     if has("--list") {
         for kernel in &kernels {
-            println!("{}\t{}\t{}", kernel.name, kernel.words, kernel.rows);
+            println!("{}\t{}\t{}\t{}", kernel.name, kernel.sides.name(), kernel.words, kernel.rows);
         }
         return ExitCode::SUCCESS;
     }
@@ -70,7 +70,7 @@ fn main() -> ExitCode {
     progress.end();
     for (kernel, samples) in kernels.iter().zip(&samples) {
         let [rust, here] = samples.least(kernel);
-        println!("{}\t{}\t{}\t{rust:.4}\t{here:.4}", kernel.name, kernel.words, kernel.rows);
+        println!("{}\t{}\t{}\t{}\t{rust:.4}\t{here:.4}", kernel.name, kernel.sides.name(), kernel.words, kernel.rows);
     }
     if is_right {
         ExitCode::SUCCESS

@@ -1,5 +1,5 @@
-//! Prints a line for each kernel that makes models: its name, its words, its rows, and then of the Rust crate and of
-//! this library how many allocations and growths of one a model takes, and how many bytes it asks for.
+//! Prints a line for each kernel that makes models: its name, what its sides do, its words, its rows, and then of the
+//! Rust crate and of this library how many allocations and growths of one a model takes, and how many bytes it asks for.
 //!
 //! usage: memory [WORD..]
 //!
@@ -70,7 +70,7 @@ fn main() {
             continue;
         }
         let sides = [&mut kernel.rust, &mut kernel.here].map(pass);
-        print!("{}\t{}\t{}", kernel.name, kernel.words, kernel.rows);
+        print!("{}\t{}\t{}\t{}", kernel.name, kernel.sides.name(), kernel.words, kernel.rows);
         for side in sides {
             print!("\t{}\t{}\t{}", side[0], side[1], side[2]);
         }
