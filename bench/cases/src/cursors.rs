@@ -42,10 +42,8 @@ where
                 Err(BoundedWriteError::OutOfSpace) => "oos".into(),
             },
             (Some(("k", to)), None) => moved(backend.seek(index(to)?)),
-            (Some(("k", to)), Some(len)) => match len.checked_sub(index(to)?) {
-                Some(to) => moved(backend.seek(to)),
-                None => "no".into(),
-            },
+            // a position past the words is none of the inner cursor's either
+            (Some(("k", to)), Some(len)) => moved(backend.seek(len.wrapping_sub(index(to)?))),
             _ => return Err(format!("{call} is no call")),
         },
     })

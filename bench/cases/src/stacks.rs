@@ -36,6 +36,9 @@ where
 pub fn answer<W: Word>(kind: &str, mut fields: Fields) -> Result<Said, String> {
     let mut stack = fields.list::<W>()?;
     let calls = fields.rest();
+    if calls.is_empty() {
+        return Err("a call is missing, so that the crate is not asked".into());
+    }
     let mut replies: Vec<String>;
     if kind == "vec" {
         replies = calls.iter().map(|it| reply(&mut stack, it)).collect::<Result<_, _>>()?;
