@@ -52,10 +52,11 @@ def draw_ratios(saved):
         if of:
             parts.append((heading, of))
     left = 36 + 6.2 * max(len(name) for _, of in parts for name in of)
-    top = 70
+    top = 88
     it = Drawing(WIDTH, top + sum(ABOVE + STEP * len(of) + BELOW for _, of in parts), "How many times the Rust crate's time each kernel takes, in three parts")
     it.text(24, 32, "The time of each kernel, over the Rust crate's", bold=True, size=14)
     it.text(24, 52, "A dot for each number of rows; those above 1.1 are orange. Where the greatest is above 2, it is written out.", "faint", SMALL)
+    it.text(24, 70, "Each part has a scale of its own, as its ratios say nothing of those of another part.", "faint", SMALL)
     for heading, of in parts:
         draw_part(it, heading, of, left, top + ABOVE)
         top += ABOVE + STEP * len(of) + BELOW
