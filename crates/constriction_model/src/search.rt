@@ -6,9 +6,31 @@ ghost use Rattle.constriction_model.specs.Probe.{digits, IsSearchable, IsLastAtM
 
 use crate::probe::Probe;
 
+/// Half of the rows from `first` on, of which there is more than one.
+#[inline(always)]
+#[tactic(auto, using(crate::proofs::Digits::digits_step))]
+fn half_of_more<R: Probe>(rows: &mut R, q: R::Word, first: usize, size: usize) -> (usize, usize)
+    requires searchable { IsSearchable (R.cumulatives rows.old) (R.number q) }
+    requires word { length (R.cumulatives rows.old) ≤ usize.MAX }
+    requires narrowed { IsNarrowed (R.cumulatives rows.old) (R.number q) first size }
+    requires more { 1 < size }
+    requires room { R.questions rows.old + digits (size - 1) ≤ usize.MAX }
+    ensures narrowed { IsNarrowed (R.cumulatives rows.old) (R.number q) result.0 result.1 }
+    ensures same { R.cumulatives rows.new ≡ R.cumulatives rows.old }
+    ensures counted { R.questions rows.new + digits (result.1 - 1) ≡ R.questions rows.old + digits (size - 1) }
+    ensures fewer { result.1 < size }
+    ensures half { size ≤ 2 * result.1 }
+{
+    let half = size / 2;
+    if rows.at_most(first + half, q) {
+        (first + half, size - half)
+    } else {
+        (first, size - half)
+    }
+}
+
 /// Half of the rows from `first` on, where there is more than one.
 #[inline]
-#[tactic(auto, using(crate::proofs::Digits::digits_step))]
 fn halve<R: Probe>(rows: &mut R, q: R::Word, first: usize, size: usize) -> (usize, usize)
     requires searchable { IsSearchable (R.cumulatives rows.old) (R.number q) }
     requires word { length (R.cumulatives rows.old) ≤ usize.MAX }
@@ -23,12 +45,7 @@ fn halve<R: Probe>(rows: &mut R, q: R::Word, first: usize, size: usize) -> (usiz
     if size <= 1 {
         return (first, size);
     }
-    let half = size / 2;
-    if rows.at_most(first + half, q) {
-        (first + half, size - half)
-    } else {
-        (first, size - half)
-    }
+    half_of_more(rows, q, first, size)
 }
 
 /// A sixteenth of the rows from `first` on.
@@ -49,8 +66,33 @@ fn halve_four_times<R: Probe>(rows: &mut R, q: R::Word, first: usize, size: usiz
     halve(rows, q, eighth_first, eighth)
 }
 
-/// [`halve_four_times`], out of line. A loop that has it in it is compiled to jumps that depend on the
-/// answers, and not to moves, which are several times as fast on random quantiles.
+/// A sixteenth of the more than eight rows from `first` on: none of the four questions needs a test of what is left.
+#[inline(always)]
+fn halve_many_four_times<R: Probe>(
+    rows: &mut R,
+    q: R::Word,
+    first: usize,
+    size: usize,
+) -> (usize, usize)
+    requires searchable { IsSearchable (R.cumulatives rows.old) (R.number q) }
+    requires word { length (R.cumulatives rows.old) ≤ usize.MAX }
+    requires narrowed { IsNarrowed (R.cumulatives rows.old) (R.number q) first size }
+    requires many { 8 < size }
+    requires room { R.questions rows.old + digits (size - 1) ≤ usize.MAX }
+    ensures narrowed { IsNarrowed (R.cumulatives rows.old) (R.number q) result.0 result.1 }
+    ensures same { R.cumulatives rows.new ≡ R.cumulatives rows.old }
+    ensures counted { R.questions rows.new + digits (result.1 - 1) ≡ R.questions rows.old + digits (size - 1) }
+    ensures fewer { result.1 < size }
+    ensures sixteenth { size ≤ 16 * result.1 }
+{
+    let (half_first, half) = half_of_more(rows, q, first, size);
+    let (quarter_first, quarter) = half_of_more(rows, q, half_first, half);
+    let (eighth_first, eighth) = half_of_more(rows, q, quarter_first, quarter);
+    half_of_more(rows, q, eighth_first, eighth)
+}
+
+/// A sixteenth of the rows from `first` on, out of line. A loop that has the questions in it is compiled to jumps that depend on
+/// the answers, and not to moves, which are several times as fast on random quantiles.
 #[inline(never)]
 fn sixteenth<R: Probe>(rows: &mut R, q: R::Word, first: usize, size: usize) -> (usize, usize)
     requires searchable { IsSearchable (R.cumulatives rows.old) (R.number q) }
@@ -62,6 +104,9 @@ fn sixteenth<R: Probe>(rows: &mut R, q: R::Word, first: usize, size: usize) -> (
     ensures counted { R.questions rows.new + digits (result.1 - 1) ≡ R.questions rows.old + digits (size - 1) }
     ensures fewer { 1 < size → result.1 < size }
 {
+    if size > 8 {
+        return halve_many_four_times(rows, q, first, size);
+    }
     halve_four_times(rows, q, first, size)
 }
 
