@@ -1,8 +1,8 @@
 -- What reading gives where the words to come are known.
-use Rattle.std.specs.Prelude.{◌≡◌, ℕ, List, [], ◌∷◌, ◌++◌, length, take, Option, Result, Ok, Err, IfOk}
-use Rattle.std.proofs.Common.{suc, refl, ap, sym, ◌∙◌}
+use Rattle.std.specs.Prelude.{◌≡◌, ◌<◌, ◌⊎◌, ℕ, List, [], ◌∷◌, ◌++◌, length, take, Option, Result, Ok, Err, IfOk}
+use Rattle.std.proofs.Common.{suc, refl, ap, sym, ◌∙◌, arith, inl, inr}
 use Rattle.std.specs.List.{AllZip}
-use Rattle.std.proofs.Math.Seq.{take-append_seam}
+use Rattle.std.proofs.lemmas.List.{append-nil, take_all, take_at}
 use Rattle.constriction.specs.Rows.{Row}
 use Rattle.constriction_words.specs.declared.coder_error.CoderError.{CoderError}
 use Rattle.constriction_client.specs.declared.quantiles.ReadFault.{ReadFault}
@@ -14,20 +14,29 @@ as-many R [] (y ∷ ys) h = absurd h
 as-many R (x ∷ xs) [] h = absurd h
 as-many R (x ∷ xs) (y ∷ ys) h = ap suc (as-many R xs ys h.1)
 
--- the pairs that were added are those of so many of the words to come
+-- The words of `many` pairs, which are as many as were asked for, or all where these are fewer. `n` is the answer.
+asked-for : {Word P Q : Type 0} (count n many : ℕ) (upcoming words rest : List Word) → upcoming ≡ words ++ rest → n ≡ many
+    → many ≡ length words → ((many ≡ count) × P) ⊎ ((many < count) × Q) → (n < count → rest ≡ []) → take count upcoming ≡ words
+asked-for count n many upcoming words rest split same long (inl end) none =
+    ap (take count) split ∙ take_at words rest count (sym long ∙ end.0)
+asked-for count n many upcoming words rest split same long (inr end) none =
+    let all : upcoming ≡ words = split ∙ ap (λ more. words ++ more) (none (omega (arith, same, end.0))) ∙ append-nil words in
+    ap (take count) all ∙ take_all count words (omega (arith, long, end.0))
+
+-- the pairs that were added are those of as many of the words to come as were asked for, or of all where these are fewer
 pub pairs-of-first : {Symbol Word Source Error : Type 0} (Stands : Symbol → Symbol → Type 0) (precision : ℕ) (rows : List (Row Symbol))
     (whole : Word → ℕ)
     (gives : Source → Result (Option Word) Error → Source → Type 0) (tells : Source → List Word → Type 0) (count : ℕ)
     (s : Source) (old : List (Symbol × Word)) (n : ℕ) (t : Source) (new : List (Symbol × Word)) (upcoming : List Word)
     → ReadsPairs Stands precision rows whole gives tells count s old (Ok n) t new → tells s upcoming
-    → (pairs : List (Symbol × Word)) × ArePairs Stands rows whole (take n upcoming) pairs × (new ≡ old ++ pairs)
+    → (pairs : List (Symbol × Word)) × ArePairs Stands rows whole (take count upcoming) pairs × (length pairs ≡ n) × (new ≡ old ++ pairs)
 pairs-of-first Stands precision rows whole gives tells count s old n t new upcoming r told =
     let left = r.told upcoming told in
     let split : upcoming ≡ r.words ++ left.0 = left.1 ∙ ap (λ more. r.words ++ (more ++ left.0)) r.ended.1 in
-    let many : n ≡ length r.words = r.ended.0 ∙ sym (as-many _ r.words r.pairs r.of_words) in
-    let first : take n upcoming ≡ r.words = ap (take n) split ∙ ap (λ k. take k (r.words ++ left.0)) many
-    ∙ take-append_seam r.words left.0 in
-    (r.pairs, rw first r.of_words, r.added)
+    let long : length r.pairs ≡ length r.words = sym (as-many _ r.words r.pairs r.of_words) in
+    let first : take count upcoming ≡ r.words =
+    asked-for count n (length r.pairs) upcoming r.words left.0 split r.ended.0 long r.ended.2 left.3 in
+    (r.pairs, rw first r.of_words, sym r.ended.0, r.added)
 
 pub pairs-if-read : {Symbol Word Source Error : Type 0} (Stands : Symbol → Symbol → Type 0) (precision : ℕ) (rows : List (Row Symbol))
     (whole : Word → ℕ)
@@ -35,7 +44,8 @@ pub pairs-if-read : {Symbol Word Source Error : Type 0} (Stands : Symbol → Sym
     (s : Source) (old : List (Symbol × Word)) (r : Result ℕ (CoderError ReadFault Error)) (t : Source)
     (new : List (Symbol × Word)) (upcoming : List Word)
     → ReadsPairs Stands precision rows whole gives tells count s old r t new → tells s upcoming
-    → IfOk r (λ n. (pairs : List (Symbol × Word)) × ArePairs Stands rows whole (take n upcoming) pairs × (new ≡ old ++ pairs))
+    → IfOk r (λ n. (pairs : List (Symbol × Word)) × ArePairs Stands rows whole (take count upcoming) pairs × (length pairs ≡ n)
+    × (new ≡ old ++ pairs))
 pairs-if-read Stands precision rows whole gives tells count s old (Ok n) t new upcoming r told =
     pairs-of-first Stands precision rows whole gives tells count s old n t new upcoming r told
 pairs-if-read Stands precision rows whole gives tells count s old (Err e) t new upcoming r told = tt

@@ -1,6 +1,6 @@
 //! Words of iterators, as pairs.
 
-ghost use Rattle.std.specs.Prelude.{◌≡◌, ◌++◌, List, take, IfOk};
+ghost use Rattle.std.specs.Prelude.{◌≡◌, ◌++◌, List, length, take, IfOk};
 ghost use Rattle.constriction_client.specs.Quantiles.{ArePairs};
 
 use crate::checks::{holds, same, small};
@@ -14,12 +14,12 @@ type Small = ContiguousCategoricalEntropyModel<u8, Vec<u8>, 6>;
 
 type Read = Result<usize, CoderError<ReadFault, Infallible>>;
 
-/// Reads the pairs of the first words of a slice, by a source over its iterator.
+/// Reads the pairs of the first words of a slice, by a source over its iterator: of `count` words, or of all where these are fewer.
 fn read_slice(model: &Small, words: &[u8], count: usize, out: &mut Vec<(usize, u8)>) -> Read
     ensures { IfOk result (λ n. (pairs : List _)
         × ArePairs (λ s t. t ≡ s) (⟦<ContiguousCategoricalEntropyModel<u8, Vec<u8>, 6> as EntropyModel<6>>⟧.rows model.now) (λ word. word)
-        (take n words.now) pairs
-        × (out.new.items ≡ out.old.items ++ pairs)) }
+        (take count words.now) pairs
+        × (length pairs ≡ n) × (out.new.items ≡ out.old.items ++ pairs)) }
 {
     let mut source = InfallibleIteratorReadWords::new(words.iter().copied());
     read_symbols::<Queue, _, _, 6>(model, &mut source, count, out)
