@@ -73,7 +73,7 @@ fn among_letters_of_a_slot(model: &TabledLetters, quantile: u8) -> (usize, usize
     (first, index, rows.asked())
 }
 
-/// A search of four rows asks two questions. Three of them meet the slot of 20, and one that of 40.
+/// A search of four rows asks two questions. Two of them meet the slot of 5, three that of 20, and one that of 40.
 #[test]
 fn a_search_asks_of_all_rows_and_beside_a_lookup_table_of_those_of_a_slot(rt: HostRuntime) {
     let model = of_four(rt.alloc(), [3, 18, 1, 42]).expect(&rt, "accepted");
@@ -82,6 +82,7 @@ fn a_search_asks_of_all_rows_and_beside_a_lookup_table_of_those_of_a_slot(rt: Ho
         &rt,
         "a lookup model",
     );
+    same(&rt, by_a_lookup_table(&tabled, 5), (0, 1, 1));
     same(&rt, by_a_lookup_table(&tabled, 20), (1, 0, 2));
     same(&rt, by_a_lookup_table(&tabled, 40), (3, 0, 0));
 }

@@ -18,6 +18,7 @@ use constriction::stream::model::{
     DecoderModel, EncoderModel, EntropyModel, IterableEntropyModel, Weight,
 };
 use constriction_test_models::contiguous::Weighted;
+use constriction_test_models::symbol_types::{LetterDecoder, letters};
 use constriction_words::{BitArray, WholeNumber};
 use std::alloc::{AllocError, Global};
 
@@ -49,6 +50,15 @@ where
 {
     table_length::<M, PRECISION>();
     model.symbol_table().count()
+}
+
+/// How many items the symbol table of letters has, and how many letters the model has: as many, also where the clone of one is
+/// refused.
+fn items_and_letters(model: &LetterDecoder) -> (usize, usize)
+    ensures { result.0 ≡ result.1 }
+{
+    let letters = model.support_size();
+    (count(model), letters)
 }
 
 /// The rows of a model, as its symbol table gives them.
@@ -200,6 +210,12 @@ fn read_letters(
     alloc: Global,
 ) -> Result<(Rows<ThreeLetters, 2>, Rows<&'static ThreeLetters, 2>), AllocError> {
     read_both(alloc, ThreeLetters, &ThreeLetters)
+}
+
+#[test]
+fn a_symbol_table_has_an_item_for_each_row(rt: HostRuntime) {
+    let model = letters(rt.alloc()).expect(&rt, "accepted");
+    same(&rt, items_and_letters(&model), (3, 3));
 }
 
 #[test]

@@ -182,7 +182,9 @@ fn contracts_leave_one_reply_after_a_chain(rt: HostRuntime) {
     let model = model.expect(&rt, "accepted");
     let encoder = encoder_of(rt.alloc(), &model).expect(&rt, "an encoder");
     let found = replies_after(rt.alloc(), DecoderForm::Search(model), &encoder);
-    same(&rt, found.expect(&rt, "replies").1.len(), 2);
+    let (made, replies) = found.expect(&rt, "replies");
+    same(&rt, matches!(made, DecoderForm::Lookup(_)), true);
+    same(&rt, replies.len(), 2);
 }
 
 #[test]

@@ -1,7 +1,7 @@
 //! What contracts alone tell a caller who knows the rows of a model: a row, an entry, and the ends of a symbol table. No body
 //! that answers otherwise meets these contracts, even where it is refused at a written proof.
 
-ghost use Rattle.std.specs.Prelude.{◌≡◌, ◌+◌, [], ◌∷◌, Some, Ok, Err, IfOk, true, false, map, nat_eq};
+ghost use Rattle.std.specs.Prelude.{◌≡◌, ◌+◌, [], ◌∷◌, Some, None, Ok, Err, IfOk, IsErr, true, false, map, nat_eq};
 ghost use Rattle.constriction.specs.Acceptance.{AreAccepted};
 ghost use Rattle.constriction.specs.Entries.{SameEntries};
 ghost use Rattle.constriction.specs.Probe.{IsRowIndexOf};
@@ -11,7 +11,7 @@ use crate::checks::same;
 use constriction::stream::model::{
     DecoderModel, EncoderModel, EntropyModel, IterableEntropyModel, ModelError,
     NonContiguousCategoricalDecoderModel, NonContiguousCategoricalEncoderModel,
-    NonContiguousLookupDecoderModel, SmallUniformModel, is_quantile, row_of_quantile,
+    NonContiguousLookupDecoderModel, Probe, SmallUniformModel, is_quantile, row_of_quantile,
 };
 use constriction_test_models::contiguous::Weighted;
 use constriction_test_models::given::{Lookup, encoder_of, lookup_of_four, of_four};
@@ -148,6 +148,14 @@ fn last_entry() -> Option<(u16, u16)>
     Some((left, weight.get()))
 }
 
+/// The entry of a number that is 65,536 more than that symbol: there is none.
+fn entry_of_65_540() -> Option<(u16, u16)>
+    ensures { result ≡ None }
+{
+    let (left, weight) = SmallUniformModel::new(5).left_cumulative_and_probability(&65_540)?;
+    Some((left, weight.get()))
+}
+
 /// The symbols at both ends of a symbol table, and how many rows are left between them.
 fn ends(model: &Weighted<6>) -> (Option<usize>, Option<usize>, usize)
     requires { ⟦<Weighted<6> as EntropyModel<6>>⟧.rows model.now ≡ contiguous_rows (3 ∷ 18 ∷ 1 ∷ 42 ∷ []) }
@@ -207,6 +215,15 @@ fn index_of_20(model: &Weighted<6>) -> (usize, usize)
     (first, row_of_quantile(&mut rows, 20))
 }
 
+/// Which row that probe begins with, and how many rows it tells: all four.
+fn rows_in_question(model: &Weighted<6>) -> (usize, usize)
+    requires { ⟦<Weighted<6> as EntropyModel<6>>⟧.rows model.now ≡ contiguous_rows (3 ∷ 18 ∷ 1 ∷ 42 ∷ []) }
+    ensures { result ≡ (0, 4) }
+{
+    let (first, rows) = model.quantile_probe(20);
+    (first, rows.len())
+}
+
 /// The same by the search among the rows that meet a slot.
 fn index_looked_up(model: &Tabled) -> (usize, usize)
     ensures { IsRowIndexOf (⟦<Tabled as EntropyModel<6>>⟧.rows model.now) 20 (result.0 + result.1) }
@@ -255,6 +272,20 @@ fn lookup_of(alloc: Global, symbols: [char; 4], weights: [u8; 4]) -> Result<Tabl
     Tabled::from_symbols_and_nonzero_fixed_point_probabilities(alloc, symbols, weights, false)
 }
 
+/// The decoder of letters of which the first one comes again after another one: it is not made.
+fn of_a_repeat(alloc: Global) -> Result<Decoder, ModelError>
+    ensures { IsErr result }
+{
+    decoder_of(alloc, ['a', 'x', 'a', 'y'], [3, 18, 1, 42])
+}
+
+/// The model of weights of which 256 more than 64 is the sum, so that a sum in bytes is 64: it is not made.
+fn of_a_wrapped_total(alloc: Global) -> Result<Weighted<6>, ModelError>
+    ensures { IsErr result }
+{
+    of_four(alloc, [100, 100, 100, 20])
+}
+
 /// Stops the test where the contiguous model answers otherwise than its rows leave.
 fn leaves_one_answer(rt: &impl Abort, model: &Weighted<6>)
     requires { ⟦<Weighted<6> as EntropyModel<6>>⟧.rows model.now ≡ contiguous_rows (3 ∷ 18 ∷ 1 ∷ 42 ∷ []) }
@@ -263,6 +294,7 @@ fn leaves_one_answer(rt: &impl Abort, model: &Weighted<6>)
     same(rt, second_entry(model), Some((3, 18)));
     same(rt, ends(model), (Some(0), Some(3), 2));
     same(rt, index_of_20(model), (0, 1));
+    same(rt, rows_in_question(model), (0, 4));
 }
 
 #[test]
@@ -278,6 +310,7 @@ fn contracts_leave_one_answer(rt: HostRuntime) {
 fn contracts_leave_one_answer_of_a_uniform_model(rt: HostRuntime) {
     same(&rt, row_of_819(), Ok((1, 819, 819)));
     same(&rt, last_entry(), Some((3276, 820)));
+    same(&rt, entry_of_65_540(), None);
     same(&rt, uniform_ends(), (Some(0), Some(4), 3));
     same(&rt, are_quantiles(), (true, false));
     same(&rt, last_quantile(), 63);
