@@ -83,6 +83,16 @@ fn sum_of_two(first: u8, second: u8) -> u32
     total
 }
 
+/// What a callback adds up of the words of a slice.
+fn sum_of(words: &[u8]) -> u32 {
+    let mut total = 0u32;
+    let mut sink = InfallibleCallbackWriteWords::new(|word: u8| total = total.wrapping_add(
+        u32::from(word),
+    ));
+    let _ = sink.extend_from_iter(words.iter().copied());
+    total
+}
+
 /// How often a callback was called that refuses its second word, and whether that word was refused.
 fn calls_of_two(first: u8, second: u8) -> (u8, bool)
     ensures calls { result.0 ≡ 2 }
@@ -193,7 +203,7 @@ fn calls_of_three(word: u8) -> Result<(), u8>
 
 #[test]
 fn callers_know_what_their_callbacks_did(rt: HostRuntime) {
-    same(&rt, sum_of_two(250, 9), 259);
+    same(&rt, [sum_of_two(250, 9), sum_of(&[1, 2, 3])], [259, 6]);
     same(&rt, calls_of_two(1, 2), (2, true));
     same(&rt, calls_of_three(7), Err(3));
 }

@@ -10,21 +10,21 @@ use constriction_words::Pos;
 
 #[test]
 fn what_is_written_through_a_loan_stands(rt: HostRuntime) {
-    let words = vec_of(&rt, rt.alloc(), &[1, 2, 3]);
+    let words = vec_of(&rt, rt.alloc(), &[10, 20, 30]);
     assert!(rt; words.len() == 3);
     let mut cursor = Cursor::<u8, _>::new_at_pos_mut(words, 1).expect(&rt, "a cursor");
-    set_first(&mut cursor, 10);
-    is_at(&rt, &cursor, 1, [10, 2, 3]);
-    set_written(&mut cursor, 11);
+    set_written(&mut cursor, 7);
+    is_at(&rt, &cursor, 1, [7, 20, 30]);
+    move_a_view(&mut cursor);
+    is_at(&rt, &cursor, 1, [7, 8, 30]);
+    set_first(&mut cursor, 11);
     set_unwritten(&mut cursor, 21);
-    is_at(&rt, &cursor, 1, [11, 21, 3]);
+    is_at(&rt, &cursor, 1, [11, 21, 30]);
     set_through_another(&mut cursor, 22);
-    is_at(&rt, &cursor, 1, [11, 22, 3]);
+    is_at(&rt, &cursor, 1, [11, 22, 30]);
     set_over_a_loan(&mut cursor, 23);
     same(&rt, read_over_a_loan(&mut cursor), Some(11));
-    is_at(&rt, &cursor, 1, [11, 23, 3]);
-    move_a_view(&mut cursor);
-    is_at(&rt, &cursor, 1, [8, 23, 3]);
+    is_at(&rt, &cursor, 1, [11, 23, 30]);
 }
 
 #[test]

@@ -2,12 +2,13 @@
 
 ghost use Rattle.std.specs.Prelude.{◌≡◌};
 
-use crate::checks::{holds, is_at, same, vec_of};
+use crate::checks::{is_at, same, vec_of};
 use constriction_backends::{
-    BoundedWriteError, Cursor, ReadWords, Reverse, SafeBufMut, WriteWords, laws,
+    BoundedReadWords, BoundedWriteError, BoundedWriteWords, Cursor, ReadWords, Reverse, SafeBufMut,
+    WriteWords, laws,
 };
 use constriction_test_models::marked::Marked;
-use constriction_words::{Pos, Queue, Seek, Stack};
+use constriction_words::{Pos, Queue, Seek, Stack, UnwrapInfallible};
 use std::convert::Infallible;
 use std::process::Abort;
 
@@ -47,6 +48,20 @@ fn a_reversal_may_be_exhausted_where_its_backend_may(rt: HostRuntime) {
     same(&rt, may_be_exhausted(&mut cursor), [false, true]);
 }
 
+/// How many words a stack has as a queue and the word that it reads so, and how many it has and where it stands then.
+fn read_as_a_queue(reversed: &mut Reverse<Vec<u8>>) -> (usize, Option<u8>, usize, usize) {
+    let count = BoundedReadWords::<u8, Queue>::remaining(reversed);
+    let word = ReadWords::<u8, Queue>::read(reversed).unwrap_infallible();
+    let left = BoundedReadWords::<u8, Queue>::remaining(reversed);
+    (count, word, left, reversed.pos())
+}
+
+#[test]
+fn a_reversed_stack_is_read_as_a_queue(rt: HostRuntime) {
+    let mut reversed = Reverse(vec_of(&rt, rt.alloc(), &[1, 2, 3]));
+    same(&rt, read_as_a_queue(&mut reversed), (3, Some(3), 2, 2));
+}
+
 /// A cursor that is turned round and back: the caller knows by the law that it is the very same one.
 fn turned_and_back<Buf: SafeBufMut<u8>>(cursor: Cursor<u8, Buf>) -> Cursor<u8, Buf>
     ensures { result ≡ cursor }
@@ -65,8 +80,10 @@ fn a_cursor_turned_twice_stands_where_it_stood(rt: HostRuntime) {
     laws::seek_stays::<u8, Vec<u8>>();
     let words = vec_of(&rt, rt.alloc(), &[1, 2, 3]);
     let mut cursor = Cursor::<u8, _>::new_at_write_end(words);
-    same(&rt, cursor.seek(1), Ok(()));
+    same(&rt, cursor.seek(2), Ok(()));
     let cursor = turned_and_back(cursor);
-    holds(&rt, cursor.buf(), &[1, 2, 3]);
-    same(&rt, cursor.pos(), 1);
+    is_at(&rt, &cursor, 2, [1, 2, 3]);
+    let turned = cursor.into_reversed();
+    is_at(&rt, &turned.0, 1, [3, 2, 1]);
+    same(&rt, turned.space_left(), 1);
 }

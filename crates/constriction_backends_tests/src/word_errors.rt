@@ -15,11 +15,12 @@ fn marker<S: Semantics>() -> S {
 }
 
 #[test]
-fn markers_have_a_default(rt: HostRuntime) {
+fn markers_and_words_have_a_default(rt: HostRuntime) {
     let stack = marker::<Stack>();
     let queue = marker::<Queue>();
     shows(&rt, rt.alloc(), &stack, "Stack");
     shows(&rt, rt.alloc(), &queue, "Queue");
+    same(&rt, u8::default(), 0);
 }
 
 fn is_an_error<E: Error>(_error: &E) {}
@@ -56,7 +57,9 @@ fn fails(read_error: u8) -> Result<u8, CoderError<Infallible, u8>> {
 fn errors_are_compared_and_cloned(rt: HostRuntime) {
     let back: CoderError<DefaultEncoderFrontendError, NanError> = CoderError::from(NanError);
     is_an_error(&back);
-    same(&rt, clone_of(&rt, &back), CoderError::Backend(NanError));
+    let clone = clone_of(&rt, &CoderError::<u8, u8>::Backend(3));
+    same(&rt, clone == CoderError::Frontend(3), false);
+    same(&rt, clone, CoderError::Backend(3));
     same(&rt, fails(7), Err(CoderError::Backend(7)));
 }
 

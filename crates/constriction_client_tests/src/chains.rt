@@ -7,14 +7,16 @@ ghost use Rattle.constriction_client.specs.declared.chain.ChainStep.TheVariants.
 
 use crate::checks::{end_of_requests, same};
 use constriction::stream::model::{
-    DecoderModel, EntropyModel, IterableEntropyModel, ModelError,
+    DecoderModel, EntropyModel, IterableEntropyModel, ModelError, NonContiguousSymbolTable,
     SmallNonContiguousCategoricalDecoderModel,
 };
 use constriction_client::{ChainStep, DecoderForm, convert_chain};
-use constriction_test_models::any_symbols::{SYMBOLS, WEIGHTS, decoder};
+use constriction_test_models::any_symbols::{ROWS, SYMBOLS, WEIGHTS, decoder, encoder, plain};
+use constriction_test_models::intervals::{agree, has_rows_of};
 use constriction_test_models::symbol_types::letters;
 use constriction_words::{IndexWord, NonZeroBitArray};
 use std::alloc::Global;
+use std::process::Abort;
 
 /// Whether a chain leaves a form of letters that searches, if it is not refused.
 fn is_searching_after(
@@ -76,6 +78,30 @@ fn a_form_knows_that_its_symbols_differ(rt: HostRuntime) {
     let made = convert_chain(rt.alloc(), searching, &[ChainStep::ToLookup]).expect(&rt, "a form");
     let differ = IterableEntropyModel::<6>::symbols_differ(&&made);
     same(&rt, differ, true);
+}
+
+/// Stops the test where a walk from the back gives other rows than those of the letters.
+fn gives_letters(rt: &impl Abort, symbol_table: NonContiguousSymbolTable<'_, char, u8, 6>) {
+    let mut walk = symbol_table;
+    for row in ROWS.iter().rev() {
+        let found = match walk.next_back() {
+            Some(answer) => Some(plain(answer)),
+            None => None,
+        };
+        same(rt, found, Some(Ok(*row)));
+    }
+    same(rt, walk.next_back().is_none(), true);
+}
+
+#[test]
+fn a_form_that_looks_up_has_the_rows_of_its_letters(rt: HostRuntime) {
+    let model = decoder::<6>(rt.alloc(), &SYMBOLS, &WEIGHTS, false).expect(&rt, "accepted");
+    let searching = DecoderForm::Search(model);
+    let made = convert_chain(rt.alloc(), searching, &[ChainStep::ToLookup]).expect(&rt, "a form");
+    gives_letters(&rt, IterableEntropyModel::<6>::symbol_table(&made));
+    same(&rt, has_rows_of(&made, &SYMBOLS), Ok(true));
+    let encoder = encoder::<6>(rt.alloc(), &SYMBOLS, &WEIGHTS, false).expect(&rt, "accepted");
+    same(&rt, agree(&encoder, &made, &SYMBOLS), Ok(true));
 }
 
 /// The error of a chain that begins with the form of letters whose clones may be refused, if it has one.

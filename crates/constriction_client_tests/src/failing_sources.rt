@@ -36,6 +36,37 @@ fn a_word_whose_letter_is_not_cloned_is_gone(rt: HostRuntime) {
     holds(&rt, &out, &[(Letter('c'), 2)]);
 }
 
+/// Reads pairs of numbers, and where the source stands then.
+fn read_words(
+    model: &Weighted<6>,
+    source: &mut Words,
+    count: usize,
+    out: &mut Vec<(usize, u8)>,
+) -> (Read, usize) {
+    let read = read_symbols::<Queue, _, _, 6>(model, source, count, out);
+    (read, source.pos())
+}
+
+#[test]
+fn words_after_one_that_is_no_quantile_are_read(rt: HostRuntime) {
+    let model = small(&rt, rt.alloc());
+    let mut source = Words::new_at_write_beginning(&[2, 64, 3]);
+    let mut out = Vec::new(rt.alloc());
+    let refused = Err(CoderError::Frontend(ReadFault::QuantileTooLarge));
+    same(
+        &rt,
+        read_words(&model, &mut source, 3, &mut out),
+        (refused, 2),
+    );
+    holds(&rt, &out, &[(0, 2)]);
+    same(
+        &rt,
+        read_words(&model, &mut source, 5, &mut out),
+        (Ok(1), 3),
+    );
+    holds(&rt, &out, &[(0, 2), (1, 0)]);
+}
+
 /// A source over words and errors.
 type Results = FallibleIteratorReadWords<vec::IntoIter<Result<u8, u8>>>;
 

@@ -9,7 +9,6 @@ use constriction::stream::model::{
     UniformSymbolTable, Weight,
 };
 use constriction_test_models::contiguous::Small;
-use constriction_test_models::intervals::{first_row_of, have_its_row};
 use constriction_test_models::widths::Model;
 use constriction_words::WholeNumber;
 use std::alloc::{AllocError, Global};
@@ -93,15 +92,6 @@ fn a_uniform_model_is_shown_and_a_symbol_table_is_made_of_it(rt: HostRuntime) {
     let five = SmallUniformModel::new(5);
     shows(&rt, rt.alloc(), &five, "UniformModel");
     same(&rt, UniformSymbolTable::new(five).len(), 5);
-}
-
-#[test]
-fn each_quantile_of_a_symbol_has_its_row(rt: HostRuntime) {
-    let model = small(&rt, rt.alloc());
-    for symbol in 0..5 {
-        same(&rt, have_its_row(&model, symbol), Ok(true));
-    }
-    same(&rt, first_row_of::<_, 6>(&model, &4).is_none(), true);
 }
 
 /// The rows of a model, collected.

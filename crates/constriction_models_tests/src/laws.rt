@@ -15,8 +15,10 @@ use constriction::laws::{
     table_length,
 };
 use constriction::stream::model::{
-    DecoderModel, EncoderModel, EntropyModel, IterableEntropyModel, Weight,
+    DecoderModel, EncoderModel, EntropyModel, FromIterableEntropyModel, IterableEntropyModel,
+    Weight,
 };
+use constriction_test_models::any_symbols::{Encoder, entry};
 use constriction_test_models::contiguous::Weighted;
 use constriction_test_models::symbol_types::{LetterDecoder, letters};
 use constriction_words::{BitArray, WholeNumber};
@@ -115,31 +117,28 @@ where
     }
 }
 
-/// A model of the caller: `a` at 0, `b` at 1 and 2, `c` at 3.
+/// A model of the caller that names a letter twice: `a` has the quantiles below 32, and those from 32 on.
 #[derive(Clone, Copy)]
-struct ThreeLetters;
+struct Twice;
 
-impl EntropyModel<2> for ThreeLetters {
-    type Symbol = u8;
+impl EntropyModel<6> for Twice {
+    type Symbol = char;
 
     type Probability = u8;
 
-    ghost rows = { λ _. rows_of (97 ∷ 98 ∷ 99 ∷ []) (1 ∷ 2 ∷ 1 ∷ []) };
+    ghost rows = { λ _. rows_of (97 ∷ 97 ∷ []) (32 ∷ 32 ∷ []) };
 
     ghost precision_law = { λ _. record { positive = lit< tt; fits = lit≤ tt } };
 }
 
-impl DecoderModel<2> for ThreeLetters {
+impl DecoderModel<6> for Twice {
     ghost stands_for = { λ s t. t ≡ s };
 
     ghost may_refuse = { λ _. ⊥ };
 
-    fn quantile_function(&self, quantile: u8) -> Result<(u8, u8, Weight<u8>), AllocError> {
-        match quantile {
-            0 => Ok((b'a', 0, 1u8.into_nonzero_unchecked())),
-            1 | 2 => Ok((b'b', 1, 2u8.into_nonzero_unchecked())),
-            _ => Ok((b'c', 3, 1u8.into_nonzero_unchecked())),
-        }
+    fn quantile_function(&self, quantile: u8) -> Result<(char, u8, Weight<u8>), AllocError> {
+        let left = if quantile < 32 { 0 } else { 32 };
+        Ok(('a', left, 32u8.into_nonzero_unchecked()))
     }
 
     ghost tile_law = { λ _. Prim.search rules };
@@ -147,42 +146,41 @@ impl DecoderModel<2> for ThreeLetters {
 
 /// The walk through its rows.
 #[derive(Drop)]
-struct ThreeLetterSymbolTable {
+struct TwiceSymbolTable {
     next: u8,
-    ghost within: { next ≤ 3 },
+    ghost within: { next ≤ 2 },
 }
 
-impl Iterator for ThreeLetterSymbolTable {
-    type Item = Result<(u8, u8, Weight<u8>), AllocError>;
+impl Iterator for TwiceSymbolTable {
+    type Item = Result<(char, u8, Weight<u8>), AllocError>;
 
     ghost next_gives = { YieldsRow (λ s t. t ≡ s) (λ _. ⊥) ⟦<u8 as WholeNumber>⟧.whole ⟦<u8 as WholeNumber>⟧.base
-        (λ t. drop t.next (rows_of (97 ∷ 98 ∷ 99 ∷ []) (1 ∷ 2 ∷ 1 ∷ []))) };
+        (λ t. drop t.next (rows_of (97 ∷ 97 ∷ []) (32 ∷ 32 ∷ []))) };
 
-    ghost remaining = { λ t. at_most (3 - t.next) };
+    ghost remaining = { λ t. at_most (2 - t.next) };
 
-    fn next(&mut self) -> Option<Result<(u8, u8, Weight<u8>), AllocError>> {
-        let row = match self.next {
-            0 => (b'a', 0, 1u8.into_nonzero_unchecked()),
-            1 => (b'b', 1, 2u8.into_nonzero_unchecked()),
-            2 => (b'c', 3, 1u8.into_nonzero_unchecked()),
+    fn next(&mut self) -> Option<Result<(char, u8, Weight<u8>), AllocError>> {
+        let left = match self.next {
+            0 => 0,
+            1 => 32,
             _ => return None,
         };
         self.next += 1;
-        Some(Ok(row))
+        Some(Ok(('a', left, 32u8.into_nonzero_unchecked())))
     }
 }
 
-impl IterableEntropyModel<2> for ThreeLetters {
-    type SymbolTable = ThreeLetterSymbolTable;
+impl IterableEntropyModel<6> for Twice {
+    type SymbolTable = TwiceSymbolTable;
 
     ghost stands_for = { λ s t. t ≡ s };
 
     ghost may_refuse = { λ _. ⊥ };
 
-    ghost rows_left = { λ t. drop t.next (rows_of (97 ∷ 98 ∷ 99 ∷ []) (1 ∷ 2 ∷ 1 ∷ [])) };
+    ghost rows_left = { λ t. drop t.next (rows_of (97 ∷ 97 ∷ []) (32 ∷ 32 ∷ [])) };
 
-    fn symbol_table(self) -> ThreeLetterSymbolTable {
-        ThreeLetterSymbolTable { next: 0 }
+    fn symbol_table(self) -> TwiceSymbolTable {
+        TwiceSymbolTable { next: 0 }
     }
 
     ghost steps_law = { λ t r u h. h };
@@ -190,11 +188,11 @@ impl IterableEntropyModel<2> for ThreeLetters {
     ghost tile_law = { λ _. Prim.search rules };
 }
 
-/// Its symbol table has three items.
+/// Its symbol table has two items.
 fn count_letters() -> usize
-    ensures { result ≡ 3 }
+    ensures { result ≡ 2 }
 {
-    count(ThreeLetters)
+    count(Twice)
 }
 
 #[test]
@@ -206,10 +204,8 @@ fn quantiles_come_back_from_symbols_and_offsets(rt: HostRuntime) {
 }
 
 /// The rows that are read of the model, and of a reference to it.
-fn read_letters(
-    alloc: Global,
-) -> Result<(Rows<ThreeLetters, 2>, Rows<&'static ThreeLetters, 2>), AllocError> {
-    read_both(alloc, ThreeLetters, &ThreeLetters)
+fn read_letters(alloc: Global) -> Result<(Rows<Twice, 6>, Rows<&'static Twice, 6>), AllocError> {
+    read_both(alloc, Twice, &Twice)
 }
 
 #[test]
@@ -220,11 +216,19 @@ fn a_symbol_table_has_an_item_for_each_row(rt: HostRuntime) {
 
 #[test]
 fn a_symbol_table_of_the_caller_is_read(rt: HostRuntime) {
-    same(&rt, count_letters(), 3);
-    let one = 1u8.into_nonzero_unchecked();
-    let two = 2u8.into_nonzero_unchecked();
-    let expected = [(b'a', 0, one), (b'b', 1, two), (b'c', 3, one)];
+    same(&rt, count_letters(), 2);
+    let half = 32u8.into_nonzero_unchecked();
+    let expected = [('a', 0, half), ('a', 32, half)];
     let (rows, others) = read_letters(rt.alloc()).expect(&rt, "memory");
     same(&rt, rows.as_slice(), expected.as_slice());
     same(&rt, others.as_slice(), expected.as_slice());
+}
+
+/// The encoder's model that is made of it has one symbol, and the entry of the later row.
+#[test]
+fn an_encoder_has_the_later_one_of_two_rows(rt: HostRuntime) {
+    let made = Encoder::<6>::from_iterable_entropy_model(rt.alloc(), Twice);
+    let encoder = made.expect(&rt, "a model");
+    let found = (entry(&encoder, 'a'), encoder.support_size());
+    same(&rt, found, (Some((32, 32)), 1));
 }

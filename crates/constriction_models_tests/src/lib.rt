@@ -18,6 +18,8 @@ mod conversions;
 #[cfg(test)]
 mod default_words;
 #[cfg(test)]
+mod directions;
+#[cfg(test)]
 mod distinct_symbols;
 #[cfg(test)]
 mod generic_callers;

@@ -71,8 +71,10 @@ fn two_rows_of_one_letter_make_an_encoder_and_no_decoder(rt: HostRuntime) {
         refused,
         [Some(ModelError::InvalidTable), None, invalid, None],
     );
-    let encoder = to_generic_encoder_model::<_, 3>(rt.alloc(), &model);
-    have_entries(&rt, &model, &encoder.expect(&rt, "a model"));
+    let made = to_generic_encoder_model::<_, 3>(rt.alloc(), &model);
+    let encoder = made.expect(&rt, "a model");
+    have_entries(&rt, &model, &encoder);
+    same(&rt, encoder.support_size(), 2);
 }
 
 #[test]

@@ -72,12 +72,12 @@ fn a_probe_of_stored_entries_counts_its_questions(rt: HostRuntime) {
     let entries: [u8; 4] = [0, 3, 21, 22];
     let mut rows = CdfProbe::<u8, Alone>::new(entries.as_slice());
     same(&rt, [rows.len(), rows.asked()], [4, 0]);
-    same(
-        &rt,
-        [rows.at_most(1, 3), rows.at_most(2, 20)],
-        [true, false],
-    );
+    same(&rt, row_of_quantile(&mut rows, 21), 2);
     same(&rt, rows.asked(), 2);
+    let entry = [0u8];
+    let mut rows = CdfProbe::<u8, Alone>::new(entry.as_slice());
+    same(&rt, row_of_quantile(&mut rows, 21), 0);
+    same(&rt, rows.asked(), 0);
 }
 
 type Wide = DefaultContiguousCategoricalEntropyModel;

@@ -13,6 +13,7 @@ use constriction::stream::model::{
 };
 use constriction_test_models::any_symbols::{Row, plain, plain_entry};
 use constriction_test_models::conversions::Decoder;
+use constriction_test_models::lookup_any_symbols::Lookup;
 use constriction_test_models::symbol_types::{Letter, letters};
 use std::alloc::{AllocError, Global};
 use std::hash::{Hash, Hasher};
@@ -48,6 +49,8 @@ impl Hash for Tag {
 
 type TagDecoder = Decoder<Tag, 6>;
 
+type TagLookup = Lookup<Tag, 6>;
+
 type TagEncoder = Encoder<Tag, 6>;
 
 /// The row of an answer, with the number of its tag.
@@ -76,6 +79,16 @@ fn decoded(alloc: Global, [first, second]: [u32; 2]) -> Result<TagRows, ModelErr
     }
 }
 
+/// Why there is no lookup model of the same tags.
+fn lookup_refusal(alloc: Global, [first, second]: [u32; 2]) -> Option<ModelError> {
+    let tags = [Tag(first), Tag(second)];
+    let weights = [32, 32];
+    let made = TagLookup::from_symbols_and_nonzero_fixed_point_probabilities(
+        alloc, tags, weights, false,
+    );
+    made.err()
+}
+
 /// The entry of a tag in the encoder's model of the same tags.
 fn encoded(
     alloc: Global,
@@ -98,6 +111,7 @@ const TAG_ROWS: TagRows = [Some((12, 0, 32)), Some((3, 32, 32))];
 #[test]
 fn tags_are_told_by_their_own_equality(rt: HostRuntime) {
     same(&rt, decoded(rt.alloc(), [12, 3]), Ok(TAG_ROWS));
+    same(&rt, lookup_refusal(rt.alloc(), [12, 3]), None);
     same(&rt, encoded(rt.alloc(), [12, 3], 13), Ok(Some((32, 32))));
     same(&rt, encoded(rt.alloc(), [12, 3], 4), Ok(None));
 }
@@ -106,6 +120,8 @@ fn tags_are_told_by_their_own_equality(rt: HostRuntime) {
 fn tags_of_one_last_digit_are_refused(rt: HostRuntime) {
     let invalid = ModelError::InvalidTable;
     same(&rt, decoded(rt.alloc(), [12, 2]), Err(invalid));
+    let invalid = ModelError::InvalidTable;
+    same(&rt, lookup_refusal(rt.alloc(), [12, 2]), Some(invalid));
     let invalid = ModelError::InvalidTable;
     same(&rt, encoded(rt.alloc(), [12, 2], 2), Err(invalid));
 }

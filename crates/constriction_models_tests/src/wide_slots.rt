@@ -66,6 +66,26 @@ fn a_slot_is_searched_where_more_rows_than_one_meet_it(rt: HostRuntime) {
     }
 }
 
+/// A lookup model of bytes, at their full width.
+type Bytes = ContiguousLookupDecoderModel<u8, Vec<u8>, Vec<u8>, 8>;
+
+/// The index of the row of a quantile, and how often a search of its slot asked.
+fn searched_byte(model: &Bytes, quantile: u8) -> (usize, usize) {
+    let (first, mut rows) = model.quantile_probe(quantile);
+    let index = row_of_quantile(&mut rows, quantile);
+    (first.wrapping_add(index), rows.asked())
+}
+
+#[test]
+fn a_slot_of_one_quantile_is_not_searched(rt: HostRuntime) {
+    let made = Bytes::from_nonzero_fixed_point_probabilities(rt.alloc(), [128, 128], false);
+    let model = made.expect(&rt, "accepted");
+    for quantile in 0..=u8::MAX {
+        let index = usize::from(quantile / 128);
+        same_at(&rt, quantile, searched_byte(&model, quantile), (index, 0));
+    }
+}
+
 #[test]
 fn each_quantile_of_16_bits_may_have_a_row_of_its_own(rt: HostRuntime) {
     let ones = iter::repeat_n(1u16, 65_536);

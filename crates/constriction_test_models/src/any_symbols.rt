@@ -87,26 +87,3 @@ pub fn plain_entry(answer: Option<(u8, Weight<u8>)>) -> Option<(u8, u8)> {
 pub fn entry<const PRECISION: usize>(model: &Encoder<PRECISION>, symbol: char) -> Option<(u8, u8)> {
     plain_entry(model.left_cumulative_and_probability(&symbol))
 }
-
-/// Whether a step is from the back, how many rows are left before it, and the row that it gives.
-pub type Step = (bool, usize, Option<Result<Row, AllocError>>);
-
-/// From the back alone, and from both ends.
-pub const STEPS: [[Step; 6]; 2] = [
-    [
-        (true, 4, Some(Ok(('y', 22, 42)))),
-        (true, 3, Some(Ok(('c', 21, 1)))),
-        (true, 2, Some(Ok(('x', 3, 18)))),
-        (true, 1, Some(Ok(('a', 0, 3)))),
-        (true, 0, None),
-        (false, 0, None),
-    ],
-    [
-        (false, 4, Some(Ok(('a', 0, 3)))),
-        (true, 3, Some(Ok(('y', 22, 42)))),
-        (true, 2, Some(Ok(('c', 21, 1)))),
-        (false, 1, Some(Ok(('x', 3, 18)))),
-        (false, 0, None),
-        (true, 0, None),
-    ],
-];

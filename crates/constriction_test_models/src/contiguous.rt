@@ -28,15 +28,3 @@ pub fn weighted<const PRECISION: usize>(
 {
     Weighted::from_nonzero_fixed_point_probabilities(alloc, weights.iter().copied(), infer)
 }
-
-/// The row of a quantile by a plain scan of the weights.
-pub fn row_by_scan(weights: &[u8], quantile: u8) -> Option<(usize, u8, u8)> {
-    let mut left = 0u8;
-    for (symbol, weight) in weights.iter().enumerate() {
-        if quantile >= left && quantile - left < *weight {
-            return Some((symbol, left, *weight));
-        }
-        left = left.wrapping_add(*weight);
-    }
-    None
-}

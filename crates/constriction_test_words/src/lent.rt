@@ -98,7 +98,6 @@ pub fn move_a_view<Buf: SafeBufMut<u8>>(cursor: &mut Cursor<u8, Buf>)
     ensures len { length (Buf.words_of (buf_of cursor.new)) ≡ length (Buf.words_of (buf_of cursor.old)) }
 {
     let mut view = cursor.as_mut_view();
-    let _ = view.seek(0);
     let _ = view.write(8);
 }
 

@@ -22,6 +22,14 @@ use std::process::Abort;
 /// A chain that leaves the form with a lookup table.
 const STEPS: [ChainStep; 2] = [ChainStep::ToLookup, ChainStep::Rebuild];
 
+/// A chain that leaves it with a lookup table again.
+const AGAIN: [ChainStep; 4] = [
+    ChainStep::ToLookup,
+    ChainStep::Rebuild,
+    ChainStep::IntoSearch,
+    ChainStep::ToLookup,
+];
+
 /// Stops the test where a form has no lookup table.
 fn has_lookup_table<S, T>(rt: &impl Abort, form: &SearchOrLookup<S, T>) {
     let looks_up = match form {
@@ -73,7 +81,7 @@ fn of_letters(
 ) -> Result<FormAndReplies<char, u8, 6>, ModelError> {
     let symbols = SYMBOLS.to_vec(alloc).expect(rt, "memory");
     let weights = weights.to_vec(alloc).expect(rt, "memory");
-    answer_from_symbols_and_weights::<_, _, 6>(alloc, symbols, weights, false, &STEPS, &LETTERS)
+    answer_from_symbols_and_weights::<_, _, 6>(alloc, symbols, weights, false, &AGAIN, &LETTERS)
 }
 
 #[test]

@@ -1,0 +1,45 @@
+//! Models of each kind, asked in both directions: each symbol and each quantile of it, each quantile and its symbol, and a walk
+//! through all rows.
+
+use crate::checks::same;
+use crate::model_checks::small;
+use constriction::stream::model::{FromIterableEntropyModel, UniformModel};
+use constriction_test_models::any_symbols::{SYMBOLS, WEIGHTS, decoder, encoder};
+use constriction_test_models::intervals::{agree, has_rows_of};
+use constriction_test_models::lookup_any_symbols::Lookup;
+
+/// The symbols of a model of four weights.
+const NUMBERS: [usize; 4] = [0, 1, 2, 3];
+
+#[test]
+fn a_model_of_weights_and_its_lookup_model_agree(rt: HostRuntime) {
+    let model = small(&rt, rt.alloc());
+    same(&rt, agree(&model, &model, &NUMBERS), Ok(true));
+    same(&rt, has_rows_of(&model, &NUMBERS), Ok(true));
+    let lookup = model
+        .to_lookup_decoder_model(rt.alloc())
+        .expect(&rt, "memory");
+    same(&rt, agree(&model, &lookup, &NUMBERS), Ok(true));
+    same(&rt, has_rows_of(&lookup, &NUMBERS), Ok(true));
+}
+
+#[test]
+fn a_uniform_model_agrees_with_itself(rt: HostRuntime) {
+    let model = UniformModel::<u8, 6>::new(5);
+    let symbols = [0, 1, 2, 3, 4];
+    same(&rt, agree(&model, &model, &symbols), Ok(true));
+    same(&rt, has_rows_of(model, &symbols), Ok(true));
+}
+
+#[test]
+fn an_encoder_a_decoder_and_a_lookup_model_of_letters_agree(rt: HostRuntime) {
+    let decoder = decoder::<6>(rt.alloc(), &SYMBOLS, &WEIGHTS, false).expect(&rt, "accepted");
+    let encoder = encoder::<6>(rt.alloc(), &SYMBOLS, &WEIGHTS, false).expect(&rt, "accepted");
+    same(&rt, agree(&encoder, &decoder, &SYMBOLS), Ok(true));
+    same(&rt, has_rows_of(&decoder, &SYMBOLS), Ok(true));
+    let lookup: Lookup<char, 6> = Lookup::from_iterable_entropy_model(rt.alloc(), &decoder).expect(
+        &rt, "a model",
+    );
+    same(&rt, agree(&encoder, &lookup, &SYMBOLS), Ok(true));
+    same(&rt, has_rows_of(&lookup, &SYMBOLS), Ok(true));
+}
