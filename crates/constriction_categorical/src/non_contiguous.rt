@@ -19,8 +19,7 @@ use constriction_buffers::SafeBuf;
 use constriction_model::{DecoderModel, EntropyModel, ModelError, Probe, Weight, row_in_probe};
 use constriction_numbers::WholeNumber;
 use constriction_stored_rows::{
-    CdfProbe, WithSymbol, cloned_row_at, entries_announced, entries_cloned, room_for, rows_read,
-    words_beside,
+    CdfProbe, WithSymbol, cloned_row_at, entries_announced, entries_cloned, rows_read, words_beside,
 };
 use std::alloc::{AllocError, Global};
 use std::marker::PhantomData;
@@ -92,11 +91,12 @@ fn entries_compared<
     ensures distinct { IfOk result (λ v. IsDistinct Symbol.eq (map (λ x. x.1) v.items)) }
 {
     let symbols = symbols.into_iter();
-    let room = room_for(alloc, entries_announced::<PRECISION>(symbols.size_hint().0));
+    let weights = weights.into_iter();
+    let room = Vec::with_capacity(alloc, entries_announced::<PRECISION>(symbols.size_hint().0))?;
     rows_read::<P, Symbol, Vec<(P, Symbol)>, _, _, PRECISION>(
         room,
         symbols,
-        weights.into_iter(),
+        weights,
         infer_last,
     )
 }

@@ -1,13 +1,13 @@
 //! Hash tables of entries.
 
 ghost use Rattle.std.specs.Prelude.{◌≡◌, cond, is_some, IsOk, true, false, ⊤};
-ghost use Rattle.std.specs.HashMap.{get, IsEmpty, IsUnique};
+ghost use Rattle.std.specs.HashMap.{get, IsUnique};
 ghost use Rattle.constriction_stored_rows.specs.Filling.{HoldsEntries};
 
 use constriction_model::{ModelError, Weight};
 use constriction_numbers::WholeNumber;
 use constriction_stored_rows::TakesRows;
-use std::alloc::{AllocError, Global};
+use std::alloc::AllocError;
 use std::collections::HashMap;
 use std::fmt::Debug;
 use std::hash::Hash;
@@ -30,21 +30,6 @@ impl<Word: Copy, Positive: Copy> Clone for Entry<Word, Positive> {
 }
 
 impl<Word: Copy, Positive: Copy> Copy for Entry<Word, Positive> {}
-
-/// An empty hash table with room for so many symbols, where memory for that is not refused.
-#[inline]
-pub fn table_for<Symbol: Hash + Eq + Drop, Value: Drop>(
-    alloc: Global,
-    announced: usize,
-) -> HashMap<Symbol, Value>
-    ensures empty { IsEmpty result }
-    ensures unique { IsUnique Symbol.eq result }
-{
-    match HashMap::with_capacity(alloc, announced) {
-        Ok(room) => room,
-        Err(_) => HashMap::new(alloc),
-    }
-}
 
 /// Puts a value at a symbol. `InvalidTable` comes exactly where there is one at an equal symbol, which is
 /// then lost: the hash table is of no use any more.

@@ -10,7 +10,7 @@ ghost use Rattle.constriction_conversions.specs.Hashed.{rows_of_table};
 ghost use Rattle.constriction_model.specs.Model.{LiesWithin, StandForRows};
 ghost use Rattle.constriction_model.specs.Precision.{IsPrecision};
 
-use crate::hash_table::{Entry, HashedRows, table_for};
+use crate::hash_table::{Entry, HashedRows};
 use constriction_model::{EncoderModel, EntropyModel, ModelError, Weight};
 use constriction_numbers::WholeNumber;
 use constriction_stored_rows::{rows_announced, rows_read};
@@ -136,7 +136,11 @@ impl<
             Probability.whole (λ m ss ws. AreHashedRowsOf Symbol.eq (encoder_model_rows m) ss ws) result }
     {
         let symbols = symbols.into_iter();
-        let table = table_for(alloc, rows_announced::<PRECISION>(symbols.size_hint().0));
+        let probabilities = probabilities.into_iter();
+        let table = HashMap::with_capacity(
+            alloc,
+            rows_announced::<PRECISION>(symbols.size_hint().0),
+        )?;
         let read = rows_read::<
             Probability,
             Symbol,
@@ -147,7 +151,7 @@ impl<
         >(
             HashedRows { table },
             symbols,
-            probabilities.into_iter(),
+            probabilities,
             infer_last_probability,
         )?;
         Ok(Self { table: read.table })

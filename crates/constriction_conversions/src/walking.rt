@@ -8,9 +8,9 @@ ghost use Rattle.constriction_stored_rows.specs.Filling.{HoldsEntries};
 ghost use Rattle.constriction_model.specs.Model.{row_of};
 ghost use Rattle.constriction_conversions.specs.Walked.{WalkedGood, WalkedBad};
 
-use crate::hash_table::{Entry, table_for};
+use crate::hash_table::Entry;
 use constriction_model::ModelError;
-use constriction_stored_rows::{and_item, entries_announced, has_symbol, room_for, rows_announced};
+use constriction_stored_rows::{and_item, entries_announced, has_symbol, rows_announced};
 use std::alloc::{AllocError, Global};
 use std::collections::HashMap;
 use std::hash::Hash;
@@ -35,7 +35,7 @@ where
     ensures invalid { result ≡ Err ModelError.InvalidTable
         → WalkedBad Walk.next_gives walk (λ xs. IsDistinct Symbol.eq (map (λ x. x.0) xs)) }
 {
-    let mut cdf = room_for(alloc, entries_announced::<PRECISION>(walk.size_hint().0));
+    let mut cdf = Vec::with_capacity(alloc, entries_announced::<PRECISION>(walk.size_hint().0))?;
     'rows: while let Some(row) = walk.next() {
         let (symbol, left, _weight) = row?;
         if has_symbol(&cdf, &symbol) {
@@ -65,7 +65,7 @@ where
     ensures { IfOk result (λ v. WalkedGood Walk.next_gives walk (λ xs. v.items ≡ map (λ x. (x.1, x.0)) xs)) }
 {
     let (least, most) = walk.size_hint();
-    let entries = room_for(alloc, entries_announced::<PRECISION>(least));
+    let entries = Vec::with_capacity(alloc, entries_announced::<PRECISION>(least))?;
     match most {
         Some(most) if most <= entries.capacity() => entries_reserved(entries, walk),
         _ => entries_grown(entries, walk),
@@ -136,7 +136,7 @@ where
         (whole : Word → ℕ) (base : Positive → Word) → HoldsEntries Symbol.eq
         (λ e. (whole e.left, whole (base e.weight))) (get Symbol.eq t) (map (row_of whole base) xs))) }
 {
-    let mut table = table_for(alloc, rows_announced::<PRECISION>(walk.size_hint().0));
+    let mut table = HashMap::with_capacity(alloc, rows_announced::<PRECISION>(walk.size_hint().0))?;
     'rows: while let Some(row) = walk.next() {
         let (symbol, left, weight) = row?;
         table.insert(symbol, Entry { left, weight })?;

@@ -106,19 +106,6 @@ pub fn entries_announced<const PRECISION: usize>(announced: usize) -> usize
     rows_announced::<PRECISION>(announced).saturating_add(1)
 }
 
-/// An empty list with room for so many items, where memory for that is not refused: what refuses the
-/// items that come decides nothing yet.
-#[inline]
-pub fn room_for<T: Drop>(alloc: Global, announced: usize) -> Vec<T>
-    ensures empty { result.items ≡ [] }
-    ensures capacity { vec_capacity result ≤ announced }
-{
-    match Vec::with_capacity(alloc, announced) {
-        Ok(room) => room,
-        Err(_) => Vec::new(alloc),
-    }
-}
-
 /// A copy of these words, in one allocation.
 #[inline]
 pub fn copied<W: Copy>(alloc: Global, words: &[W]) -> Result<Vec<W>, AllocError>
@@ -252,9 +239,9 @@ pub fn cdf_of<P: WholeNumber, I: IntoIterator<Item = P>, const PRECISION: usize>
         × IsNoCdf I.IntoIter.next_gives it P.whole P.BITS PRECISION infer_last }
 {
     let mut rest = weights.into_iter();
-    let cdf = room_for(
+    let cdf = Vec::with_capacity(
         alloc,
         words_needed::<PRECISION>(rest.size_hint().0, infer_last),
-    );
+    )?;
     filled::<P, I::IntoIter, PRECISION>(cdf, &mut rest, infer_last)
 }

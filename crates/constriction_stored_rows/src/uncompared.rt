@@ -6,7 +6,7 @@ ghost use Rattle.constriction_model.specs.Acceptance.{completed, AreAccepted, Wa
 ghost use Rattle.constriction_stored_rows.specs.Filling.{HoldsRows};
 ghost use Rattle.constriction_model.specs.Rows.{rows_of};
 
-use crate::filling::{entries_announced, room_for};
+use crate::filling::entries_announced;
 use crate::reading::{TakesRows, rows_read};
 use constriction_model::ModelError;
 use constriction_numbers::WholeNumber;
@@ -50,11 +50,12 @@ pub fn entries_read<
         P.whole (λ v ss ws. HoldsRows P.whole v.items (rows_of ss ws)) result }
 {
     let symbols = symbols.into_iter();
-    let entries = room_for(alloc, entries_announced::<PRECISION>(symbols.size_hint().0));
+    let weights = weights.into_iter();
+    let entries = Vec::with_capacity(alloc, entries_announced::<PRECISION>(symbols.size_hint().0))?;
     let read = rows_read::<P, Symbol, Uncompared<P, Symbol>, _, _, PRECISION>(
         Uncompared { entries },
         symbols,
-        weights.into_iter(),
+        weights,
         infer_last,
     )?;
     Ok(read.entries)

@@ -7,7 +7,7 @@ use Rattle.constriction_categorical.proofs.non_contiguous.entries_compared.Goals
 
 pub rows_read-requires-clause-none : goal.rows_read-requires-clause-none
 rows_read-requires-clause-none g c =
-    rw c.room_for-room.ensures.empty (refl, refl)
+    rw c.in_ok-room.ensures.items (refl, refl)
 
 pub rows_read-requires-clause-symbols_go : goal.rows_read-requires-clause-symbols_go
 rows_read-requires-clause-symbols_go g c =
@@ -19,11 +19,11 @@ rows_read-requires-clause-symbols_end g c =
 
 pub rows_read-requires-clause-weights_go : goal.rows_read-requires-clause-weights_go
 rows_read-requires-clause-weights_go g c =
-    (c.requires.weights_end c.into_iter.result c.into_iter.ensures.into_iter_gives).0
+    (c.requires.weights_end c.into_iter-weights.result c.into_iter-weights.ensures.into_iter_gives).0
 
 pub rows_read-requires-clause-weights_end : goal.rows_read-requires-clause-weights_end
 rows_read-requires-clause-weights_end g c =
-    (c.requires.weights_end c.into_iter.result c.into_iter.ensures.into_iter_gives).1
+    (c.requires.weights_end c.into_iter-weights.result c.into_iter-weights.ensures.into_iter_gives).1
 
 pub returns-clause-told : goal.returns-clause-told
 returns-clause-told g c =
@@ -36,7 +36,7 @@ returns-clause-told g c =
     g.P.WholeNumber.whole
     (λ v ss ws. HoldsRows g.P.WholeNumber.whole v.items (rows_of ss ws))
     c.into_iter-symbols.result c.into_iter-symbols.ensures.into_iter_gives
-    c.into_iter.result c.into_iter.ensures.into_iter_gives c.rows_read.result c.rows_read.ensures.ok c.rows_read.ensures.invalid)
+    c.into_iter-weights.result c.into_iter-weights.ensures.into_iter_gives c.rows_read.result c.rows_read.ensures.ok c.rows_read.ensures.invalid)
 
 pub returns-clause-stored : goal.returns-clause-stored
 returns-clause-stored g c =
@@ -49,7 +49,7 @@ returns-clause-stored g c =
     g.P.WholeNumber.whole
     (λ v ss ws. HoldsRows g.P.WholeNumber.whole v.items (rows_of ss ws))
     c.into_iter-symbols.result c.into_iter-symbols.ensures.into_iter_gives
-    c.into_iter.result c.into_iter.ensures.into_iter_gives c.rows_read.result c.rows_read.ensures.ok c.rows_read.ensures.invalid)
+    c.into_iter-weights.result c.into_iter-weights.ensures.into_iter_gives c.rows_read.result c.rows_read.ensures.ok c.rows_read.ensures.invalid)
 
 pub returns-clause-distinct : goal.returns-clause-distinct
 returns-clause-distinct g c =
@@ -62,4 +62,4 @@ returns-clause-distinct g c =
     g.P.WholeNumber.whole
     (λ v ss ws. HoldsRows g.P.WholeNumber.whole v.items (rows_of ss ws))
     c.into_iter-symbols.result c.into_iter-symbols.ensures.into_iter_gives
-    c.into_iter.result c.into_iter.ensures.into_iter_gives c.rows_read.result c.rows_read.ensures.ok c.rows_read.ensures.invalid)
+    c.into_iter-weights.result c.into_iter-weights.ensures.into_iter_gives c.rows_read.result c.rows_read.ensures.ok c.rows_read.ensures.invalid)

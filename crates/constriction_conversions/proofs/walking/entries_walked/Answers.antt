@@ -5,8 +5,8 @@ pub rows-init : goal.rows-init
 rows-init g c = (
   c.requires.goes,
   c.requires.ends,
-  collected-none g.Walk.Iterator.next_gives c.args.walk g.Symbol.PartialEq.eq g.met.Symbol.Eq.laws.symm c.room_for-cdf.result.items
-      c.room_for-cdf.ensures.empty,
+  collected-none g.Walk.Iterator.next_gives c.args.walk g.Symbol.PartialEq.eq g.met.Symbol.Eq.laws.symm c.in_ok-cdf.cdf.items
+      c.in_ok-cdf.ensures.items,
 )
 
 pub rows-preserved : goal.rows-preserved

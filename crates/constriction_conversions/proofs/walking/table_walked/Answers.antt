@@ -9,9 +9,9 @@ rows-init g c =
     let eq = g.Symbol.PartialEq.eq in (
       c.requires.goes,
       c.requires.ends,
-      c.table_for-table.ensures.unique,
+      c.in_ok-table.ensures.unique,
       hashed-none g.Walk.Iterator.next_gives c.args.walk eq (λ whole base e. (whole e.left, whole (base e.weight)))
-          (get eq c.table_for-table.result) (λ s. ap (lookup (eq s)) c.table_for-table.ensures.empty),
+          (get eq c.in_ok-table.table) (λ s. ap (lookup (eq s)) c.in_ok-table.ensures.empty),
     )
 
 pub rows-preserved : goal.rows-preserved

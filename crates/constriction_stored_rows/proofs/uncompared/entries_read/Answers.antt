@@ -5,7 +5,7 @@ use Rattle.constriction_stored_rows.proofs.MadeLemmas.{made-unrefused, bad-both}
 use Rattle.constriction_stored_rows.proofs.uncompared.entries_read.Goals as goal
 
 pub rows_read-requires-clause-none : goal.rows_read-requires-clause-none
-rows_read-requires-clause-none g c = rw c.room_for-entries.ensures.empty (refl, refl)
+rows_read-requires-clause-none g c = rw c.in_ok-entries.ensures.items (refl, refl)
 
 pub rows_read-requires-clause-symbols_go : goal.rows_read-requires-clause-symbols_go
 rows_read-requires-clause-symbols_go g c =
@@ -16,10 +16,10 @@ rows_read-requires-clause-symbols_end g c =
     (c.requires.symbols_end c.into_iter-symbols.result c.into_iter-symbols.ensures.into_iter_gives).1
 
 pub rows_read-requires-clause-weights_go : goal.rows_read-requires-clause-weights_go
-rows_read-requires-clause-weights_go g c = (c.requires.weights_end c.into_iter.result c.into_iter.ensures.into_iter_gives).0
+rows_read-requires-clause-weights_go g c = (c.requires.weights_end c.into_iter-weights.result c.into_iter-weights.ensures.into_iter_gives).0
 
 pub rows_read-requires-clause-weights_end : goal.rows_read-requires-clause-weights_end
-rows_read-requires-clause-weights_end g c = (c.requires.weights_end c.into_iter.result c.into_iter.ensures.into_iter_gives).1
+rows_read-requires-clause-weights_end g c = (c.requires.weights_end c.into_iter-weights.result c.into_iter-weights.ensures.into_iter_gives).1
 
 pub returns : goal.returns
 returns g c =
@@ -33,7 +33,7 @@ returns g c =
           became = c.into_iter-symbols.ensures.into_iter_gives;
           was_read = read.2;
         },
-        record { iterator = c.into_iter.result; became = c.into_iter.ensures.into_iter_gives; was_read = read.3 },
+        record { iterator = c.into_iter-weights.result; became = c.into_iter-weights.ensures.into_iter_gives; was_read = read.3 },
         read.4.0,
         read.4.1,
       );
@@ -51,8 +51,8 @@ returns-in_err-read g c = record {
       (completed g.row.PRECISION c.args.infer_last (map g.P.WholeNumber.whole ws))) (
         c.into_iter-symbols.result,
         c.into_iter-symbols.ensures.into_iter_gives,
-        c.into_iter.result,
-        c.into_iter.ensures.into_iter_gives,
+        c.into_iter-weights.result,
+        c.into_iter-weights.ensures.into_iter_gives,
         c.rows_read.ensures.invalid e,
       );
 }

@@ -52,7 +52,7 @@ returns g c =
           became = c.into_iter-symbols.ensures.into_iter_gives;
           was_read = given.2;
         },
-        record { iterator = c.into_iter.result; became = c.into_iter.ensures.into_iter_gives; was_read = given.3 },
+        record { iterator = c.into_iter-probabilities.result; became = c.into_iter-probabilities.ensures.into_iter_gives; was_read = given.3 },
         good.0,
         (
           (λ s. table-entry_of eq laws (λ e. (whole e.left, whole (base e.weight))) c.in_ok-read.read.table.entries s good.1.0
@@ -67,12 +67,12 @@ returns g c =
 
 pub rows_read-requires-clause-none : goal.rows_read-requires-clause-none
 rows_read-requires-clause-none g c = (
-  c.table_for-table.ensures.unique,
+  c.in_ok-table.ensures.unique,
   λ s. ap (option_map (λ e. (
     g.Probability.WholeNumber.whole e.left,
     g.Probability.WholeNumber.whole (g.Probability.WholeNumber.base e.weight),
   )))
-      (ap (lookup (g.Symbol.PartialEq.eq s)) c.table_for-table.ensures.empty),
+      (ap (lookup (g.Symbol.PartialEq.eq s)) c.in_ok-table.ensures.empty),
 )
 
 pub rows_read-requires-clause-symbols_go : goal.rows_read-requires-clause-symbols_go
@@ -84,10 +84,10 @@ rows_read-requires-clause-symbols_end g c =
     (c.requires.symbols_end c.into_iter-symbols.result c.into_iter-symbols.ensures.into_iter_gives).1
 
 pub rows_read-requires-clause-weights_go : goal.rows_read-requires-clause-weights_go
-rows_read-requires-clause-weights_go g c = (c.requires.probabilities_end c.into_iter.result c.into_iter.ensures.into_iter_gives).0
+rows_read-requires-clause-weights_go g c = (c.requires.probabilities_end c.into_iter-probabilities.result c.into_iter-probabilities.ensures.into_iter_gives).0
 
 pub rows_read-requires-clause-weights_end : goal.rows_read-requires-clause-weights_end
-rows_read-requires-clause-weights_end g c = (c.requires.probabilities_end c.into_iter.result c.into_iter.ensures.into_iter_gives).1
+rows_read-requires-clause-weights_end g c = (c.requires.probabilities_end c.into_iter-probabilities.result c.into_iter-probabilities.ensures.into_iter_gives).1
 
 pub returns-in_err-read : goal.returns-in_err-read
 returns-in_err-read g c = record {
@@ -100,8 +100,8 @@ returns-in_err-read g c = record {
       (completed g.row.PRECISION c.args.infer_last_probability (map g.Probability.WholeNumber.whole ws))) (
         c.into_iter-symbols.result,
         c.into_iter-symbols.ensures.into_iter_gives,
-        c.into_iter.result,
-        c.into_iter.ensures.into_iter_gives,
+        c.into_iter-probabilities.result,
+        c.into_iter-probabilities.ensures.into_iter_gives,
         c.rows_read.ensures.invalid e,
       );
 }
