@@ -54,7 +54,6 @@ ANSWERS = [
             "constriction_sources/callbacks/fallible.rt": "WriteWords for FallibleCallbackWriteWords::write_gives",
         },
         {
-            "constriction_backends_tests/stacks.rt": "each_refusal_of_memory_keeps_the_words_before",
             "constriction_backends_tests/cursors.rt": "words_before_a_refused_one_stay_and_none_after_it_is_asked_for",
             "constriction_backends_tests/adapters.rt": "callers_know_what_their_callbacks_did",
         },
@@ -210,8 +209,9 @@ ANSWERS = [
         - What was lent stays as it was, but for what was done by then: words that `extend_from_iter` or a coder wrote before stay
         written. What was handed over by value is given up: an iterator, a form, a searching model that was to get a lookup table.
 
-        All tests with `refusal_of_memory` in their names have to pass whichever request is refused. `tools/refused-memory` refuses
-        each in turn; a release runs it, and the gate does not.""",
+        `tools/refused-memory` shows it for the calls of `refused-memory/program/`: it refuses each request of theirs in a run of its
+        own. The call whose request it is has to answer the refusal, each other call what it makes, and what is left is compared. The
+        gate runs it.""",
         {
             "constriction_model/traits.rt": "DecoderModel::quantile_function: refused",
             "constriction_sources/write.rt": "WriteWords::has_room, WriteWords::lacks_memory, WriteWords::room_suffices",
@@ -219,11 +219,9 @@ ANSWERS = [
             "constriction_backends/cursor/write.rt": "WriteWords for Cursor::has_room",
         },
         {
-            "constriction_models_tests/refused_memory.rt": "a_refusal_of_memory_leaves_the_model_that_others_are_made_from",
-            "constriction_models_tests/refused_lookup_memory.rt": "a_refusal_of_memory_leaves_the_searching_model",
-            "constriction_client_tests/chains.rt": "a_refusal_of_memory_gives_up_the_form",
-            "constriction_backends_tests/stacks.rt": "each_refusal_of_memory_keeps_the_words_before",
-            "constriction_programs_tests/refused_memory.rt": "a_refusal_of_memory_leaves_the_symbols_that_are_encoded",
+            "constriction_models_tests/symbol_types.rt": "a_refused_clone_stands_in_the_place_of_the_row_that_is_looked_up",
+            "constriction_client_tests/chains.rt": "a_refused_clone_refuses_a_chain",
+            "constriction_client_tests/queries.rt": "a_refused_clone_refuses_the_replies",
         },
     ),
     (

@@ -4,7 +4,7 @@
 
 use constriction_backends::{Cursor, SafeBuf};
 use constriction_words::Pos;
-use std::alloc::{AllocError, Global};
+use std::alloc::Global;
 use std::fmt::{Debug, Display};
 use std::process::Abort;
 
@@ -49,21 +49,4 @@ pub fn is_at<Buf: SafeBuf<u8>, const N: usize>(
 ) {
     same(rt, cursor.buf().words(), words.as_slice());
     same(rt, cursor.pos(), pos);
-}
-
-/// More requests for memory than any test makes.
-const MANY: usize = 10_000;
-
-/// Says how many requests for memory are answered from here on before one is refused, where one is.
-///
-/// Each test of refused memory ends with it. `tools/refused-memory`, which has one request of a test refused,
-/// learns from it how many the test makes, and whether the refused one was among them.
-pub fn end_of_requests(rt: &HostRuntime) {
-    for answered in 0..MANY {
-        let asked: Result<Vec<u8>, AllocError> = Vec::with_capacity(rt.alloc(), 1);
-        if asked.is_err() {
-            let _ = println!(rt; "requests answered after the test: {answered}");
-            return;
-        }
-    }
 }

@@ -3,13 +3,13 @@
 ghost use Rattle.std.specs.Prelude.{◌≡◌, ◌++◌, OnOk};
 ghost use Rattle.constriction_backends.specs.Cursor.{state_of};
 
-use crate::checks::{end_of_requests, is_at, same, vec_of};
+use crate::checks::{is_at, same, vec_of};
 use constriction_backends::{
     BoundedWriteError, Cursor, ReadWords, SafeBuf, SafeBufMut, WriteWords, laws,
 };
 use constriction_test_models::marked::Marked;
-use constriction_words::{Pos, Queue, Seek, Stack, UnwrapInfallible};
-use std::alloc::{AllocError, Global};
+use constriction_words::{Pos, Queue, Seek};
+use std::alloc::Global;
 use std::process::Abort;
 
 /// A cursor begins at the end that its constructor names, or at the position that it is given.
@@ -116,50 +116,4 @@ fn positions_past_the_end_are_refused(rt: HostRuntime) {
     let read = Cursor::<u8, &[u8]>::new_at_pos(&words, 4).is_err();
     let written = Cursor::<u8, &mut [u8]>::new_at_pos_mut(&mut words, 4).is_err();
     same(&rt, [read, written], [true, true]);
-}
-
-/// A copy asks for memory once. Where that is refused, the cursor is as it was.
-#[test]
-fn a_refusal_of_memory_leaves_the_cursor_that_is_copied(rt: HostRuntime) {
-    let words = [10u8, 20, 30];
-    let cursor = Cursor::<u8, _>::new_at_write_end(words.as_slice());
-    match cursor.cloned(rt.alloc()) {
-        Ok(copy) => same(&rt, copy.written(), words.as_slice()),
-        Err(AllocError) => {}
-    }
-    same(&rt, cursor.written(), words.as_slice());
-    same(&rt, cursor.pos(), 3);
-    end_of_requests(&rt);
-}
-
-/// Two words that are written over those of a cursor, where it stands then, and the one that is read back.
-fn written_over(cursor: &mut Cursor<u8, Vec<u8>>) -> (bool, usize, Option<u8>) {
-    let taken = cursor.write(1).is_ok() && cursor.write(2).is_ok() && cursor.seek(9).is_err();
-    let pos = cursor.pos();
-    (
-        taken,
-        pos,
-        ReadWords::<u8, Stack>::read(cursor).unwrap_infallible(),
-    )
-}
-
-/// The word that a cursor which was turned round reads, and whether it takes three words then, and no fourth one.
-fn turned_round(cursor: Cursor<u8, Vec<u8>>) -> (Option<u8>, bool) {
-    let mut turned = cursor.into_reversed();
-    let word = ReadWords::<u8, Stack>::read(&mut turned).unwrap_infallible();
-    let taken = turned.write(3).is_ok() && turned.write(4).is_ok() && turned.write(5).is_ok();
-    (word, taken && turned.write(6).is_err())
-}
-
-/// Words are held where memory was given for them. Reads, seeks and writes over them then ask for no memory, and succeed.
-#[test]
-fn a_refusal_of_memory_leaves_words_that_are_read_and_written_over(rt: HostRuntime) {
-    if let Ok(mut words) = Vec::from_array(rt.alloc(), [10, 20, 30, 40]) {
-        let last = ReadWords::<u8, Stack>::read(&mut words).unwrap_infallible();
-        same(&rt, last, Some(40));
-        let mut cursor = Cursor::<u8, Vec<u8>>::new_at_write_beginning(words);
-        same(&rt, written_over(&mut cursor), (true, 2, Some(2)));
-        same(&rt, turned_round(cursor), (Some(1), true));
-    }
-    end_of_requests(&rt);
 }

@@ -2,7 +2,7 @@
 
 ghost use Rattle.std.specs.Prelude.{◌≡◌, ◌<◌, [], Some, None, Ok, IfSome, IsOk, length, vec_capacity};
 
-use crate::checks::{end_of_requests, holds, same, vec_of};
+use crate::checks::{holds, same, vec_of};
 use constriction_backends::{Cursor, ReadWords, Reverse, WordStack, WriteWords, laws};
 use constriction_words::{Queue, ReadWriteError, Stack};
 use smallvec::SmallVec;
@@ -24,48 +24,7 @@ where
     words.extend_from_iter(more.iter().copied())
 }
 
-/// It holds 1, 2, 3 and 4, or the first two where memory for the others was refused.
-fn holds_all_or_two(rt: &impl Abort, words: &Two, answer: Result<(), AllocError>) {
-    match answer {
-        Ok(()) => same(rt, words.as_slice(), [1, 2, 3, 4].as_slice()),
-        Err(AllocError) => same(rt, words.as_slice(), [1, 2].as_slice()),
-    }
-}
-
-/// Each stack asks for memory once, the second one within a call that has written two words by then. Where that is
-/// refused, the first two words stay.
-#[test]
-fn a_refusal_of_memory_leaves_words_within_the_value(rt: HostRuntime) {
-    let mut words: Two = SmallVec::new(rt.alloc());
-    same(&rt, [words.write(1), words.write(2)], [Ok(()), Ok(())]);
-    let answer = extended(&mut words, &[3, 4]);
-    holds_all_or_two(&rt, &words, answer);
-    let mut words: Two = SmallVec::new(rt.alloc());
-    let answer = extended(&mut words, &[1, 2, 3, 4]);
-    holds_all_or_two(&rt, &words, answer);
-    end_of_requests(&rt);
-}
-
 const NINE: [u8; 9] = [1, 2, 3, 4, 5, 6, 7, 8, 9];
-
-/// Nine words are held, or a beginning of them where memory was refused.
-fn holds_a_beginning(rt: &impl Abort, held: &[u8], answer: Result<(), AllocError>) {
-    same(rt, held.len() < NINE.len(), answer.is_err());
-    same(rt, NINE.starts_with(held), true);
-}
-
-/// Nine words make a `Vec` and a `SmallVec` grow more than once. Whichever growth is refused, the
-/// words before the refused one stand.
-#[test]
-fn each_refusal_of_memory_keeps_the_words_before(rt: HostRuntime) {
-    let mut vec = Vec::new(rt.alloc());
-    let answer = extended(&mut vec, &NINE);
-    holds_a_beginning(&rt, vec.as_slice(), answer);
-    let mut small: Two = SmallVec::new(rt.alloc());
-    let answer = extended(&mut small, &NINE);
-    holds_a_beginning(&rt, small.as_slice(), answer);
-    end_of_requests(&rt);
-}
 
 /// The word 7, so often. It stops the test where memory is refused.
 fn sevens(rt: &impl Abort, alloc: Global, count: usize) -> Vec<u8> {

@@ -5,7 +5,7 @@ ghost use Rattle.constriction.specs.Model.{ClonesAreEqual};
 ghost use Rattle.constriction_client.specs.Chains.{ChainLeaves};
 ghost use Rattle.constriction_client.specs.declared.chain.ChainStep.TheVariants.{ToLookup, Rebuild, IntoSearch};
 
-use crate::checks::{end_of_requests, same};
+use crate::checks::same;
 use constriction::stream::model::{
     DecoderModel, EntropyModel, IterableEntropyModel, ModelError, NonContiguousSymbolTable,
     SmallNonContiguousCategoricalDecoderModel,
@@ -17,18 +17,6 @@ use constriction_test_models::symbol_types::letters;
 use constriction_words::{IndexWord, NonZeroBitArray};
 use std::alloc::Global;
 use std::process::Abort;
-
-/// Whether a chain leaves a form of letters that searches, if it is not refused.
-fn is_searching_after(
-    alloc: Global,
-    form: DecoderForm<char, u8, 6>,
-    steps: &[ChainStep],
-) -> Result<bool, ModelError> {
-    match convert_chain(alloc, form, steps) {
-        Ok(made) => Ok(matches!(made, DecoderForm::Search(_))),
-        Err(refusal) => Err(refusal),
-    }
-}
 
 /// A caller over any symbols and words. It turns a form into one that looks up, makes it anew and turns it into one that
 /// searches, and it knows the rows of that.
@@ -130,26 +118,4 @@ fn a_refused_clone_refuses_a_chain(rt: HostRuntime) {
         let refusal = refusal_of(rt.alloc(), steps);
         same(&rt, refusal, Some(ModelError::OutOfMemory));
     }
-}
-
-/// Each kind of step, and a rebuilding of each form.
-const EACH_STEP: [ChainStep; 5] = [
-    ChainStep::ToSearch,
-    ChainStep::Rebuild,
-    ChainStep::ToLookup,
-    ChainStep::Rebuild,
-    ChainStep::IntoSearch,
-];
-
-/// Whichever request for memory is refused, the form is then given up.
-#[test]
-fn a_refusal_of_memory_gives_up_the_form(rt: HostRuntime) {
-    let Ok(searching) = decoder::<6>(rt.alloc(), &SYMBOLS, &WEIGHTS, false) else {
-        return;
-    };
-    match is_searching_after(rt.alloc(), DecoderForm::Search(searching), &EACH_STEP) {
-        Ok(is_searching) => same(&rt, is_searching, true),
-        Err(error) => same(&rt, error, ModelError::OutOfMemory),
-    }
-    end_of_requests(&rt);
 }

@@ -3,7 +3,7 @@
 //! A proof of `assert_eq!` costs much and a call of these costs nothing, so tests call these.
 
 use constriction_test_models::contiguous::{WEIGHTS, Weighted, weighted};
-use std::alloc::{AllocError, Global};
+use std::alloc::Global;
 use std::fmt::{Debug, Display};
 use std::process::Abort;
 
@@ -31,21 +31,4 @@ pub fn small(rt: &impl Abort, alloc: Global) -> Weighted<6> {
 pub fn prints<T: Display>(rt: &impl Abort, alloc: Global, value: &T, text: &str) {
     let printed = format!(in alloc; "{value}").expect(rt, "memory");
     same(rt, printed.as_str(), text);
-}
-
-/// More requests for memory than any test makes.
-const MANY: usize = 10_000;
-
-/// Says how many requests for memory are answered from here on before one is refused, where one is.
-///
-/// Each test of refused memory ends with it. `tools/refused-memory`, which has one request of a test refused,
-/// learns from it how many the test makes, and whether the refused one was among them.
-pub fn end_of_requests(rt: &HostRuntime) {
-    for answered in 0..MANY {
-        let asked: Result<Vec<u8>, AllocError> = Vec::with_capacity(rt.alloc(), 1);
-        if asked.is_err() {
-            let _ = println!(rt; "requests answered after the test: {answered}");
-            return;
-        }
-    }
 }

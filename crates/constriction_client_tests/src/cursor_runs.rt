@@ -4,7 +4,7 @@ ghost use Rattle.std.specs.Prelude.{◌≡◌, IfOk};
 ghost use Rattle.constriction_backends.specs.Cursor.{state_of};
 ghost use Rattle.constriction_backends.specs.CursorState.{reversal};
 
-use crate::checks::{end_of_requests, holds, same, vec_of};
+use crate::checks::{holds, same, vec_of};
 use constriction_backends::{Cursor, Reverse, SafeBuf, SafeBufMut};
 use constriction_client::laws::{run_cursor_and_reversal, runs_are_alike};
 use constriction_client::{CursorCall, CursorReply, run_cursor, run_reversed};
@@ -111,48 +111,4 @@ fn a_cursor_and_its_reversal_are_run_together(rt: HostRuntime) {
     let found = replies_of_both(rt.alloc(), &mut cursor, &CALLS);
     both_are(&rt, found, &REPLIES);
     same(&rt, words, [10, 99, 30]);
-}
-
-/// Calls that move a cursor over 10, 20, 30 to 1 and overwrite a word, if memory is there.
-const CHANGES: [CursorCall<u8>; 2] = [CursorCall::Seek(0), CursorCall::Write(7)];
-
-/// The words and the position of a cursor over 10, 20, 30 at 3 after these, if they were run, and those of its reversal.
-fn after_changes(were_run: bool) -> [([u8; 3], usize); 2] {
-    if were_run {
-        [([7, 20, 30], 1), ([30, 20, 7], 2)]
-    } else {
-        [([10, 20, 30], 3), ([30, 20, 10], 0)]
-    }
-}
-
-/// Where the replies are refused, nothing was run: on a cursor, and on a reversal.
-#[test]
-fn a_refusal_of_memory_leaves_a_cursor_or_a_reversal(rt: HostRuntime) {
-    let mut words = [10u8, 20, 30];
-    let mut cursor = Cursor::<u8, &mut [u8]>::new_at_write_end_mut(&mut words);
-    let were_run = run_cursor(rt.alloc(), &mut cursor, &CHANGES).is_ok();
-    let pos = cursor.pos();
-    let [expected, _] = after_changes(were_run);
-    same(&rt, (words, pos), expected);
-    let mut words = [30u8, 20, 10];
-    let mut reversed = Reverse(Cursor::<u8, &mut [u8]>::new_at_write_beginning(&mut words));
-    let were_run = run_reversed(rt.alloc(), &mut reversed, &CHANGES).is_ok();
-    let pos = reversed.0.pos();
-    let [_, expected] = after_changes(were_run);
-    same(&rt, (words, pos), expected);
-    end_of_requests(&rt);
-}
-
-/// The same where both run together: where memory for the replies of one of them is refused, nothing is run on either.
-#[test]
-fn a_refusal_of_memory_leaves_a_cursor_and_its_reversal(rt: HostRuntime) {
-    let mut words = [10u8, 20, 30];
-    let mut turned = [30u8, 20, 10];
-    let mut cursor = Cursor::<u8, &mut [u8]>::new_at_write_end_mut(&mut words);
-    let mut reversed = Reverse(Cursor::<u8, &mut [u8]>::new_at_write_beginning(&mut turned));
-    let found = run_cursor_and_reversal(rt.alloc(), &mut cursor, &mut reversed, &CHANGES);
-    let (pos, turned_pos) = (cursor.pos(), reversed.0.pos());
-    let expected = after_changes(found.is_ok());
-    same(&rt, [(words, pos), (turned, turned_pos)], expected);
-    end_of_requests(&rt);
 }

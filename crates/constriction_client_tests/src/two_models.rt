@@ -5,15 +5,13 @@ ghost use Rattle.std.specs.Cmp.{nat_eq_equiv};
 ghost use Rattle.std.proofs.Common.{lit<, lit≤, rules};
 ghost use Rattle.constriction.specs.Rows.{entry_of};
 
-use crate::checks::{end_of_requests, holds, same, small};
+use crate::checks::{holds, same, small};
 use crate::items::Letters;
-use constriction::stream::model::{DecoderModel, EncoderModel, EntropyModel, ModelError, Weight};
+use constriction::stream::model::{DecoderModel, EncoderModel, EntropyModel, Weight};
 use constriction_backends::{BoundedWriteError, Cursor};
 use constriction_client::QuantileFault;
-use constriction_client::laws::{
-    CursorFault, decoder_and_encoder, there_and_back_in_a_cursor, there_and_back_of_two,
-};
-use constriction_test_models::contiguous::{WEIGHTS, Weighted, weighted};
+use constriction_client::laws::{CursorFault, there_and_back_in_a_cursor, there_and_back_of_two};
+use constriction_test_models::contiguous::{WEIGHTS, Weighted};
 use constriction_test_models::given::of_four;
 use constriction_words::{BitArray, CoderError, Pos, ReadWriteError, Seek};
 use std::alloc::{AllocError, Global};
@@ -148,58 +146,6 @@ fn a_cursor_keeps_the_words_before_a_refusal(rt: HostRuntime) {
     keeps_the_words(&rt, rt.alloc(), &model, &items, (too_large, [7, 2, 9], 2));
     let full = CoderError::Backend(ReadWriteError::Write(BoundedWriteError::OutOfSpace));
     keeps_the_words(&rt, rt.alloc(), &model, &ITEMS, (full, [7, 2, 63], 3));
-}
-
-/// The items come back in their order. Whichever request is refused, the words of all items stand then.
-#[test]
-fn a_refusal_of_memory_leaves_the_words_in_a_cursor(rt: HostRuntime) {
-    let Ok(model) = weighted::<6>(rt.alloc(), &WEIGHTS, false) else {
-        return;
-    };
-    let mut words = [7u8, 8, 9, 10, 11, 12];
-    let (back, pos) = in_a_cursor(rt.alloc(), &model, &ITEMS, &mut words);
-    match back {
-        Ok(items) => {
-            holds(&rt, &items, &ITEMS);
-            same(&rt, pos, 4);
-        }
-        Err(fault) => same(
-            &rt,
-            fault,
-            CoderError::Backend(ReadWriteError::Read(AllocError)),
-        ),
-    }
-    same(&rt, words, [7, 2, 63, 3, 11, 12]);
-    end_of_requests(&rt);
-}
-
-/// Whichever request is refused, nothing comes back from a stack then.
-#[test]
-fn a_refusal_of_memory_ends_the_way_by_two_models(rt: HostRuntime) {
-    let Ok(model) = weighted::<6>(rt.alloc(), &WEIGHTS, false) else {
-        return;
-    };
-    match back_of_two(rt.alloc(), &model, &model, &ITEMS) {
-        Ok(items) => holds(&rt, &items, &REVERSED),
-        Err(fault) => same(&rt, fault, CoderError::Backend(AllocError)),
-    }
-    end_of_requests(&rt);
-}
-
-/// Both models, or none where a request is refused.
-#[test]
-fn a_refusal_of_memory_leaves_no_decoder_and_no_encoder(rt: HostRuntime) {
-    let Ok(model) = weighted::<6>(rt.alloc(), &WEIGHTS, false) else {
-        return;
-    };
-    match decoder_and_encoder::<_, 6>(rt.alloc(), &model) {
-        Ok((decoder, encoder)) => {
-            let sizes = [decoder.support_size(), encoder.support_size()];
-            same(&rt, sizes, [4, 4]);
-        }
-        Err(error) => same(&rt, error, ModelError::OutOfMemory),
-    }
-    end_of_requests(&rt);
 }
 
 type Letter = (u8, u8);

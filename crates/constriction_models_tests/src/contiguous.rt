@@ -2,7 +2,7 @@
 
 ghost use Rattle.std.specs.Prelude.{◌^◌, ◌<◌};
 
-use crate::checks::{end_of_few_requests, same, shows};
+use crate::checks::{same, shows};
 use crate::model_checks::small;
 use constriction::stream::model::{
     DecoderModel, EncoderModel, IterableEntropyModel, ModelError, SmallUniformModel,
@@ -57,27 +57,13 @@ fn why_there_is_no_model_is_said_in_a_sentence(rt: HostRuntime) {
     }
 }
 
-/// More weights are announced than there is memory for. The first one is 0, so they are refused as invalid, and not for want of
-/// memory.
+/// Memory for as many words as the longest accepted list needs is enough to refuse 2^60 weights. If it were asked for all announced
+/// weights, it would be refused.
 #[test]
 fn an_announced_length_takes_no_memory_that_an_accepted_list_would_not(rt: HostRuntime) {
-    let none_and_many = iter::once(0u64).chain(iter::repeat_n(1u64, 1 << 60));
-    let refused = Model::<u64, 64>::from_nonzero_fixed_point_probabilities(
-        rt.alloc(),
-        none_and_many,
-        false,
-    );
-    same(&rt, refused.err(), Some(ModelError::InvalidTable));
-}
-
-/// One request, for as many words as the longest accepted list needs, is enough to refuse 2^60 weights. If memory for all
-/// announced weights were asked for, it would be refused, and there would be a request for each growth.
-#[test]
-fn a_refusal_of_memory_leaves_no_model_of_more_weights_than_quantiles(rt: HostRuntime) {
     let many = iter::repeat_n(1u64, 1 << 60);
     let made = Model::<u64, 8>::from_nonzero_fixed_point_probabilities(rt.alloc(), many, false);
-    same(&rt, made.is_err(), true);
-    end_of_few_requests(&rt, 1);
+    same(&rt, made.err(), Some(ModelError::InvalidTable));
 }
 
 /// The words of a contiguous model say where each row begins, and then the total.

@@ -4,9 +4,9 @@ ghost use Rattle.std.specs.Prelude.{◌<◌, nat_eq};
 ghost use Rattle.std.specs.List.{IsDistinct};
 ghost use Rattle.constriction.specs.Rows.{symbols_of};
 
-use crate::checks::{end_of_few_requests, end_of_requests, same, same_at};
+use crate::checks::{same, same_at};
 use crate::conversions::Encoder;
-use crate::model_checks::{has_row, is_made_or_refused, small};
+use crate::model_checks::{has_row, small};
 use constriction::laws::{
     contiguous_symbols_differ, non_contiguous_symbols_differ, symbols_and_weights_rebuild,
 };
@@ -217,38 +217,13 @@ fn refused_encoder(alloc: Global) -> Option<ModelError> {
     made.err()
 }
 
-/// Memory for the stored entries is asked for by one request, and that for a hash table by four. Each asks for as much as the
-/// longest accepted list needs, which is enough to refuse 2^60 symbols. If memory for all announced symbols were asked for, it
-/// would be refused, and there would be a request for each growth.
+/// Memory for as many entries as the longest accepted list needs is enough to refuse 2^60 symbols. If it were asked for all
+/// announced symbols, it would be refused.
 #[test]
-fn a_refusal_of_memory_leaves_no_model_of_more_symbols_than_quantiles(rt: HostRuntime) {
-    let [compared, hashed] = refused_decoders(rt.alloc());
-    same(&rt, [compared.is_some(), hashed.is_some()], [true, true]);
-    same(&rt, refused_encoder(rt.alloc()).is_some(), true);
-    end_of_few_requests(&rt, 6);
-}
-
-#[test]
-fn a_refusal_of_memory_leaves_no_model_of_letters_in_order(rt: HostRuntime) {
-    let made = Decoder::<6>::from_sorted_symbols_and_nonzero_fixed_point_probabilities(
-        rt.alloc(),
-        ['a', 'c', 'x', 'y'],
-        WEIGHTS,
-        false,
-    );
-    same(&rt, is_made_or_refused(&made), true);
-    end_of_requests(&rt);
-}
-
-#[test]
-fn a_refusal_of_memory_leaves_no_model_of_symbols_that_are_not_compared(rt: HostRuntime) {
-    let made = hashed(rt.alloc());
-    same(&rt, is_made_or_refused(&made), true);
-    if let Ok(model) = made {
-        same(&rt, is_made_or_refused(&again(rt.alloc(), &model)), true);
-        has_row(&rt, &model);
-        let looks_up = model.into_lookup_decoder_model(rt.alloc());
-        same(&rt, is_made_or_refused(&looks_up), true);
-    }
-    end_of_requests(&rt);
+fn an_announced_number_of_symbols_takes_no_memory_that_accepted_ones_would_not(rt: HostRuntime) {
+    let invalid = Some(ModelError::InvalidTable);
+    let refused = refused_decoders(rt.alloc());
+    same(&rt, refused, [Some(ModelError::InvalidTable), invalid]);
+    let refused = refused_encoder(rt.alloc());
+    same(&rt, refused, Some(ModelError::InvalidTable));
 }

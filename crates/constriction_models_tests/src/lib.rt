@@ -36,10 +36,6 @@ mod own_number;
 #[cfg(test)]
 mod own_searching_model;
 #[cfg(test)]
-mod refused_lookup_memory;
-#[cfg(test)]
-mod refused_memory;
-#[cfg(test)]
 mod search;
 #[cfg(test)]
 mod slot_bits;

@@ -13,10 +13,6 @@ mod copies;
 #[cfg(test)]
 mod known;
 #[cfg(test)]
-mod refused_lines;
-#[cfg(test)]
-mod refused_memory;
-#[cfg(test)]
 mod runs;
 #[cfg(test)]
 mod stored_weights;

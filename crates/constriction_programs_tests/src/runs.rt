@@ -1,6 +1,6 @@
 //! Runs over whole inputs, and over readers and writers that give or take little, fail, or end.
 
-use crate::checks::{end_of_requests, holds, prints, same};
+use crate::checks::{holds, prints, same};
 use constriction_text::{RunFault, run};
 use std::alloc::Global;
 use std::io::{self, Read, Write};
@@ -241,35 +241,6 @@ fn run_counted(alloc: Global, mut input: &[u8]) -> (Result<(), RunFault>, usize,
 fn answers_are_written_in_large_pieces(rt: HostRuntime) {
     let input = empty_lines(&rt, rt.alloc(), 20_000);
     same(&rt, run_counted(rt.alloc(), &input), (Ok(()), 180_000, 3));
-}
-
-/// Stops the test where not all is written, unless memory was refused and the answers that are written are whole.
-fn is_whole_or_refused(rt: &impl Abort, answer: Result<(), RunFault>, places: usize) {
-    match answer {
-        Ok(()) => same(rt, places, 0),
-        Err(fault) => {
-            same(rt, fault, RunFault::OutOfMemory);
-            assert!(rt; matches!(places, 29 | 22 | 13));
-        }
-    }
-}
-
-/// Stops the test where a byte that was written is not that of the text in its place.
-fn is_beginning(rt: &impl Abort, room: &[u8], text: &[u8]) {
-    for (byte, expected) in room.iter().zip(text) {
-        assert!(rt; *byte == *expected || *byte == 0);
-    }
-}
-
-/// The whole text, or where a request is refused the answers before it, each of them whole.
-#[test]
-fn answers_before_a_refusal_of_memory_are_written(rt: HostRuntime) {
-    let mut room = [0u8; 29];
-    let input = b"table u8/6 64\n\ntable u8/6 1 63\n";
-    let (result, places) = run_into(rt.alloc(), input, &mut room);
-    is_whole_or_refused(&rt, result, places);
-    is_beginning(&rt, &room, b"0 0 64\nbad line\n0 0 1\n1 1 63\n");
-    end_of_requests(&rt);
 }
 
 #[test]

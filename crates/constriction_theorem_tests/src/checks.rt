@@ -2,7 +2,6 @@
 //!
 //! A proof of `assert_eq!` costs much and a call of these costs nothing, so tests call these.
 
-use std::alloc::AllocError;
 use std::fmt::Debug;
 use std::process::Abort;
 
@@ -14,21 +13,4 @@ pub fn same<T: PartialEq + Debug + Drop>(rt: &impl Abort, found: T, expected: T)
 /// Stops the test where a `Vec` does not hold these items.
 pub fn holds<T: PartialEq + Debug>(rt: &impl Abort, found: &Vec<T>, expected: &[T]) {
     same(rt, found.as_slice(), expected);
-}
-
-/// More requests for memory than any test makes.
-const MANY: usize = 10_000;
-
-/// Says how many requests for memory are answered from here on before one is refused, where one is.
-///
-/// Each test of refused memory ends with it. `tools/refused-memory`, which has one request of a test refused,
-/// learns from it how many the test makes, and whether the refused one was among them.
-pub fn end_of_requests(rt: &HostRuntime) {
-    for answered in 0..MANY {
-        let asked: Result<Vec<u8>, AllocError> = Vec::with_capacity(rt.alloc(), 1);
-        if asked.is_err() {
-            let _ = println!(rt; "requests answered after the test: {answered}");
-            return;
-        }
-    }
 }

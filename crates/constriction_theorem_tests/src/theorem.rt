@@ -2,18 +2,18 @@
 
 ghost use Rattle.std.specs.Prelude.{◌≢◌};
 
-use crate::checks::{end_of_requests, holds, same};
+use crate::checks::{holds, same};
 use constriction::laws::contiguous_symbols_differ;
 use constriction::stream::model::{ModelError, UniformModel};
 use constriction_client::{ChainStep, DecoderForm, Query, Reply, SearchOrLookup};
-use constriction_test_models::any_symbols::{SYMBOLS, WEIGHTS, decoder};
+use constriction_test_models::any_symbols::{SYMBOLS, WEIGHTS};
 use constriction_test_models::contiguous::Weighted;
-use constriction_test_models::given::{encoder_of, of_four};
+use constriction_test_models::given::of_four;
 use constriction_theorem::{
     AnswersOfModel, AnswersOfWeights, FormAndReplies, RepliesByEncoder, answer_beside_encoder,
-    answer_by_form, answer_by_model, answer_from_range_u8, answer_from_range_u16,
-    answer_from_range_u32, answer_from_range_u64, answer_from_range_usize,
-    answer_from_symbols_and_weights, answer_from_weights, answer_from_weights_by_search,
+    answer_by_model, answer_from_range_u8, answer_from_range_u16, answer_from_range_u32,
+    answer_from_range_u64, answer_from_range_usize, answer_from_symbols_and_weights,
+    answer_from_weights, answer_from_weights_by_search,
 };
 use constriction_words::BitArray;
 use std::alloc::Global;
@@ -93,30 +93,6 @@ fn what_is_made_of_letters_and_weights_replies(rt: HostRuntime) {
     same(&rt, refused, Some(ModelError::InvalidTable));
 }
 
-/// Takes the decoder of the letters through the chain, and asks the form that is left and the encoder that was made of the
-/// decoder before.
-fn of_form(alloc: Global) -> Result<FormAndReplies<char, u8, 6>, ModelError> {
-    let searching = decoder(alloc, &SYMBOLS, &WEIGHTS, false)?;
-    let encoder = encoder_of(alloc, &searching)?;
-    answer_by_form(
-        alloc,
-        DecoderForm::Search(searching),
-        &STEPS,
-        &encoder,
-        &LETTERS,
-    )
-}
-
-/// Whichever request for memory is refused, there are no replies then.
-#[test]
-fn a_refusal_of_memory_leaves_no_replies_of_a_form(rt: HostRuntime) {
-    match of_form(rt.alloc()) {
-        Ok((_form, found)) => holds(&rt, &found, &replies_of_letters()),
-        Err(error) => same(&rt, error, ModelError::OutOfMemory),
-    }
-    end_of_requests(&rt);
-}
-
 /// Queries of each kind about numbers.
 const NUMBERS: [Query<usize, u8>; 5] = [
     Query::OfQuantile(0),
@@ -162,16 +138,6 @@ fn each_model_of_weights_replies(rt: HostRuntime) {
     are_of_numbers(&rt, &made.converted);
     let refused = of_weights(rt.alloc(), &[3, 61]).err();
     same(&rt, refused, Some(ModelError::InvalidTable));
-}
-
-/// Whichever request for memory is refused, there are no replies then.
-#[test]
-fn a_refusal_of_memory_leaves_no_replies_of_weights(rt: HostRuntime) {
-    match of_weights(rt.alloc(), &[3, 18, 1]) {
-        Ok(made) => holds(&rt, &made.converted.hashed, &replies_of_numbers()),
-        Err(error) => same(&rt, error, ModelError::OutOfMemory),
-    }
-    end_of_requests(&rt);
 }
 
 /// Asks a model of four numbers and what is made of it.
