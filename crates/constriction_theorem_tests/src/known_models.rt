@@ -307,6 +307,12 @@ fn contracts_leave_one_answer(rt: HostRuntime) {
 }
 
 #[test]
+fn contracts_leave_no_model(rt: HostRuntime) {
+    same(&rt, of_a_repeat(rt.alloc()).is_err(), true);
+    same(&rt, of_a_wrapped_total(rt.alloc()).is_err(), true);
+}
+
+#[test]
 fn contracts_leave_one_answer_of_a_uniform_model(rt: HostRuntime) {
     same(&rt, row_of_819(), Ok((1, 819, 819)));
     same(&rt, last_entry(), Some((3276, 820)));
