@@ -70,7 +70,7 @@ pub fn over_a_cursor(
 ) -> Option<Vec<usize>>
     ensures { IfSome result (λ answers. AllZip (λ symbol answer. IsTrue (nat_eq answer symbol)) (reverse symbols.now) answers.items) }
 {
-    there_and_back::<_, _, _, 24>(alloc, coder, model, model, symbols).ok()
+    there_and_back(alloc, coder, model, model, symbols).ok()
 }
 
 /// A message of texts by a decoder of them and an encoder of its entries.
@@ -86,7 +86,7 @@ pub fn of_texts(
     ensures { IfSome result (λ answers. AllZip (λ symbol answer. IsTrue (string_eq answer symbol))
         (reverse symbols.now) answers.items) }
 {
-    there_and_back::<_, _, _, 24>(alloc, coder, texts, encoder, symbols).ok()
+    there_and_back(alloc, coder, texts, encoder, symbols).ok()
 }
 
 /// The words of a coder over a `Vec`, and the coder of them: nothing is lost.

@@ -92,11 +92,11 @@ where
         D.may_refuse (D.rows decoder.now) Backend.read_gives PRECISION (length symbols.now) e c coder.new.state coder.new.words) }
 {
     symbols_come_back::<D, E, PRECISION>(decoder, encoder);
-    match coder.encode_symbols::<_, PRECISION>(symbols, encoder) {
+    match coder.encode_symbols(symbols, encoder) {
         Ok(()) => {}
         Err(error) => return Err(MessageFault::Encoding(error)),
     }
-    match coder.decode_symbols::<_, PRECISION>(alloc, symbols.len(), decoder) {
+    match coder.decode_symbols(alloc, symbols.len(), decoder) {
         Ok(answers) => Ok(answers),
         Err(error) => Err(MessageFault::Decoding(error)),
     }

@@ -161,7 +161,7 @@ impl<Source: ReadWords<u32, Queue>> RangeDecoder<Source> {
             return Err(CoderError::Frontend(RangeDecodingFault::OutOfMemory));
         };
         for done in 0..count {
-            match self.decode_symbol::<_, PRECISION>(model) {
+            match self.decode_symbol(model) {
                 Ok(symbol) => symbols.push_reserved(symbol),
                 Err(error) => return Err(error),
             }

@@ -27,7 +27,7 @@ impl<Backend: WordStack<u32>> AnsCoder<Backend> {
             self.new.state self.new.words) }
     {
         for symbol in symbols {
-            match self.encode_symbol::<_, PRECISION>(symbol, model) {
+            match self.encode_symbol(symbol, model) {
                 Ok(()) => {}
                 Err(error) => return Err(error),
             }
@@ -51,7 +51,7 @@ impl<Backend: WordStack<u32>> AnsCoder<Backend> {
     {
         let count = symbols.len();
         for done in 0..count {
-            match self.encode_symbol::<_, PRECISION>(&symbols[count - 1 - done], model) {
+            match self.encode_symbol(&symbols[count - 1 - done], model) {
                 Ok(()) => {}
                 Err(error) => return Err(error),
             }
@@ -81,7 +81,7 @@ impl<Backend: WordStack<u32>> AnsCoder<Backend> {
             Err(error) => return Err(CoderError::Frontend(error)),
         };
         for done in 0..count {
-            match self.decode_symbol::<_, PRECISION>(model) {
+            match self.decode_symbol(model) {
                 Ok(symbol) => symbols.push_reserved(symbol),
                 Err(error) => return Err(error),
             }

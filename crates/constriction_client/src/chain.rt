@@ -126,7 +126,7 @@ fn searched<Symbol: Eq + Clone + Drop, Probability: IndexWord, const PRECISION: 
     ensures rows { IfOk result (λ m. StandForRows Symbol.is_clone (decoder_model_rows m) (form_rows form.now)) }
     ensures refused { IfErr result (λ e. e ≡ ModelError.OutOfMemory) }
 {
-    to_generic_decoder_model_of_distinct::<_, PRECISION>(alloc, form)
+    to_generic_decoder_model_of_distinct(alloc, form)
 }
 
 /// Of forms whose symbols differ, this one's do.
@@ -235,7 +235,7 @@ impl<Symbol: Eq + Clone + Drop, Probability: IndexWord, const PRECISION: usize> 
     }
 
     fn rebuild(&self, alloc: Global) -> Result<Self, ModelError> {
-        let (symbols, weights) = symbols_and_weights::<_, PRECISION>(alloc, self)?;
+        let (symbols, weights) = symbols_and_weights(alloc, self)?;
         let model = searching_of(alloc, symbols, weights)?;
         match self {
             DecoderForm::Search(_) => Ok(DecoderForm::Search(model)),

@@ -163,7 +163,7 @@ fn ask(
     encoder: &Encoder,
     queries: &[Query<String, u8>],
 ) -> Result<Vec<Reply<String, u8>>, AllocError> {
-    answer_queries::<_, _, 6>(alloc, form, encoder, queries)
+    answer_queries(alloc, form, encoder, queries)
 }
 
 /// Stops the test where a form does not reply to two quantiles and to two texts as the rows of the texts do.
@@ -197,7 +197,7 @@ type Back = Result<Vec<(String, u8)>, CoderError<QuantileFault, AllocError>>;
 
 /// Texts with offsets, which are written and read back by the two models that are made of one decoder.
 fn there_and_back(rt: &impl Abort, alloc: Global, model: &Decoder, items: &[(String, u8)]) -> Back {
-    let made = decoder_and_encoder::<_, 6>(alloc, model);
+    let made = decoder_and_encoder(alloc, model);
     let (decoder, encoder) = made.expect(rt, "two models");
     there_and_back_of_two(alloc, &decoder, &encoder, items)
 }

@@ -17,7 +17,7 @@ fn ask_for_row(
     encoder: &LetterEncoder,
     quantile: u8,
 ) -> Result<Vec<Reply<Letter, u8>>, AllocError> {
-    answer_queries::<_, _, 6>(alloc, form, encoder, &[Query::OfQuantile(quantile)])
+    answer_queries(alloc, form, encoder, &[Query::OfQuantile(quantile)])
 }
 
 #[test]

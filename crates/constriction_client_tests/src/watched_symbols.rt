@@ -179,7 +179,7 @@ fn symbols_differ(model: &Decoder)
 /// The form of the same rows with a lookup table.
 fn looked_up(alloc: Global, model: &Decoder) -> Result<Form, ModelError> {
     symbols_differ(model);
-    match to_generic_lookup_decoder_model_of_distinct::<_, 24>(alloc, model) {
+    match to_generic_lookup_decoder_model_of_distinct(alloc, model) {
         Ok(made) => Ok(DecoderForm::Lookup(made)),
         Err(refusal) => Err(refusal),
     }
@@ -188,7 +188,7 @@ fn looked_up(alloc: Global, model: &Decoder) -> Result<Form, ModelError> {
 /// The same by a walk that does not announce how many rows there are.
 fn looked_up_unannounced(alloc: Global, model: &Decoder) -> Result<Form, ModelError> {
     symbols_differ(model);
-    match to_generic_lookup_decoder_model_of_distinct::<_, 24>(alloc, Unannounced { model }) {
+    match to_generic_lookup_decoder_model_of_distinct(alloc, Unannounced { model }) {
         Ok(made) => Ok(DecoderForm::Lookup(made)),
         Err(refusal) => Err(refusal),
     }
@@ -196,7 +196,7 @@ fn looked_up_unannounced(alloc: Global, model: &Decoder) -> Result<Form, ModelEr
 
 /// The form of the same rows, of a model that knows whether its symbols differ.
 fn walked(alloc: Global, model: &Decoder) -> Result<Form, ModelError> {
-    match to_generic_decoder_model::<_, 24>(alloc, model) {
+    match to_generic_decoder_model(alloc, model) {
         Ok(made) => Ok(DecoderForm::Search(made)),
         Err(refusal) => Err(refusal),
     }

@@ -80,7 +80,7 @@ pub(crate) fn encoded<const PRECISION: usize>(
         }
     }
     let mut coder = AnsCoder::new(alloc);
-    match coder.encode_symbols_reverse::<_, PRECISION>(&indices, &model) {
+    match coder.encode_symbols_reverse(&indices, &model) {
         Ok(()) => {}
         Err(CoderError::Frontend(_)) => return Err(Refusal::NoRow),
         Err(CoderError::Backend(_)) => return Err(Refusal::OutOfMemory),
@@ -106,7 +106,7 @@ pub(crate) fn decoded<const PRECISION: usize>(
         Ok(coder) => coder,
         Err(_) => return Err(Refusal::Refused),
     };
-    match coder.decode_symbols::<_, PRECISION>(alloc, count, &model) {
+    match coder.decode_symbols(alloc, count, &model) {
         Ok(symbols) => Ok(symbols),
         Err(_) => Err(Refusal::OutOfMemory),
     }
@@ -127,7 +127,7 @@ pub(crate) fn queued<const PRECISION: usize>(
         Ok(decoder) => decoder,
         Err(_) => return Err(Refusal::Damaged),
     };
-    match decoder.decode_symbols::<_, PRECISION>(alloc, count, &model) {
+    match decoder.decode_symbols(alloc, count, &model) {
         Ok(symbols) => Ok(symbols),
         Err(CoderError::Frontend(RangeDecodingFault::OutOfMemory)) => Err(Refusal::OutOfMemory),
         Err(_) => Err(Refusal::Damaged),

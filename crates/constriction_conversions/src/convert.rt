@@ -216,7 +216,7 @@ where
     ensures ok { IfOk result (λ d. StandApart M.Symbol.eq M.stands_for (decoder_model_rows d) (M.rows model)) }
     ensures invalid { result ≡ Err ModelError.InvalidTable → ClonesRepeat M.Symbol.eq M.stands_for (M.rows model) }
 {
-    match entries_told::<_, PRECISION>(alloc, model) {
+    match entries_told(alloc, model) {
         Ok(entries) => Ok(decoder_over(entries)),
         Err(refused) => Err(refused),
     }
@@ -234,7 +234,7 @@ where
     ensures ok { IfOk result (λ d. StandApart M.Symbol.eq M.stands_for (decoder_model_rows d) (M.rows model)) }
     ensures invalid { result ≡ Err ModelError.InvalidTable → ClonesRepeat M.Symbol.eq M.stands_for (M.rows model) }
 {
-    match entries_apart::<_, PRECISION>(alloc, model) {
+    match entries_apart(alloc, model) {
         Ok(entries) => Ok(decoder_over(entries)),
         Err(refused) => Err(refused),
     }

@@ -23,10 +23,7 @@ pub extern "C" fn kernel_coder_encode(
     for _ in 0..repeats {
         let mut coder = AnsCoder::new(alloc);
         for symbol in symbols {
-            if coder
-                .encode_symbol::<_, 24>(&(*symbol as usize), &model)
-                .is_err()
-            {
+            if coder.encode_symbol(&(*symbol as usize), &model).is_err() {
                 return 1;
             }
         }
@@ -63,7 +60,7 @@ where
             return 1;
         };
         for _ in 0..words.len() {
-            let Ok(symbol) = coder.decode_symbol::<_, 24>(model) else {
+            let Ok(symbol) = coder.decode_symbol(model) else {
                 return 1;
             };
             sum = mix(sum, symbol as u64);

@@ -25,7 +25,7 @@ fn decoder_of_distinct<Probability: WholeNumber, const PRECISION: usize>(
     ModelError,
 > {
     contiguous_symbols_differ();
-    to_generic_decoder_model_of_distinct::<_, PRECISION>(alloc, source)
+    to_generic_decoder_model_of_distinct(alloc, source)
 }
 
 /// Makes a decoder over any symbols, each time anew. Its source knows that symbols differ, and none are compared.
@@ -36,7 +36,7 @@ pub extern "C" fn kernel_to_decoder(alloc: Global, weights: &[u32], repeats: u32
     };
     let mut sum = 0u64;
     for _ in 0..repeats {
-        let Ok(model) = to_generic_decoder_model::<_, 24>(alloc, &source) else {
+        let Ok(model) = to_generic_decoder_model(alloc, &source) else {
             return 1;
         };
         sum = mix(sum, model.support_size() as u64);
@@ -96,7 +96,7 @@ pub extern "C" fn kernel_to_encoder(alloc: Global, weights: &[u32], repeats: u32
     };
     let mut sum = 0u64;
     for _ in 0..repeats {
-        let Ok(model) = to_generic_encoder_model::<_, 24>(alloc, &source) else {
+        let Ok(model) = to_generic_encoder_model(alloc, &source) else {
             return 1;
         };
         sum = mix(sum, model.support_size() as u64);

@@ -60,7 +60,7 @@ fn looks_up<const SLOT_BITS: usize>(
 ) {
     let made = searching.to_slotted_lookup_decoder_model::<SLOT_BITS>(alloc);
     all_alike(rt, searching, &made.expect(rt, "a lookup model"));
-    let decoder = to_generic_decoder_model::<_, 24>(alloc, searching).expect(rt, "a decoder");
+    let decoder = to_generic_decoder_model(alloc, searching).expect(rt, "a decoder");
     let made = decoder.to_slotted_lookup_decoder_model::<SLOT_BITS>(alloc);
     all_alike(rt, searching, &made.expect(rt, "a lookup model"));
 }

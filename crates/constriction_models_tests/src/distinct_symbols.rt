@@ -141,7 +141,7 @@ fn numbers_differ(model: &Small)
 #[tactic(auto, using(crate::proofs::DistinctLemmas::same_are_equal))]
 fn of_contiguous(alloc: Global, model: &Small) -> Result<NumberLookup, ModelError> {
     numbers_differ(model);
-    to_generic_lookup_decoder_model_of_distinct::<_, 6>(alloc, model)
+    to_generic_lookup_decoder_model_of_distinct(alloc, model)
 }
 
 /// No two letters of a decoder's model are equal, however it was made.
@@ -156,7 +156,7 @@ fn letters_differ(model: &Decoder<6>)
 fn again(alloc: Global, model: &Decoder<6>) -> Result<Decoder<6>, ModelError> {
     letters_differ(model);
     symbols_and_weights_rebuild::<&Decoder<6>, 6>();
-    to_generic_decoder_model_of_distinct::<_, 6>(alloc, model)
+    to_generic_decoder_model_of_distinct(alloc, model)
 }
 
 /// The decoder's model of letters that are told apart by their hashes.

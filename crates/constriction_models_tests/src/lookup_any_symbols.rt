@@ -33,8 +33,8 @@ where
 #[test]
 fn a_lookup_model_is_made_of_a_model_of_the_caller(rt: HostRuntime) {
     let model = three('p', 'q', 'r');
-    same(&rt, refusals::<_, 3>(rt.alloc(), &model), [None, None]);
-    let made = to_generic_lookup_decoder_model::<_, 3>(rt.alloc(), &model);
+    same(&rt, refusals(rt.alloc(), &model), [None, None]);
+    let made = to_generic_lookup_decoder_model(rt.alloc(), &model);
     let found = made.expect(&rt, "a model").quantile_function(6);
     same(&rt, plain(found), Ok(('q', 2, 5)));
     non_contiguous_lookup_symbols_differ::<char, u8, Vec<(u8, char)>, Vec<u8>, 3>();
@@ -42,7 +42,7 @@ fn a_lookup_model_is_made_of_a_model_of_the_caller(rt: HostRuntime) {
 
 #[test]
 fn two_rows_of_one_letter_make_no_lookup_model(rt: HostRuntime) {
-    let refused = refusals::<_, 3>(rt.alloc(), &three('p', 'q', 'p'));
+    let refused = refusals(rt.alloc(), &three('p', 'q', 'p'));
     let invalid = Some(ModelError::InvalidTable);
     same(&rt, refused, [Some(ModelError::InvalidTable), invalid]);
 }

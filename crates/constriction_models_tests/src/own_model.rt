@@ -25,7 +25,7 @@ fn decoder_of(alloc: Global, model: &Triple) -> Result<Decoder<char, 3>, ModelEr
         ≡ rows_of (model.now.first ∷ model.now.second ∷ model.now.third ∷ []) (2 ∷ 5 ∷ 1 ∷ [])) }
     ensures repeated { model.now.first ≡ model.now.third → IsErr result }
 {
-    to_generic_decoder_model::<_, 3>(alloc, model)
+    to_generic_decoder_model(alloc, model)
 }
 
 /// No two letters of a decoder's model are equal.
@@ -42,7 +42,7 @@ fn decoder_of_distinct(alloc: Global, model: &Triple) -> Result<Decoder<char, 3>
         Ok(compared) => letters_differ(&compared),
         Err(refusal) => return Err(refusal),
     }
-    to_generic_decoder_model_of_distinct::<_, 3>(alloc, model)
+    to_generic_decoder_model_of_distinct(alloc, model)
 }
 
 /// Letters, and their entries in the model of `p`, `q` and `p`.
@@ -64,14 +64,14 @@ fn have_entries(rt: &impl Abort, model: &Triple, made: &Encoder<3>) {
 #[test]
 fn two_rows_of_one_letter_make_an_encoder_and_no_decoder(rt: HostRuntime) {
     let model = three('p', 'q', 'p');
-    let refused = refusals::<_, 3>(rt.alloc(), &model);
+    let refused = refusals(rt.alloc(), &model);
     let invalid = Some(ModelError::InvalidTable);
     same(
         &rt,
         refused,
         [Some(ModelError::InvalidTable), None, invalid, None],
     );
-    let made = to_generic_encoder_model::<_, 3>(rt.alloc(), &model);
+    let made = to_generic_encoder_model(rt.alloc(), &model);
     let encoder = made.expect(&rt, "a model");
     have_entries(&rt, &model, &encoder);
     same(&rt, encoder.support_size(), 2);

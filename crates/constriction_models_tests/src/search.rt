@@ -113,7 +113,7 @@ fn a_look_up_of_any_symbols_does_not_go_over_all_rows(rt: HostRuntime) {
     let numbers = Wide::from_nonzero_fixed_point_probabilities(rt.alloc(), fours, false);
     let numbers = numbers.expect(&rt, "accepted");
     contiguous_symbols_differ();
-    let made = to_generic_decoder_model_of_distinct::<_, 24>(rt.alloc(), &numbers);
+    let made = to_generic_decoder_model_of_distinct(rt.alloc(), &numbers);
     let model = made.expect(&rt, "a model");
     for symbol in 0..4_194_304u32 {
         let answer = row(Some(model.quantile_function(4 * symbol + 3)));

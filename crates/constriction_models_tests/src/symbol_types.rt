@@ -213,8 +213,8 @@ fn are_refused(rt: &impl Abort, refusals: &[Option<ModelError>]) {
 fn a_refused_clone_is_want_of_memory(rt: HostRuntime) {
     let model = letters(rt.alloc()).expect(&rt, "accepted");
     same(&rt, model.clone().err(), Some(AllocError));
-    are_refused(&rt, &refusals::<_, 6>(rt.alloc(), &model));
-    let by_function = to_generic_lookup_decoder_model::<_, 6>(rt.alloc(), &model).err();
+    are_refused(&rt, &refusals(rt.alloc(), &model));
+    let by_function = to_generic_lookup_decoder_model(rt.alloc(), &model).err();
     let by_method = model.to_lookup_decoder_model(rt.alloc()).err();
     are_refused(&rt, &[by_function, by_method]);
 }

@@ -27,20 +27,20 @@ where
 #[test]
 fn models_of_the_library_know_that_their_symbols_differ(rt: HostRuntime) {
     let numbers = model_of::<u8, 6>(rt.alloc(), &WEIGHTS, false).expect(&rt, "accepted");
-    same(&rt, told::<_, 6>(&&numbers), true);
-    same(&rt, told::<_, 6>(&UniformModel::<u8, 6>::new(4)), true);
+    same(&rt, told(&&numbers), true);
+    same(&rt, told(&UniformModel::<u8, 6>::new(4)), true);
     let chars = decoder::<6>(rt.alloc(), &SYMBOLS, &WEIGHTS, false).expect(&rt, "accepted");
-    same(&rt, told::<_, 6>(&&chars), true);
-    let made = to_generic_decoder_model::<_, 6>(rt.alloc(), &chars).expect(&rt, "memory");
+    same(&rt, told(&&chars), true);
+    let made = to_generic_decoder_model(rt.alloc(), &chars).expect(&rt, "memory");
     same(&rt, made.support_size(), 4);
 }
 
 #[test]
 fn a_model_of_the_caller_that_says_nothing_is_compared(rt: HostRuntime) {
-    same(&rt, told::<_, 3>(&&three('a', 'b', 'c')), false);
-    let made = to_generic_decoder_model_by_comparison::<_, 3>(rt.alloc(), &three('p', 'q', 'p'));
+    same(&rt, told(&&three('a', 'b', 'c')), false);
+    let made = to_generic_decoder_model_by_comparison(rt.alloc(), &three('p', 'q', 'p'));
     same(&rt, made.err(), Some(ModelError::InvalidTable));
     let model = letters(rt.alloc()).expect(&rt, "accepted");
-    let made = to_generic_decoder_model_by_comparison::<_, 6>(rt.alloc(), &model);
+    let made = to_generic_decoder_model_by_comparison(rt.alloc(), &model);
     same(&rt, made.err(), Some(ModelError::OutOfMemory));
 }

@@ -129,7 +129,7 @@ fn a_slot_of_any_symbols_that_4_194_304_rows_meet_is_searched(rt: HostRuntime) {
     let made = Lookup::<40>::from_nonzero_fixed_point_probabilities(rt.alloc(), ones, true);
     let numbers = made.expect(&rt, "accepted").into_contiguous_categorical();
     contiguous_symbols_differ();
-    let made = to_generic_decoder_model_of_distinct::<_, 40>(rt.alloc(), &numbers);
+    let made = to_generic_decoder_model_of_distinct(rt.alloc(), &numbers);
     let searching = made.expect(&rt, "a model");
     let model = searching
         .into_lookup_decoder_model(rt.alloc())

@@ -23,7 +23,7 @@ fn words_are_copied(rt: HostRuntime) {
     for (symbols, count) in [(0, 0), (1, 1), (2, 1), (10, 4)] {
         let mut coder = AnsCoder::new(alloc);
         for symbol in 0..symbols {
-            let encoded = coder.encode_symbol::<_, 24>(&(symbol * 99 + 7), &model);
+            let encoded = coder.encode_symbol(&(symbol * 99 + 7), &model);
             same(&rt, encoded.is_ok(), true);
         }
         let copy = coder.get_compressed(alloc).expect(&rt, "memory");

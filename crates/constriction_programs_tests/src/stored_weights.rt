@@ -39,24 +39,18 @@ fn stored(rt: &impl Abort, alloc: Global) -> Vec<u32> {
         true,
     ).expect(rt, "the model");
     let mut words = Vec::new(alloc);
-    same(
-        rt,
-        write_model::<_, _, 24>(alloc, &model, &mut words).is_ok(),
-        true,
-    );
+    same(rt, write_model(alloc, &model, &mut words).is_ok(), true);
     words
 }
 
 /// The words that the message is encoded to by this model.
 fn encoded(rt: &impl Abort, alloc: Global, model: &Texts) -> Vec<u32> {
-    let encoder = to_generic_encoder_model::<_, 24>(alloc, model).expect(rt, "the encoder");
+    let encoder = to_generic_encoder_model(alloc, model).expect(rt, "the encoder");
     let message = owned(rt, alloc, &MESSAGE);
     let mut coder = AnsCoder::new(alloc);
     same(
         rt,
-        coder
-            .encode_symbols_reverse::<_, 24>(&message, &encoder)
-            .is_ok(),
+        coder.encode_symbols_reverse(&message, &encoder).is_ok(),
         true,
     );
     coder.into_compressed().expect(rt, "memory")
@@ -80,7 +74,7 @@ fn a_message_by_stored_weights(rt: HostRuntime) {
     let words = encoded(&rt, alloc, &model);
     let mut coder = AnsCoder::from_compressed(words).expect(&rt, "the coder");
     let symbols = coder
-        .decode_symbols::<_, 24>(alloc, MESSAGE.len(), &model)
+        .decode_symbols(alloc, MESSAGE.len(), &model)
         .expect(&rt, "the symbols");
     same(&rt, symbols, owned(&rt, alloc, &MESSAGE));
     same(&rt, coder.is_empty(), true);
@@ -105,7 +99,7 @@ fn many_stored(rt: &impl Abort, alloc: Global) -> Vec<u32> {
         true,
     );
     let mut words = Vec::new(alloc);
-    let written = write_model::<_, _, 24>(alloc, &made.expect(rt, "the model"), &mut words);
+    let written = write_model(alloc, &made.expect(rt, "the model"), &mut words);
     same(rt, written.is_ok(), true);
     words
 }

@@ -11,9 +11,9 @@ fn a_range_comes_back_in_order(rt: HostRuntime) {
     let alloc = rt.alloc();
     let model = DefaultUniformModel::new(1000);
     let mut coder = AnsCoder::new(alloc);
-    let encoded = coder.encode_iid_symbols_reverse::<_, _, 24>(990..1000, &model);
+    let encoded = coder.encode_iid_symbols_reverse(990..1000, &model);
     same(&rt, encoded.is_ok(), true);
-    let mut walk = coder.decode_iid_symbols::<_, 24>(3, &model);
+    let mut walk = coder.decode_iid_symbols(3, &model);
     for (expected, left) in [(990, 2), (991, 1), (992, 0)] {
         match walk.next() {
             Some(Ok(symbol)) => same(&rt, symbol, expected),
@@ -24,7 +24,7 @@ fn a_range_comes_back_in_order(rt: HostRuntime) {
     }
     same(&rt, walk.next().is_none(), true);
     let mut rest = 993..1000;
-    for answer in coder.decode_iid_symbols::<_, 24>(7, &model) {
+    for answer in coder.decode_iid_symbols(7, &model) {
         same(&rt, answer.ok(), rest.next());
     }
     same(&rt, rest.next(), None);
@@ -37,10 +37,10 @@ fn an_impossible_symbol_ends_a_message(rt: HostRuntime) {
     let alloc = rt.alloc();
     let model = DefaultUniformModel::new(1000);
     let mut coder = AnsCoder::new(alloc);
-    let encoded = coder.encode_iid_symbols::<_, _, 24>([5, 6, 1000, 7], &model);
+    let encoded = coder.encode_iid_symbols([5, 6, 1000, 7], &model);
     same(&rt, encoded.is_err(), true);
     let symbols = coder
-        .decode_symbols::<_, 24>(alloc, 2, &model)
+        .decode_symbols(alloc, 2, &model)
         .expect(&rt, "the symbols");
     same(&rt, symbols.as_slice(), [6, 5].as_slice());
     same(&rt, coder.is_empty(), true);

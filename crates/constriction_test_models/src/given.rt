@@ -40,5 +40,5 @@ pub fn encoder_of(alloc: Global, model: &Decoder<6>) -> Result<Encoder<6>, Model
     ensures { IfOk result (λ e. SameEntries nat_eq
         (⟦<Encoder<6> as EntropyModel<6>>⟧.rows e) (⟦<Decoder<6> as EntropyModel<6>>⟧.rows model.now)) }
 {
-    to_generic_encoder_model::<_, 6>(alloc, model)
+    to_generic_encoder_model(alloc, model)
 }

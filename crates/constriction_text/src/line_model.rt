@@ -282,7 +282,7 @@ impl<Word: FormatWord, const PRECISION: usize> LineModel<PRECISION>
     }
 
     fn push_rows(&self, text: &mut String) -> Result<(), AllocError> {
-        push_rows::<_, PRECISION>(text, self)
+        push_rows(text, self)
     }
 
     fn entry(&self, symbol: usize) -> Option<(u64, u64)> {

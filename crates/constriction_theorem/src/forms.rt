@@ -45,6 +45,6 @@ where
     ensures refused { IfErr result (λ e. e ≡ ModelError.OutOfMemory) }
 {
     let converted = convert_chain(alloc, form, steps)?;
-    let replies = answer_queries::<_, _, PRECISION>(alloc, &converted, encoder, queries)?;
+    let replies = answer_queries(alloc, &converted, encoder, queries)?;
     Ok((converted, replies))
 }

@@ -136,7 +136,7 @@ pub(crate) fn hashed_of<
     ensures entries { IfOk result (λ e. SameEntries Symbol.eq (encoder_model_rows e) (decoder_model_rows model.now)) }
     ensures refused { IfErr result (λ e. e ≡ ModelError.OutOfMemory) }
 {
-    encoder_of::<_, PRECISION>(alloc, model)
+    encoder_of(alloc, model)
 }
 
 /// The searching decoder and the hashed encoder of a model's rows, no two symbols of which are equal.
@@ -168,6 +168,6 @@ pub(crate) fn both_of_contiguous<Probability: WholeNumber, const PRECISION: usiz
     ensures refused { IfErr result (λ e. e ≡ ModelError.OutOfMemory) }
 {
     contiguous_symbols_differ();
-    let (decoder, encoder) = both_of::<_, PRECISION>(alloc, model)?;
+    let (decoder, encoder) = both_of(alloc, model)?;
     Ok((decoder, encoder))
 }

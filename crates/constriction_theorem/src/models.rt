@@ -84,7 +84,7 @@ where
     ensures refused { IfErr result (λ e. e ≡ ModelError.OutOfMemory) }
 {
     let encoder = encoder_of::<M, PRECISION>(alloc, model)?;
-    let replies = answer_queries::<_, _, PRECISION>(alloc, &model, &encoder, queries)?;
+    let replies = answer_queries(alloc, &model, &encoder, queries)?;
     Ok(replies)
 }
 

@@ -34,8 +34,8 @@ pub fn answer_from_range_u8<const PRECISION: usize>(
 {
     contiguous_symbols_differ();
     let model = UniformModel::<u8, PRECISION>::new(range);
-    let by_model = answer_queries::<_, _, PRECISION>(alloc, &model, &model, queries)?;
-    let (form, converted) = answer_by_table::<_, PRECISION>(alloc, model, steps, queries)?;
+    let by_model = answer_queries(alloc, &model, &model, queries)?;
+    let (form, converted) = answer_by_table(alloc, model, steps, queries)?;
     Ok(AnswersOfModel {
         by_model,
         form,
@@ -58,8 +58,8 @@ pub fn answer_from_range_u16<const PRECISION: usize>(
 {
     contiguous_symbols_differ();
     let model = UniformModel::<u16, PRECISION>::new(range);
-    let by_model = answer_queries::<_, _, PRECISION>(alloc, &model, &model, queries)?;
-    let (form, converted) = answer_by_table::<_, PRECISION>(alloc, model, steps, queries)?;
+    let by_model = answer_queries(alloc, &model, &model, queries)?;
+    let (form, converted) = answer_by_table(alloc, model, steps, queries)?;
     Ok(AnswersOfModel {
         by_model,
         form,
@@ -82,8 +82,8 @@ pub fn answer_from_range_u32<const PRECISION: usize>(
 {
     contiguous_symbols_differ();
     let model = UniformModel::<u32, PRECISION>::new(range);
-    let by_model = answer_queries::<_, _, PRECISION>(alloc, &model, &model, queries)?;
-    let (form, converted) = answer_by_table::<_, PRECISION>(alloc, model, steps, queries)?;
+    let by_model = answer_queries(alloc, &model, &model, queries)?;
+    let (form, converted) = answer_by_table(alloc, model, steps, queries)?;
     Ok(AnswersOfModel {
         by_model,
         form,
@@ -107,8 +107,8 @@ pub fn answer_from_range_u64<const PRECISION: usize>(
 {
     contiguous_symbols_differ();
     let model = UniformModel::<u64, PRECISION>::new(range);
-    let by_model = answer_queries::<_, _, PRECISION>(alloc, &model, &model, queries)?;
-    let (form, converted) = answer_by_table::<_, PRECISION>(alloc, model, steps, queries)?;
+    let by_model = answer_queries(alloc, &model, &model, queries)?;
+    let (form, converted) = answer_by_table(alloc, model, steps, queries)?;
     Ok(AnswersOfModel {
         by_model,
         form,
@@ -132,8 +132,8 @@ pub fn answer_from_range_usize<const PRECISION: usize>(
 {
     contiguous_symbols_differ();
     let model = UniformModel::<usize, PRECISION>::new(range);
-    let by_model = answer_queries::<_, _, PRECISION>(alloc, &model, &model, queries)?;
-    let (form, converted) = answer_by_table::<_, PRECISION>(alloc, model, steps, queries)?;
+    let by_model = answer_queries(alloc, &model, &model, queries)?;
+    let (form, converted) = answer_by_table(alloc, model, steps, queries)?;
     Ok(AnswersOfModel {
         by_model,
         form,

@@ -38,12 +38,8 @@ fn asked_by_search<Probability: WholeNumber, const PRECISION: usize>(
     ensures refused { IfErr result (λ e. e ≡ ModelError.OutOfMemory) }
 {
     let (decoder, hashed) = both_of_contiguous(alloc, model)?;
-    let contiguous = asked_beside_both::<_, _, _, PRECISION>(
-        alloc, model, model, &hashed, queries,
-    )?;
-    let non_contiguous = asked_beside_both::<_, _, _, PRECISION>(
-        alloc, &decoder, model, &hashed, queries,
-    )?;
+    let contiguous = asked_beside_both(alloc, model, model, &hashed, queries)?;
+    let non_contiguous = asked_beside_both(alloc, &decoder, model, &hashed, queries)?;
     Ok(AnswersBySearch {
         contiguous,
         decoder,

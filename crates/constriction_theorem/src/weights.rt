@@ -63,8 +63,8 @@ where
     ensures hashed { IfOk result (λ replies. map (in_numbers D.Probability.whole D.Probability.base) replies.hashed.items
         ≡ replies_by_scan PRECISION D.Probability.whole F.symbol_eq queries.now (D.rows decoder.now)) }
 {
-    let beside_contiguous = answer_queries::<_, _, PRECISION>(alloc, decoder, contiguous, queries)?;
-    let beside_hashed = answer_queries::<_, _, PRECISION>(alloc, decoder, hashed, queries)?;
+    let beside_contiguous = answer_queries(alloc, decoder, contiguous, queries)?;
+    let beside_hashed = answer_queries(alloc, decoder, hashed, queries)?;
     Ok(RepliesByEncoder {
         contiguous: beside_contiguous,
         hashed: beside_hashed,
@@ -124,7 +124,7 @@ fn asked_by_slots<Probability: IndexWord, const PRECISION: usize, const SLOT_BIT
     ensures refused { IfErr result (λ e. e ≡ ModelError.OutOfMemory) }
 {
     let tabled = model.to_slotted_lookup_decoder_model::<SLOT_BITS>(alloc)?;
-    let replies = asked_beside_both::<_, _, _, PRECISION>(alloc, &tabled, model, hashed, queries)?;
+    let replies = asked_beside_both(alloc, &tabled, model, hashed, queries)?;
     Ok(replies)
 }
 
@@ -151,9 +151,9 @@ fn asked_by_each<Probability: IndexWord, const PRECISION: usize, const SLOT_BITS
         AsScan three.0 × AsScan three.1 × AsScan three.2) }
     ensures refused { IfErr result (λ e. e ≡ ModelError.OutOfMemory) }
 {
-    let by_search = asked_beside_both::<_, _, _, PRECISION>(alloc, model, model, hashed, queries)?;
+    let by_search = asked_beside_both(alloc, model, model, hashed, queries)?;
     let by_table = asked_by_slots::<_, PRECISION, SLOT_BITS>(alloc, model, hashed, queries)?;
-    let by_form = asked_beside_both::<_, _, _, PRECISION>(alloc, form, model, hashed, queries)?;
+    let by_form = asked_beside_both(alloc, form, model, hashed, queries)?;
     Ok((by_search, by_table, by_form))
 }
 

@@ -32,7 +32,7 @@ fn written(model: &Weighted<6>, sink: &mut Vec<u8>) -> bool
     requires { ⟦<Weighted<6> as EntropyModel<6>>⟧.rows model.now ≡ contiguous_rows (3 ∷ 18 ∷ 1 ∷ 42 ∷ []) }
     ensures { IsTrue result → sink.new.items ≡ sink.old.items ++ 5 ∷ [] }
 {
-    write_quantiles::<_, _, 6>(model, &[(1, 2)], sink).is_ok()
+    write_quantiles(model, &[(1, 2)], sink).is_ok()
 }
 
 /// What comes back of an item.
@@ -42,7 +42,7 @@ fn back(
 ) -> Result<Vec<(usize, u8)>, CoderError<QuantileFault, AllocError>>
     ensures { IfOk result (λ pairs. pairs.items ≡ (1, 2) ∷ []) }
 {
-    there_and_back::<_, 6>(alloc, model, &[(1, 2)])
+    there_and_back(alloc, model, &[(1, 2)])
 }
 
 /// The same through a cursor of two words.
@@ -56,7 +56,7 @@ fn through_a_cursor(
     ensures items { IfSome result (λ pairs. pairs.items ≡ (1, 2) ∷ []) }
     ensures words { IfSome result (λ _. state_of cursor.new ≡ record { before = 5 ∷ []; after = 1 ∷ [] }) }
 {
-    match there_and_back_in_a_cursor::<_, _, _, 6>(alloc, model, model, &[(1, 2)], cursor) {
+    match there_and_back_in_a_cursor(alloc, model, model, &[(1, 2)], cursor) {
         Ok(pairs) => Some(pairs),
         Err(_) => None,
     }
@@ -81,7 +81,7 @@ fn replies(alloc: Global, model: &Weighted<6>) -> Result<Vec<Reply<usize, u8>>, 
         Query::OfQuantile(64),
         Query::OfSymbol(1),
     ];
-    answer_queries::<_, _, 6>(alloc, model, model, &queries)
+    answer_queries(alloc, model, model, &queries)
 }
 
 /// The form that two conversions leave, and its replies to two queries beside the hashed encoder of the same entries.

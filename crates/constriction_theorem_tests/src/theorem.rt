@@ -81,7 +81,7 @@ fn of_letters(
 ) -> Result<FormAndReplies<char, u8, 6>, ModelError> {
     let symbols = SYMBOLS.to_vec(alloc).expect(rt, "memory");
     let weights = weights.to_vec(alloc).expect(rt, "memory");
-    answer_from_symbols_and_weights::<_, _, 6>(alloc, symbols, weights, false, &AGAIN, &LETTERS)
+    answer_from_symbols_and_weights(alloc, symbols, weights, false, &AGAIN, &LETTERS)
 }
 
 #[test]
@@ -146,7 +146,7 @@ fn of_model(
     model: &Weighted<6>,
 ) -> Result<AnswersOfModel<usize, u8, DecoderForm<usize, u8, 6>>, ModelError> {
     contiguous_symbols_differ();
-    answer_by_model::<_, 6>(alloc, model, &STEPS, &NUMBERS)
+    answer_by_model(alloc, model, &STEPS, &NUMBERS)
 }
 
 #[test]
@@ -220,7 +220,7 @@ fn models_without_a_lookup_table_reply_at_the_full_width(rt: HostRuntime) {
     holds(&rt, &made.contiguous.hashed, &expected);
     holds(&rt, &made.non_contiguous.contiguous, &expected);
     let model = UniformModel::<u128, 64>::new(2);
-    let found = answer_beside_encoder::<_, 64>(rt.alloc(), model, &[Query::OfQuantile(0)]);
+    let found = answer_beside_encoder(rt.alloc(), model, &[Query::OfQuantile(0)]);
     let expected = Reply::Row(0, 0, (1u128 << 63).into_nonzero_unchecked());
     holds(&rt, &found.expect(&rt, "replies"), &[expected]);
 }

@@ -56,7 +56,7 @@ where
     ensures ok { IfOk result (λ d. StandApart M.Symbol.eq M.stands_for (decoder_model_rows d) (M.rows model)) }
     ensures refused { IfErr result (λ e. e ≡ ModelError.OutOfMemory) }
 {
-    match entries_of_distinct::<_, PRECISION>(alloc, model) {
+    match entries_of_distinct(alloc, model) {
         Ok(entries) => Ok(decoder_over(entries)),
         Err(refused) => Err(refused),
     }
