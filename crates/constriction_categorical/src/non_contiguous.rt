@@ -93,12 +93,7 @@ fn entries_compared<
     let symbols = symbols.into_iter();
     let weights = weights.into_iter();
     let room = Vec::with_capacity(alloc, entries_announced::<PRECISION>(symbols.size_hint().0))?;
-    rows_read::<P, Symbol, Vec<(P, Symbol)>, _, _, PRECISION>(
-        room,
-        symbols,
-        weights,
-        infer_last,
-    )
+    rows_read::<P, Symbol, Vec<(P, Symbol)>, _, _, PRECISION>(room, symbols, weights, infer_last)
 }
 
 /// The model over these entries: a model's left cumulatives, each with a symbol, no two of which are equal. It takes
