@@ -174,7 +174,7 @@ fn a_conversion_refuses_for_the_clones_of_its_walk(rt: HostRuntime) {
     ).expect(&rt, "accepted");
     same(
         &rt,
-        to_generic_decoder_model(alloc, &numbers).map(|model| model.support_size()),
+        to_generic_decoder_model::<_, 6>(alloc, &numbers).map(|model| model.support_size()),
         Ok(3),
     );
     let made = Decoder::from_symbols_and_nonzero_fixed_point_probabilities(
@@ -185,10 +185,14 @@ fn a_conversion_refuses_for_the_clones_of_its_walk(rt: HostRuntime) {
     );
     let model = made.expect(&rt, "accepted");
     let refused = Some(ModelError::OutOfMemory);
-    same(&rt, to_generic_decoder_model(alloc, &model).err(), refused);
     same(
         &rt,
-        to_generic_lookup_decoder_model(alloc, &model).err(),
+        to_generic_decoder_model::<_, 6>(alloc, &model).err(),
+        refused,
+    );
+    same(
+        &rt,
+        to_generic_lookup_decoder_model::<_, 6>(alloc, &model).err(),
         Some(ModelError::OutOfMemory),
     );
 }
