@@ -194,14 +194,13 @@ fn row_of_sixteen<R: Probe>(rows: &mut R, q: R::Word, first: usize) -> usize
     row_of_eight(rows, q, half)
 }
 
-/// The greatest index whose cumulative is at most `q`, of three to 32.
+/// The greatest index whose cumulative is at most `q`, of at most 32.
 ///
 /// The first question leaves a power of two, so each later one asks about the row that stands a fixed number of rows after the
 /// first one that is left. How many questions there are is chosen once, before the first: no test of what is left stands between.
 #[inline(always)]
 fn row_of_thirty_two<R: Probe>(rows: &mut R, q: R::Word) -> usize
     requires searchable { IsSearchable (R.cumulatives rows.old) (R.number q) }
-    requires more { 2 < length (R.cumulatives rows.old) }
     requires few { length (R.cumulatives rows.old) ≤ 32 }
     requires room { R.questions rows.old ≤ usize.MAX - 64 }
     ensures found { IsLastAtMost (R.cumulatives rows.old) (R.number q) result }
@@ -221,8 +220,11 @@ fn row_of_thirty_two<R: Probe>(rows: &mut R, q: R::Word) -> usize
         let first = first_left(rows, q, 0, size, 4);
         return row_of_four(rows, q, first);
     }
-    let first = first_left(rows, q, 0, size, 2);
-    first_left(rows, q, first, 2, 1)
+    if size > 2 {
+        let first = first_left(rows, q, 0, size, 2);
+        return first_left(rows, q, first, 2, 1);
+    }
+    row_of_two(rows, q)
 }
 
 /// The greatest index whose cumulative is at most `q`.
@@ -265,11 +267,7 @@ pub fn row_in_probe<R: Probe + Drop, const FEW: usize>(rows: R, q: R::Word) -> u
     ensures { IsLastAtMost (R.cumulatives rows) (R.number q) result }
 {
     let mut few = rows;
-    let size = few.len();
-    if size <= FEW {
-        if size <= 2 {
-            return row_of_two(&mut few, q);
-        }
+    if few.len() <= FEW {
         return row_of_thirty_two(&mut few, q);
     }
     let mut many = few;

@@ -39,13 +39,14 @@ returns-then-size-gt4-clause-counted g c =
     (omega (arith, c.if-size-gt8.false, c.len-size.ensures)) in
     omega (arith, digits, c.row_of_four.ensures.counted, c.first_left-first-then-size-gt4.ensures.counted)
 
-pub returns-clause-found : goal.returns-clause-found
-returns-clause-found g c =
+pub returns-then-size-gt2-clause-found : goal.returns-then-size-gt2-clause-found
+returns-then-size-gt2-clause-found g c =
     narrowed_one _ _ c.requires.searchable _ 1
-    (rw c.first_left-first-2.ensures.same at c.first_left.ensures.narrowed) (omega arith)
+    (rw c.first_left-first-then-size-gt2.ensures.same at c.first_left.ensures.narrowed) (omega arith)
 
-pub returns-clause-counted : goal.returns-clause-counted
-returns-clause-counted g c =
+pub returns-then-size-gt2-clause-counted : goal.returns-then-size-gt2-clause-counted
+returns-then-size-gt2-clause-counted g c =
     let rows : ℕ = length (g.R.Probe.cumulatives c.args.rows.now) in
-    let digits = digits_between 1 rows (omega (arith, c.requires.more)) (omega (arith, c.if-size-gt4.false, c.len-size.ensures)) in
-    omega (arith, digits, c.first_left.ensures.counted, c.first_left-first-2.ensures.counted)
+    let digits = digits_between 1 rows (omega (arith, c.if-size-gt2.true, c.len-size.ensures))
+    (omega (arith, c.if-size-gt4.false, c.len-size.ensures)) in
+    omega (arith, digits, c.first_left.ensures.counted, c.first_left-first-then-size-gt2.ensures.counted)
