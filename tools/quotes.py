@@ -139,19 +139,6 @@ def definition_of(it):
     return [*it.comment, *packed(joined(it.lines))]
 
 
-def briefly(it):
-    """Returns what a definition says: of its comment the first sentence, up to a colon where it is longer than a line; and of one with
-    equations no type, and nothing of what is around it."""
-    lines = moved(it.lines, 0)
-    has_equations = lines[0].startswith(("abbrev ", "unfoldable "))
-    at = next((at for at, line in enumerate(lines) if at and indent_of(line) == 0), 0) if has_equations else 0
-    comment = wrapped(first_sentence(it.comment), "-- ") if it.comment else []
-    if len(comment) > 1:
-        text = told_by(it.comment)
-        comment = wrapped(text if text == first_sentence(it.comment) else f"{text.removesuffix('.')} ..", "-- ")
-    return [*comment, *packed(joined(lines[at:]))]
-
-
 def member_of(it):
     """Returns the comment and the lines of a ghost member of a trait or an impl."""
     return [line for line in it.docs if not line.strip().startswith("///")], joined(it.lines)
