@@ -1,10 +1,7 @@
-//! Symbols that are watched: how often two of them are compared, and how many there are.
+//! Conversions of models of symbols that are watched: how often two of them are compared, and how many there are.
 
-ghost use Rattle.std.specs.Prelude.{◌≡◌, ◌==◌, ◌<◌, ◌^◌};
-ghost use Rattle.std.specs.Cmp.Rules.{comparing, hashing};
-ghost use Rattle.std.specs.Hash as fed;
+ghost use Rattle.std.specs.Prelude.{◌<◌, ◌^◌};
 ghost use Rattle.std.specs.List.{IsDistinct};
-ghost use Rattle.std.proofs.Common.{rules};
 ghost use Rattle.constriction.specs.Rows.{symbols_of};
 ghost use Rattle.constriction_client_tests.specs.HeldSymbolTables.{held-step};
 
@@ -16,99 +13,26 @@ use constriction::stream::model::{
     to_generic_lookup_decoder_model_of_distinct,
 };
 use constriction_client::{ChainStep, DecoderForm, convert_chain};
-use std::alloc::{AllocError, Global};
-use std::cell::Cell;
-use std::hash::{Hash, Hasher};
+use constriction_test_models::watched::{Tally, Watched, symbols, tally, told};
+use std::alloc::Global;
 use std::iter;
 use std::process::Abort;
-use std::rc::Rc;
-
-/// How often the symbols that share the tally were compared. Each of them owns it, so that the count of its owners tells how
-/// many symbols there are.
-type Tally = Rc<Cell<usize>>;
-
-/// A symbol that counts its comparisons. Memory for a clone is refused where its number is the greatest `u32`.
-#[derive(Drop)]
-struct Watched {
-    number: u32,
-    compared: Tally,
-}
-
-impl PartialEq for Watched {
-    ghost eq = { λ a b. a.number == b.number };
-
-    ghost laws = { Prim.search (comparing, rules) };
-
-    fn eq(&self, other: &Watched) -> bool {
-        self.compared.set(self.compared.get().wrapping_add(1));
-        self.number == other.number
-    }
-}
-
-impl Eq for Watched {
-    ghost laws = { Prim.search (comparing, rules) };
-}
-
-impl Hash for Watched {
-    ghost hash_input = { λ a. fed.u32 a.number };
-
-    ghost respects_eq = { Prim.search (hashing, rules) };
-
-    fn hash<H: Hasher>(&self, state: &mut H) {
-        state.write_u32(self.number);
-    }
-}
-
-impl Clone for Watched {
-    ghost is_clone = { λ x y. y.number ≡ x.number };
-
-    fn clone(&self) -> Result<Watched, AllocError> {
-        if self.number == u32::MAX {
-            return Err(AllocError);
-        }
-        Ok(Watched {
-            number: self.number,
-            compared: self.compared.clone()?,
-        })
-    }
-}
 
 type Decoder = NonContiguousCategoricalDecoderModel<Watched, usize, Vec<(usize, Watched)>, 24>;
 
 type Form = DecoderForm<Watched, usize, 24>;
 
-/// A tally that counts no comparison, and that no symbol owns.
-fn tally(rt: &impl Abort, alloc: Global) -> Tally {
-    Rc::new(alloc, Cell::new(0)).expect(rt, "memory")
-}
-
-/// How often symbols were compared, and how many there are.
-fn told(compared: &Tally) -> (usize, usize) {
-    (compared.get(), Rc::strong_count(compared).wrapping_sub(1))
-}
-
-/// The symbols of so many numbers from 0 on, and a symbol of the number `last` after them.
-fn symbols(
+/// The model of so many numbers from 0 on, and of the number `last` after them, which are told apart by their hashes. Each has one
+/// quantile, but the last one has all that are left. So the rows of the others all meet the first slot of a lookup table.
+fn hashed(
     rt: &impl Abort,
     alloc: Global,
-    compared: &Tally,
+    tally: &Tally,
     count: u32,
     last: u32,
-) -> Vec<Watched> {
-    let mut symbols = Vec::new(alloc);
-    for number in (0..count).chain(iter::once(last)) {
-        let compared = compared.clone().expect(rt, "memory");
-        symbols
-            .push(Watched { number, compared })
-            .expect(rt, "memory");
-    }
-    symbols
-}
-
-/// The model of these symbols, which are told apart by their hashes. Each has one quantile, but the last one has all that are
-/// left. So the rows of the others all meet the first slot of a lookup table.
-fn hashed(alloc: Global, symbols: Vec<Watched>) -> Result<Decoder, ModelError> {
-    let ones = iter::repeat_n(1usize, symbols.len().saturating_sub(1));
+) -> Result<Decoder, ModelError> {
+    let symbols = symbols(alloc, tally, count, last).expect(rt, "memory");
+    let ones = iter::repeat_n(1usize, count as usize);
     Decoder::from_hashable_symbols_and_nonzero_fixed_point_probabilities(alloc, symbols, ones, true)
 }
 
@@ -230,53 +154,54 @@ fn number_at(form: &Form, quantile: usize) -> Option<u32>
 /// One hash of each tells most of 5,000 symbols apart, and no conversion compares any. No clone outlives the form.
 #[test]
 fn five_thousand_symbols_are_converted_without_comparing_any(rt: HostRuntime) {
-    let compared = tally(&rt, rt.alloc());
-    let made = hashed(rt.alloc(), symbols(&rt, rt.alloc(), &compared, 4999, 5000));
+    let tally = tally(rt.alloc()).expect(&rt, "memory");
+    let made = hashed(&rt, rt.alloc(), &tally, 4999, 5000);
     let model = made.expect(&rt, "accepted");
-    let (few, alive) = told(&compared);
+    let (few, alive) = told(&tally);
     same(&rt, (few <= 5000, alive), (true, 5000));
     let form = converted(rt.alloc(), model).expect(&rt, "a form");
     same(&rt, number_at(&form, 4321), Some(4321));
-    same(&rt, told(&compared), (few, 5000));
+    same(&rt, told(&tally), (few, 5000));
+    same(&rt, tally.hashed.get(), 5000);
     drop(form);
-    same(&rt, told(&compared), (few, 0));
+    same(&rt, told(&tally), (few, 0));
 }
 
 /// The conversion to a lookup model compares no two symbols, whether or not the walk announces how many rows there are.
 #[test]
 fn five_thousand_symbols_are_looked_up_without_comparing_any(rt: HostRuntime) {
-    let compared = tally(&rt, rt.alloc());
-    let made = hashed(rt.alloc(), symbols(&rt, rt.alloc(), &compared, 4999, 5000));
+    let tally = tally(rt.alloc()).expect(&rt, "memory");
+    let made = hashed(&rt, rt.alloc(), &tally, 4999, 5000);
     let model = made.expect(&rt, "accepted");
-    let (few, _alive) = told(&compared);
+    let (few, _alive) = told(&tally);
     let announced = looked_up(rt.alloc(), &model).expect(&rt, "a form");
     same(&rt, number_at(&announced, 4321), Some(4321));
     let unannounced = looked_up_unannounced(rt.alloc(), &model).expect(&rt, "a form");
     same(&rt, number_at(&unannounced, 4321), Some(4321));
-    same(&rt, told(&compared), (few, 15_000));
+    same(&rt, told(&tally), (few, 15_000));
 }
 
 /// The conversion of a model that knows that its symbols differ compares none.
 #[test]
 fn five_thousand_symbols_that_differ_are_not_compared(rt: HostRuntime) {
-    let compared = tally(&rt, rt.alloc());
-    let made = hashed(rt.alloc(), symbols(&rt, rt.alloc(), &compared, 4999, 5000));
+    let tally = tally(rt.alloc()).expect(&rt, "memory");
+    let made = hashed(&rt, rt.alloc(), &tally, 4999, 5000);
     let model = made.expect(&rt, "accepted");
-    let (few, _alive) = told(&compared);
+    let (few, _alive) = told(&tally);
     let form = walked(rt.alloc(), &model).expect(&rt, "a form");
     same(&rt, number_at(&form, 4321), Some(4321));
-    same(&rt, told(&compared), (few, 10_000));
+    same(&rt, told(&tally), (few, 10_000));
 }
 
 /// Where a symbol is there twice, and where a clone is refused, no symbol is left.
 #[test]
 fn no_symbol_outlives_a_refusal(rt: HostRuntime) {
-    let compared = tally(&rt, rt.alloc());
-    let repeat = hashed(rt.alloc(), symbols(&rt, rt.alloc(), &compared, 3, 1));
+    let tally = tally(rt.alloc()).expect(&rt, "memory");
+    let repeat = hashed(&rt, rt.alloc(), &tally, 3, 1);
     same(&rt, repeat.err(), Some(ModelError::InvalidTable));
-    same(&rt, told(&compared).1, 0);
-    let made = hashed(rt.alloc(), symbols(&rt, rt.alloc(), &compared, 3, u32::MAX));
+    same(&rt, told(&tally).1, 0);
+    let made = hashed(&rt, rt.alloc(), &tally, 3, u32::MAX);
     let refused = converted(rt.alloc(), made.expect(&rt, "accepted"));
     same(&rt, refused.err(), Some(ModelError::OutOfMemory));
-    same(&rt, told(&compared).1, 0);
+    same(&rt, told(&tally).1, 0);
 }

@@ -35,8 +35,6 @@ type Texts = NonContiguousCategoricalDecoderModel<String, u8, Vec<(u8, String)>,
 
 type Numbers = NonContiguousCategoricalDecoderModel<usize, u8, Vec<(u8, usize)>, 6>;
 
-type WideNumbers = NonContiguousCategoricalDecoderModel<u32, u32, Vec<(u32, u32)>, 24>;
-
 type NumberLookup = NonContiguousLookupDecoderModel<usize, u8, Vec<(u8, usize)>, Vec<u8>, 6>;
 
 /// Stops the test where no model was made, or where its row of the quantile 31 is not that of the second move.
@@ -171,22 +169,6 @@ fn models_whose_symbols_differ_are_converted_without_comparing(rt: HostRuntime) 
     looks_up(&rt, of_contiguous(rt.alloc(), &small(&rt, rt.alloc())), 2);
     let model = hashed(rt.alloc()).expect(&rt, "a model");
     has_row(&rt, &again(rt.alloc(), &model).expect(&rt, "a model"));
-}
-
-/// The decoder's model of the numbers below 5,000, which are in order.
-fn five_thousand(alloc: Global) -> Result<WideNumbers, ModelError> {
-    WideNumbers::from_sorted_symbols_and_nonzero_fixed_point_probabilities(
-        alloc,
-        0..5000,
-        iter::repeat_n(1, 4999),
-        true,
-    )
-}
-
-#[test]
-fn thousands_of_symbols_are_accepted_in_order(rt: HostRuntime) {
-    let model = five_thousand(rt.alloc()).expect(&rt, "a model");
-    same(&rt, model.support_size(), 5000);
 }
 
 /// Why there is no decoder's model of 2^60 numbers, each of which is compared with all before it or has a hash.

@@ -46,4 +46,6 @@ mod told_to_differ;
 #[cfg(test)]
 mod uncloned_symbols;
 #[cfg(test)]
+mod watched_symbols;
+#[cfg(test)]
 mod wide_slots;

@@ -1,23 +1,50 @@
-//! A model of the caller that stores its rows, and a lookup table beside it.
+//! A model of the caller that stores its rows, and a lookup table beside it: how often a look-up reads where a row begins, and
+//! how it asks the model.
 
-use crate::checks::same;
+ghost use Rattle.std.specs.Prelude.{◌<◌, ◌^◌};
+
+use crate::checks::{same, same_at};
+use crate::watched_symbols::{Decoder, sixteen};
 use constriction::stream::model::{
-    AnswersRows, DecoderModel, EntropyModel, LookupDecoderModel, StoresRows, Weight,
+    AnswersRows, CdfEntry, DecoderModel, EntropyModel, LookupDecoderModel, StoresRows, Weight,
+    WithSymbol, is_quantile,
 };
-use constriction_test_models::any_symbols::plain;
-use constriction_test_models::contiguous::{WEIGHTS, Weighted, weighted};
-use std::alloc::AllocError;
+use constriction_test_models::watched::{Watched, count, tally};
+use std::alloc::{AllocError, Global};
 use std::cell::Cell;
+use std::process::Abort;
 
-/// A model that counts how often it is asked for the row of a quantile. It does not count where it answers the row at an
-/// index or lends its stored entries.
+/// Entries that count how often they are read.
 #[derive(Drop)]
-struct Counting<'c, Model> {
-    model: Model,
-    searches: &'c Cell<usize>,
+pub struct Counted;
+
+impl CdfEntry<(u16, Watched)> for Counted {
+    type Word = u16;
+
+    ghost cumulative = { λ x. x.0 };
+
+    fn cumulative_of(entry: &(u16, Watched)) -> u16 {
+        count(&entry.1.tally.read);
+        entry.0
+    }
 }
 
-impl<'c, Model: EntropyModel<6>> EntropyModel<6> for Counting<'c, Model> {
+/// What a model was asked: how often for the row of a quantile, and the number of the words that stood after the slots of a
+/// lookup table when it was asked for a row beside these.
+#[derive(Drop)]
+struct Asked {
+    searches: Cell<usize>,
+    beside: Cell<usize>,
+}
+
+/// A model that notes what it is asked. Its entries count how often they are read.
+#[derive(Drop)]
+struct Noting<'c, Model> {
+    model: Model,
+    asked: &'c Asked,
+}
+
+impl<'c, Model: EntropyModel<12>> EntropyModel<12> for Noting<'c, Model> {
     type Symbol = Model::Symbol;
 
     type Probability = Model::Probability;
@@ -27,7 +54,7 @@ impl<'c, Model: EntropyModel<6>> EntropyModel<6> for Counting<'c, Model> {
     ghost precision_law = { λ m. Model.precision_law m.model };
 }
 
-impl<'c, Model: DecoderModel<6>> DecoderModel<6> for Counting<'c, Model> {
+impl<'c, Model: DecoderModel<12>> DecoderModel<12> for Noting<'c, Model> {
     ghost stands_for = { Model.stands_for };
 
     ghost may_refuse = { Model.may_refuse };
@@ -43,61 +70,115 @@ impl<'c, Model: DecoderModel<6>> DecoderModel<6> for Counting<'c, Model> {
         ),
         AllocError,
     > {
-        self.searches.set(self.searches.get().wrapping_add(1));
+        count(&self.asked.searches);
         self.model.quantile_function(quantile)
     }
 
     ghost tile_law = { λ m. Model.tile_law m.model };
 }
 
-impl<'c, Model: StoresRows<6>> StoresRows<6> for Counting<'c, Model> {
-    type Entry = Model::Entry;
+impl<'c, Model> StoresRows<12> for Noting<'c, Model>
+where
+    Model: StoresRows<12, Entry = (u16, Watched), Kind = WithSymbol>
+        + EntropyModel<12, Probability = u16>,
+{
+    type Entry = (u16, Watched);
 
-    type Kind = Model::Kind;
+    type Kind = Counted;
 
-    fn entries(&self) -> &[Model::Entry] {
+    fn entries(&self) -> &[(u16, Watched)] {
         self.model.entries()
+    }
+
+    fn wants_ends(&self) -> bool {
+        true
     }
 
     ghost stored_law = { λ m. Model.stored_law m.model };
 }
 
-impl<'c, Model: AnswersRows<6>> AnswersRows<6> for Counting<'c, Model> {
-    fn row_at(
-        &self,
-        index: usize,
-    ) -> Result<
-        (
-            Model::Symbol,
-            Model::Probability,
-            Weight<Model::Probability>,
-        ),
-        AllocError,
-    > {
+impl<'c, Model> AnswersRows<12> for Noting<'c, Model>
+where
+    Model: AnswersRows<12>
+        + StoresRows<12, Entry = (u16, Watched), Kind = WithSymbol>
+        + EntropyModel<12, Probability = u16>,
+{
+    fn row_at(&self, index: usize) -> Result<(Model::Symbol, u16, Weight<u16>), AllocError> {
         self.model.row_at(index)
+    }
+
+    fn row_beside(
+        &self,
+        cdf: &[u16],
+        index: usize,
+    ) -> Result<(Model::Symbol, u16, Weight<u16>), AllocError> {
+        self.asked.beside.set(cdf.len());
+        self.model.row_beside(cdf, index)
     }
 }
 
-/// The caller's model with a lookup table of four slots, of 16 quantiles each.
-type Tabled<'c> = LookupDecoderModel<Counting<'c, Weighted<6>>, Vec<u8>, 6, 2>;
+/// The number of a quantile's symbol.
+fn number_at<M: DecoderModel<12, Symbol = Watched, Probability = u16>>(
+    model: &M,
+    quantile: u16,
+) -> Option<u32> {
+    if !is_quantile::<u16, 12>(quantile) {
+        return None;
+    }
+    match model.quantile_function(quantile) {
+        Ok((symbol, _, _)) => Some(symbol.number),
+        Err(_) => None,
+    }
+}
 
-/// Three rows meet the slot of 21, and one that of 63.
+/// The caller's model with a lookup table.
+type Tabled<'c, const SLOT_BITS: usize> = LookupDecoderModel<
+    Noting<'c, Decoder>,
+    Vec<u16>,
+    12,
+    SLOT_BITS,
+>;
+
+/// A quantile, the number of its row, and how often a look-up reads where a row begins.
+type Case = (u16, u32, usize);
+
+/// Stops the test where a lookup model of sixteen rows, with so many slots, answers a quantile otherwise, or reads more or less
+/// often. It is made by two passes over the rows, the first of which leaves out the first row. Of the model it asks rows beside
+/// the words after its slots, which are one a row and one more, and no search.
+fn looks_up<const SLOT_BITS: usize>(rt: &impl Abort, alloc: Global, cases: &[Case]) {
+    let tally = tally(alloc).expect(rt, "memory");
+    let asked = Asked {
+        searches: Cell::new(0),
+        beside: Cell::new(0),
+    };
+    let noting = Noting {
+        model: sixteen(rt, alloc, &tally),
+        asked: &asked,
+    };
+    let made: Result<Tabled<'_, SLOT_BITS>, AllocError> = LookupDecoderModel::with_table(
+        alloc, noting,
+    );
+    let tabled = made.expect(rt, "a lookup model");
+    same(rt, tally.read.replace(0), 31);
+    for each in cases {
+        let (quantile, number, reads) = *each;
+        let found = number_at(&tabled, quantile);
+        same_at(
+            rt,
+            quantile,
+            (found, tally.read.replace(0)),
+            (Some(number), reads),
+        );
+    }
+    same(rt, [asked.searches.get(), asked.beside.get()], [0, 17]);
+    let searching = tabled.into_searching_model();
+    same(rt, number_at(&searching, 316), Some(7));
+    same(rt, asked.searches.get(), 1);
+}
+
 #[test]
 fn a_lookup_table_answers_in_place_of_the_search_of_its_model(rt: HostRuntime) {
-    let searches = Cell::new(0);
-    let counting = Counting {
-        model: weighted::<6>(rt.alloc(), &WEIGHTS, false).expect(&rt, "accepted"),
-        searches: &searches,
-    };
-    let tabled: Tabled<'_> = LookupDecoderModel::with_table(rt.alloc(), counting).expect(
-        &rt,
-        "a lookup model",
-    );
-    same(&rt, plain(tabled.quantile_function(21)), Ok((2, 21, 1)));
-    same(&rt, plain(tabled.quantile_function(63)), Ok((3, 22, 42)));
-    same(&rt, searches.get(), 0);
-    let searching = tabled.into_searching_model();
-    same(&rt, searching.entries().len(), WEIGHTS.len());
-    same(&rt, plain(searching.quantile_function(63)), Ok((3, 22, 42)));
-    same(&rt, searches.get(), 1);
+    looks_up::<8>(&rt, rt.alloc(), &[(4, 4, 3), (16, 6, 0), (316, 7, 1)]);
+    looks_up::<4>(&rt, rt.alloc(), &[(4, 4, 3), (316, 7, 2), (4000, 15, 2)]);
+    looks_up::<12>(&rt, rt.alloc(), &[(4, 4, 0), (4000, 15, 0)]);
 }

@@ -9,19 +9,22 @@ use constriction::stream::model::{
     Alone, CdfEntry, CdfProbe, DecoderModel, DefaultContiguousCategoricalEntropyModel, Probe,
     WithSymbol, row_of_quantile, to_generic_decoder_model_of_distinct,
 };
+use constriction_model::row_in_probe;
 use constriction_test_models::plain_rows::row;
 use constriction_words::WholeNumber;
+use std::cell::Cell;
 use std::iter;
 
-/// A probe of the caller, whose cumulatives are computed: the even numbers from 0 on.
+/// A probe of the caller, whose cumulatives are computed: the even numbers from 0 on. The count of its questions outlives it.
 #[derive(Drop)]
-struct Evens {
+struct Evens<'c> {
     size: usize,
     asked: usize,
+    questions: &'c Cell<usize>,
     ghost few: { size ≤ 1000 },
 }
 
-impl Probe for Evens {
+impl<'c> Probe for Evens<'c> {
     type Word = u16;
 
     ghost number = { λ word. word };
@@ -42,6 +45,7 @@ impl Probe for Evens {
     #[tactic(auto, using(crate::proofs::EvenLemmas::length_evens, crate::proofs::EvenLemmas::evens_at))]
     fn at_most(&mut self, index: usize, q: u16) -> bool {
         self.asked += 1;
+        self.questions.set(self.asked);
         2 * index <= q as usize
     }
 }
@@ -49,12 +53,54 @@ impl Probe for Evens {
 #[test]
 #[tactic(auto, using(crate::proofs::EvenLemmas::length_evens))]
 fn a_probe_of_the_caller_is_searched(rt: HostRuntime) {
+    let questions = Cell::new(0);
     let mut rows = Evens {
         size: 1000,
         asked: 0,
+        questions: &questions,
     };
     same(&rt, row_of_quantile(&mut rows, 999u16), 499);
-    same(&rt, rows.asked(), 10);
+    same(&rt, [rows.asked(), questions.get()], [10, 10]);
+}
+
+/// The index that is found in a probe of so many even numbers, which is not asked afterwards, and how often it was asked.
+#[tactic(auto, using(crate::proofs::EvenLemmas::length_evens))]
+fn searched<const FEW: usize>(size: usize, q: u16) -> (usize, usize)
+    requires some { 0 < size }
+    requires within { size ≤ 1000 }
+    requires few { FEW ≤ 32 }
+{
+    let questions = Cell::new(0);
+    let rows = Evens {
+        size,
+        asked: 0,
+        questions: &questions,
+    };
+    (row_in_probe::<_, FEW>(rows, q), questions.get())
+}
+
+/// How many even numbers a probe has, the word that is searched for, the index that is found, and by how many questions.
+const SEARCHES: [(usize, u16, usize, usize); 10] = [
+    (1, 9, 0, 0),
+    (2, 1, 0, 1),
+    (3, 3, 1, 2),
+    (4, 7, 3, 2),
+    (5, 7, 3, 3),
+    (16, 9, 4, 4),
+    (17, 40, 16, 5),
+    (32, 31, 15, 5),
+    (33, 64, 32, 6),
+    (1000, 999, 499, 10),
+];
+
+#[test]
+fn a_probe_that_is_not_asked_afterwards_is_searched_by_as_many_questions(rt: HostRuntime) {
+    for each in &SEARCHES {
+        let (size, q, index, questions) = *each;
+        assert!(rt; 0 < size && size <= 1000);
+        let found = [searched::<2>(size, q), searched::<32>(size, q)];
+        same_at(&rt, size, found, [(index, questions); 2]);
+    }
 }
 
 #[test]

@@ -11,4 +11,5 @@ pub mod marked;
 pub mod own_model;
 pub mod plain_rows;
 pub mod symbol_types;
+pub mod watched;
 pub mod widths;

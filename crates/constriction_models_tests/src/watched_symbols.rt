@@ -1,0 +1,111 @@
+//! How often symbols are cloned, compared and hashed: by constructors, look-ups, walks and clones of models.
+
+ghost use Rattle.std.specs.Prelude.{◌<◌, ◌^◌};
+
+use crate::checks::{same, same_at};
+use constriction::stream::model::{
+    DecoderModel, EncoderModel, IterableEntropyModel, NonContiguousCategoricalDecoderModel,
+    NonContiguousCategoricalEncoderModel,
+};
+use constriction_test_models::watched::{Tally, Watched, symbols, tally};
+use std::alloc::{AllocError, Global};
+use std::iter;
+use std::process::Abort;
+
+pub type Decoder = NonContiguousCategoricalDecoderModel<Watched, u16, Vec<(u16, Watched)>, 12>;
+
+type Encoder = NonContiguousCategoricalEncoderModel<Watched, usize, 24>;
+
+/// The weights of sixteen rows over 12 bits, without the last one, which is 1,380.
+const WEIGHTS: [u16; 15] = [
+    1, 1, 1, 1, 1, 11, 300, 300, 300, 300, 300, 300, 300, 300, 300,
+];
+
+/// The model of the numbers from 0 to 15, which are in order. The first five have a quantile each, the sixth
+/// has those up to 15, and the seventh those from 16 to 315.
+pub fn sixteen(rt: &impl Abort, alloc: Global, tally: &Tally) -> Decoder {
+    let symbols = symbols(alloc, tally, 15, 15).expect(rt, "memory");
+    let made = Decoder::from_sorted_symbols_and_nonzero_fixed_point_probabilities(
+        alloc, symbols, WEIGHTS, true,
+    );
+    made.expect(rt, "accepted")
+}
+
+/// Stops the test where a call cloned, compared or hashed symbols more or less often than that.
+fn counts(rt: &impl Abort, tally: &Tally, call: &str, expected: [usize; 3]) {
+    let found = [
+        tally.cloned.replace(0),
+        tally.compared.replace(0),
+        tally.hashed.replace(0),
+    ];
+    same_at(rt, call, found, expected);
+}
+
+#[test]
+fn a_decoder_clones_a_symbol_once_for_each_row_that_it_gives(rt: HostRuntime) {
+    let tally = tally(rt.alloc()).expect(&rt, "memory");
+    let model = sixteen(&rt, rt.alloc(), &tally);
+    counts(&rt, &tally, "of sorted symbols", [0, 15, 0]);
+    let _ = model.quantile_function(316);
+    counts(&rt, &tally, "quantile_function", [1, 0, 0]);
+    let mut walk = model.symbol_table();
+    let _ = walk.next();
+    counts(&rt, &tally, "next", [1, 0, 0]);
+    let _ = walk.next_back();
+    counts(&rt, &tally, "next_back", [1, 0, 0]);
+    let _ = model.clone();
+    counts(&rt, &tally, "clone", [16, 0, 0]);
+}
+
+#[test]
+fn a_lookup_model_clones_a_symbol_once_for_each_row_that_it_gives(rt: HostRuntime) {
+    let tally = tally(rt.alloc()).expect(&rt, "memory");
+    let searching = sixteen(&rt, rt.alloc(), &tally);
+    let _ = searching.to_lookup_decoder_model(rt.alloc());
+    counts(&rt, &tally, "to_lookup_decoder_model", [16, 15, 0]);
+    let made = searching.into_lookup_decoder_model(rt.alloc());
+    let model = made.expect(&rt, "a lookup model");
+    counts(&rt, &tally, "into_lookup_decoder_model", [0, 0, 0]);
+    let _ = model.quantile_function(316);
+    counts(&rt, &tally, "quantile_function", [1, 0, 0]);
+    let _ = model.clone();
+    counts(&rt, &tally, "clone", [16, 0, 0]);
+}
+
+/// The encoder's model of the numbers from 0 to 4,999.
+fn five_thousand(rt: &impl Abort, alloc: Global, tally: &Tally) -> Encoder {
+    let symbols = symbols(alloc, tally, 4999, 4999).expect(rt, "memory");
+    let made = Encoder::from_symbols_and_nonzero_fixed_point_probabilities(
+        alloc,
+        symbols,
+        iter::repeat_n(1usize, 4999),
+        true,
+    );
+    made.expect(rt, "accepted")
+}
+
+/// Looks up these symbols, one of which has no entry.
+fn are_looked_up(rt: &impl Abort, model: &Encoder, symbols: &[Watched]) {
+    for symbol in symbols {
+        let found = model.left_cumulative_and_probability(symbol);
+        same_at(rt, symbol.number, found.is_some(), symbol.number < 5000);
+    }
+}
+
+/// One hash of each tells 5,000 symbols apart, and one hash finds the entry of a symbol, by at most two comparisons on average.
+#[test]
+fn an_entry_is_found_among_5_000_without_comparing_all(rt: HostRuntime) {
+    let tally = tally(rt.alloc()).expect(&rt, "memory");
+    let model = five_thousand(&rt, rt.alloc(), &tally);
+    let few = tally.compared.replace(0);
+    same(&rt, few <= 5000, true);
+    counts(&rt, &tally, "of symbols", [0, 0, 5000]);
+    let asked = symbols(rt.alloc(), &tally, 4999, 5000).expect(&rt, "memory");
+    are_looked_up(&rt, &model, &asked);
+    let few = tally.compared.replace(0);
+    same(&rt, few <= 10_000, true);
+    counts(&rt, &tally, "left_cumulative_and_probability", [0, 0, 5000]);
+    let clone: Result<Encoder, AllocError> = model.clone();
+    same(&rt, clone.is_ok(), true);
+    same(&rt, tally.cloned.get(), 5000);
+}
