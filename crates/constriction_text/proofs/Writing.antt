@@ -11,7 +11,7 @@ use Rattle.std.specs.Result.{OnOk}
 use Rattle.std.specs.declared.result.Result.{Result}
 use Rattle.std.specs.declared.result.Result.TheVariants.{Ok, Err}
 use Rattle.constriction_text.specs.Collecting.{WritesFront}
-use Rattle.constriction_text.specs.Runs.{WritesBeginning, WritesFirstAnswers}
+use Rattle.constriction_text.specs.Runs.{WritesBeginning, WritesAnswersBefore}
 
 -- the slice from an index on
 pub rest_of : (at : ℕ) (bytes : List ℕ) → take (length bytes - at) (drop at bytes) ≡ drop at bytes
@@ -88,21 +88,18 @@ answered-written a b c input rest text left so_far turn = record {
   wrote = Appends-trans a b c so_far.written turn.0 so_far.wrote turn.2;
 }
 
--- all of the text was written
-pub answered-first : (a b c : Option (List ℕ)) (input rest text : List ℕ) → Answered a b input rest text → Appends b c text
-    → WritesFirstAnswers a c input
-answered-first a b c input rest text so_far turn = (
+-- all of the text was written, and a line was left
+pub answered-before : (a b c : Option (List ℕ)) (line input rest after text : List ℕ) → Answered a b input rest text
+    → lines_of rest ≡ line ∷ lines_of after → Appends b c text → WritesAnswersBefore a c input
+answered-before a b c line input rest after text so_far cut turn = (
   so_far.first,
-  lines_of rest,
+  lines_of after,
+  line,
   answers_of so_far.first,
-  so_far.lines,
+  ap (λ ls. so_far.first ++ ls) (sym cut) ∙ so_far.lines,
   are_answers so_far.first,
   subst (Appends a c) so_far.answers (Appends-trans a b c so_far.written text so_far.wrote turn),
 )
-
--- nothing was written, which is the answers to no lines
-pub no_answers : (a : Option (List ℕ)) (input : List ℕ) → WritesFirstAnswers a a input
-no_answers a input = ([], lines_of input, [], refl, are_answers [], Appends-nil a)
 
 no-lines : (rest : List ℕ) → length rest ≡ 0 → lines_of rest ≡ []
 no-lines [] none = refl

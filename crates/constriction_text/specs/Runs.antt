@@ -1,5 +1,5 @@
 -- What a run over a reader and a writer leaves.
-use Rattle.std.specs.Prelude.{ℕ, ◌≡◌, List, ◌++◌, Option}
+use Rattle.std.specs.Prelude.{ℕ, ◌≡◌, List, ◌∷◌, ◌++◌, Option}
 use Rattle.std.specs.Io.KnownBytes.{Appends, Consumes}
 use Rattle.constriction_text.specs.declared.fault.RunFault.{RunFault}
 use Rattle.constriction_text.specs.declared.fault.RunFault.TheVariants.{Read, Write, TooLong, OutOfMemory}
@@ -24,7 +24,8 @@ HasRead old new P = (input : List ℕ) × Consumes old new input × P input
 abbrev pub WritesBeginning : Option (List ℕ) → Option (List ℕ) → List ℕ → Type 0
 WritesBeginning old new text = (written rest : List ℕ) × (written ++ rest ≡ text) × Appends old new written
 
--- the answers to some first lines of an input were written, each whole, and nothing else
-abbrev pub WritesFirstAnswers : Option (List ℕ) → Option (List ℕ) → List ℕ → Type 0
-WritesFirstAnswers old new input =
-    (first rest : List (List ℕ)) × (text : List ℕ) × (first ++ rest ≡ lines_of input) × AreAnswers first text × Appends old new text
+-- the answers to the lines before one of an input were written, each whole, and nothing else
+abbrev pub WritesAnswersBefore : Option (List ℕ) → Option (List ℕ) → List ℕ → Type 0
+WritesAnswersBefore old new input =
+    (before after : List (List ℕ)) × (line text : List ℕ) × (before ++ line ∷ after ≡ lines_of input)
+    × AreAnswers before text × Appends old new text

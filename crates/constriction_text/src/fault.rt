@@ -17,7 +17,8 @@ pub enum RunFault {
     /// The input is longer than 1,048,576 bytes. Nothing was written.
     #[error("The input is too long.")]
     TooLong,
-    /// Memory was refused. The answers to some first lines were written, each of them whole.
+    /// Memory was refused. Where that was for the answer to a line, the answers to the lines before it were written, each of them whole;
+    /// otherwise nothing was.
     #[error("Memory was refused.")]
     OutOfMemory,
 }

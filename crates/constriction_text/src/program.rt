@@ -3,7 +3,7 @@
 ghost use Rattle.std.specs.Prelude.{◌≡◌, ◌≢◌, ◌<◌, ◌≤◌, ◌+◌, ◌++◌, ◌∷◌, ◌⊎◌, ℕ, List, Err, length};
 ghost use Rattle.std.specs.Prelude.{IfOk, IfErr, OnOk, OnErr, string_bytes};
 ghost use Rattle.std.specs.Io.KnownBytes.{Appends, Consumes, IsAtEnd, Keeps};
-ghost use Rattle.constriction_text.specs.Runs.{limit, HasRead, WritesBeginning, WritesFirstAnswers};
+ghost use Rattle.constriction_text.specs.Runs.{limit, HasRead, WritesBeginning, WritesAnswersBefore};
 ghost use Rattle.constriction_text.specs.Collecting.{WritesFront};
 ghost use Rattle.constriction_text.specs.Answering.{answer_to};
 ghost use Rattle.constriction_text.specs.Text.{IsTextOf, lines_of};
@@ -162,7 +162,7 @@ fn write_answers<W: Write>(alloc: Global, input: &[u8], writer: &mut W) -> Resul
     ensures ok { OnOk result ((text : List ℕ) × IsTextOf input.now text
         × Appends (W.contents writer.old) (W.contents writer.new) text) }
     ensures out_of_memory { result ≡ Err RunFault.OutOfMemory →
-        WritesFirstAnswers (W.contents writer.old) (W.contents writer.new) input.now }
+        WritesAnswersBefore (W.contents writer.old) (W.contents writer.new) input.now }
     ensures write { result ≡ Err RunFault.Write →
         (written rest : List ℕ) × IsTextOf input.now (written ++ rest) × Appends (W.contents writer.old) (W.contents writer.new) written }
     ensures faults { IfErr result (λ fault. (fault ≢ RunFault.Read) × (fault ≢ RunFault.TooLong)) }
@@ -187,7 +187,6 @@ fn write_answers<W: Write>(alloc: Global, input: &[u8], writer: &mut W) -> Resul
 /// The writer is not flushed: give one that holds nothing back. An input is at most 1,048,576
 /// bytes, and of a longer one no more than one byte past them is read. No turn of the reader or the
 /// writer follows one that answered an error.
-#[tactic(auto, using(crate::proofs::Writing::no_answers))]
 pub fn run<R: Read, W: Write>(alloc: Global, reader: &mut R, writer: &mut W) -> Result<(), RunFault>
     // What is written is the text of what was read, which is all that the reader had.
     ensures ok { OnOk result (HasRead (R.remaining reader.old) (R.remaining reader.new) (λ input.
@@ -201,10 +200,11 @@ pub fn run<R: Read, W: Write>(alloc: Global, reader: &mut R, writer: &mut W) -> 
     ensures nothing_written { IfErr result (λ fault. (fault ≡ RunFault.Read) ⊎ (fault ≡ RunFault.TooLong) →
         Keeps (W.contents writer.old) (W.contents writer.new)) }
 
-    // The answers to some first lines, each whole, of all that the reader had; or nothing.
-    ensures out_of_memory { result ≡ Err RunFault.OutOfMemory → HasRead (R.remaining reader.old) (R.remaining reader.new) (λ input.
-        WritesFirstAnswers (W.contents writer.old) (W.contents writer.new) input
-        × (IsAtEnd (R.remaining reader.new) ⊎ Keeps (W.contents writer.old) (W.contents writer.new))) }
+    // The answers to the lines before one, each whole, of all that the reader had; or nothing.
+    ensures out_of_memory { result ≡ Err RunFault.OutOfMemory → Keeps (W.contents writer.old) (W.contents writer.new)
+        ⊎ HasRead (R.remaining reader.old) (R.remaining reader.new) (λ input.
+        IsAtEnd (R.remaining reader.new) × (length input ≤ limit)
+        × WritesAnswersBefore (W.contents writer.old) (W.contents writer.new) input) }
 
     // A beginning of the text of all that the reader had.
     ensures write { result ≡ Err RunFault.Write → HasRead (R.remaining reader.old) (R.remaining reader.new) (λ input.

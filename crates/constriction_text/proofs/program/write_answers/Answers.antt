@@ -1,5 +1,5 @@
 use Rattle.std.proofs.Common.{rules}
-use Rattle.constriction_text.proofs.Writing.{answered-none, answered-more, answered-written, answered-first}
+use Rattle.constriction_text.proofs.Writing.{answered-none, answered-more, answered-written, answered-before}
 use Rattle.constriction_text.proofs.Writing.{answered-all, answered-stopped, same-fault, if-ok}
 use Rattle.constriction_text.proofs.program.write_answers.Goals as goal
 
@@ -15,7 +15,8 @@ loop-rest-preserved g c =
 
 pub returns-in-Err-clause-out_of_memory : goal.returns-in-Err-clause-out_of_memory
 returns-in-Err-clause-out_of_memory g c = λ e.
-    answered-first _ _ _ c.args.input.now _ _ c.loop-rest.invariant
+    answered-before _ _ _ c.first_line.result.0.now c.args.input.now _ c.first_line.result.1.now _
+    c.loop-rest.invariant c.first_line.ensures.lines
     (rw (c.as_bytes.ensures.value, c.in-Err.ensures.err) at (c.write_last.ensures.out_of_memory (same-fault _ _ e)))
 
 pub returns-in-Err-clause-write : goal.returns-in-Err-clause-write
