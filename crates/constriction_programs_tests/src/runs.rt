@@ -62,6 +62,20 @@ impl Write for SlowWriter {
     }
 }
 
+/// Gives all that is asked for, and counts the turns.
+#[derive(Drop)]
+struct CountingReader<'a> {
+    rest: &'a [u8],
+    turns: usize,
+}
+
+impl Read for CountingReader<'_> {
+    fn read(&mut self, buf: &mut [u8]) -> io::Result<usize> {
+        self.turns = self.turns.saturating_add(1);
+        self.rest.read(buf)
+    }
+}
+
 /// Takes all that it is given, and counts the turns.
 #[derive(Drop)]
 struct CountingWriter {
@@ -229,18 +243,27 @@ fn faults_have_their_status(rt: HostRuntime) {
     );
 }
 
-/// What a run over an input answers, how many bytes it writes, and in how many turns.
-fn run_counted(alloc: Global, mut input: &[u8]) -> (Result<(), RunFault>, usize, usize) {
+/// What a run over an input answers, in how many turns it reads, how many bytes it writes, and in how many turns.
+fn run_counted(alloc: Global, input: &[u8]) -> (Result<(), RunFault>, usize, usize, usize) {
+    let mut reader = CountingReader {
+        rest: input,
+        turns: 0,
+    };
     let mut writer = CountingWriter { bytes: 0, turns: 0 };
-    let result = run(alloc, &mut input, &mut writer);
-    (result, writer.bytes, writer.turns)
+    let result = run(alloc, &mut reader, &mut writer);
+    (result, reader.turns, writer.bytes, writer.turns)
 }
 
-/// The answers to 20,000 lines, 9 bytes each, are two pieces of 65,538 bytes and what is left.
+/// 20,000 lines are two pieces of 8,192 bytes, what is left, and the end. Their answers, 9 bytes each, are two pieces of 65,538 bytes and
+/// what is left.
 #[test]
-fn answers_are_written_in_large_pieces(rt: HostRuntime) {
+fn an_input_is_read_and_answered_in_large_pieces(rt: HostRuntime) {
     let input = empty_lines(&rt, rt.alloc(), 20_000);
-    same(&rt, run_counted(rt.alloc(), &input), (Ok(()), 180_000, 3));
+    same(
+        &rt,
+        run_counted(rt.alloc(), &input),
+        (Ok(()), 4, 180_000, 3),
+    );
 }
 
 #[test]
