@@ -13,7 +13,7 @@ module _ {Symbol I : Type 0} (steps : I → Option Symbol → I → Type 0) (ent
   EncodesGiven precision symbols old full =
       (given : List Symbol) × Drains steps symbols given × InTurn (IsEncoded entry precision) (reverse given) full old
 
-  -- what an iterator gave was encoded up to one symbol, which was not; the iterator was asked for no more
+  -- what an iterator gave was encoded up to one symbol, which was not
   pub record GivenStops {S Fault E : Type 0} (words_of : S → List ℕ) (gives : S → ℕ → Result (Unit {0}) E → S → Type 0)
       (precision : ℕ) (symbols : I) (error : CoderError Fault E) (old : Content) (state : ℕ) (left : S) : Type 0 where
     pub done : List Symbol

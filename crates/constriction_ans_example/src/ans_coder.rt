@@ -1,6 +1,6 @@
 //! A stack coder, an asymmetric numeral system: what was encoded last is decoded first.
 
-ghost use Rattle.std.specs.Prelude.{◌≡◌, ◌≢◌, ◌+◌, ◌-◌, ◌*◌, ◌%◌, ◌^◌, ◌<◌, ◌≤◌, ℕ, [], None, Err, IfOk, OnErr};
+ghost use Rattle.std.specs.Prelude.{◌≡◌, ◌≢◌, ◌+◌, ◌-◌, ◌*◌, ◌%◌, ◌^◌, ◌<◌, ◌≤◌, ◌⊎◌, ℕ, [], None, Err, IfOk, OnErr};
 ghost use Rattle.constriction_ans_example.specs.States.{put};
 ghost use Rattle.constriction_ans_example.specs.Steps.{content, IsWhole, Refills, NeedsWord, IsEncoded, IsDecoded};
 ghost use Rattle.constriction.specs.Model.{RowMayBeRefused};
@@ -39,6 +39,7 @@ fn with_room<Backend: WordStack<u32>, const PRECISION: usize>(
     ensures whole { IfOk result (λ kept. (left : ℕ) → left + weight ≤ 2 ^ PRECISION
         → IsWhole (put PRECISION left weight kept) (Backend.words_of words.new)) }
     ensures ok { IfOk result (λ kept. Refills kept (Backend.words_of words.new) (content state (Backend.words_of words.old))) }
+    ensures wrote { (words.new ≡ words.old) ⊎ ((word : ℕ) × (answer : _) × Backend.write_gives words.old word answer words.new) }
     ensures failed { (error : _) → result ≡ Err error → (word : ℕ) × Backend.write_gives words.old word (Err error) words.new }
     ensures err { OnErr result (Backend.words_of words.new ≡ Backend.words_of words.old) }
 {
@@ -60,6 +61,7 @@ fn refilled<Backend: WordStack<u32>>(
     requires some { state ≡ 0 → Backend.words_of words.old ≡ [] }
     ensures whole { IfOk result (λ new. IsWhole new (Backend.words_of words.new)) }
     ensures ok { IfOk result (λ new. Refills state (Backend.words_of words.old) (content new (Backend.words_of words.new))) }
+    ensures read { (words.new ≡ words.old) ⊎ ((answer : _) × Backend.read_gives words.old answer words.new) }
     ensures below { OnErr result (state < 2 ^ 32) }
     ensures left { OnErr result (Backend.words_of words.old ≢ []) }
     ensures failed { (error : _) → result ≡ Err error → Backend.read_gives words.old (Err error) words.new }
@@ -91,6 +93,8 @@ impl<Backend: WordStack<u32>> AnsCoder<Backend> {
             (content self.new.state (Backend.words_of self.new.words)) (content self.old.state (Backend.words_of self.old.words))) }
         ensures impossible { (fault : _) → result ≡ Err (CoderError.Frontend fault)
             → entry_of E.symbol_eq (E.rows model.now) symbol.now ≡ None }
+        ensures wrote { (self.new.words ≡ self.old.words)
+            ⊎ ((word : ℕ) × (answer : _) × Backend.write_gives self.old.words word answer self.new.words) }
         ensures failed { (error : _) → result ≡ Err (CoderError.Backend error)
             → (word : ℕ) × Backend.write_gives self.old.words word (Err error) self.new.words }
         ensures state { OnErr result (self.new.state ≡ self.old.state) }
@@ -124,6 +128,7 @@ impl<Backend: WordStack<u32>> AnsCoder<Backend> {
             (content self.old.state (Backend.words_of self.old.words)) (content self.new.state (Backend.words_of self.new.words))) }
         ensures memory { (fault : _) → result ≡ Err (CoderError.Frontend fault)
             → RowMayBeRefused D.may_refuse (D.rows model.now) (self.old.state % 2 ^ PRECISION) }
+        ensures read { (self.new.words ≡ self.old.words) ⊎ ((answer : _) × Backend.read_gives self.old.words answer self.new.words) }
         ensures failed { (error : _) → result ≡ Err (CoderError.Backend error)
             → NeedsWord (D.rows model.now) PRECISION (content self.old.state (Backend.words_of self.old.words))
             × Backend.read_gives self.old.words (Err error) self.new.words }

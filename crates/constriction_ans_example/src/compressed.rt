@@ -1,6 +1,6 @@
 //! What a coder holds as words alone, and the coder of such words.
 
-ghost use Rattle.std.specs.Prelude.{◌≡◌, ◌↔◌, ◌<◌, ◌≤◌, ◌^◌, ◌++◌, ◌∷◌, [], List, ℕ, Some, Ok, Err, IfOk, IsTrue, length};
+ghost use Rattle.std.specs.Prelude.{◌≡◌, ◌↔◌, ◌<◌, ◌≤◌, ◌^◌, ◌++◌, ◌∷◌, [], List, ℕ, Some, Ok, Err, IfOk, IsTrue, length, vec_capacity};
 ghost use Rattle.constriction_ans_example.specs.Compressed.{IsCompressed, IsClosed, ClosingStops, IsOpened, OpeningStops};
 ghost use Rattle.constriction_ans_example.specs.Steps.{content};
 
@@ -11,10 +11,11 @@ use constriction::backends::laws::{pop, push};
 use std::alloc::{AllocError, Global};
 
 impl AnsCoder<Vec<u32>> {
-    /// A coder with nothing in it.
+    /// A coder with nothing in it. No memory is asked for.
     pub fn new(alloc: Global) -> Self
         ensures state { result.state ≡ 0 }
         ensures words { result.words.items ≡ [] }
+        ensures capacity { vec_capacity result.words ≡ 0 }
     {
         AnsCoder {
             state: 0,

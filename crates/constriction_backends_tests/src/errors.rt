@@ -1,7 +1,8 @@
-//! What is an error, and how it compares.
+//! What is an error, how it compares, and how it is shown.
 
-use crate::checks::same;
+use crate::checks::{same, shows};
 use constriction_backends::{BoundedWriteError, Cursor, WriteWords};
+use constriction_words::{CoderError, DefaultEncoderFrontendError, NanError, ReadWriteError};
 use std::alloc::AllocError;
 use std::error::Error;
 
@@ -18,4 +19,17 @@ fn a_full_sink_is_out_of_space(rt: HostRuntime) {
             same(&rt, clone, Ok(BoundedWriteError::OutOfSpace));
         }
     }
+}
+
+/// An error that holds any other one.
+type Nested = CoderError<DefaultEncoderFrontendError, ReadWriteError<NanError, BoundedWriteError>>;
+
+#[test]
+fn errors_are_shown_by_the_names_of_their_variants(rt: HostRuntime) {
+    let impossible = Nested::Frontend(DefaultEncoderFrontendError::ImpossibleSymbol);
+    shows(&rt, rt.alloc(), &impossible, "Frontend(ImpossibleSymbol)");
+    let unread = Nested::Backend(ReadWriteError::Read(NanError));
+    shows(&rt, rt.alloc(), &unread, "Backend(Read(NanError))");
+    let full = Nested::Backend(ReadWriteError::Write(BoundedWriteError::OutOfSpace));
+    shows(&rt, rt.alloc(), &full, "Backend(Write(OutOfSpace))");
 }

@@ -8,7 +8,7 @@ use constriction_backends::{
     WriteWords, laws,
 };
 use constriction_test_models::marked::Marked;
-use constriction_words::{Pos, Queue, Seek, Stack, UnwrapInfallible};
+use constriction_words::{Pos, Queue, Seek, Semantics, Stack, UnwrapInfallible};
 use std::convert::Infallible;
 use std::process::Abort;
 
@@ -29,23 +29,33 @@ fn a_buffer_of_the_caller_is_written_from_both_ends(rt: HostRuntime) {
     is_written_from_both_ends(&rt, Marked::new(words));
 }
 
-/// Whether a stack of one word, read in the other order, may be exhausted before that word is read, and after it.
-fn may_be_exhausted<Backend>(reversed: &mut Reverse<Backend>) -> [bool; 2]
+/// Whether a source of one word may be exhausted before that word is read, and after it.
+fn may_be_exhausted<S: Semantics, Source>(source: &mut Source) -> [bool; 2]
 where
-    Backend: ReadWords<u8, Stack, ReadError = Infallible>,
-    requires { Backend.can_read reversed.old.0 }
+    Source: ReadWords<u8, S, ReadError = Infallible>,
+    requires { Source.can_read source.old }
 {
-    let before = ReadWords::<u8, Queue>::maybe_exhausted(reversed);
-    let _ = ReadWords::<u8, Queue>::read(reversed);
-    [before, ReadWords::<u8, Queue>::maybe_exhausted(reversed)]
+    let before = source.maybe_exhausted();
+    let _ = source.read();
+    [before, source.maybe_exhausted()]
 }
 
+/// A stack and a cursor are read as queues, and a cursor as a stack.
 #[test]
 fn a_reversal_may_be_exhausted_where_its_backend_may(rt: HostRuntime) {
-    let mut stack = Reverse(vec_of(&rt, rt.alloc(), &[1]));
-    same(&rt, may_be_exhausted(&mut stack), [false, true]);
-    let mut cursor = Reverse(Cursor::<u8, _>::new_at_write_end([1u8].as_slice()));
-    same(&rt, may_be_exhausted(&mut cursor), [false, true]);
+    let words = [1u8];
+    let mut stack = Reverse(vec_of(&rt, rt.alloc(), &words));
+    let mut at_end = Reverse(Cursor::<u8, _>::new_at_write_end(words.as_slice()));
+    let mut at_beginning = Reverse(Cursor::<u8, _>::new_at_write_beginning(words.as_slice()));
+    same(
+        &rt,
+        [
+            may_be_exhausted::<Queue, _>(&mut stack),
+            may_be_exhausted::<Queue, _>(&mut at_end),
+            may_be_exhausted::<Stack, _>(&mut at_beginning),
+        ],
+        [[false, true]; 3],
+    );
 }
 
 /// How many words a stack has as a queue and the word that it reads so, and how many it has and where it stands then.

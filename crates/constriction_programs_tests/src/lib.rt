@@ -17,4 +17,6 @@ mod runs;
 #[cfg(test)]
 mod stored_weights;
 #[cfg(test)]
+mod turns;
+#[cfg(test)]
 mod walks;

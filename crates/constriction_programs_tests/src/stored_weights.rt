@@ -1,10 +1,13 @@
 //! A sentence that is coded by a model of texts, whose weights are stored as words.
 
 use crate::checks::same;
+use constriction::CoderError;
 use constriction::backends::Cursor;
 use constriction::stream::model::{IterableEntropyModel, to_generic_encoder_model};
 use constriction_ans_example::AnsCoder;
-use constriction_ans_example::stored_weights::{StoredModel, read_model, write_model};
+use constriction_ans_example::stored_weights::{
+    ReadingFault, StoredModel, read_model, write_model,
+};
 use std::alloc::Global;
 use std::process::Abort;
 
@@ -130,4 +133,24 @@ fn five_thousand_rows_come_back(rt: HostRuntime) {
     let numbers = (0..MANY).collect(alloc).expect(&rt, "memory");
     let model = read_model::<u32, _, 24>(alloc, numbers, &mut source).expect(&rt, "the model");
     are_many_rows(&rt, &model);
+}
+
+/// Stops the test where a model of 10 and 20 is read from these words, or is refused for another reason.
+fn is_refused(rt: &impl Abort, alloc: Global, words: &[u32], fault: ReadingFault) {
+    let mut source = Cursor::new_at_write_beginning(words);
+    let symbols = [10u32, 20].to_vec(alloc).expect(rt, "memory");
+    let model = read_model::<u32, _, 24>(alloc, symbols, &mut source);
+    same(rt, model.err(), Some(CoderError::Frontend(fault)));
+}
+
+#[test]
+fn words_that_end_before_the_weights_do_are_too_few(rt: HostRuntime) {
+    is_refused(&rt, rt.alloc(), &[], ReadingFault::TooFewWords);
+    is_refused(&rt, rt.alloc(), &[2, 5], ReadingFault::TooFewWords);
+}
+
+#[test]
+fn weights_of_no_model_are_not_accepted(rt: HostRuntime) {
+    is_refused(&rt, rt.alloc(), &[2, 5, 6], ReadingFault::NotAccepted);
+    is_refused(&rt, rt.alloc(), &[1, 1 << 24], ReadingFault::NotAccepted);
 }

@@ -2,6 +2,7 @@
 
 use crate::checks::same;
 use constriction::stream::model::DefaultUniformModel;
+use constriction::{CoderError, DefaultEncoderFrontendError};
 use constriction_ans_example::AnsCoder;
 
 /// A range is encoded from its back on. As many symbols as are asked for are decoded, in the order of the range. The others
@@ -31,17 +32,30 @@ fn a_range_comes_back_in_order(rt: HostRuntime) {
     same(&rt, coder.is_empty(), true);
 }
 
-/// A symbol that has no entry ends the encoding. The symbols before it are encoded, and those after it are not.
+/// A symbol that has no entry ends the encoding, at either end of an iterator. The symbols before it are encoded, and those
+/// after it stay in the iterator.
 #[test]
-fn an_impossible_symbol_ends_a_message(rt: HostRuntime) {
+fn an_impossible_symbol_ends_a_message_and_none_after_it_is_asked_for(rt: HostRuntime) {
     let alloc = rt.alloc();
     let model = DefaultUniformModel::new(1000);
     let mut coder = AnsCoder::new(alloc);
-    let encoded = coder.encode_iid_symbols([5, 6, 1000, 7], &model);
-    same(&rt, encoded.is_err(), true);
+    let mut given = [5, 1000, 6, 7, 1000, 8].iter().copied();
+    let impossible = Err(CoderError::Frontend(DefaultEncoderFrontendError::ImpossibleSymbol));
+    same(
+        &rt,
+        coder.encode_iid_symbols(&mut given, &model),
+        impossible,
+    );
+    let impossible = Err(CoderError::Frontend(DefaultEncoderFrontendError::ImpossibleSymbol));
+    same(
+        &rt,
+        coder.encode_iid_symbols_reverse(&mut given, &model),
+        impossible,
+    );
+    same(&rt, (given.next(), given.next_back()), (Some(6), Some(7)));
     let symbols = coder
         .decode_symbols(alloc, 2, &model)
         .expect(&rt, "the symbols");
-    same(&rt, symbols.as_slice(), [6, 5].as_slice());
+    same(&rt, symbols.as_slice(), [8, 5].as_slice());
     same(&rt, coder.is_empty(), true);
 }
