@@ -1,8 +1,8 @@
 -- What a cursor replies to a call, and the state that the call leaves; and runs of calls.
 -- A state is the words before the position and those from it on, and a call moves words from one list to the other.
-use Rattle.std.specs.Prelude.{◌+◌, ◌-◌, ◌==◌, nat_le, List, [], ◌∷◌, ◌++◌, length, None, if◌then◌else◌}
-use Rattle.std.specs.List.{last_or, slice_get}
-use Rattle.constriction_backends.specs.CursorState.{State, state}
+use Rattle.std.specs.Prelude.{◌≡◌, ◌↔◌, ◌<◌, ℕ, List, [], ◌∷◌, ◌++◌, length, Option, Result, Ok, Err, MatchResult, IsTrue}
+use Rattle.std.specs.declared.convert.Infallible.{Infallible}
+use Rattle.constriction_backends.specs.CursorState.{State, StackReads, QueueReads, Overwrites}
 use Rattle.constriction_cursor_runs.specs.declared.cursor_calls.CursorCall.{CursorCall}
 use Rattle.constriction_cursor_runs.specs.declared.cursor_calls.CursorCall.TheVariants as call
 use Rattle.constriction_cursor_runs.specs.declared.cursor_calls.CursorReply.{CursorReply}
@@ -12,28 +12,43 @@ use Rattle.constriction_cursor_runs.specs.declared.cursor_calls.CursorReply.TheV
 abbrev pub words : {W : Type 0} → State W → List W
 words s = s.before ++ s.after
 
--- A write, where the words from the position on are these: the word is put at the end of those before it, and the first of these is
--- dropped. Where there is none, nothing changes.
-abbrev pub write : {W : Type 0} → W → List W → State W → CursorReply W × State W
-write word [] s = (reply.OutOfSpace, s)
-write word (w ∷ later) s = (reply.Written, record { before = s.before ++ word ∷ []; after = later })
+-- what a read answered, which cannot fail; that a write or a seek was made, and that it was refused
+abbrev pub found : {W : Type 0} → Option W → Result (Option W) Infallible
+found word = Ok word
 
--- The reply to a call, and the state that it leaves: only reads, writes and seeks move the cursor. At position 0 one less is 0, and
--- past the last word `state` stands at the end.
-abbrev pub step : {W : Type 0} → CursorCall W → State W → CursorReply W × State W
-step call.StackRead s = (reply.Word (last_or None s.before), state (words s) (length s.before - 1))
-step call.QueueRead s = (reply.Word (slice_get s.after 0), state (words s) (length s.before + 1))
-step (call.Write word) s = write word s.after s
-step call.StackRemaining s = (reply.Count (length s.before), s)
-step call.QueueRemaining s = (reply.Count (length s.after), s)
-step call.SpaceLeft s = (reply.Count (length s.after), s)
-step call.StackExhausted s = (reply.Flag (length s.before == 0), s)
-step call.QueueExhausted s = (reply.Flag (length s.after == 0), s)
-step call.Full s = (reply.Flag (length s.after == 0), s)
-step call.Position s = (reply.Count (length s.before), s)
-step (call.Seek position) s = if nat_le position (length (words s)) then (reply.Moved, state (words s) position) else (reply.NotMoved, s)
+abbrev pub done : Result (Unit {0}) (Unit {0})
+done = Ok tt
 
--- the replies to calls, in order, and the state that they leave
-abbrev pub run : {W : Type 0} → List (CursorCall W) → State W → List (CursorReply W) × State W
-run [] s = ([], s)
-run (call ∷ calls) s = let now = step call s in let later = run calls now.1 in (now.0 ∷ later.0, later.1)
+abbrev pub refused : Result (Unit {0}) (Unit {0})
+refused = Err tt
+
+-- The words stay, and so many of them are before the position. Where there are fewer words than that, the seek is refused and nothing
+-- changes.
+abbrev pub Seeks : {W : Type 0} → State W → ℕ → Result (Unit {0}) (Unit {0}) → State W → Type 0
+Seeks s position r t =
+    MatchResult r
+    (λ _. (words t ≡ words s) × (length t.before ≡ position))
+    (λ _. (length (words s) < position) × (t ≡ s))
+
+-- The call has this reply in the state s, and leaves t. Reads, writes and seeks are the steps of a cursor, and no other call moves it.
+abbrev pub RepliesTo : {W : Type 0} → State W → CursorCall W → CursorReply W → State W → Type 0
+RepliesTo s call.StackRead (reply.Word word) t = StackReads s (found word) t
+RepliesTo s call.QueueRead (reply.Word word) t = QueueReads s (found word) t
+RepliesTo s (call.Write word) reply.Written t = Overwrites s word done t
+RepliesTo s (call.Write word) reply.OutOfSpace t = Overwrites s word refused t
+RepliesTo s (call.Seek position) reply.Moved t = Seeks s position done t
+RepliesTo s (call.Seek position) reply.NotMoved t = Seeks s position refused t
+RepliesTo s call.StackRemaining (reply.Count count) t = (count ≡ length s.before) × (t ≡ s)
+RepliesTo s call.QueueRemaining (reply.Count count) t = (count ≡ length s.after) × (t ≡ s)
+RepliesTo s call.SpaceLeft (reply.Count count) t = (count ≡ length s.after) × (t ≡ s)
+RepliesTo s call.Position (reply.Count count) t = (count ≡ length s.before) × (t ≡ s)
+RepliesTo s call.StackExhausted (reply.Flag flag) t = (IsTrue flag ↔ (length s.before ≡ 0)) × (t ≡ s)
+RepliesTo s call.QueueExhausted (reply.Flag flag) t = (IsTrue flag ↔ (length s.after ≡ 0)) × (t ≡ s)
+RepliesTo s call.Full (reply.Flag flag) t = (IsTrue flag ↔ (length s.after ≡ 0)) × (t ≡ s)
+RepliesTo s _ _ t = ⊥
+
+-- calls in a row from s have these replies, and lead to t
+abbrev pub Runs : {W : Type 0} → State W → List (CursorCall W) → List (CursorReply W) → State W → Type 0
+Runs s [] [] t = s ≡ t
+Runs {W} s (call ∷ calls) (reply ∷ replies) t = (j : State W) × RepliesTo s call reply j × Runs j calls replies t
+Runs s _ _ t = ⊥

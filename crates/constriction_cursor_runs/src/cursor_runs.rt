@@ -3,7 +3,7 @@
 ghost use Rattle.std.specs.Prelude.{◌≡◌, ◌<◌, ◌≤◌, ◌++◌, [], ◌∷◌, length, IfOk, OnErr, vec_len, vec_capacity};
 ghost use Rattle.constriction_backends.specs.Cursor.{buf_of, state_of};
 ghost use Rattle.constriction_backends.specs.CursorState.{reversal};
-ghost use Rattle.constriction_cursor_runs.specs.CursorCalls.{step, run};
+ghost use Rattle.constriction_cursor_runs.specs.CursorCalls.{RepliesTo, Runs};
 
 use crate::cursor_calls::{CursorCall, CursorReply};
 use constriction_backends::{
@@ -18,8 +18,7 @@ fn step<Word: Copy + Drop, Buf: SafeBufMut<Word>>(
     cursor: &mut Cursor<Word, Buf>,
     call: &CursorCall<Word>,
 ) -> CursorReply<Word>
-    ensures reply { result ≡ (step call.now (state_of cursor.old)).0 }
-    ensures moved { state_of cursor.new ≡ (step call.now (state_of cursor.old)).1 }
+    ensures replied { RepliesTo (state_of cursor.old) call.now result (state_of cursor.new) }
     ensures kept { buf_of cursor.new ≡ Buf.with_words (buf_of cursor.old) (Buf.words_of (buf_of cursor.new)) }
 {
     match call {
@@ -60,9 +59,8 @@ fn seek_reversed<Word, Buf: SafeBufMut<Word>>(
     reversed: &mut Reverse<Cursor<Word, Buf>>,
     position: usize,
 ) -> CursorReply<Word>
-    ensures reply { result ≡ (step (CursorCall.Seek position) (reversal (state_of reversed.old.0))).0 }
-    ensures moved { reversal (state_of reversed.new.0)
-        ≡ (step (CursorCall.Seek position) (reversal (state_of reversed.old.0))).1 }
+    ensures replied { RepliesTo (reversal (state_of reversed.old.0)) (CursorCall.Seek position) result
+        (reversal (state_of reversed.new.0)) }
     ensures kept { buf_of reversed.new.0 ≡ Buf.with_words (buf_of reversed.old.0) (Buf.words_of (buf_of reversed.new.0)) }
 {
     let len = reversed.0.buf().words().len();
@@ -80,8 +78,7 @@ fn step_reversed<Word: Copy + Drop, Buf: SafeBufMut<Word>>(
     reversed: &mut Reverse<Cursor<Word, Buf>>,
     call: &CursorCall<Word>,
 ) -> CursorReply<Word>
-    ensures reply { result ≡ (step call.now (reversal (state_of reversed.old.0))).0 }
-    ensures moved { reversal (state_of reversed.new.0) ≡ (step call.now (reversal (state_of reversed.old.0))).1 }
+    ensures replied { RepliesTo (reversal (state_of reversed.old.0)) call.now result (reversal (state_of reversed.new.0)) }
     ensures kept { buf_of reversed.new.0 ≡ Buf.with_words (buf_of reversed.old.0) (Buf.words_of (buf_of reversed.new.0)) }
 {
     match call {
@@ -133,7 +130,7 @@ pub(crate) fn run_reserved<Word: Copy + Drop, Buf: SafeBufMut<Word>>(
 ) -> Vec<CursorReply<Word>>
     requires empty { replies.items ≡ [] }
     requires room { length calls.now ≤ vec_capacity replies }
-    ensures ran { run calls.now (state_of cursor.old) ≡ (result.items, state_of cursor.new) }
+    ensures ran { Runs (state_of cursor.old) calls.now result.items (state_of cursor.new) }
     ensures kept { buf_of cursor.new ≡ Buf.with_words (buf_of cursor.old) (Buf.words_of (buf_of cursor.new)) }
 {
     for call in calls {
@@ -151,7 +148,7 @@ pub(crate) fn run_reversed_reserved<Word: Copy + Drop, Buf: SafeBufMut<Word>>(
 ) -> Vec<CursorReply<Word>>
     requires empty { replies.items ≡ [] }
     requires room { length calls.now ≤ vec_capacity replies }
-    ensures ran { run calls.now (reversal (state_of reversed.old.0)) ≡ (result.items, reversal (state_of reversed.new.0)) }
+    ensures ran { Runs (reversal (state_of reversed.old.0)) calls.now result.items (reversal (state_of reversed.new.0)) }
     ensures kept { buf_of reversed.new.0 ≡ Buf.with_words (buf_of reversed.old.0) (Buf.words_of (buf_of reversed.new.0)) }
 {
     for call in calls {
@@ -171,7 +168,7 @@ pub fn run_cursor<Word: Copy + Drop, Buf: SafeBufMut<Word>>(
     cursor: &mut Cursor<Word, Buf>,
     calls: &[CursorCall<Word>],
 ) -> Result<Vec<CursorReply<Word>>, AllocError>
-    ensures ok { IfOk result (λ replies. run calls.now (state_of cursor.old) ≡ (replies.items, state_of cursor.new)) }
+    ensures ok { IfOk result (λ replies. Runs (state_of cursor.old) calls.now replies.items (state_of cursor.new)) }
     ensures kept { buf_of cursor.new ≡ Buf.with_words (buf_of cursor.old) (Buf.words_of (buf_of cursor.new)) }
     ensures err { OnErr result (cursor.new ≡ cursor.old) }
 {
@@ -191,7 +188,7 @@ pub fn run_reversed<Word: Copy + Drop, Buf: SafeBufMut<Word>>(
     calls: &[CursorCall<Word>],
 ) -> Result<Vec<CursorReply<Word>>, AllocError>
     ensures ok { IfOk result (λ replies.
-        run calls.now (reversal (state_of reversed.old.0)) ≡ (replies.items, reversal (state_of reversed.new.0))) }
+        Runs (reversal (state_of reversed.old.0)) calls.now replies.items (reversal (state_of reversed.new.0))) }
     ensures kept { buf_of reversed.new.0 ≡ Buf.with_words (buf_of reversed.old.0) (Buf.words_of (buf_of reversed.new.0)) }
     ensures err { OnErr result (reversed.new ≡ reversed.old) }
 {

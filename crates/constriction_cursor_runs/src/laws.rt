@@ -3,7 +3,7 @@
 ghost use Rattle.std.specs.Prelude.{◌≡◌, List, IfOk, OnErr};
 ghost use Rattle.constriction_backends.specs.Cursor.{buf_of, state_of};
 ghost use Rattle.constriction_backends.specs.CursorState.{State, reversal};
-ghost use Rattle.constriction_cursor_runs.specs.CursorCalls.{run};
+ghost use Rattle.constriction_cursor_runs.specs.CursorCalls.{Runs};
 
 use crate::cursor_calls::{CursorCall, CursorReply};
 use crate::cursor_runs::{run_reserved, run_reversed_reserved};
@@ -25,9 +25,9 @@ pub fn run_cursor_and_reversal<Word: Copy + Drop, Buf: SafeBufMut<Word>, Turned:
     ensures alike { IfOk result (λ both. state_of reversed.old.0 ≡ reversal (state_of cursor.old)
         → (both.1.items ≡ both.0.items) × (state_of reversed.new.0 ≡ reversal (state_of cursor.new))
         × (state_of cursor.new ≡ reversal (state_of reversed.new.0))) }
-    ensures runs { IfOk result (λ both. run calls.now (state_of cursor.old) ≡ (both.0.items, state_of cursor.new)) }
+    ensures runs { IfOk result (λ both. Runs (state_of cursor.old) calls.now both.0.items (state_of cursor.new)) }
     ensures runs_back { IfOk result (λ both.
-        run calls.now (reversal (state_of reversed.old.0)) ≡ (both.1.items, reversal (state_of reversed.new.0))) }
+        Runs (reversal (state_of reversed.old.0)) calls.now both.1.items (reversal (state_of reversed.new.0))) }
     ensures kept { buf_of cursor.new ≡ Buf.with_words (buf_of cursor.old) (Buf.words_of (buf_of cursor.new)) }
     ensures reversed_kept { buf_of reversed.new.0
         ≡ Turned.with_words (buf_of reversed.old.0) (Turned.words_of (buf_of reversed.new.0)) }
@@ -45,6 +45,6 @@ pub fn run_cursor_and_reversal<Word: Copy + Drop, Buf: SafeBufMut<Word>, Turned:
 /// [`run_reversed`](crate::run_reversed) say of each other.
 pub fn runs_are_alike<Word>()
     ensures { (calls : List (CursorCall Word)) (s t turned left : State Word) (replies others : List (CursorReply Word))
-        → turned ≡ reversal s → run calls s ≡ (replies, t) → run calls (reversal turned) ≡ (others, reversal left)
+        → turned ≡ reversal s → Runs s calls replies t → Runs (reversal turned) calls others (reversal left)
         → (others ≡ replies) × (left ≡ reversal t) }
 {}

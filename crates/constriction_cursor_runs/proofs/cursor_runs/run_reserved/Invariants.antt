@@ -1,13 +1,12 @@
-use Rattle.std.proofs.Common.{◌≡◌, ◌++◌, ◌≤◌, drop, length, vec_len, vec_capacity}
+use Rattle.std.proofs.Common.{◌≡◌, ◌≤◌, take, length, vec_len, vec_capacity}
 use Rattle.constriction_backends.specs.Cursor.{state_of}
-use Rattle.constriction_cursor_runs.specs.CursorCalls.{run}
+use Rattle.constriction_cursor_runs.specs.CursorCalls.{Runs}
 use Rattle.constriction_cursor_runs.proofs.cursor_runs.run_reserved.Given as goal
 
--- the replies so far and those to the calls that are left are those to all, and so is the state that is left
+-- the calls so far were run
 abbrev pub invariant-loop-call : goal.invariant-loop-call
 invariant-loop-call g l = record {
-  replied : l.replies.items ++ (run (drop l.call-index l.calls) (state_of l.cursor)).0 ≡ (run l.calls (state_of l.fn.cursor)).0;
-  moved : (run (drop l.call-index l.calls) (state_of l.cursor)).1 ≡ (run l.calls (state_of l.fn.cursor)).1;
+  ran : Runs (state_of l.fn.cursor) (take l.call-index l.calls) l.replies.items (state_of l.cursor);
   kept : l.cursor.buf ≡ g.Buf.SafeBufMut.with_words l.fn.cursor.buf (g.Buf.SafeBuf.words_of l.cursor.buf);
   counted : vec_len l.replies ≡ l.call-index;
   room : length l.calls ≤ vec_capacity l.replies;
