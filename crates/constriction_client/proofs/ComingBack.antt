@@ -33,11 +33,11 @@ among-front (y ∷ a) b (z ∷ c) d x e n =
     let rest = among-front a b c d x others (omega arith) in
     (suc rest.0, omega arith, rest.2)
 
-module _ {Symbol Word Source Error : Type 0} (Stands : Symbol → Symbol → Type 0) (precision : ℕ) (rows : List (Row Symbol)) (whole : Word → ℕ)
-    (gives : Source → Result (Option Word) Error → Source → Type 0) (tells : Source → List Word → Type 0) (count : ℕ)
-    (s t : Source) (new : List (Symbol × Word)) where
+module _ {Symbol Word Source Error : Type 0} (Stands : Symbol → Symbol → Type 0) (MayRefuse : Symbol → Type 0) (precision : ℕ)
+    (rows : List (Row Symbol)) (whole : Word → ℕ) (gives : Source → Result (Option Word) Error → Source → Type 0)
+    (tells : Source → List Word → Type 0) (count : ℕ) (s t : Source) (new : List (Symbol × Word)) (capacity : ℕ) where
   -- where as many words as are asked for were to come, all of them are read
-  pub all-read : (n : ℕ) → ReadsPairs Stands precision rows whole gives tells count s [] (Ok n) t new
+  pub all-read : (n : ℕ) → ReadsPairs Stands MayRefuse precision rows whole gives tells count s [] (Ok n) t new capacity
       → (words : List Word) → ComeNext tells s words → length words ≡ count
       → ArePairs Stands rows whole words new × Reads gives s words t
   all-read n read words next many =
@@ -62,20 +62,21 @@ module _ {Symbol Word Source Error : Type 0} (Stands : Symbol → Symbol → Typ
       )
 
   -- where memory was refused, some words were read
-  pub some-read : (error : CoderError ReadFault Error) → ReadsPairs Stands precision rows whole gives tells count s [] (Err error) t new
+  pub some-read : (error : CoderError ReadFault Error)
+      → ReadsPairs Stands MayRefuse precision rows whole gives tells count s [] (Err error) t new capacity
       → error ≡ Frontend OutOfMemory → (words : List Word) × Reads gives s words t
   some-read error read is =
-      let at : ReadsPairs Stands precision rows whole gives tells count s [] (Err (Frontend OutOfMemory)) t new =
-      subst (λ e. ReadsPairs Stands precision rows whole gives tells count s [] (Err e) t new) is read in
+      let at : ReadsPairs Stands MayRefuse precision rows whole gives tells count s [] (Err (Frontend OutOfMemory)) t new capacity =
+      subst (λ e. ReadsPairs Stands MayRefuse precision rows whole gives tells count s [] (Err e) t new capacity) is read in
       (at.words ++ at.ended.0 ∷ [], reads_more gives s at.words at.reached at.ended.0 t at.read at.ended.3)
 
   -- of quantiles none is too large
   pub never-too-large : (error : CoderError ReadFault Error)
-      → ReadsPairs Stands precision rows whole gives tells count s [] (Err error) t new
+      → ReadsPairs Stands MayRefuse precision rows whole gives tells count s [] (Err error) t new capacity
       → error ≡ Frontend QuantileTooLarge → QuantilesCome precision whole tells count s → ⊥
   never-too-large error read is come =
-      let at : ReadsPairs Stands precision rows whole gives tells count s [] (Err (Frontend QuantileTooLarge)) t new =
-      subst (λ e. ReadsPairs Stands precision rows whole gives tells count s [] (Err e) t new) is read in
+      let at : ReadsPairs Stands MayRefuse precision rows whole gives tells count s [] (Err (Frontend QuantileTooLarge)) t new capacity =
+      subst (λ e. ReadsPairs Stands MayRefuse precision rows whole gives tells count s [] (Err e) t new capacity) is read in
       let left = at.told (come.words ++ come.next.rest) come.next.told in
       let split : come.words ++ come.next.rest ≡ at.words ++ at.ended.0 ∷ left.0 =
       left.1 ∙ ap (λ ws. at.words ++ (ws ++ left.0)) at.ended.2 in

@@ -1,14 +1,30 @@
 -- How words are read and their pairs added, turn by turn.
-use Rattle.std.proofs.Common.{◌≡◌, ℕ, ◌+◌, ◌^◌, ◌<◌, List, [], ◌∷◌, ◌++◌, length, Option, Some, None, Result, Ok, Err, refl, ap, sym, ◌∙◌, inl, inr, arith, append_assoc, append-nil, length-append}
+use Rattle.std.proofs.Common.{◌≡◌, ℕ, ◌+◌, ◌^◌, ◌<◌, ◌≤◌, ◌⊎◌, List, [], ◌∷◌, ◌++◌, length, Option, Some, None, Result, Ok, Err, refl, ap, sym, ◌∙◌, subst, inl, inr, arith, append_assoc, append-nil, length-append}
 use Rattle.std.specs.Prelude.{All}
+use Rattle.std.proofs.lemmas.List.{length_push}
 use Rattle.std.proofs.lemmas.List.Elements.{All-nil, All-push}
 use Rattle.std.proofs.lemmas.Slice.Zip.{all_zipped_more}
 use Rattle.constriction_words.specs.declared.coder_error.CoderError.TheVariants.{Frontend, Backend}
 use Rattle.constriction_backends.specs.Source.{ReadsTold, Reads}
 use Rattle.constriction_backends.specs.SourceLaws.{reads_more}
+use Rattle.constriction.specs.Model.{RowMayBeRefused}
 use Rattle.constriction.specs.Rows.{Row}
 use Rattle.constriction_client.specs.declared.quantiles.ReadFault.{ReadFault}
+use Rattle.constriction_client.specs.declared.quantiles.ReadFault.TheVariants.{OutOfMemory, QuantileTooLarge}
 use Rattle.constriction_client.specs.Quantiles.{IsPairOf, ArePairs, IsReadFaultOf, ReadsPairs}
+
+-- Where one more pair has room, the capacity stays, and so it does where it was refused. `room` is the first capacity, and `held` the one
+-- before this pair.
+pub has-room : {X : Type 0} (room held capacity : ℕ) (mid new : List X) (x : X) → new ≡ mid ++ x ∷ []
+    → (length mid < held → capacity ≡ held) → (length mid ≤ room → held ≡ room) → length new ≤ room → capacity ≡ room
+has-room room held capacity mid new x is keeps so_far fits =
+    let long : length new ≡ length mid + 1 = ap length is ∙ length_push mid x in
+    let stayed : held ≡ room = so_far (omega (arith, long, fits)) in
+    keeps (omega (arith, long, fits, stayed)) ∙ stayed
+
+pub stays-full : {X : Type 0} (room held capacity : ℕ) (mid new : List X) → new ≡ mid → capacity ≡ held
+    → (length mid ≤ room → held ≡ room) → length new ≤ room → capacity ≡ room
+stays-full room held capacity mid new is stays so_far fits = stays ∙ so_far (omega (arith, ap length is, fits))
 
 -- the words so far were read, and each gave a pair
 pub record HasRead {Symbol Word Source Error : Type 0} (Stands : Symbol → Symbol → Type 0) (precision : ℕ) (rows : List (Row Symbol)) (whole : Word → ℕ)
@@ -24,7 +40,8 @@ pub record HasRead {Symbol Word Source Error : Type 0} (Stands : Symbol → Symb
   pub told : (upcoming : List Word) → tells s upcoming
       → (rest : List Word) × (upcoming ≡ words ++ rest) × tells t rest
 
-module _ {Symbol Word Source Error : Type 0} (Stands : Symbol → Symbol → Type 0) (precision : ℕ) (rows : List (Row Symbol)) (whole : Word → ℕ)
+module _ {Symbol Word Source Error : Type 0} (Stands : Symbol → Symbol → Type 0) (MayRefuse : Symbol → Type 0) (precision : ℕ)
+    (rows : List (Row Symbol)) (whole : Word → ℕ)
     (gives : Source → Result (Option Word) Error → Source → Type 0) (tells : Source → List Word → Type 0)
     (law : (s : Source) (r : Result (Option Word) Error) (t : Source) → gives s r t
     → (ws : List Word) → tells s ws → ReadsTold tells ws r t) where
@@ -73,10 +90,10 @@ module _ {Symbol Word Source Error : Type 0} (Stands : Symbol → Symbol → Typ
   }
 
   -- all that were asked for
-  pub read-all : (s : Source) (old : List (Symbol × Word)) (count n : ℕ) (t : Source) (new : List (Symbol × Word))
+  pub read-all : (s : Source) (old : List (Symbol × Word)) (count n : ℕ) (t : Source) (new : List (Symbol × Word)) (capacity : ℕ)
       → HasRead Stands precision rows whole gives tells s old n t new → n ≡ count
-      → ReadsPairs Stands precision rows whole gives tells count s old (Ok count) t new
-  read-all s old count n t new so_far e = record {
+      → ReadsPairs Stands MayRefuse precision rows whole gives tells count s old (Ok count) t new capacity
+  read-all s old count n t new capacity so_far e = record {
     words = so_far.words;
     pairs = so_far.pairs;
     of_words = so_far.of_words;
@@ -90,10 +107,10 @@ module _ {Symbol Word Source Error : Type 0} (Stands : Symbol → Symbol → Typ
   }
 
   -- the source ended
-  pub read-to-end : (s : Source) (old : List (Symbol × Word)) (count n : ℕ) (j t : Source) (new : List (Symbol × Word))
+  pub read-to-end : (s : Source) (old : List (Symbol × Word)) (count n : ℕ) (j t : Source) (new : List (Symbol × Word)) (capacity : ℕ)
       → HasRead Stands precision rows whole gives tells s old n j new → n < count → gives j (Ok None) t
-      → ReadsPairs Stands precision rows whole gives tells count s old (Ok n) t new
-  read-to-end s old count n j t new so_far less end = record {
+      → ReadsPairs Stands MayRefuse precision rows whole gives tells count s old (Ok n) t new capacity
+  read-to-end s old count n j t new capacity so_far less end = record {
     words = so_far.words;
     pairs = so_far.pairs;
     of_words = so_far.of_words;
@@ -109,14 +126,13 @@ module _ {Symbol Word Source Error : Type 0} (Stands : Symbol → Symbol → Typ
         ([], now.1 ∙ ap (λ ws. so_far.words ++ ws) none.0, none.1, λ _. refl);
   }
 
-  -- a word that gives no pair
-  pub read-fault : (s : Source) (old : List (Symbol
-      × Word)) (count n : ℕ) (j : Source) (word : Word) (t : Source) (new : List (Symbol × Word))
-      (fault : ReadFault) → HasRead Stands precision rows whole gives tells s old n j new → n < count
-      → gives j (Ok (Some word)) t
-      → IsReadFaultOf precision (whole word) fault
-      → ReadsPairs Stands precision rows whole gives tells count s old (Err (Frontend fault)) t new
-  read-fault s old count n j word t new fault so_far less took is = record {
+  -- a word that gives no pair, by itself or for want of memory
+  read-stop : (s : Source) (old : List (Symbol × Word)) (count n : ℕ) (j : Source) (word : Word) (t : Source)
+      (new : List (Symbol × Word)) (capacity : ℕ) (fault : ReadFault) → HasRead Stands precision rows whole gives tells s old n j new
+      → n < count → gives j (Ok (Some word)) t
+      → IsReadFaultOf precision (λ q. RowMayBeRefused MayRefuse rows q ⊎ (capacity ≤ length new)) (whole word) fault
+      → ReadsPairs Stands MayRefuse precision rows whole gives tells count s old (Err (Frontend fault)) t new capacity
+  read-stop s old count n j word t new capacity fault so_far less took is = record {
     words = so_far.words;
     pairs = so_far.pairs;
     of_words = so_far.of_words;
@@ -129,11 +145,31 @@ module _ {Symbol Word Source Error : Type 0} (Stands : Symbol → Symbol → Typ
     told = λ upcoming h. let now = told-more s so_far.words j word t took so_far.told upcoming h in (now.0, now.1, now.2, tt);
   }
 
+  pub read-fault : (s : Source) (old : List (Symbol × Word)) (count n : ℕ) (j : Source) (word : Word) (t : Source)
+      (new : List (Symbol × Word)) (capacity : ℕ) (fault : ReadFault) → HasRead Stands precision rows whole gives tells s old n j new
+      → n < count → gives j (Ok (Some word)) t → IsReadFaultOf precision (RowMayBeRefused MayRefuse rows) (whole word) fault
+      → ReadsPairs Stands MayRefuse precision rows whole gives tells count s old (Err (Frontend fault)) t new capacity
+  read-fault s old count n j word t new capacity OutOfMemory so_far less took is =
+      read-stop s old count n j word t new capacity OutOfMemory so_far less took (is.0, inl is.1)
+  read-fault s old count n j word t new capacity QuantileTooLarge so_far less took is =
+      read-stop s old count n j word t new capacity QuantileTooLarge so_far less took is
+
+  pub read-full : (s : Source) (old : List (Symbol × Word)) (count n : ℕ) (j : Source) (word : Word) (t : Source)
+      (mid new : List (Symbol × Word)) (held capacity : ℕ) → HasRead Stands precision rows whole gives tells s old n j mid
+      → n < count → gives j (Ok (Some word)) t → whole word < 2 ^ precision
+      → new ≡ mid → (held ≤ length mid) × (capacity ≡ held)
+      → ReadsPairs Stands MayRefuse precision rows whole gives tells count s old (Err (Frontend OutOfMemory)) t new capacity
+  read-full s old count n j word t mid new held capacity so_far less took small stays full =
+      read-stop s old count n j word t new capacity OutOfMemory
+      (subst (λ (ps : List (Symbol × Word)). HasRead Stands precision rows whole gives tells s old n j ps) (sym stays) so_far) less took
+      (small, inr (omega (arith, full.0, full.1, ap length stays)))
+
   -- a read that failed
-  pub read-failed : (s : Source) (old : List (Symbol × Word)) (count n : ℕ) (j t : Source) (new : List (Symbol × Word)) (error : Error)
+  pub read-failed : (s : Source) (old : List (Symbol × Word)) (count n : ℕ) (j t : Source) (new : List (Symbol × Word)) (capacity : ℕ)
+      (error : Error)
       → HasRead Stands precision rows whole gives tells s old n j new → n < count → gives j (Err error) t
-      → ReadsPairs Stands precision rows whole gives tells count s old (Err (Backend error)) t new
-  read-failed s old count n j t new error so_far less failed = record {
+      → ReadsPairs Stands MayRefuse precision rows whole gives tells count s old (Err (Backend error)) t new capacity
+  read-failed s old count n j t new capacity error so_far less failed = record {
     words = so_far.words;
     pairs = so_far.pairs;
     of_words = so_far.of_words;

@@ -7,6 +7,7 @@ use Rattle.constriction_words.specs.declared.coder_error.CoderError.TheVariants.
 use Rattle.constriction_backends.specs.Sink.{Writes}
 use Rattle.constriction_backends.specs.Source.{Reads}
 use Rattle.constriction.specs.Laws.{IsQuantileAt}
+use Rattle.constriction.specs.Model.{RowMayBeRefused}
 use Rattle.constriction.specs.Rows.{Row, IsRowOf}
 use Rattle.constriction_client.specs.declared.quantiles.QuantileFault.{QuantileFault}
 use Rattle.constriction_client.specs.declared.quantiles.QuantileFault.TheVariants.{ImpossibleSymbol, OffsetTooLarge}
@@ -71,20 +72,20 @@ module _ {Symbol Word : Type 0} (Stands : Symbol → Symbol → Type 0) (rows : 
   abbrev pub ArePairs : List Word → List (Symbol × Word) → Type 0
   ArePairs words pairs = AllZip IsPairOf words pairs
 
--- why a word q gave no pair: there was no memory for the pair, or the word is no quantile
-abbrev pub IsReadFaultOf : ℕ → ℕ → ReadFault → Type 0
-IsReadFaultOf precision q OutOfMemory = q < 2 ^ precision
-IsReadFaultOf precision q QuantileTooLarge = 2 ^ precision ≤ q
+-- why a word q gave no pair: memory for the pair was refused, as it may be, or the word is no quantile
+abbrev pub IsReadFaultOf : ℕ → (ℕ → Type 0) → ℕ → ReadFault → Type 0
+IsReadFaultOf precision MayLackMemory q OutOfMemory = (q < 2 ^ precision) × MayLackMemory q
+IsReadFaultOf precision MayLackMemory q QuantileTooLarge = 2 ^ precision ≤ q
 
-module _ {Word Source Error : Type 0} (precision : ℕ) (whole : Word → ℕ) (gives : Source → Result (Option Word) Error → Source → Type 0)
-    (count : ℕ) where
+module _ {Word Source Error : Type 0} (precision : ℕ) (MayLackMemory : ℕ → Type 0) (whole : Word → ℕ)
+    (gives : Source → Result (Option Word) Error → Source → Type 0) (count : ℕ) where
   -- How reading ends after n pairs, which leads from s to t, and the words `more` that it takes beside those of the pairs:
   -- with as many pairs as were asked for; or with fewer, where the source ended, at a word that gives no pair, or where a
   -- read fails.
   abbrev pub EndsReading : ℕ → Source → Result ℕ (CoderError ReadFault Error) → List Word → Source → Type 0
   EndsReading n s (Ok k) more t = (k ≡ n) × (more ≡ []) × (((n ≡ count) × (t ≡ s)) ⊎ ((n < count) × gives s (Ok None) t))
   EndsReading n s (Err (Frontend fault)) more t =
-      (word : Word) × (n < count) × (more ≡ word ∷ []) × gives s (Ok (Some word)) t × IsReadFaultOf precision (whole word) fault
+      (word : Word) × (n < count) × (more ≡ word ∷ []) × gives s (Ok (Some word)) t × IsReadFaultOf precision MayLackMemory (whole word) fault
   EndsReading n s (Err (Backend e)) more t = (n < count) × (more ≡ []) × gives s (Err e) t
 
 -- what is then still to come: nothing, where the source ended; and a word, where a read failed
@@ -94,11 +95,12 @@ LeavesWords count (Err (Frontend fault)) rest = Unit {0}
 LeavesWords count (Err (Backend e)) rest = rest ≢ []
 
 -- Words were read in order, and their pairs were put after the old ones. Where s tells the words to come, t tells
--- those that are left.
-pub record ReadsPairs {Symbol Word Source Error : Type 0} (Stands : Symbol → Symbol → Type 0) (precision : ℕ) (rows : List (Row Symbol))
-    (whole : Word → ℕ) (gives : Source → Result (Option Word) Error → Source → Type 0) (tells : Source → List Word → Type 0)
-    (count : ℕ) (s : Source) (old : List (Symbol × Word)) (result : Result ℕ (CoderError ReadFault Error))
-    (t : Source) (new : List (Symbol × Word)) : Type 0 where
+-- those that are left. Memory for a pair was refused only where that for its row may be, by `MayRefuse`, or where the list of pairs was
+-- full, which has this capacity.
+pub record ReadsPairs {Symbol Word Source Error : Type 0} (Stands : Symbol → Symbol → Type 0) (MayRefuse : Symbol → Type 0) (precision : ℕ)
+    (rows : List (Row Symbol)) (whole : Word → ℕ) (gives : Source → Result (Option Word) Error → Source → Type 0)
+    (tells : Source → List Word → Type 0) (count : ℕ) (s : Source) (old : List (Symbol × Word))
+    (result : Result ℕ (CoderError ReadFault Error)) (t : Source) (new : List (Symbol × Word)) (capacity : ℕ) : Type 0 where
   pub words : List Word
   pub pairs : List (Symbol × Word)
   pub of_words : ArePairs Stands rows whole words pairs
@@ -107,6 +109,7 @@ pub record ReadsPairs {Symbol Word Source Error : Type 0} (Stands : Symbol → S
   pub reached : Source
   pub read : Reads gives s words reached
   pub more : List Word
-  pub ended : EndsReading precision whole gives count (length pairs) reached result more t
+  pub ended : EndsReading precision (λ q. RowMayBeRefused MayRefuse rows q ⊎ (capacity ≤ length new)) whole gives count (length pairs)
+      reached result more t
   pub told : (upcoming : List Word) → tells s upcoming
       → (rest : List Word) × (upcoming ≡ words ++ (more ++ rest)) × tells t rest × LeavesWords count result rest

@@ -1,7 +1,8 @@
 //! Items as quantiles into a sink, and words from a source as pairs.
 
 ghost use Rattle.std.specs.Prelude.{◌≡◌, ◌+◌, ◌^◌, ◌<◌, ◌≤◌, ℕ, IfOk, IfErr, OnOk};
-ghost use Rattle.std.specs.Prelude.{Option, Some};
+ghost use Rattle.std.specs.Prelude.{Option, Some, length, vec_capacity};
+ghost use Rattle.constriction.specs.Model.{RowMayBeRefused};
 ghost use Rattle.constriction.specs.Rows.{entry_of};
 ghost use Rattle.constriction_client.specs.Quantiles.{IsQuantileOf, IsFaultOf, WritesItems, StopsAtItem};
 ghost use Rattle.constriction_client.specs.Quantiles.{IsPairOf, IsReadFaultOf, ReadsPairs};
@@ -83,7 +84,8 @@ where
     M: DecoderModel<PRECISION>,
     ensures ok { IfOk result (IsPairOf M.stands_for (M.rows model.now) M.Probability.whole word) }
     ensures in_range { OnOk result (M.Probability.whole word < 2 ^ PRECISION) }
-    ensures err { IfErr result (IsReadFaultOf PRECISION (M.Probability.whole word)) }
+    ensures err { IfErr result (IsReadFaultOf PRECISION (RowMayBeRefused M.may_refuse (M.rows model.now))
+        (M.Probability.whole word)) }
 {
     if !is_quantile::<M::Probability, PRECISION>(word) {
         return Err(ReadFault::QuantileTooLarge);
@@ -148,8 +150,11 @@ where
     M::Symbol: Drop,
     R: ReadWords<M::Probability, S>,
     requires can_read { R.can_read source.old }
-    ensures pairs { ReadsPairs M.stands_for PRECISION (M.rows model.now) M.Probability.whole R.read_gives R.tells_upcoming
-        count source.old out.old.items result source.new out.new.items }
+    ensures pairs { ReadsPairs M.stands_for M.may_refuse PRECISION (M.rows model.now) M.Probability.whole R.read_gives R.tells_upcoming
+        count source.old out.old.items result source.new out.new.items (vec_capacity out.new) }
+
+    // No memory for pairs is asked for while they have room.
+    ensures capacity { length out.new.items ≤ vec_capacity out.old → vec_capacity out.new ≡ vec_capacity out.old }
     ensures goes_on { R.can_read source.new }
 {
     for done in 0..count {
@@ -162,7 +167,7 @@ where
             Ok(pair) => pair,
             Err(fault) => return Err(CoderError::Frontend(fault)),
         };
-        match out.push(pair) {
+        match out.write(pair) {
             Ok(()) => {}
             Err(_) => return Err(CoderError::Frontend(ReadFault::OutOfMemory)),
         }

@@ -1,11 +1,13 @@
 -- What reading gives where the words to come are known.
-use Rattle.std.specs.Prelude.{◌≡◌, ◌<◌, ◌⊎◌, ℕ, List, [], ◌∷◌, ◌++◌, length, take, Option, Result, Ok, Err, IfOk}
-use Rattle.std.proofs.Common.{suc, refl, ap, sym, ◌∙◌, arith, inl, inr}
+use Rattle.std.specs.Prelude.{◌≡◌, ◌<◌, ◌≤◌, ◌⊎◌, ℕ, List, [], ◌∷◌, ◌++◌, length, take, Option, Result, Ok, Err, IfOk}
+use Rattle.std.proofs.Common.{suc, refl, ap, sym, ◌∙◌, subst, arith, inl, inr}
 use Rattle.std.specs.List.{AllZip}
 use Rattle.std.proofs.lemmas.List.{append-nil, take_all, take_at}
 use Rattle.constriction.specs.Rows.{Row}
 use Rattle.constriction_words.specs.declared.coder_error.CoderError.{CoderError}
+use Rattle.constriction_words.specs.declared.coder_error.CoderError.TheVariants.{Frontend}
 use Rattle.constriction_client.specs.declared.quantiles.ReadFault.{ReadFault}
+use Rattle.constriction_client.specs.declared.quantiles.ReadFault.TheVariants.{OutOfMemory}
 use Rattle.constriction_client.specs.Quantiles.{ArePairs, ReadsPairs}
 
 as-many : {A B : Type 0} (R : A → B → Type 0) (xs : List A) (ys : List B) → AllZip R xs ys → length xs ≡ length ys
@@ -24,13 +26,12 @@ asked-for count n many upcoming words rest split same long (inr end) none =
     ap (take count) all ∙ take_all count words (omega (arith, long, end.0))
 
 -- the pairs that were added are those of as many of the words to come as were asked for, or of all where these are fewer
-pub pairs-of-first : {Symbol Word Source Error : Type 0} (Stands : Symbol → Symbol → Type 0) (precision : ℕ) (rows : List (Row Symbol))
-    (whole : Word → ℕ)
-    (gives : Source → Result (Option Word) Error → Source → Type 0) (tells : Source → List Word → Type 0) (count : ℕ)
-    (s : Source) (old : List (Symbol × Word)) (n : ℕ) (t : Source) (new : List (Symbol × Word)) (upcoming : List Word)
-    → ReadsPairs Stands precision rows whole gives tells count s old (Ok n) t new → tells s upcoming
+pub pairs-of-first : {Symbol Word Source Error : Type 0} (Stands : Symbol → Symbol → Type 0) (MayRefuse : Symbol → Type 0)
+    (precision : ℕ) (rows : List (Row Symbol)) (whole : Word → ℕ) (gives : Source → Result (Option Word) Error → Source → Type 0) (tells : Source → List Word → Type 0) (count : ℕ)
+    (s : Source) (old : List (Symbol × Word)) (n : ℕ) (t : Source) (new : List (Symbol × Word)) (capacity : ℕ) (upcoming : List Word)
+    → ReadsPairs Stands MayRefuse precision rows whole gives tells count s old (Ok n) t new capacity → tells s upcoming
     → (pairs : List (Symbol × Word)) × ArePairs Stands rows whole (take count upcoming) pairs × (length pairs ≡ n) × (new ≡ old ++ pairs)
-pairs-of-first Stands precision rows whole gives tells count s old n t new upcoming r told =
+pairs-of-first Stands MayRefuse precision rows whole gives tells count s old n t new capacity upcoming r told =
     let left = r.told upcoming told in
     let split : upcoming ≡ r.words ++ left.0 = left.1 ∙ ap (λ more. r.words ++ (more ++ left.0)) r.ended.1 in
     let long : length r.pairs ≡ length r.words = sym (as-many _ r.words r.pairs r.of_words) in
@@ -38,14 +39,24 @@ pairs-of-first Stands precision rows whole gives tells count s old n t new upcom
     asked-for count n (length r.pairs) upcoming r.words left.0 split r.ended.0 long r.ended.2 left.3 in
     (r.pairs, rw first r.of_words, sym r.ended.0, r.added)
 
-pub pairs-if-read : {Symbol Word Source Error : Type 0} (Stands : Symbol → Symbol → Type 0) (precision : ℕ) (rows : List (Row Symbol))
-    (whole : Word → ℕ)
-    (gives : Source → Result (Option Word) Error → Source → Type 0) (tells : Source → List Word → Type 0) (count : ℕ)
+pub pairs-if-read : {Symbol Word Source Error : Type 0} (Stands : Symbol → Symbol → Type 0) (MayRefuse : Symbol → Type 0)
+    (precision : ℕ) (rows : List (Row Symbol)) (whole : Word → ℕ) (gives : Source → Result (Option Word) Error → Source → Type 0) (tells : Source → List Word → Type 0) (count : ℕ)
     (s : Source) (old : List (Symbol × Word)) (r : Result ℕ (CoderError ReadFault Error)) (t : Source)
-    (new : List (Symbol × Word)) (upcoming : List Word)
-    → ReadsPairs Stands precision rows whole gives tells count s old r t new → tells s upcoming
+    (new : List (Symbol × Word)) (capacity : ℕ) (upcoming : List Word)
+    → ReadsPairs Stands MayRefuse precision rows whole gives tells count s old r t new capacity → tells s upcoming
     → IfOk r (λ n. (pairs : List (Symbol × Word)) × ArePairs Stands rows whole (take count upcoming) pairs × (length pairs ≡ n)
     × (new ≡ old ++ pairs))
-pairs-if-read Stands precision rows whole gives tells count s old (Ok n) t new upcoming r told =
-    pairs-of-first Stands precision rows whole gives tells count s old n t new upcoming r told
-pairs-if-read Stands precision rows whole gives tells count s old (Err e) t new upcoming r told = tt
+pairs-if-read Stands MayRefuse precision rows whole gives tells count s old (Ok n) t new capacity upcoming r told =
+    pairs-of-first Stands MayRefuse precision rows whole gives tells count s old n t new capacity upcoming r told
+pairs-if-read Stands MayRefuse precision rows whole gives tells count s old (Err e) t new capacity upcoming r told = tt
+
+-- of a model that refuses no row, memory was refused only where the list of pairs was full
+pub full-if-refused : {Symbol Word Source Error : Type 0} (Stands : Symbol → Symbol → Type 0) (precision : ℕ) (rows : List (Row Symbol))
+    (whole : Word → ℕ) (gives : Source → Result (Option Word) Error → Source → Type 0) (tells : Source → List Word → Type 0) (count : ℕ)
+    (s : Source) (old : List (Symbol × Word)) (r : Result ℕ (CoderError ReadFault Error)) (t : Source) (new : List (Symbol × Word))
+    (capacity : ℕ) → ReadsPairs Stands (λ _. ⊥) precision rows whole gives tells count s old r t new capacity
+    → r ≡ Err (Frontend OutOfMemory) → capacity ≤ length new
+full-if-refused Stands precision rows whole gives tells count s old r t new capacity read is =
+    let at : ReadsPairs Stands (λ _. ⊥) precision rows whole gives tells count s old (Err (Frontend OutOfMemory)) t new capacity =
+    subst (λ x. ReadsPairs Stands (λ _. ⊥) precision rows whole gives tells count s old x t new capacity) is read in
+    elim at.ended.4.1 [ inl row ↦ absurd row.2 | inr full ↦ full ]

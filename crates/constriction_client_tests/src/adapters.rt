@@ -1,6 +1,6 @@
 //! Words of iterators, as pairs.
 
-ghost use Rattle.std.specs.Prelude.{◌≡◌, ◌++◌, List, length, take, IfOk};
+ghost use Rattle.std.specs.Prelude.{◌≡◌, ◌≤◌, ◌++◌, List, length, take, Err, IfOk, vec_capacity};
 ghost use Rattle.constriction_client.specs.Quantiles.{ArePairs};
 
 use crate::checks::{holds, same, small};
@@ -15,11 +15,13 @@ type Small = ContiguousCategoricalEntropyModel<u8, Vec<u8>, 6>;
 type Read = Result<usize, CoderError<ReadFault, Infallible>>;
 
 /// Reads the pairs of the first words of a slice, by a source over its iterator: of `count` words, or of all where these are fewer.
+/// Since the model clones no symbol, memory is wanting only where there is no room for a pair.
 fn read_slice(model: &Small, words: &[u8], count: usize, out: &mut Vec<(usize, u8)>) -> Read
-    ensures { IfOk result (λ n. (pairs : List _)
+    ensures pairs { IfOk result (λ n. (pairs : List _)
         × ArePairs (λ s t. t ≡ s) (⟦<ContiguousCategoricalEntropyModel<u8, Vec<u8>, 6> as EntropyModel<6>>⟧.rows model.now) (λ word. word)
         (take count words.now) pairs
         × (length pairs ≡ n) × (out.new.items ≡ out.old.items ++ pairs)) }
+    ensures memory { result ≡ Err (CoderError.Frontend ReadFault.OutOfMemory) → vec_capacity out.new ≤ length out.new.items }
 {
     let mut source = InfallibleIteratorReadWords::new(words.iter().copied());
     read_symbols::<Queue, _, _, 6>(model, &mut source, count, out)
@@ -33,4 +35,14 @@ fn words_of_an_iterator_are_read_as_pairs(rt: HostRuntime) {
     let refused = Err(CoderError::Frontend(ReadFault::QuantileTooLarge));
     same(&rt, read_slice(&model, &[3, 64], 5, &mut out), refused);
     holds(&rt, &out, &[(0, 2), (3, 41), (1, 0)]);
+}
+
+/// Memory for pairs is asked for as words come, whatever the count is.
+#[test]
+fn five_thousand_words_are_read_as_pairs(rt: HostRuntime) {
+    let model = small(&rt, rt.alloc());
+    let words = vec![in rt.alloc(); 63u8; 5000].expect(&rt, "memory");
+    let mut out = Vec::new(rt.alloc());
+    let read = read_slice(&model, &words, 1 << 60, &mut out);
+    same(&rt, (read, out.len()), (Ok(5000), 5000));
 }

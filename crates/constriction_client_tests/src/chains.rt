@@ -81,11 +81,22 @@ fn gives_letters(rt: &impl Abort, symbol_table: NonContiguousSymbolTable<'_, cha
     same(rt, walk.next_back().is_none(), true);
 }
 
+/// Steps of each kind, of which the last one leaves a form that looks up.
+const TO_LOOKUP: [ChainStep; 5] = [
+    ChainStep::ToSearch,
+    ChainStep::ToLookup,
+    ChainStep::Rebuild,
+    ChainStep::IntoSearch,
+    ChainStep::ToLookup,
+];
+
 #[test]
-fn a_form_that_looks_up_has_the_rows_of_its_letters(rt: HostRuntime) {
+fn five_thousand_steps_leave_the_rows_of_the_letters(rt: HostRuntime) {
     let model = decoder::<6>(rt.alloc(), &SYMBOLS, &WEIGHTS, false).expect(&rt, "accepted");
     let searching = DecoderForm::Search(model);
-    let made = convert_chain(rt.alloc(), searching, &[ChainStep::ToLookup]).expect(&rt, "a form");
+    let steps = TO_LOOKUP.iter().copied().cycle().take(5000);
+    let steps: Vec<ChainStep> = steps.collect(rt.alloc()).expect(&rt, "memory");
+    let made = convert_chain(rt.alloc(), searching, &steps).expect(&rt, "a form");
     gives_letters(&rt, IterableEntropyModel::<6>::symbol_table(&made));
     same(&rt, has_rows_of(&made, &SYMBOLS), Ok(true));
     let encoder = encoder::<6>(rt.alloc(), &SYMBOLS, &WEIGHTS, false).expect(&rt, "accepted");

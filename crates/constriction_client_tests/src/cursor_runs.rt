@@ -112,3 +112,18 @@ fn a_cursor_and_its_reversal_are_run_together(rt: HostRuntime) {
     both_are(&rt, found, &REPLIES);
     same(&rt, words, [10, 99, 30]);
 }
+
+#[test]
+fn five_thousand_calls_are_run(rt: HostRuntime) {
+    let alloc = rt.alloc();
+    let calls = (0..5000usize).map(|turn| CursorCall::Seek(turn % 4));
+    let calls: Vec<CursorCall<u8>> = calls.collect(alloc).expect(&rt, "memory");
+    let replies = (0..5000usize).map(|_| CursorReply::Moved);
+    let replies: Vec<CursorReply<u8>> = replies.collect(alloc).expect(&rt, "memory");
+    let mut cursor = at_1(&rt, marked(&rt, alloc));
+    let mut reversed = at_1(&rt, marked(&rt, alloc)).into_reversed();
+    let found = one_after_the_other(alloc, &mut cursor, &mut reversed, &calls);
+    both_are(&rt, found, &replies);
+    let found = replies_of_both(alloc, &mut cursor, &calls);
+    both_are(&rt, found, &replies);
+}

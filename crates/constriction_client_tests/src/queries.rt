@@ -1,6 +1,6 @@
 //! Queries to a decoder and an encoder, and their replies.
 
-use crate::checks::{holds, same};
+use crate::checks::{holds, same, small};
 use constriction::stream::model::NonContiguousCategoricalEncoderModel;
 use constriction_client::{Query, Reply, answer_queries};
 use constriction_test_models::symbol_types::{Letter, LetterDecoder, letters};
@@ -35,4 +35,13 @@ fn a_refused_clone_refuses_the_replies(rt: HostRuntime) {
     holds(&rt, &found, &[a]);
     let refused = ask_for_row(rt.alloc(), &form, &encoder, 16).err();
     same(&rt, refused, Some(AllocError));
+}
+
+#[test]
+fn five_thousand_queries_are_answered(rt: HostRuntime) {
+    let model = small(&rt, rt.alloc());
+    let queries = (0..5000usize).map(|symbol| Query::OfSymbol(symbol % 4));
+    let queries: Vec<Query<usize, u8>> = queries.collect(rt.alloc()).expect(&rt, "memory");
+    let replies = answer_queries(rt.alloc(), &model, &model, &queries).expect(&rt, "replies");
+    same(&rt, replies.len(), 5000);
 }

@@ -1,4 +1,5 @@
-//! Conversions of models of symbols that are watched: how often two of them are compared, and how many there are.
+//! Conversions of models of symbols that are watched: how often two of them are compared, how often
+//! one is cloned, and how many there are.
 
 ghost use Rattle.std.specs.Prelude.{◌<◌, ◌^◌};
 ghost use Rattle.std.specs.List.{IsDistinct};
@@ -12,15 +13,19 @@ use constriction::stream::model::{
     NonContiguousCategoricalDecoderModel, to_generic_decoder_model,
     to_generic_lookup_decoder_model_of_distinct,
 };
+use constriction_client::laws::{DecoderAndEncoder, decoder_and_encoder};
 use constriction_client::{ChainStep, DecoderForm, convert_chain};
 use constriction_test_models::watched::{Tally, Watched, symbols, tally, told};
 use std::alloc::Global;
+use std::cell::Cell;
 use std::iter;
 use std::process::Abort;
 
 type Decoder = NonContiguousCategoricalDecoderModel<Watched, usize, Vec<(usize, Watched)>, 24>;
 
 type Form = DecoderForm<Watched, usize, 24>;
+
+type Both = DecoderAndEncoder<Watched, usize, 24>;
 
 /// The model of so many numbers from 0 on, and of the number `last` after them, which are told apart by their hashes. Each has one
 /// quantile, but the last one has all that are left. So the rows of the others all meet the first slot of a lookup table.
@@ -36,10 +41,12 @@ fn hashed(
     Decoder::from_hashable_symbols_and_nonzero_fixed_point_probabilities(alloc, symbols, ones, true)
 }
 
-/// A model of the caller, which has the rows of another model. Its symbol table does not announce how many rows there are.
+/// A model of the caller, which has the rows of another model and counts the walks through it. Its symbol table does not announce
+/// how many rows there are.
 #[derive(Clone, Copy)]
-struct Unannounced<Model> {
+struct Unannounced<'w, Model> {
     model: Model,
+    walks: &'w Cell<usize>,
 }
 
 /// Its symbol table, which keeps the default `size_hint` of the trait.
@@ -62,7 +69,7 @@ impl<SymbolTable: Iterator> Iterator for UnannouncedSymbolTable<SymbolTable> {
     }
 }
 
-impl<Model: EntropyModel<24>> EntropyModel<24> for Unannounced<Model> {
+impl<'w, Model: EntropyModel<24>> EntropyModel<24> for Unannounced<'w, Model> {
     type Symbol = Model::Symbol;
 
     type Probability = Model::Probability;
@@ -72,7 +79,7 @@ impl<Model: EntropyModel<24>> EntropyModel<24> for Unannounced<Model> {
     ghost precision_law = { λ m. Model.precision_law m.model };
 }
 
-impl<Model: IterableEntropyModel<24>> IterableEntropyModel<24> for Unannounced<Model> {
+impl<'w, Model: IterableEntropyModel<24>> IterableEntropyModel<24> for Unannounced<'w, Model> {
     type SymbolTable = UnannouncedSymbolTable<Model::SymbolTable>;
 
     ghost stands_for = { Model.stands_for };
@@ -82,6 +89,7 @@ impl<Model: IterableEntropyModel<24>> IterableEntropyModel<24> for Unannounced<M
     ghost rows_left = { λ t. Model.rows_left t.held };
 
     fn symbol_table(self) -> UnannouncedSymbolTable<Model::SymbolTable> {
+        count(self.walks);
         UnannouncedSymbolTable {
             held: self.model.symbol_table(),
         }
@@ -112,7 +120,8 @@ fn looked_up(alloc: Global, model: &Decoder) -> Result<Form, ModelError> {
 /// The same by a walk that does not announce how many rows there are.
 fn looked_up_unannounced(alloc: Global, model: &Decoder) -> Result<Form, ModelError> {
     symbols_differ(model);
-    match to_generic_lookup_decoder_model_of_distinct(alloc, Unannounced { model }) {
+    let walks = &Cell::new(0);
+    match to_generic_lookup_decoder_model_of_distinct(alloc, Unannounced { model, walks }) {
         Ok(made) => Ok(DecoderForm::Lookup(made)),
         Err(refusal) => Err(refusal),
     }
@@ -124,6 +133,11 @@ fn walked(alloc: Global, model: &Decoder) -> Result<Form, ModelError> {
         Ok(made) => Ok(DecoderForm::Search(made)),
         Err(refusal) => Err(refusal),
     }
+}
+
+/// The two models of the same rows, by a model that counts the walks through it.
+fn both_of(alloc: Global, model: &Decoder, walks: &Cell<usize>) -> Result<Both, ModelError> {
+    decoder_and_encoder(alloc, Unannounced { model, walks })
 }
 
 /// Each kind of step, and a rebuilding of each form.
@@ -157,14 +171,14 @@ fn five_thousand_symbols_are_converted_without_comparing_any(rt: HostRuntime) {
     let tally = tally(rt.alloc()).expect(&rt, "memory");
     let made = hashed(&rt, rt.alloc(), &tally, 4999, 5000);
     let model = made.expect(&rt, "accepted");
-    let (few, alive) = told(&tally);
-    same(&rt, (few <= 5000, alive), (true, 5000));
+    let (few, cloned, alive) = told(&tally);
+    same(&rt, (few <= 5000, cloned, alive), (true, 0, 5000));
     let form = converted(rt.alloc(), model).expect(&rt, "a form");
+    same(&rt, told(&tally), (few, 25_000, 5000));
     same(&rt, number_at(&form, 4321), Some(4321));
-    same(&rt, told(&tally), (few, 5000));
     same(&rt, tally.hashed.get(), 5000);
     drop(form);
-    same(&rt, told(&tally), (few, 0));
+    same(&rt, told(&tally), (few, 25_001, 0));
 }
 
 /// The conversion to a lookup model compares no two symbols, whether or not the walk announces how many rows there are.
@@ -173,12 +187,12 @@ fn five_thousand_symbols_are_looked_up_without_comparing_any(rt: HostRuntime) {
     let tally = tally(rt.alloc()).expect(&rt, "memory");
     let made = hashed(&rt, rt.alloc(), &tally, 4999, 5000);
     let model = made.expect(&rt, "accepted");
-    let (few, _alive) = told(&tally);
+    let (few, _cloned, _alive) = told(&tally);
     let announced = looked_up(rt.alloc(), &model).expect(&rt, "a form");
-    same(&rt, number_at(&announced, 4321), Some(4321));
     let unannounced = looked_up_unannounced(rt.alloc(), &model).expect(&rt, "a form");
+    same(&rt, told(&tally), (few, 10_000, 15_000));
+    same(&rt, number_at(&announced, 4321), Some(4321));
     same(&rt, number_at(&unannounced, 4321), Some(4321));
-    same(&rt, told(&tally), (few, 15_000));
 }
 
 /// The conversion of a model that knows that its symbols differ compares none.
@@ -187,10 +201,23 @@ fn five_thousand_symbols_that_differ_are_not_compared(rt: HostRuntime) {
     let tally = tally(rt.alloc()).expect(&rt, "memory");
     let made = hashed(&rt, rt.alloc(), &tally, 4999, 5000);
     let model = made.expect(&rt, "accepted");
-    let (few, _alive) = told(&tally);
+    let (few, _cloned, _alive) = told(&tally);
     let form = walked(rt.alloc(), &model).expect(&rt, "a form");
+    same(&rt, told(&tally), (few, 5000, 10_000));
     same(&rt, number_at(&form, 4321), Some(4321));
-    same(&rt, told(&tally), (few, 10_000));
+}
+
+/// The model is walked through once for each of them, and each walk clones each symbol once.
+#[test]
+fn a_decoder_and_an_encoder_take_one_walk_each(rt: HostRuntime) {
+    let tally = tally(rt.alloc()).expect(&rt, "memory");
+    let made = hashed(&rt, rt.alloc(), &tally, 99, 100);
+    let model = made.expect(&rt, "accepted");
+    let walks = Cell::new(0);
+    let both = both_of(rt.alloc(), &model, &walks).expect(&rt, "both models");
+    let (_compared, cloned, alive) = told(&tally);
+    same(&rt, [walks.get(), cloned, alive], [2, 200, 300]);
+    same(&rt, both.1.support_size(), 100);
 }
 
 /// Where a symbol is there twice, and where a clone is refused, no symbol is left.
@@ -199,9 +226,9 @@ fn no_symbol_outlives_a_refusal(rt: HostRuntime) {
     let tally = tally(rt.alloc()).expect(&rt, "memory");
     let repeat = hashed(&rt, rt.alloc(), &tally, 3, 1);
     same(&rt, repeat.err(), Some(ModelError::InvalidTable));
-    same(&rt, told(&tally).1, 0);
+    same(&rt, told(&tally).2, 0);
     let made = hashed(&rt, rt.alloc(), &tally, 3, u32::MAX);
     let refused = converted(rt.alloc(), made.expect(&rt, "accepted"));
     same(&rt, refused.err(), Some(ModelError::OutOfMemory));
-    same(&rt, told(&tally).1, 0);
+    same(&rt, told(&tally).2, 0);
 }

@@ -1,2 +1,2 @@
-mod Running
+pub mod Running
 mod Stepping

@@ -106,7 +106,7 @@ module _ {W : Type 0} where
 
   -- ---- and so has a run
 
-  runs-once : (s : State W) (calls : List (CursorCall W)) (replies others : List (CursorReply W)) (t u : State W) → Runs s calls replies t
+  pub runs-once : (s : State W) (calls : List (CursorCall W)) (replies others : List (CursorReply W)) (t u : State W) → Runs s calls replies t
       → Runs s calls others u → (others ≡ replies) × (u ≡ t)
   runs-once s [] [] [] t u h k = (refl, sym k ∙ h)
   runs-once s (c ∷ cs) (r ∷ rs) (o ∷ os) t u h k =

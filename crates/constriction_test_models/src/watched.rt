@@ -47,12 +47,10 @@ pub fn count(counter: &Cell<usize>) {
     counter.set(counter.get().wrapping_add(1));
 }
 
-/// How often symbols were compared, and how many there are.
-pub fn told(tally: &Tally) -> (usize, usize) {
-    (
-        tally.compared.get(),
-        Rc::strong_count(tally).wrapping_sub(1),
-    )
+/// How often symbols were compared and one was cloned, and how many there are.
+pub fn told(tally: &Tally) -> (usize, usize, usize) {
+    let alive = Rc::strong_count(tally).wrapping_sub(1);
+    (tally.compared.get(), tally.cloned.get(), alive)
 }
 
 /// A symbol that counts what is done to it. Memory for a clone is refused where its number is the greatest `u32`.

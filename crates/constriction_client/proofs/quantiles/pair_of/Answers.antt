@@ -28,5 +28,5 @@ pub returns-in-Err : goal.returns-in-Err
 returns-in-Err g c = record {
   ok = tt;
   in_range = tt;
-  err = c.is_quantile.ensures.0 c.if-not-is_quantile.false;
+  err = (c.is_quantile.ensures.0 c.if-not-is_quantile.false, c.in-Err.ensures.refused);
 }

@@ -4,16 +4,19 @@ use Rattle.std.specs.Iterator.{AlwaysYields}
 use Rattle.std.specs.Iterator.Adapters.{copied_source, fuse_done, fuse_source}
 use Rattle.std.specs.Slice.Iter.{iter_rest}
 use Rattle.constriction_backends.specs.ItemLaws.{tells-new}
-use Rattle.constriction_client_tests.proofs.SliceReading.{pairs-if-read}
+use Rattle.constriction_client_tests.proofs.SliceReading.{full-if-refused, pairs-if-read}
 use Rattle.constriction_client_tests.proofs.adapters.read_slice.Goals as goal
 
-pub returns : goal.returns
-returns c =
+pub returns-clause-pairs : goal.returns-clause-pairs
+returns-clause-pairs c =
     let source = c.new-source.result in
     let here : iter_rest (copied_source c.copied.result) ≡ c.args.words.now = search rules in
     let given : AlwaysYields (copies fronts) (λ x. x) c.copied.result c.args.words.now =
     subst (λ (ws : List ℕ). AlwaysYields (copies fronts) (λ x. x) c.copied.result ws) here (Copied-slice c.copied.result) in
     let inner : fuse_source source.inner ≡ c.copied.result = c.new-source.ensures.source in
-    pairs-if-read _ _ _ _ _ _ _ _ _ c.read_symbols.result _ _ c.args.words.now c.read_symbols.ensures.pairs
+    pairs-if-read _ _ _ _ _ _ _ _ _ _ c.read_symbols.result _ _ _ c.args.words.now c.read_symbols.ensures.pairs
     (tells-new (copies fronts) fuse_done fuse_source source.inner c.args.words.now c.new-source.ensures.fresh
     (subst (λ (it : _). AlwaysYields (copies fronts) (λ x. x) it c.args.words.now) (sym inner) given))
+
+pub returns-clause-memory : goal.returns-clause-memory
+returns-clause-memory c = full-if-refused _ _ _ _ _ _ _ _ _ c.read_symbols.result _ _ _ c.read_symbols.ensures.pairs
