@@ -15,7 +15,7 @@ use constriction::stream::model::{
 };
 use constriction_client::laws::{DecoderAndEncoder, decoder_and_encoder};
 use constriction_client::{ChainStep, DecoderForm, convert_chain};
-use constriction_test_models::watched::{Tally, Watched, symbols, tally, told};
+use constriction_test_models::watched::{Tally, Watched, count, symbols, tally, told};
 use std::alloc::Global;
 use std::cell::Cell;
 use std::iter;
