@@ -26,7 +26,7 @@ THEOREM = [
         "after any chain of conversions, answer every list of queries as a scan of the rows does",
         [
             ("kind rows", "answer_from_weights"),
-            ("answers", "answer_from_symbols_and_weights answer_from_range_u8 answer_by_table answer_by_form"),
+            ("answers", "answer_from_symbols_and_weights answer_from_range_u8 answer_by_symbol_table answer_by_form"),
             ("by_model converted", "answer_by_model"),
         ],
     ),

@@ -5,6 +5,7 @@
 use constriction_backends::{Cursor, SafeBuf};
 use constriction_words::Pos;
 use std::alloc::Global;
+use std::error::Error;
 use std::fmt::{Debug, Display};
 use std::process::Abort;
 
@@ -50,3 +51,6 @@ pub fn is_at<Buf: SafeBuf<u8>, const N: usize>(
     same(rt, cursor.buf().words(), words.as_slice());
     same(rt, cursor.pos(), pos);
 }
+
+/// The value is an error, as its type says.
+pub fn is_an_error<E: Error>(_error: &E) {}

@@ -1,12 +1,9 @@
 //! What is an error, how it compares, and how it is shown.
 
-use crate::checks::{same, shows};
+use crate::checks::{is_an_error, same, shows};
 use constriction_backends::{BoundedWriteError, Cursor, WriteWords};
 use constriction_words::{CoderError, DefaultEncoderFrontendError, NanError, ReadWriteError};
 use std::alloc::AllocError;
-use std::error::Error;
-
-fn is_an_error<E: Error>(_error: &E) {}
 
 #[test]
 fn a_full_sink_is_out_of_space(rt: HostRuntime) {

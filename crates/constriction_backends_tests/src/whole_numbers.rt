@@ -38,13 +38,13 @@ fn ends<N: WholeNumber>() -> ([bool; 6], [usize; 6])
     requires { 1 < N.BITS }
 {
     let greatest = N::greatest_word();
-    let one = N::greatest(1);
+    let one = N::greatest_of_bits(1);
     let least = N::least();
     let weight = one.to_weight();
     let comparisons = [
         least.plus(greatest).is_greatest(),
-        greatest.minus(greatest).is_least(),
-        N::wrapping_pow2(N::BITS).is_least(),
+        greatest.minus(greatest).is_zero_word(),
+        N::wrapping_pow2(N::BITS).is_zero_word(),
         least.wrapping_minus(one).is_greatest(),
         greatest.is_below(one),
         one.is_at_most(greatest),

@@ -2,13 +2,12 @@
 
 ghost use Rattle.std.specs.Prelude.{◌≡◌, ◌+◌, ◌<◌};
 
-use crate::checks::{clone_of, same, shows};
+use crate::checks::{clone_of, is_an_error, same, shows};
 use constriction_words::{
     CoderError, DefaultEncoderFrontendError, NanError, Queue, ReadWriteError, Semantics, Stack,
     UnwrapInfallible,
 };
 use std::convert::Infallible;
-use std::error::Error;
 
 fn marker<S: Semantics>() -> S {
     S::default()
@@ -22,8 +21,6 @@ fn markers_and_words_have_a_default(rt: HostRuntime) {
     shows(&rt, rt.alloc(), &queue, "Queue");
     same(&rt, u8::default(), 0);
 }
-
-fn is_an_error<E: Error>(_error: &E) {}
 
 #[test]
 fn each_side_is_mapped_alone(rt: HostRuntime) {

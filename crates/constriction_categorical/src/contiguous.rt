@@ -18,7 +18,7 @@ use constriction_model::{
     DecoderModel, EncoderModel, EntropyModel, ModelError, Probe, Weight, row_in_probe,
 };
 use constriction_numbers::WholeNumber;
-use constriction_stored_rows::{Alone, CdfProbe, cdf_of, contiguous_row_at, copied, row_at};
+use constriction_stored_rows::{Cumulative, CdfProbe, cdf_of, contiguous_row_at, copy_of, row_at};
 use std::alloc::{AllocError, Global};
 use std::marker::PhantomData;
 
@@ -101,7 +101,7 @@ impl<Probability: WholeNumber, const PRECISION: usize> Clone
     ///
     /// One allocation and one copy of the cdf.
     fn clone(&self) -> Result<Self, AllocError> {
-        self.in_vec(*self.cdf.allocator())
+        self.clone_in(*self.cdf.allocator())
     }
 }
 
@@ -130,7 +130,7 @@ impl<
     }
 
     /// The same model over a copy of the cdf of this one.
-    pub(crate) fn in_vec(
+    pub(crate) fn clone_in(
         &self,
         alloc: Global,
     ) -> Result<
@@ -139,7 +139,7 @@ impl<
     >
         ensures { IfOk result (λ m. contiguous_model_rows m ≡ contiguous_model_rows self.now) }
     {
-        let cdf = copied(alloc, self.cdf.words())?;
+        let cdf = copy_of(alloc, self.cdf.words())?;
         Ok(ContiguousCategoricalEntropyModel {
             cdf,
             probability: PhantomData,
@@ -168,9 +168,9 @@ impl<
     pub fn quantile_probe<'m>(
         &'m self,
         quantile: Probability,
-    ) -> (usize, CdfProbe<'m, Probability, Alone>)
+    ) -> (usize, CdfProbe<'m, Probability, Cumulative>)
         requires { Probability.whole quantile < 2 ^ PRECISION }
-        ensures { IsProbeFor ⟦<CdfProbe<'m, Probability, Alone> as Probe>⟧
+        ensures { IsProbeFor ⟦<CdfProbe<'m, Probability, Cumulative> as Probe>⟧
             (contiguous_model_rows self.now) (λ _. ⊤) (Probability.whole quantile) result.0 result.1 }
     {
         (0, CdfProbe::new(self.cdf_entries()))

@@ -34,7 +34,7 @@ fn entries_of_distinct<
     requires symbols_end { IsFiniteIterable S.into_iter_gives S.IntoIter.can_next S.IntoIter.remaining symbols }
     requires weights_end { IsFiniteIterable W.into_iter_gives W.IntoIter.can_next W.IntoIter.remaining weights }
     requires distinct { GivesDistinct S.into_iter_gives S.IntoIter.next_gives Symbol.eq symbols }
-    ensures told { IsMadeOfBoth (AreAccepted Symbol.eq P.BITS PRECISION) (completed PRECISION infer_last)
+    ensures made { IsMadeOfBoth (AreAccepted Symbol.eq P.BITS PRECISION) (completed PRECISION infer_last)
         (WasReadOf S.into_iter_gives S.IntoIter.next_gives symbols) (WasReadOf W.into_iter_gives W.IntoIter.next_gives weights)
         P.whole (λ v ss ws. rows_paired P.whole PRECISION v.items ≡ rows_of ss ws) result }
     ensures stored { IfOk result (λ v. IsStored P.BITS PRECISION (map (λ x. P.whole x.0) v.items)) }
@@ -45,7 +45,7 @@ fn entries_of_distinct<
 
 /// The entries of these symbols and weights, if no two of the symbols are equal, which a hash of each tells.
 #[inline]
-fn entries_apart<
+fn entries_hashed<
     P: WholeNumber,
     Symbol: Hash + Eq + Drop,
     S: IntoIterator<Item = Symbol>,
@@ -56,7 +56,7 @@ fn entries_apart<
     requires fits { PRECISION ≤ P.BITS }
     requires symbols_end { IsFiniteIterable S.into_iter_gives S.IntoIter.can_next S.IntoIter.remaining symbols }
     requires weights_end { IsFiniteIterable W.into_iter_gives W.IntoIter.can_next W.IntoIter.remaining weights }
-    ensures told { IsMadeOfBoth (AreAccepted Symbol.eq P.BITS PRECISION) (completed PRECISION infer_last)
+    ensures made { IsMadeOfBoth (AreAccepted Symbol.eq P.BITS PRECISION) (completed PRECISION infer_last)
         (WasReadOf S.into_iter_gives S.IntoIter.next_gives symbols) (WasReadOf W.into_iter_gives W.IntoIter.next_gives weights)
         P.whole (λ v ss ws. rows_paired P.whole PRECISION v.items ≡ rows_of ss ws) result }
     ensures stored { IfOk result (λ v. IsStored P.BITS PRECISION (map (λ x. P.whole x.0) v.items)) }
@@ -83,7 +83,7 @@ fn entries_in_order<
     requires fits { PRECISION ≤ P.BITS }
     requires symbols_end { IsFiniteIterable S.into_iter_gives S.IntoIter.can_next S.IntoIter.remaining symbols }
     requires weights_end { IsFiniteIterable W.into_iter_gives W.IntoIter.can_next W.IntoIter.remaining weights }
-    ensures told { IsMadeOfBoth (AreInOrder Symbol.eq Symbol.cmp P.BITS PRECISION) (completed PRECISION infer_last)
+    ensures made { IsMadeOfBoth (AreInOrder Symbol.eq Symbol.cmp P.BITS PRECISION) (completed PRECISION infer_last)
         (WasReadOf S.into_iter_gives S.IntoIter.next_gives symbols) (WasReadOf W.into_iter_gives W.IntoIter.next_gives weights)
         P.whole (λ v ss ws. rows_paired P.whole PRECISION v.items ≡ rows_of ss ws) result }
     ensures stored { IfOk result (λ v. IsStored P.BITS PRECISION (map (λ x. P.whole x.0) v.items)) }
@@ -150,7 +150,7 @@ impl<
     /// references to the symbols, is refused.
     ///
     /// One pass over both, and one hash a symbol after it. No symbol is cloned. The set has as many places as there
-    /// are symbols, and is let go before the call answers.
+    /// are symbols, and is dropped before the call returns.
     ///
     /// [`from_symbols_and_nonzero_fixed_point_probabilities`]: Self::from_symbols_and_nonzero_fixed_point_probabilities
     #[tactic(auto, using(crate::proofs::Remade::made_of_both, crate::proofs::Remade::refused_both))]
@@ -170,7 +170,7 @@ impl<
             (WasReadOf S.into_iter_gives S.IntoIter.next_gives symbols) (WasReadOf P.into_iter_gives P.IntoIter.next_gives probabilities)
             Probability.whole (λ m ss ws. decoder_model_rows m ≡ rows_of ss ws) result }
     {
-        match entries_apart::<Probability, Symbol, S, P, PRECISION>(
+        match entries_hashed::<Probability, Symbol, S, P, PRECISION>(
             alloc,
             symbols,
             probabilities,

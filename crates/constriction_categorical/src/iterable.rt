@@ -27,7 +27,7 @@ pub trait IterableEntropyModel<const PRECISION: usize>: EntropyModel<PRECISION> 
     // symbols' type says of a clone. Where an implementer says nothing, it makes none, and this is equality.
     ghost stands_for: { Self.Symbol → Self.Symbol → Type 0 } = { λ s t. t ≡ s };
 
-    // That a row with this symbol may be refused, for want of memory. None may be, where an implementer says nothing else.
+    // Memory for a row with this symbol may be refused. By default it never is.
     ghost may_refuse: { Self.Symbol → Type 0 } = { λ _. ⊥ };
 
     // The rows that a symbol table has yet to give.

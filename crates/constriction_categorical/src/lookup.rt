@@ -65,7 +65,7 @@ impl<
 > LookupDecoderModel<Model, Vec<Model::Probability>, PRECISION, SLOT_BITS> {
     ghost use Rattle.constriction_categorical.specs.ModelRows.{lookup_model_rows};
 
-    /// The model of the same rows, with a lookup table. Want of memory for the lookup table is its only refusal.
+    /// The model of the same rows, with a lookup table. It fails only if memory for the lookup table is refused.
     ///
     /// One pass over the rows, or two where the lookup table has where each row begins, and one allocation: of two words a
     /// slot, or of one where a slot holds one quantile, and of one word a row and one more where the lookup table has these.
@@ -205,7 +205,7 @@ where
         AllocError,
     > {
         let index = self.row_index(quantile);
-        self.model.row_beside(self.after_slots(), index)
+        self.model.row_with_ends(self.after_slots(), index)
     }
 
     ghost tile_law = { λ m. Model.tile_law m.model };
@@ -223,8 +223,8 @@ where
 {
     ghost use Rattle.constriction_categorical.specs.ModelRows.{lookup_model_rows};
 
-    /// The searching model beside the lookup table, which is let go: of a model that [`with_table`](Self::with_table) made, the
-    /// one that it was given.
+    /// The searching model without the lookup table, which is dropped: the model that was given to
+    /// [`with_table`](Self::with_table).
     #[inline]
     pub fn into_searching_model(self) -> Model
     where

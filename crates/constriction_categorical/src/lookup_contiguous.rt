@@ -16,7 +16,7 @@ use crate::symbol_table::ContiguousSymbolTable;
 use constriction_buffers::SafeBuf;
 use constriction_model::ModelError;
 use constriction_numbers::IndexWord;
-use constriction_stored_rows::copied;
+use constriction_stored_rows::copy_of;
 use std::alloc::{AllocError, Global};
 
 /// A model of the symbols 0, 1, .., given by their weights, for decoders: a lookup table of
@@ -117,7 +117,7 @@ impl<Probability: IndexWord, const PRECISION: usize, const SLOT_BITS: usize> Clo
     ///
     /// Two allocations, and one copy of each.
     fn clone(&self) -> Result<Self, AllocError> {
-        let lookup_table = copied(*self.lookup_table.allocator(), self.lookup_table.as_slice())?;
+        let lookup_table = copy_of(*self.lookup_table.allocator(), self.lookup_table.as_slice())?;
         match self.model.clone() {
             Ok(model) => Ok(Self {
                 model,
@@ -170,7 +170,7 @@ impl<
         ensures ok { IfOk result (λ m. lookup_model_rows m ≡ contiguous_model_rows self.now) }
         ensures refused { IfErr result (λ e. e ≡ ModelError.OutOfMemory) }
     {
-        match self.in_vec(alloc) {
+        match self.clone_in(alloc) {
             Ok(copy) => lookup_over(alloc, copy),
             Err(_) => Err(ModelError::OutOfMemory),
         }

@@ -18,7 +18,7 @@ use crate::non_contiguous_table::NonContiguousSymbolTable;
 use constriction_buffers::SafeBuf;
 use constriction_model::ModelError;
 use constriction_numbers::IndexWord;
-use constriction_stored_rows::copied;
+use constriction_stored_rows::copy_of;
 use std::alloc::{AllocError, Global};
 
 /// A model of any symbols, no two of which are equal, for decoders: a lookup table of
@@ -152,7 +152,7 @@ impl<
         requires { ClonesAreEqual Symbol.eq Symbol.is_clone }
         ensures { IfOk result (λ m. StandForRows Symbol.is_clone (lookup_model_rows m) (lookup_model_rows self.now)) }
     {
-        let lookup_table = copied(*self.lookup_table.allocator(), self.lookup_table.as_slice())?;
+        let lookup_table = copy_of(*self.lookup_table.allocator(), self.lookup_table.as_slice())?;
         match self.model.clone() {
             Ok(model) => Ok(Self {
                 model,
@@ -216,7 +216,7 @@ impl<
         ensures ok { IfOk result (λ m. StandForRows Symbol.is_clone (lookup_model_rows m) (decoder_model_rows self.now)) }
         ensures refused { IfErr result (λ e. e ≡ ModelError.OutOfMemory) }
     {
-        match self.in_vec(alloc) {
+        match self.clone_in(alloc) {
             Ok(copy) => lookup_over(alloc, copy),
             Err(_) => Err(ModelError::OutOfMemory),
         }

@@ -9,7 +9,7 @@ ghost use Rattle.constriction_model.specs.Model.{StandForRows, ClonesAreEqual};
 ghost use Rattle.constriction_model.specs.Precision.{IsPrecision};
 ghost use Rattle.constriction_model.specs.Probe.{IsProbeFor};
 ghost use Rattle.constriction_model.specs.Rows.{rows_of};
-ghost use Rattle.constriction_stored_rows.specs.Stored.{IsStored, StandBeside, rows_paired};
+ghost use Rattle.constriction_stored_rows.specs.Stored.{IsStored, AreEndWords, rows_paired};
 ghost use Rattle.constriction_stored_rows.specs.SymbolRowLemmas.{paired-tiles};
 ghost use Rattle.constriction_model.specs.Tables.{rows_between};
 
@@ -19,7 +19,7 @@ use constriction_buffers::SafeBuf;
 use constriction_model::{DecoderModel, EntropyModel, ModelError, Probe, Weight, row_in_probe};
 use constriction_numbers::WholeNumber;
 use constriction_stored_rows::{
-    CdfProbe, WithSymbol, cloned_row_at, entries_announced, entries_cloned, rows_read, words_beside,
+    CdfProbe, CumulativeAndSymbol, cloned_row_at, entries_announced, entries_cloned, rows_read, end_words_of,
 };
 use std::alloc::{AllocError, Global};
 use std::marker::PhantomData;
@@ -36,12 +36,12 @@ pub struct NonContiguousCategoricalDecoderModel<
     const PRECISION: usize,
 > {
     pub(crate) cdf: Cdf,
-    pub(crate) beside: [Probability; 2],
-    pub(crate) entries: PhantomData<(Probability, Symbol)>,
+    pub(crate) end_words: [Probability; 2],
+    pub(crate) marker: PhantomData<(Probability, Symbol)>,
     ghost precise: { IsPrecision Probability.BITS PRECISION },
     ghost stored: { IsStored Probability.BITS PRECISION (map (λ x. Probability.whole x.0) (Cdf.words_of cdf)) },
-    ghost aided: { StandBeside Probability.BITS PRECISION (map (λ x. Probability.whole x.0) (Cdf.words_of cdf))
-        (map Probability.whole beside) },
+    ghost aided: { AreEndWords Probability.BITS PRECISION (map (λ x. Probability.whole x.0) (Cdf.words_of cdf))
+        (map Probability.whole end_words) },
     ghost distinct: { IsDistinct Symbol.eq (map (λ x. x.1) (Cdf.words_of cdf)) } by { Prim.hlevel props },
 }
 
@@ -84,7 +84,7 @@ fn entries_compared<
     requires fits { PRECISION ≤ P.BITS }
     requires symbols_end { IsFiniteIterable S.into_iter_gives S.IntoIter.can_next S.IntoIter.remaining symbols }
     requires weights_end { IsFiniteIterable W.into_iter_gives W.IntoIter.can_next W.IntoIter.remaining weights }
-    ensures told { IsMadeOfBoth (AreAccepted Symbol.eq P.BITS PRECISION) (completed PRECISION infer_last)
+    ensures made { IsMadeOfBoth (AreAccepted Symbol.eq P.BITS PRECISION) (completed PRECISION infer_last)
         (WasReadOf S.into_iter_gives S.IntoIter.next_gives symbols) (WasReadOf W.into_iter_gives W.IntoIter.next_gives weights)
         P.whole (λ v ss ws. rows_paired P.whole PRECISION v.items ≡ rows_of ss ws) result }
     ensures stored { IfOk result (λ v. IsStored P.BITS PRECISION (map (λ x. P.whole x.0) v.items)) }
@@ -113,11 +113,11 @@ pub fn decoder_over<Symbol: Eq, Probability: WholeNumber, const PRECISION: usize
     ensures { ⟦<NonContiguousCategoricalDecoderModel<Symbol, Probability, Vec<(Probability, Symbol)>, PRECISION> as EntropyModel<PRECISION>>⟧.rows result
         ≡ rows_paired Probability.whole PRECISION entries.items }
 {
-    let beside = words_beside::<Probability, Symbol, PRECISION>(&entries);
+    let end_words = end_words_of::<Probability, Symbol, PRECISION>(&entries);
     NonContiguousCategoricalDecoderModel {
         cdf: entries,
-        beside,
-        entries: PhantomData,
+        end_words,
+        marker: PhantomData,
     }
 }
 
@@ -191,7 +191,7 @@ impl<
         requires { ClonesAreEqual Symbol.eq Symbol.is_clone }
         ensures { IfOk result (λ m. StandForRows Symbol.is_clone (decoder_model_rows m) (decoder_model_rows self.now)) }
     {
-        self.in_vec(*self.cdf.allocator())
+        self.clone_in(*self.cdf.allocator())
     }
 }
 
@@ -233,8 +233,8 @@ impl<
     {
         NonContiguousCategoricalDecoderModel {
             cdf: self.cdf.words(),
-            beside: self.beside,
-            entries: PhantomData,
+            end_words: self.end_words,
+            marker: PhantomData,
         }
     }
 
@@ -247,9 +247,9 @@ impl<
     pub fn quantile_probe<'m>(
         &'m self,
         quantile: Probability,
-    ) -> (usize, CdfProbe<'m, (Probability, Symbol), WithSymbol>)
+    ) -> (usize, CdfProbe<'m, (Probability, Symbol), CumulativeAndSymbol>)
         requires { Probability.whole quantile < 2 ^ PRECISION }
-        ensures { IsProbeFor ⟦<CdfProbe<'m, (Probability, Symbol), WithSymbol> as Probe>⟧
+        ensures { IsProbeFor ⟦<CdfProbe<'m, (Probability, Symbol), CumulativeAndSymbol> as Probe>⟧
             (decoder_model_rows self.now) (λ _. ⊤) (Probability.whole quantile) result.0 result.1 }
     {
         (0, CdfProbe::new(self.cdf_entries()))
@@ -266,7 +266,7 @@ impl<
 
     /// Clones of the entries, which have to be equal to these.
     #[inline]
-    fn entries_in_vec(&self, alloc: Global) -> Result<Vec<(Probability, Symbol)>, AllocError>
+    fn cloned_entries(&self, alloc: Global) -> Result<Vec<(Probability, Symbol)>, AllocError>
         requires { ClonesAreEqual Symbol.eq Symbol.is_clone }
         ensures stored { IfOk result (λ v. IsStored Probability.BITS PRECISION (map (λ x. Probability.whole x.0) v.items)) }
         ensures distinct { IfOk result (λ v. IsDistinct Symbol.eq (map (λ x. x.1) v.items)) }
@@ -278,7 +278,7 @@ impl<
 
     /// The same model over clones of the entries of this one, which have to be equal to these.
     #[tactic(auto, using(crate::proofs::Remade::rows_stand))]
-    pub(crate) fn in_vec(
+    pub(crate) fn clone_in(
         &self,
         alloc: Global,
     ) -> Result<
@@ -293,7 +293,7 @@ impl<
         requires { ClonesAreEqual Symbol.eq Symbol.is_clone }
         ensures { IfOk result (λ m. StandForRows Symbol.is_clone (decoder_model_rows m) (decoder_model_rows self.now)) }
     {
-        match self.entries_in_vec(alloc) {
+        match self.cloned_entries(alloc) {
             Ok(entries) => Ok(decoder_over(entries)),
             Err(refused) => Err(refused),
         }
@@ -320,7 +320,7 @@ impl<
         let entries = self.cdf_entries();
         let (_, rows) = self.quantile_probe(quantile);
         let index = row_in_probe::<_, 2>(rows, quantile);
-        cloned_row_at::<Probability, Symbol, PRECISION>(entries, &self.beside, index)
+        cloned_row_at::<Probability, Symbol, PRECISION>(entries, &self.end_words, index)
     }
 
     ghost tile_law = { λ m. paired-tiles Probability.whole _ _ _ m.stored };

@@ -14,7 +14,7 @@ use constriction_buffers::SafeBuf;
 use constriction_model::{DecoderModel, EntropyModel, Weight};
 use constriction_numbers::WholeNumber;
 use constriction_stored_rows::{
-    Alone, CdfEntry, WithSymbol, cloned_row_among, cloned_row_at, contiguous_row_at,
+    Cumulative, CdfEntry, CumulativeAndSymbol, cloned_row_among, cloned_row_at, contiguous_row_at,
 };
 use std::alloc::AllocError;
 
@@ -31,7 +31,7 @@ pub trait StoresRows<const PRECISION: usize>: EntropyModel<PRECISION> {
         ensures { map Self.Kind.cumulative result.now ≡ map (λ r. r.left) (Self.rows self.now) };
 
     /// Whether a lookup table beside the model has, after its slots, where each row begins and the total, which
-    /// [`AnswersRows::row_beside`] then reads. A model that tells where each row ends by itself wants none.
+    /// [`AnswersRows::row_with_ends`] then reads. A model that tells where each row ends by itself wants none.
     #[inline]
     fn wants_ends(&self) -> bool {
         false
@@ -57,7 +57,7 @@ pub trait AnswersRows<const PRECISION: usize>: StoresRows<PRECISION> + DecoderMo
     /// The same, where what stands after the slots of a lookup table is at hand: nothing, or where each row begins and after
     /// that the total.
     #[inline]
-    fn row_beside(
+    fn row_with_ends(
         &self,
         cdf: &[Self::Probability],
         index: usize,
@@ -79,7 +79,7 @@ impl<Probability: WholeNumber, Cdf: SafeBuf<Probability>, const PRECISION: usize
 > for ContiguousCategoricalEntropyModel<Probability, Cdf, PRECISION> {
     type Entry = Probability;
 
-    type Kind = Alone;
+    type Kind = Cumulative;
 
     #[inline]
     fn entries(&self) -> &[Probability] {
@@ -110,7 +110,7 @@ impl<
     for NonContiguousCategoricalDecoderModel<Symbol, Probability, Cdf, PRECISION> {
     type Entry = (Probability, Symbol);
 
-    type Kind = WithSymbol;
+    type Kind = CumulativeAndSymbol;
 
     #[inline]
     fn entries(&self) -> &[(Probability, Symbol)] {
@@ -137,11 +137,11 @@ impl<
         &self,
         index: usize,
     ) -> Result<(Symbol, Probability, Weight<Probability>), AllocError> {
-        cloned_row_at::<Probability, Symbol, PRECISION>(self.cdf_entries(), &self.beside, index)
+        cloned_row_at::<Probability, Symbol, PRECISION>(self.cdf_entries(), &self.end_words, index)
     }
 
     #[inline]
-    fn row_beside(
+    fn row_with_ends(
         &self,
         cdf: &[Probability],
         index: usize,

@@ -5,5 +5,7 @@ mod Places
 mod Rebuilding
 pub mod Replying
 mod Returning
+pub mod Running
+mod Stepping
 mod WordNumbers
 mod WordReading

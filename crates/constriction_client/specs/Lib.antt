@@ -1,8 +1,8 @@
 pub mod ChainLemmas
 pub mod Chains
 pub mod Coming
+pub mod CursorCalls
 pub mod FormRows
-pub use Rattle.constriction_cursor_runs.specs.CursorCalls
 pub mod Placing
 pub mod Quantiles
 pub mod Replies

@@ -158,7 +158,7 @@ fn tabled_of<Symbol: Eq + Drop, Probability: IndexWord, const PRECISION: usize>(
 /// symbols, and the only refusal is `OutOfMemory`.
 trait Converts<Symbol>: Sized {
     // The rows of a form.
-    ghost told: { Self → List (Row Symbol) };
+    ghost rows_of_form: { Self → List (Row Symbol) };
 
     // What is known of a clone of a symbol.
     ghost clone_of: { Symbol → Symbol → Type 0 };
@@ -172,33 +172,33 @@ trait Converts<Symbol>: Sized {
     /// The searching form of the same rows.
     fn to_search(&self, alloc: Global) -> Result<Self, ModelError>
         requires { may_convert }
-        ensures rows { IfOk result (λ made. StandForRows clone_of (told made) (told self.now)) }
+        ensures rows { IfOk result (λ made. StandForRows clone_of (rows_of_form made) (rows_of_form self.now)) }
         ensures kind { IfOk result (λ made. looks_up made ≡ false) }
         ensures refused { IfErr result (λ e. e ≡ ModelError.OutOfMemory) };
 
     /// The form with a lookup table, of the same rows.
     fn to_lookup(&self, alloc: Global) -> Result<Self, ModelError>
         requires { may_convert }
-        ensures rows { IfOk result (λ made. StandForRows clone_of (told made) (told self.now)) }
+        ensures rows { IfOk result (λ made. StandForRows clone_of (rows_of_form made) (rows_of_form self.now)) }
         ensures kind { IfOk result (λ made. looks_up made ≡ true) }
         ensures refused { IfErr result (λ e. e ≡ ModelError.OutOfMemory) };
 
     /// The searching form of the same rows, with the entries of this one.
     fn into_search(self) -> Self
-        ensures rows { told result ≡ told self }
+        ensures rows { rows_of_form result ≡ rows_of_form self }
         ensures kind { looks_up result ≡ false };
 
     /// A form of the same kind, made anew of the symbols and the weights of the rows.
     fn rebuild(&self, alloc: Global) -> Result<Self, ModelError>
         requires { may_convert }
-        ensures rows { IfOk result (λ made. StandForRows clone_of (told made) (told self.now)) }
+        ensures rows { IfOk result (λ made. StandForRows clone_of (rows_of_form made) (rows_of_form self.now)) }
         ensures kind { IfOk result (λ made. looks_up made ≡ looks_up self.now) }
         ensures refused { IfErr result (λ e. e ≡ ModelError.OutOfMemory) };
 }
 
 impl<Symbol: Eq + Clone + Drop, Probability: IndexWord, const PRECISION: usize> Converts<Symbol>
     for DecoderForm<Symbol, Probability, PRECISION> {
-    ghost told = { form_rows };
+    ghost rows_of_form = { form_rows };
 
     ghost clone_of = { Symbol.is_clone };
 
@@ -251,7 +251,7 @@ fn convert<Symbol, Form: Converts<Symbol> + Drop>(
     step: &ChainStep,
 ) -> Result<Form, ModelError>
     requires { Form.may_convert }
-    ensures rows { IfOk result (λ made. StepLeaves Form.clone_of step.now (Form.told form) (Form.told made)) }
+    ensures rows { IfOk result (λ made. StepLeaves Form.clone_of step.now (Form.rows_of_form form) (Form.rows_of_form made)) }
     ensures kind { IfOk result (λ made. Form.looks_up made ≡ is_lookup_after (Form.looks_up form) step.now) }
     ensures refused { IfErr result (λ e. e ≡ ModelError.OutOfMemory) }
 {
@@ -270,7 +270,7 @@ fn convert_by<Symbol, Form: Converts<Symbol> + Drop>(
     steps: &[ChainStep],
 ) -> Result<Form, ModelError>
     requires { Form.may_convert }
-    ensures rows { IfOk result (λ made. ChainLeaves Form.clone_of steps.now (Form.told form) (Form.told made)) }
+    ensures rows { IfOk result (λ made. ChainLeaves Form.clone_of steps.now (Form.rows_of_form form) (Form.rows_of_form made)) }
     ensures kind { IfOk result (λ made. Form.looks_up made ≡ fold is_lookup_after (Form.looks_up form) steps.now) }
     ensures refused { IfErr result (λ e. e ≡ ModelError.OutOfMemory) }
 {

@@ -5,6 +5,7 @@ ghost use Rattle.constriction_client.specs.ThereAndBack.{ReadsBack};
 
 mod forms;
 mod round_trips;
+mod runs;
 
 pub use self::forms::form_symbols_differ;
 pub use self::round_trips::{
@@ -14,7 +15,7 @@ pub use self::round_trips::{
 pub use constriction::laws::{
     each_quantile_in_range_has_a_row, the_row_found_is_the_row_of_the_quantile,
 };
-pub use constriction_cursor_runs::laws::{run_cursor_and_reversal, runs_are_alike};
+pub use self::runs::{run_cursor_and_reversal, runs_are_alike};
 
 /// What was written for items is read back as these items, in the order of a queue.
 pub fn reads_back<Symbol, Word>()

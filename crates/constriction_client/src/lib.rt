@@ -8,6 +8,8 @@
 #![tactic(auto)]
 
 mod chain;
+mod cursor_calls;
+mod cursor_runs;
 mod decoder_form;
 pub mod laws;
 mod quantiles;
@@ -17,5 +19,6 @@ pub use crate::chain::{ChainStep, convert_chain};
 pub use crate::decoder_form::{DecoderForm, SearchOrLookup};
 pub use crate::quantiles::{QuantileFault, ReadFault, read_symbols, write_quantiles};
 pub use crate::queries::{Query, Reply, answer_queries};
-pub use constriction_cursor_runs::{CursorCall, CursorReply, run_cursor, run_reversed};
+pub use crate::cursor_calls::{CursorCall, CursorReply};
+pub use crate::cursor_runs::{run_cursor, run_reversed};
 pub use constriction_text::{RunFault, run};

@@ -27,7 +27,7 @@ type Form = DecoderForm<Watched, usize, 24>;
 
 type Both = DecoderAndEncoder<Watched, usize, 24>;
 
-/// The model of so many numbers from 0 on, and of the number `last` after them, which are told apart by their hashes. Each has one
+/// The model of so many numbers from 0 on, and of the number `last` after them, made by their hashes. Each has one
 /// quantile, but the last one has all that are left. So the rows of the others all meet the first slot of a lookup table.
 fn hashed(
     rt: &impl Abort,

@@ -1,6 +1,6 @@
 //! A line, and what it asks for.
 
-use constriction_lines::{cut, parse_number};
+use constriction_text::{cut, parse_number};
 use std::alloc::{AllocError, Global};
 
 /// What a line asks of a coder.

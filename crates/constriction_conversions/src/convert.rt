@@ -61,11 +61,11 @@ pub trait FromIterableEntropyModel<
     // What the result tells of the model that it is made from.
     ghost tells: { M → Self → Type 0 };
 
-    // Where none is made of a model, want of memory aside. Of a type that refuses no model it is ⊥.
+    // The models that are refused for another reason than memory. A type that refuses none says ⊥.
     ghost refuses: { M → Type 0 };
 
-    // Where one can be made: of a lookup model that `PRECISION` is at most 63, and of each type that may compare symbols that the
-    // model's `symbols_differ` speaks of their equality.
+    // What the call requires: for a lookup model that `PRECISION` is at most 63, and for a type that may compare symbols that the
+    // model's `symbols_differ` means their `eq`.
     ghost can_make: { Type 0 };
 
     /// The model of the same rows. `OutOfMemory` comes where memory for it, or for a clone of a symbol, is
@@ -149,7 +149,7 @@ where
 /// The entries of a decoder of a model's rows, no two symbols of which are equal, where each is compared with all before
 /// it.
 #[inline]
-fn entries_apart<M, const PRECISION: usize>(
+fn entries_compared<M, const PRECISION: usize>(
     alloc: Global,
     model: M,
 ) -> Result<Vec<(M::Probability, M::Symbol)>, ModelError>
@@ -168,7 +168,7 @@ where
 
 /// The same. Symbols are compared only where the model does not know that they differ.
 #[inline]
-fn entries_told<M, const PRECISION: usize>(
+fn entries_of<M, const PRECISION: usize>(
     alloc: Global,
     model: M,
 ) -> Result<Vec<(M::Probability, M::Symbol)>, ModelError>
@@ -185,7 +185,7 @@ where
     if model.symbols_differ() {
         entries_of_distinct::<M, PRECISION>(alloc, model)
     } else {
-        entries_apart::<M, PRECISION>(alloc, model)
+        entries_compared::<M, PRECISION>(alloc, model)
     }
 }
 
@@ -216,7 +216,7 @@ where
     ensures ok { IfOk result (λ d. StandApart M.Symbol.eq M.stands_for (decoder_model_rows d) (M.rows model)) }
     ensures invalid { result ≡ Err ModelError.InvalidTable → ClonesRepeat M.Symbol.eq M.stands_for (M.rows model) }
 {
-    match entries_told(alloc, model) {
+    match entries_of(alloc, model) {
         Ok(entries) => Ok(decoder_over(entries)),
         Err(refused) => Err(refused),
     }
@@ -234,7 +234,7 @@ where
     ensures ok { IfOk result (λ d. StandApart M.Symbol.eq M.stands_for (decoder_model_rows d) (M.rows model)) }
     ensures invalid { result ≡ Err ModelError.InvalidTable → ClonesRepeat M.Symbol.eq M.stands_for (M.rows model) }
 {
-    match entries_apart(alloc, model) {
+    match entries_compared(alloc, model) {
         Ok(entries) => Ok(decoder_over(entries)),
         Err(refused) => Err(refused),
     }

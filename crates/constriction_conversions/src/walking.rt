@@ -10,7 +10,7 @@ ghost use Rattle.constriction_conversions.specs.Walked.{WalkedGood, WalkedBad};
 
 use crate::hash_table::Entry;
 use constriction_model::ModelError;
-use constriction_stored_rows::{and_item, entries_announced, has_symbol, rows_announced};
+use constriction_stored_rows::{with_item, entries_announced, has_symbol, rows_announced};
 use std::alloc::{AllocError, Global};
 use std::collections::HashMap;
 use std::hash::Hash;
@@ -113,7 +113,7 @@ where
 {
     'rows: while let Some(row) = walk.next() {
         let (symbol, left, _weight) = row?;
-        entries = and_item(entries, (left, symbol))?;
+        entries = with_item(entries, (left, symbol))?;
     }
     Ok(entries)
 }

@@ -17,5 +17,5 @@ pub fn is_quantile<P: WholeNumber, const PRECISION: usize>(word: P) -> bool
     requires precision { IsPrecision P.BITS PRECISION }
     ensures { IsTrue result ↔ (P.whole word < 2 ^ PRECISION) }
 {
-    word.is_at_most(P::greatest(PRECISION))
+    word.is_at_most(P::greatest_of_bits(PRECISION))
 }

@@ -157,7 +157,7 @@ fn again(alloc: Global, model: &Decoder<6>) -> Result<Decoder<6>, ModelError> {
     to_generic_decoder_model_of_distinct(alloc, model)
 }
 
-/// The decoder's model of letters that are told apart by their hashes.
+/// The decoder's model of letters, made by their hashes.
 fn hashed(alloc: Global) -> Result<Decoder<6>, ModelError> {
     Decoder::from_hashable_symbols_and_nonzero_fixed_point_probabilities(
         alloc, SYMBOLS, WEIGHTS, false,

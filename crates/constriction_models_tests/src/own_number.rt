@@ -54,7 +54,7 @@ impl WholeNumber for Share {
         self.0 < other.0
     }
 
-    fn is_least(self) -> bool {
+    fn is_zero_word(self) -> bool {
         self.0 == 0
     }
 

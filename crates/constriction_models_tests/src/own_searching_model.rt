@@ -7,7 +7,7 @@ use crate::checks::{same, same_at};
 use crate::watched_symbols::{Decoder, sixteen};
 use constriction::stream::model::{
     AnswersRows, CdfEntry, DecoderModel, EntropyModel, LookupDecoderModel, StoresRows, Weight,
-    WithSymbol, is_quantile,
+    CumulativeAndSymbol, is_quantile,
 };
 use constriction_test_models::watched::{Watched, count, tally};
 use std::alloc::{AllocError, Global};
@@ -79,7 +79,7 @@ impl<'c, Model: DecoderModel<12>> DecoderModel<12> for Noting<'c, Model> {
 
 impl<'c, Model> StoresRows<12> for Noting<'c, Model>
 where
-    Model: StoresRows<12, Entry = (u16, Watched), Kind = WithSymbol>
+    Model: StoresRows<12, Entry = (u16, Watched), Kind = CumulativeAndSymbol>
         + EntropyModel<12, Probability = u16>,
 {
     type Entry = (u16, Watched);
@@ -100,20 +100,20 @@ where
 impl<'c, Model> AnswersRows<12> for Noting<'c, Model>
 where
     Model: AnswersRows<12>
-        + StoresRows<12, Entry = (u16, Watched), Kind = WithSymbol>
+        + StoresRows<12, Entry = (u16, Watched), Kind = CumulativeAndSymbol>
         + EntropyModel<12, Probability = u16>,
 {
     fn row_at(&self, index: usize) -> Result<(Model::Symbol, u16, Weight<u16>), AllocError> {
         self.model.row_at(index)
     }
 
-    fn row_beside(
+    fn row_with_ends(
         &self,
         cdf: &[u16],
         index: usize,
     ) -> Result<(Model::Symbol, u16, Weight<u16>), AllocError> {
         self.asked.beside.set(cdf.len());
-        self.model.row_beside(cdf, index)
+        self.model.row_with_ends(cdf, index)
     }
 }
 

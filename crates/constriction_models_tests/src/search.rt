@@ -6,8 +6,8 @@ ghost use Rattle.constriction_models_tests.specs.Evens.{evens};
 use crate::checks::{same, same_at};
 use constriction::laws::contiguous_symbols_differ;
 use constriction::stream::model::{
-    Alone, CdfEntry, CdfProbe, DecoderModel, DefaultContiguousCategoricalEntropyModel, Probe,
-    WithSymbol, row_of_quantile, to_generic_decoder_model_of_distinct,
+    Cumulative, CdfEntry, CdfProbe, DecoderModel, DefaultContiguousCategoricalEntropyModel, Probe,
+    CumulativeAndSymbol, row_of_quantile, to_generic_decoder_model_of_distinct,
 };
 use constriction_model::row_in_probe;
 use constriction_test_models::plain_rows::row;
@@ -105,10 +105,10 @@ fn a_probe_that_is_not_asked_afterwards_is_searched_by_as_many_questions(rt: Hos
 
 #[test]
 fn stored_entries_tell_their_cumulatives(rt: HostRuntime) {
-    same(&rt, <Alone as CdfEntry<u8>>::cumulative_of(&7), 7);
+    same(&rt, <Cumulative as CdfEntry<u8>>::cumulative_of(&7), 7);
     same(
         &rt,
-        <WithSymbol as CdfEntry<(u16, char)>>::cumulative_of(&(9, 'a')),
+        <CumulativeAndSymbol as CdfEntry<(u16, char)>>::cumulative_of(&(9, 'a')),
         9,
     );
 }
@@ -116,12 +116,12 @@ fn stored_entries_tell_their_cumulatives(rt: HostRuntime) {
 #[test]
 fn a_probe_of_stored_entries_counts_its_questions(rt: HostRuntime) {
     let entries: [u8; 4] = [0, 3, 21, 22];
-    let mut rows = CdfProbe::<u8, Alone>::new(entries.as_slice());
+    let mut rows = CdfProbe::<u8, Cumulative>::new(entries.as_slice());
     same(&rt, [rows.len(), rows.asked()], [4, 0]);
     same(&rt, row_of_quantile(&mut rows, 21), 2);
     same(&rt, rows.asked(), 2);
     let entry = [0u8];
-    let mut rows = CdfProbe::<u8, Alone>::new(entry.as_slice());
+    let mut rows = CdfProbe::<u8, Cumulative>::new(entry.as_slice());
     same(&rt, row_of_quantile(&mut rows, 21), 0);
     same(&rt, rows.asked(), 0);
 }

@@ -202,7 +202,7 @@ fn a_refused_clone_stands_in_the_place_of_the_row_that_is_looked_up(rt: HostRunt
     same(&rt, model.clone().err(), Some(AllocError));
 }
 
-/// Stops the test where something was not refused for want of memory.
+/// Stops the test if one of these is not `OutOfMemory`.
 fn are_refused(rt: &impl Abort, refusals: &[Option<ModelError>]) {
     for refusal in refusals {
         same(rt, refusal, &Some(ModelError::OutOfMemory));

@@ -17,7 +17,7 @@ pub trait IndexWord: WholeNumber {
     {
         // that the number is below 2^BITS says no law, but this difference
         let _is_a_word = self.wrapping_minus(Self::least());
-        if Self::BITS > 64 && Self::greatest(64).is_below(self) {
+        if Self::BITS > 64 && Self::greatest_of_bits(64).is_below(self) {
             return usize::MAX;
         }
         self.to_number()

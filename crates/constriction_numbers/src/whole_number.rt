@@ -39,7 +39,7 @@ pub trait WholeNumber: Copy {
 
     /// The greatest word of so many bits: `2^bits - 1`.
     #[inline]
-    fn greatest(bits: usize) -> Self
+    fn greatest_of_bits(bits: usize) -> Self
         requires some { 0 < bits }
         requires fits { bits ≤ BITS }
         ensures value { whole result + 1 ≡ 2 ^ bits }
@@ -63,7 +63,7 @@ pub trait WholeNumber: Copy {
         ensures { IsTrue result ↔ (whole self < whole other) };
 
     /// Whether the word is 0.
-    fn is_least(self) -> bool
+    fn is_zero_word(self) -> bool
         ensures { IsTrue result ↔ (whole self ≡ 0) };
 
     /// Whether the word is the greatest one of all.

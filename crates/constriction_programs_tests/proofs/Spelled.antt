@@ -5,13 +5,13 @@ use Rattle.std.specs.Option.{option_map, IfSome, IfNone}
 use Rattle.std.specs.Result.{IfOk, OnOk}
 use Rattle.std.specs.Io.KnownBytes.{Appends, IsAtEnd}
 use Rattle.std.specs.Fmt.{digits}
-use Rattle.constriction_lines.specs.declared.line.Command.{Command}
-use Rattle.constriction_lines.specs.declared.line.Format.TheVariants.{U8Precision6, U8Precision8}
-use Rattle.constriction_lines.specs.Grammar.{Request, table, uniform, view, IsNumber, Spells}
-use Rattle.constriction_lines.specs.Reading.{read_line, read_words, read_format, read_numbers, read_number, read_request}
+use Rattle.constriction_text.specs.declared.line.Command.{Command}
+use Rattle.constriction_text.specs.declared.line.Format.TheVariants.{U8Precision6, U8Precision8}
+use Rattle.constriction_text.specs.Grammar.{Request, table, uniform, view, IsNumber, Spells}
+use Rattle.constriction_text.specs.Reading.{read_line, read_words, read_format, read_numbers, read_number, read_request}
 use Rattle.constriction_text.specs.Runs.{limit, HasRead}
 use Rattle.constriction_text.specs.Text.{IsAnswer, IsTextOf}
-use Rattle.constriction_lines.proofs.Exactly.{spells_none}
+use Rattle.constriction_text.proofs.Exactly.{spells_none}
 
 -- nothing was parsed where a line spells nothing
 pub parsed_none : {E : Type 0} (line : List ℕ) (r : Result (Option Command) E) → read_line line ≡ None

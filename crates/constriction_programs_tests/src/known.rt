@@ -3,7 +3,7 @@
 
 ghost use Rattle.std.specs.Prelude.{◌≡◌, ◌++◌, ℕ, List, IfOk, IsNone, OnOk, Some, codes, string_bytes};
 ghost use Rattle.std.specs.Option.{option_map};
-ghost use Rattle.constriction_lines.specs.Grammar.{uniform, view};
+ghost use Rattle.constriction_text.specs.Grammar.{uniform, view};
 ghost use Rattle.constriction_text.specs.Text.{IsTextOf};
 
 use crate::checks::{holds, same};

@@ -55,7 +55,7 @@ pub trait BoundedReadWords<Word, S: Semantics>: ReadWords<Word, S> {
     // How many items are left.
     ghost items_left: { Self → ℕ };
 
-    // That the count is right. Each read keeps it right. Where an implementer says nothing else, it always is.
+    // The count is right, and each read keeps it right. By default it always is.
     ghost is_exact: { Self → Type 0 } = { λ _. ⊤ };
 
     /// How many items are left.

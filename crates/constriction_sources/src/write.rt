@@ -11,8 +11,8 @@ use std::fmt::Debug;
 ///
 /// An implementer says which answers a write may give (`write_gives`), and may tell the words that
 /// were written (`tells_written`): then a write that succeeds appends its word to them, and a
-/// refused one leaves them. It may also say where it surely has room (`has_room`): there a write is
-/// refused for want of memory alone (`lacks_memory`).
+/// refused one leaves them. It may also say in which states it has room (`has_room`): a write then
+/// fails only if memory is refused (`lacks_memory`).
 pub trait WriteWords<Word> {
     /// Why a write may be refused.
     type WriteError: Debug;
@@ -23,10 +23,10 @@ pub trait WriteWords<Word> {
     // The words that were written, the first one first. A sink that tells no list relates to none.
     ghost tells_written: { Self → List Word → Type 0 } = { λ _ _. ⊥ };
 
-    // The sink surely takes one more word, want of memory aside.
+    // The sink takes one more word, unless memory for it is refused.
     ghost has_room: { Self → Type 0 } = { λ _. ⊥ };
 
-    // The error says that memory was refused. No error does, where an implementer says nothing else.
+    // The error says that memory was refused. By default none does.
     ghost lacks_memory: { Self.WriteError → Type 0 } = { λ _. ⊥ };
 
     // The states in which the sink may be written. A write leads from one to another.
@@ -67,7 +67,7 @@ pub trait WriteWords<Word> {
     ghost writes_told: { (s : Self) (w : Word) (r : Result (Unit {0}) Self.WriteError) (t : Self)
         → write_gives s w r t → (words : List Word) → tells_written s words → WritesTold tells_written words w r t };
 
-    // Where there surely is room, a write is refused for want of memory alone.
+    // With room, a write fails only if memory is refused.
     ghost room_suffices: { (s : Self) (w : Word) (r : Result (Unit {0}) Self.WriteError) (t : Self)
         → write_gives s w r t → has_room s → IfErr r lacks_memory };
 }

@@ -5,7 +5,7 @@ use Rattle.std.proofs.lemmas.Bool.{cases_lt}
 use Rattle.std.proofs.lemmas.Nat.{pow_pos}
 use Rattle.std.proofs.lemmas.List.{length-append, length-map, get_or_append_left, get_or-append_right, get_or_default, get_or_past}
 use Rattle.constriction_model.proofs.Differences.{difference-mod}
-use Rattle.constriction_stored_rows.specs.Stored.{IsStored, StandBeside, end_at, total_of, with_total, weights_of}
+use Rattle.constriction_stored_rows.specs.Stored.{IsStored, AreEndWords, end_at, total_of, with_total, weights_of}
 use Rattle.constriction_stored_rows.specs.StoredLemmas.{stored-row, read-whole}
 
 module _ (bits precision : ℕ) (lefts : List ℕ) where
@@ -68,24 +68,24 @@ module _ (bits precision : ℕ) (lefts : List ℕ) where
         sym (read-whole whole cdf (i + 1) x (omega (arith, among-long)) is) ∙ ap (λ ns. get_or ns (i + 1) 0) e ∙ end-in i h
 
 -- what is read of the words that stand beside, where rows end
-module _ {Word : Type 0} (whole : Word → ℕ) (bits precision : ℕ) (lefts : List ℕ) (beside : List Word)
-    (b : StandBeside bits precision lefts (map whole beside)) where
-  pub beside-two : length beside ≡ 2
-  beside-two = sym (length-map beside whole) ∙ b.two
+module _ {Word : Type 0} (whole : Word → ℕ) (bits precision : ℕ) (lefts : List ℕ) (end_words : List Word)
+    (b : AreEndWords bits precision lefts (map whole end_words)) where
+  pub end_words-two : length end_words ≡ 2
+  end_words-two = sym (length-map end_words whole) ∙ b.two
 
   -- of more, what is left of the next row's left cumulative
-  pub beside-next : (i r : ℕ) (x : Word) → 2 < length lefts → i + 1 < length lefts → x ≡ get_or beside 1 x → r < 2 ^ bits
+  pub end_words-next : (i r : ℕ) (x : Word) → 2 < length lefts → i + 1 < length lefts → x ≡ get_or end_words 1 x → r < 2 ^ bits
       → (r + whole x) % 2 ^ bits ≡ get_or lefts (i + 1) 0 → r ≡ end_at bits precision lefts i
-  beside-next i r x many h is small e =
-      let zero : whole x ≡ 0 = sym (read-whole whole beside 1 x (omega (arith, beside-two)) is) ∙ b.none many in
+  end_words-next i r x many h is small e =
+      let zero : whole x ≡ 0 = sym (read-whole whole end_words 1 x (omega (arith, end_words-two)) is) ∙ b.none many in
       let same : r + whole x ≡ r = omega (arith, zero) in
       sym (mod-eq_of_lt small) ∙ ap (λ n. n % 2 ^ bits) (sym same) ∙ e ∙ sym (end-next bits precision lefts i h)
 
   -- and of the last row's own
-  pub beside-last : (i r : ℕ) (x : Word) → 2 < length lefts → i + 1 ≡ length lefts → x ≡ get_or beside 0 x → r < 2 ^ bits
+  pub end_words-last : (i r : ℕ) (x : Word) → 2 < length lefts → i + 1 ≡ length lefts → x ≡ get_or end_words 0 x → r < 2 ^ bits
       → (r + whole x) % 2 ^ bits ≡ get_or lefts i 0 → r ≡ end_at bits precision lefts i
-  beside-last i r x many h is small e =
-      let told : get_or (map whole beside) 0 0 ≡ whole x = read-whole whole beside 0 x (omega (arith, beside-two)) is in
+  end_words-last i r x many h is small e =
+      let told : get_or (map whole end_words) 0 0 ≡ whole x = read-whole whole end_words 0 x (omega (arith, end_words-two)) is in
       let fits : whole x < 2 ^ bits = omega (arith, told, b.fits many) in
       let last : length lefts - 1 ≡ i = omega arith in
       let leads : (total_of bits precision + whole x) % 2 ^ bits ≡ get_or lefts i 0 =

@@ -49,13 +49,13 @@ ends_of bits precision lefts = end_at bits precision lefts 0 ∷ total_of bits p
 
 -- two numbers that stand beside these, so that where a row ends is read and not chosen: of two rows or fewer where the first one ends
 -- and where the last one does; of more, what leads from the total to where the last one begins, modulo the words, and 0
-pub record StandBeside (bits precision : ℕ) (lefts beside : List ℕ) : Type 0 where
-  pub two : length beside ≡ 2
-  pub ends : length lefts ≤ 2 → beside ≡ ends_of bits precision lefts
-  pub fits : 2 < length lefts → slice_index beside 0 < 2 ^ bits
+pub record AreEndWords (bits precision : ℕ) (lefts end_words : List ℕ) : Type 0 where
+  pub two : length end_words ≡ 2
+  pub ends : length lefts ≤ 2 → end_words ≡ ends_of bits precision lefts
+  pub fits : 2 < length lefts → slice_index end_words 0 < 2 ^ bits
   pub leads : 2 < length lefts
-      → (total_of bits precision + slice_index beside 0) % 2 ^ bits ≡ slice_index lefts (length lefts - 1)
-  pub none : 2 < length lefts → slice_index beside 1 ≡ 0
+      → (total_of bits precision + slice_index end_words 0) % 2 ^ bits ≡ slice_index lefts (length lefts - 1)
+  pub none : 2 < length lefts → slice_index end_words 1 ≡ 0
 
 -- the left cumulatives, and after them the total
 abbrev pub with_total : (bits precision : ℕ) → List ℕ → List ℕ

@@ -21,9 +21,9 @@ pub trait CdfEntry<Entry> {
 
 /// Entries that are a cumulative alone, as contiguous models store them.
 #[derive(Drop)]
-pub struct Alone;
+pub struct Cumulative;
 
-impl<P: WholeNumber> CdfEntry<P> for Alone {
+impl<P: WholeNumber> CdfEntry<P> for Cumulative {
     type Word = P;
 
     ghost cumulative = { P.whole };
@@ -36,9 +36,9 @@ impl<P: WholeNumber> CdfEntry<P> for Alone {
 
 /// Entries that are a cumulative and the symbol of its row.
 #[derive(Drop)]
-pub struct WithSymbol;
+pub struct CumulativeAndSymbol;
 
-impl<P: WholeNumber, Symbol> CdfEntry<(P, Symbol)> for WithSymbol {
+impl<P: WholeNumber, Symbol> CdfEntry<(P, Symbol)> for CumulativeAndSymbol {
     type Word = P;
 
     ghost cumulative = { λ x. P.whole x.0 };

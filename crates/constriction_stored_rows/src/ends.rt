@@ -6,10 +6,10 @@ ghost use Rattle.std.specs.Prelude.{◌≡◌, ◌+◌, ◌++◌, ◌<◌, ◌�
 ghost use Rattle.constriction_model.specs.Model.{row_of, LiesWithin};
 ghost use Rattle.constriction_model.specs.Rows.{Row};
 ghost use Rattle.constriction_stored_rows.specs.SlotTable.{MayFollow};
-ghost use Rattle.constriction_stored_rows.specs.Stored.{IsStored, StandBeside, end_at, rows_paired, weights_of, with_total};
+ghost use Rattle.constriction_stored_rows.specs.Stored.{IsStored, AreEndWords, end_at, rows_paired, weights_of, with_total};
 
 use crate::cdf_probe::CdfEntry;
-use crate::filling::and_item;
+use crate::filling::with_item;
 use constriction_model::Weight;
 use constriction_numbers::WholeNumber;
 use std::alloc::AllocError;
@@ -18,12 +18,12 @@ use std::alloc::AllocError;
 /// are where the first one ends and where the last one does. Of more the second is 0, and the first is what has to be
 /// taken, modulo the words, from where the last row begins to come to the total.
 #[inline]
-pub fn words_beside<P: WholeNumber, Symbol, const PRECISION: usize>(
+pub fn end_words_of<P: WholeNumber, Symbol, const PRECISION: usize>(
     entries: &[(P, Symbol)],
 ) -> [P; 2]
     requires positive { 0 < PRECISION }
     requires fits { PRECISION ≤ P.BITS }
-    ensures { StandBeside P.BITS PRECISION (map (λ x. P.whole x.0) entries.now) (map P.whole result) }
+    ensures { AreEndWords P.BITS PRECISION (map (λ x. P.whole x.0) entries.now) (map P.whole result) }
 {
     let total = P::wrapping_pow2(PRECISION);
     let rows = entries.len();
@@ -39,20 +39,20 @@ pub fn words_beside<P: WholeNumber, Symbol, const PRECISION: usize>(
 /// Where the row at `index` ends. Of two rows or fewer the ends stand beside the entries. Of more, the next entry is
 /// read, or of the last row its own, and what stands beside is taken from it, which is 0 but for the last row.
 #[inline(always)]
-fn end_beside<P: WholeNumber, Symbol, const PRECISION: usize>(
+fn end_by_words<P: WholeNumber, Symbol, const PRECISION: usize>(
     entries: &[(P, Symbol)],
-    beside: &[P],
+    end_words: &[P],
     index: usize,
 ) -> P
-    requires beside { StandBeside P.BITS PRECISION (map (λ x. P.whole x.0) entries.now) (map P.whole beside.now) }
+    requires end_words { AreEndWords P.BITS PRECISION (map (λ x. P.whole x.0) entries.now) (map P.whole end_words.now) }
     requires in_bounds { index < length entries.now }
     ensures { P.whole result ≡ end_at P.BITS PRECISION (map (λ x. P.whole x.0) entries.now) index }
 {
     if entries.len() <= 2 {
-        return beside[index];
+        return end_words[index];
     }
     let next = usize::from(index < entries.len() - 1);
-    entries[index + next].0.wrapping_minus(beside[next])
+    entries[index + next].0.wrapping_minus(end_words[next])
 }
 
 /// The same where nothing stands beside the entries: where the next one begins, or the total. It is out of line, since
@@ -183,16 +183,16 @@ fn cloned_row_up_to<P: WholeNumber, Symbol: Clone, const PRECISION: usize>(
     }
 }
 
-/// The row at `index`, and a clone of its symbol. The words of [`words_beside`] stand beside the entries.
+/// The row at `index`, and a clone of its symbol. The words of [`end_words_of`] stand beside the entries.
 #[inline]
 pub fn cloned_row_at<P: WholeNumber, Symbol: Clone, const PRECISION: usize>(
     entries: &[(P, Symbol)],
-    beside: &[P],
+    end_words: &[P],
     index: usize,
 ) -> Result<(Symbol, P, Weight<P>), AllocError>
     requires fits { PRECISION ≤ P.BITS }
     requires stored { IsStored P.BITS PRECISION (map (λ x. P.whole x.0) entries.now) }
-    requires beside { StandBeside P.BITS PRECISION (map (λ x. P.whole x.0) entries.now) (map P.whole beside.now) }
+    requires end_words { AreEndWords P.BITS PRECISION (map (λ x. P.whole x.0) entries.now) (map P.whole end_words.now) }
     requires in_bounds { index < length entries.now }
     ensures row { IfOk result (λ x. (own : Symbol) × Symbol.is_clone own x.0
         × (slice_index_or (rows_paired P.whole PRECISION entries.now) index (row_of P.whole P.base (own, x.1, x.2))
@@ -201,7 +201,7 @@ pub fn cloned_row_at<P: WholeNumber, Symbol: Clone, const PRECISION: usize>(
     ensures refused { IfErr result (λ _. (r : Row Symbol)
         × (slice_index_or (rows_paired P.whole PRECISION entries.now) index r ≡ r) × ¬ (Symbol.is_infallible r.symbol)) }
 {
-    let end = end_beside::<P, Symbol, PRECISION>(entries, beside, index);
+    let end = end_by_words::<P, Symbol, PRECISION>(entries, end_words, index);
     cloned_row_up_to::<P, Symbol, PRECISION>(entries, end, index)
 }
 
@@ -229,7 +229,7 @@ pub fn cloned_row_among<P: WholeNumber, Symbol: Clone, const PRECISION: usize>(
     cloned_row_up_to::<P, Symbol, PRECISION>(entries, end, index)
 }
 
-/// The words, and after them where each row begins and the total. Want of memory is its only refusal.
+/// The words, and after them where each row begins and the total. It fails only if memory is refused.
 pub fn with_ends<Entry, Kind: CdfEntry<Entry>, const PRECISION: usize>(
     words: Vec<Kind::Word>,
     entries: &[Entry],
@@ -241,7 +241,7 @@ pub fn with_ends<Entry, Kind: CdfEntry<Entry>, const PRECISION: usize>(
 {
     let mut all = words;
     'entries: for entry in entries {
-        all = and_item(all, Kind::cumulative_of(entry))?;
+        all = with_item(all, Kind::cumulative_of(entry))?;
     }
-    and_item(all, Kind::Word::wrapping_pow2(PRECISION))
+    with_item(all, Kind::Word::wrapping_pow2(PRECISION))
 }

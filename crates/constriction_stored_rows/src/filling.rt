@@ -25,7 +25,7 @@ fn make_room<T: Drop>(items: &mut Vec<T>) -> Result<(), AllocError>
 /// and capacity in registers. If `make_room` took the list and answered it, the loop would clear memory for that answer
 /// at each item.
 #[inline(always)]
-pub fn and_item<T: Drop>(mut items: Vec<T>, item: T) -> Result<Vec<T>, AllocError>
+pub fn with_item<T: Drop>(mut items: Vec<T>, item: T) -> Result<Vec<T>, AllocError>
     ensures { IfOk result (λ v. v.items ≡ items.items ++ item ∷ []) }
 {
     if items.len() == items.capacity() {
@@ -65,7 +65,7 @@ pub(crate) fn is_given_last<P: WholeNumber>(weight: P, one: P, room: P, infer_la
     if infer_last {
         return false;
     }
-    if weight.is_least() {
+    if weight.is_zero_word() {
         return false;
     }
     let last = weight.wrapping_minus(one);
@@ -154,7 +154,7 @@ fn is_end_of_given<P: WholeNumber, I: Iterator<Item = P>>(
 
 /// The cdf and after it the total, where all quantiles are filled.
 #[inline(always)]
-fn ended<P: WholeNumber, const PRECISION: usize>(
+fn finish<P: WholeNumber, const PRECISION: usize>(
     cdf: Vec<P>,
     is_whole: bool,
 ) -> Result<Vec<P>, ModelError>
@@ -166,12 +166,12 @@ fn ended<P: WholeNumber, const PRECISION: usize>(
     if !is_whole {
         return Err(ModelError::InvalidTable);
     }
-    Ok(and_item(cdf, P::wrapping_pow2(PRECISION))?)
+    Ok(with_item(cdf, P::wrapping_pow2(PRECISION))?)
 }
 
 /// The cdf, the row of the inferred weight and the total, where that weight is a word.
 #[inline(always)]
-fn ended_inferred<P: WholeNumber, const PRECISION: usize>(
+fn finish_inferred<P: WholeNumber, const PRECISION: usize>(
     cdf: Vec<P>,
     left: P,
     is_word: bool,
@@ -184,12 +184,12 @@ fn ended_inferred<P: WholeNumber, const PRECISION: usize>(
     if !is_word {
         return Err(ModelError::InvalidTable);
     }
-    ended::<P, PRECISION>(and_item(cdf, left)?, true)
+    finish::<P, PRECISION>(with_item(cdf, left)?, true)
 }
 
 /// Fills an empty cdf from the weights of an iterator.
 #[inline(always)]
-fn filled<P: WholeNumber, I: Iterator<Item = P>, const PRECISION: usize>(
+fn fill<P: WholeNumber, I: Iterator<Item = P>, const PRECISION: usize>(
     mut cdf: Vec<P>,
     rest: &mut I,
     infer_last: bool,
@@ -205,9 +205,9 @@ fn filled<P: WholeNumber, I: Iterator<Item = P>, const PRECISION: usize>(
     ensures invalid { result ≡ Err ModelError.InvalidTable
         → IsNoCdf I.next_gives rest.old P.whole P.BITS PRECISION infer_last }
 {
-    let one = P::greatest(1);
+    let one = P::greatest_of_bits(1);
     let mut left = P::least();
-    let mut room = P::greatest(PRECISION);
+    let mut room = P::greatest_of_bits(PRECISION);
     'rows: while let Some(weight) = rest.next() {
         if cdf.len() == cdf.capacity() {
             let mut full = cdf;
@@ -216,12 +216,12 @@ fn filled<P: WholeNumber, I: Iterator<Item = P>, const PRECISION: usize>(
         }
         cdf.push_reserved(left);
         if leaves_none(weight, one, room) {
-            return ended::<P, PRECISION>(cdf, is_end_of_given(rest, weight, one, room, infer_last));
+            return finish::<P, PRECISION>(cdf, is_end_of_given(rest, weight, one, room, infer_last));
         }
         left = left.plus(weight);
         room = room.minus(weight);
     }
-    ended_inferred::<P, PRECISION>(cdf, left, is_inferred_last(room, infer_last))
+    finish_inferred::<P, PRECISION>(cdf, left, is_inferred_last(room, infer_last))
 }
 
 /// The cdf of these weights, the last of which may be inferred.
@@ -243,5 +243,5 @@ pub fn cdf_of<P: WholeNumber, I: IntoIterator<Item = P>, const PRECISION: usize>
         alloc,
         words_needed::<PRECISION>(rest.size_hint().0, infer_last),
     )?;
-    filled::<P, I::IntoIter, PRECISION>(cdf, &mut rest, infer_last)
+    fill::<P, I::IntoIter, PRECISION>(cdf, &mut rest, infer_last)
 }

@@ -168,9 +168,9 @@ fn take_all<
         → IsReadBadly Symbols.next_gives Weights.next_gives Stored.symbol_eq Stored.holds P.whole P.BITS PRECISION
         infer_last symbols.old weights.old }
 {
-    let one = P::greatest(1);
+    let one = P::greatest_of_bits(1);
     let mut left = P::least();
-    let mut room = P::greatest(PRECISION);
+    let mut room = P::greatest_of_bits(PRECISION);
     'rows: while let Some(weight) = weights.next() {
         if leaves_none(weight, one, room) {
             return take_given_last::<P, Symbol, Stored, Symbols, Weights, PRECISION>(

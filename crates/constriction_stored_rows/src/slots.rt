@@ -58,7 +58,7 @@ fn first_word<W: WholeNumber, const PRECISION: usize, const SLOT_BITS: usize>(le
 /// The lookup table, filled up with a row to so many words, for which it has room. No word is tested for room, and nothing of
 /// the table leaves the processor's registers, as it does around a call that may ask for memory.
 #[inline(always)]
-fn filled_up<W: Copy>(mut table: Vec<W>, words: usize, row: W) -> Vec<W>
+fn fill<W: Copy>(mut table: Vec<W>, words: usize, row: W) -> Vec<W>
     requires room { words ≤ vec_capacity table }
     requires more { vec_len table ≤ words }
     ensures items { result.items ≡ table.items ++ replicate (words - vec_len table) row }
@@ -95,10 +95,10 @@ fn slots_of<Entry, Kind: CdfEntry<Entry>, const PRECISION: usize, const SLOT_BIT
         let end = first_word::<Kind::Word, PRECISION, SLOT_BITS>(Kind::cumulative_of(
             &entries[next],
         ));
-        table = filled_up(table, end, row);
+        table = fill(table, end, row);
         row = Kind::Word::from_number(next);
     }
-    Ok(filled_up(table, words, row))
+    Ok(fill(table, words, row))
 }
 
 /// The lookup table of the rows that meet each slot, and after it, where that is asked for, where each row begins and the

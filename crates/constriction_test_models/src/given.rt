@@ -15,8 +15,8 @@ use std::alloc::Global;
 
 pub type Lookup = ContiguousLookupDecoderModel<u8, Vec<u8>, Vec<u8>, 6>;
 
-/// The model of four weights. Where it is made, its rows are those of the weights, and these are accepted. Where it is refused,
-/// and not for want of memory, they are not accepted.
+/// The model of four weights. If it is made, its rows are those of the weights, and these are accepted. `InvalidTable` comes only if
+/// they are not.
 pub fn of_four(alloc: Global, weights: [u8; 4]) -> Result<Weighted<6>, ModelError>
     ensures rows { IfOk result (λ m. ⟦<Weighted<6> as EntropyModel<6>>⟧.rows m
         ≡ contiguous_rows (map ⟦<u8 as WholeNumber>⟧.whole weights)) }

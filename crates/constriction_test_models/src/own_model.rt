@@ -55,7 +55,7 @@ impl EncoderModel<3> for Triple {
     ghost within_law = { λ m. Prim.search rules };
 }
 
-/// The row of a quantile is told by where rows begin.
+/// The row of a quantile, by where rows begin.
 impl DecoderModel<3> for Triple {
     ghost stands_for = { λ s t. t ≡ s };
 

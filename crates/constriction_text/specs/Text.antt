@@ -6,8 +6,8 @@ use Rattle.std.specs.Option.{option_map_or}
 use Rattle.constriction_model.specs.Acceptance.{IsAccepted, completed}
 use Rattle.constriction_model.specs.Rows.{Row, contiguous_rows, uniform_rows, entry_of}
 use Rattle.constriction_model.specs.Scanning.{holds}
-use Rattle.constriction_lines.specs.declared.line.Format.{Format}
-use Rattle.constriction_lines.specs.Grammar.{Request, table, infer, quantile, symbol, uniform, bits_of, precision_of, Spells}
+use Rattle.constriction_text.specs.declared.line.Format.{Format}
+use Rattle.constriction_text.specs.Grammar.{Request, table, infer, quantile, symbol, uniform, bits_of, precision_of, Spells}
 
 -- parts, of which a last empty one is dropped
 abbrev pub without_last_empty : List (List ℕ) → List (List ℕ)

@@ -4,12 +4,12 @@ ghost use Rattle.std.specs.Prelude.{◌≡◌, ◌<◌, ◌≤◌, ◌++◌, fal
 ghost use Rattle.std.specs.Prelude.{IfOk, OnOk, string_bytes};
 ghost use Rattle.constriction_model.specs.Acceptance.{completed};
 ghost use Rattle.constriction_text.specs.Answering.{answer_of, answer_to, text_of_model};
-ghost use Rattle.constriction_lines.specs.Grammar.{bits_of, format_of, precision_of, view};
+ghost use Rattle.constriction_text.specs.Grammar.{bits_of, format_of, precision_of, view};
 ghost use Rattle.constriction_text.specs.Text.{IsAnswer, rows_text, quantile_text, symbol_text, uniform_text};
 
 use crate::line_model::{LineModel, UniformRows, model_of, push_row, push_rows};
 use constriction_categorical::ContiguousCategoricalEntropyModel;
-use constriction_lines::{Command, Format, parse};
+use crate::line::{Command, Format, parse};
 use constriction_model::UniformModel;
 use std::alloc::{AllocError, Global};
 

@@ -1,7 +1,7 @@
 //! What follows from the definitions that the contracts cite, each law the contract of a function.
 
 ghost use Rattle.std.specs.Prelude.{◌≡◌, ℕ, List};
-ghost use Rattle.constriction_lines.specs.Grammar.{Request, Spells};
+ghost use Rattle.constriction_text.specs.Grammar.{Request, Spells};
 ghost use Rattle.constriction_text.specs.Text.{IsAnswer, IsTextOf};
 
 /// A line spells at most one request.

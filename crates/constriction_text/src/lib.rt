@@ -7,10 +7,11 @@
 mod answers;
 mod fault;
 pub mod laws;
+mod line;
 mod line_model;
 mod program;
 
 pub use crate::answers::answer;
 pub use crate::fault::RunFault;
+pub use crate::line::{Command, Format, cut, parse, parse_number};
 pub use crate::program::{first_line, read_input, run, write_whole};
-pub use constriction_lines::{Command, Format, parse};

@@ -10,7 +10,7 @@ ghost use Rattle.constriction_text.specs.Text.{IsTextOf, lines_of};
 
 use crate::answers::push_answer;
 use crate::fault::RunFault;
-use constriction_lines::cut;
+use crate::line::cut;
 use std::alloc::{AllocError, Global};
 use std::io::{Read, Write};
 

@@ -24,7 +24,7 @@ use std::hash::Hash;
 ///
 /// No two symbols of the rows are equal. The only refusal is `OutOfMemory`. The form has the kind that the
 /// steps say. `PRECISION` is at most 63.
-pub fn answer_by_table<M, const PRECISION: usize>(
+pub fn answer_by_symbol_table<M, const PRECISION: usize>(
     alloc: Global,
     model: M,
     steps: &[ChainStep],
@@ -89,7 +89,7 @@ where
 }
 
 /// Answers queries by a decoder whose rows can be walked through, one of the caller's own too, and by the form
-/// that the steps make of it as in [`answer_by_table`], both with the hashed encoder that is made of it. Where
+/// that the steps make of it as in [`answer_by_symbol_table`], both with the hashed encoder that is made of it. Where
 /// the symbols of its answers and clones of symbols are the same values, the replies of both are those that a
 /// scan of the model's rows gives. It knows of the model the laws of its traits and nothing else.
 ///
@@ -121,7 +121,7 @@ where
     ensures refused { IfErr result (λ e. e ≡ ModelError.OutOfMemory) }
 {
     let by_model = answer_beside_encoder::<M, PRECISION>(alloc, model, queries)?;
-    let (form, converted) = answer_by_table::<M, PRECISION>(alloc, model, steps, queries)?;
+    let (form, converted) = answer_by_symbol_table::<M, PRECISION>(alloc, model, steps, queries)?;
     Ok(AnswersOfModel {
         by_model,
         form,

@@ -8,7 +8,7 @@ ghost use Rattle.constriction.specs.Precision.{IsPrecision};
 ghost use Rattle.constriction_client.specs.FormRows.{form_rows};
 ghost use Rattle.constriction_theorem.specs.Answers.{AnswersOfRange};
 
-use crate::models::{AnswersOfModel, answer_by_table};
+use crate::models::{AnswersOfModel, answer_by_symbol_table};
 use constriction::laws::contiguous_symbols_differ;
 use constriction::stream::model::{ModelError, UniformModel};
 use constriction_client::{ChainStep, DecoderForm, Query, answer_queries};
@@ -35,7 +35,7 @@ pub fn answer_from_range_u8<const PRECISION: usize>(
     contiguous_symbols_differ();
     let model = UniformModel::<u8, PRECISION>::new(range);
     let by_model = answer_queries(alloc, &model, &model, queries)?;
-    let (form, converted) = answer_by_table(alloc, model, steps, queries)?;
+    let (form, converted) = answer_by_symbol_table(alloc, model, steps, queries)?;
     Ok(AnswersOfModel {
         by_model,
         form,
@@ -59,7 +59,7 @@ pub fn answer_from_range_u16<const PRECISION: usize>(
     contiguous_symbols_differ();
     let model = UniformModel::<u16, PRECISION>::new(range);
     let by_model = answer_queries(alloc, &model, &model, queries)?;
-    let (form, converted) = answer_by_table(alloc, model, steps, queries)?;
+    let (form, converted) = answer_by_symbol_table(alloc, model, steps, queries)?;
     Ok(AnswersOfModel {
         by_model,
         form,
@@ -83,7 +83,7 @@ pub fn answer_from_range_u32<const PRECISION: usize>(
     contiguous_symbols_differ();
     let model = UniformModel::<u32, PRECISION>::new(range);
     let by_model = answer_queries(alloc, &model, &model, queries)?;
-    let (form, converted) = answer_by_table(alloc, model, steps, queries)?;
+    let (form, converted) = answer_by_symbol_table(alloc, model, steps, queries)?;
     Ok(AnswersOfModel {
         by_model,
         form,
@@ -108,7 +108,7 @@ pub fn answer_from_range_u64<const PRECISION: usize>(
     contiguous_symbols_differ();
     let model = UniformModel::<u64, PRECISION>::new(range);
     let by_model = answer_queries(alloc, &model, &model, queries)?;
-    let (form, converted) = answer_by_table(alloc, model, steps, queries)?;
+    let (form, converted) = answer_by_symbol_table(alloc, model, steps, queries)?;
     Ok(AnswersOfModel {
         by_model,
         form,
@@ -133,7 +133,7 @@ pub fn answer_from_range_usize<const PRECISION: usize>(
     contiguous_symbols_differ();
     let model = UniformModel::<usize, PRECISION>::new(range);
     let by_model = answer_queries(alloc, &model, &model, queries)?;
-    let (form, converted) = answer_by_table(alloc, model, steps, queries)?;
+    let (form, converted) = answer_by_symbol_table(alloc, model, steps, queries)?;
     Ok(AnswersOfModel {
         by_model,
         form,

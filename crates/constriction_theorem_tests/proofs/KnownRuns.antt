@@ -2,12 +2,12 @@
 use Rattle.std.specs.Prelude.{◌≡◌, ℕ, List, [], ◌∷◌, Some}
 use Rattle.std.proofs.Common.{refl, subst}
 use Rattle.constriction_backends.specs.CursorState.{State}
-use Rattle.constriction_cursor_runs.proofs.Running.{runs-once}
-use Rattle.constriction_cursor_runs.specs.CursorCalls.{Runs}
-use Rattle.constriction_cursor_runs.specs.declared.cursor_calls.CursorCall.{CursorCall}
-use Rattle.constriction_cursor_runs.specs.declared.cursor_calls.CursorCall.TheVariants as call
-use Rattle.constriction_cursor_runs.specs.declared.cursor_calls.CursorReply.{CursorReply}
-use Rattle.constriction_cursor_runs.specs.declared.cursor_calls.CursorReply.TheVariants as reply
+use Rattle.constriction_client.proofs.Running.{runs-once}
+use Rattle.constriction_client.specs.CursorCalls.{Runs}
+use Rattle.constriction_client.specs.declared.cursor_calls.CursorCall.{CursorCall}
+use Rattle.constriction_client.specs.declared.cursor_calls.CursorCall.TheVariants as call
+use Rattle.constriction_client.specs.declared.cursor_calls.CursorReply.{CursorReply}
+use Rattle.constriction_client.specs.declared.cursor_calls.CursorReply.TheVariants as reply
 
 abbrev calls : List (CursorCall ℕ)
 calls = call.StackRead ∷ call.Write 7 ∷ []

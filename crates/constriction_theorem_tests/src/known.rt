@@ -7,7 +7,7 @@ ghost use Rattle.constriction.specs.Rows.{contiguous_rows, rows_of};
 ghost use Rattle.constriction_backends.specs.Cursor.{state_of};
 ghost use Rattle.constriction_client.specs.Chains.{is_lookup};
 ghost use Rattle.constriction_client.specs.Replies.{in_numbers};
-ghost use Rattle.constriction_cursor_runs.specs.declared.cursor_calls.CursorReply.TheVariants as reply;
+ghost use Rattle.constriction_client.specs.declared.cursor_calls.CursorReply.TheVariants as reply;
 ghost use Rattle.constriction_client.specs.declared.queries.Reply.TheVariants as answer;
 
 use crate::checks::{holds, same};

@@ -243,11 +243,11 @@ fn are_quantiles() -> (bool, bool)
 fn last_quantile() -> u8
     ensures { result ≡ 63 }
 {
-    u8::greatest(6)
+    u8::greatest_of_bits(6)
 }
 
-/// The decoder of four letters. Where it is made, its rows are those of the letters and their weights, and these are accepted.
-/// Where it is refused, and not for want of memory, they are not accepted.
+/// The decoder of four letters. If it is made, its rows are those of the letters and their weights, and these are accepted.
+/// `InvalidTable` comes only if they are not.
 pub fn decoder_of(
     alloc: Global,
     symbols: [char; 4],

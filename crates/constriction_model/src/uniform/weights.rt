@@ -21,8 +21,8 @@ pub(crate) fn probability_per_bin<Word: WholeNumber, const PRECISION: usize>(
     ensures value { Word.whole result ≡ bin_of PRECISION (Word.whole last_symbol) }
     ensures positive { 0 < Word.whole result }
 {
-    let one = Word::greatest(1);
-    let greatest = Word::greatest(PRECISION);
+    let one = Word::greatest_of_bits(1);
+    let greatest = Word::greatest_of_bits(PRECISION);
     if !last_symbol.is_below(greatest) {
         return one;
     }

@@ -32,7 +32,7 @@ impl WholeNumber for u128 {
 
     #[inline]
     fn wrapping_pow2(exponent: usize) -> u128 {
-        u128::wrapping_add(u128::greatest(exponent), 1)
+        u128::wrapping_add(u128::greatest_of_bits(exponent), 1)
     }
 
     #[inline]
@@ -46,7 +46,7 @@ impl WholeNumber for u128 {
     }
 
     #[inline]
-    fn is_least(self) -> bool {
+    fn is_zero_word(self) -> bool {
         self == 0
     }
 

@@ -32,7 +32,7 @@ impl WholeNumber for u16 {
 
     #[inline]
     fn wrapping_pow2(exponent: usize) -> u16 {
-        u16::wrapping_add(u16::greatest(exponent), 1)
+        u16::wrapping_add(u16::greatest_of_bits(exponent), 1)
     }
 
     #[inline]
@@ -46,7 +46,7 @@ impl WholeNumber for u16 {
     }
 
     #[inline]
-    fn is_least(self) -> bool {
+    fn is_zero_word(self) -> bool {
         self == 0
     }
 

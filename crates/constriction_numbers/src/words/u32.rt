@@ -32,7 +32,7 @@ impl WholeNumber for u32 {
 
     #[inline]
     fn wrapping_pow2(exponent: usize) -> u32 {
-        u32::wrapping_add(u32::greatest(exponent), 1)
+        u32::wrapping_add(u32::greatest_of_bits(exponent), 1)
     }
 
     #[inline]
@@ -46,7 +46,7 @@ impl WholeNumber for u32 {
     }
 
     #[inline]
-    fn is_least(self) -> bool {
+    fn is_zero_word(self) -> bool {
         self == 0
     }
 

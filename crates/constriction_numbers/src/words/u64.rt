@@ -32,7 +32,7 @@ impl WholeNumber for u64 {
 
     #[inline]
     fn wrapping_pow2(exponent: usize) -> u64 {
-        u64::wrapping_add(u64::greatest(exponent), 1)
+        u64::wrapping_add(u64::greatest_of_bits(exponent), 1)
     }
 
     #[inline]
@@ -46,7 +46,7 @@ impl WholeNumber for u64 {
     }
 
     #[inline]
-    fn is_least(self) -> bool {
+    fn is_zero_word(self) -> bool {
         self == 0
     }
 

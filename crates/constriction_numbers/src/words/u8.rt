@@ -32,7 +32,7 @@ impl WholeNumber for u8 {
 
     #[inline]
     fn wrapping_pow2(exponent: usize) -> u8 {
-        u8::wrapping_add(u8::greatest(exponent), 1)
+        u8::wrapping_add(u8::greatest_of_bits(exponent), 1)
     }
 
     #[inline]
@@ -46,7 +46,7 @@ impl WholeNumber for u8 {
     }
 
     #[inline]
-    fn is_least(self) -> bool {
+    fn is_zero_word(self) -> bool {
         self == 0
     }
 

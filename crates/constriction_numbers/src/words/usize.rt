@@ -32,7 +32,7 @@ impl WholeNumber for usize {
 
     #[inline]
     fn wrapping_pow2(exponent: usize) -> usize {
-        usize::wrapping_add(usize::greatest(exponent), 1)
+        usize::wrapping_add(usize::greatest_of_bits(exponent), 1)
     }
 
     #[inline]
@@ -46,7 +46,7 @@ impl WholeNumber for usize {
     }
 
     #[inline]
-    fn is_least(self) -> bool {
+    fn is_zero_word(self) -> bool {
         self == 0
     }
 

@@ -38,8 +38,8 @@ impl WholeNumber for Sample {
         self.0.is_below(other.0)
     }
 
-    fn is_least(self) -> bool {
-        self.0.is_least()
+    fn is_zero_word(self) -> bool {
+        self.0.is_zero_word()
     }
 
     fn is_greatest(self) -> bool {

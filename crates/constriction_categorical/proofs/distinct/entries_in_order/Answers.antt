@@ -6,8 +6,8 @@ use Rattle.constriction_categorical.proofs.ReadEntries.{held-stored, judged-told
 use Rattle.constriction_stored_rows.proofs.OrderLemmas.{sorted-distinct}
 use Rattle.constriction_categorical.proofs.distinct.entries_in_order.Goals as goal
 
-pub returns-in_err-entries-clause-told : goal.returns-in_err-entries-clause-told
-returns-in_err-entries-clause-told g c =
+pub returns-in_err-entries-clause-made : goal.returns-in_err-entries-clause-made
+returns-in_err-entries-clause-made g c =
     record {
       ok = search rules;
       invalid = λ h.
@@ -21,8 +21,8 @@ returns-in_err-entries-clause-told g c =
           c.entries_read.ensures e;
     }
 
-pub returns-then-not-in_order-clause-told : goal.returns-then-not-in_order-clause-told
-returns-then-not-in_order-clause-told g c =
+pub returns-then-not-in_order-clause-made : goal.returns-then-not-in_order-clause-made
+returns-then-not-in_order-clause-made g c =
     record {
       ok = tt;
       invalid = λ _.
@@ -37,8 +37,8 @@ returns-then-not-in_order-clause-told g c =
           in cc);
     }
 
-pub returns-clause-told : goal.returns-clause-told
-returns-clause-told g c =
+pub returns-clause-made : goal.returns-clause-made
+returns-clause-made g c =
     judged-told vec_items g.P.WholeNumber.whole g.P.WholeNumber.BITS g.row.PRECISION (completed g.row.PRECISION c.args.infer_last)
     (WasReadOf g.S.IntoIterator.into_iter_gives g.S.IntoIter.Iterator.next_gives c.args.symbols)
     (WasReadOf g.W.IntoIterator.into_iter_gives g.W.IntoIter.Iterator.next_gives c.args.weights) g.Symbol.PartialEq.eq

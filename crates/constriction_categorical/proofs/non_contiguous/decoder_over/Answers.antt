@@ -4,6 +4,6 @@ pub invariant_of-result : goal.invariant_of-result
 invariant_of-result g c = record {
   precise = record { positive = c.requires.positive; fits = c.requires.fits };
   stored = c.requires.stored;
-  aided = rw c.deref.ensures.value at c.words_beside-beside.ensures;
+  aided = rw c.deref.ensures.value at c.end_words_of-end_words.ensures;
   distinct = c.requires.distinct;
 }

@@ -25,8 +25,8 @@ pub rows_read-requires-clause-weights_end : goal.rows_read-requires-clause-weigh
 rows_read-requires-clause-weights_end g c =
     (c.requires.weights_end c.into_iter-weights.result c.into_iter-weights.ensures.into_iter_gives).1
 
-pub returns-clause-told : goal.returns-clause-told
-returns-clause-told g c =
+pub returns-clause-made : goal.returns-clause-made
+returns-clause-made g c =
     all-told vec_items g.P.WholeNumber.whole g.P.WholeNumber.BITS g.row.PRECISION (completed g.row.PRECISION c.args.infer_last)
     (WasReadOf g.S.IntoIterator.into_iter_gives g.S.IntoIter.Iterator.next_gives c.args.symbols)
     (WasReadOf g.W.IntoIterator.into_iter_gives g.W.IntoIter.Iterator.next_gives c.args.weights) g.Symbol.PartialEq.eq c.rows_read.result

@@ -13,8 +13,8 @@ returns-clause-filled g c = λ h.
     let most : last ≤ whole c.args.room = c.is_at_most.ensures.0 h in
     elim either [
       | inl zero ↦
-          let least : c.is_least.result ≡ true = c.is_least.ensures.1 zero.0 in
-          let some : c.is_least.result ≡ false = c.if-is_least.false in
+          let least : c.is_zero_word.result ≡ true = c.is_zero_word.ensures.1 zero.0 in
+          let some : c.is_zero_word.result ≡ false = c.if-is_least.false in
           cc (least, some)
       | inr more ↦
           let weight : whole c.args.weight ≡ last + 1 = more.0 in

@@ -19,8 +19,8 @@ first_word-end-requires-clause-below g c =
       c.cumulative_of.ensures,
     )
 
-pub filled_up-table-requires-clause-room : goal.filled_up-table-requires-clause-room
-filled_up-table-requires-clause-room g c =
+pub fill-table-requires-clause-room : goal.fill-table-requires-clause-room
+fill-table-requires-clause-room g c =
     let entries = c.args.entries.now in
     let lefts = map g.Kind.CdfEntry.cumulative entries in
     let next : ℕ = c.rows.next in
@@ -36,8 +36,8 @@ filled_up-table-requires-clause-room g c =
       c.rows.invariant.4,
     )
 
-pub filled_up-table-requires-clause-more : goal.filled_up-table-requires-clause-more
-filled_up-table-requires-clause-more g c =
+pub fill-table-requires-clause-more : goal.fill-table-requires-clause-more
+fill-table-requires-clause-more g c =
     let width = slot_width g.row.PRECISION g.row.SLOT_BITS in
     let entries = c.args.entries.now in
     let lefts = map g.Kind.CdfEntry.cumulative entries in
@@ -74,19 +74,19 @@ rows-preserved g c =
     let to = entry-word g.Kind.CdfEntry.cumulative width entries next c.index-entries-next.result _ c.first_word-end.result here
     c.index-entries-next.is c.cumulative_of.ensures c.first_word-end.ensures in
     let filled = row-filled whole width (pow_pos (g.row.PRECISION - g.row.SLOT_BITS)) lefts c.rows.table.items
-    c.filled_up-table.result.items c.rows.row c.first_word-end.result
+    c.fill-table.result.items c.rows.row c.first_word-end.result
     c.requires.searchable.increases inv.2 inv.3 (omega (arith, inv.1, long)) c.rows.table.len c.rows.table.ok.0
-    c.filled_up-table.ensures.items next inv.0
+    c.fill-table.ensures.items next inv.0
     (omega (arith, here, long)) to in (
       ap (λ n. n + 1) c.from_number-row.ensures,
       rw c.from_number-row.ensures here,
       filled.0,
       rw (c.from_number-row.ensures, filled.1) to,
-      omega (arith, inv.4, c.filled_up-table.ensures.capacity),
+      omega (arith, inv.4, c.fill-table.ensures.capacity),
     )
 
-pub filled_up-requires-clause-more : goal.filled_up-requires-clause-more
-filled_up-requires-clause-more g c =
+pub fill-requires-clause-more : goal.fill-requires-clause-more
+fill-requires-clause-more g c =
     let whole = g.Kind.Word.WholeNumber.whole in
     let lefts = map g.Kind.CdfEntry.cumulative c.args.entries.now in
     let inv = c.rows.invariant in
@@ -106,8 +106,8 @@ returns g c =
     let inv = c.rows.invariant in
     let row : whole c.rows.row < length lefts = omega (arith, inv.1, long) in
     all-filled whole (slot_width g.row.PRECISION g.row.SLOT_BITS) (pow_pos (g.row.PRECISION - g.row.SLOT_BITS)) lefts c.rows.table.items
-    c.filled_up.result.items c.rows.row c.words_of_table-words.result
-    c.requires.searchable.increases inv.2 inv.3 row c.rows.table.len c.rows.table.ok.0 c.filled_up.ensures.items g.row.PRECISION
+    c.fill.result.items c.rows.row c.words_of_table-words.result
+    c.requires.searchable.increases inv.2 inv.3 row c.rows.table.len c.rows.table.ok.0 c.fill.ensures.items g.row.PRECISION
     g.row.SLOT_BITS refl
     c.words_of_table-words.ensures (omega (arith, inv.0, row, long, c.rows-test.false))
     (c.requires.below (whole c.rows.row) row)

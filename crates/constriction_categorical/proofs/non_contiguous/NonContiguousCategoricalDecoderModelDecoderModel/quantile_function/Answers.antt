@@ -7,8 +7,8 @@ use Rattle.constriction_categorical.proofs.non_contiguous.NonContiguousCategoric
 pub cloned_row_at-requires-clause-stored : goal.cloned_row_at-requires-clause-stored
 cloned_row_at-requires-clause-stored g c = rw c.cdf_entries-entries.ensures c.args.self.now.stored
 
-pub cloned_row_at-requires-clause-beside : goal.cloned_row_at-requires-clause-beside
-cloned_row_at-requires-clause-beside g c = rw c.cdf_entries-entries.ensures c.args.self.now.aided
+pub cloned_row_at-requires-clause-end_words : goal.cloned_row_at-requires-clause-end_words
+cloned_row_at-requires-clause-end_words g c = rw c.cdf_entries-entries.ensures c.args.self.now.aided
 
 pub cloned_row_at-requires-clause-in_bounds : goal.cloned_row_at-requires-clause-in_bounds
 cloned_row_at-requires-clause-in_bounds g c =

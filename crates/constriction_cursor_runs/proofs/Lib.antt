@@ -1,2 +1,0 @@
-pub mod Running
-mod Stepping

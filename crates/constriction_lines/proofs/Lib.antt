@@ -1,4 +1,0 @@
-pub mod Exactly
-mod LineReading
-mod Numbers
-mod Separating

@@ -1,3 +1,0 @@
-pub mod Grammar
-pub mod Parts
-pub mod Reading

@@ -1,0 +1,311 @@
+-- Reading a line finds exactly what the line spells. A caller who asks what a line spells computes `read_line`.
+use Rattle.std.proofs.Common.{refl, subst, ◌≡◌, ℕ, ◌<◌, ◌^◌, Bool, true, false, ◌||◌, ◌&&◌, eqb, cond, List, [], ◌∷◌, ◌++◌, ap, sym, ◌∙◌, length, arith, Option, Some, None, nat_lt, nat_le, Result, Ok, Err, find, codes}
+use Rattle.std.specs.Option.{option_map, IfSome, IfNone}
+use Rattle.std.specs.Result.{IfOk}
+use Rattle.std.proofs.lemmas.Bool.{ltb-true, leb-true, ne_eqb}
+use Rattle.std.proofs.lemmas.Option.{cond_some}
+use Rattle.std.proofs.lemmas.List.Splits.{join_with_byte-slice_split, slice_split-cons_no, slice_split-cons_yes}
+use Rattle.std.proofs.lemmas.Str.Parse.{IsNumeralModel, numerals_by_value, tells_all_ascii_digits}
+use Rattle.std.specs.Char.{digit_value}
+use Rattle.std.specs.Cmp.Lexicographic.{same_text}
+use Rattle.std.specs.List.{AllByRecursion, AllZip, slice_split, join_with_byte, onto_first}
+use Rattle.std.specs.Str.{all_ascii_digits, bytes_eq}
+use Rattle.std.specs.Str.Parse.{AllDigits, digits_value}
+use Rattle.constriction_text.specs.declared.line.Command.{Command}
+use Rattle.constriction_text.specs.declared.line.Format.{Format}
+use Rattle.constriction_text.specs.declared.line.Format.TheVariants.{U8Precision6, U8Precision8, U16Precision12}
+use Rattle.constriction_text.specs.Grammar.{Request, table, infer, quantile, symbol, uniform, format_of, format_word, view, IsNumber, IsLineOf, Spells}
+use Rattle.constriction_text.specs.Parts.{only_number}
+use Rattle.constriction_text.specs.Reading.{keyword, numbers_of, formats, requests_of, read_number, read_numbers, read_format, read_request, read_words, read_line, ◌>>=◌}
+use Rattle.constriction_text.proofs.Numbers.{read_number-some}
+
+pub none_is_none : {A : Type 0} (x : A) → None ≡ Some x → ⊥
+none_is_none x e = cc
+
+pub some_inj : {A : Type 0} (x y : A) → Some x ≡ Some y → x ≡ y
+some_inj x y e = cc
+
+-- a search that found something: here, or further down
+found_where : {X C : Type 0} (passes : Bool) (x found : X) (rest : Option X) → cond passes (Some x) rest ≡ Some found
+    → (passes ≡ true → x ≡ found → C) → (rest ≡ Some found → C) → C
+found_where true x found rest e here later = here refl (some_inj x found e)
+found_where false x found rest e here later = later e
+
+-- what a search finds passes the test
+found_passes : {X : Type 0} (p : X → Bool) (xs : List X) (found : X) → find p xs ≡ Some found → p found ≡ true
+found_passes p [] found e = absurd (none_is_none _ e)
+found_passes p (x ∷ xs) found e =
+    found_where (p x) x found (find p xs) e (λ passes same. ap p (sym same) ∙ passes) (λ later. found_passes p xs found later)
+
+-- what holds of each element holds of what a search finds
+found_holds : {X : Type 0} (p : X → Bool) (P : X → Type 0) (xs : List X) (found : X) → AllByRecursion P xs
+    → find p xs ≡ Some found → P found
+found_holds p P [] found all e = absurd (none_is_none _ e)
+found_holds p P (x ∷ xs) found all e =
+    found_where (p x) x found (find p xs) e (λ passes same. subst P same all.0) (λ later. found_holds p P xs found all.1 later)
+
+both : (a b : Bool) → (a && b) ≡ true → (a ≡ true) × (b ≡ true)
+both true b e = (refl, e)
+both false b e = absurd (cc)
+
+neither : (a b : Bool) → (a || b) ≡ false → (a ≡ false) × (b ≡ false)
+neither true b e = absurd (cc)
+neither false b e = (refl, e)
+
+-- the parts of a chain that found something
+bind_some : {A B : Type 0} (o : Option A) (f : A → Option B) (y : B) → (o >>= f) ≡ Some y
+    → (x : A) × (o ≡ Some x) × (f x ≡ Some y)
+bind_some None f y e = absurd (cc)
+bind_some (Some x) f y e = (x, refl, e)
+
+-- Numbers.
+
+own : IsNumeralModel (λ ds. all_ascii_digits ds ≡ true) (digits_value 10)
+own = numerals_by_value _ tells_all_ascii_digits
+
+number_spelled : (word : List ℕ) (n : ℕ) → read_number word ≡ Some n → IsNumber word n
+unfolding read_number
+number_spelled word n e =
+    let p =
+    cond_some (nat_lt (digits_value 10 word) (2 ^ 64) && all_ascii_digits word && nat_lt 0 (length word) && nat_le
+    (length word) 20) (digits_value 10 word) n e in
+    let q =
+    both (nat_lt (digits_value 10 word) (2 ^ 64) && all_ascii_digits word && nat_lt 0 (length word)) (nat_le (length word) 20) p.0 in
+    let r = both (nat_lt (digits_value 10 word) (2 ^ 64) && all_ascii_digits word) (nat_lt 0 (length word)) q.0 in
+    let s = both (nat_lt (digits_value 10 word) (2 ^ 64)) (all_ascii_digits word) r.0 in
+    record {
+      digits = (ltb-true 0 (length word) r.1, own.to word s.1);
+      short = leb-true (length word) 20 q.1;
+      value = p.1;
+      small = omega (arith, p.1, ltb-true (digits_value 10 word) (2 ^ 64) s.0);
+    }
+
+number_read : (word : List ℕ) (n : ℕ) → IsNumber word n → read_number word ≡ Some n
+number_read word n h =
+    read_number-some word (own.from word h.digits.1) h.digits.0 h.short (omega (arith, h.value, h.small)) ∙ ap Some h.value
+
+numbers_spelled : (words : List (List ℕ)) (ns : List ℕ) → read_numbers words ≡ Some ns → AllZip IsNumber words ns
+unfolding read_numbers
+numbers_spelled [] [] e = tt
+numbers_spelled [] (n ∷ ns) e = absurd (cc)
+numbers_spelled (word ∷ words) ns e =
+    let p = bind_some (read_number word) (λ n. read_numbers words >>= λ ns. Some (n ∷ ns)) ns e in
+    let q = bind_some (read_numbers words) (λ ns. Some (p.0 ∷ ns)) ns p.2 in
+    let P : List ℕ → Type 0 = λ l. AllZip IsNumber (word ∷ words) l in
+    subst P (some_inj _ _ q.2) (number_spelled word p.0 p.1, numbers_spelled words q.0 q.1)
+
+numbers_read : (words : List (List ℕ)) (ns : List ℕ) → AllZip IsNumber words ns → read_numbers words ≡ Some ns
+unfolding read_numbers
+numbers_read [] [] h = refl
+numbers_read [] (n ∷ ns) h = absurd h
+numbers_read (word ∷ words) [] h = absurd h
+numbers_read (word ∷ words) (n ∷ ns) h = rw (number_read word n h.0, numbers_read words ns h.1)
+
+-- Formats and keywords.
+
+format_read : (format : Format) → read_format (format_word format) ≡ Some format
+unfolding read_format
+format_read U8Precision6 = refl
+format_read U8Precision8 = refl
+format_read U16Precision12 = refl
+
+format_spelled : (word : List ℕ) (format : Format) → read_format word ≡ Some format → word ≡ format_word format
+unfolding read_format
+format_spelled word format e = same_text word (format_word format) (sym
+    (found_passes (λ format. bytes_eq word (format_word format)) formats format e))
+
+request_read : (request : Request) → read_request (keyword request) (format_of request) (numbers_of request) ≡ Some request
+unfolding read_request
+request_read (table format ws) = refl
+request_read (infer format ws) = refl
+request_read (quantile format q ws) = refl
+request_read (symbol format s ws) = refl
+request_read (uniform format n) = refl
+
+-- a word that is no keyword
+pub no_request : (word : List ℕ) (format : Format) (numbers : Option (List ℕ)) → bytes_eq word (codes "table") ≡ false
+    → bytes_eq word (codes "infer") ≡ false
+    → bytes_eq word (codes "quantile") ≡ false
+    → bytes_eq word (codes "symbol") ≡ false
+    → bytes_eq word (codes "uniform") ≡ false → None ≡ (numbers >>= read_request word format)
+unfolding read_request
+no_request word format None no_table no_infer no_quantile no_symbol no_uniform = refl
+no_request word format (Some []) no_table no_infer no_quantile no_symbol no_uniform = rw (no_table, no_infer) refl
+no_request word format (Some (n ∷ [])) no_table no_infer no_quantile no_symbol no_uniform =
+    rw (no_table, no_infer, no_quantile, no_symbol, no_uniform) refl
+no_request word format (Some (n ∷ m ∷ ns)) no_table no_infer no_quantile no_symbol no_uniform =
+    rw (no_table, no_infer, no_quantile, no_symbol) refl
+
+-- the request for a uniform model, from one number alone
+uniform_request : (format : Format) (numbers : Option (List ℕ))
+    → (numbers >>= read_request (codes "uniform") format) ≡ option_map (uniform format) (numbers >>= only_number)
+unfolding read_request
+uniform_request format None = refl
+uniform_request format (Some []) = refl
+uniform_request format (Some (n ∷ [])) = refl
+uniform_request format (Some (n ∷ m ∷ ns)) = refl
+
+-- the keyword of that request
+pub uniform_read : (word : List ℕ) (format : Format) (numbers : Option (List ℕ)) (range : Option ℕ)
+    → bytes_eq word (codes "uniform") ≡ true → range ≡ (numbers >>= only_number)
+    → option_map (uniform format) range ≡ (numbers >>= read_request word format)
+uniform_read word format numbers range is alone =
+    ap (option_map (uniform format)) alone ∙ sym (uniform_request format numbers)
+    ∙ ap (λ w. numbers >>= read_request w format) (sym (same_text word (codes "uniform") (sym is)))
+
+-- the request has the format and the numbers
+abbrev IsOf : Format → List ℕ → Request → Type 0
+IsOf format numbers request = (format ≡ format_of request) × (numbers ≡ numbers_of request)
+
+all_are_of : (format : Format) (numbers : List ℕ) → AllByRecursion (IsOf format numbers) (requests_of format numbers)
+all_are_of format [] = ((refl, refl), ((refl, refl), tt))
+all_are_of format (n ∷ []) = ((refl, refl), ((refl, refl), ((refl, refl), ((refl, refl), ((refl, refl), tt)))))
+all_are_of format (n ∷ m ∷ ns) = ((refl, refl), ((refl, refl), ((refl, refl), ((refl, refl), tt))))
+
+request_keyword : (word : List ℕ) (format : Format) (numbers : List ℕ) (request : Request)
+    → read_request word format numbers ≡ Some request → word ≡ keyword request
+unfolding read_request
+request_keyword word format numbers request e =
+    same_text word (keyword request) (sym (found_passes (λ request. bytes_eq word (keyword request)) (requests_of format numbers) request e))
+
+request_parts : (word : List ℕ) (format : Format) (numbers : List ℕ) (request : Request)
+    → read_request word format numbers ≡ Some request → IsOf format numbers request
+unfolding read_request
+request_parts word format numbers request e =
+    found_holds (λ request. bytes_eq word (keyword request)) (IsOf format numbers) (requests_of format numbers) request
+    (all_are_of format numbers) e
+
+-- Words.
+
+abbrev has_space : List ℕ → Bool
+has_space [] = false
+has_space (b ∷ bs) = eqb b 32 || has_space bs
+
+has_space-onto : (b : ℕ) (bs : List ℕ) (h : (b ≡ 32) → ⊥) → has_space bs ≡ false → has_space (b ∷ bs) ≡ false
+has_space-onto b bs h e = rw (ne_eqb b 32 h, e)
+
+-- a word with no space, at the end and before one
+split_last : (word : List ℕ) → has_space word ≡ false → slice_split (λ b. eqb b 32) word ≡ word ∷ []
+split_last [] e = refl
+split_last (b ∷ bs) e =
+    let p = neither _ _ e in
+    slice_split-cons_no (λ b. eqb b 32) b bs p.0 ∙ ap (onto_first b) (split_last bs p.1)
+
+split_next : (word rest : List ℕ) → has_space word ≡ false
+    → slice_split (λ b. eqb b 32) (word ++ 32 ∷ rest) ≡ word ∷ slice_split (λ b. eqb b 32) rest
+split_next [] rest e = slice_split-cons_yes (λ b. eqb b 32) 32 rest refl
+split_next (b ∷ bs) rest e =
+    let p = neither _ _ e in
+    slice_split-cons_no (λ b. eqb b 32) b (bs ++ 32 ∷ rest) p.0 ∙ ap (onto_first b) (split_next bs rest p.1)
+
+abbrev NoSpaces : List (List ℕ) → Type 0
+NoSpaces [] = Unit {0}
+NoSpaces (word ∷ words) = (has_space word ≡ false) × NoSpaces words
+
+-- words are found again where they were joined
+split_joined : (word : List ℕ) (words : List (List ℕ)) → has_space word ≡ false → NoSpaces words
+    → slice_split (λ b. eqb b 32) (join_with_byte 32 (word ∷ words)) ≡ word ∷ words
+split_joined word [] e h = split_last word e
+split_joined word (next ∷ words) e h =
+    split_next word (join_with_byte 32 (next ∷ words)) e ∙ ap (λ l. word ∷ l) (split_joined next words h.0 h.1)
+
+space_is_no_digit : (b : ℕ) → b ≡ 32 → digit_value b < 10 → ⊥
+space_is_no_digit b e h = let k : digit_value 32 < 10 = rw e at h in omega arith
+
+digits_no_space : (word : List ℕ) → AllDigits 10 word → has_space word ≡ false
+digits_no_space [] h = refl
+digits_no_space (b ∷ bs) h = has_space-onto b bs (λ e. space_is_no_digit b e h.0) (digits_no_space bs h.1)
+
+numbers_no_space : (words : List (List ℕ)) (ns : List ℕ) → AllZip IsNumber words ns → NoSpaces words
+numbers_no_space [] ns h = tt
+numbers_no_space (word ∷ words) [] h = absurd h
+numbers_no_space (word ∷ words) (n ∷ ns) h = (digits_no_space word h.0.digits.1, numbers_no_space words ns h.1)
+
+keyword_no_space : (request : Request) → has_space (keyword request) ≡ false
+keyword_no_space (table format ws) = refl
+keyword_no_space (infer format ws) = refl
+keyword_no_space (quantile format q ws) = refl
+keyword_no_space (symbol format s ws) = refl
+keyword_no_space (uniform format n) = refl
+
+format_no_space : (format : Format) → has_space (format_word format) ≡ false
+format_no_space U8Precision6 = refl
+format_no_space U8Precision8 = refl
+format_no_space U16Precision12 = refl
+
+-- Lines.
+
+-- what spells a request is its keyword, its format and its numbers
+spelled_from : (line : List ℕ) (request : Request) → IsLineOf line (keyword request) (format_of request) (numbers_of request)
+    → Spells line request
+spelled_from line (table format ws) h = h
+spelled_from line (infer format ws) h = h
+spelled_from line (quantile format q ws) h = h
+spelled_from line (symbol format s ws) h = h
+spelled_from line (uniform format n) h = h
+
+spelled_to : (line : List ℕ) (request : Request) → Spells line request
+    → IsLineOf line (keyword request) (format_of request) (numbers_of request)
+spelled_to line (table format ws) h = h
+spelled_to line (infer format ws) h = h
+spelled_to line (quantile format q ws) h = h
+spelled_to line (symbol format s ws) h = h
+spelled_to line (uniform format n) h = h
+
+words_read : (request : Request) (words : List (List ℕ)) → AllZip IsNumber words (numbers_of request)
+    → read_words (keyword request ∷ format_word (format_of request) ∷ words) ≡ Some request
+unfolding read_words
+words_read request words h = rw (format_read (format_of request), numbers_read words (numbers_of request) h) (request_read request)
+
+words_spelled : (words : List (List ℕ)) (request : Request) → read_words words ≡ Some request
+    → Spells (join_with_byte 32 words) request
+unfolding read_words
+words_spelled [] request e = absurd (none_is_none _ e)
+words_spelled (key ∷ []) request e = absurd (none_is_none _ e)
+words_spelled (key ∷ word ∷ words) request e =
+    let p = bind_some (read_format word) (λ format. read_numbers words >>= λ numbers. read_request key format numbers) request e in
+    let q = bind_some (read_numbers words) (λ numbers. read_request key p.0 numbers) request p.2 in
+    let parts = request_parts key p.0 q.0 request q.2 in
+    let P : List ℕ → Type 0 = λ numbers. AllZip IsNumber words numbers in
+    let format : word ≡ format_word (format_of request) = format_spelled word p.0 p.1 ∙ ap format_word parts.0 in
+    spelled_from (join_with_byte 32 (key ∷ word ∷ words)) request (
+      words,
+      subst P parts.1 (numbers_spelled words q.0 q.1),
+      ap (λ k. join_with_byte 32 (k ∷ word ∷ words)) (request_keyword key p.0 q.0 request q.2)
+          ∙ ap (λ f. join_with_byte 32 (keyword request ∷ f ∷ words)) format,
+    )
+
+pub line_spelled : (line : List ℕ) (request : Request) → read_line line ≡ Some request → Spells line request
+unfolding read_line
+line_spelled line request e =
+    let P : List ℕ → Type 0 = λ l. Spells l request in
+    subst P (join_with_byte-slice_split 32 line) (words_spelled (slice_split (λ b. eqb b 32) line) request e)
+
+pub line_read : (line : List ℕ) (request : Request) → Spells line request → read_line line ≡ Some request
+unfolding read_line
+line_read line request spelled =
+    let h = spelled_to line request spelled in
+    let words : slice_split (λ b. eqb b 32) line ≡ keyword request ∷ format_word (format_of request) ∷ h.0 =
+    ap (slice_split (λ b. eqb b 32)) h.2
+    ∙ split_joined (keyword request) (format_word (format_of request) ∷ h.0) (keyword_no_space request)
+    (format_no_space (format_of request), numbers_no_space h.0 (numbers_of request) h.1) in
+    ap read_words words ∙ words_read request h.0 h.1
+
+-- where reading finds nothing, the line spells nothing
+pub spells_none : (line : List ℕ) → read_line line ≡ None → (request : Request) → ¬ (Spells line request)
+spells_none line none request spelled = none_is_none request (sym none ∙ line_read line request spelled)
+
+-- what a parser found, in either case
+pub line_found : {E : Type 0} (line : List ℕ) (r : Result (Option Command) E)
+    → IfOk r (λ found. option_map view found ≡ read_line line)
+    → IfOk r (λ found. IfSome found (λ command. Spells line (view command)))
+line_found line (Ok None) h = tt
+line_found line (Ok (Some command)) h = line_spelled line (view command) (sym h)
+line_found line (Err e) h = tt
+
+pub line_none : {E : Type 0} (line : List ℕ) (r : Result (Option Command) E)
+    → IfOk r (λ found. option_map view found ≡ read_line line)
+    → IfOk r (λ found. IfNone found ((request : Request) → ¬ (Spells line request)))
+line_none line (Ok None) h = spells_none line (sym h)
+line_none line (Ok (Some command)) h = tt
+line_none line (Err e) h = tt
