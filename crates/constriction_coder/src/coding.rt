@@ -5,7 +5,8 @@ ghost use Rattle.std.specs.Prelude.{◌<◌, ◌≤◌};
 use constriction::CoderError;
 use constriction::backends::Cursor;
 use constriction::stream::model::{ContiguousCategoricalEntropyModel, ModelError};
-use constriction_ans_example::{AnsCoder, RangeDecoder, RangeDecodingFault};
+use constriction_coders::queue::{RangeDecoder, RangeDecodingFault};
+use constriction_coders::stack::AnsCoder;
 use std::alloc::{AllocError, Global};
 
 /// Why a line has no words or symbols as its answer.

@@ -3,7 +3,7 @@
 use crate::checksum::mix;
 use crate::contiguous::contiguous_of;
 use constriction::stream::model::{DecoderModel, DefaultContiguousLookupDecoderModel};
-use constriction_ans_example::AnsCoder;
+use constriction_coders::stack::AnsCoder;
 use std::alloc::{AllocError, Global};
 
 type Lookup = DefaultContiguousLookupDecoderModel;

@@ -3,7 +3,7 @@
 use crate::checks::same;
 use constriction::CoderError;
 use constriction::stream::model::DefaultUniformModel;
-use constriction_ans_example::AnsCoder;
+use constriction_coders::stack::AnsCoder;
 use std::process::Abort;
 
 /// Stops the test where the copy is not the words that the coder turns into, or where they are not so many.

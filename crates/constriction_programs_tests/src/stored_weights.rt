@@ -4,10 +4,8 @@ use crate::checks::same;
 use constriction::CoderError;
 use constriction::backends::Cursor;
 use constriction::stream::model::{IterableEntropyModel, to_generic_encoder_model};
-use constriction_ans_example::AnsCoder;
-use constriction_ans_example::stored_weights::{
-    ReadingFault, StoredModel, read_model, write_model,
-};
+use constriction_coders::stack::AnsCoder;
+use constriction_coders::stored_weights::{ReadingFault, StoredModel, read_model, write_model};
 use std::alloc::Global;
 use std::process::Abort;
 

@@ -8,7 +8,7 @@ use crate::checks::same;
 use constriction::Stack;
 use constriction::backends::{ReadWords, WordStack, WriteWords};
 use constriction::stream::model::DefaultUniformModel;
-use constriction_ans_example::AnsCoder;
+use constriction_coders::stack::AnsCoder;
 use std::alloc::{AllocError, Global};
 use std::convert::Infallible;
 use std::process::Abort;

@@ -3,7 +3,7 @@
 use crate::checks::same;
 use constriction::stream::model::DefaultUniformModel;
 use constriction::{CoderError, DefaultEncoderFrontendError};
-use constriction_ans_example::AnsCoder;
+use constriction_coders::stack::AnsCoder;
 
 /// A range is encoded from its back on. As many symbols as are asked for are decoded, in the order of the range. The others
 /// stay.

@@ -1,0 +1,94 @@
+-- What was encoded is decoded, symbol by symbol.
+use Rattle.std.proofs.Common.{◌≡◌, ℕ, ◌+◌, ◌%◌, ◌^◌, ◌<◌, ◌≤◌, Bool, List, [], ◌∷◌, ◌++◌, Option, length, ap, sym, ◌∙◌, subst, arith, inl, inr}
+use Rattle.std.proofs.lemmas.List.{same_from_push, length_push}
+use Rattle.constriction.specs.CodingLemmas.{entry-back}
+use Rattle.constriction.specs.Coding.{InTurn}
+use Rattle.constriction.specs.Rows.{Row, RowsTile, entry_of}
+use Rattle.constriction_coders.specs.Laws.{SymbolComesBack, SymbolsComeBack}
+use Rattle.constriction_coders.specs.Steps.{Content, content, IsWhole, Refills, IsOnTop, IsDecoded}
+use Rattle.constriction_coders.specs.States.{put, taken}
+use Rattle.constriction_coders.proofs.States.{put_taken, put_high, put_low}
+use Rattle.std.proofs.lemmas.Bool.{cases_lt}
+
+pub same-content : (a b : Content) → a.state ≡ b.state → a.words ≡ b.words → a ≡ b
+same-content a b s w = ap (λ n. content n a.words) s ∙ ap (λ ws. content b.state ws) w
+
+-- there is a word where one is on top
+pub not-empty : {A : Type 0} (words others : List A) (word : A) → words ≡ others ++ word ∷ [] → words ≡ [] → ⊥
+not-empty words others word is none = absurd (omega (arith, ap length (sym is ∙ none), length_push others word))
+
+-- a state takes a word, or none, in one way
+pub refills-once : (state : ℕ) (words : List ℕ) (a b : Content) → Refills state words a → Refills state words b → a ≡ b
+refills-once state words a b (inl p) (inl q) = p.1 ∙ sym q.1
+refills-once state words a b (inl p) (inr q) = absurd (not-empty words b.words q.1 q.3 (p.0 q.0))
+refills-once state words a b (inr p) (inl q) = absurd (not-empty words a.words p.1 p.3 (q.0 p.0))
+refills-once state words a b (inr p) (inr q) =
+    let parts = same_from_push a.words b.words p.1 q.1 (sym p.3 ∙ q.3) in
+    same-content a b (omega (arith, parts.1)) parts.0
+
+module _ {Symbol : Type 0} (Stands : Symbol → Symbol → Type 0) (eq : Symbol → Symbol → Bool) (entry : Symbol → Option (ℕ × ℕ))
+    (rows : List (Row Symbol)) (bits precision : ℕ) (tile : RowsTile bits precision rows)
+    (alike : (s : Symbol) → entry s ≡ entry_of eq rows s) where
+  pub symbol-back : SymbolComesBack Stands eq entry rows precision
+  symbol-back symbol answer full rest under e d =
+      let same = entry-back bits precision eq rows symbol e.left e.weight (full.state % 2 ^ precision) d.row tile
+      (sym (alike symbol) ∙ e.known) e.top.from e.top.to d.found in (
+        (d.row.symbol, same.0, d.stands),
+        refills-once _ full.words under rest (rw (same.1, same.2) at d.top.under) e.top.under,
+      )
+
+  pub symbols-back : SymbolsComeBack Stands eq entry rows precision
+  symbols-back [] [] full rest under e d n = (tt, sym d ∙ e)
+  symbols-back [] (a ∷ ts) full rest under e d n = absurd (omega arith)
+  symbols-back (s ∷ ss) [] full rest under e d n = absurd (omega arith)
+  symbols-back (s ∷ ss) (a ∷ ts) full rest under e d n =
+      let first = symbol-back s a full e.0 d.0 e.1 d.1 in
+      let others = symbols-back ss ts e.0 rest under e.2
+      (subst (λ (c : Content). InTurn (IsDecoded Stands rows precision) ts c under) first.1 d.2) (omega arith) in
+      ((first.0, others.0), others.1)
+
+-- with a word under it, the state of a whole content is no less than 2 ^ 32
+not-below : (c : Content) (under : List ℕ) (word : ℕ) → c.words ≡ under ++ word ∷ [] → IsWhole c.state c.words → 2 ^ 32 ≤ c.state
+not-below c under word is whole =
+    elim (cases_lt c.state (2 ^ 32)) [
+      | inl below ↦ absurd (not-empty c.words under word is (whole below))
+      | inr least ↦ least
+    ]
+
+-- on a content that is whole a symbol is put in one way
+pub put-once : (precision left weight : ℕ) (a b rest : Content) → precision ≤ 32 → 0 < weight → left + weight ≤ 2 ^ precision
+    → a.state < 2 ^ 64 → b.state < 2 ^ 64 → IsWhole a.state a.words → IsWhole b.state b.words → IsOnTop precision left weight a rest
+    → IsOnTop precision left weight b rest → a ≡ b
+put-once precision left weight a b rest fits some within fa fb wa wb p q = go p.under q.under
+  where
+    ta : ℕ
+    ta = taken precision left weight a.state
+
+    tb : ℕ
+    tb = taken precision left weight b.state
+
+    a-is : put precision left weight ta ≡ a.state
+    a-is = put_taken precision left weight a.state some within p.from p.to
+
+    b-is : put precision left weight tb ≡ b.state
+    b-is = put_taken precision left weight b.state some within q.from q.to
+
+    same : ta ≡ tb → a.words ≡ b.words → a ≡ b
+    same t w = same-content a b (sym a-is ∙ ap (λ n. put precision left weight n) t ∙ b-is) w
+
+    go : Refills ta a.words rest → Refills tb b.words rest → a ≡ b
+    go (inl x) (inl y) =
+        same (ap (λ (c : Content). c.state) (sym x.1 ∙ y.1)) (ap (λ (c : Content). c.words) (sym x.1 ∙ y.1))
+    go (inl x) (inr y) =
+        let least : 2 ^ 32 ≤ b.state = not-below b rest.words y.1 y.3 wb in
+        let high = put_high precision left weight tb fits some within (omega (arith, least, b-is)) in
+        let low = put_low precision left weight ta fits some within (omega (arith, fa, a-is)) in
+        absurd (omega (arith, high, low, y.4, ap (λ (c : Content). c.state) x.1))
+    go (inr x) (inl y) =
+        let least : 2 ^ 32 ≤ a.state = not-below a rest.words x.1 x.3 wa in
+        let high = put_high precision left weight ta fits some within (omega (arith, least, a-is)) in
+        let low = put_low precision left weight tb fits some within (omega (arith, fb, b-is)) in
+        absurd (omega (arith, high, low, x.4, ap (λ (c : Content). c.state) y.1))
+    go (inr x) (inr y) =
+        let tops : x.1 ≡ y.1 = omega (arith, x.2, y.2, x.4, y.4) in
+        same (omega (arith, x.2, y.2, x.4, y.4)) (x.3 ∙ ap (λ w. rest.words ++ w ∷ []) tops ∙ sym y.3)

@@ -1,0 +1,37 @@
+-- Tables of weights as words: where writing one stops, that the words have one table, and that words are too few for one.
+use Rattle.std.proofs.Common.{◌≡◌, ℕ, List, [], ◌∷◌, ◌++◌, append-nil, Option, None, Result, Ok, Err, length, ap, sym, ◌∙◌, subst, arith, length-append}
+use Rattle.constriction_backends.specs.Sink.{Writes}
+use Rattle.constriction_backends.specs.Source.{ReadsTold}
+use Rattle.constriction_backends.specs.SourceLaws.{reads_told_all}
+use Rattle.constriction_coders.specs.StoredWeights.{weights_as_words, BeginsWeights, EndsInWeights, StopsAtWord}
+
+-- words were written up to one that was refused
+pub stopped : {S E : Type 0} (gives : S → ℕ → Result (Unit {0}) E → S → Type 0) (s : S) (before : List ℕ) (word : ℕ) (after : List ℕ)
+    (reached t : S) (words : List ℕ) (found error : E) → found ≡ error → words ≡ before ++ word ∷ after → Writes gives s before reached
+    → gives reached word (Err found) t → StopsAtWord gives s words error t
+stopped gives s before word after reached t words found error same split written refused = record {
+  before = before;
+  word = word;
+  after = after;
+  split = split;
+  reached = reached;
+  written = written;
+  refused = subst (λ e. gives reached word (Err e) t) same refused;
+}
+
+-- words that begin with a table and are one are this table
+pub same-weights : (weights others rest : List ℕ) → weights_as_words weights ≡ weights_as_words others ++ rest → others ≡ weights
+same-weights weights others [] e = let tails : weights ≡ others ++ [] = cc in sym (tails ∙ append-nil others)
+same-weights weights others (w ∷ rest) e =
+    let tails : weights ≡ others ++ w ∷ rest = cc in
+    let many : length weights ≡ length others = cc in
+    absurd (omega (arith, many, ap length tails, length-append others (w ∷ rest)))
+
+-- a source that tells its words, and ended in a table, told the beginning of one
+pub short-weights : {S E : Type 0} (gives : S → Result (Option ℕ) E → S → Type 0) (tells : S → List ℕ → Type 0)
+    → ((s : S) (r : Result (Option ℕ) E) (t : S) → gives s r t → (ws : List ℕ) → tells s ws → ReadsTold tells ws r t)
+    → (s t : S) → EndsInWeights gives s (Ok None) t → (words : List ℕ) → tells s words → BeginsWeights words
+short-weights gives tells law s t ends words told =
+    let read = reads_told_all gives tells law s ends.words ends.reached ends.read words told in
+    let none = (law ends.reached (Ok None) t ends.answered read.0 read.2).0 in
+    subst BeginsWeights (sym (read.1 ∙ ap (λ ws. ends.words ++ ws) none ∙ append-nil ends.words)) ends.begins

@@ -1,0 +1,23 @@
+use Rattle.std.proofs.Common.{◌∙◌, ap, reverse, sym}
+use Rattle.std.proofs.lemmas.List.{length-reverse}
+use Rattle.constriction_coders.specs.Steps.{Content}
+use Rattle.constriction.specs.TurnLemmas.{are-equal}
+use Rattle.constriction_coders.proofs.laws.stack.there_and_back.Goals as goal
+
+pub returns-in-Ok-decode_symbols-clause-state : goal.returns-in-Ok-decode_symbols-clause-state
+returns-in-Ok-decode_symbols-clause-state g c =
+    let same = c.symbols_come_back.ensures (reverse c.args.symbols.now) c.in-Ok-decode_symbols.answers.items _ _ _ c.in-Ok.ensures.ok
+    c.in-Ok-decode_symbols.ensures.ok (c.in-Ok-decode_symbols.ensures.count ∙ sym (length-reverse c.args.symbols.now)) in
+    ap (λ (x : Content). x.state) same.1
+
+pub returns-in-Ok-decode_symbols-clause-words : goal.returns-in-Ok-decode_symbols-clause-words
+returns-in-Ok-decode_symbols-clause-words g c =
+    let same = c.symbols_come_back.ensures (reverse c.args.symbols.now) c.in-Ok-decode_symbols.answers.items _ _ _ c.in-Ok.ensures.ok
+    c.in-Ok-decode_symbols.ensures.ok (c.in-Ok-decode_symbols.ensures.count ∙ sym (length-reverse c.args.symbols.now)) in
+    ap (λ (x : Content). x.words) same.1
+
+pub returns-in-Ok-decode_symbols-clause-equal : goal.returns-in-Ok-decode_symbols-clause-equal
+returns-in-Ok-decode_symbols-clause-equal g c = λ clones.
+    let same = c.symbols_come_back.ensures (reverse c.args.symbols.now) c.in-Ok-decode_symbols.answers.items _ _ _ c.in-Ok.ensures.ok
+    c.in-Ok-decode_symbols.ensures.ok (c.in-Ok-decode_symbols.ensures.count ∙ sym (length-reverse c.args.symbols.now)) in
+    are-equal g.D.DecoderModel.stands_for g.E.EncoderModel.symbol_eq g.met.E.EncoderModel.equality_law clones _ _ same.0

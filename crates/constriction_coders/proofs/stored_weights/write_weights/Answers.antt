@@ -1,0 +1,48 @@
+use Rattle.std.proofs.Common.{◌≡◌, suc, [], ◌∷◌, List, ℕ, length, take, drop, get_or, refl, ap, sym, subst}
+use Rattle.std.proofs.Math.Seq.{split_at}
+use Rattle.std.proofs.lemmas.List.{take_more, take_all}
+use Rattle.std.proofs.lemmas.Result.{err_from_is_err_and}
+use Rattle.constriction_backends.specs.Sink.{Writes}
+use Rattle.constriction_backends.specs.SinkLaws.{writes_more, writes_told_all}
+use Rattle.constriction_coders.specs.StoredWeights.{weights_as_words}
+use Rattle.constriction_coders.proofs.StoredWeightsLemmas.{stopped}
+use Rattle.constriction_coders.proofs.stored_weights.write_weights.Goals as goal
+
+pub returns-in_err-write-clause-failed : goal.returns-in_err-write-clause-failed
+returns-in_err-write-clause-failed g c = λ error is.
+    let p = err_from_is_err_and c.from_residual.result c.from_residual.ensures.1 in
+    let same : c.in_err-write.field-0.0 ≡ error = cc (p.1, p.2) in
+    stopped g.Sink.WriteWords.write_gives c.args.sink.now [] (length c.args.weights.now) c.args.weights.now _ _ _ _ error same refl refl
+    c.in_err-write.ensures.gives
+
+pub returns-in_err-write-2-clause-failed : goal.returns-in_err-write-2-clause-failed
+returns-in_err-write-2-clause-failed g c = λ error is.
+    let p = err_from_is_err_and c.from_residual-in_err-write-2.result c.from_residual-in_err-write-2.ensures.1 in
+    let same : c.in_err-write-2.field-0.0 ≡ error = cc (p.1, p.2) in
+    let i = c.loop-weight.weight-index in
+    let weights = c.args.weights.now in
+    stopped g.Sink.WriteWords.write_gives c.args.sink.now (length weights ∷ take i weights) (get_or weights i 0) (drop (suc i) weights) _ _
+    (weights_as_words weights) _ error same (ap (λ ws. length weights ∷ ws) (split_at weights i 0 c.loop-weight-test.true))
+    c.loop-weight.invariant.so_far c.in_err-write-2.ensures.gives
+
+pub loop-weight-preserved : goal.loop-weight-preserved
+loop-weight-preserved g c =
+    let i = c.loop-weight.weight-index in
+    let weights = c.args.weights.now in
+    record {
+      goes_on = c.write-in-loop-weight.ensures.goes_on;
+      so_far =
+          subst (λ (ws : List ℕ). Writes g.Sink.WriteWords.write_gives c.args.sink.now (length weights ∷ ws)
+          c.write-in-loop-weight.new.self)
+          (sym (take_more weights i 0 c.loop-weight-test.true))
+          (writes_more g.Sink.WriteWords.write_gives c.args.sink.now (length weights ∷ take i weights) c.loop-weight.sink _ _
+          c.loop-weight.invariant.so_far c.in_ok-write-2.ensures.gives);
+    }
+
+pub returns-clause-told : goal.returns-clause-told
+returns-clause-told g c =
+    let all : take c.loop-weight.weight-index c.args.weights.now ≡ c.args.weights.now = take_all _ _ c.loop-weight-test.false in
+    writes_told_all g.Sink.WriteWords.write_gives g.Sink.WriteWords.tells_written g.met.Sink.WriteWords.writes_told c.args.sink.now
+    (weights_as_words c.args.weights.now) c.loop-weight.sink
+    (subst (λ (ws : List ℕ). Writes g.Sink.WriteWords.write_gives c.args.sink.now (length c.args.weights.now ∷ ws) c.loop-weight.sink) all
+    c.loop-weight.invariant.so_far)

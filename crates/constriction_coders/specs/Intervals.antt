@@ -1,0 +1,91 @@
+-- What a range decoder holds, and what a symbol does to it.
+use Rattle.std.specs.Prelude.{◌≡◌, ℕ, ◌+◌, ◌-◌, ◌*◌, ◌/◌, ◌^◌, ◌<◌, ◌≤◌, ◌⊎◌, List, [], Contains, Option, Some, None, Result, Ok, Err, length}
+use Rattle.constriction.specs.Coding.{InTurn}
+use Rattle.constriction.specs.declared.CoderError.{CoderError}
+use Rattle.constriction.specs.declared.CoderError.TheVariants.{Frontend, Backend}
+use Rattle.constriction.specs.Model.{RowMayBeRefused}
+use Rattle.constriction.specs.Rows.{Row}
+use Rattle.constriction_coders.specs.declared.queue.range_decoder.RangeDecodingFault.{RangeDecodingFault}
+use Rattle.constriction_coders.specs.declared.queue.range_decoder.RangeDecodingFault.TheVariants.{InvalidData, OutOfMemory}
+
+-- An interval of so many numbers, and how far the point lies above its lower end.
+pub record Interval : Type 0 where
+  pub range : ℕ
+  pub offset : ℕ
+
+abbrev pub interval : ℕ → ℕ → Interval
+interval r o = record { range = r; offset = o }
+
+-- how many numbers of the interval belong to each quantile
+abbrev pub unit_of : ℕ → Interval → ℕ
+unit_of precision i = i.range / 2 ^ precision
+
+-- the point lies in the part of the interval that belongs to these quantiles
+pub record HoldsPoint (precision left weight : ℕ) (i : Interval) : Type 0 where
+  pub from : unit_of precision i * left ≤ i.offset
+  pub to : i.offset < unit_of precision i * (left + weight)
+
+-- the point lies above all parts
+abbrev pub IsAboveAll : ℕ → Interval → Type 0
+IsAboveAll precision i = unit_of precision i * 2 ^ precision ≤ i.offset
+
+-- that part alone
+abbrev pub part_of : (precision left weight : ℕ) → Interval → Interval
+part_of precision left weight i = interval (unit_of precision i * weight) (i.offset - unit_of precision i * left)
+
+-- the word that a read answered, or 0 for one that is missing
+abbrev pub word_or_zero : Option ℕ → ℕ
+word_or_zero None = 0
+word_or_zero (Some word) = word
+
+module _ {S E : Type 0} (gives : S → Result (Option ℕ) E → S → Type 0) where
+  -- An interval of at least 2 ^ 32 numbers stays as it is. A smaller one is stretched 2 ^ 32 times, and a word that is read says where in
+  -- the point's place the point lies.
+  abbrev pub IsStretched : Interval → S → Interval → S → Type 0
+  IsStretched i from new to =
+      ((2 ^ 32 ≤ i.range) × (new ≡ i) × (to ≡ from))
+      ⊎ ((i.range < 2 ^ 32) × (answer : Option ℕ) × gives from (Ok answer) to
+      × (new ≡ interval (i.range * 2 ^ 32) (i.offset * 2 ^ 32 + word_or_zero answer)))
+
+  -- at the start the interval has all numbers of 64 bits but one, and the point is the first two words
+  abbrev pub IsStart : S → Interval → S → Type 0
+  IsStart from i to =
+      (high low : Option ℕ) × (reached : S) × gives from (Ok high) reached × gives reached (Ok low) to
+      × (i ≡ interval (2 ^ 64 - 1) (word_or_zero high * 2 ^ 32 + word_or_zero low))
+
+-- what a decoder holds, and the words that it reads
+pub record Held (S : Type 0) : Type 0 where
+  pub held : Interval
+  pub source : S
+
+abbrev pub held_of : {S : Type 0} → ℕ → ℕ → S → Held S
+held_of range offset source = record { held = interval range offset; source = source }
+
+-- The point lies in the part of the interval that belongs to one of these rows, the symbol stands for that of the row, and the part,
+-- stretched where it is small, is held next.
+pub record IsRead {Symbol S E : Type 0} (Stands : Symbol → Symbol → Type 0) (rows : List (Row Symbol))
+    (gives : S → Result (Option ℕ) E → S → Type 0) (precision : ℕ) (symbol : Symbol) (old new : Held S) : Type 0 where
+  pub row : Row Symbol
+  pub among : Contains rows row
+  pub stands : Stands row.symbol symbol
+  pub holds : HoldsPoint precision row.left row.weight old.held
+  pub next : IsStretched gives (part_of precision row.left row.weight old.held) old.source new.held new.source
+
+-- Why a symbol was not decoded: the point lies above all quantiles, or memory for the row in which it lies was refused, and nothing
+-- was read; or a read answered the error.
+abbrev pub IsReadingFault : {Symbol S E : Type 0} → (Symbol → Type 0) → List (Row Symbol) → (S → Result (Option ℕ) E → S → Type 0)
+    → (precision : ℕ) → CoderError RangeDecodingFault E → Held S → S → Type 0
+IsReadingFault MayRefuse rows gives precision (Frontend InvalidData) at left = IsAboveAll precision at.held × (left ≡ at.source)
+IsReadingFault MayRefuse rows gives precision (Frontend OutOfMemory) at left =
+    ((quantile : ℕ) × HoldsPoint precision quantile 1 at.held × RowMayBeRefused MayRefuse rows quantile) × (left ≡ at.source)
+IsReadingFault MayRefuse rows gives precision (Backend error) at left = gives at.source (Err error) left
+
+-- fewer symbols than asked for were decoded, and the next one was not; or none was, as memory for as many was refused
+pub record ReadingStops {Symbol S E : Type 0} (Stands : Symbol → Symbol → Type 0) (MayRefuse : Symbol → Type 0) (rows : List (Row Symbol))
+    (gives : S → Result (Option ℕ) E → S → Type 0) (precision count : ℕ) (error : CoderError RangeDecodingFault E) (old : Held S)
+    (held : Interval) (left : S) : Type 0 where
+  pub done : List Symbol
+  pub reached : S
+  pub led : InTurn (IsRead Stands rows gives precision) done old (record { held = held; source = reached })
+  pub why : ((length done < count) × IsReadingFault MayRefuse rows gives precision error (record { held = held; source = reached }) left)
+      ⊎ ((done ≡ []) × (error ≡ Frontend OutOfMemory) × (left ≡ reached))

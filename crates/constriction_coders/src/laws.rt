@@ -1,0 +1,21 @@
+//! What comes back, each law the contract of a function.
+
+use thiserror::Error;
+
+mod stack;
+
+pub use self::stack::{
+    coder_comes_back, compressed_comes_back, encoded_once, symbol_comes_back, symbols_come_back,
+    there_and_back,
+};
+
+/// Why a message did not come back.
+#[derive(Debug, Drop, Error)]
+pub enum MessageFault<EncodingError, DecodingError> {
+    /// A symbol was not encoded.
+    #[error("A symbol was not encoded.")]
+    Encoding(EncodingError),
+    /// A symbol was not decoded.
+    #[error("A symbol was not decoded.")]
+    Decoding(DecodingError),
+}

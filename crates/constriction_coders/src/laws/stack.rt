@@ -1,0 +1,149 @@
+//! What comes back from a stack coder, each law the contract of a function.
+
+ghost use Rattle.std.specs.Prelude.{◌≡◌, ◌≢◌, ◌++◌, ◌∷◌, [], ℕ, Some, Ok, Err, IsTrue, length, reverse, IfOk, OnOk};
+ghost use Rattle.std.specs.List.{AllZip};
+ghost use Rattle.constriction_coders.specs.Compressed.{IsCompressed, IsClosed, ClosingStops, IsOpened, OpeningStops};
+ghost use Rattle.constriction_coders.specs.Laws.{SymbolComesBack, SymbolsComeBack, EncodedOnce, EncodesThen};
+ghost use Rattle.constriction_coders.specs.Steps.{content, IsDecoded, EncodingStops, DecodingStops};
+ghost use Rattle.constriction.specs.Coding.{InTurn, StandsForEqual};
+ghost use Rattle.constriction.specs.Model.{ClonesAreEqual};
+ghost use Rattle.constriction.specs.Rows.{entry_of};
+
+use crate::laws::MessageFault;
+use crate::stack::ans_coder::AnsCoder;
+use constriction::backends::{ReadWriteError, WordStack};
+use constriction::stream::model::{DecoderModel, EncoderModel};
+use constriction::{CoderError, DefaultEncoderFrontendError};
+use std::alloc::{AllocError, Global};
+
+/// What encodes and decodes by these two models: each symbol comes back.
+pub fn symbol_comes_back<D, E, const PRECISION: usize>(decoder: &D, encoder: &E)
+where
+    D: DecoderModel<PRECISION, Probability = u32>,
+    E: EncoderModel<PRECISION, Symbol = D::Symbol, Probability = u32>,
+    requires { (s : D.Symbol) → entry_of E.symbol_eq (E.rows encoder.now) s ≡ entry_of E.symbol_eq (D.rows decoder.now) s }
+    ensures { SymbolComesBack D.stands_for E.symbol_eq (entry_of E.symbol_eq (E.rows encoder.now)) (D.rows decoder.now) PRECISION }
+{}
+
+/// So does each run of symbols.
+pub fn symbols_come_back<D, E, const PRECISION: usize>(decoder: &D, encoder: &E)
+where
+    D: DecoderModel<PRECISION, Probability = u32>,
+    E: EncoderModel<PRECISION, Symbol = D::Symbol, Probability = u32>,
+    requires { (s : D.Symbol) → entry_of E.symbol_eq (E.rows encoder.now) s ≡ entry_of E.symbol_eq (D.rows decoder.now) s }
+    ensures { SymbolsComeBack D.stands_for E.symbol_eq (entry_of E.symbol_eq (E.rows encoder.now)) (D.rows decoder.now) PRECISION }
+{}
+
+/// What encodes by this model: what a coder holds after a symbol follows from what it held before, so that the words of a message are
+/// the same whoever encoded it.
+pub fn encoded_once<E, const PRECISION: usize>(encoder: &E)
+where
+    E: EncoderModel<PRECISION, Probability = u32>,
+    ensures { EncodedOnce (entry_of E.symbol_eq (E.rows encoder.now)) PRECISION }
+{}
+
+/// Encodes the symbols and decodes as many again: they come back in reverse, with the state and the words as before.
+///
+/// What comes back stands for equal symbols: where the decoder owns its symbols it is a clone, and where a clone equals its symbol it is
+/// equal to what was encoded.
+pub fn there_and_back<Backend, D, E, const PRECISION: usize>(
+    alloc: Global,
+    coder: &mut AnsCoder<Backend>,
+    decoder: &D,
+    encoder: &E,
+    symbols: &[D::Symbol],
+) -> Result<
+    Vec<D::Symbol>,
+    MessageFault<
+        CoderError<DefaultEncoderFrontendError, Backend::WriteError>,
+        CoderError<AllocError, Backend::ReadError>,
+    >,
+>
+where
+    Backend: WordStack<u32>,
+    D: DecoderModel<PRECISION, Probability = u32>,
+    D::Symbol: Drop,
+    E: EncoderModel<PRECISION, Symbol = D::Symbol, Probability = u32>,
+    requires { (s : D.Symbol) → entry_of E.symbol_eq (E.rows encoder.now) s ≡ entry_of E.symbol_eq (D.rows decoder.now) s }
+    ensures back { IfOk result (λ answers. AllZip (StandsForEqual D.stands_for E.symbol_eq) (reverse symbols.now) answers.items) }
+    ensures equal { IfOk result (λ answers. ClonesAreEqual E.symbol_eq D.stands_for
+        → AllZip (λ symbol answer. IsTrue (E.symbol_eq answer symbol)) (reverse symbols.now) answers.items) }
+    ensures coded { IfOk result (λ answers. EncodesThen (entry_of E.symbol_eq (E.rows encoder.now)) PRECISION (reverse symbols.now)
+        (content coder.old.state (Backend.words_of coder.old.words)) (λ full. InTurn (IsDecoded D.stands_for (D.rows decoder.now) PRECISION)
+        answers.items full (content coder.new.state (Backend.words_of coder.new.words)))) }
+    ensures state { OnOk result (coder.new.state ≡ coder.old.state) }
+    ensures words { OnOk result (Backend.words_of coder.new.words ≡ Backend.words_of coder.old.words) }
+    ensures encoding { (error : _) → result ≡ Err (MessageFault.Encoding error)
+        → EncodingStops Backend.words_of (entry_of E.symbol_eq (E.rows encoder.now)) Backend.write_gives PRECISION symbols.now error
+        (content coder.old.state (Backend.words_of coder.old.words)) coder.new.state coder.new.words }
+    ensures decoding { (e : _) → result ≡ Err (MessageFault.Decoding e) → EncodesThen (entry_of E.symbol_eq (E.rows encoder.now)) PRECISION
+        (reverse symbols.now) (content coder.old.state (Backend.words_of coder.old.words)) (λ c. DecodingStops Backend.words_of D.stands_for
+        D.may_refuse (D.rows decoder.now) Backend.read_gives PRECISION (length symbols.now) e c coder.new.state coder.new.words) }
+{
+    symbols_come_back::<D, E, PRECISION>(decoder, encoder);
+    match coder.encode_symbols(symbols, encoder) {
+        Ok(()) => {}
+        Err(error) => return Err(MessageFault::Encoding(error)),
+    }
+    match coder.decode_symbols(alloc, symbols.len(), decoder) {
+        Ok(answers) => Ok(answers),
+        Err(error) => Err(MessageFault::Decoding(error)),
+    }
+}
+
+/// The words of a coder, and the coder of these words: it has the state and the words of the first.
+///
+/// Between them stand the words of a compressed message. A refusal is that of a write or of a read.
+pub fn compressed_comes_back<Backend: WordStack<u32> + Drop>(
+    coder: AnsCoder<Backend>,
+) -> Result<
+    AnsCoder<Backend>,
+    ReadWriteError<CoderError<Backend, Backend::ReadError>, Backend::WriteError>,
+>
+    ensures state { IfOk result (λ again. again.state ≡ coder.state) }
+    ensures words { IfOk result (λ again. Backend.words_of again.words ≡ Backend.words_of coder.words) }
+    ensures between { IfOk result (λ again. (between : Backend) × IsCompressed (content coder.state (Backend.words_of coder.words))
+        (Backend.words_of between) × IsClosed Backend.write_gives coder.state coder.words between
+        × IsOpened Backend.read_gives between again.state again.words) }
+    ensures unwritten { (error : _) → result ≡ Err (ReadWriteError.Write error)
+        → ClosingStops Backend.write_gives coder.state coder.words error }
+    ensures unread { (error : _) → result ≡ Err (ReadWriteError.Read (CoderError.Backend error)) → (between : Backend)
+        × IsClosed Backend.write_gives coder.state coder.words between × OpeningStops Backend.read_gives between error }
+    ensures accepted { (left : _) → result ≢ Err (ReadWriteError.Read (CoderError.Frontend left)) }
+{
+    match coder.into_compressed() {
+        Ok(words) => match AnsCoder::from_compressed(words) {
+            Ok(again) => Ok(again),
+            Err(error) => Err(ReadWriteError::Read(error)),
+        },
+        Err(error) => Err(ReadWriteError::Write(error)),
+    }
+}
+
+/// The coder of some words, and its words: they are these again.
+///
+/// Between them stands a coder. Words that end in 0 are refused, and any other refusal is that of a read or of a write.
+pub fn coder_comes_back<Backend: WordStack<u32> + Drop>(
+    words: Backend,
+) -> Result<Backend, ReadWriteError<CoderError<Backend, Backend::ReadError>, Backend::WriteError>>
+    ensures words { IfOk result (λ again. Backend.words_of again ≡ Backend.words_of words) }
+    ensures between { IfOk result (λ again. (state : ℕ) × (between : Backend)
+        × IsCompressed (content state (Backend.words_of between)) (Backend.words_of words)
+        × IsOpened Backend.read_gives words state between × IsClosed Backend.write_gives state between again) }
+    ensures refused { (left : _) → result ≡ Err (ReadWriteError.Read (CoderError.Frontend left))
+        → Backend.words_of words ≡ Backend.words_of left ++ 0 ∷ [] }
+    ensures answered { (left : _) → result ≡ Err (ReadWriteError.Read (CoderError.Frontend left))
+        → Backend.read_gives words (Ok (Some 0)) left }
+    ensures unread { (error : _) → result ≡ Err (ReadWriteError.Read (CoderError.Backend error))
+        → OpeningStops Backend.read_gives words error }
+    ensures unwritten { (error : _) → result ≡ Err (ReadWriteError.Write error) → (state : ℕ) × (between : Backend)
+        × IsOpened Backend.read_gives words state between × ClosingStops Backend.write_gives state between error }
+{
+    match AnsCoder::from_compressed(words) {
+        Ok(coder) => match coder.into_compressed() {
+            Ok(again) => Ok(again),
+            Err(error) => Err(ReadWriteError::Write(error)),
+        },
+        Err(error) => Err(ReadWriteError::Read(error)),
+    }
+}

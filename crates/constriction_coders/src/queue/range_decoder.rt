@@ -1,0 +1,171 @@
+//! A range decoder: what was encoded first is decoded first.
+
+ghost use Rattle.std.specs.Prelude.{◌≡◌, ◌+◌, ◌^◌, ◌<◌, ◌≤◌, ℕ, Some, None, Ok, Err, IfOk, IfErr, OnErr, length};
+ghost use Rattle.constriction_coders.specs.Intervals.{interval, held_of, word_or_zero, IsAboveAll, IsStart, IsRead, HoldsPoint, ReadingStops};
+ghost use Rattle.constriction.specs.Coding.{InTurn};
+ghost use Rattle.constriction.specs.Model.{RowMayBeRefused};
+
+use crate::queue::interval::{part_of, quantile_at, unit_of};
+use constriction::backends::ReadWords;
+use constriction::stream::model::DecoderModel;
+use constriction::{CoderError, Queue};
+use std::alloc::Global;
+use thiserror::Error;
+
+/// Why nothing was decoded.
+#[derive(Debug, PartialEq, Eq, Drop, Error)]
+pub enum RangeDecodingFault {
+    /// The point belongs to no quantile, so that these are no words of a range encoder for such models.
+    #[error("The compressed data is invalid.")]
+    InvalidData,
+    /// Memory for the symbol was refused.
+    #[error("Memory for the symbol was refused.")]
+    OutOfMemory,
+}
+
+/// A range decoder over words of 32 bits, in the format of the Rust crate's `DefaultRangeDecoder`.
+///
+/// It holds how many numbers its interval has, and how far the point lies above the lower end of it. What comes of a
+/// symbol depends on these alone, and not on where the interval lies, so that nothing ever wraps. The interval has at
+/// least `2^32` numbers, and the point lies in it, or just above the greatest one of all, at the start.
+#[derive(Drop)]
+pub struct RangeDecoder<Source: ReadWords<u32, Queue>> {
+    range: u64,
+    offset: u64,
+    words: Source,
+    ghost wide: { 2 ^ 32 ≤ range },
+    ghost inside: { offset ≤ range },
+}
+
+/// The next word, or 0 where there is none.
+#[inline]
+fn next_or_zero<Source: ReadWords<u32, Queue>>(
+    source: &mut Source,
+) -> Result<u32, Source::ReadError>
+    requires { Source.can_read source.old }
+    ensures goes_on { Source.can_read source.new }
+    ensures ok { IfOk result (λ word. (answer : _) × Source.read_gives source.old (Ok answer) source.new
+        × (word ≡ word_or_zero answer)) }
+    ensures small { IfOk result (λ word. word < 2 ^ 32) }
+    ensures failed { (error : _) → result ≡ Err error → Source.read_gives source.old (Err error) source.new }
+{
+    match source.read() {
+        Ok(Some(word)) => Ok(word),
+        Ok(None) => Ok(0),
+        Err(error) => Err(error),
+    }
+}
+
+impl<Source: ReadWords<u32, Queue> + Drop> RangeDecoder<Source> {
+    /// The decoder of these words. Two are read; one that is missing is 0. An error is that of a read.
+    pub fn from_compressed(words: Source) -> Result<Self, Source::ReadError>
+        requires { Source.can_read words }
+        ensures goes_on { IfOk result (λ decoder. Source.can_read decoder.words) }
+        ensures ok { IfOk result (λ decoder. IsStart Source.read_gives words (interval decoder.range decoder.offset) decoder.words) }
+        ensures failed { (error : _) → result ≡ Err error → (reached left : Source) × Source.read_gives reached (Err error) left }
+    {
+        let mut words = words;
+        let high = match next_or_zero(&mut words) {
+            Ok(word) => word as u64,
+            Err(error) => return Err(error),
+        };
+        match next_or_zero(&mut words) {
+            Ok(low) => Ok(Self {
+                range: u64::MAX,
+                offset: (high << 32) + low as u64,
+                words,
+            }),
+            Err(error) => Err(error),
+        }
+    }
+}
+
+impl<Source: ReadWords<u32, Queue>> RangeDecoder<Source> {
+    /// Decodes the next symbol. Where all were decoded, a symbol is decoded all the same, or the data is invalid.
+    ///
+    /// `InvalidData` comes only where the point lies above all quantiles, `OutOfMemory` only where the model may refuse the row
+    /// in which it lies, and the backend's error only where a read answered that. An error leaves what is held, and only a read
+    /// that failed may change the source.
+    pub fn decode_symbol<D, const PRECISION: usize>(
+        &mut self,
+        model: &D,
+    ) -> Result<D::Symbol, CoderError<RangeDecodingFault, Source::ReadError>>
+    where
+        D: DecoderModel<PRECISION, Probability = u32>,
+        D::Symbol: Drop,
+        requires { Source.can_read self.old.words }
+        ensures goes_on { Source.can_read self.new.words }
+        ensures ok { IfOk result (λ symbol. IsRead D.stands_for (D.rows model.now) Source.read_gives PRECISION symbol
+            (held_of self.old.range self.old.offset self.old.words) (held_of self.new.range self.new.offset self.new.words)) }
+        ensures inside { IfOk result (λ _. self.new.offset < self.new.range) }
+        ensures invalid { result ≡ Err (CoderError.Frontend RangeDecodingFault.InvalidData)
+            → IsAboveAll PRECISION (interval self.old.range self.old.offset) }
+        ensures memory { result ≡ Err (CoderError.Frontend RangeDecodingFault.OutOfMemory) → (quantile : ℕ)
+            × HoldsPoint PRECISION quantile 1 (interval self.old.range self.old.offset)
+            × RowMayBeRefused D.may_refuse (D.rows model.now) quantile }
+        ensures failed { (error : _) → result ≡ Err (CoderError.Backend error)
+            → Source.read_gives self.old.words (Err error) self.new.words }
+        ensures range { OnErr result (self.new.range ≡ self.old.range) }
+        ensures offset { OnErr result (self.new.offset ≡ self.old.offset) }
+        ensures source { (fault : _) → result ≡ Err (CoderError.Frontend fault) → self.new.words ≡ self.old.words }
+    {
+        let unit = unit_of::<PRECISION>(self.range);
+        let Some(quantile) = quantile_at::<PRECISION>(unit, self.offset) else {
+            return Err(CoderError::Frontend(RangeDecodingFault::InvalidData));
+        };
+        let Ok((symbol, left, weight)) = model.quantile_function(quantile) else {
+            return Err(CoderError::Frontend(RangeDecodingFault::OutOfMemory));
+        };
+        let (range, offset) = part_of::<PRECISION>(
+            self.range,
+            self.offset,
+            unit,
+            left,
+            weight.get(),
+            quantile,
+        );
+        if range >= 1 << 32 {
+            self.range = range;
+            self.offset = offset;
+            return Ok(symbol);
+        }
+        match next_or_zero(&mut self.words) {
+            Ok(word) => {
+                self.range = range << 32;
+                self.offset = (offset << 32) + word as u64;
+                Ok(symbol)
+            }
+            Err(error) => Err(CoderError::Backend(error)),
+        }
+    }
+
+    /// Decodes so many symbols, the one that was encoded first first.
+    pub fn decode_symbols<D, const PRECISION: usize>(
+        &mut self,
+        alloc: Global,
+        count: usize,
+        model: &D,
+    ) -> Result<Vec<D::Symbol>, CoderError<RangeDecodingFault, Source::ReadError>>
+    where
+        D: DecoderModel<PRECISION, Probability = u32>,
+        D::Symbol: Drop,
+        requires { Source.can_read self.old.words }
+        ensures goes_on { Source.can_read self.new.words }
+        ensures ok { IfOk result (λ symbols. InTurn (IsRead D.stands_for (D.rows model.now) Source.read_gives PRECISION) symbols.items
+            (held_of self.old.range self.old.offset self.old.words) (held_of self.new.range self.new.offset self.new.words)) }
+        ensures count { IfOk result (λ symbols. length symbols.items ≡ count) }
+        ensures err { IfErr result (λ error. ReadingStops D.stands_for D.may_refuse (D.rows model.now) Source.read_gives PRECISION count
+            error (held_of self.old.range self.old.offset self.old.words) (interval self.new.range self.new.offset) self.new.words) }
+    {
+        let Ok(mut symbols) = Vec::with_capacity(alloc, count) else {
+            return Err(CoderError::Frontend(RangeDecodingFault::OutOfMemory));
+        };
+        for done in 0..count {
+            match self.decode_symbol(model) {
+                Ok(symbol) => symbols.push_reserved(symbol),
+                Err(error) => return Err(error),
+            }
+        }
+        Ok(symbols)
+    }
+}

@@ -1,0 +1,11 @@
+//! A stack coder over any stack of words: what was encoded last is decoded first.
+
+mod ans_coder;
+mod compressed;
+mod decoding_walk;
+mod encoding_walks;
+mod runs;
+mod state;
+
+pub use self::ans_coder::AnsCoder;
+pub use self::decoding_walk::DecodeIidSymbols;

@@ -1,0 +1,152 @@
+//! A stack coder, an asymmetric numeral system: what was encoded last is decoded first.
+
+ghost use Rattle.std.specs.Prelude.{◌≡◌, ◌≢◌, ◌+◌, ◌-◌, ◌*◌, ◌%◌, ◌^◌, ◌<◌, ◌≤◌, ◌⊎◌, ℕ, [], None, Err, IfOk, OnErr};
+ghost use Rattle.constriction_coders.specs.States.{put};
+ghost use Rattle.constriction_coders.specs.Steps.{content, IsWhole, Refills, NeedsWord, IsEncoded, IsDecoded};
+ghost use Rattle.constriction.specs.Model.{RowMayBeRefused};
+ghost use Rattle.constriction.specs.Rows.{entry_of};
+
+use crate::stack::state::{is_full_for, quantile_of, with_entry, without_entry};
+use constriction::backends::WordStack;
+use constriction::backends::laws::{pop, push};
+use constriction::stream::model::{DecoderModel, EncoderModel};
+use constriction::{CoderError, DefaultEncoderFrontendError};
+use std::alloc::AllocError;
+
+/// A coder with a state of 64 bits over a stack of words of 32 bits, in the format of the Rust crate's `DefaultAnsCoder`.
+///
+/// Where the state is below `2^32` there is no word under it. A symbol costs a division to encode and a multiplication to decode,
+/// and at most one word is written or read.
+#[derive(Drop)]
+pub struct AnsCoder<Backend: WordStack<u32>> {
+    pub(crate) state: u64,
+    pub(crate) words: Backend,
+    ghost whole: { state < 2 ^ 32 → Backend.words_of words ≡ [] },
+}
+
+/// The state once it has room for a symbol of this weight: it loses a word where it has none.
+#[inline]
+fn with_room<Backend: WordStack<u32>, const PRECISION: usize>(
+    words: &mut Backend,
+    state: u64,
+    weight: u32,
+) -> Result<u64, Backend::WriteError>
+    requires positive { 0 < PRECISION }
+    requires fits { PRECISION ≤ 32 }
+    requires some { 0 < weight }
+    requires whole { IsWhole state (Backend.words_of words.old) }
+    ensures room { IfOk result (λ kept. kept < weight * 2 ^ (64 - PRECISION)) }
+    ensures whole { IfOk result (λ kept. (left : ℕ) → left + weight ≤ 2 ^ PRECISION
+        → IsWhole (put PRECISION left weight kept) (Backend.words_of words.new)) }
+    ensures ok { IfOk result (λ kept. Refills kept (Backend.words_of words.new) (content state (Backend.words_of words.old))) }
+    ensures wrote { (words.new ≡ words.old) ⊎ ((word : ℕ) × (answer : _) × Backend.write_gives words.old word answer words.new) }
+    ensures failed { (error : _) → result ≡ Err error → (word : ℕ) × Backend.write_gives words.old word (Err error) words.new }
+    ensures err { OnErr result (Backend.words_of words.new ≡ Backend.words_of words.old) }
+{
+    if !is_full_for::<PRECISION>(state, weight) {
+        return Ok(state);
+    }
+    match push(words, (state % (1 << 32)) as u32) {
+        Ok(()) => Ok(state >> 32),
+        Err(error) => Err(error),
+    }
+}
+
+/// The state that takes a word where it is below `2^32` and there is one.
+#[inline]
+fn refilled<Backend: WordStack<u32>>(
+    words: &mut Backend,
+    state: u64,
+) -> Result<u64, Backend::ReadError>
+    requires some { state ≡ 0 → Backend.words_of words.old ≡ [] }
+    ensures whole { IfOk result (λ new. IsWhole new (Backend.words_of words.new)) }
+    ensures ok { IfOk result (λ new. Refills state (Backend.words_of words.old) (content new (Backend.words_of words.new))) }
+    ensures read { (words.new ≡ words.old) ⊎ ((answer : _) × Backend.read_gives words.old answer words.new) }
+    ensures below { OnErr result (state < 2 ^ 32) }
+    ensures left { OnErr result (Backend.words_of words.old ≢ []) }
+    ensures failed { (error : _) → result ≡ Err error → Backend.read_gives words.old (Err error) words.new }
+    ensures err { OnErr result (Backend.words_of words.new ≡ Backend.words_of words.old) }
+{
+    if state >= 1 << 32 {
+        return Ok(state);
+    }
+    match pop(words) {
+        Ok(Some(word)) => Ok((state << 32) + word as u64),
+        Ok(None) => Ok(state),
+        Err(error) => Err(error),
+    }
+}
+
+impl<Backend: WordStack<u32>> AnsCoder<Backend> {
+    /// Encodes a symbol.
+    ///
+    /// `ImpossibleSymbol` comes only where the model has no entry for it, and the backend's error only where a write answered that.
+    /// An error leaves the state and the words.
+    pub fn encode_symbol<E, const PRECISION: usize>(
+        &mut self,
+        symbol: &E::Symbol,
+        model: &E,
+    ) -> Result<(), CoderError<DefaultEncoderFrontendError, Backend::WriteError>>
+    where
+        E: EncoderModel<PRECISION, Probability = u32>,
+        ensures ok { IfOk result (λ _. IsEncoded (entry_of E.symbol_eq (E.rows model.now)) PRECISION symbol.now
+            (content self.new.state (Backend.words_of self.new.words)) (content self.old.state (Backend.words_of self.old.words))) }
+        ensures impossible { (fault : _) → result ≡ Err (CoderError.Frontend fault)
+            → entry_of E.symbol_eq (E.rows model.now) symbol.now ≡ None }
+        ensures wrote { (self.new.words ≡ self.old.words)
+            ⊎ ((word : ℕ) × (answer : _) × Backend.write_gives self.old.words word answer self.new.words) }
+        ensures failed { (error : _) → result ≡ Err (CoderError.Backend error)
+            → (word : ℕ) × Backend.write_gives self.old.words word (Err error) self.new.words }
+        ensures state { OnErr result (self.new.state ≡ self.old.state) }
+        ensures words { OnErr result (Backend.words_of self.new.words ≡ Backend.words_of self.old.words) }
+    {
+        let Some((left, weight)) = model.left_cumulative_and_probability(symbol) else {
+            return Err(CoderError::Frontend(DefaultEncoderFrontendError::ImpossibleSymbol));
+        };
+        let weight = weight.get();
+        match with_room::<Backend, PRECISION>(&mut self.words, self.state, weight) {
+            Ok(kept) => {
+                self.state = with_entry::<PRECISION>(kept, left, weight);
+                Ok(())
+            }
+            Err(error) => Err(CoderError::Backend(error)),
+        }
+    }
+
+    /// Decodes the symbol that was encoded last. Where nothing was, a symbol is decoded all the same.
+    ///
+    /// Memory is refused only where the model may refuse the row of the state's quantile, and the backend's error comes only where
+    /// the state needs a word, and a read answered that. An error leaves the state and the words.
+    pub fn decode_symbol<D, const PRECISION: usize>(
+        &mut self,
+        model: &D,
+    ) -> Result<D::Symbol, CoderError<AllocError, Backend::ReadError>>
+    where
+        D: DecoderModel<PRECISION, Probability = u32>,
+        D::Symbol: Drop,
+        ensures ok { IfOk result (λ symbol. IsDecoded D.stands_for (D.rows model.now) PRECISION symbol
+            (content self.old.state (Backend.words_of self.old.words)) (content self.new.state (Backend.words_of self.new.words))) }
+        ensures memory { (fault : _) → result ≡ Err (CoderError.Frontend fault)
+            → RowMayBeRefused D.may_refuse (D.rows model.now) (self.old.state % 2 ^ PRECISION) }
+        ensures read { (self.new.words ≡ self.old.words) ⊎ ((answer : _) × Backend.read_gives self.old.words answer self.new.words) }
+        ensures failed { (error : _) → result ≡ Err (CoderError.Backend error)
+            → NeedsWord (D.rows model.now) PRECISION (content self.old.state (Backend.words_of self.old.words))
+            × Backend.read_gives self.old.words (Err error) self.new.words }
+        ensures state { OnErr result (self.new.state ≡ self.old.state) }
+        ensures words { OnErr result (Backend.words_of self.new.words ≡ Backend.words_of self.old.words) }
+    {
+        let quantile = quantile_of::<PRECISION>(self.state);
+        let (symbol, left, weight) = match model.quantile_function(quantile) {
+            Ok(row) => row,
+            Err(error) => return Err(CoderError::Frontend(error)),
+        };
+        let state = without_entry::<PRECISION>(self.state, left, weight.get());
+        match refilled(&mut self.words, state) {
+            Ok(state) => {
+                self.state = state;
+                Ok(symbol)
+            }
+            Err(error) => Err(CoderError::Backend(error)),
+        }
+    }
+}

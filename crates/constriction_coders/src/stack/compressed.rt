@@ -1,0 +1,137 @@
+//! What a coder holds as words alone, and the coder of such words.
+
+ghost use Rattle.std.specs.Prelude.{◌≡◌, ◌↔◌, ◌<◌, ◌≤◌, ◌^◌, ◌++◌, ◌∷◌, [], List, ℕ, Some, Ok, Err, IfOk, IsTrue, length, vec_capacity};
+ghost use Rattle.constriction_coders.specs.Compressed.{IsCompressed, IsClosed, ClosingStops, IsOpened, OpeningStops};
+ghost use Rattle.constriction_coders.specs.Steps.{content};
+
+use crate::stack::ans_coder::AnsCoder;
+use constriction::CoderError;
+use constriction::backends::WordStack;
+use constriction::backends::laws::{pop, push};
+use std::alloc::{AllocError, Global};
+
+impl AnsCoder<Vec<u32>> {
+    /// A coder with nothing in it. No memory is asked for.
+    pub fn new(alloc: Global) -> Self
+        ensures state { result.state ≡ 0 }
+        ensures words { result.words.items ≡ [] }
+        ensures capacity { vec_capacity result.words ≡ 0 }
+    {
+        AnsCoder {
+            state: 0,
+            words: Vec::new(alloc),
+        }
+    }
+}
+
+/// How many words a state has.
+#[inline]
+fn words_of_state(state: u64) -> usize
+    ensures none { state ≡ 0 → result ≡ 0 }
+    ensures one { 0 < state → state < 2 ^ 32 → result ≡ 1 }
+    ensures two { 2 ^ 32 ≤ state → result ≡ 2 }
+    ensures few { result ≤ 2 }
+{
+    if state == 0 {
+        0
+    } else if state < 1 << 32 {
+        1
+    } else {
+        2
+    }
+}
+
+impl<Backend: WordStack<u32>> AnsCoder<Backend> {
+    /// Whether the coder holds nothing: its state is 0, and there are no words under it.
+    pub fn is_empty(&self) -> bool
+        ensures state { IsTrue result ↔ (self.now.state ≡ 0) }
+        ensures words { IsTrue result → Backend.words_of self.now.words ≡ [] }
+    {
+        self.state == 0
+    }
+}
+
+impl<Backend: WordStack<u32> + Drop> AnsCoder<Backend> {
+    /// The words with those of the state on top, from which [`from_compressed`](Self::from_compressed) makes the coder again.
+    ///
+    /// Two words at most are written. An error is that of a write, and the words are let go.
+    pub fn into_compressed(self) -> Result<Backend, Backend::WriteError>
+        ensures ok { IfOk result (λ words. IsCompressed (content self.state (Backend.words_of self.words)) (Backend.words_of words)) }
+        ensures wrote { IfOk result (λ words. IsClosed Backend.write_gives self.state self.words words) }
+        ensures failed { (error : _) → result ≡ Err error → ClosingStops Backend.write_gives self.state self.words error }
+    {
+        let state = self.state;
+        let mut words = self.words;
+        if state == 0 {
+            return Ok(words);
+        }
+        match push(&mut words, (state % (1 << 32)) as u32) {
+            Ok(()) => {}
+            Err(error) => return Err(error),
+        }
+        if state < 1 << 32 {
+            return Ok(words);
+        }
+        match push(&mut words, (state >> 32) as u32) {
+            Ok(()) => Ok(words),
+            Err(error) => Err(error),
+        }
+    }
+
+    /// The coder of such words.
+    ///
+    /// At most two words are read, the last one first. Words that end in 0 are those of no coder: they are handed back without
+    /// that 0. Any other words are accepted, and no words are the coder that holds nothing.
+    pub fn from_compressed(words: Backend) -> Result<Self, CoderError<Backend, Backend::ReadError>>
+        ensures ok { IfOk result (λ coder. IsCompressed (content coder.state (Backend.words_of coder.words)) (Backend.words_of words)) }
+        ensures read { IfOk result (λ coder. IsOpened Backend.read_gives words coder.state coder.words) }
+        ensures refused { (left : _) → result ≡ Err (CoderError.Frontend left)
+            → Backend.words_of words ≡ Backend.words_of left ++ 0 ∷ [] }
+        ensures answered { (left : _) → result ≡ Err (CoderError.Frontend left) → Backend.read_gives words (Ok (Some 0)) left }
+        ensures failed { (error : _) → result ≡ Err (CoderError.Backend error) → OpeningStops Backend.read_gives words error }
+    {
+        let mut words = words;
+        let high = match pop(&mut words) {
+            Ok(None) => return Ok(Self { state: 0, words }),
+            Ok(Some(0)) => return Err(CoderError::Frontend(words)),
+            Ok(Some(high)) => high as u64,
+            Err(error) => return Err(CoderError::Backend(error)),
+        };
+        match pop(&mut words) {
+            Ok(None) => Ok(Self { state: high, words }),
+            Ok(Some(low)) => Ok(Self {
+                state: (high << 32) + low as u64,
+                words,
+            }),
+            Err(error) => Err(CoderError::Backend(error)),
+        }
+    }
+}
+
+impl AnsCoder<Vec<u32>> {
+    /// How many words [`get_compressed`](Self::get_compressed) gives.
+    #[tactic(auto, using(crate::proofs::Closing::counted))]
+    pub fn num_words(&self) -> usize
+        ensures { (all : List ℕ) → IsCompressed (content self.now.state self.now.words.items) all → result ≡ length all }
+    {
+        let words = self.words.as_slice();
+        words.len() + words_of_state(self.state)
+    }
+
+    /// A copy of the words with those of the state on top. The coder stays as it is.
+    ///
+    /// Memory for them is asked for once. An error is that it was refused.
+    pub fn get_compressed(&self, alloc: Global) -> Result<Vec<u32>, AllocError>
+        ensures { IfOk result (λ all. IsCompressed (content self.now.state self.now.words.items) all.items) }
+    {
+        let mut all = Vec::with_capacity(alloc, self.num_words())?;
+        all.extend_from_slice(&self.words)?;
+        if self.state > 0 {
+            all.push((self.state % (1 << 32)) as u32)?;
+        }
+        if self.state >= 1 << 32 {
+            all.push((self.state >> 32) as u32)?;
+        }
+        Ok(all)
+    }
+}

@@ -1,0 +1,115 @@
+//! Symbols that are decoded as they are asked for.
+
+ghost use Rattle.std.specs.Prelude.{◌≡◌};
+ghost use Rattle.std.specs.Iterator.{at_most, size};
+ghost use Rattle.std.specs.Iterator.SizeHint.{IsExactHint};
+ghost use Rattle.constriction_coders.specs.Walks.{walk, StepsOn};
+
+use crate::stack::ans_coder::AnsCoder;
+use constriction::CoderError;
+use constriction::backends::WordStack;
+use constriction::stream::model::DecoderModel;
+use std::alloc::AllocError;
+use std::iter::FusedIterator;
+
+/// Symbols of a coder, each of which is decoded when it is asked for.
+///
+/// It gives as many answers as were asked for and then `None`. An error stands in the place of a symbol and counts as an answer: it
+/// leaves the state and the words, and the next answer tries again. What was not asked for stays in the coder.
+#[derive(Drop)]
+pub struct DecodeIidSymbols<
+    'c,
+    'm,
+    Backend: WordStack<u32>,
+    D: DecoderModel<PRECISION, Probability = u32>,
+    const PRECISION: usize,
+> {
+    pub(crate) coder: &'c mut AnsCoder<Backend>,
+    pub(crate) model: &'m D,
+    pub(crate) left: usize,
+}
+
+impl<
+    'c,
+    'm,
+    Backend: WordStack<u32>,
+    D: DecoderModel<PRECISION, Probability = u32>,
+    const PRECISION: usize,
+> Iterator for DecodeIidSymbols<'c, 'm, Backend, D, PRECISION>
+where
+    D::Symbol: Drop,
+{
+    type Item = Result<D::Symbol, CoderError<AllocError, Backend::ReadError>>;
+
+    ghost next_gives = { λ s r t. (t.coder.ghost_name ≡ s.coder.ghost_name) × (t.model ≡ s.model)
+        × StepsOn Backend.words_of D.stands_for D.may_refuse Backend.read_gives (D.rows s.model.now) PRECISION
+        (walk s.left s.coder.now.state s.coder.now.words) r (walk t.left t.coder.now.state t.coder.now.words) };
+
+    ghost remaining = { λ s. at_most s.left };
+
+    fn next(&mut self) -> Option<Result<D::Symbol, CoderError<AllocError, Backend::ReadError>>> {
+        if self.left == 0 {
+            return None;
+        }
+        self.left -= 1;
+        Some(self.coder.decode_symbol::<D, PRECISION>(self.model))
+    }
+
+    /// How many answers are left, exactly.
+    fn size_hint(&self) -> (usize, Option<usize>)
+        ensures { IsExactHint result (size (⟦<Self as Iterator>⟧.remaining self.now)) }
+    {
+        let left = self.len();
+        (left, Some(left))
+    }
+}
+
+impl<
+    'c,
+    'm,
+    Backend: WordStack<u32>,
+    D: DecoderModel<PRECISION, Probability = u32>,
+    const PRECISION: usize,
+> ExactSizeIterator for DecodeIidSymbols<'c, 'm, Backend, D, PRECISION>
+where
+    D::Symbol: Drop,
+{
+    /// How many answers are left.
+    fn len(&self) -> usize {
+        self.left
+    }
+}
+
+impl<
+    'c,
+    'm,
+    Backend: WordStack<u32>,
+    D: DecoderModel<PRECISION, Probability = u32>,
+    const PRECISION: usize,
+> FusedIterator for DecodeIidSymbols<'c, 'm, Backend, D, PRECISION>
+where
+    D::Symbol: Drop,
+{}
+
+impl<Backend: WordStack<u32>> AnsCoder<Backend> {
+    /// The next symbols, so many of them, the one that was encoded last first. Nothing is decoded before the first is asked for.
+    pub fn decode_iid_symbols<'c, 'm, D, const PRECISION: usize>(
+        &'c mut self,
+        count: usize,
+        model: &'m D,
+    ) -> DecodeIidSymbols<'c, 'm, Backend, D, PRECISION>
+    where
+        D: DecoderModel<PRECISION, Probability = u32>,
+        D::Symbol: Drop,
+        ensures same_reference { result.coder.ghost_name ≡ self.entry.ghost_name }
+        ensures coder { result.coder.now ≡ self.old }
+        ensures model { result.model.now ≡ model.now }
+        ensures count { result.left ≡ count }
+    {
+        DecodeIidSymbols {
+            coder: self,
+            model,
+            left: count,
+        }
+    }
+}

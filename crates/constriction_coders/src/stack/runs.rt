@@ -1,0 +1,91 @@
+//! Messages of any number of symbols.
+
+ghost use Rattle.std.specs.Prelude.{◌≡◌, length, reverse, IfOk, IfErr, OnOk};
+ghost use Rattle.constriction_coders.specs.Steps.{content, IsEncoded, IsDecoded, EncodingStops, DecodingStops};
+ghost use Rattle.constriction.specs.Coding.{InTurn};
+ghost use Rattle.constriction.specs.Rows.{entry_of};
+
+use crate::stack::ans_coder::AnsCoder;
+use constriction::backends::WordStack;
+use constriction::stream::model::{DecoderModel, EncoderModel};
+use constriction::{CoderError, DefaultEncoderFrontendError};
+use std::alloc::{AllocError, Global};
+
+impl<Backend: WordStack<u32>> AnsCoder<Backend> {
+    /// Encodes the symbols, the first one first.
+    pub fn encode_symbols<E, const PRECISION: usize>(
+        &mut self,
+        symbols: &[E::Symbol],
+        model: &E,
+    ) -> Result<(), CoderError<DefaultEncoderFrontendError, Backend::WriteError>>
+    where
+        E: EncoderModel<PRECISION, Probability = u32>,
+        ensures ok { OnOk result (InTurn (IsEncoded (entry_of E.symbol_eq (E.rows model.now)) PRECISION) (reverse symbols.now)
+            (content self.new.state (Backend.words_of self.new.words)) (content self.old.state (Backend.words_of self.old.words))) }
+        ensures err { IfErr result (λ error. EncodingStops Backend.words_of (entry_of E.symbol_eq (E.rows model.now))
+            Backend.write_gives PRECISION symbols.now error (content self.old.state (Backend.words_of self.old.words))
+            self.new.state self.new.words) }
+    {
+        for symbol in symbols {
+            match self.encode_symbol(symbol, model) {
+                Ok(()) => {}
+                Err(error) => return Err(error),
+            }
+        }
+        Ok(())
+    }
+
+    /// Encodes the symbols, the last one first, so that decoding gives them in order.
+    pub fn encode_symbols_reverse<E, const PRECISION: usize>(
+        &mut self,
+        symbols: &[E::Symbol],
+        model: &E,
+    ) -> Result<(), CoderError<DefaultEncoderFrontendError, Backend::WriteError>>
+    where
+        E: EncoderModel<PRECISION, Probability = u32>,
+        ensures ok { OnOk result (InTurn (IsEncoded (entry_of E.symbol_eq (E.rows model.now)) PRECISION) symbols.now
+            (content self.new.state (Backend.words_of self.new.words)) (content self.old.state (Backend.words_of self.old.words))) }
+        ensures err { IfErr result (λ error. EncodingStops Backend.words_of (entry_of E.symbol_eq (E.rows model.now))
+            Backend.write_gives PRECISION (reverse symbols.now) error (content self.old.state (Backend.words_of self.old.words))
+            self.new.state self.new.words) }
+    {
+        let count = symbols.len();
+        for done in 0..count {
+            match self.encode_symbol(&symbols[count - 1 - done], model) {
+                Ok(()) => {}
+                Err(error) => return Err(error),
+            }
+        }
+        Ok(())
+    }
+
+    /// Decodes so many symbols, the one that was encoded last first.
+    pub fn decode_symbols<D, const PRECISION: usize>(
+        &mut self,
+        alloc: Global,
+        count: usize,
+        model: &D,
+    ) -> Result<Vec<D::Symbol>, CoderError<AllocError, Backend::ReadError>>
+    where
+        D: DecoderModel<PRECISION, Probability = u32>,
+        D::Symbol: Drop,
+        ensures ok { IfOk result (λ symbols. InTurn (IsDecoded D.stands_for (D.rows model.now) PRECISION) symbols.items
+            (content self.old.state (Backend.words_of self.old.words)) (content self.new.state (Backend.words_of self.new.words))) }
+        ensures count { IfOk result (λ symbols. length symbols.items ≡ count) }
+        ensures err { IfErr result (λ error. DecodingStops Backend.words_of D.stands_for D.may_refuse (D.rows model.now)
+            Backend.read_gives PRECISION count error (content self.old.state (Backend.words_of self.old.words))
+            self.new.state self.new.words) }
+    {
+        let mut symbols = match Vec::with_capacity(alloc, count) {
+            Ok(symbols) => symbols,
+            Err(error) => return Err(CoderError::Frontend(error)),
+        };
+        for done in 0..count {
+            match self.decode_symbol(model) {
+                Ok(symbol) => symbols.push_reserved(symbol),
+                Err(error) => return Err(error),
+            }
+        }
+        Ok(symbols)
+    }
+}

@@ -1,0 +1,267 @@
+//! Stored weights: how many weights there are, and then the weights, as words.
+
+ghost use Rattle.std.specs.Prelude.{◌≡◌, ◌≢◌, [], ◌∷◌, ◌++◌, ◌+◌, ◌*◌, ◌^◌, ◌<◌, ◌≤◌, ℕ, List, length, map, Some, None, Ok, Err, IfOk, OnOk, vec_capacity};
+ghost use Rattle.std.specs.List.{IsDistinct};
+ghost use Rattle.constriction.specs.Acceptance.{AreAccepted};
+ghost use Rattle.constriction.specs.ModelRows.{decoder_model_rows};
+ghost use Rattle.constriction.specs.Rows.{rows_of, symbols_of};
+ghost use Rattle.constriction_backends.specs.Sink.{Writes};
+ghost use Rattle.constriction_backends.specs.Source.{Reads};
+ghost use Rattle.constriction_coders.specs.StoredWeights.{weights_as_words, BeginsWeights, EndsInWeights, StaysInWeights, ReadsWeights, ReadsModel, StopsAtWord};
+
+use constriction::backends::{Cursor, ReadWords, ReadWriteError, WriteWords};
+use constriction::stream::model::{
+    IterableEntropyModel, ModelError, NonContiguousCategoricalDecoderModel,
+};
+use constriction::{CoderError, Queue};
+use std::alloc::{AllocError, Global};
+use std::convert::Infallible;
+use thiserror::Error;
+
+/// Why no model was read.
+#[derive(Debug, PartialEq, Eq, Drop, Error)]
+pub enum ReadingFault {
+    /// The words end before the weights do.
+    #[error("The words end before the weights do.")]
+    TooFewWords,
+    /// No model has these weights for these symbols.
+    #[error("No model has these weights for these symbols.")]
+    NotAccepted,
+    /// Memory for the model was refused.
+    #[error("Memory for the model was refused.")]
+    OutOfMemory,
+}
+
+/// Why no weights were written.
+#[derive(Debug, PartialEq, Eq, Drop, Error)]
+pub enum StoringFault {
+    /// The number of weights is no word.
+    #[error("There are too many weights.")]
+    TooManyWeights,
+    /// Memory for a row of the model was refused.
+    #[error("Memory for a row of the model was refused.")]
+    OutOfMemory,
+}
+
+/// A decoder of given symbols by their stored weights.
+pub type StoredModel<Symbol, const PRECISION: usize> = NonContiguousCategoricalDecoderModel<
+    Symbol,
+    u32,
+    Vec<(u32, Symbol)>,
+    PRECISION,
+>;
+
+/// The next word.
+fn next_word<Source: ReadWords<u32, Queue>>(
+    source: &mut Source,
+) -> Result<u32, CoderError<ReadingFault, Source::ReadError>>
+    requires { Source.can_read source.old }
+    ensures goes_on { Source.can_read source.new }
+    ensures ok { IfOk result (λ word. Source.read_gives source.old (Ok (Some word)) source.new) }
+    ensures too_few { result ≡ Err (CoderError.Frontend ReadingFault.TooFewWords) → Source.read_gives source.old (Ok None) source.new }
+    ensures accepted { result ≢ Err (CoderError.Frontend ReadingFault.NotAccepted) }
+    ensures memory { result ≢ Err (CoderError.Frontend ReadingFault.OutOfMemory) }
+    ensures failed { (error : _) → result ≡ Err (CoderError.Backend error) → Source.read_gives source.old (Err error) source.new }
+{
+    match source.read() {
+        Ok(Some(word)) => Ok(word),
+        Ok(None) => Err(CoderError::Frontend(ReadingFault::TooFewWords)),
+        Err(error) => Err(CoderError::Backend(error)),
+    }
+}
+
+/// Takes in a weight that was read. A full list asks for room for as many weights as it has, and for four at least.
+fn push_weight(weights: &mut Vec<u32>, weight: u32) -> Result<(), AllocError>
+    // No room was asked for but for weights that were read, for as many again, and for four.
+    requires room { vec_capacity weights.old ≤ 2 * length weights.old.items + 4 }
+    ensures items { OnOk result (weights.new.items ≡ weights.old.items ++ weight ∷ []) }
+    ensures room { OnOk result (vec_capacity weights.new ≤ 2 * length weights.new.items + 4) }
+{
+    if weights.len() == weights.capacity() {
+        weights.reserve_exact(weights.len().max(4))?;
+    }
+    weights.push_reserved(weight);
+    Ok(())
+}
+
+/// Reads stored weights, and no word after them. No memory is asked for but for weights that were read, for as many
+/// again, and for four, whatever their number is said to be.
+pub fn read_weights<Source: ReadWords<u32, Queue>>(
+    alloc: Global,
+    source: &mut Source,
+) -> Result<Vec<u32>, CoderError<ReadingFault, Source::ReadError>>
+    requires { Source.can_read source.old }
+    ensures goes_on { Source.can_read source.new }
+    ensures ok { IfOk result (λ weights. ReadsWeights Source.read_gives Source.tells_upcoming source.old weights.items source.new) }
+    ensures too_few { result ≡ Err (CoderError.Frontend ReadingFault.TooFewWords)
+        → EndsInWeights Source.read_gives source.old (Ok None) source.new }
+    ensures short { result ≡ Err (CoderError.Frontend ReadingFault.TooFewWords)
+        → (words : List ℕ) → Source.tells_upcoming source.old words → BeginsWeights words }
+    ensures memory { result ≡ Err (CoderError.Frontend ReadingFault.OutOfMemory)
+        → (words : List ℕ) × StaysInWeights words × Reads Source.read_gives source.old words source.new }
+    ensures accepted { result ≢ Err (CoderError.Frontend ReadingFault.NotAccepted) }
+    ensures failed { (error : _) → result ≡ Err (CoderError.Backend error)
+        → EndsInWeights Source.read_gives source.old (Err error) source.new }
+{
+    let count = next_word(source)?;
+    let mut weights = Vec::new(alloc);
+    for done in 0..count {
+        let weight = next_word(source)?;
+        match push_weight(&mut weights, weight) {
+            Ok(()) => {}
+            Err(_) => return Err(CoderError::Frontend(ReadingFault::OutOfMemory)),
+        }
+    }
+    Ok(weights)
+}
+
+/// Writes weights, after their number.
+pub fn write_weights<Sink: WriteWords<u32>>(
+    weights: &[u32],
+    sink: &mut Sink,
+) -> Result<(), CoderError<StoringFault, Sink::WriteError>>
+    requires { Sink.can_write sink.old }
+    ensures goes_on { Sink.can_write sink.new }
+    ensures ok { OnOk result (Writes Sink.write_gives sink.old (weights_as_words weights.now) sink.new) }
+    ensures told { OnOk result ((words : List ℕ) → Sink.tells_written sink.old words
+        → Sink.tells_written sink.new (words ++ weights_as_words weights.now)) }
+    ensures too_many { result ≡ Err (CoderError.Frontend StoringFault.TooManyWeights) → 2 ^ 32 ≤ length weights.now }
+    ensures memory { result ≢ Err (CoderError.Frontend StoringFault.OutOfMemory) }
+    ensures unwritten { (fault : _) → result ≡ Err (CoderError.Frontend fault) → sink.new ≡ sink.old }
+    ensures failed { (error : _) → result ≡ Err (CoderError.Backend error)
+        → StopsAtWord Sink.write_gives sink.old (weights_as_words weights.now) error sink.new }
+{
+    if weights.len() > u32::MAX as usize {
+        return Err(CoderError::Frontend(StoringFault::TooManyWeights));
+    }
+    sink.write(weights.len() as u32)?;
+    for weight in weights {
+        sink.write(*weight)?;
+    }
+    Ok(())
+}
+
+/// The model of these symbols and weights.
+fn model_of<Symbol: Eq + Drop, const PRECISION: usize>(
+    alloc: Global,
+    symbols: Vec<Symbol>,
+    weights: Vec<u32>,
+) -> Result<StoredModel<Symbol, PRECISION>, ReadingFault>
+    requires positive { 0 < PRECISION }
+    requires fits { PRECISION ≤ 32 }
+    ensures accepted { IfOk result (λ _. AreAccepted Symbol.eq 32 PRECISION symbols.items weights.items) }
+    ensures rows { IfOk result (λ model. decoder_model_rows model ≡ rows_of symbols.items weights.items) }
+    ensures not_accepted { result ≡ Err ReadingFault.NotAccepted → ¬ (AreAccepted Symbol.eq 32 PRECISION symbols.items weights.items) }
+    ensures whole { result ≢ Err ReadingFault.TooFewWords }
+{
+    match StoredModel::from_symbols_and_nonzero_fixed_point_probabilities(
+        alloc, symbols, weights, false,
+    ) {
+        Ok(table) => Ok(table),
+        Err(ModelError::InvalidTable) => Err(ReadingFault::NotAccepted),
+        Err(ModelError::OutOfMemory) => Err(ReadingFault::OutOfMemory),
+    }
+}
+
+/// Reads the model of these symbols, one weight a symbol, and no word after them.
+pub fn read_model<Symbol: Eq + Drop, Source: ReadWords<u32, Queue>, const PRECISION: usize>(
+    alloc: Global,
+    symbols: Vec<Symbol>,
+    source: &mut Source,
+) -> Result<StoredModel<Symbol, PRECISION>, CoderError<ReadingFault, Source::ReadError>>
+    requires positive { 0 < PRECISION }
+    requires fits { PRECISION ≤ 32 }
+    requires can_read { Source.can_read source.old }
+    ensures goes_on { Source.can_read source.new }
+    ensures ok { IfOk result (λ model. ReadsModel Source.read_gives Source.tells_upcoming Symbol.eq PRECISION symbols.items
+        source.old (decoder_model_rows model) source.new) }
+    ensures not_accepted { result ≡ Err (CoderError.Frontend ReadingFault.NotAccepted)
+        → (weights : List ℕ) × ReadsWeights Source.read_gives Source.tells_upcoming source.old weights source.new
+        × ¬ (AreAccepted Symbol.eq 32 PRECISION symbols.items weights) }
+    ensures too_few { result ≡ Err (CoderError.Frontend ReadingFault.TooFewWords)
+        → EndsInWeights Source.read_gives source.old (Ok None) source.new }
+    ensures short { result ≡ Err (CoderError.Frontend ReadingFault.TooFewWords)
+        → (words : List ℕ) → Source.tells_upcoming source.old words → BeginsWeights words }
+    ensures memory { result ≡ Err (CoderError.Frontend ReadingFault.OutOfMemory)
+        → (words : List ℕ) × StaysInWeights words × Reads Source.read_gives source.old words source.new }
+    ensures failed { (error : _) → result ≡ Err (CoderError.Backend error)
+        → EndsInWeights Source.read_gives source.old (Err error) source.new }
+{
+    let weights = read_weights(alloc, source)?;
+    match model_of(alloc, symbols, weights) {
+        Ok(table) => Ok(table),
+        Err(fault) => Err(CoderError::Frontend(fault)),
+    }
+}
+
+/// The weights of a model's rows, in order.
+fn weights_of<M, const PRECISION: usize>(alloc: Global, model: M) -> Result<Vec<u32>, AllocError>
+where
+    M: IterableEntropyModel<PRECISION, Probability = u32>,
+    M::Symbol: Drop,
+    ensures { IfOk result (λ weights. weights.items ≡ map (λ r. r.weight) (M.rows model)) }
+{
+    let mut weights = Vec::new(alloc);
+    for row in model.symbol_table() {
+        let (_symbol, _left, weight) = row?;
+        weights.push(weight.get())?;
+    }
+    Ok(weights)
+}
+
+/// Writes the weights of a model's rows, in order, after their number.
+pub fn write_model<M, Sink: WriteWords<u32>, const PRECISION: usize>(
+    alloc: Global,
+    model: M,
+    sink: &mut Sink,
+) -> Result<(), CoderError<StoringFault, Sink::WriteError>>
+where
+    M: IterableEntropyModel<PRECISION, Probability = u32>,
+    M::Symbol: Drop,
+    requires { Sink.can_write sink.old }
+    ensures goes_on { Sink.can_write sink.new }
+    ensures ok { OnOk result (Writes Sink.write_gives sink.old (weights_as_words (map (λ r. r.weight) (M.rows model))) sink.new) }
+    ensures told { OnOk result ((words : List ℕ) → Sink.tells_written sink.old words
+        → Sink.tells_written sink.new (words ++ weights_as_words (map (λ r. r.weight) (M.rows model)))) }
+    ensures too_many { result ≡ Err (CoderError.Frontend StoringFault.TooManyWeights) → 2 ^ 32 ≤ length (M.rows model) }
+    ensures unwritten { (fault : _) → result ≡ Err (CoderError.Frontend fault) → sink.new ≡ sink.old }
+    ensures failed { (error : _) → result ≡ Err (CoderError.Backend error)
+        → StopsAtWord Sink.write_gives sink.old (weights_as_words (map (λ r. r.weight) (M.rows model))) error sink.new }
+{
+    let Ok(weights) = weights_of(alloc, model) else {
+        return Err(CoderError::Frontend(StoringFault::OutOfMemory));
+    };
+    write_weights(&weights, sink)
+}
+
+/// Writes the weights of a model and reads them with the symbols of its rows: the rows come back.
+pub fn model_comes_back<M, const PRECISION: usize>(
+    alloc: Global,
+    model: M,
+    symbols: Vec<M::Symbol>,
+) -> Result<
+    StoredModel<M::Symbol, PRECISION>,
+    ReadWriteError<CoderError<ReadingFault, Infallible>, CoderError<StoringFault, AllocError>>,
+>
+where
+    M: IterableEntropyModel<PRECISION, Probability = u32>,
+    M::Symbol: Eq + Drop,
+    requires { symbols.items ≡ symbols_of (M.rows model) }
+    ensures rows { IfOk result (λ read. decoder_model_rows read ≡ M.rows model) }
+    ensures too_many { result ≡ Err (ReadWriteError.Write (CoderError.Frontend StoringFault.TooManyWeights))
+        → 2 ^ 32 ≤ length (M.rows model) }
+    ensures whole { result ≢ Err (ReadWriteError.Read (CoderError.Frontend ReadingFault.TooFewWords)) }
+    ensures accepted { result ≡ Err (ReadWriteError.Read (CoderError.Frontend ReadingFault.NotAccepted))
+        → ¬ (IsDistinct M.Symbol.eq symbols.items) }
+{
+    let mut words = Vec::new(alloc);
+    match write_model(alloc, model, &mut words) {
+        Ok(()) => {}
+        Err(error) => return Err(ReadWriteError::Write(error)),
+    }
+    let mut source = Cursor::new_at_write_beginning(words);
+    match read_model(alloc, symbols, &mut source) {
+        Ok(table) => Ok(table),
+        Err(error) => Err(ReadWriteError::Read(error)),
+    }
+}
