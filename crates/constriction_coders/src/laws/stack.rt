@@ -10,7 +10,7 @@ ghost use Rattle.constriction.specs.Model.{ClonesAreEqual};
 ghost use Rattle.constriction.specs.Rows.{entry_of};
 
 use crate::laws::MessageFault;
-use crate::stack::ans_coder::AnsCoder;
+use crate::stack::AnsCoder;
 use constriction::backends::{ReadWriteError, WordStack};
 use constriction::stream::model::{DecoderModel, EncoderModel};
 use constriction::{CoderError, DefaultEncoderFrontendError};
