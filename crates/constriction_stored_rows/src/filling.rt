@@ -108,7 +108,7 @@ pub fn entries_announced<const PRECISION: usize>(announced: usize) -> usize
 
 /// A copy of these words, in one allocation.
 #[inline]
-pub fn copied<W: Copy>(alloc: Global, words: &[W]) -> Result<Vec<W>, AllocError>
+pub fn copy_of<W: Copy>(alloc: Global, words: &[W]) -> Result<Vec<W>, AllocError>
     ensures { IfOk result (λ v. v.items ≡ words.now) }
 {
     let mut copy = Vec::with_capacity(alloc, words.len())?;
