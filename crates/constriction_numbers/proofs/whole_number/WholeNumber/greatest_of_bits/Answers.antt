@@ -1,7 +1,7 @@
 use Rattle.std.proofs.Common.{arith}
 use Rattle.std.proofs.Math.Pow.{pow_mono}
 use Rattle.constriction_numbers.proofs.Powers.{shift-greatest}
-use Rattle.constriction_numbers.proofs.whole_number.WholeNumber.greatest.Goals as goal
+use Rattle.constriction_numbers.proofs.whole_number.WholeNumber.greatest_of_bits.Goals as goal
 
 pub returns-clause-value : goal.returns-clause-value
 returns-clause-value g c =
