@@ -36,7 +36,7 @@ rows-preserved g c =
       next.1,
       begun-more g.I.Iterator.next_gives _ g.P.WholeNumber.whole g.P.WholeNumber.BITS g.row.PRECISION c.rows.cdf.items
           c.rows.rest c.rows.left (g.P.WholeNumber.whole c.rows.room) c.rows.invariant.2 c.push_reserved.new.self.items _ c.in-Some.weight
-          c.plus-left.result (g.P.WholeNumber.whole c.minus-room.result) pushed c.in-Some.ensures.steps c.greatest-room.ensures.within
+          c.plus-left.result (g.P.WholeNumber.whole c.minus-room.result) pushed c.in-Some.ensures.steps c.greatest_of_bits-room.ensures.within
           (c.leaves_none.ensures.some c.if-leaves_none.false) c.plus-left.ensures c.minus-room.ensures,
     )
 
@@ -53,31 +53,31 @@ returns-clause-invalid g c = λ e.
     c.rows.rest c.rows.left (g.P.WholeNumber.whole c.rows.room) c.rows.invariant.2 c.args.infer_last _
     c.in_default.ensures.steps (c.is_inferred_last.ensures.bad (c.finish_inferred.ensures.invalid e))
 
-pub greatest-one-requires-clause-fits : goal.greatest-one-requires-clause-fits
-greatest-one-requires-clause-fits g c = one_fits g.row.PRECISION g.P.WholeNumber.BITS c.requires.positive c.requires.fits
+pub greatest_of_bits-one-requires-clause-fits : goal.greatest_of_bits-one-requires-clause-fits
+greatest_of_bits-one-requires-clause-fits g c = one_fits g.row.PRECISION g.P.WholeNumber.BITS c.requires.positive c.requires.fits
 
-pub greatest-room-requires-clause-some : goal.greatest-room-requires-clause-some
-greatest-room-requires-clause-some g c = c.requires.positive
+pub greatest_of_bits-room-requires-clause-some : goal.greatest_of_bits-room-requires-clause-some
+greatest_of_bits-room-requires-clause-some g c = c.requires.positive
 
-pub greatest-room-requires-clause-fits : goal.greatest-room-requires-clause-fits
-greatest-room-requires-clause-fits g c = c.requires.fits
+pub greatest_of_bits-room-requires-clause-fits : goal.greatest_of_bits-room-requires-clause-fits
+greatest_of_bits-room-requires-clause-fits g c = c.requires.fits
 
 pub next-requires : goal.next-requires
 next-requires g c = c.rows.invariant.0
 
 pub leaves_none-requires-clause-one : goal.leaves_none-requires-clause-one
-leaves_none-requires-clause-one g c = one_is (g.P.WholeNumber.whole c.greatest-one.result) c.greatest-one.ensures.value
+leaves_none-requires-clause-one g c = one_is (g.P.WholeNumber.whole c.greatest_of_bits-one.result) c.greatest_of_bits-one.ensures.value
 
 pub leaves_none-requires-clause-range : goal.leaves_none-requires-clause-range
 leaves_none-requires-clause-range g c =
     room_below (g.P.WholeNumber.whole c.rows.left) (g.P.WholeNumber.whole c.rows.room) (2 ^ g.row.PRECISION) (2 ^ g.P.WholeNumber.BITS)
-    c.rows.invariant.2.rest c.greatest-room.ensures.within
+    c.rows.invariant.2.rest c.greatest_of_bits-room.ensures.within
 
 pub plus-left-requires : goal.plus-left-requires
 plus-left-requires g c =
     end_below (g.P.WholeNumber.whole c.rows.left) (g.P.WholeNumber.whole c.in-Some.weight) (g.P.WholeNumber.whole c.rows.room)
     (2 ^ g.row.PRECISION) (2 ^ g.P.WholeNumber.BITS)
-    c.rows.invariant.2.rest c.greatest-room.ensures.within (c.leaves_none.ensures.some c.if-leaves_none.false).1
+    c.rows.invariant.2.rest c.greatest_of_bits-room.ensures.within (c.leaves_none.ensures.some c.if-leaves_none.false).1
 
 pub minus-room-requires : goal.minus-room-requires
 minus-room-requires g c = (c.leaves_none.ensures.some c.if-leaves_none.false).1
@@ -87,12 +87,12 @@ rows-init g c = (
   c.requires.goes,
   c.requires.ends,
   begun-none g.I.Iterator.next_gives _ g.P.WholeNumber.whole g.P.WholeNumber.BITS g.row.PRECISION c.args.cdf.items c.least-left.result
-      (g.P.WholeNumber.whole c.greatest-room.result)
-      c.requires.empty c.least-left.ensures c.greatest-room.ensures.value,
+      (g.P.WholeNumber.whole c.greatest_of_bits-room.result)
+      c.requires.empty c.least-left.ensures c.greatest_of_bits-room.ensures.value,
 )
 
 pub is_end_of_given-requires-clause-one : goal.is_end_of_given-requires-clause-one
-is_end_of_given-requires-clause-one g c = one_is (g.P.WholeNumber.whole c.greatest-one.result) c.greatest-one.ensures.value
+is_end_of_given-requires-clause-one g c = one_is (g.P.WholeNumber.whole c.greatest_of_bits-one.result) c.greatest_of_bits-one.ensures.value
 
 pub is_end_of_given-requires-clause-none_left : goal.is_end_of_given-requires-clause-none_left
 is_end_of_given-requires-clause-none_left g c = c.leaves_none.ensures.none c.if-leaves_none.true
@@ -109,7 +109,7 @@ finish-requires-clause-fits g c = c.requires.fits
 pub is_inferred_last-requires : goal.is_inferred_last-requires
 is_inferred_last-requires g c =
     room_below (g.P.WholeNumber.whole c.rows.left) (g.P.WholeNumber.whole c.rows.room) (2 ^ g.row.PRECISION) (2 ^ g.P.WholeNumber.BITS)
-    c.rows.invariant.2.rest c.greatest-room.ensures.within
+    c.rows.invariant.2.rest c.greatest_of_bits-room.ensures.within
 
 pub finish_inferred-requires-clause-positive : goal.finish_inferred-requires-clause-positive
 finish_inferred-requires-clause-positive g c = c.requires.positive

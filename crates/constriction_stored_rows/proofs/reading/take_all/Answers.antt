@@ -12,8 +12,8 @@ rows-init g c = (
   c.requires.symbols_end,
   read-none g.Symbols.Iterator.next_gives _ g.Weights.Iterator.next_gives _ g.Stored.TakesRows.symbol_eq
       g.met.Stored.TakesRows.symmetry_law g.Stored.TakesRows.holds g.P.WholeNumber.whole g.P.WholeNumber.BITS g.row.PRECISION
-      c.args.stored.now c.least-left.result (g.P.WholeNumber.whole c.greatest-room.result) c.requires.none c.least-left.ensures
-      c.greatest-room.ensures.value,
+      c.args.stored.now c.least-left.result (g.P.WholeNumber.whole c.greatest_of_bits-room.result) c.requires.none c.least-left.ensures
+      c.greatest_of_bits-room.ensures.value,
 )
 
 pub returns-then-leaves_none-clause-ok : goal.returns-then-leaves_none-clause-ok
@@ -45,7 +45,7 @@ rows-preserved g c =
           c.rows.stored c.rows.symbols c.rows.weights c.rows.left (g.P.WholeNumber.whole c.rows.room) c.rows.invariant.4
           c.take_next.new.stored c.take_next.new.symbols c.next.new.self c.in-Some.weight c.plus-left.result
           (g.P.WholeNumber.whole c.minus-room.result) c.in-Some.ensures.steps (c.in_ok-take_next.ensures.took (refl {a = true}))
-          c.greatest-room.ensures.within (c.leaves_none.ensures.some c.if-leaves_none.false) c.plus-left.ensures
+          c.greatest_of_bits-room.ensures.within (c.leaves_none.ensures.some c.if-leaves_none.false) c.plus-left.ensures
           c.minus-room.ensures,
     )
 
@@ -57,37 +57,37 @@ pub returns-clause-invalid : goal.returns-clause-invalid
 returns-clause-invalid g c = λ e.
     c.take_inferred_last.ensures.invalid e _ _ _ c.rows.weights c.rows.invariant.4 c.in_default.ensures.steps
 
-pub greatest-one-requires-clause-fits : goal.greatest-one-requires-clause-fits
-greatest-one-requires-clause-fits g c = one_fits g.row.PRECISION g.P.WholeNumber.BITS c.requires.positive c.requires.fits
+pub greatest_of_bits-one-requires-clause-fits : goal.greatest_of_bits-one-requires-clause-fits
+greatest_of_bits-one-requires-clause-fits g c = one_fits g.row.PRECISION g.P.WholeNumber.BITS c.requires.positive c.requires.fits
 
-pub greatest-room-requires-clause-some : goal.greatest-room-requires-clause-some
-greatest-room-requires-clause-some g c = c.requires.positive
+pub greatest_of_bits-room-requires-clause-some : goal.greatest_of_bits-room-requires-clause-some
+greatest_of_bits-room-requires-clause-some g c = c.requires.positive
 
-pub greatest-room-requires-clause-fits : goal.greatest-room-requires-clause-fits
-greatest-room-requires-clause-fits g c = c.requires.fits
+pub greatest_of_bits-room-requires-clause-fits : goal.greatest_of_bits-room-requires-clause-fits
+greatest_of_bits-room-requires-clause-fits g c = c.requires.fits
 
 pub next-requires : goal.next-requires
 next-requires g c = c.rows.invariant.0
 
 pub leaves_none-requires-clause-one : goal.leaves_none-requires-clause-one
-leaves_none-requires-clause-one g c = one_is (g.P.WholeNumber.whole c.greatest-one.result) c.greatest-one.ensures.value
+leaves_none-requires-clause-one g c = one_is (g.P.WholeNumber.whole c.greatest_of_bits-one.result) c.greatest_of_bits-one.ensures.value
 
 pub leaves_none-requires-clause-range : goal.leaves_none-requires-clause-range
 leaves_none-requires-clause-range g c =
     room_below (g.P.WholeNumber.whole c.rows.left) (g.P.WholeNumber.whole c.rows.room) (2 ^ g.row.PRECISION) (2 ^ g.P.WholeNumber.BITS)
-    c.rows.invariant.4.rest c.greatest-room.ensures.within
+    c.rows.invariant.4.rest c.greatest_of_bits-room.ensures.within
 
 pub plus-left-requires : goal.plus-left-requires
 plus-left-requires g c =
     end_below (g.P.WholeNumber.whole c.rows.left) (g.P.WholeNumber.whole c.in-Some.weight) (g.P.WholeNumber.whole c.rows.room)
     (2 ^ g.row.PRECISION) (2 ^ g.P.WholeNumber.BITS)
-    c.rows.invariant.4.rest c.greatest-room.ensures.within (c.leaves_none.ensures.some c.if-leaves_none.false).1
+    c.rows.invariant.4.rest c.greatest_of_bits-room.ensures.within (c.leaves_none.ensures.some c.if-leaves_none.false).1
 
 pub minus-room-requires : goal.minus-room-requires
 minus-room-requires g c = (c.leaves_none.ensures.some c.if-leaves_none.false).1
 
 pub take_given_last-requires-clause-one : goal.take_given_last-requires-clause-one
-take_given_last-requires-clause-one g c = one_is (g.P.WholeNumber.whole c.greatest-one.result) c.greatest-one.ensures.value
+take_given_last-requires-clause-one g c = one_is (g.P.WholeNumber.whole c.greatest_of_bits-one.result) c.greatest_of_bits-one.ensures.value
 
 pub take_given_last-requires-clause-none_left : goal.take_given_last-requires-clause-none_left
 take_given_last-requires-clause-none_left g c = c.leaves_none.ensures.none c.if-leaves_none.true
@@ -108,12 +108,12 @@ pub take_next-requires-clause-goes : goal.take_next-requires-clause-goes
 take_next-requires-clause-goes g c = c.rows.invariant.2
 
 pub take_inferred_last-requires-clause-one : goal.take_inferred_last-requires-clause-one
-take_inferred_last-requires-clause-one g c = one_is (g.P.WholeNumber.whole c.greatest-one.result) c.greatest-one.ensures.value
+take_inferred_last-requires-clause-one g c = one_is (g.P.WholeNumber.whole c.greatest_of_bits-one.result) c.greatest_of_bits-one.ensures.value
 
 pub take_inferred_last-requires-clause-range : goal.take_inferred_last-requires-clause-range
 take_inferred_last-requires-clause-range g c =
     room_below (g.P.WholeNumber.whole c.rows.left) (g.P.WholeNumber.whole c.rows.room) (2 ^ g.row.PRECISION) (2 ^ g.P.WholeNumber.BITS)
-    c.rows.invariant.4.rest c.greatest-room.ensures.within
+    c.rows.invariant.4.rest c.greatest_of_bits-room.ensures.within
 
 pub take_inferred_last-requires-clause-symbols_go : goal.take_inferred_last-requires-clause-symbols_go
 take_inferred_last-requires-clause-symbols_go g c = c.rows.invariant.2
