@@ -4,14 +4,31 @@ import re
 
 # What the two sides of a kernel do, by its name in bench/src/kernels.rs, in a word for tables.
 SIDES = {"same": "the same", "repeats": "repeats refused here", "slots": "256 slots here", "search": "a search there"}
-# The parts that are told apart: the section of docs/SPEED.md, its heading, and what its kernels compare.
+# The parts that docs/SPEED.md and the plots tell apart: a heading, and what its kernels compare.
 PARTS = (
-    ("same", "The same work on both sides", ("same",)),
-    ("rule", "Other work here, by a rule: repeats are refused, or there are 256 slots", ("repeats", "slots")),
-    ("lacking", "A lookup table, which the Rust crate lacks, beside its search", ("search",)),
+    ("The same work on both sides", ("same",)),
+    ("Other work here, by a rule: repeats are refused, or there are 256 slots", ("repeats", "slots")),
+    ("A lookup table, which the Rust crate lacks, beside its search", ("search",)),
 )
 # The loop that each kernel has too, which is no row of its own.
 LOOP = "nothing but the loop"
+# What kernels do, and how their names begin: the first that fits counts.
+SUBJECTS = (
+    ("a look-up by a division", "uniform quantile"),
+    ("a look-up by a search", "(contiguous|decoder of symbols) quantile"),
+    ("a look-up by a slot for each quantile", "direct lookup.* quantile"),
+    ("a look-up by a table of slots", ".*lookup quantile|.*lookup of symbols quantile|.*slot lookup$"),
+    ("a hashed encoder, asked or made", "hashed|to_generic_encoder"),
+    ("the entry of a symbol, without a hash", ".*left_cumulative"),
+    ("a row of a symbol table", ".*symbol_table"),
+    ("a decoder of symbols made, comparing them", ".*comparing|direct lookup of symbols made"),
+    ("a decoder of symbols made, hashing them", ".*hashing"),
+    ("a decoder of symbols made, in order", ".*in order"),
+    ("a model made, without a hash", ".*made"),
+    ("a conversion, without a hash", "to_"),
+    ("a symbol, by the client or a coder", "write_quantiles|read_symbols|.*coder"),
+    ("a word, by a source or a sink", ""),
+)
 # How the kernel that is worst by a rule comes to be so.
 WHY = {"decoder of symbols made, comparing": "each symbol is compared with all before it"}
 
@@ -93,15 +110,38 @@ def part_of(saved, sides):
     return {key: [at[rows] for rows in sorted(at)] for key, at in found.items()}
 
 
-def ratios_table(saved, sides):
-    """A row a kernel: the ratio at each number of rows."""
-    head, rows = [*TIMES[:3], "Ratio, by the number of rows"], []
-    for (name, words), these in part_of(saved, sides).items():
-        said = " · ".join(f"{rows_of(it)}: {ratio_text(it)}" if it["rows"] else ratio_text(it) for it in these)
-        rows.append([name, SIDES[these[0]["sides"]], words, said])
-    if len(sides) == 1:
-        head, rows = [head[0], *head[2:]], [[row[0], *row[2:]] for row in rows]
-    return markdown(head, rows, len(head))
+def ratios_table(saved):
+    """A row a subject, part by part: how many ratios there are, which, and where the greatest is."""
+    rows = []
+    for heading, sides in PARTS:
+        of = {}
+        for it in (it for these in part_of(saved, sides).values() for it in these):
+            of.setdefault(next(subject for subject, begins in SUBJECTS if re.match(begins, it["name"])), []).append(it)
+        rows.append([f"**{heading}**", *[""] * 5])
+        for subject, these in of.items():
+            these.sort(key=ratio)
+            worst = these[-1]
+            at = f"{worst['name']}, {worst['words']}" + (f", {rows_of(worst)} rows" if worst["rows"] else "")
+            rows.append([subject, str(len(these)), *(ratio_text(it) for it in (these[0], these[len(these) // 2], worst)), at])
+    return markdown(["What", "Ratios", "Least", "Half at most", "Greatest", "Greatest at"], rows, 1)
+
+
+def look_ups_table(saved):
+    """A row a decoder's model: nanoseconds of a look-up; in brackets how long a table took to make, and after how many look-ups it pays."""
+    at = {(it["name"], it["words"], it["rows"]): it["here"] for it in saved["kernels"]}
+    sizes = sorted({rows for name, _, rows in at if name.startswith("contiguous quantile")})
+
+    def cell(name, words, rows):
+        found, search = at.get((f"{name} quantile_function", words, rows)), at.get(("contiguous quantile_function", words, rows))
+        made, plain = at.get((f"{name} made", words, rows)), at.get(("contiguous made", words, rows))
+        if not (found and made and plain and found < search):
+            return f"{found:.1f}" if found else ""
+        pays = (made - plain) * rows / (search - found)
+        return f"{found:.1f} ({(made - plain) * rows / 1000:.1f} µs, {round(pays, 2 - len(f'{pays:.0f}')):,.0f})"
+
+    found = sorted({(words, name.removesuffix(" quantile_function")) for name, words, _ in at if re.match("(?!uniform).* quantile_function$", name)})
+    rows = [[name, words, *(cell(name, words, rows) for rows in sizes)] for words, name in found]
+    return markdown(["Model", "Words", *(f"{rows:,} rows" for rows in sizes)], rows, 2)
 
 
 def wrapped(text, width=138):
@@ -173,8 +213,8 @@ def write_tables(top, file):
         recorded = json.load(it)["crate"]
     about, page = saved["machine"], f"{top}/docs/SPEED.md"
     put(page, "machine", wrapped(f"Measured on {about['date']} at commit {about['commit']}: {about['processor']}; {about['rust']}; {about['kit']}."))
-    for section, _, sides in PARTS:
-        put(page, section, ratios_table(saved, sides))
+    put(page, "ratios", ratios_table(saved))
+    put(page, "look-ups", look_ups_table(saved))
     put(f"{top}/README.md", "speed", summary(saved))
     page = f"{top}/bench/FIGURES.md"
     put(page, "kernels", markdown(TIMES, time_rows(saved["kernels"])))

@@ -45,7 +45,7 @@ def steps(low, high):
 def draw_ratios(saved):
     """The ratios in three parts, each with a scale of its own: what the sides compare is not the same in them."""
     parts = []
-    for _, heading, sides in PARTS:
+    for heading, sides in PARTS:
         of = {}
         for (name, _), these in part_of(saved, sides).items():
             of.setdefault(name, []).extend(these)
