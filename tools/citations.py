@@ -17,11 +17,6 @@ class Reading:
     def __init__(self, repository):
         self.all, self.kit, self.cited = repository, set(), {}
 
-    def is_new(self, it):
-        size = len(self.cited)
-        self.cited.setdefault(it)
-        return len(self.cited) > size
-
     def cite(self, module, name):
         """Follows a name that is imported from a module of antt."""
         found = re.match(r"Rattle\.(\w+)\.specs\.(.+)", module)
@@ -41,8 +36,9 @@ class Reading:
             self.definition(self.all.defined[key])
 
     def definition(self, it):
-        if not self.is_new(it):
+        if it in self.cited:
             return
+        self.cited[it] = True
         text = "\n".join([*it.lines, *(line for header in it.context for line in header if not line.strip().startswith("--"))])
         for head, _ in PATH.findall(text):
             own = self.all.defined.get((it.crate, it.module, head))
@@ -61,13 +57,14 @@ class Reading:
                 self.cite(*target)
 
     def type(self, it):
-        if self.is_new(it):
+        if it not in self.cited:
+            self.cited[it] = True
             self.types_in(fields_of(it), it)
 
     def types_in(self, lines, near):
-        for name in NAME_OF_TYPE.findall("\n".join(plain(line) for line in lines)):
-            if kind := self.all.type_named(name, near):
-                self.type(kind)
+        for it in (self.all.type_named(name, near) for line in lines for name in NAME_OF_TYPE.findall(plain(line))):
+            if it is not None:
+                self.type(it)
 
     def clauses(self, it, lines):
         """Follows what lines of an item cite: definitions, types, members of traits, and members at a type."""
@@ -91,8 +88,9 @@ class Reading:
                     self.member(member)
 
     def member(self, member):
-        if not self.is_new(member):
+        if member in self.cited:
             return
+        self.cited[member] = True
         self.clauses(member, member.lines)
         trait = member.owner.name
         for block in self.all.impls if member.owner.kind == "trait" else ():
@@ -166,10 +164,8 @@ def fields_of(it):
     """Returns the lines of a type without its ghost fields, and without the docs of what is left out."""
     lines, skipping = [], False
     for line in it.lines:
-        if indent_of(line) == it.depth + 4:
-            skipping = line.lstrip().startswith("ghost ")
-        if indent_of(line) <= it.depth or not skipping:
-            lines.append(line)
+        skipping = line.lstrip().startswith("ghost ") if indent_of(line) == it.depth + 4 else skipping and indent_of(line) > it.depth
+        lines += [] if skipping else [line]
     return lines
 
 

@@ -29,12 +29,10 @@ def indent_of(line):
 def taken(names, text):
     """Adds to names what a `use` of antt imports, as `Rattle.crate.specs.Rows.{Row, rows_of as made}` or `Rattle.crate.specs.Rows as rows`."""
     module, _, inner = text.partition(".{")
-    for name in inner.rstrip("}").split(",") if inner else [""]:
-        first, _, other = name.strip().partition(" as ") if inner else module.partition(" as ")
-        if inner:
-            names[other or first] = (module, first)
-        elif other:
-            names[other] = (first, None)
+    for name in inner.rstrip("}").split(",") if inner else [module]:
+        first, _, other = name.strip().partition(" as ")
+        if inner or other:
+            names[other or first] = (module, first) if inner else (first, None)
 
 
 class Definition:
@@ -42,7 +40,7 @@ class Definition:
 
     def __init__(self, crate, file, names, comment, lines, context, place, signed):
         self.crate, self.file, self.names, self.docs, self.lines, self.context, self.place = crate, file, names, comment, lines, context, place
-        self.module, self.owner, self.is_type = os.path.basename(file).removesuffix(".antt"), None, bool(signed[1])
+        self.module, self.owner = os.path.basename(file).removesuffix(".antt"), None
         self.owns = {signed[2], *(re.findall(rf"^\s+({WORD}) :", "\n".join(lines), re.M) if signed[1] == "data" else ())}
 
 
@@ -124,12 +122,11 @@ class Item:
 
 def closed(text, marks):
     """Returns a text up to where what was opened before it is closed, and from there on."""
-    depth = 1
-    for at, letter in enumerate(text):
-        depth += (letter == marks[0]) - (letter == marks[1] and text[max(at - 1, 0)] not in "-=")
-        if depth == 0:
-            return text[:at], text[at + 1 :]
-    return text, ""
+    depth, at = 1, 0
+    while depth and at < len(text):
+        depth += (text[at] == marks[0]) - (text[at] == marks[1] and text[at - 1] not in "-=")
+        at += 1
+    return text[: at - 1], text[at:]
 
 
 def plain(line):
@@ -147,11 +144,10 @@ def body_at(lines, depth):
     """Returns the line that the body of an item begins at, if it has one: at the item's depth, or after a bound that is broken over lines."""
     nested = 0
     for at, line in enumerate(lines):
-        code, is_bound = plain(line), nested == 0 and not line.lstrip().startswith(("requires", "ensures", "ghost", "where"))
+        is_bound = nested == 0 and not line.lstrip().startswith(("requires", "ensures", "ghost", "where"))
         nested += deeper(line)
-        if code.endswith(("{", "{}")) and (indent_of(line) == depth or is_bound and nested == 1):
+        if plain(line).endswith(("{", "{}")) and (indent_of(line) == depth or is_bound and nested == 1):
             return at
-    return None
 
 
 def items_of(crate, file, lines, place, depth, names, owner=None):
