@@ -1,24 +1,22 @@
 """The plots of docs/pictures that tools/bench draws from its figures."""
 import json
 import math
-import os
 
 from drawing import SMALL, WIDTH, Drawing
 from figures import PARTS, is_measured, part_of, ratio, ratio_text, rows_of
 
-# The four kinds of models: how a row is found, the kernel, and its colour.
+# Kinds of models, and ways to the row of a quantile of 24 bits: the kernel, its colour, and whether the Rust crate's line is drawn too.
 KINDS = (
-    ("dividing", "uniform quantile_function", "green"),
-    ("searching", "contiguous quantile_function", "blue"),
-    ("looking up", "direct lookup quantile_function", "orange"),
-    ("hashed", "hashed encoder left_cumulative_and_probability", "violet"),
+    ("dividing", "uniform quantile_function", "green", True),
+    ("searching", "contiguous quantile_function", "blue", True),
+    ("looking up", "direct lookup quantile_function", "orange", True),
+    ("hashed", "hashed encoder left_cumulative_and_probability", "violet", True),
 )
-# Ways to the row of a quantile of 24 bits: the kernel, and its colour.
 SLOTS = (
-    ("searching", "contiguous quantile_function", "blue"),
-    ("256 slots", "wide 256-slot lookup quantile_function", "violet"),
-    ("4,096 slots", "wide 4,096-slot lookup quantile_function", "orange"),
-    ("65,536 slots", "wide 65,536-slot lookup quantile_function", "green"),
+    ("searching", "contiguous quantile_function", "blue", True),
+    ("256 slots", "wide 256-slot lookup quantile_function", "violet", False),
+    ("4,096 slots", "wide 4,096-slot lookup quantile_function", "orange", False),
+    ("65,536 slots", "wide 65,536-slot lookup quantile_function", "green", False),
 )
 # How high a row of the ratios is, and what stands above and below the rows of a part.
 STEP, ABOVE, BELOW = 22, 58, 44
@@ -27,8 +25,13 @@ STEP, ABOVE, BELOW = 22, 58, 44
 def draw_plots(top, file):
     with open(file, encoding="utf-8") as it:
         saved = json.load(it)
-    os.makedirs(f"{top}/docs/pictures", exist_ok=True)
-    for name, drawing in (("speed-ratios", draw_ratios(saved)), ("speed-rows", draw_rows(saved)), ("speed-slots", draw_slots(saved))):
+    wide = [it for it in saved["kernels"] if it["words"] == "u32/24" and it["rows"] >= 16]
+    rows, slots = "The time of a look-up by the number of rows", "The time of a look-up over 24 bits of u32"
+    for name, drawing in (
+        ("speed-ratios", draw_ratios(saved)),
+        ("speed-rows", draw_look_ups(saved["growth"], KINDS, f"{rows}, for the four kinds of models", rows)),
+        ("speed-slots", draw_look_ups(wide, SLOTS, f"{slots} by the number of rows, by a search and by tables of slots", slots)),
+    ):
         with open(f"{top}/docs/pictures/{name}.svg", "w", encoding="utf-8") as to:
             to.write(drawing.written())
         print(f"drew docs/pictures/{name}.svg")
@@ -92,31 +95,13 @@ def draw_part(it, heading, of, left, top):
             it.dot(x(ratio(one)), y, 4.5, "orange" if ratio(one) > 1.1 else "blue", "page")
 
 
-def draw_rows(saved):
+def draw_look_ups(measured, kinds, title, heading):
+    """Draws nanoseconds by rows: a full line for each kind here, and a dashed one for the Rust crate."""
     lines = []
-    for kind, name, hue in KINDS:
-        made = sorted((it for it in saved["growth"] if it["name"] == name and is_measured(it)), key=lambda it: it["rows"])
-        for side, is_dashed in (("rust", True), ("here", False)):
-            if made:
-                lines.append((None if is_dashed else kind, hue, is_dashed, [(it["rows"], it[side]) for it in made]))
-    return plotted("The time of a look-up by the number of rows, for the four kinds of models", "The time of a look-up by the number of rows", lines)
-
-
-def draw_slots(saved):
-    """Look-ups over 24 bits of u32: a search on both sides, and tables of slots."""
-    lines = []
-    for kind, name, hue in SLOTS:
-        made = sorted((it for it in saved["kernels"] if it["name"] == name and it["words"] == "u32/24" and it["rows"] >= 16 and is_measured(it)), key=lambda it: it["rows"])
-        if not made:
-            continue
-        if kind == "searching":
-            lines.append((None, hue, True, [(it["rows"], it["rust"]) for it in made]))
-        lines.append((kind, hue, False, [(it["rows"], it["here"]) for it in made]))
-    return plotted("The time of a look-up over 24 bits of u32 by the number of rows, by a search and by tables of slots", "The time of a look-up over 24 bits of u32", lines)
-
-
-def plotted(title, heading, lines):
-    """Returns a plot of nanoseconds by rows. A line has a name, or None, a hue, whether it is dashed, and its points."""
+    for kind, name, hue, has_rust in kinds:
+        made = sorted((it for it in measured if it["name"] == name and is_measured(it)), key=lambda it: it["rows"])
+        lines += [(None, hue, True, [(it["rows"], it["rust"]) for it in made])] if made and has_rust else []
+        lines += [(kind, hue, False, [(it["rows"], it["here"]) for it in made])] if made else []
     points_of = [points for _, _, _, points in lines]
     times = [time for points in points_of for _, time in points]
     ticks = steps(min(times), max(times))
