@@ -1,7 +1,7 @@
 """What something rests on: the definitions, types and members of traits that it cites, and that these cite."""
 import re
 
-from sources import AT_TYPE, PATH, Wrong, indent_of, plain
+from sources import AT_TYPE, PATH, Definition, indent_of, plain
 
 # The crates that a caller's line lists. Of the others a caller knows what these pass on.
 LISTED = ("constriction_words", "constriction_backends", "constriction", "constriction_client", "constriction_theorem", "constriction_text")
@@ -17,6 +17,25 @@ class Reading:
     def __init__(self, repository):
         self.all, self.kit, self.cited = repository, set(), {}
 
+    def read(self, it):
+        """Takes a definition, a type or a ghost member, with what it rests on."""
+        if it in self.cited:
+            return
+        self.cited[it] = True
+        if isinstance(it, Definition):
+            text = "\n".join([*it.lines, *(line for header in it.context for line in header if not line.strip().startswith("--"))])
+            # the traits whose ghost members the file takes as an argument, by the name `Ghosts` or that of their module
+            ghosts = [module.split(".")[-1] for module, name in it.names.values() if name == "Ghosts" or name is None and ".specs.declared." in module]
+            self.follow(text, it, [self.all.traits[trait] for trait in ghosts if trait in self.all.traits])
+        elif it.owner is None:
+            self.types_in(fields_of(it), it)
+        else:
+            self.clauses(it, it.lines)
+            for block in self.all.impls if it.owner.kind == "trait" else ():
+                trait, kind = block.trait
+                if trait == it.owner.name and (trait in OF_EACH_TYPE or kind in PLAIN or kind in self.all.markers):
+                    self.members_of(block, [it.name])
+
     def cite(self, module, name):
         """Follows a name that is imported from a module of antt."""
         found = re.match(r"Rattle\.(\w+)\.specs\.(.+)", module)
@@ -28,94 +47,59 @@ class Reading:
             # one that a crate passes on stands in another
             types = [it for it in self.all.types if it.name == last and (it.crate == crate or it.is_public)]
             if types and name != "Ghosts":
-                self.type(min(types, key=lambda it: it.crate != crate))
+                self.read(min(types, key=lambda it: it.crate != crate))
         elif not rest.startswith("contracts."):
             key = (self.all.passed_on.get((crate, rest), crate), rest, name)
             if key not in self.all.defined:
-                raise Wrong(f"{name} is cited from {crate}/specs/{rest}.antt, which does not define it")
-            self.definition(self.all.defined[key])
+                raise SystemExit(f"{name} is cited from {crate}/specs/{rest}.antt, which does not define it")
+            self.read(self.all.defined[key])
 
-    def definition(self, it):
-        if it in self.cited:
-            return
-        self.cited[it] = True
-        text = "\n".join([*it.lines, *(line for header in it.context for line in header if not line.strip().startswith("--"))])
+    def follow(self, text, it, traits):
+        """Follows the names in a text of an item or a definition, its operators, and the ghost members of these traits that it names."""
+        is_definition = isinstance(it, Definition)
         for head, _ in PATH.findall(text):
-            own = self.all.defined.get((it.crate, it.module, head))
-            if own is not None:
-                self.definition(own)
+            if is_definition and (own := self.all.defined.get((it.crate, it.module, head))):
+                self.read(own)
             elif head in it.names:
                 self.cite(*it.names[head])
-        # the traits whose ghost members the file takes as an argument, by the name `Ghosts` or that of their module
-        ghosts = [module.split(".")[-1] for module, name in it.names.values() if name == "Ghosts" or name is None and ".specs.declared." in module]
-        self.members_in(text, [self.all.traits[trait] for trait in ghosts if trait in self.all.traits])
-        self.operators(text, it.names)
-
-    def operators(self, text, names):
-        for name, target in names.items():
+            elif not is_definition and head[0].isupper() and (own := self.all.type_named(head, it)):
+                self.read(own)
+        for name, target in it.names.items():
             if "◌" in name and all(part in text for part in name.split("◌") if part):
                 self.cite(*target)
-
-    def type(self, it):
-        if it not in self.cited:
-            self.cited[it] = True
-            self.types_in(fields_of(it), it)
+        words = set(re.findall(r"(?:\.|(?<![\w.]))(\w+)", text))
+        for member in (each for trait in traits for each in trait.members):
+            if member.kind == "ghost" and member.name in words and not member.is_law:
+                self.read(member)
 
     def types_in(self, lines, near):
         for it in (self.all.type_named(name, near) for line in lines for name in NAME_OF_TYPE.findall(plain(line))):
             if it is not None:
-                self.type(it)
+                self.read(it)
 
     def clauses(self, it, lines):
         """Follows what lines of an item cite: definitions, types, members of traits, and members at a type."""
         text = "\n".join(plain(line) for line in lines)
         for kind, trait, member in AT_TYPE.findall(text):
             self.member_at(kind, trait, member, it)
-        rest = AT_TYPE.sub(" ", text)
-        for head, _ in PATH.findall(rest):
-            if head in it.names:
-                self.cite(*it.names[head])
-            elif head[0].isupper() and (kind := self.all.type_named(head, it)):
-                self.type(kind)
-        self.operators(rest, it.names)
-        self.members_in(rest, self.bounds(it))
-
-    def members_in(self, text, traits):
-        """Follows the ghost members of these traits that a text names, and what they are of plain types."""
-        for name in dict.fromkeys(re.findall(r"(?:\.|(?<![\w.]))(\w+)", text)):
-            for member in (it for trait in traits for it in trait.members):
-                if (member.kind, member.name) == ("ghost", name) and not member.is_law:
-                    self.member(member)
-
-    def member(self, member):
-        if member in self.cited:
-            return
-        self.cited[member] = True
-        self.clauses(member, member.lines)
-        trait = member.owner.name
-        for block in self.all.impls if member.owner.kind == "trait" else ():
-            if block.trait[0] == trait and (trait in OF_EACH_TYPE or block.trait[1] in PLAIN or self.is_marker(block.trait[1])):
-                self.members_of(block, [member.name])
-
-    def is_marker(self, name):
-        return any(it.name == name and it.kind == "struct" and it.lines[0].endswith(f" {name};") for it in self.all.types)
+        self.follow(AT_TYPE.sub(" ", text), it, self.bounds(it))
 
     def members_of(self, block, names):
         for it in block.members:
             if it.kind == "ghost" and it.name in names:
-                self.member(it)
+                self.read(it)
 
     def member_at(self, kind, trait, member, near):
         """Follows a member of a trait at a type, to the impl that says what it is."""
         if kind == "Self" and near.owner is not None and near.owner.kind == "impl":
             kind = near.owner.trait[1]
-        base = re.match(r"(?:&(?:'\w+ )?)*(\w+)", kind)[1]
-        names, it = {base}, self.all.type_named(base, near)
-        while it is not None:
-            self.type(it)
-            names.add(it.name)
-            inner = re.search(r"=\s*(\w+)", " ".join(it.lines)) if it.kind == "type" else None
-            it = self.all.type_named(inner[1], it) if inner else None
+        names = [re.match(r"(?:&(?:'\w+ )?)*(\w+)", kind)[1]]
+        while (it := self.all.type_named(names[-1], near)) is not None:
+            self.read(it)
+            if it.kind != "type":
+                break
+            near = it
+            names.append(re.search(r"=\s*(\w+)", " ".join(it.lines))[1])
         for block in self.all.impls:
             if block.trait[0] == trait and block.trait[1] in names:
                 self.members_of(block, [member])
@@ -132,17 +116,16 @@ class Reading:
                 more += [name for each in trait.members if each.kind == "type" for name in NAME_OF_TYPE.findall(" ".join(each.lines))]
         return found
 
-    def item(self, it, only=None):
-        """Follows an item: its signature, its conditions, and of what it ensures all or the clauses with these names."""
+    def item(self, it):
+        """Follows an item: its signature, what it requires and what it ensures."""
         if it.kind in ("trait", "impl"):
             for each in it.members:
                 if is_read(self.all, it, each):
                     self.item(each)
         elif it.kind == "fn":
             self.types_in(it.signature, it)
-            for word, name, lines in it.clauses:
-                if word == "requires" or only is None or name in only:
-                    self.clauses(it, lines)
+            for _, _, lines in it.clauses:
+                self.clauses(it, lines)
             block = it.owner
             if not it.clauses and block is not None and block.kind == "impl" and block.trait[0] in self.all.traits:
                 # what the clauses of the trait's function of this name mean here

@@ -13,10 +13,6 @@ SIGNED = re.compile(rf"(?:abbrev |unfoldable )?(?:pub )?(?:(record|data) )?(?!us
 DATA = re.compile(r"(?:Type|ℕ|Bool|List|Option|Self(?:\.[A-Z]\w*)?)(?![\w.])[^≡≢≤<↔×]*")
 
 
-class Wrong(Exception):
-    """Why nothing can be printed, in words."""
-
-
 def read(path):
     with open(f"{TOP}/{path}", encoding="utf-8") as it:
         return it.read()
@@ -47,6 +43,12 @@ class Definition:
 def definitions_of(crate, file):
     """Returns the definitions of a file."""
     found, around, comment, names, lines, at = [], [], [], {}, read(file).splitlines(), 0
+
+    def goes_on(line, name):
+        own = line.strip().split(" ")
+        is_own = own[0] in (name, "unfolding") or name.startswith("◌") and name.strip("◌") in own
+        return bool(line.strip()) and (indent_of(line) > depth or indent_of(line) == depth and is_own)
+
     while at < len(lines):
         line, start, depth = lines[at], at, indent_of(lines[at])
         at += 1
@@ -64,18 +66,11 @@ def definitions_of(crate, file):
                 at += 1
             around.append((depth, tuple([*comment, *lines[start:at]])))
         elif signed := SIGNED.match(line.lstrip()):
-            while at < len(lines) and goes_on(lines[at], depth, signed[2]):
+            while at < len(lines) and goes_on(lines[at], signed[2]):
                 at += 1
             found.append(Definition(crate, file, names, comment, lines[start:at], [it[1] for it in around], start, signed))
         comment = []
     return found
-
-
-def goes_on(line, depth, name):
-    """Whether a line belongs to the definition of this name that was begun at this depth."""
-    own = line.strip().split(" ")
-    is_own = own[0] in (name, "unfolding") or name.startswith("◌") and name.strip("◌") in own
-    return bool(line.strip()) and (indent_of(line) > depth or indent_of(line) == depth and is_own)
 
 
 class Item:
@@ -104,14 +99,11 @@ class Item:
         ]
         self.signature = self.lines[: starts[0]] if self.clauses else self.lines
         self.header = " ".join(it.strip() for it in self.lines).rstrip(" {") if self.kind in ("trait", "impl") else ""
-
-    @functools.cached_property
-    def trait(self):
-        """Of an impl, the names of the trait and of the type."""
+        # of an impl the names of the trait, or None, and of the type
         text = self.header.removeprefix("impl")
         text = (closed(text[1:], "<>")[1] if text.startswith("<") else text).partition(" where ")[0].strip()
-        names = [(re.match(r"(?:&(?:'\w+ )?(?:mut )?)*(\w*)", it.strip()) or [""])[1] for it in re.split(r"\bfor (?!<)", text, maxsplit=1)]
-        return tuple(names) if len(names) == 2 else (None, names[0])
+        names = [re.match(r"(?:&(?:'\w+ )?(?:mut )?)*(\w*)", it.strip())[1] for it in re.split(r"\bfor (?!<)", text, maxsplit=1)]
+        self.trait = tuple([None, *names][-2:])
 
     @property
     def is_law(self):
@@ -198,6 +190,7 @@ class Repository:
         self.defined = {(it.crate, it.module, name): it for it in self.definitions for name in it.owns}
         self.traits = {it.name: it for it in self.items if it.kind == "trait"}
         self.types = [it for it in self.items if it.kind in ("struct", "enum", "type")]
+        self.markers = {it.name for it in self.types if it.kind == "struct" and it.lines[0].endswith(f" {it.name};")}
         self.impls = [it for it in self.items if it.kind == "impl"]
 
     def files_of(self, crate):
