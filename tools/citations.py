@@ -3,11 +3,10 @@ import re
 
 from sources import AT_TYPE, PATH, Definition, indent_of, plain
 
-# The crates that a caller's line lists. Of the others a caller knows what these pass on.
+# The crates that a caller's line of crates.txt lists. Of the others a caller knows what these pass on.
 LISTED = ("constriction_words", "constriction_backends", "constriction", "constriction_client", "constriction_theorem", "constriction_text")
-# Types of the kit of which it is printed what a member of a trait is; of all types where the trait is that of probes.
+# Types of the kit of which a member of a trait is read too. The members of probes are read of all types.
 PLAIN = ("u8", "Vec")
-OF_EACH_TYPE = ("Probe",)
 NAME_OF_TYPE = re.compile(r"\b[A-Z]\w*")
 
 
@@ -33,7 +32,7 @@ class Reading:
             self.clauses(it, it.lines)
             for block in self.all.impls if it.owner.kind == "trait" else ():
                 trait, kind = block.trait
-                if trait == it.owner.name and (trait in OF_EACH_TYPE or kind in PLAIN or kind in self.all.markers):
+                if trait == it.owner.name and (trait == "Probe" or kind in PLAIN or kind in self.all.markers):
                     self.members_of(block, [it.name])
 
     def cite(self, module, name):
@@ -138,8 +137,7 @@ class Reading:
 
 def is_proof(repository, block, member):
     """Whether a ghost member of an impl is a proof of one of its trait's laws."""
-    trait = repository.traits.get(block.trait[0])
-    known = [it for it in trait.members if it.name == member.name] if trait else []
+    known = [it for trait in [repository.traits.get(block.trait[0])] if trait for it in trait.members if it.name == member.name]
     return known[0].is_law if known else member.name.endswith("_law")
 
 

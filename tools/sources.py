@@ -7,7 +7,7 @@ TOP = os.path.dirname(os.path.dirname(os.path.realpath(__file__)))
 WORD = r"[^\W\d][\w'-]*"
 PATH = re.compile(rf"(?<![\w.'-])({WORD})((?:\.[\w'-]+)*)")
 AT_TYPE = re.compile(r"⟦<(.+?) as (\w+)(?:<[^⟧]*)?>⟧\.(\w+)")
-ITEM = re.compile(r"(pub(?:\([a-z]+\))? )?(?:unsafe )?(fn|struct|enum|trait|impl|type|const|static|ghost use|ghost|use|mod)\b ?(\w*)")
+ITEM = re.compile(r"(pub(?:\([a-z]+\))? )?(?:unsafe |const (?=fn))*(fn|struct|enum|trait|impl|type|const|static|ghost use|ghost|use|mod)\b ?(\w*)")
 SIGNED = re.compile(rf"(?:abbrev |unfoldable )?(?:pub )?(?:(record|data) )?(?!use |mod |module |open |infix|ruleset )({WORD}|◌\S*◌)(?= |$)")
 # What the type of a ghost member that is no law ends in: a family of types or a value, and not a member of a trait at arguments.
 DATA = re.compile(r"(?:Type|ℕ|Bool|List|Option|Self(?:\.[A-Z]\w*)?)(?![\w.])[^≡≢≤<↔×]*")
@@ -77,12 +77,10 @@ class Item:
     """An item of a source, or a member of a trait or an impl: what stands before its body, without attributes."""
 
     def __init__(self, crate, file, place, depth, docs, lines, names, owner=None):
-        self.crate, self.file, self.place, self.depth, self.names, self.owner = crate, file, place, depth, names, owner
+        self.crate, self.file, self.place, self.depth, self.names, self.owner, self.context = crate, file, place, depth, names, owner, []
         self.docs = [it for it in docs if it.lstrip().startswith("//")]
         match = ITEM.match(lines[0].strip()) or ["", "", "", ""]
         self.is_public, self.kind, self.name = match[1] == "pub ", match[2], match[3]
-        if self.kind in ("const", "fn") and (more := re.match(r".*?\bfn (\w+)", lines[0])):
-            self.kind, self.name = "fn", more[1]
         self.members, self.lines = [], lines
         body = body_at(lines, depth)
         if self.kind in ("trait", "impl") and body is not None:
@@ -114,11 +112,10 @@ class Item:
 
 def closed(text, marks):
     """Returns a text up to where what was opened before it is closed, and from there on."""
-    depth, at = 1, 0
-    while depth and at < len(text):
+    depth, at = 1, -1
+    while depth and (at := at + 1) < len(text):
         depth += (text[at] == marks[0]) - (text[at] == marks[1] and text[at - 1] not in "-=")
-        at += 1
-    return text[: at - 1], text[at:]
+    return text[:at], text[at + 1 :]
 
 
 def plain(line):
