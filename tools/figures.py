@@ -51,82 +51,72 @@ def rows_of(it):
 
 
 def nanoseconds(time):
-    if time <= 0:
-        return "-"
-    return f"{time:.2f}" if time < 100 else f"{time:,.0f}"
+    return "-" if time <= 0 else f"{time:.2f}" if time < 100 else f"{time:,.0f}"
 
 
-def aligned(rows):
-    """Returns rows of words as columns, of which the first three are flush left."""
-    widths = [max(len(row[column]) for row in rows) for column in range(len(rows[0]))]
-    return "\n".join("  ".join(word.ljust(width) if column < 3 else word.rjust(width) for column, (word, width) in enumerate(zip(row, widths))).rstrip() for row in rows)
+def aligned(table):
+    """Returns a table as columns, of which the first three are flush left."""
+    widths = [max(map(len, column)) for column in zip(*table)]
+    cells = ([word.ljust(width) if at < 3 else word.rjust(width) for at, (word, width) in enumerate(zip(row, widths))] for row in table)
+    return "\n".join("  ".join(row).rstrip() for row in cells)
 
 
-def markdown(head, rows, left=3):
+def markdown(table, left=3):
     """Returns a table whose first columns are flush left."""
-    rule = ["---"] * left + ["--:"] * (len(head) - left)
-    return "\n".join("| " + " | ".join(row) + " |" for row in [head, rule, *rows]).replace("<", "&lt;")
+    rule = ["---"] * left + ["--:"] * (len(table[0]) - left)
+    return "\n".join("| " + " | ".join(row) + " |" for row in [table[0], rule, *table[1:]]).replace("<", "&lt;")
 
 
-TIMES = ["Kernel", "What is compared", "Words", "Rows", "Rust, ns", "Here, ns", "Ratio"]
-MEMORY = ["Kernel", "What is compared", "Words", "Rows", "Rust, requests", "Bytes", "Here, requests", "Bytes"]
+def table_of(made, head, said):
+    """Returns a table of kernels: what each is, and what is said of it."""
+    rows = ([it["name"], SIDES[it["sides"]], it["words"], rows_of(it), *said(it)] for it in made)
+    return [["Kernel", "What is compared", "Words", "Rows", *head], *rows]
 
 
-def begun(it):
-    return [it["name"], SIDES[it["sides"]], it["words"], rows_of(it)]
+def times_of(made):
+    said = lambda it: [nanoseconds(it["rust"]), nanoseconds(it["here"]), ratio_text(it)]
+    return table_of(made, ["Rust, ns", "Here, ns", "Ratio"], said)
 
 
-def time_rows(made):
-    return [[*begun(it), nanoseconds(it["rust"]), nanoseconds(it["here"]), ratio_text(it)] for it in made]
+def memory_of(made):
+    said = lambda it: [f"{number:,}" for side in ("rust", "here") for number in (it[side][0] + it[side][1], it[side][2])]
+    return table_of(made, ["Rust, requests", "Bytes", "Here, requests", "Bytes"], said)
 
 
-def times_text(made):
-    return aligned([TIMES, *time_rows(made)])
-
-
-def memory_rows(made):
-    return [[*begun(it), *(f"{number:,}" for side in ("rust", "here") for number in (it[side][0] + it[side][1], it[side][2]))] for it in made]
-
-
-def memory_text(made):
-    return aligned([MEMORY, *memory_rows(made)])
-
-
-def growth_table(made):
+def growth_of(made):
     """A row a kernel, a column a size: here, and the ratio to the Rust crate."""
-    sizes = sorted({it["rows"] for it in made})
-    at = {(it["name"], it["rows"]): it for it in made}
-    kinds = {it["name"]: SIDES[it["sides"]] for it in made}
-    rows = [[name, kind, *(f"{nanoseconds(at[name, size]['here'])} ({ratio_text(at[name, size])})" if (name, size) in at else "" for size in sizes)] for name, kind in kinds.items()]
-    return markdown([*TIMES[:2], *(f"2^{size.bit_length() - 1}" for size in sizes)], rows, 2)
+    sizes, kinds = sorted({it["rows"] for it in made}), {it["name"]: SIDES[it["sides"]] for it in made}
+    cells = {(it["name"], it["rows"]): f"{nanoseconds(it['here'])} ({ratio_text(it)})" for it in made}
+    rows = ([name, kind, *(cells.get((name, size), "") for size in sizes)] for name, kind in kinds.items())
+    return [["Kernel", "What is compared", *(f"2^{size.bit_length() - 1}" for size in sizes)], *rows]
 
 
 def part_of(saved, sides):
-    """Returns what was measured of kernels that compare such work, at all numbers of rows, by kernel and words."""
+    """Returns what was measured of kernels that compare such work, at all numbers of rows."""
     found = {}
     for it in [*saved["kernels"], *saved["growth"]]:
         if it["sides"] in sides and it["name"] != LOOP and is_measured(it):
-            found.setdefault((it["name"], it["words"]), {}).setdefault(it["rows"], it)
-    return {key: [at[rows] for rows in sorted(at)] for key, at in found.items()}
+            found.setdefault((it["name"], it["words"], it["rows"]), it)
+    return [*found.values()]
 
 
-def ratios_table(saved):
+def ratios_of(saved):
     """A row a subject, part by part: how many ratios there are, which, and where the greatest is."""
-    rows = []
+    table = [["What", "Ratios", "Least", "Half at most", "Greatest", "Greatest at"]]
     for heading, sides in PARTS:
         of = {}
-        for it in (it for these in part_of(saved, sides).values() for it in these):
+        for it in part_of(saved, sides):
             of.setdefault(next(subject for subject, begins in SUBJECTS if re.match(begins, it["name"])), []).append(it)
-        rows.append([f"**{heading}**", *[""] * 5])
+        table.append([f"**{heading}**", *[""] * 5])
         for subject, these in of.items():
             these.sort(key=ratio)
             worst = these[-1]
             at = f"{worst['name']}, {worst['words']}" + (f", {rows_of(worst)} rows" if worst["rows"] else "")
-            rows.append([subject, str(len(these)), *(ratio_text(it) for it in (these[0], these[len(these) // 2], worst)), at])
-    return markdown(["What", "Ratios", "Least", "Half at most", "Greatest", "Greatest at"], rows, 1)
+            table.append([subject, str(len(these)), *(ratio_text(it) for it in (these[0], these[len(these) // 2], worst)), at])
+    return table
 
 
-def look_ups_table(saved):
+def look_ups_of(saved):
     """A row a decoder's model: nanoseconds of a look-up; in brackets how long a table took to make, and after how many look-ups it pays."""
     at = {(it["name"], it["words"], it["rows"]): it["here"] for it in saved["kernels"]}
     sizes = sorted({rows for name, _, rows in at if name.startswith("contiguous quantile")})
@@ -140,8 +130,8 @@ def look_ups_table(saved):
         return f"{found:.1f} ({(made - plain) * rows / 1000:.1f} µs, {round(pays, 2 - len(f'{pays:.0f}')):,.0f})"
 
     found = sorted({(words, name.removesuffix(" quantile_function")) for name, words, _ in at if re.match("(?!uniform).* quantile_function$", name)})
-    rows = [[name, words, *(cell(name, words, rows) for rows in sizes)] for words, name in found]
-    return markdown(["Model", "Words", *(f"{rows:,} rows" for rows in sizes)], rows, 2)
+    rows = ([name, words, *(cell(name, words, rows) for rows in sizes)] for words, name in found)
+    return [["Model", "Words", *(f"{rows:,} rows" for rows in sizes)], *rows]
 
 
 def wrapped(text):
@@ -151,7 +141,7 @@ def wrapped(text):
 def summary(saved):
     """Returns the lines of the README: one of each part, with its worst at any number of rows."""
     makes = {it["name"] for it in saved["memory"]}
-    of = {side: [it for these in part_of(saved, (side,)).values() for it in these] for side in SIDES}
+    of = {side: part_of(saved, (side,)) for side in SIDES}
     worst, repeats = max(of["same"], key=ratio), max(of["repeats"], key=ratio)
     slots = max((it for it in of["slots"] if it["name"] not in makes), key=ratio)
     found = sorted((it for it in of["search"] if it["name"] not in makes), key=ratio)
@@ -171,7 +161,7 @@ def sources_table(saved):
     if "crate" not in saved:
         return "Which these were was not saved with this run."
     said = "These are" if saved["crate"] == json.loads(read("cases/recorded.json"))["crate"] else "These are not all"
-    table = markdown(["Source", "sha256, the first 16 digits"], [[path, digits] for path, digits in saved["crate"].items()], 2)
+    table = markdown([["Source", "sha256, the first 16 digits"], *map(list, saved["crate"].items())], 2)
     return f"{said} those that `cases/` was recorded with.\n\n{table}"
 
 
@@ -182,12 +172,12 @@ def write_tables(file):
     about = saved["machine"]
     sections = {
         "machine": wrapped(f"Measured on {about['date']} at commit {about['commit']}: {about['processor']}; {about['rust']}; {about['kit']}."),
-        "ratios": ratios_table(saved),
-        "look-ups": look_ups_table(saved),
+        "ratios": markdown(ratios_of(saved), 1),
+        "look-ups": markdown(look_ups_of(saved), 2),
         "speed": summary(saved),
-        "kernels": markdown(TIMES, time_rows(saved["kernels"])),
-        "growth": growth_table(saved["growth"]),
-        "memory": markdown(MEMORY, memory_rows(saved["memory"])),
+        "kernels": markdown(times_of(saved["kernels"])),
+        "growth": markdown(growth_of(saved["growth"]), 2),
+        "memory": markdown(memory_of(saved["memory"])),
         "sources": sources_table(saved),
     }
     for page in ("README.md", "docs/SPEED.md", "bench/FIGURES.md"):

@@ -50,8 +50,8 @@ def draw_ratios(saved):
     parts = []
     for heading, sides in PARTS:
         of = {}
-        for (name, _), these in part_of(saved, sides).items():
-            of.setdefault(name, []).extend(these)
+        for one in part_of(saved, sides):
+            of.setdefault(one["name"], []).append(one)
         if of:
             parts.append((heading, of))
     left = 36 + 6.2 * max(len(name) for _, of in parts for name in of)
