@@ -13,11 +13,14 @@ SLOTTED = {"u8/6": [*range(7)], "u16/12": [*range(13)], "u32/24": [8, 12, 16], "
 BITS = {"u8": 8, "u16": 16, "u32": 32, "u64": 64, "usize": 64, "u128": 128}
 CALLS = "sr qr w w sn qn sl sx qx fu po k k".split()
 STACK_CALLS = "sr sr w w x sn sx me mf po k".split()
-WEIGHTS = "table infer quantile symbol size sizei gendec gendist genenc probe ends".split()
-LOOKUPS = "look looki looktable looktablei tolook intotable lprobe lends".split()
-SYMBOLS = """dec deci dectable dectablei decsize decsizei enc enci encsize encsizei encof encofsize tagenc
-    hashed hashedi sorted sortedi distinct distincti dprobe dends""".split()
-SYMBOL_LOOKUPS = "nlook nlooki nlooktable nlooktablei nprobe nends chain ask".split()
+# Kinds of lines about models, and what each has: i, one weight is inferred; S, symbols; q, a quantile; n or s, a number or a symbol that is
+# looked up; e, the ends that a walk takes; c, steps of a chain; a, steps and queries.
+MODELS = "table infer:i quantile:q symbol:n size sizei:i gendec gendist genenc:n probe:q ends:e"
+SYMBOLS = """dec:Sq deci:Siq dectable:S dectablei:Si decsize:S decsizei:Si enc:Ss enci:Sis encsize:S encsizei:Si encof:Ss encofsize:S tagenc:Ss
+    hashed:S hashedi:Si sorted:S sortedi:Si distinct:S distincti:Si dprobe:Sq dends:Se"""
+LOOKUPS = """look:q looki:iq looktable looktablei:i tolook:q intotable lprobe:q lends:e
+    nlook:Sq nlooki:Siq nlooktable:S nlooktablei:Si nprobe:Sq nends:Se chain:Sc ask:Sa"""
+SLOTS = "slot:q slottable sprobe:q nslot:Sq nslottable:S"
 LAST_64, LAST_128 = (1 << 64) - 1, (1 << 128) - 1
 
 
@@ -125,16 +128,34 @@ class Maker(random.Random):
     def steps(self, most):
         return "".join(self.choice("SLIR") for _ in range(self.randrange(most))) or "-"
 
-    def of_weights(self, kind, form, most=40):
-        weights = self.weights(form, kind in ("infer", "sizei", "looki", "looktablei"), most)
-        argument = []
-        if kind in ("quantile", "look", "looki", "tolook", "probe", "lprobe"):
-            argument = [self.quantile(form, weights)]
-        elif kind in ("symbol", "genenc"):
-            argument = [self.choice([self.randrange(len(weights) + 2), 65537, LAST_64])]
-        elif kind in ("ends", "lends"):
-            argument = [self.letters(len(weights))]
-        return [kind, form, *argument, *weights]
+    def query(self, form, weights, symbols):
+        if self.one_in(2):
+            return f"q{min(self.quantile(form, weights), words_of(form) - 1)}"
+        return f"s{self.choice([*symbols, self.randrange(1 << 64)])}"
+
+    def of_models(self, kinds, form, most):
+        """Returns a line of each kind of model at a form; a form has a number of slots too where the kinds take one."""
+        return [self.of_model(*kind.partition(":")[::2], form, most) for kind in kinds.split()]
+
+    def of_model(self, kind, fields, form, most):
+        shape = form.partition(" ")[0]
+        weights, symbols = self.weights(shape, "i" in fields, most), []
+        if "S" in fields:
+            symbols = self.symbols(len(weights) + ("i" in fields))
+            if kind.startswith("sorted") and not self.one_in(4):
+                symbols.sort()
+            if kind.startswith("distinct"):
+                symbols = list(dict.fromkeys(symbols))
+        made = {
+            "q": lambda: [self.quantile(shape, weights)],
+            "n": lambda: [self.choice([self.randrange(len(weights) + 2), 65537, LAST_64])],
+            "s": lambda: [self.choice([*symbols, self.randrange(1 << 64)])],
+            "e": lambda: [self.letters(len(weights))],
+            "c": lambda: [self.steps(6)],
+            "a": lambda: [self.steps(4), ",".join(self.query(shape, weights, symbols) for _ in range(self.randint(1, 8)))],
+        }
+        argument = [it for field in fields if field in made for it in made[field]()]
+        return [kind, form, *argument, *([len(symbols), *symbols] if "S" in fields else []), *weights]
 
     def of_uniform(self, kind, form):
         total = total_of(form)
@@ -149,38 +170,6 @@ class Maker(random.Random):
             near = [0, max(0, count - 1), count, count + 1, count + 65536, LAST_64, self.randrange(1 << 64)]
             return [kind, form, count, min(self.choice(near), LAST_64)]
         return [kind, form, count]
-
-    def of_symbols(self, kind, form, most=24):
-        infer = kind.endswith("i")
-        weights = self.weights(form, infer, most)
-        symbols, base, argument = self.symbols(len(weights) + infer), kind.removesuffix("i"), []
-        if base == "sorted" and not self.one_in(4):
-            symbols = sorted(symbols)
-        if base == "distinct":
-            symbols = list(dict.fromkeys(symbols))
-        if base in ("dec", "nlook", "dprobe", "nprobe"):
-            argument = [self.quantile(form, weights)]
-        elif base in ("enc", "encof", "tagenc"):
-            argument = [self.choice([*symbols, self.randrange(1 << 64)])]
-        elif base in ("dends", "nends"):
-            argument = [self.letters(len(weights))]
-        elif base == "chain":
-            argument = [self.steps(6)]
-        elif base == "ask":
-            argument = [self.steps(4), ",".join(self.query(form, weights, symbols) for _ in range(self.randint(1, 8)))]
-        return [kind, form, *argument, len(symbols), *symbols, *weights]
-
-    def query(self, form, weights, symbols):
-        if self.one_in(2):
-            return f"q{min(self.quantile(form, weights), words_of(form) - 1)}"
-        return f"s{self.choice([*symbols, self.randrange(1 << 64)])}"
-
-    def of_slots(self, kind):
-        form = self.choice([*SLOTTED])
-        bits, weights = self.choice(SLOTTED[form]), self.weights(form, False, 120)
-        argument = [] if kind.endswith("table") else [self.quantile(form, weights)]
-        symbols = [self.symbols(len(weights))] if kind.startswith("n") else []
-        return [kind, form, bits, *argument, *(it for field in symbols for it in (len(field), *field)), *weights]
 
     def of_items(self, kind, form):
         weights, items = self.weights(form, False, 12), []
@@ -245,15 +234,15 @@ def fresh(seed, rounds):
     models, symbols, lookups, backends, items = [], [], [], [], []
     for _ in range(rounds):
         for form in SEARCHING:
-            models += [make.of_weights(kind, form) for kind in WEIGHTS]
-            symbols += [make.of_symbols(kind, form) for kind in SYMBOLS]
+            models += make.of_models(MODELS, form, 40)
+            symbols += make.of_models(SYMBOLS, form, 24)
             items += [make.of_items(kind, form) for kind in ("wq", "rs")]
         for form in UNIFORM:
             models += [make.of_uniform(kind, form) for kind in ("uniform", "uquant", "usym", "uends")]
         for form in LOOKUP:
-            lookups += [make.of_weights(kind, form, 90) for kind in LOOKUPS]
-            lookups += [make.of_symbols(kind, form) for kind in SYMBOL_LOOKUPS]
-        lookups += [make.of_slots(kind) for kind in ("slot", "slottable", "sprobe", "nslot", "nslottable") for _ in range(40)]
+            lookups += make.of_models(LOOKUPS, form, 60)
+        for form in (make.choice([*SLOTTED]) for _ in range(40)):
+            lookups += make.of_models(SLOTS, f"{form} {make.choice(SLOTTED[form])}", 120)
         for width in (8, 32, 64):
             for of, count, kinds in (
                 (make.of_cursor, 6, "cursor reversed inner turned extend rextend"),
