@@ -7,7 +7,8 @@ import shutil
 import subprocess
 import sys
 
-TOP = os.path.dirname(os.path.dirname(os.path.realpath(__file__)))
+from sources import TOP
+
 TARGET = f"{TOP}/bench/target"
 
 
@@ -57,7 +58,7 @@ def is_unfetched(said):
     return not re.search(r"^ *Compiling ", said, re.M) and bool(re.search(r"offline|registry|index|resolve host|download", said))
 
 
-def built(package, program, folder, stop):
+def built(package, program, folder, stop, env=None):
     """Builds a package of bench/ over the crate in a folder, or over the registry's, and returns the path of its program.
 
     What the crate in a folder needs is fetched only where cargo does not have it.
@@ -67,7 +68,7 @@ def built(package, program, folder, stop):
     check(folder, stop)
     words = ["cargo", "build", "--release", "--manifest-path", f"{TOP}/bench/{package}/Cargo.toml", "--target-dir", TARGET]
     words += patches(folder) if folder else []
-    how = {"stdout": subprocess.PIPE, "stderr": subprocess.STDOUT, "text": True}
+    how = {"stdout": subprocess.PIPE, "stderr": subprocess.STDOUT, "text": True, "env": env}
     ran = subprocess.run([*words, "--offline"] if folder else words, **how)
     if folder and ran.returncode and is_unfetched(ran.stdout):
         ran = subprocess.run(words, **how)
