@@ -45,6 +45,11 @@ def steps(low, high):
     return [it for it in found if first <= it <= last]
 
 
+def scale(ticks, first, last):
+    """Returns where a number stands on a logarithmic scale from the first tick to the last one."""
+    return lambda value: first + (last - first) * math.log(value / ticks[0]) / math.log(ticks[-1] / ticks[0])
+
+
 def draw_ratios(saved):
     """The ratios in three parts, each with a scale of its own: what the sides compare is not the same in them."""
     parts = []
@@ -73,10 +78,7 @@ def draw_part(it, heading, of, left, top):
     all_ratios = [ratio(one) for these in of.values() for one in these]
     ticks = steps(min(all_ratios), max(all_ratios))
     right, bottom = WIDTH - 32 - 6.5 * max(map(len, labels.values()), default=0), top + STEP * len(of)
-
-    def x(value):
-        return left + (right - left) * math.log(value / ticks[0]) / math.log(ticks[-1] / ticks[0])
-
+    x = scale(ticks, left, right)
     it.line(24, top - ABOVE + 6, WIDTH - 24, top - ABOVE + 6, "edge")
     it.text(24, top - 28, heading, bold=True)
     # with little room only the powers of ten have a number
@@ -111,13 +113,7 @@ def draw_look_ups(measured, kinds, title, heading):
     it.text(24, 32, heading, bold=True, size=14)
     it.text(24, 52, "Full lines are this library, dashed lines the Rust crate. Both scales are logarithmic.", "faint", SMALL)
     it.text(left - 10, top - 18, "ns", "faint", SMALL, at="end")
-
-    def x(rows):
-        return left + (right - left) * (math.log2(rows) - bits[0]) / (bits[-1] - bits[0])
-
-    def y(value):
-        return bottom - (bottom - top) * math.log(value / ticks[0]) / math.log(ticks[-1] / ticks[0])
-
+    x, y = scale([2 ** bits[0], 2 ** bits[-1]], left, right), scale(ticks, bottom, top)
     for tick in ticks:
         it.line(left, y(tick), right, y(tick), "edge")
         it.text(left - 10, y(tick) + 4, f"{tick:,g}", "faint", SMALL, at="end")
