@@ -24,9 +24,7 @@ COLOURS = {
     "pale-green": ("#cdeccd", "#1f4d2b"),
     "pale-violet": ("#e4d8f5", "#45316b"),
 }
-HUES = ("blue", "orange", "green", "violet")
 FONT = "system-ui, 'Segoe UI', Helvetica, Arial, 'DejaVu Sans', sans-serif"
-MONO = "ui-monospace, Menlo, Consolas, 'DejaVu Sans Mono', monospace"
 
 
 def rules(of):
@@ -42,38 +40,27 @@ class Drawing:
         self.parts = []
         self.box(0.5, 0.5, width - 1, height - 1, "page", "edge", corner=8)
 
-    def add(self, part):
-        self.parts.append(part)
-
-    def box(self, x, y, width, height, fill, line=None, corner=0, dashed=False, thick=1):
-        """Draws a box; where `fill` is None it is only an outline."""
-        line = f" line-{line}" if line else ""
-        dashes = ' stroke-dasharray="4 3"' if dashed else ""
-        if fill is None:
-            fill, dashes = "none", f'{dashes} fill="none"'
-        self.add(
-            f'<rect class="fill-{fill}{line}" x="{x:g}" y="{y:g}" width="{width:g}" height="{height:g}" rx="{corner:g}" '
-            f'stroke-width="{thick:g}"{dashes}/>'
+    def box(self, x, y, width, height, fill, line, corner=0):
+        self.parts.append(
+            f'<rect class="fill-{fill} line-{line}" x="{x:g}" y="{y:g}" width="{width:g}" height="{height:g}" rx="{corner:g}" stroke-width="1"/>'
         )
 
-    def text(self, x, y, words, colour="ink", size=13, at="start", bold=False, mono=False):
+    def text(self, x, y, words, colour="ink", size=13, at="start", bold=False):
         """Writes words whose base line is at `y`; `at` is start, middle or end."""
-        font = f' font-family="{escape(MONO, {chr(34): ""})}"' if mono else ""
         weight = ' font-weight="600"' if bold else ""
-        self.add(f'<text class="fill-{colour}" x="{x:g}" y="{y:g}" font-size="{size:g}" text-anchor="{at}"{weight}{font}>{escape(words)}</text>')
+        self.parts.append(f'<text class="fill-{colour}" x="{x:g}" y="{y:g}" font-size="{size:g}" text-anchor="{at}"{weight}>{escape(words)}</text>')
 
     def path(self, steps, colour="faint", thick=1.0, arrow=False, dashed=False):
         """Draws a line by the steps of an SVG path; an arrow's head stands at its end."""
         head = f' marker-end="url(#head-{colour})"' if arrow else ""
         dashes = ' stroke-dasharray="5 4"' if dashed else ""
-        self.add(f'<path class="line-{colour}" d="{steps}" fill="none" stroke-width="{thick:g}"{dashes}{head}/>')
+        self.parts.append(f'<path class="line-{colour}" d="{steps}" fill="none" stroke-width="{thick:g}"{dashes}{head}/>')
 
     def line(self, x1, y1, x2, y2, *how, **more):
         self.path(f"M{x1:g} {y1:g}L{x2:g} {y2:g}", *how, **more)
 
-    def dot(self, x, y, radius, fill, line=None):
-        line = f" line-{line}" if line else ""
-        self.add(f'<circle class="fill-{fill}{line}" cx="{x:g}" cy="{y:g}" r="{radius:g}"/>')
+    def dot(self, x, y, radius, fill, line):
+        self.parts.append(f'<circle class="fill-{fill} line-{line}" cx="{x:g}" cy="{y:g}" r="{radius:g}"/>')
 
     def written(self):
         """Returns the text of the SVG file."""

@@ -1,24 +1,22 @@
 """The plots of docs/pictures that tools/bench draws from its figures."""
 import json
 import math
-import os
 
 from drawing import SMALL, WIDTH, Drawing
 from figures import PARTS, is_measured, part_of, ratio, ratio_text, rows_of
 
-# The four kinds of models: how a row is found, the kernel, and its colour.
+# Kinds of models, and ways to the row of a quantile of 24 bits: the kernel, its colour, and whether the Rust crate's line is drawn too.
 KINDS = (
-    ("dividing", "uniform quantile_function", "green"),
-    ("searching", "contiguous quantile_function", "blue"),
-    ("looking up", "direct lookup quantile_function", "orange"),
-    ("hashed", "hashed encoder left_cumulative_and_probability", "violet"),
+    ("dividing", "uniform quantile_function", "green", True),
+    ("searching", "contiguous quantile_function", "blue", True),
+    ("looking up", "direct lookup quantile_function", "orange", True),
+    ("hashed", "hashed encoder left_cumulative_and_probability", "violet", True),
 )
-# Ways to the row of a quantile of 24 bits: the kernel, and its colour.
 SLOTS = (
-    ("searching", "contiguous quantile_function", "blue"),
-    ("256 slots", "wide 256-slot lookup quantile_function", "violet"),
-    ("4,096 slots", "wide 4,096-slot lookup quantile_function", "orange"),
-    ("65,536 slots", "wide 65,536-slot lookup quantile_function", "green"),
+    ("searching", "contiguous quantile_function", "blue", True),
+    ("256 slots", "wide 256-slot lookup quantile_function", "violet", False),
+    ("4,096 slots", "wide 4,096-slot lookup quantile_function", "orange", False),
+    ("65,536 slots", "wide 65,536-slot lookup quantile_function", "green", False),
 )
 # How high a row of the ratios is, and what stands above and below the rows of a part.
 STEP, ABOVE, BELOW = 22, 58, 44
@@ -27,8 +25,13 @@ STEP, ABOVE, BELOW = 22, 58, 44
 def draw_plots(top, file):
     with open(file, encoding="utf-8") as it:
         saved = json.load(it)
-    os.makedirs(f"{top}/docs/pictures", exist_ok=True)
-    for name, drawing in (("speed-ratios", draw_ratios(saved)), ("speed-rows", draw_rows(saved)), ("speed-slots", draw_slots(saved))):
+    wide = [it for it in saved["kernels"] if it["words"] == "u32/24" and it["rows"] >= 16]
+    rows, slots = "The time of a look-up by the number of rows", "The time of a look-up over 24 bits of u32"
+    for name, drawing in (
+        ("speed-ratios", draw_ratios(saved)),
+        ("speed-rows", draw_look_ups(saved["growth"], KINDS, f"{rows}, for the four kinds of models", rows)),
+        ("speed-slots", draw_look_ups(wide, SLOTS, f"{slots} by the number of rows, by a search and by tables of slots", slots)),
+    ):
         with open(f"{top}/docs/pictures/{name}.svg", "w", encoding="utf-8") as to:
             to.write(drawing.written())
         print(f"drew docs/pictures/{name}.svg")
@@ -42,13 +45,18 @@ def steps(low, high):
     return [it for it in found if first <= it <= last]
 
 
+def scale(ticks, first, last):
+    """Returns where a number stands on a logarithmic scale from the first tick to the last one."""
+    return lambda value: first + (last - first) * math.log(value / ticks[0]) / math.log(ticks[-1] / ticks[0])
+
+
 def draw_ratios(saved):
     """The ratios in three parts, each with a scale of its own: what the sides compare is not the same in them."""
     parts = []
     for heading, sides in PARTS:
         of = {}
-        for (name, _), these in part_of(saved, sides).items():
-            of.setdefault(name, []).extend(these)
+        for one in part_of(saved, sides):
+            of.setdefault(one["name"], []).append(one)
         if of:
             parts.append((heading, of))
     left = 36 + 6.2 * max(len(name) for _, of in parts for name in of)
@@ -70,10 +78,7 @@ def draw_part(it, heading, of, left, top):
     all_ratios = [ratio(one) for these in of.values() for one in these]
     ticks = steps(min(all_ratios), max(all_ratios))
     right, bottom = WIDTH - 32 - 6.5 * max(map(len, labels.values()), default=0), top + STEP * len(of)
-
-    def x(value):
-        return left + (right - left) * math.log(value / ticks[0]) / math.log(ticks[-1] / ticks[0])
-
+    x = scale(ticks, left, right)
     it.line(24, top - ABOVE + 6, WIDTH - 24, top - ABOVE + 6, "edge")
     it.text(24, top - 28, heading, bold=True)
     # with little room only the powers of ten have a number
@@ -92,31 +97,13 @@ def draw_part(it, heading, of, left, top):
             it.dot(x(ratio(one)), y, 4.5, "orange" if ratio(one) > 1.1 else "blue", "page")
 
 
-def draw_rows(saved):
+def draw_look_ups(measured, kinds, title, heading):
+    """Draws nanoseconds by rows: a full line for each kind here, and a dashed one for the Rust crate."""
     lines = []
-    for kind, name, hue in KINDS:
-        made = sorted((it for it in saved["growth"] if it["name"] == name and is_measured(it)), key=lambda it: it["rows"])
-        for side, is_dashed in (("rust", True), ("here", False)):
-            if made:
-                lines.append((None if is_dashed else kind, hue, is_dashed, [(it["rows"], it[side]) for it in made]))
-    return plotted("The time of a look-up by the number of rows, for the four kinds of models", "The time of a look-up by the number of rows", lines)
-
-
-def draw_slots(saved):
-    """Look-ups over 24 bits of u32: a search on both sides, and tables of slots."""
-    lines = []
-    for kind, name, hue in SLOTS:
-        made = sorted((it for it in saved["kernels"] if it["name"] == name and it["words"] == "u32/24" and it["rows"] >= 16 and is_measured(it)), key=lambda it: it["rows"])
-        if not made:
-            continue
-        if kind == "searching":
-            lines.append((None, hue, True, [(it["rows"], it["rust"]) for it in made]))
-        lines.append((kind, hue, False, [(it["rows"], it["here"]) for it in made]))
-    return plotted("The time of a look-up over 24 bits of u32 by the number of rows, by a search and by tables of slots", "The time of a look-up over 24 bits of u32", lines)
-
-
-def plotted(title, heading, lines):
-    """Returns a plot of nanoseconds by rows. A line has a name, or None, a hue, whether it is dashed, and its points."""
+    for kind, name, hue, has_rust in kinds:
+        made = sorted((it for it in measured if it["name"] == name and is_measured(it)), key=lambda it: it["rows"])
+        lines += [(None, hue, True, [(it["rows"], it["rust"]) for it in made])] if made and has_rust else []
+        lines += [(kind, hue, False, [(it["rows"], it["here"]) for it in made])] if made else []
     points_of = [points for _, _, _, points in lines]
     times = [time for points in points_of for _, time in points]
     ticks = steps(min(times), max(times))
@@ -126,13 +113,7 @@ def plotted(title, heading, lines):
     it.text(24, 32, heading, bold=True, size=14)
     it.text(24, 52, "Full lines are this library, dashed lines the Rust crate. Both scales are logarithmic.", "faint", SMALL)
     it.text(left - 10, top - 18, "ns", "faint", SMALL, at="end")
-
-    def x(rows):
-        return left + (right - left) * (math.log2(rows) - bits[0]) / (bits[-1] - bits[0])
-
-    def y(value):
-        return bottom - (bottom - top) * math.log(value / ticks[0]) / math.log(ticks[-1] / ticks[0])
-
+    x, y = scale([2 ** bits[0], 2 ** bits[-1]], left, right), scale(ticks, bottom, top)
     for tick in ticks:
         it.line(left, y(tick), right, y(tick), "edge")
         it.text(left - 10, y(tick) + 4, f"{tick:,g}", "faint", SMALL, at="end")

@@ -4,7 +4,7 @@ import re
 import shutil
 import subprocess
 
-TOP = os.path.dirname(os.path.dirname(os.path.realpath(__file__)))
+from sources import TOP
 
 
 def workspace(folder, program, name, uses):
