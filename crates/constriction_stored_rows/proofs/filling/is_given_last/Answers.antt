@@ -14,7 +14,7 @@ returns-clause-filled g c = λ h.
     elim either [
       | inl zero ↦
           let least : c.is_zero_word.result ≡ true = c.is_zero_word.ensures.1 zero.0 in
-          let some : c.is_zero_word.result ≡ false = c.if-is_least.false in
+          let some : c.is_zero_word.result ≡ false = c.if-is_zero_word.false in
           cc (least, some)
       | inr more ↦
           let weight : whole c.args.weight ≡ last + 1 = more.0 in
