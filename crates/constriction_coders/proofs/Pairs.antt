@@ -1,5 +1,5 @@
 -- Two symbols, each of a model of its own, from the laws of a symbol.
-use Rattle.std.proofs.Common.{◌≡◌, ◌≢◌, ℕ, ◌-◌, ◌^◌, ◌<◌, Bool, List, [], ◌++◌, Option, Result, ap, arith}
+use Rattle.std.proofs.Common.{◌≡◌, ℕ, ◌-◌, ◌^◌, ◌<◌, Bool, List, [], ◌++◌, Option, Result, ap, arith}
 use Rattle.std.proofs.lemmas.List.Elements.{All-nil}
 use Rattle.constriction.specs.Coding.{StandsForEqual}
 use Rattle.constriction.specs.Rows.{Row}

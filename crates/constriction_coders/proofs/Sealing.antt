@@ -1,12 +1,12 @@
 -- The words of a message.
-use Rattle.std.proofs.Common.{◌≡◌, ◌≢◌, ℕ, ◌+◌, ◌-◌, ◌*◌, ◌/◌, ◌^◌, ◌<◌, ◌≤◌, List, [], ◌∷◌, ◌++◌, length, get_or, ap, sym, ◌∙◌, subst, arith, inl, inr}
+use Rattle.std.proofs.Common.{◌≡◌, ℕ, ◌+◌, ◌-◌, ◌*◌, ◌/◌, ◌^◌, ◌<◌, ◌≤◌, List, [], ◌∷◌, ◌++◌, length, get_or, ap, sym, ◌∙◌, subst, arith, inl, inr}
 use Rattle.std.specs.Prelude.{All}
 use Rattle.std.proofs.lemmas.List.{length_push}
 use Rattle.std.proofs.lemmas.List.Elements.{All-append}
 use Rattle.constriction_coders.specs.Intervals.{Interval, interval, MayBeAtEnd}
 use Rattle.constriction_coders.specs.Numbers.{number_first, number_of}
 use Rattle.constriction_coders.specs.RangeLaws.{SealedWordsTell}
-use Rattle.constriction_coders.specs.Spans.{Span, span_of, whole, IsPointOf, IsSealed}
+use Rattle.constriction_coders.specs.Spans.{Span, span_of, IsPointOf, IsSealed}
 use Rattle.constriction_coders.proofs.NumberLemmas.{number-push, first-append, first-more, word-fits}
 
 module _ (words raised : List ℕ) (lower range point_lower : ℕ) (wide : 2 ^ 32 ≤ range)

@@ -1,5 +1,5 @@
 -- What a range encoder holds, what a symbol does to it, and the words that stand for it.
-use Rattle.std.specs.Prelude.{◌≡◌, ◌≢◌, ℕ, ◌+◌, ◌-◌, ◌*◌, ◌/◌, ◌^◌, ◌<◌, ◌≤◌, ◌⊎◌, List, [], ◌∷◌, ◌++◌, All, length, Option, Some, None}
+use Rattle.std.specs.Prelude.{◌≡◌, ◌≢◌, ℕ, ◌+◌, ◌-◌, ◌*◌, ◌^◌, ◌<◌, ◌≤◌, ◌⊎◌, List, [], ◌∷◌, ◌++◌, All, length, Option, Some, None}
 use Rattle.constriction.specs.Coding.{InTurn}
 use Rattle.constriction.specs.declared.CoderError.{CoderError}
 use Rattle.constriction.specs.declared.CoderError.TheVariants.{Frontend, Backend}

@@ -18,6 +18,12 @@ returns-in-Ok-next_or_zero-clause-begins g c = λ told tells.
     let high = c.in-Ok.ensures.ok in
     let low = c.in-Ok-next_or_zero.ensures.ok in
     begins-whole g.Source.ReadWords.read_gives g.Source.ReadWords.tells_upcoming g.met.Source.ReadWords.reads_told c.args.words _ _
-    c.next_or_zero-2.new.source
-    (high.0, low.0, c.next_or_zero.new.source, high.1, low.1, ap (λ n. interval (2 ^ 64 - 1) n)
-    (omega (arith, high.2, low.2, c.in-Ok.ensures.small, c.in-Ok-next_or_zero.ensures.small))) told tells
+    c.next_or_zero-2.new.source (
+      high.0,
+      low.0,
+      c.next_or_zero.new.source,
+      high.1,
+      low.1,
+      ap (λ n. interval (2 ^ 64 - 1) n)
+          (omega (arith, high.2, low.2, c.in-Ok.ensures.small, c.in-Ok-next_or_zero.ensures.small)),
+    ) told tells
