@@ -1,4 +1,6 @@
 pub mod Compressed
+pub mod EncodedWords
+pub mod EncodedWordsLaws
 pub mod Intervals
 pub mod Laws
 pub mod Numbers
