@@ -1,6 +1,13 @@
 pub mod Compressed
+pub mod EncodedWords
+pub mod EncodedWordsLaws
 pub mod Intervals
 pub mod Laws
+pub mod Numbers
+pub mod Published
+pub mod RangeLaws
+pub mod RangeWalks
+pub mod Spans
 pub mod States
 pub mod Steps
 pub mod StoredWeights

@@ -2,8 +2,13 @@
 
 use thiserror::Error;
 
+mod queue;
 mod stack;
 
+pub use self::queue::{
+    message_comes_back, message_from, message_of, one_message, published_message,
+    range_symbol_comes_back, range_symbols_come_back, sealed_words_tell,
+};
 pub use self::stack::{
     coder_comes_back, compressed_comes_back, encoded_once, symbol_comes_back, symbols_come_back,
     there_and_back,
