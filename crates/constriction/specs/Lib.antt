@@ -1,3 +1,4 @@
+pub mod PlainLists
 pub use Rattle.constriction_model.specs.Acceptance
 pub use Rattle.constriction_model.specs.Coding
 pub use Rattle.constriction_model.specs.CodingLemmas

@@ -11,3 +11,9 @@ pub use constriction_model::laws::{
     pairs_are_quantiles, quantiles_have_one_row, the_row_found_is_the_row_of_the_quantile,
     uniform_row_count,
 };
+
+mod lists;
+mod symbols;
+
+pub use self::lists::{listed_symbols_and_weights_decide, listed_weights_decide};
+pub use self::symbols::contiguous_symbols_have_entries;

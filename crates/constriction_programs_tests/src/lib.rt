@@ -13,6 +13,8 @@ mod copies;
 #[cfg(test)]
 mod known;
 #[cfg(test)]
+mod known_models;
+#[cfg(test)]
 mod range_coder;
 #[cfg(test)]
 mod runs;

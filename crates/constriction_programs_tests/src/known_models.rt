@@ -1,0 +1,173 @@
+//! What laws tell callers that make models of plain lists, and that encode numbers below `support_size`. None of these proofs has a
+//! written answer.
+
+ghost use Rattle.std.specs.Prelude.{◌≡◌, ◌<◌, ◌≤◌, Err, IfOk, IfSome, length, nat_eq};
+ghost use Rattle.constriction.specs.Acceptance.{AreAccepted, IsAccepted};
+ghost use Rattle.constriction.specs.ModelRows.{contiguous_model_rows, decoder_model_rows};
+ghost use Rattle.constriction.specs.Rows.{contiguous_rows, rows_of};
+
+use crate::checks::same;
+use constriction::CoderError;
+use constriction::laws::{
+    contiguous_symbols_have_entries, listed_symbols_and_weights_decide, listed_weights_decide,
+};
+use constriction::stream::model::{
+    ContiguousCategoricalEntropyModel, EncoderModel, ModelError,
+    NonContiguousCategoricalDecoderModel,
+};
+use constriction_coders::stack::AnsCoder;
+use std::alloc::{AllocError, Global};
+use std::process::Abort;
+
+/// A model of the symbols 0, 1, .. by weights of 32 bits.
+type Model<const PRECISION: usize> = ContiguousCategoricalEntropyModel<u32, Vec<u32>, PRECISION>;
+
+/// A model of letters over 24 bits.
+type Letters = NonContiguousCategoricalDecoderModel<char, u32, Vec<(u32, char)>, 24>;
+
+/// The model of the weights in a `Vec`.
+fn of_a_vec<const PRECISION: usize>(
+    alloc: Global,
+    weights: Vec<u32>,
+) -> Result<Model<PRECISION>, ModelError>
+    requires positive { 0 < PRECISION }
+    requires fits { PRECISION ≤ 32 }
+    ensures accepted { IfOk result (λ _. IsAccepted 32 PRECISION weights.items) }
+    ensures rows { IfOk result (λ model. contiguous_model_rows model ≡ contiguous_rows weights.items) }
+    ensures invalid { result ≡ Err ModelError.InvalidTable → ¬ (IsAccepted 32 PRECISION weights.items) }
+{
+    listed_weights_decide::<Model<PRECISION>, _, PRECISION>(&weights, weights.as_slice(), false);
+    Model::<PRECISION>::from_nonzero_fixed_point_probabilities(alloc, weights, false)
+}
+
+/// That of the weights in a slice.
+fn of_a_slice<const PRECISION: usize>(
+    alloc: Global,
+    weights: &[u32],
+) -> Result<Model<PRECISION>, ModelError>
+    requires positive { 0 < PRECISION }
+    requires fits { PRECISION ≤ 32 }
+    ensures accepted { IfOk result (λ _. IsAccepted 32 PRECISION weights.now) }
+    ensures rows { IfOk result (λ model. contiguous_model_rows model ≡ contiguous_rows weights.now) }
+    ensures invalid { result ≡ Err ModelError.InvalidTable → ¬ (IsAccepted 32 PRECISION weights.now) }
+{
+    let given = weights.iter().copied();
+    listed_weights_decide::<Model<PRECISION>, _, PRECISION>(&given, weights, false);
+    Model::<PRECISION>::from_nonzero_fixed_point_probabilities(alloc, given, false)
+}
+
+/// That of letters and weights.
+fn of_letters(alloc: Global, letters: Vec<char>, weights: Vec<u32>) -> Result<Letters, ModelError>
+    ensures accepted { IfOk result (λ _. AreAccepted nat_eq 32 24 letters.items weights.items) }
+    ensures rows { IfOk result (λ model. decoder_model_rows model ≡ rows_of letters.items weights.items) }
+{
+    listed_symbols_and_weights_decide::<Letters, _, _, 24>(
+        &letters,
+        letters.as_slice(),
+        &weights,
+        weights.as_slice(),
+        false,
+    );
+    Letters::from_symbols_and_nonzero_fixed_point_probabilities(alloc, letters, weights, false)
+}
+
+/// Where the row of a number below `support_size` begins.
+fn left_of<const PRECISION: usize>(model: &Model<PRECISION>, place: usize) -> Option<u32> {
+    if place >= model.support_size() {
+        return None;
+    }
+    contiguous_symbols_have_entries();
+    match model.left_cumulative_and_probability(&place) {
+        Some((left, _)) => Some(left),
+        None => unreachable!(),
+    }
+}
+
+/// Encodes a number below `support_size`, which fails only where memory is refused.
+fn encode_below<const PRECISION: usize>(
+    coder: &mut AnsCoder<Vec<u32>>,
+    model: &Model<PRECISION>,
+    place: usize,
+) -> Result<(), AllocError>
+    requires { place < length (contiguous_model_rows model.now) }
+{
+    contiguous_symbols_have_entries();
+    match coder.encode_symbol(&place, model) {
+        Ok(()) => Ok(()),
+        Err(CoderError::Frontend(_)) => unreachable!(),
+        Err(CoderError::Backend(error)) => Err(error),
+    }
+}
+
+/// Decodes a number, which is below `support_size`.
+fn decode_below<const PRECISION: usize>(
+    coder: &mut AnsCoder<Vec<u32>>,
+    model: &Model<PRECISION>,
+) -> Option<usize>
+    ensures { IfSome result (λ place. place < length (contiguous_model_rows model.now)) }
+{
+    contiguous_symbols_have_entries();
+    match coder.decode_symbol(model) {
+        Ok(place) => Some(place),
+        Err(_) => None,
+    }
+}
+
+/// Weights of which the last one is so.
+fn three_and(alloc: Global, last: u32) -> Result<Vec<u32>, AllocError> {
+    Ok(Vec::from_array(alloc, [1000, 2000, 96, last])?)
+}
+
+/// How many symbols a model has, or why there is none.
+fn count_of(made: Result<Model<12>, ModelError>) -> Result<usize, ModelError> {
+    match made {
+        Ok(model) => Ok(model.support_size()),
+        Err(error) => Err(error),
+    }
+}
+
+#[test]
+fn a_list_makes_the_model_of_its_weights(rt: HostRuntime) {
+    let alloc = rt.alloc();
+    let tiling = three_and(alloc, 1000).expect(&rt, "memory");
+    same(&rt, count_of(of_a_slice(alloc, &tiling)), Ok(4));
+    same(&rt, count_of(of_a_vec(alloc, tiling)), Ok(4));
+    let short = three_and(alloc, 999).expect(&rt, "memory");
+    same(
+        &rt,
+        count_of(of_a_slice(alloc, &short)),
+        Err(ModelError::InvalidTable),
+    );
+    same(
+        &rt,
+        count_of(of_a_vec(alloc, short)),
+        Err(ModelError::InvalidTable),
+    );
+}
+
+#[test]
+fn lists_make_the_model_of_their_letters_and_weights(rt: HostRuntime) {
+    let alloc = rt.alloc();
+    let letters = Vec::from_array(alloc, ['a', 'b']).expect(&rt, "memory");
+    let weights = Vec::from_array(alloc, [16_777_215, 1]).expect(&rt, "memory");
+    match of_letters(alloc, letters, weights) {
+        Ok(model) => same(&rt, model.support_size(), 2),
+        Err(_) => panic!(rt; "two letters make a model"),
+    }
+}
+
+#[test]
+fn a_number_below_the_count_is_encoded_and_decoded(rt: HostRuntime) {
+    let alloc = rt.alloc();
+    let weights = three_and(alloc, 1000).expect(&rt, "memory");
+    let Ok(model) = of_a_vec::<12>(alloc, weights) else {
+        panic!(rt; "these weights tile");
+    };
+    same(&rt, left_of(&model, 3), Some(3096));
+    same(&rt, left_of(&model, 4), None);
+    let mut coder = AnsCoder::new(alloc);
+    if 2 < model.support_size() {
+        same(&rt, encode_below(&mut coder, &model, 2), Ok(()));
+    }
+    same(&rt, decode_below(&mut coder, &model), Some(2));
+}
