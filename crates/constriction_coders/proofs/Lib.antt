@@ -1,7 +1,9 @@
 pub mod Closing
 pub mod ComingBack
 pub mod Giving
+pub mod GoingBack
 pub mod Intervals
+pub mod Stacking
 pub mod States
 pub mod Steps
 pub mod Stopping

@@ -8,7 +8,7 @@ ghost use Rattle.constriction.specs.Coding.{InTurn, StandsForEqual};
 ghost use Rattle.constriction_coders.specs.Steps.{content, IsDecoded, IsEncoded};
 
 use crate::laws::{compressed_comes_back, symbols_come_back, there_and_back};
-use crate::stack::ans_coder::AnsCoder;
+use crate::stack::AnsCoder;
 use constriction::backends::{Cursor, WordStack};
 use constriction::stream::model::{
     DecoderModel, DefaultNonContiguousCategoricalDecoderModel,
