@@ -1,5 +1,6 @@
 pub mod Closing
 pub mod ComingBack
+pub mod CountsLemmas
 pub mod Giving
 pub mod GoingBack
 pub mod Intervals

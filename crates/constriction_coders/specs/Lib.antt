@@ -1,4 +1,7 @@
+pub mod Bytes
+pub mod BytesLemmas
 pub mod Compressed
+pub mod Counts
 pub mod Intervals
 pub mod Laws
 pub mod StackMessages
