@@ -1,9 +1,10 @@
 -- The words of a state: that there are some, how many, and what writing them gives.
-use Rattle.std.proofs.Common.{◌≡◌, ℕ, ◌+◌, ◌/◌, ◌⊎◌, ◌%◌, ◌^◌, ◌<◌, ◌≤◌, List, [], ◌∷◌, ◌++◌, suc, zero, Result, Ok, Err, length, refl, ap, sym, ◌∙◌, arith, inl, inr}
+use Rattle.std.proofs.Common.{◌≡◌, ℕ, ◌+◌, ◌/◌, ◌%◌, ◌^◌, ◌<◌, ◌≤◌, List, [], ◌∷◌, ◌++◌, suc, zero, Result, Ok, Err, length, refl, ap, sym, ◌∙◌, arith, inl, inr}
 use Rattle.std.proofs.lemmas.Bool.{cases_lt}
 use Rattle.std.proofs.lemmas.List.{append_assoc, length-append, same_from_push}
-use Rattle.constriction_coders.specs.Compressed.{AreWordsOf, IsCompressed, IsClosed, ClosingStops}
+use Rattle.constriction_coders.specs.Compressed.{AreWordsOf, AreAllWordsOf, IsCompressed, IsClosed, ClosingStops}
 use Rattle.constriction_coders.specs.Steps.{Content, IsWhole}
+use Rattle.constriction_coders.proofs.ComingBack.{same-content}
 
 -- a state below 2 ^ 32 has the one word
 pub one-word : (state : ℕ) → 0 < state → state < 2 ^ 32 → AreWordsOf state (state % 2 ^ 32 ∷ [])
@@ -76,10 +77,13 @@ module _ {S E : Type 0} (gives : S → ℕ → Result (Unit {0}) E → S → Typ
 -- as many words as those under the state, and those that the state has
 pub counted : (c : Content) (all : List ℕ) (n : ℕ) → (c.state ≡ 0 → n ≡ 0) → (0 < c.state → c.state < 2 ^ 32 → n ≡ 1)
     → (2 ^ 32 ≤ c.state → n ≡ 2) → IsCompressed c all → length c.words + n ≡ length all
-counted c all n none one two (inl p) = omega (arith, none p.0, ap length p.1)
-counted c all n none one two (inr (inl p)) = omega (arith, one p.0 p.1, ap length p.2, length-append c.words (c.state ∷ []))
-counted c all n none one two (inr (inr p)) =
-    omega (arith, two p.0, ap length p.1, length-append c.words (c.state % 2 ^ 32 ∷ c.state / 2 ^ 32 ∷ []))
+counted c all n none one two compressed = go compressed.words
+  where
+    go : AreAllWordsOf c all → length c.words + n ≡ length all
+    go (inl p) = omega (arith, none p.0, ap length p.1)
+    go (inr (inl p)) = omega (arith, one p.0 p.1, ap length p.2, length-append c.words (c.state ∷ []))
+    go (inr (inr p)) =
+        omega (arith, two p.0, ap length p.1, length-append c.words (c.state % 2 ^ 32 ∷ c.state / 2 ^ 32 ∷ []))
 
 -- a number that is not 0
 pub positive : (n : ℕ) → (n ≡ 0 → ⊥) → 0 < n
@@ -87,44 +91,84 @@ positive zero h = absurd (h refl)
 positive (suc n) h = omega arith
 
 -- the words of a coder do not end in 0
-pub not-compressed : (c : Content) (all others : List ℕ) → IsWhole c.state c.words → IsCompressed c all → all ≡ others ++ 0 ∷ [] → ⊥
-not-compressed c all others whole (inl p) e =
-    absurd (omega (arith, ap length (sym e ∙ p.1 ∙ whole (omega (arith, p.0))), length-append others (0 ∷ [])))
-not-compressed c all others whole (inr (inl p)) e =
-    let parts = same_from_push c.words others c.state 0 (sym p.2 ∙ e) in absurd (omega (arith, p.0, parts.1))
-not-compressed c all others whole (inr (inr p)) e =
-    let parts = same_from_push (c.words ++ c.state % 2 ^ 32 ∷ []) others (c.state / 2 ^ 32) 0
-    (append_assoc c.words (c.state % 2 ^ 32 ∷ []) (c.state / 2 ^ 32 ∷ []) ∙ sym p.1 ∙ e) in
-    absurd (omega (arith, p.0, parts.1))
+pub not-compressed : (c : Content) (all others : List ℕ) → IsCompressed c all → all ≡ others ++ 0 ∷ [] → ⊥
+not-compressed c all others compressed e = go compressed.words
+  where
+    go : AreAllWordsOf c all → ⊥
+    go (inl p) =
+        absurd (omega (arith, ap length (sym e ∙ p.1 ∙ compressed.held.whole (omega (arith, p.0))), length-append others (0 ∷ [])))
+    go (inr (inl p)) = let parts = same_from_push c.words others c.state 0 (sym p.2 ∙ e) in absurd (omega (arith, p.0, parts.1))
+    go (inr (inr p)) =
+        let parts = same_from_push (c.words ++ c.state % 2 ^ 32 ∷ []) others (c.state / 2 ^ 32) 0
+        (append_assoc c.words (c.state % 2 ^ 32 ∷ []) (c.state / 2 ^ 32 ∷ []) ∙ sym p.1 ∙ e) in
+        absurd (omega (arith, p.0, parts.1))
 
--- how many words a whole coder has as words alone
-count-alone : (c : Content) (all : List ℕ) → IsWhole c.state c.words → IsCompressed c all
-    → ((c.words ≡ []) × (length all ≤ 1)) ⊎ (all ≡ (c.words ++ c.state % 2 ^ 32 ∷ []) ++ c.state / 2 ^ 32 ∷ [])
-count-alone c all whole (inl p) = let none = whole (omega (arith, p.0)) in inl (none, omega (arith, ap length (p.1 ∙ none)))
-count-alone c all whole (inr (inl p)) =
-    let none = whole p.1 in inl (none, omega (arith, ap length p.2, ap length none, length-append c.words (c.state ∷ [])))
-count-alone c all whole (inr (inr p)) =
-    inr (p.1 ∙ sym (append_assoc c.words (c.state % 2 ^ 32 ∷ []) (c.state / 2 ^ 32 ∷ [])))
+-- a content has one list of words
+pub words-once : (c : Content) (all others : List ℕ) → AreAllWordsOf c all → AreAllWordsOf c others → all ≡ others
+words-once c all others (inl p) (inl q) = p.1 ∙ sym q.1
+words-once c all others (inl p) (inr (inl q)) = absurd (omega (arith, p.0, q.0))
+words-once c all others (inl p) (inr (inr q)) = absurd (omega (arith, p.0, q.0))
+words-once c all others (inr (inl p)) (inl q) = absurd (omega (arith, p.0, q.0))
+words-once c all others (inr (inl p)) (inr (inl q)) = p.2 ∙ sym q.2
+words-once c all others (inr (inl p)) (inr (inr q)) = absurd (omega (arith, p.1, q.0))
+words-once c all others (inr (inr p)) (inl q) = absurd (omega (arith, p.0, q.0))
+words-once c all others (inr (inr p)) (inr (inl q)) = absurd (omega (arith, p.0, q.1))
+words-once c all others (inr (inr p)) (inr (inr q)) = p.1 ∙ sym q.1
 
--- two words at the end are no fewer than two
-two-at-least : (words all : List ℕ) (low high : ℕ) → length all ≤ 1 → all ≡ (words ++ low ∷ []) ++ high ∷ [] → ⊥
-two-at-least words all low high few is =
-    omega (arith, few, ap length is, length-append (words ++ low ∷ []) (high ∷ []), length-append words (low ∷ []))
+-- words are those of one content
+pub compressed-once : (a b : Content) (all : List ℕ) → IsCompressed a all → IsCompressed b all → a ≡ b
+compressed-once a b all p q = go p.words q.words
+  where
+    wa : IsWhole a.state a.words
+    wa = p.held.whole
 
--- whole coders with the same words as words alone have the same words under their states
-pub same-under : (a b : Content) (all : List ℕ) → IsWhole a.state a.words → IsWhole b.state b.words → IsCompressed a all
-    → IsCompressed b all → b.words ≡ a.words
-same-under a b all wa wb p q =
-    elim (count-alone a all wa p) [
-      | inl x ↦ elim (count-alone b all wb q) [
-        | inl y ↦ y.0 ∙ sym x.0
-        | inr y ↦ absurd (two-at-least b.words all _ _ x.1 y)
-      ]
-      | inr x ↦ elim (count-alone b all wb q) [
-        | inl y ↦ absurd (two-at-least a.words all _ _ y.1 x)
-        | inr y ↦
-            let tops = same_from_push (b.words ++ b.state % 2 ^ 32 ∷ []) (a.words ++ a.state % 2 ^ 32 ∷ []) (b.state / 2 ^ 32)
-            (a.state / 2 ^ 32) (sym y ∙ x) in
-            (same_from_push b.words a.words (b.state % 2 ^ 32) (a.state % 2 ^ 32) tops.0).0
-      ]
-    ]
+    wb : IsWhole b.state b.words
+    wb = q.held.whole
+
+    go : AreAllWordsOf a all → AreAllWordsOf b all → a ≡ b
+    go (inl x) (inl y) = same-content a b (omega (arith, x.0, y.0)) (sym x.1 ∙ y.1)
+    go (inl x) (inr (inl y)) =
+        absurd (omega (arith, ap length (sym x.1 ∙ y.2), length-append b.words (b.state ∷ []), ap length (wa (omega (arith, x.0)))))
+    go (inl x) (inr (inr y)) =
+        absurd (omega (
+          arith,
+          ap length (sym x.1 ∙ y.1),
+          length-append b.words (b.state % 2 ^ 32 ∷ b.state / 2 ^ 32 ∷ []),
+          ap length (wa (omega (arith, x.0))),
+        ))
+    go (inr (inl x)) (inl y) =
+        absurd (omega (arith, ap length (sym x.2 ∙ y.1), length-append a.words (a.state ∷ []), ap length (wb (omega (arith, y.0)))))
+    go (inr (inl x)) (inr (inl y)) =
+        let parts = same_from_push a.words b.words a.state b.state (sym x.2 ∙ y.2) in same-content a b parts.1 parts.0
+    go (inr (inl x)) (inr (inr y)) =
+        absurd (omega (
+          arith,
+          ap length (sym x.2 ∙ y.1),
+          length-append a.words (a.state ∷ []),
+          length-append b.words (b.state % 2 ^ 32 ∷ b.state / 2 ^ 32 ∷ []),
+          ap length (wa x.1),
+        ))
+    go (inr (inr x)) (inl y) =
+        absurd (omega (
+          arith,
+          ap length (sym y.1 ∙ x.1),
+          length-append a.words (a.state % 2 ^ 32 ∷ a.state / 2 ^ 32 ∷ []),
+          ap length (wb (omega (arith, y.0))),
+        ))
+    go (inr (inr x)) (inr (inl y)) =
+        absurd (omega (
+          arith,
+          ap length (sym y.2 ∙ x.1),
+          length-append b.words (b.state ∷ []),
+          length-append a.words (a.state % 2 ^ 32 ∷ a.state / 2 ^ 32 ∷ []),
+          ap length (wb y.1),
+        ))
+    go (inr (inr x)) (inr (inr y)) =
+        let al = a.state % 2 ^ 32 in
+        let ah = a.state / 2 ^ 32 in
+        let bl = b.state % 2 ^ 32 in
+        let bh = b.state / 2 ^ 32 in
+        let highs = same_from_push (a.words ++ al ∷ []) (b.words ++ bl ∷ []) ah bh
+        (append_assoc a.words (al ∷ []) (ah ∷ []) ∙ sym x.1 ∙ y.1 ∙ sym (append_assoc b.words (bl ∷ []) (bh ∷ []))) in
+        let lows = same_from_push a.words b.words al bl highs.0 in
+        same-content a b (omega (arith, highs.1, lows.1)) lows.0

@@ -1,11 +1,13 @@
 -- What was encoded is decoded, symbol by symbol.
-use Rattle.std.proofs.Common.{◌≡◌, ℕ, ◌+◌, ◌%◌, ◌^◌, ◌<◌, ◌≤◌, Bool, List, [], ◌∷◌, ◌++◌, Option, length, ap, sym, ◌∙◌, subst, arith, inl, inr}
+use Rattle.std.proofs.Common.{◌≡◌, ℕ, ◌+◌, ◌%◌, ◌^◌, ◌<◌, ◌≤◌, Bool, List, [], ◌∷◌, ◌++◌, Option, Some, length, ap, sym, ◌∙◌, subst, arith, inl, inr}
 use Rattle.std.proofs.lemmas.List.{same_from_push, length_push}
-use Rattle.constriction.specs.CodingLemmas.{entry-back}
+use Rattle.std.specs.Prelude.{All}
+use Rattle.constriction.specs.CodingLemmas.{entry-back, entry-positive, entry-within}
 use Rattle.constriction.specs.Coding.{InTurn}
+use Rattle.constriction.specs.Model.{LiesWithin}
 use Rattle.constriction.specs.Rows.{Row, RowsTile, entry_of}
-use Rattle.constriction_coders.specs.Laws.{SymbolComesBack, SymbolsComeBack}
-use Rattle.constriction_coders.specs.Steps.{Content, content, IsWhole, Refills, IsOnTop, IsDecoded}
+use Rattle.constriction_coders.specs.Laws.{SymbolComesBack, SymbolsComeBack, EncodedOnce}
+use Rattle.constriction_coders.specs.Steps.{Content, content, IsWhole, MayBeHeld, Refills, IsOnTop, IsDecoded}
 use Rattle.constriction_coders.specs.States.{put, taken}
 use Rattle.constriction_coders.proofs.States.{put_taken, put_high, put_low}
 use Rattle.std.proofs.lemmas.Bool.{cases_lt}
@@ -48,18 +50,17 @@ module _ {Symbol : Type 0} (Stands : Symbol → Symbol → Type 0) (eq : Symbol 
       ((first.0, others.0), others.1)
 
 -- with a word under it, the state of a whole content is no less than 2 ^ 32
-not-below : (c : Content) (under : List ℕ) (word : ℕ) → c.words ≡ under ++ word ∷ [] → IsWhole c.state c.words → 2 ^ 32 ≤ c.state
+pub not-below : (c : Content) (under : List ℕ) (word : ℕ) → c.words ≡ under ++ word ∷ [] → IsWhole c.state c.words → 2 ^ 32 ≤ c.state
 not-below c under word is whole =
     elim (cases_lt c.state (2 ^ 32)) [
       | inl below ↦ absurd (not-empty c.words under word is (whole below))
       | inr least ↦ least
     ]
 
--- on a content that is whole a symbol is put in one way
+-- on a content that a coder may hold a symbol is put in one way
 pub put-once : (precision left weight : ℕ) (a b rest : Content) → precision ≤ 32 → 0 < weight → left + weight ≤ 2 ^ precision
-    → a.state < 2 ^ 64 → b.state < 2 ^ 64 → IsWhole a.state a.words → IsWhole b.state b.words → IsOnTop precision left weight a rest
-    → IsOnTop precision left weight b rest → a ≡ b
-put-once precision left weight a b rest fits some within fa fb wa wb p q = go p.under q.under
+    → MayBeHeld a → MayBeHeld b → IsOnTop precision left weight a rest → IsOnTop precision left weight b rest → a ≡ b
+put-once precision left weight a b rest fits some within ha hb p q = go p.under q.under
   where
     ta : ℕ
     ta = taken precision left weight a.state
@@ -80,15 +81,29 @@ put-once precision left weight a b rest fits some within fa fb wa wb p q = go p.
     go (inl x) (inl y) =
         same (ap (λ (c : Content). c.state) (sym x.1 ∙ y.1)) (ap (λ (c : Content). c.words) (sym x.1 ∙ y.1))
     go (inl x) (inr y) =
-        let least : 2 ^ 32 ≤ b.state = not-below b rest.words y.1 y.3 wb in
+        let least : 2 ^ 32 ≤ b.state = not-below b rest.words y.1 y.3 hb.whole in
         let high = put_high precision left weight tb fits some within (omega (arith, least, b-is)) in
-        let low = put_low precision left weight ta fits some within (omega (arith, fa, a-is)) in
+        let low = put_low precision left weight ta fits some within (omega (arith, ha.fits, a-is)) in
         absurd (omega (arith, high, low, y.4, ap (λ (c : Content). c.state) x.1))
     go (inr x) (inl y) =
-        let least : 2 ^ 32 ≤ a.state = not-below a rest.words x.1 x.3 wa in
+        let least : 2 ^ 32 ≤ a.state = not-below a rest.words x.1 x.3 ha.whole in
         let high = put_high precision left weight ta fits some within (omega (arith, least, a-is)) in
-        let low = put_low precision left weight tb fits some within (omega (arith, fb, b-is)) in
+        let low = put_low precision left weight tb fits some within (omega (arith, hb.fits, b-is)) in
         absurd (omega (arith, high, low, x.4, ap (λ (c : Content). c.state) y.1))
     go (inr x) (inr y) =
         let tops : x.1 ≡ y.1 = omega (arith, x.2, y.2, x.4, y.4) in
         same (omega (arith, x.2, y.2, x.4, y.4)) (x.3 ∙ ap (λ w. rest.words ++ w ∷ []) tops ∙ sym y.3)
+
+some-inj : {X : Type 0} (x y : X) → Some x ≡ Some y → x ≡ y
+some-inj x y e = cc
+
+-- so a symbol is encoded in one way by the entries of rows that lie within the quantiles
+pub encode-once : {Symbol : Type 0} (eq : Symbol → Symbol → Bool) (rows : List (Row Symbol)) (precision : ℕ) → precision ≤ 32
+    → All (LiesWithin precision) rows → EncodedOnce (entry_of eq rows) precision
+encode-once eq rows precision fits within symbol a b rest ha hb p q =
+    let same : ◌≡◌ {A = ℕ × ℕ} (q.left, q.weight) (p.left, p.weight) = some-inj _ _ (sym q.known ∙ p.known) in
+    let lefts : q.left ≡ p.left = ap (λ (x : ℕ × ℕ). x.0) same in
+    let weights : q.weight ≡ p.weight = ap (λ (x : ℕ × ℕ). x.1) same in
+    put-once precision p.left p.weight a b rest fits
+    (entry-positive precision eq rows symbol (p.left, p.weight) (sym p.known) within)
+    (entry-within precision eq rows symbol (p.left, p.weight) (sym p.known) within) ha hb p.top (rw (lefts, weights) at q.top)

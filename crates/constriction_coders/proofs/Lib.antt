@@ -1,8 +1,10 @@
 pub mod Closing
 pub mod ComingBack
+pub mod CountsLemmas
 pub mod Decoding
 pub mod Giving
 pub mod GivingSpans
+pub mod GoingBack
 pub mod Intervals
 pub mod Messages
 pub mod Narrowing
@@ -14,6 +16,7 @@ pub mod PublishedWords
 pub mod RangeWalking
 pub mod Sealing
 pub mod Spanning
+pub mod Stacking
 pub mod States
 pub mod Steps
 pub mod Stopping

@@ -4,7 +4,7 @@ use Rattle.std.proofs.lemmas.Bool.{cases_lt}
 use Rattle.std.proofs.lemmas.Nat.{mod_below, div-add-mod'}
 use Rattle.constriction.specs.Rows.{Row, IsRowOf}
 use Rattle.constriction_coders.specs.States.{put, taken}
-use Rattle.constriction_coders.specs.Steps.{Content, content, IsWhole, Refills, IsEncoded, IsDecoded, NeedsWord}
+use Rattle.constriction_coders.specs.Steps.{Content, content, IsWhole, Refills, IsOnTop, IsEncoded, IsDecoded, NeedsWord}
 use Rattle.constriction_coders.proofs.States.{put_quantile, taken_put, taken_some}
 
 -- a state that lost a word takes it back
@@ -13,50 +13,50 @@ pub refills-back : (state : ℕ) (words all : List ℕ) → state < 2 ^ 64 → a
 refills-back state words all h is = inr (omega arith, state % 2 ^ 32, omega arith, is, sym (div-add-mod' state (2 ^ 32)))
 
 -- a state that is below 2 ^ 32 without its symbol needs a word, where there is one
-pub needs_word : {Symbol : Type 0} (precision left weight state next quantile : ℕ) (words : List ℕ) (rows : List (Row Symbol))
-    (own : Symbol) → quantile ≡ state % 2 ^ precision → IsRowOf rows quantile (record { symbol = own; left = left; weight = weight })
-    → next ≡ taken precision left weight state → next < 2 ^ 32 → words ≢ [] → NeedsWord rows precision (content state words)
-needs_word precision left weight state next quantile words rows own quantile_is found is below some = (
+pub needs_word : {Symbol : Type 0} (precision left weight other state quantile : ℕ) (words : List ℕ) (rows : List (Row Symbol))
+    (own : Symbol) → quantile ≡ state % 2 ^ precision → IsRowOf rows quantile (record { symbol = own; left = left; weight = other })
+    → other ≡ weight → taken precision left weight state < 2 ^ 32 → words ≢ [] → NeedsWord rows precision (content state words)
+needs_word precision left weight other state quantile words rows own quantile_is found same below some = (
   record { symbol = own; left = left; weight = weight },
-  rw quantile_is at found,
-  subst (λ n. n < 2 ^ 32) is below,
+  rw (quantile_is, same) at found,
+  below,
   some,
 )
 
-module _ {Symbol : Type 0} (precision left weight state next quantile : ℕ) (words : List ℕ) (other : Content) where
-  pub encoded : (entry : Symbol → Option (ℕ × ℕ)) (symbol : Symbol) → 0 < weight → left + weight ≤ 2 ^ precision
-      → entry symbol ≡ Some (left, weight) → next ≡ put precision left weight state → Refills state words other
-      → IsEncoded entry precision symbol (content next words) other
-  encoded entry symbol some within known is refills =
-      let quantile_is : next % 2 ^ precision ≡ left + state % weight =
-      ap (λ n. n % 2 ^ precision) is ∙ put_quantile precision left weight state some within in
-      let under_is : taken precision left weight next ≡ state =
-      ap (λ n. taken precision left weight n) is ∙ taken_put precision left weight state some within in
-      record {
-        left = left;
-        weight = weight;
-        known = known;
-        top = record {
-          from = omega arith;
-          to = omega (arith, mod_below state weight some);
-          under = subst (λ n. Refills n words other) (sym under_is) refills;
-        };
-      }
+-- a symbol was put on a state that has room for it
+pub put-on-top : (precision left weight state next : ℕ) (words : List ℕ) (other : Content) → 0 < weight → left + weight ≤ 2 ^ precision
+    → next ≡ put precision left weight state → Refills state words other
+    → IsOnTop precision left weight (content next words) other
+put-on-top precision left weight state next words other some within is refills =
+    let quantile_is : next % 2 ^ precision ≡ left + state % weight =
+    ap (λ n. n % 2 ^ precision) is ∙ put_quantile precision left weight state some within in
+    let under_is : taken precision left weight next ≡ state =
+    ap (λ n. taken precision left weight n) is ∙ taken_put precision left weight state some within in
+    record {
+      from = omega arith;
+      to = omega (arith, mod_below state weight some);
+      under = subst (λ n. Refills n words other) (sym under_is) refills;
+    }
 
-  pub decoded : (Stands : Symbol → Symbol → Type 0) (rows : List (Row Symbol)) (own answer : Symbol) → quantile ≡ state % 2 ^ precision
-      → IsRowOf rows quantile (record { symbol = own; left = left; weight = weight }) → Stands own answer
-      → next ≡ taken precision left weight state → Refills next words other
-      → IsDecoded Stands rows precision answer (content state words) other
-  decoded Stands rows own answer quantile_is found stands is refills = record {
-    row = record { symbol = own; left = left; weight = weight };
-    found = rw quantile_is at found;
-    stands = stands;
-    top = record {
-      from = omega (arith, found.from);
-      to = omega (arith, found.to);
-      under = subst (λ n. Refills n words other) is refills;
-    };
-  }
+-- a symbol with this entry was encoded
+pub encoded : {Symbol : Type 0} (precision left weight other : ℕ) (entry : Symbol → Option (ℕ × ℕ)) (symbol : Symbol) (full rest : Content)
+    → entry symbol ≡ Some (left, other) → other ≡ weight → IsOnTop precision left weight full rest
+    → IsEncoded entry precision symbol full rest
+encoded precision left weight other entry symbol full rest known same top =
+    record { left = left; weight = weight; known = rw same at known; top = top }
+
+-- and one of the row of the quantile was decoded
+pub decoded : {Symbol : Type 0} (precision left weight other : ℕ) (Stands : Symbol → Symbol → Type 0) (rows : List (Row Symbol))
+    (own answer : Symbol) (quantile : ℕ) (full rest : Content) → quantile ≡ full.state % 2 ^ precision
+    → IsRowOf rows quantile (record { symbol = own; left = left; weight = other }) → other ≡ weight → Stands own answer
+    → IsOnTop precision left weight full rest → IsDecoded Stands rows precision answer full rest
+decoded precision left weight other Stands rows own answer quantile full rest quantile_is found same stands top =
+    record {
+      row = record { symbol = own; left = left; weight = weight };
+      found = rw (quantile_is, same) at found;
+      stands = stands;
+      top = top;
+    }
 
 -- where nothing is left of a state without its symbol, there is no word under it
 pub whole-taken : (precision left weight state next : ℕ) (words : List ℕ) → precision ≤ 32 → 0 < weight

@@ -1,7 +1,7 @@
 -- What a coder holds as words alone, and the writes and reads that make it so and undo it.
 use Rattle.std.specs.Prelude.{◌≡◌, ℕ, ◌+◌, ◌*◌, ◌/◌, ◌%◌, ◌^◌, ◌<◌, ◌≤◌, ◌⊎◌, List, [], ◌∷◌, ◌++◌, Option, Some, None, Result, Ok, Err}
 use Rattle.constriction_backends.specs.Sink.{Writes}
-use Rattle.constriction_coders.specs.Steps.{Content}
+use Rattle.constriction_coders.specs.Steps.{Content, MayBeHeld}
 use Rattle.constriction_coders.specs.StoredWeights.{StopsAtWord}
 
 -- the words of a state, the lower one first and none that is a leading zero: none of 0, one of a state below 2 ^ 32, and two of any other
@@ -11,12 +11,17 @@ AreWordsOf state own =
     ⊎ ((0 < state) × (state < 2 ^ 32) × (own ≡ state ∷ []))
     ⊎ ((2 ^ 32 ≤ state) × (own ≡ state % 2 ^ 32 ∷ state / 2 ^ 32 ∷ []))
 
--- what a coder holds as words alone: those under the state, and then those of the state
-abbrev pub IsCompressed : Content → List ℕ → Type 0
-IsCompressed c all =
+-- all words of a content: those under the state, and then those of the state
+abbrev pub AreAllWordsOf : Content → List ℕ → Type 0
+AreAllWordsOf c all =
     ((c.state ≡ 0) × (all ≡ c.words))
     ⊎ ((0 < c.state) × (c.state < 2 ^ 32) × (all ≡ c.words ++ c.state ∷ []))
     ⊎ ((2 ^ 32 ≤ c.state) × (all ≡ c.words ++ c.state % 2 ^ 32 ∷ c.state / 2 ^ 32 ∷ []))
+
+-- a coder may hold this content, which has these words alone
+pub record IsCompressed (c : Content) (all : List ℕ) : Type 0 where
+  pub held : MayBeHeld c
+  pub words : AreAllWordsOf c all
 
 module _ {S E : Type 0} (gives : S → ℕ → Result (Unit {0}) E → S → Type 0) (state : ℕ) (from : S) where
   -- the words of the state were written, which led to `to`

@@ -1,4 +1,7 @@
+pub mod Bytes
+pub mod BytesLemmas
 pub mod Compressed
+pub mod Counts
 pub mod EncodedWords
 pub mod EncodedWordsLaws
 pub mod Intervals
@@ -8,6 +11,7 @@ pub mod Published
 pub mod RangeLaws
 pub mod RangeWalks
 pub mod Spans
+pub mod StackMessages
 pub mod States
 pub mod Steps
 pub mod StoredWeights

@@ -19,6 +19,11 @@ content s ws = record { state = s; words = ws }
 abbrev pub IsWhole : ℕ → List ℕ → Type 0
 IsWhole state words = state < 2 ^ 32 → words ≡ []
 
+-- a coder may hold this: its state has 64 bits, and words under it only where it is no less than 2 ^ 32
+pub record MayBeHeld (c : Content) : Type 0 where
+  pub fits : c.state < 2 ^ 64
+  pub whole : IsWhole c.state c.words
+
 -- a state below 2 ^ 32 takes the word on top where there is one, and otherwise nothing changes, which gives `new`
 abbrev pub Refills : ℕ → List ℕ → Content → Type 0
 Refills state words new =

@@ -2,10 +2,13 @@
 //! as words.
 //!
 //! [`stack::AnsCoder`] encodes and decodes over any stack of words; [`queue::RangeDecoder`] decodes over any source that is read from
-//! its beginning on. [`stored_weights`] reads and writes the weights of a model, and [`laws`] says what comes back.
+//! its beginning on. [`stored_weights`] reads and writes the weights of a model, [`counts`] makes weights of counts, [`bytes`] turns words into bytes and
+//! back, and [`laws`] says what comes back.
 #![tactic(auto)]
 
+pub mod bytes;
 mod callers;
+pub mod counts;
 pub mod laws;
 pub mod queue;
 pub mod stack;

@@ -1,10 +1,11 @@
 //! What comes back from a stack coder, each law the contract of a function.
 
-ghost use Rattle.std.specs.Prelude.{◌≡◌, ◌≢◌, ◌++◌, ◌∷◌, [], ℕ, Some, Ok, Err, IsTrue, length, reverse, IfOk, OnOk};
+ghost use Rattle.std.specs.Prelude.{◌≡◌, ◌≢◌, ◌++◌, ◌∷◌, [], ℕ, List, Some, Ok, Err, IsTrue, length, reverse, IfOk, OnOk};
 ghost use Rattle.std.specs.List.{AllZip};
 ghost use Rattle.constriction_coders.specs.Compressed.{IsCompressed, IsClosed, ClosingStops, IsOpened, OpeningStops};
-ghost use Rattle.constriction_coders.specs.Laws.{SymbolComesBack, SymbolsComeBack, EncodedOnce, EncodesThen};
-ghost use Rattle.constriction_coders.specs.Steps.{content, IsDecoded, EncodingStops, DecodingStops};
+ghost use Rattle.constriction_coders.specs.Laws.{SymbolComesBack, SymbolsComeBack, EncodedOnce, EncodesThen, IsInvertible, DecodedGoesBack, DecodedHasEntry};
+ghost use Rattle.constriction_coders.specs.StackMessages.{WordsOnce, WordsComeBack, SymbolsOnce, WordsEndAbove0};
+ghost use Rattle.constriction_coders.specs.Steps.{Content, content, MayBeHeld, IsDecoded, EncodingStops, DecodingStops};
 ghost use Rattle.constriction.specs.Coding.{InTurn, StandsForEqual};
 ghost use Rattle.constriction.specs.Model.{ClonesAreEqual};
 ghost use Rattle.constriction.specs.Rows.{entry_of};
@@ -41,6 +42,56 @@ where
     E: EncoderModel<PRECISION, Probability = u32>,
     ensures { EncodedOnce (entry_of E.symbol_eq (E.rows encoder.now)) PRECISION }
 {}
+
+/// What a coder holds: a state of 64 bits, which is below `2^32` only over no words. Other laws ask it of each content.
+pub fn may_be_held<Backend: WordStack<u32>>(coder: &AnsCoder<Backend>)
+    ensures { MayBeHeld (content coder.now.state (Backend.words_of coder.now.words)) }
+{
+    let _state = coder.state;
+}
+
+/// Words are those of one coder: they tell its state and the words under it.
+pub fn compressed_once()
+    ensures { (a b : Content) (all : List ℕ) → IsCompressed a all → IsCompressed b all → a ≡ b }
+{}
+
+/// What encodes by this model: symbols have one list of words, whoever encoded them, and it does not end in 0, so that
+/// [`from_compressed`](AnsCoder::from_compressed) accepts it.
+pub fn words_once<E, const PRECISION: usize>(encoder: &E)
+where
+    E: EncoderModel<PRECISION, Probability = u32>,
+    ensures once { WordsOnce (entry_of E.symbol_eq (E.rows encoder.now)) PRECISION }
+    ensures end { WordsEndAbove0 (entry_of E.symbol_eq (E.rows encoder.now)) PRECISION }
+{
+    encoded_once::<E, PRECISION>(encoder);
+}
+
+/// What encodes and decodes by these two models: from the words of symbols, whoever encoded them, as many are decoded that stand for
+/// these, in order, and then the coder holds nothing. So words have one list of so many symbols.
+pub fn words_come_back<D, E, const PRECISION: usize>(decoder: &D, encoder: &E)
+where
+    D: DecoderModel<PRECISION, Probability = u32>,
+    E: EncoderModel<PRECISION, Symbol = D::Symbol, Probability = u32>,
+    requires { (s : D.Symbol) → entry_of E.symbol_eq (E.rows encoder.now) s ≡ entry_of E.symbol_eq (D.rows decoder.now) s }
+    ensures back { WordsComeBack D.stands_for E.symbol_eq (entry_of E.symbol_eq (E.rows encoder.now)) (D.rows decoder.now) PRECISION }
+    ensures one { SymbolsOnce D.stands_for E.symbol_eq (entry_of E.symbol_eq (E.rows encoder.now)) (D.rows decoder.now) PRECISION }
+{
+    symbols_come_back::<D, E, PRECISION>(decoder, encoder);
+}
+
+/// What decodes and encodes by these two models, where the symbols of the rows differ and clones equal their symbols: a symbol that
+/// was decoded has an entry, and where it is encoded again, what the coder holds is as it was.
+pub fn decoded_goes_back<D, E, const PRECISION: usize>(decoder: &D, encoder: &E)
+where
+    D: DecoderModel<PRECISION, Probability = u32>,
+    E: EncoderModel<PRECISION, Symbol = D::Symbol, Probability = u32>,
+    requires alike { (s : D.Symbol) → entry_of E.symbol_eq (E.rows encoder.now) s ≡ entry_of E.symbol_eq (D.rows decoder.now) s }
+    requires invertible { IsInvertible E.symbol_eq D.stands_for (D.rows decoder.now) }
+    ensures known { DecodedHasEntry D.stands_for (entry_of E.symbol_eq (E.rows encoder.now)) (D.rows decoder.now) PRECISION }
+    ensures back { DecodedGoesBack D.stands_for (entry_of E.symbol_eq (E.rows encoder.now)) (D.rows decoder.now) PRECISION }
+{
+    encoded_once::<E, PRECISION>(encoder);
+}
 
 /// Encodes the symbols and decodes as many again: they come back in reverse, with the state and the words as before.
 ///
@@ -88,6 +139,47 @@ where
     match coder.decode_symbols(alloc, symbols.len(), decoder) {
         Ok(answers) => Ok(answers),
         Err(error) => Err(MessageFault::Decoding(error)),
+    }
+}
+
+/// Decodes a symbol and encodes it again: the coder holds what it held.
+///
+/// The symbol has an entry, so that a fault is that of a read or of a write, or memory for the symbol was refused. Where the write
+/// fails, the symbol stays decoded.
+pub fn back_and_there<Backend, D, E, const PRECISION: usize>(
+    coder: &mut AnsCoder<Backend>,
+    decoder: &D,
+    encoder: &E,
+) -> Result<
+    D::Symbol,
+    MessageFault<
+        CoderError<DefaultEncoderFrontendError, Backend::WriteError>,
+        CoderError<AllocError, Backend::ReadError>,
+    >,
+>
+where
+    Backend: WordStack<u32>,
+    D: DecoderModel<PRECISION, Probability = u32>,
+    D::Symbol: Drop,
+    E: EncoderModel<PRECISION, Symbol = D::Symbol, Probability = u32>,
+    requires alike { (s : D.Symbol) → entry_of E.symbol_eq (E.rows encoder.now) s ≡ entry_of E.symbol_eq (D.rows decoder.now) s }
+    requires invertible { IsInvertible E.symbol_eq D.stands_for (D.rows decoder.now) }
+    ensures possible { (fault : _) → result ≢ Err (MessageFault.Encoding (CoderError.Frontend fault)) }
+    ensures state { OnOk result (coder.new.state ≡ coder.old.state) }
+    ensures words { OnOk result (Backend.words_of coder.new.words ≡ Backend.words_of coder.old.words) }
+{
+    decoded_goes_back::<D, E, PRECISION>(decoder, encoder);
+    let _state = coder.state;
+    let symbol = match coder.decode_symbol(decoder) {
+        Ok(symbol) => symbol,
+        Err(error) => return Err(MessageFault::Decoding(error)),
+    };
+    match coder.encode_symbol(&symbol, encoder) {
+        Ok(()) => {
+            let _state = coder.state;
+            Ok(symbol)
+        }
+        Err(error) => Err(MessageFault::Encoding(error)),
     }
 }
 

@@ -1,8 +1,8 @@
 //! A stack coder, an asymmetric numeral system: what was encoded last is decoded first.
 
-ghost use Rattle.std.specs.Prelude.{◌≡◌, ◌≢◌, ◌+◌, ◌-◌, ◌*◌, ◌%◌, ◌^◌, ◌<◌, ◌≤◌, ◌⊎◌, ℕ, [], None, Err, IfOk, OnErr};
-ghost use Rattle.constriction_coders.specs.States.{put};
-ghost use Rattle.constriction_coders.specs.Steps.{content, IsWhole, Refills, NeedsWord, IsEncoded, IsDecoded};
+ghost use Rattle.std.specs.Prelude.{◌≡◌, ◌≢◌, ◌+◌, ◌-◌, ◌*◌, ◌%◌, ◌^◌, ◌<◌, ◌≤◌, ◌⊎◌, ℕ, [], None, Err, IfOk, OnOk, OnErr};
+ghost use Rattle.constriction_coders.specs.States.{put, taken};
+ghost use Rattle.constriction_coders.specs.Steps.{content, IsWhole, Refills, IsOnTop, NeedsWord, IsEncoded, IsDecoded};
 ghost use Rattle.constriction.specs.Model.{RowMayBeRefused};
 ghost use Rattle.constriction.specs.Rows.{entry_of};
 
@@ -78,6 +78,66 @@ fn refilled<Backend: WordStack<u32>>(
 }
 
 impl<Backend: WordStack<u32>> AnsCoder<Backend> {
+    /// Puts a symbol of this entry on top.
+    #[inline]
+    pub(crate) fn put_entry<const PRECISION: usize>(
+        &mut self,
+        left: u32,
+        weight: u32,
+    ) -> Result<(), Backend::WriteError>
+        requires positive { 0 < PRECISION }
+        requires fits { PRECISION ≤ 32 }
+        requires some { 0 < weight }
+        requires within { left + weight ≤ 2 ^ PRECISION }
+        ensures ok { OnOk result (IsOnTop PRECISION left weight (content self.new.state (Backend.words_of self.new.words))
+            (content self.old.state (Backend.words_of self.old.words))) }
+        ensures wrote { (self.new.words ≡ self.old.words)
+            ⊎ ((word : ℕ) × (answer : _) × Backend.write_gives self.old.words word answer self.new.words) }
+        ensures failed { (error : _) → result ≡ Err error
+            → (word : ℕ) × Backend.write_gives self.old.words word (Err error) self.new.words }
+        ensures state { OnErr result (self.new.state ≡ self.old.state) }
+        ensures words { OnErr result (Backend.words_of self.new.words ≡ Backend.words_of self.old.words) }
+    {
+        match with_room::<Backend, PRECISION>(&mut self.words, self.state, weight) {
+            Ok(kept) => {
+                self.state = with_entry::<PRECISION>(kept, left, weight);
+                Ok(())
+            }
+            Err(error) => Err(error),
+        }
+    }
+
+    /// Takes the symbol of this entry, which holds the quantile of the state, from the top.
+    #[inline]
+    pub(crate) fn take_entry<const PRECISION: usize>(
+        &mut self,
+        left: u32,
+        weight: u32,
+    ) -> Result<(), Backend::ReadError>
+        requires fits { PRECISION ≤ 32 }
+        requires some { 0 < weight }
+        requires within { left + weight ≤ 2 ^ PRECISION }
+        requires from { left ≤ self.old.state % 2 ^ PRECISION }
+        requires to { self.old.state % 2 ^ PRECISION < left + weight }
+        ensures ok { OnOk result (IsOnTop PRECISION left weight (content self.old.state (Backend.words_of self.old.words))
+            (content self.new.state (Backend.words_of self.new.words))) }
+        ensures read { (self.new.words ≡ self.old.words) ⊎ ((answer : _) × Backend.read_gives self.old.words answer self.new.words) }
+        ensures below { OnErr result (taken PRECISION left weight self.old.state < 2 ^ 32) }
+        ensures left { OnErr result (Backend.words_of self.old.words ≢ []) }
+        ensures failed { (error : _) → result ≡ Err error → Backend.read_gives self.old.words (Err error) self.new.words }
+        ensures state { OnErr result (self.new.state ≡ self.old.state) }
+        ensures words { OnErr result (Backend.words_of self.new.words ≡ Backend.words_of self.old.words) }
+    {
+        let state = without_entry::<PRECISION>(self.state, left, weight);
+        match refilled(&mut self.words, state) {
+            Ok(state) => {
+                self.state = state;
+                Ok(())
+            }
+            Err(error) => Err(error),
+        }
+    }
+
     /// Encodes a symbol.
     ///
     /// `ImpossibleSymbol` comes only where the model has no entry for it, and the backend's error only where a write answered that.
@@ -103,12 +163,8 @@ impl<Backend: WordStack<u32>> AnsCoder<Backend> {
         let Some((left, weight)) = model.left_cumulative_and_probability(symbol) else {
             return Err(CoderError::Frontend(DefaultEncoderFrontendError::ImpossibleSymbol));
         };
-        let weight = weight.get();
-        match with_room::<Backend, PRECISION>(&mut self.words, self.state, weight) {
-            Ok(kept) => {
-                self.state = with_entry::<PRECISION>(kept, left, weight);
-                Ok(())
-            }
+        match self.put_entry::<PRECISION>(left, weight.get()) {
+            Ok(()) => Ok(()),
             Err(error) => Err(CoderError::Backend(error)),
         }
     }
@@ -140,12 +196,8 @@ impl<Backend: WordStack<u32>> AnsCoder<Backend> {
             Ok(row) => row,
             Err(error) => return Err(CoderError::Frontend(error)),
         };
-        let state = without_entry::<PRECISION>(self.state, left, weight.get());
-        match refilled(&mut self.words, state) {
-            Ok(state) => {
-                self.state = state;
-                Ok(symbol)
-            }
+        match self.take_entry::<PRECISION>(left, weight.get()) {
+            Ok(()) => Ok(symbol),
             Err(error) => Err(CoderError::Backend(error)),
         }
     }

@@ -1,6 +1,6 @@
 //! What a coder holds as words alone, and the coder of such words.
 
-ghost use Rattle.std.specs.Prelude.{◌≡◌, ◌↔◌, ◌<◌, ◌≤◌, ◌^◌, ◌++◌, ◌∷◌, [], List, ℕ, Some, Ok, Err, IfOk, IsTrue, length, vec_capacity};
+ghost use Rattle.std.specs.Prelude.{◌≡◌, ◌≢◌, ◌↔◌, ◌<◌, ◌≤◌, ◌^◌, ◌++◌, ◌∷◌, [], List, ℕ, Some, Ok, Err, IfOk, IsTrue, length, vec_capacity};
 ghost use Rattle.constriction_coders.specs.Compressed.{IsCompressed, IsClosed, ClosingStops, IsOpened, OpeningStops};
 ghost use Rattle.constriction_coders.specs.Steps.{content};
 
@@ -57,6 +57,7 @@ impl<Backend: WordStack<u32> + Drop> AnsCoder<Backend> {
     /// Two words at most are written. An error is that of a write, and the words are let go.
     pub fn into_compressed(self) -> Result<Backend, Backend::WriteError>
         ensures ok { IfOk result (λ words. IsCompressed (content self.state (Backend.words_of self.words)) (Backend.words_of words)) }
+        ensures end { IfOk result (λ words. (others : List ℕ) → Backend.words_of words ≢ others ++ 0 ∷ []) }
         ensures wrote { IfOk result (λ words. IsClosed Backend.write_gives self.state self.words words) }
         ensures failed { (error : _) → result ≡ Err error → ClosingStops Backend.write_gives self.state self.words error }
     {
@@ -122,7 +123,8 @@ impl AnsCoder<Vec<u32>> {
     ///
     /// Memory for them is asked for once. An error is that it was refused.
     pub fn get_compressed(&self, alloc: Global) -> Result<Vec<u32>, AllocError>
-        ensures { IfOk result (λ all. IsCompressed (content self.now.state self.now.words.items) all.items) }
+        ensures ok { IfOk result (λ all. IsCompressed (content self.now.state self.now.words.items) all.items) }
+        ensures end { IfOk result (λ all. (others : List ℕ) → all.items ≢ others ++ 0 ∷ []) }
     {
         let mut all = Vec::with_capacity(alloc, self.num_words())?;
         all.extend_from_slice(&self.words)?;

@@ -1,0 +1,5 @@
+use Rattle.constriction_coders.proofs.Closing.{compressed-once}
+use Rattle.constriction_coders.proofs.laws.stack.compressed_once.Goals as goal
+
+pub returns : goal.returns
+returns c = λ a b all p q. compressed-once a b all p q

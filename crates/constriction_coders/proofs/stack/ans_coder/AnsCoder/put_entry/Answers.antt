@@ -1,0 +1,16 @@
+use Rattle.std.proofs.Common.{arith}
+use Rattle.constriction_coders.specs.Steps.{content}
+use Rattle.constriction_coders.proofs.Steps.{put-on-top}
+use Rattle.constriction_coders.proofs.stack.ans_coder.AnsCoder.put_entry.Goals as goal
+
+pub returns-in-Ok-clause-ok : goal.returns-in-Ok-clause-ok
+returns-in-Ok-clause-ok g c =
+    put-on-top g.row.PRECISION c.args.left c.args.weight c.in-Ok.kept c.with_entry-self.result
+    (g.Backend.WordStack.words_of c.with_room.new.words)
+    (content c.args.self.now.state (g.Backend.WordStack.words_of c.args.self.now.words))
+    c.requires.some c.requires.within c.with_entry-self.ensures c.in-Ok.ensures.ok
+
+pub invariant_of-self : goal.invariant_of-self
+invariant_of-self g c = record {
+  whole = λ below. c.in-Ok.ensures.whole c.args.left c.requires.within (omega (arith, below, c.with_entry-self.ensures));
+}

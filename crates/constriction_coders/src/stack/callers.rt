@@ -1,0 +1,72 @@
+//! What callers of a stack coder learn from the contracts alone: one encodes symbols, and the other has their words alone.
+
+ghost use Rattle.std.specs.Prelude.{◌≡◌, Err, IfOk, IfSome, List, length};
+ghost use Rattle.std.specs.List.{AllZip};
+ghost use Rattle.constriction.specs.Coding.{StandsForEqual};
+ghost use Rattle.constriction.specs.Rows.{entry_of};
+ghost use Rattle.constriction_coders.specs.StackMessages.{IsStackOf};
+
+use crate::laws::{words_come_back, words_once};
+use crate::stack::ans_coder::AnsCoder;
+use constriction::CoderError;
+use constriction::stream::model::{DecoderModel, EncoderModel};
+use std::alloc::Global;
+
+/// Why no symbols were decoded.
+#[derive(Debug, PartialEq, Eq, Drop)]
+pub enum WordsFault {
+    /// The words are not those of so many symbols.
+    OtherWords,
+    /// Memory for the symbols was refused.
+    OutOfMemory,
+}
+
+/// The words of symbols, the first one on top.
+pub fn words_of_symbols<E, const PRECISION: usize>(
+    alloc: Global,
+    encoder: &E,
+    symbols: &[E::Symbol],
+) -> Option<Vec<u32>>
+where
+    E: EncoderModel<PRECISION, Probability = u32>,
+    ensures { IfSome result (λ words. IsStackOf (entry_of E.symbol_eq (E.rows encoder.now)) PRECISION symbols.now words.items) }
+{
+    let mut coder = AnsCoder::new(alloc);
+    match coder.encode_symbols_reverse(symbols, encoder) {
+        Ok(()) => {}
+        Err(_) => return None,
+    }
+    coder.into_compressed().ok()
+}
+
+/// So many symbols of these words. Where they are the words of as many, these come back, and the words are not refused.
+pub fn symbols_of_words<M, const PRECISION: usize>(
+    alloc: Global,
+    model: &M,
+    words: Vec<u32>,
+    count: usize,
+) -> Result<Vec<M::Symbol>, WordsFault>
+where
+    M: EncoderModel<PRECISION, Probability = u32> + DecoderModel<PRECISION, Probability = u32>,
+    M::Symbol: Drop,
+    ensures back { IfOk result (λ answers. (symbols : List M.Symbol) → length symbols ≡ count
+        → IsStackOf (entry_of M.symbol_eq (M.rows model.now)) PRECISION symbols words.items
+        → AllZip (StandsForEqual M.stands_for M.symbol_eq) symbols answers.items) }
+    ensures accepted { result ≡ Err WordsFault.OtherWords → (symbols : List M.Symbol) → length symbols ≡ count
+        → ¬ (IsStackOf (entry_of M.symbol_eq (M.rows model.now)) PRECISION symbols words.items) }
+{
+    words_once::<M, PRECISION>(model);
+    words_come_back::<M, M, PRECISION>(model, model);
+    let mut coder = match AnsCoder::from_compressed(words) {
+        Ok(coder) => coder,
+        Err(CoderError::Frontend(_)) => return Err(WordsFault::OtherWords),
+        Err(CoderError::Backend(error)) => match error {},
+    };
+    let Ok(answers) = coder.decode_symbols(alloc, count, model) else {
+        return Err(WordsFault::OutOfMemory);
+    };
+    if !coder.is_empty() {
+        return Err(WordsFault::OtherWords);
+    }
+    Ok(answers)
+}
