@@ -1,8 +1,11 @@
+pub mod BitsComingBack
 pub mod Closing
 pub mod ComingBack
+pub mod Exchanging
 pub mod Giving
 pub mod GoingBack
 pub mod Intervals
+pub mod Placing
 pub mod Stacking
 pub mod States
 pub mod Steps

@@ -1,6 +1,8 @@
+pub mod BitsBack
 pub mod Compressed
 pub mod Intervals
 pub mod Laws
+pub mod Positions
 pub mod StackMessages
 pub mod States
 pub mod Steps

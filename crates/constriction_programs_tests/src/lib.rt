@@ -7,11 +7,17 @@
 #![tactic(auto)]
 
 #[cfg(test)]
+mod bits_back;
+#[cfg(test)]
 mod checks;
 #[cfg(test)]
 mod copies;
 #[cfg(test)]
 mod known;
+#[cfg(test)]
+mod messages_of_stack;
+#[cfg(test)]
+mod positions;
 #[cfg(test)]
 mod runs;
 #[cfg(test)]
