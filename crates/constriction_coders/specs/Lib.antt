@@ -1,6 +1,11 @@
 pub mod Compressed
 pub mod Intervals
 pub mod Laws
+pub mod Numbers
+pub mod Published
+pub mod RangeLaws
+pub mod RangeWalks
+pub mod Spans
 pub mod StackMessages
 pub mod States
 pub mod Steps

@@ -2,8 +2,13 @@
 
 use thiserror::Error;
 
+mod queue;
 mod stack;
 
+pub use self::queue::{
+    message_comes_back, message_from, message_of, one_message, published_message,
+    range_symbol_comes_back, range_symbols_come_back, sealed_words_tell,
+};
 pub use self::stack::{
     back_and_there, coder_comes_back, compressed_comes_back, compressed_once, decoded_goes_back,
     encoded_once, may_be_held, symbol_comes_back, symbols_come_back, there_and_back,

@@ -1,7 +1,6 @@
 //! A stack coder over any stack of words: what was encoded last is decoded first.
 
 mod ans_coder;
-mod callers;
 mod compressed;
 mod decoding_walk;
 mod encoding_walks;

@@ -13,6 +13,8 @@ mod copies;
 #[cfg(test)]
 mod known;
 #[cfg(test)]
+mod range_coder;
+#[cfg(test)]
 mod runs;
 #[cfg(test)]
 mod stored_weights;
