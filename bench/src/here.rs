@@ -58,6 +58,8 @@ exports! {
     coder_encode = kernel_coder_encode(weights: [u32], symbols: [u32]);
     coder_decode = kernel_coder_decode(weights: [u32], words: [u32]);
     coder_lookup_decode = kernel_coder_lookup_decode(weights: [u32], words: [u32]);
+    range_encode = kernel_range_encode(weights: [u32], symbols: [u32]);
+    range_decode = kernel_range_decode(weights: [u32], symbols: [u32]);
     cursor_queue_read = kernel_cursor_queue_read(words: [u32]);
     cursor_stack_read = kernel_cursor_stack_read(words: [u32]);
     reverse_stack_read = kernel_reverse_stack_read(words: [u32]);

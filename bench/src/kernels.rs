@@ -207,6 +207,11 @@ pub fn usual() -> Vec<Kernel> {
         kernels.push(kernel!("stack coder decode_symbol", "u32/24", table.rows, MANY, coder_decode(weights, words)));
         kernels.push(kernel!("stack coder decode_symbol, 4,096-slot lookup", "u32/24", table.rows, MANY, coder_lookup_decode(weights, words)).with(Sides::Search));
     }
+    for table in &tables[2..4] {
+        let (weights, indices) = (table.weights, table.indices);
+        kernels.push(kernel!("range coder encode_symbol", "u32/24", table.rows, MANY, range_encode(weights, indices)));
+        kernels.push(kernel!("range coder decode_symbol", "u32/24", table.rows, MANY, range_decode(weights, indices)));
+    }
     kernels.push(writing!("Cursor write", cursor_write(words)));
     kernels.push(kernel!("Cursor read, Queue", "u32", 0, MANY, cursor_queue_read(words)));
     kernels.push(kernel!("Cursor read, Stack", "u32", 0, MANY, cursor_stack_read(words)));

@@ -9,6 +9,7 @@ mod coder;
 mod contiguous;
 mod conversions;
 mod lookups;
+mod range_coder;
 mod searches;
 mod uniform;
 
@@ -20,6 +21,7 @@ pub use coder::*;
 pub use contiguous::*;
 pub use conversions::*;
 pub use lookups::*;
+pub use range_coder::*;
 pub use searches::*;
 pub use uniform::*;
 

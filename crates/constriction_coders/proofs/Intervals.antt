@@ -90,7 +90,7 @@ module _ {Symbol S E : Type 0} (Stands : Symbol → Symbol → Type 0) (MayRefus
     (gives : S → Result (Option ℕ) E → S → Type 0) (precision : ℕ) (old : Held S) (range offset : ℕ) (reached : S)
     (new_range new_offset : ℕ)
     (left : S) (stays : new_range ≡ range) (stands : new_offset ≡ offset) where
-  fault : {T : Type 0} (error : CoderError RangeDecodingFault E)
+  pub fault : {T : Type 0} (error : CoderError RangeDecodingFault E)
       → ((let r : Result T (CoderError RangeDecodingFault E) = Err error in r ≡ Err (Frontend InvalidData))
       → IsAboveAll precision (interval range offset))
       → ((let r : Result T (CoderError RangeDecodingFault E) = Err error in r ≡ Err (Frontend OutOfMemory))

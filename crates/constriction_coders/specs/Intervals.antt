@@ -16,22 +16,27 @@ pub record Interval : Type 0 where
 abbrev pub interval : ℕ → ℕ → Interval
 interval r o = record { range = r; offset = o }
 
--- how many numbers of the interval belong to each quantile
-abbrev pub unit_of : ℕ → Interval → ℕ
-unit_of precision i = i.range / 2 ^ precision
+-- how many of so many numbers belong to each quantile
+abbrev pub unit_of : (precision range : ℕ) → ℕ
+unit_of precision range = range / 2 ^ precision
 
 -- the point lies in the part of the interval that belongs to these quantiles
 pub record HoldsPoint (precision left weight : ℕ) (i : Interval) : Type 0 where
-  pub from : unit_of precision i * left ≤ i.offset
-  pub to : i.offset < unit_of precision i * (left + weight)
+  pub from : unit_of precision i.range * left ≤ i.offset
+  pub to : i.offset < unit_of precision i.range * (left + weight)
 
 -- the point lies above all parts
 abbrev pub IsAboveAll : ℕ → Interval → Type 0
-IsAboveAll precision i = unit_of precision i * 2 ^ precision ≤ i.offset
+IsAboveAll precision i = unit_of precision i.range * 2 ^ precision ≤ i.offset
 
 -- that part alone
 abbrev pub part_of : (precision left weight : ℕ) → Interval → Interval
-part_of precision left weight i = interval (unit_of precision i * weight) (i.offset - unit_of precision i * left)
+part_of precision left weight i = interval (unit_of precision i.range * weight) (i.offset - unit_of precision i.range * left)
+
+-- after the last symbol of a message the point lies no higher, whatever words come after those of the message; before the first one it may
+-- lie anywhere
+abbrev pub MayBeAtEnd : Interval → Type 0
+MayBeAtEnd i = (i.range ≡ 2 ^ 64 - 1) ⊎ (i.offset < 2 ^ 33 - 1)
 
 -- the word that a read answered, or 0 for one that is missing
 abbrev pub word_or_zero : Option ℕ → ℕ

@@ -2,7 +2,12 @@ pub mod BitsBack
 pub mod Compressed
 pub mod Intervals
 pub mod Laws
+pub mod Numbers
 pub mod Positions
+pub mod Published
+pub mod RangeLaws
+pub mod RangeWalks
+pub mod Spans
 pub mod StackMessages
 pub mod States
 pub mod Steps

@@ -2,8 +2,13 @@
 
 use thiserror::Error;
 
+mod queue;
 mod stack;
 
+pub use self::queue::{
+    message_comes_back, message_from, message_of, one_message, published_message,
+    range_symbol_comes_back, range_symbols_come_back, sealed_words_tell,
+};
 pub use self::stack::{
     back_and_there, bits_come_back, coder_comes_back, compressed_comes_back, compressed_once,
     decoded_goes_back, encoded_once, may_be_held, place_comes_back, symbol_comes_back,

@@ -1,6 +1,12 @@
 //! A range coder: what was encoded first is decoded first.
 
+mod carrying;
+mod decoding_walk;
+mod encoding_walk;
 mod interval;
 mod range_decoder;
+mod range_encoder;
 
+pub use self::decoding_walk::DecodeIidSymbols;
 pub use self::range_decoder::{RangeDecoder, RangeDecodingFault};
+pub use self::range_encoder::RangeEncoder;

@@ -2,7 +2,6 @@
 
 mod ans_coder;
 pub mod bits_back;
-mod callers;
 mod compressed;
 mod decoding_walk;
 mod encoding_walks;

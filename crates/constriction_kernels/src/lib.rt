@@ -15,5 +15,6 @@ pub mod coder;
 pub mod contiguous;
 pub mod conversions;
 pub mod lookups;
+pub mod range_coder;
 pub mod searches;
 pub mod uniform;

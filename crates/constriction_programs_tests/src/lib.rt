@@ -19,6 +19,8 @@ mod messages_of_stack;
 #[cfg(test)]
 mod positions;
 #[cfg(test)]
+mod range_coder;
+#[cfg(test)]
 mod runs;
 #[cfg(test)]
 mod stored_weights;

@@ -1,7 +1,10 @@
 //! A range decoder: what was encoded first is decoded first.
 
-ghost use Rattle.std.specs.Prelude.{◌≡◌, ◌+◌, ◌^◌, ◌<◌, ◌≤◌, ℕ, Some, None, Ok, Err, IfOk, IfErr, OnErr, length};
-ghost use Rattle.constriction_coders.specs.Intervals.{interval, held_of, word_or_zero, IsAboveAll, IsStart, IsRead, HoldsPoint, ReadingStops};
+ghost use Rattle.std.specs.Prelude.{◌≡◌, ◌≢◌, ◌+◌, ◌^◌, ◌<◌, ◌≤◌, [], ℕ, List, Some, None, Ok, Err, IfOk, IfErr, OnErr, IsTrue, length};
+ghost use Rattle.std.specs.Bool.{OnFalse};
+ghost use Rattle.constriction_coders.specs.Intervals.{interval, held_of, word_or_zero, IsAboveAll, IsStart, IsRead, HoldsPoint, MayBeAtEnd, ReadingStops};
+ghost use Rattle.constriction_coders.specs.RangeLaws.{IsAt};
+ghost use Rattle.constriction_coders.specs.Spans.{whole};
 ghost use Rattle.constriction.specs.Coding.{InTurn};
 ghost use Rattle.constriction.specs.Model.{RowMayBeRefused};
 
@@ -30,9 +33,9 @@ pub enum RangeDecodingFault {
 /// least `2^32` numbers, and the point lies in it, or just above the greatest one of all, at the start.
 #[derive(Drop)]
 pub struct RangeDecoder<Source: ReadWords<u32, Queue>> {
-    range: u64,
-    offset: u64,
-    words: Source,
+    pub(crate) range: u64,
+    pub(crate) offset: u64,
+    pub(crate) words: Source,
     ghost wide: { 2 ^ 32 ≤ range },
     ghost inside: { offset ≤ range },
 }
@@ -62,6 +65,8 @@ impl<Source: ReadWords<u32, Queue> + Drop> RangeDecoder<Source> {
         requires { Source.can_read words }
         ensures goes_on { IfOk result (λ decoder. Source.can_read decoder.words) }
         ensures ok { IfOk result (λ decoder. IsStart Source.read_gives words (interval decoder.range decoder.offset) decoder.words) }
+        ensures begins { IfOk result (λ decoder. (told : List ℕ) → Source.tells_upcoming words told
+            → IsAt Source.tells_upcoming whole told (held_of decoder.range decoder.offset decoder.words)) }
         ensures failed { (error : _) → result ≡ Err error → (reached left : Source) × Source.read_gives reached (Err error) left }
     {
         let mut words = words;
@@ -81,6 +86,16 @@ impl<Source: ReadWords<u32, Queue> + Drop> RangeDecoder<Source> {
 }
 
 impl<Source: ReadWords<u32, Queue>> RangeDecoder<Source> {
+    /// Whether all symbols may be decoded. `false` says that the decoder is not at the end of its message, where nothing comes after the
+    /// words of this; `true` says nothing.
+    pub fn maybe_exhausted(&self) -> bool
+        ensures near { IsTrue result → MayBeAtEnd (interval self.now.range self.now.offset) }
+        ensures left { OnFalse result (MayBeAtEnd (interval self.now.range self.now.offset)
+            → (words : List ℕ) → Source.tells_upcoming self.now.words words → words ≢ []) }
+    {
+        (self.range == u64::MAX || self.offset < (1 << 33) - 1) && self.words.maybe_exhausted()
+    }
+
     /// Decodes the next symbol. Where all were decoded, a symbol is decoded all the same, or the data is invalid.
     ///
     /// `InvalidData` comes only where the point lies above all quantiles, `OutOfMemory` only where the model may refuse the row

@@ -1,0 +1,68 @@
+-- The number of the words of a message is in each of its spans, and a message with a symbol leaves the span of none.
+use Rattle.std.proofs.Common.{◌≡◌, ℕ, ◌+◌, ◌-◌, ◌*◌, ◌/◌, ◌^◌, ◌<◌, ◌≤◌, Bool, List, [], ◌∷◌, get_or, Option, Some, ap, sym, ◌∙◌, subst, arith, inl, inr}
+use Rattle.std.specs.Prelude.{All}
+use Rattle.constriction.specs.Coding.{InTurn}
+use Rattle.constriction.specs.CodingLemmas.{entry-within, rows-within}
+use Rattle.constriction.specs.Rows.{Row, RowsTile, entry_of}
+use Rattle.constriction_coders.specs.Numbers.{number_first}
+use Rattle.constriction_coders.specs.RangeLaws.{LeavesWhole, LiesBefore}
+use Rattle.constriction_coders.specs.Spans.{Span, span, whole, part_in, IsWidened, IsNarrowed, LiesIn}
+use Rattle.constriction_coders.proofs.Narrowing.{part-within, part-less, unit-within}
+use Rattle.constriction_coders.proofs.NumberLemmas.{word-fits, first-more}
+
+module _ (words : List ℕ) (fit : All (λ w. w < 2 ^ 32) words) where
+  pub lies-unwidened : (part new : Span) → IsWidened part new → LiesIn new words → LiesIn part words
+  lies-unwidened part new (inl same) lies = subst (λ (s : Span). LiesIn s words) same.1 lies
+  lies-unwidened part new (inr wider) lies =
+      let there : LiesIn (span (part.low * 2 ^ 32) (part.size * 2 ^ 32) (part.written + 1)) words =
+      subst (λ (s : Span). LiesIn s words) wider.1 lies in
+      let sum : part.written + 1 + 2 ≡ part.written + 2 + 1 = omega arith in
+      let more : number_first (part.written + 1 + 2) words
+      ≡ number_first (part.written + 2) words * 2 ^ 32 + get_or words (part.written + 2) 0 =
+      ap (λ n. number_first n words) sum ∙ first-more (part.written + 2) words in
+      let word = word-fits words fit (part.written + 2) in
+      (omega (arith, there.0, more, word), omega (arith, there.1, more, word))
+
+  pub lies-before : (precision left weight : ℕ) (s new : Span) → left + weight ≤ 2 ^ precision
+      → IsWidened (part_in precision left weight s) new → LiesIn new words → LiesIn s words
+  lies-before precision left weight s new fits next lies =
+      let part = lies-unwidened (part_in precision left weight s) new next lies in
+      let within = part-within precision s.size (s.size / 2 ^ precision) left weight (unit-within s.size precision) fits in
+      (omega (arith, part.0), omega (arith, part.1, within))
+
+module _ {Symbol : Type 0} (eq : Symbol → Symbol → Bool) (entry : Symbol → Option (ℕ × ℕ)) (rows : List (Row Symbol)) (bits precision : ℕ)
+    (tile : RowsTile bits precision rows) (alike : (s : Symbol) → entry s ≡ entry_of eq rows s) where
+  pub fits-entry : (symbol : Symbol) (left weight : ℕ) → entry symbol ≡ Some (left, weight) → left + weight ≤ 2 ^ precision
+  fits-entry symbol left weight known =
+      entry-within precision eq rows symbol (left, weight) (sym known ∙ alike symbol) (rows-within bits precision rows tile)
+
+  pub lies-back : LiesBefore entry precision
+  lies-back symbol old new words fit e lies =
+      lies-before words fit precision e.left e.weight old new (fits-entry symbol e.left e.weight e.known) e.next lies
+
+  pub lies-run : (words : List ℕ) → All (λ w. w < 2 ^ 32) words → (symbols : List Symbol) (s last : Span)
+      → InTurn (IsNarrowed entry precision) symbols s last → LiesIn last words → LiesIn s words
+  lies-run words fit [] s last same lies = subst (λ (x : Span). LiesIn x words) (sym same) lies
+  lies-run words fit (x ∷ xs) s last e lies = lies-back x s e.0 words fit e.1 (lies-run words fit xs e.0 last e.2 lies)
+
+  module _ (positive : 0 < precision) where
+    pub leaves-whole : LeavesWhole entry precision
+    leaves-whole symbol s new e bound = go e.next
+      where
+        go : IsWidened (part_in precision e.left e.weight s) new → new.size < 2 ^ 64 - 1
+        go (inl same) =
+            let less = part-less precision s.size (s.size / 2 ^ precision) e.left e.weight positive (unit-within s.size precision) bound
+            (fits-entry symbol e.left e.weight e.known) in
+            omega (arith, less, ap (λ (x : Span). x.size) same.1)
+        go (inr wider) = omega (arith, wider.0, ap (λ (x : Span). x.size) wider.1)
+
+    size-run : (symbols : List Symbol) (s last : Span) → s.size < 2 ^ 64 - 1 → InTurn (IsNarrowed entry precision) symbols s last
+        → last.size < 2 ^ 64 - 1
+    size-run [] s last less same = omega (arith, less, ap (λ (x : Span). x.size) same)
+    size-run (x ∷ xs) s last less e = size-run xs e.0 last (leaves-whole x s e.0 e.1 (omega (arith, less))) e.2
+
+    -- symbols do not lead to the span of none
+    pub some-symbol : (x : Symbol) (xs : List Symbol) (last : Span) → InTurn (IsNarrowed entry precision) (x ∷ xs) whole last → last ≡ whole → ⊥
+    some-symbol x xs last e all =
+        let less = size-run xs e.0 last (leaves-whole x whole e.0 e.1 (omega arith)) e.2 in
+        omega (arith, less, ap (λ (s : Span). s.size) all)

@@ -1,0 +1,17 @@
+use Rattle.std.specs.Iterator.{IsFinite, size}
+use Rattle.constriction.specs.Rows.{entry_of}
+use Rattle.constriction_coders.proofs.GivingSpans.{GivenSoFar}
+use Rattle.constriction_coders.proofs.queue.range_encoder.RangeEncoder.encode_iid_symbols.Given as goal
+
+-- what was given so far was encoded
+abbrev pub invariant-turns : goal.invariant-turns
+invariant-turns g l = record {
+  next : g.I.IntoIter.Iterator.can_next l.given;
+  ends : IsFinite (g.I.IntoIter.Iterator.remaining l.given);
+  so_far : GivenSoFar g.I.IntoIter.Iterator.next_gives (entry_of g.E.EncoderModel.symbol_eq (g.E.EntropyModel.rows l.model)) g.row.PRECISION
+      l.initial.given l.given l.initial.self l.self;
+}
+
+-- how many symbols are left at most
+abbrev pub decreases-turns : goal.decreases-turns
+decreases-turns g l = size (g.I.IntoIter.Iterator.remaining l.given)

@@ -1,0 +1,93 @@
+-- What a range encoder holds, what a symbol does to it, and the words that stand for it.
+use Rattle.std.specs.Prelude.{◌≡◌, ◌≢◌, ℕ, ◌+◌, ◌-◌, ◌*◌, ◌^◌, ◌<◌, ◌≤◌, ◌⊎◌, List, [], ◌∷◌, ◌++◌, All, length, Option, Some, None}
+use Rattle.constriction.specs.Coding.{InTurn}
+use Rattle.constriction.specs.declared.CoderError.{CoderError}
+use Rattle.constriction.specs.declared.CoderError.TheVariants.{Frontend, Backend}
+use Rattle.constriction_coders.specs.Intervals.{unit_of}
+use Rattle.constriction_coders.specs.Numbers.{number_first, number_of}
+
+-- The numbers that a message may be sent as: so many from `low` on, each of as many words as are written, and two more.
+pub record Span : Type 0 where
+  pub low : ℕ
+  pub size : ℕ
+  pub written : ℕ
+
+abbrev pub span : (low size written : ℕ) → Span
+span l s w = record { low = l; size = s; written = w }
+
+-- the span of the message with no symbol
+abbrev pub whole : Span
+whole = span 0 (2 ^ 64 - 1) 0
+
+-- the span of an encoder: `lower` has the lower two words of the least number, and the words have the others
+abbrev pub span_of : (words : List ℕ) (lower range : ℕ) → Span
+span_of words lower range = span (number_of words * 2 ^ 64 + lower) range (length words)
+
+-- the numbers that belong to the quantiles of an entry
+abbrev pub part_in : (precision left weight : ℕ) → Span → Span
+part_in precision left weight s = span (s.low + unit_of precision s.size * left) (unit_of precision s.size * weight) s.written
+
+-- fewer than 2 ^ 32 numbers are given a word more
+abbrev pub IsWidened : Span → Span → Type 0
+IsWidened s new =
+    ((2 ^ 32 ≤ s.size) × (new ≡ s))
+    ⊎ ((s.size < 2 ^ 32) × (new ≡ span (s.low * 2 ^ 32) (s.size * 2 ^ 32) (s.written + 1)))
+
+-- a symbol leaves the part of its entry
+pub record IsNarrowed {Symbol : Type 0} (entry : Symbol → Option (ℕ × ℕ)) (precision : ℕ) (symbol : Symbol) (old new : Span)
+    : Type 0 where
+  pub left : ℕ
+  pub weight : ℕ
+  pub known : entry symbol ≡ Some (left, weight)
+  pub next : IsWidened (part_in precision left weight old) new
+
+-- what is so of each span of a message
+pub record IsReached (s : Span) : Type 0 where
+  pub wide : 2 ^ 32 ≤ s.size
+  pub within : s.low + s.size < 2 ^ (32 * (s.written + 2))
+  pub begun : s.size ≡ 2 ^ 64 - 1 → s ≡ whole
+
+-- why a symbol was not encoded: it has no entry; or its part needs a word, and memory for that was refused
+abbrev pub IsNarrowingFault : {Symbol Fault E : Type 0} → (Symbol → Option (ℕ × ℕ)) → (precision : ℕ) → CoderError Fault E → Symbol
+    → Span → Type 0
+IsNarrowingFault entry precision (Frontend fault) symbol s = entry symbol ≡ None
+IsNarrowingFault entry precision (Backend error) symbol s =
+    (left weight : ℕ) × (entry symbol ≡ Some (left, weight)) × (unit_of precision s.size * weight < 2 ^ 32)
+
+-- the symbols before one were encoded, and that one was not
+pub record NarrowingStops {Symbol Fault E : Type 0} (entry : Symbol → Option (ℕ × ℕ)) (precision : ℕ) (symbols : List Symbol)
+    (error : CoderError Fault E) (old new : Span) : Type 0 where
+  pub done : List Symbol
+  pub symbol : Symbol
+  pub after : List Symbol
+  pub split : symbols ≡ done ++ symbol ∷ after
+  pub led : InTurn (IsNarrowed entry precision) done old new
+  pub why : IsNarrowingFault entry precision error symbol new
+
+-- the number of the words, as many as the span's numbers have, is one of the span
+abbrev pub LiesIn : Span → List ℕ → Type 0
+LiesIn s words = (s.low ≤ number_first (s.written + 2) words) × (number_first (s.written + 2) words < s.low + s.size)
+
+-- The words tell what leads to the span: their number is one of it. To no symbol any words lead.
+pub record IsToldBy (s : Span) (words : List ℕ) : Type 0 where
+  pub fit : All (λ w. w < 2 ^ 32) words
+  pub lies : s ≢ whole → LiesIn s words
+
+-- `point` is the least number that is in the span with a word of 0 after it. It is written without that word where all numbers that begin
+-- with it are in the span, and otherwise with it.
+pub record IsPointOf (s : Span) (words : List ℕ) : Type 0 where
+  pub fit : All (λ w. w < 2 ^ 32) words
+  pub point : ℕ
+  pub from : s.low ≤ point * 2 ^ 32
+  pub to : point * 2 ^ 32 < s.low + s.size
+  pub least : point * 2 ^ 32 < s.low + 2 ^ 32
+  pub is : (((point + 1) * 2 ^ 32 ≤ s.low + s.size) × (number_of words ≡ point) × (length words ≡ s.written + 1))
+      ⊎ ((s.low + s.size < (point + 1) * 2 ^ 32) × (number_of words ≡ point * 2 ^ 32) × (length words ≡ s.written + 2))
+
+-- the words of a message: none where it has no symbol
+abbrev pub IsSealed : Span → List ℕ → Type 0
+IsSealed s words = ((s ≡ whole) × (words ≡ [])) ⊎ ((s ≢ whole) × IsPointOf s words)
+
+-- these are the words of these symbols
+abbrev pub IsMessageOf : {Symbol : Type 0} → (Symbol → Option (ℕ × ℕ)) → (precision : ℕ) → List Symbol → List ℕ → Type 0
+IsMessageOf entry precision symbols words = (last : Span) × InTurn (IsNarrowed entry precision) symbols whole last × IsSealed last words

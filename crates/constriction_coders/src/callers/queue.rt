@@ -1,0 +1,93 @@
+//! What callers of a range coder learn from the contracts alone.
+
+ghost use Rattle.std.specs.Prelude.{IfSome};
+ghost use Rattle.std.specs.List.{AllZip};
+ghost use Rattle.constriction.specs.Coding.{StandsForEqual};
+
+use crate::laws::{message_comes_back, message_from, message_of, range_symbol_comes_back};
+use crate::queue::{RangeDecoder, RangeEncoder};
+use constriction::backends::Cursor;
+use constriction::stream::model::{DecoderModel, EncoderModel};
+use std::alloc::Global;
+
+/// A message by any model that encodes and decodes.
+pub fn by_any_model<M, const PRECISION: usize>(
+    alloc: Global,
+    model: &M,
+    symbols: &[M::Symbol],
+) -> Option<Vec<M::Symbol>>
+where
+    M: EncoderModel<PRECISION, Probability = u32> + DecoderModel<PRECISION, Probability = u32>,
+    M::Symbol: Drop,
+    ensures { IfSome result (λ answers. AllZip (StandsForEqual M.stands_for M.symbol_eq) symbols.now answers.items) }
+{
+    message_comes_back::<M, M, PRECISION>(alloc, model, model, symbols).ok()
+}
+
+/// A message with other words after it.
+pub fn before_other_words<M, const PRECISION: usize>(
+    alloc: Global,
+    model: &M,
+    symbols: &[M::Symbol],
+    others: &[u32],
+) -> Option<Vec<M::Symbol>>
+where
+    M: EncoderModel<PRECISION, Probability = u32> + DecoderModel<PRECISION, Probability = u32>,
+    M::Symbol: Drop,
+    ensures { IfSome result (λ answers. AllZip (StandsForEqual M.stands_for M.symbol_eq) symbols.now answers.items) }
+{
+    let Ok(mut words) = message_of::<M, PRECISION>(alloc, model, symbols) else {
+        return None;
+    };
+    match words.extend_from_slice(others) {
+        Ok(()) => {}
+        Err(_) => return None,
+    }
+    let source = Cursor::new_at_write_beginning(words);
+    match message_from::<M, M, _, PRECISION>(alloc, source, symbols.len(), model, model) {
+        Ok(answers) => Some(answers),
+        Err(_) => None,
+    }
+}
+
+/// A message of two symbols, each by a model of its own.
+pub fn by_two_models<M, N, const FIRST: usize, const SECOND: usize>(
+    alloc: Global,
+    first: &M,
+    second: &N,
+    symbol: &M::Symbol,
+    other: &N::Symbol,
+) -> Option<(M::Symbol, N::Symbol)>
+where
+    M: EncoderModel<FIRST, Probability = u32> + DecoderModel<FIRST, Probability = u32>,
+    N: EncoderModel<SECOND, Probability = u32> + DecoderModel<SECOND, Probability = u32>,
+    M::Symbol: Drop,
+    N::Symbol: Drop,
+    ensures { IfSome result (λ answers. StandsForEqual M.stands_for M.symbol_eq symbol.now answers.0
+        × StandsForEqual N.stands_for N.symbol_eq other.now answers.1) }
+{
+    range_symbol_comes_back::<M, M, Cursor<u32, Vec<u32>>, FIRST>(first, first);
+    range_symbol_comes_back::<N, N, Cursor<u32, Vec<u32>>, SECOND>(second, second);
+    let mut coder = RangeEncoder::new(alloc);
+    match coder.encode_symbol::<M, FIRST>(symbol, first) {
+        Ok(()) => {}
+        Err(_) => return None,
+    }
+    match coder.encode_symbol::<N, SECOND>(other, second) {
+        Ok(()) => {}
+        Err(_) => return None,
+    }
+    let Ok(words) = coder.into_compressed() else {
+        return None;
+    };
+    let Ok(mut opened) = RangeDecoder::from_compressed(Cursor::new_at_write_beginning(words)) else {
+        return None;
+    };
+    let Ok(answer) = opened.decode_symbol::<M, FIRST>(first) else {
+        return None;
+    };
+    match opened.decode_symbol::<N, SECOND>(second) {
+        Ok(last) => Some((answer, last)),
+        Err(_) => None,
+    }
+}

@@ -1,0 +1,168 @@
+//! What comes back from a range coder, each law the contract of a function.
+
+ghost use Rattle.std.specs.Prelude.{◌≡◌, ◌≢◌, ◌++◌, ◌^◌, ◌<◌, ℕ, List, length, All, Some, None, Err, IsTrue, Contains, IfOk};
+ghost use Rattle.std.specs.List.{AllZip};
+ghost use Rattle.constriction_coders.specs.Published.{published_entries, published_words};
+ghost use Rattle.constriction_coders.specs.RangeLaws.{DecoderFollows, EndsThere, LeavesWhole, LiesBefore, MessageOnce, NeverAboveAll, RangeSymbolComesBack, RangeSymbolsComeBack, SealedWordsTell};
+ghost use Rattle.constriction_coders.specs.Spans.{IsMessageOf};
+ghost use Rattle.constriction.specs.Coding.{StandsForEqual};
+ghost use Rattle.constriction.specs.Model.{ClonesAreEqual};
+ghost use Rattle.constriction.specs.Rows.{entry_of};
+
+use crate::laws::MessageFault;
+use crate::queue::{RangeDecoder, RangeDecodingFault, RangeEncoder};
+use constriction::backends::{Cursor, ReadWords};
+use constriction::stream::model::{DecoderModel, EncoderModel};
+use constriction::{CoderError, DefaultEncoderFrontendError, Queue};
+use std::alloc::{AllocError, Global};
+use std::convert::Infallible;
+
+/// What encodes and decodes by these two models, whatever models the symbols before and after it have: a symbol comes back where
+/// the decoder is at the span before it and the number of the words is in the span after it. Then the decoder is at the span
+/// after it, and the number is in the span before it.
+pub fn range_symbol_comes_back<D, E, Source, const PRECISION: usize>(decoder: &D, encoder: &E)
+where
+    D: DecoderModel<PRECISION, Probability = u32>,
+    E: EncoderModel<PRECISION, Symbol = D::Symbol, Probability = u32>,
+    Source: ReadWords<u32, Queue>,
+    requires { (s : D.Symbol) → entry_of E.symbol_eq (E.rows encoder.now) s ≡ entry_of E.symbol_eq (D.rows decoder.now) s }
+    ensures back { RangeSymbolComesBack D.stands_for E.symbol_eq (entry_of E.symbol_eq (E.rows encoder.now)) (D.rows decoder.now)
+        Source.read_gives Source.tells_upcoming PRECISION }
+    ensures before { LiesBefore (entry_of E.symbol_eq (E.rows encoder.now)) PRECISION }
+    ensures leaves { LeavesWhole (entry_of E.symbol_eq (E.rows encoder.now)) PRECISION }
+{}
+
+/// What encodes and decodes by these two models: from any source that tells the words of a message, what is decoded stands for what
+/// was encoded, in order; the decoder is at the span of as many symbols; the words are never invalid before all symbols are
+/// decoded; and then the decoder may be at the end.
+pub fn range_symbols_come_back<D, E, Source, const PRECISION: usize>(decoder: &D, encoder: &E)
+where
+    D: DecoderModel<PRECISION, Probability = u32>,
+    E: EncoderModel<PRECISION, Symbol = D::Symbol, Probability = u32>,
+    Source: ReadWords<u32, Queue>,
+    requires { (s : D.Symbol) → entry_of E.symbol_eq (E.rows encoder.now) s ≡ entry_of E.symbol_eq (D.rows decoder.now) s }
+    ensures back { RangeSymbolsComeBack D.stands_for E.symbol_eq (entry_of E.symbol_eq (E.rows encoder.now)) (D.rows decoder.now)
+        Source.read_gives Source.tells_upcoming PRECISION }
+    ensures follows { DecoderFollows D.stands_for E.symbol_eq (entry_of E.symbol_eq (E.rows encoder.now)) (D.rows decoder.now)
+        Source.read_gives Source.tells_upcoming PRECISION }
+    ensures valid { NeverAboveAll D.stands_for E.symbol_eq (entry_of E.symbol_eq (E.rows encoder.now)) (D.rows decoder.now)
+        Source.read_gives Source.tells_upcoming PRECISION }
+    ensures ends { EndsThere D.stands_for E.symbol_eq (entry_of E.symbol_eq (E.rows encoder.now)) (D.rows decoder.now)
+        Source.read_gives Source.tells_upcoming PRECISION }
+{}
+
+/// The words of an encoder are words of its message, whatever words come after them.
+pub fn sealed_words_tell()
+    ensures { SealedWordsTell }
+{}
+
+/// What encodes by this model: symbols have one message, whoever encoded them.
+pub fn one_message<E, const PRECISION: usize>(encoder: &E)
+where
+    E: EncoderModel<PRECISION, Probability = u32>,
+    ensures { MessageOnce (entry_of E.symbol_eq (E.rows encoder.now)) PRECISION }
+{}
+
+/// The words that the Rust crate publishes are those of their symbols, by the definitions alone.
+pub fn published_message()
+    ensures { IsMessageOf (λ e. Some e) 24 published_entries published_words }
+{}
+
+/// The words of these symbols.
+///
+/// A symbol with no entry is not encoded. Any other error is that memory was refused.
+pub fn message_of<E, const PRECISION: usize>(
+    alloc: Global,
+    encoder: &E,
+    symbols: &[E::Symbol],
+) -> Result<Vec<u32>, CoderError<DefaultEncoderFrontendError, AllocError>>
+where
+    E: EncoderModel<PRECISION, Probability = u32>,
+    ensures ok { IfOk result (λ words. IsMessageOf (entry_of E.symbol_eq (E.rows encoder.now)) PRECISION symbols.now words.items) }
+    ensures impossible { result ≡ Err (CoderError.Frontend DefaultEncoderFrontendError.ImpossibleSymbol)
+        → (symbol : E.Symbol) × Contains symbols.now symbol × (entry_of E.symbol_eq (E.rows encoder.now) symbol ≡ None) }
+{
+    let mut coder = RangeEncoder::new(alloc);
+    match coder.encode_symbols(symbols, encoder) {
+        Ok(()) => {}
+        Err(error) => return Err(error),
+    }
+    match coder.into_compressed() {
+        Ok(words) => Ok(words),
+        Err(error) => Err(CoderError::Backend(error)),
+    }
+}
+
+/// Decodes a message from a source: where it tells the words of as many symbols, and whatever words after them, these come back in
+/// order, and the words are not invalid.
+pub fn message_from<D, E, Source, const PRECISION: usize>(
+    alloc: Global,
+    source: Source,
+    count: usize,
+    decoder: &D,
+    encoder: &E,
+) -> Result<Vec<D::Symbol>, CoderError<RangeDecodingFault, Source::ReadError>>
+where
+    D: DecoderModel<PRECISION, Probability = u32>,
+    D::Symbol: Drop,
+    E: EncoderModel<PRECISION, Symbol = D::Symbol, Probability = u32>,
+    Source: ReadWords<u32, Queue> + Drop,
+    requires alike { (s : D.Symbol) → entry_of E.symbol_eq (E.rows encoder.now) s ≡ entry_of E.symbol_eq (D.rows decoder.now) s }
+    requires can_read { Source.can_read source }
+    ensures back { IfOk result (λ answers. (symbols : List D.Symbol) (words more : List ℕ) → length symbols ≡ count
+        → IsMessageOf (entry_of E.symbol_eq (E.rows encoder.now)) PRECISION symbols words → All (λ w. w < 2 ^ 32) more
+        → Source.tells_upcoming source (words ++ more) → AllZip (StandsForEqual D.stands_for E.symbol_eq) symbols answers.items) }
+    ensures valid { result ≡ Err (CoderError.Frontend RangeDecodingFault.InvalidData)
+        → (symbols : List D.Symbol) (words more : List ℕ) → length symbols ≡ count
+        → IsMessageOf (entry_of E.symbol_eq (E.rows encoder.now)) PRECISION symbols words → All (λ w. w < 2 ^ 32) more
+        → ¬ (Source.tells_upcoming source (words ++ more)) }
+{
+    range_symbols_come_back::<D, E, Source, PRECISION>(decoder, encoder);
+    let mut opened = match RangeDecoder::from_compressed(source) {
+        Ok(opened) => opened,
+        Err(error) => return Err(CoderError::Backend(error)),
+    };
+    match opened.decode_symbols(alloc, count, decoder) {
+        Ok(answers) => Ok(answers),
+        Err(error) => Err(error),
+    }
+}
+
+/// Encodes the symbols and decodes as many: they come back in order.
+///
+/// What comes back stands for equal symbols: where the decoder owns its symbols it is a clone, and where a clone equals its symbol it is
+/// equal to what was encoded. A symbol with no entry is not encoded. Any other fault is that memory was refused.
+pub fn message_comes_back<D, E, const PRECISION: usize>(
+    alloc: Global,
+    decoder: &D,
+    encoder: &E,
+    symbols: &[D::Symbol],
+) -> Result<
+    Vec<D::Symbol>,
+    MessageFault<
+        CoderError<DefaultEncoderFrontendError, AllocError>,
+        CoderError<RangeDecodingFault, Infallible>,
+    >,
+>
+where
+    D: DecoderModel<PRECISION, Probability = u32>,
+    D::Symbol: Drop,
+    E: EncoderModel<PRECISION, Symbol = D::Symbol, Probability = u32>,
+    requires { (s : D.Symbol) → entry_of E.symbol_eq (E.rows encoder.now) s ≡ entry_of E.symbol_eq (D.rows decoder.now) s }
+    ensures back { IfOk result (λ answers. AllZip (StandsForEqual D.stands_for E.symbol_eq) symbols.now answers.items) }
+    ensures equal { IfOk result (λ answers. ClonesAreEqual E.symbol_eq D.stands_for
+        → AllZip (λ symbol answer. IsTrue (E.symbol_eq answer symbol)) symbols.now answers.items) }
+    ensures impossible { result ≡ Err (MessageFault.Encoding (CoderError.Frontend DefaultEncoderFrontendError.ImpossibleSymbol))
+        → (symbol : D.Symbol) × Contains symbols.now symbol × (entry_of E.symbol_eq (E.rows encoder.now) symbol ≡ None) }
+    ensures valid { result ≢ Err (MessageFault.Decoding (CoderError.Frontend RangeDecodingFault.InvalidData)) }
+{
+    let words = match message_of(alloc, encoder, symbols) {
+        Ok(words) => words,
+        Err(error) => return Err(MessageFault::Encoding(error)),
+    };
+    let source = Cursor::new_at_write_beginning(words);
+    match message_from(alloc, source, symbols.len(), decoder, encoder) {
+        Ok(answers) => Ok(answers),
+        Err(error) => Err(MessageFault::Decoding(error)),
+    }
+}

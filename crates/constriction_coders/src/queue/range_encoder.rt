@@ -1,0 +1,175 @@
+//! A range encoder: what is encoded first is decoded first.
+
+ghost use Rattle.std.specs.Prelude.{◌≡◌, ◌≢◌, ◌↔◌, ℕ, List, length, None, Err, IfOk, IfErr, OnErr, OnOk, IsTrue};
+ghost use Rattle.constriction_coders.specs.Spans.{whole, IsNarrowed, IsNarrowingFault, NarrowingStops, IsSealed};
+ghost use Rattle.constriction.specs.Coding.{InTurn};
+ghost use Rattle.constriction.specs.Rows.{entry_of};
+
+use crate::queue::carrying::{ends_in_zero, raised, sealed, widened};
+use crate::queue::interval::unit_of;
+use constriction::stream::model::EncoderModel;
+use constriction::{CoderError, DefaultEncoderFrontendError};
+use std::alloc::{AllocError, Global};
+use std::marker::Model;
+
+/// A range encoder over words of 32 bits, in the format of the Rust crate's `DefaultRangeEncoder`.
+///
+/// It holds a span of numbers, of which each symbol leaves a part. At last any number of the span is the message. The least
+/// one is the words with `lower` after them, and there are `range` of them. A carry goes into the words that are written
+/// already, so that none is held back. A symbol costs two multiplications, and at most one word is written; where the lower
+/// end of its part carries, words of all ones are cleared up to one that is not.
+///
+/// Clauses see the span.
+#[derive(Drop)]
+pub struct RangeEncoder {
+    words: Vec<u32>,
+    lower: u64,
+    range: u64,
+}
+
+impl Model for RangeEncoder {
+    ghost use Rattle.constriction_coders.specs.Spans.{Span, span_of, IsReached};
+
+    ghost Value = { Span };
+
+    ghost view = { λ c. span_of c.words.items c.lower c.range };
+
+    ghost invariant = { λ c. IsReached (span_of c.words.items c.lower c.range) };
+}
+
+impl RangeEncoder {
+    /// An encoder that holds no symbol yet. No memory is asked for.
+    pub fn new(alloc: Global) -> Self
+        ensures { result ≡ whole }
+    {
+        Self {
+            words: Vec::new(alloc),
+            lower: 0,
+            range: u64::MAX,
+        }
+    }
+
+    /// Whether no symbol is encoded.
+    pub fn is_empty(&self) -> bool
+        ensures { IsTrue result ↔ (self.now ≡ whole) }
+    {
+        self.range == u64::MAX
+    }
+
+    /// How many words [`into_compressed`](Self::into_compressed) gives.
+    pub fn num_words(&self) -> usize
+        ensures { (words : List ℕ) → IsSealed self.now words → result ≡ length words }
+    {
+        if self.range == u64::MAX {
+            return 0;
+        }
+        let words = self.words.as_slice();
+        if ends_in_zero(self.lower, self.range) {
+            words.len() + 2
+        } else {
+            words.len() + 1
+        }
+    }
+
+    /// Forgets all symbols. The memory of the words is kept.
+    pub fn clear(&mut self)
+        ensures { self.new ≡ whole }
+    {
+        self.words.clear();
+        self.lower = 0;
+        self.range = u64::MAX;
+    }
+
+    /// Encodes a symbol.
+    ///
+    /// `ImpossibleSymbol` comes only where the model has no entry for it, and `AllocError` only where a word is to be written. An error
+    /// leaves the encoder as it was.
+    pub fn encode_symbol<E, const PRECISION: usize>(
+        &mut self,
+        symbol: &E::Symbol,
+        model: &E,
+    ) -> Result<(), CoderError<DefaultEncoderFrontendError, AllocError>>
+    where
+        E: EncoderModel<PRECISION, Probability = u32>,
+        ensures ok { OnOk result (IsNarrowed (entry_of E.symbol_eq (E.rows model.now)) PRECISION symbol.now self.old self.new) }
+        ensures impossible { result ≡ Err (CoderError.Frontend DefaultEncoderFrontendError.ImpossibleSymbol)
+            ↔ (entry_of E.symbol_eq (E.rows model.now) symbol.now ≡ None) }
+        ensures fault { IfErr result (λ error. IsNarrowingFault (entry_of E.symbol_eq (E.rows model.now)) PRECISION error symbol.now
+            self.old) }
+        ensures err { OnErr result (self.new ≡ self.old) }
+    {
+        let Some((left, weight)) = model.left_cumulative_and_probability(symbol) else {
+            return Err(CoderError::Frontend(DefaultEncoderFrontendError::ImpossibleSymbol));
+        };
+        let unit = unit_of::<PRECISION>(self.range);
+        let by = unit * left as u64;
+        let range = unit * weight.get() as u64;
+        if range >= 1 << 32 {
+            self.lower = raised(&mut self.words, self.lower, by);
+            self.range = range;
+            return Ok(());
+        }
+        match self.words.reserve(1) {
+            Ok(()) => {}
+            Err(error) => return Err(CoderError::Backend(error)),
+        }
+        let lower = raised(&mut self.words, self.lower, by);
+        self.lower = widened(&mut self.words, lower);
+        self.range = range << 32;
+        Ok(())
+    }
+
+    /// Encodes the symbols, the first one first. An error leaves those before the symbol that was not encoded.
+    pub fn encode_symbols<E, const PRECISION: usize>(
+        &mut self,
+        symbols: &[E::Symbol],
+        model: &E,
+    ) -> Result<(), CoderError<DefaultEncoderFrontendError, AllocError>>
+    where
+        E: EncoderModel<PRECISION, Probability = u32>,
+        ensures ok { OnOk result (InTurn (IsNarrowed (entry_of E.symbol_eq (E.rows model.now)) PRECISION) symbols.now
+            self.old self.new) }
+        ensures err { IfErr result (λ error. NarrowingStops (entry_of E.symbol_eq (E.rows model.now)) PRECISION symbols.now error
+            self.old self.new) }
+    {
+        for symbol in symbols {
+            match self.encode_symbol(symbol, model) {
+                Ok(()) => {}
+                Err(error) => return Err(error),
+            }
+        }
+        Ok(())
+    }
+
+    /// A copy of the words that [`into_compressed`](Self::into_compressed) gives. The encoder stays as it is.
+    ///
+    /// Memory for them is asked for once, where there are any. An error is that it was refused.
+    pub fn get_compressed(&self, alloc: Global) -> Result<Vec<u32>, AllocError>
+        ensures ok { IfOk result (λ words. IsSealed self.now words.items) }
+        ensures memory { OnErr result (self.now ≢ whole) }
+    {
+        if self.range == u64::MAX {
+            return Ok(Vec::new(alloc));
+        }
+        let words = self.words.as_slice();
+        let mut all = Vec::with_capacity(alloc, words.len() + 2)?;
+        all.extend_from_slice(words)?;
+        sealed(all, self.lower, self.range)
+    }
+
+    /// The words of the message: none where no symbol is encoded, and otherwise one or two more than were written.
+    ///
+    /// They are decoded alike whatever words come after them. An error is that memory for these words was refused, and the encoder is
+    /// dropped.
+    pub fn into_compressed(self) -> Result<Vec<u32>, AllocError>
+        ensures ok { IfOk result (λ words. IsSealed self words.items) }
+        ensures memory { OnErr result (self ≢ whole) }
+    {
+        let lower = self.lower;
+        let range = self.range;
+        if range == u64::MAX {
+            return Ok(self.words);
+        }
+        sealed(self.words, lower, range)
+    }
+}

@@ -1,0 +1,188 @@
+//! Messages of the range coder: where a carry goes, what is at their ends, what leaves an encoder as it was, and words that are not
+//! those of a message. The words are those of the format's formulas.
+
+use crate::checks::{holds, same};
+use constriction::backends::Cursor;
+use constriction::stream::model::{ContiguousCategoricalEntropyModel, DefaultUniformModel};
+use constriction::{CoderError, DefaultEncoderFrontendError};
+use constriction_coders::laws::{message_comes_back, message_from, message_of};
+use constriction_coders::queue::{RangeDecoder, RangeDecodingFault, RangeEncoder};
+use std::alloc::Global;
+use std::process::Abort;
+
+/// The symbols 0, 1 and 2, with a quarter, a half and a quarter of the quantiles.
+type Quarters = ContiguousCategoricalEntropyModel<u32, Vec<u32>, 2>;
+
+/// How often the middle symbol is encoded, the symbol after these, where there is one, and the words. The middle symbols
+/// lead to words of all ones, and a last one or the end of the message carries into them.
+const MESSAGES: [(usize, Option<usize>, &[u32]); 8] = [
+    (0, None, &[]),
+    (0, Some(0), &[0]),
+    (31, None, &[0x7FFF_FFFF]),
+    (62, None, &[0x7FFF_FFFF, 0xFFFF_FFDE]),
+    (63, None, &[0x7FFF_FFFF, 0xFFFF_FFDF, 0]),
+    (127, None, &[0x7FFF_FFFF, 0xFFFF_FFDF, 0, 0, 0]),
+    (128, Some(2), &[0x7FFF_FFFF, 0xFFFF_FFDF, 0, 0, 0x4000_0000]),
+    (
+        128,
+        Some(0),
+        &[
+            0x7FFF_FFFF,
+            0xFFFF_FFDE,
+            0xFFFF_FFFF,
+            0xFFFF_FFFF,
+            0x8000_0001,
+        ],
+    ),
+];
+
+/// So many middle symbols, and the one after these.
+fn symbols_of(rt: &impl Abort, alloc: Global, middle: usize, last: Option<usize>) -> Vec<usize> {
+    let mut symbols = Vec::new(alloc);
+    for _ in 0..middle {
+        symbols.push(1).expect(rt, "memory");
+    }
+    if let Some(last) = last {
+        symbols.push(last).expect(rt, "memory");
+    }
+    symbols
+}
+
+/// Encodes the symbols, and compares all that tells the words.
+fn encodes(rt: &impl Abort, alloc: Global, model: &Quarters, symbols: &[usize], words: &[u32]) {
+    let mut coder = RangeEncoder::new(alloc);
+    same(rt, coder.encode_symbols(symbols, model), Ok(()));
+    same(rt, coder.is_empty(), words.is_empty());
+    same(rt, coder.num_words(), words.len());
+    let copy = coder.get_compressed(alloc).expect(rt, "memory");
+    holds(rt, &copy, words);
+    let made = coder.into_compressed().expect(rt, "memory");
+    holds(rt, &made, words);
+}
+
+/// Decodes the words, and the same ones with two words of ones after them.
+fn decodes(rt: &impl Abort, alloc: Global, model: &Quarters, symbols: &[usize], words: &[u32]) {
+    let mut more = words.to_vec(alloc).expect(rt, "memory");
+    more.extend_from_slice(&[u32::MAX; 2]).expect(rt, "memory");
+    for words in [words, more.as_slice()] {
+        let source = Cursor::<u32, &[u32]>::new_at_write_beginning(words);
+        let mut coder = RangeDecoder::from_compressed(source).expect(rt, "no read fails");
+        let found = coder.decode_symbols(alloc, symbols.len(), model);
+        holds(rt, &found.expect(rt, "the symbols"), symbols);
+    }
+}
+
+#[test]
+fn a_carry_goes_as_far_as_words_are_full(rt: HostRuntime) {
+    let alloc = rt.alloc();
+    let weights = [1u32, 2, 1].iter().copied();
+    let model = Quarters::from_nonzero_fixed_point_probabilities(alloc, weights, false);
+    let model = model.expect(&rt, "the model");
+    for (middle, last, words) in &MESSAGES {
+        let symbols = symbols_of(&rt, alloc, *middle, *last);
+        encodes(&rt, alloc, &model, &symbols, words);
+        decodes(&rt, alloc, &model, &symbols, words);
+    }
+}
+
+/// The words of the ten numbers from 990 on, which are as likely as a thousand.
+const LAST_TEN: [u32; 4] = [0xFDB0_D073, 0xB20E_D10D, 0x2470_C869, 0x265E_B9CD];
+
+/// An encoder of what iterators give takes no symbol that has no entry, and asks for none after it. It encodes on.
+#[test]
+fn an_impossible_symbol_leaves_the_encoder_as_it_was(rt: HostRuntime) {
+    let alloc = rt.alloc();
+    let model = DefaultUniformModel::new(1000);
+    let mut coder = RangeEncoder::new(alloc);
+    same(&rt, coder.encode_symbol(&7, &model), Ok(()));
+    coder.clear();
+    same(&rt, coder.is_empty(), true);
+    let impossible = CoderError::Frontend(DefaultEncoderFrontendError::ImpossibleSymbol);
+    same(&rt, coder.encode_symbol(&1000, &model), Err(impossible));
+    same(&rt, coder.is_empty(), true);
+    let mut given = [990, 991, 1000, 5].iter().copied();
+    let impossible = CoderError::Frontend(DefaultEncoderFrontendError::ImpossibleSymbol);
+    same(
+        &rt,
+        coder.encode_iid_symbols(&mut given, &model),
+        Err(impossible),
+    );
+    same(&rt, given.next(), Some(5));
+    same(&rt, coder.encode_iid_symbols(992..1000, &model), Ok(()));
+    let words = coder.into_compressed().expect(&rt, "memory");
+    holds(&rt, &words, &LAST_TEN);
+}
+
+/// A walk gives as many symbols as it is asked for, and the others stay. At the end of the words the decoder says so, and with
+/// other words after them it does not.
+#[test]
+fn a_walk_decodes_as_many_symbols_as_are_asked_for(rt: HostRuntime) {
+    let model = DefaultUniformModel::new(1000);
+    let source = Cursor::<u32, [u32; 4]>::new_at_write_beginning(LAST_TEN);
+    let mut coder = RangeDecoder::from_compressed(source).expect(&rt, "no read fails");
+    let mut walk = coder.decode_iid_symbols(2, &model);
+    for (expected, left) in [(990, 1), (991, 0)] {
+        match walk.next() {
+            Some(Ok(symbol)) => same(&rt, symbol, expected),
+            _ => panic!(&rt; "no symbol"),
+        }
+        same(&rt, walk.len(), left);
+        same(&rt, walk.size_hint(), (left, Some(left)));
+    }
+    same(&rt, walk.next().is_none(), true);
+    same(&rt, coder.maybe_exhausted(), false);
+    let mut rest = 992..1000;
+    for answer in coder.decode_iid_symbols(8, &model) {
+        same(&rt, answer.ok(), rest.next());
+    }
+    same(&rt, coder.maybe_exhausted(), true);
+}
+
+/// Words that are cut, and words of which a bit is turned, and the ten symbols that are decoded from them.
+const OTHER_MESSAGES: [(&[u32], [usize; 10]); 3] = [
+    (&[], [0; 10]),
+    (
+        &[0xFDB0_D073, 0xB20E_D10D, 0x2470_C869],
+        [990, 991, 992, 993, 994, 995, 996, 997, 998, 997],
+    ),
+    (
+        &[0xFDB0_D073, 0xB21E_D10D, 0x2470_C869, 0x265E_B9CD],
+        [990, 991, 992, 994, 51, 854, 466, 366, 817, 995],
+    ),
+];
+
+/// Words of a damaged message are decoded to other symbols. Only a point above all quantiles is invalid, which stays so.
+#[test]
+fn words_of_no_message_are_decoded_or_invalid(rt: HostRuntime) {
+    let alloc = rt.alloc();
+    let model = DefaultUniformModel::new(1000);
+    for (words, symbols) in &OTHER_MESSAGES {
+        let source = Cursor::<u32, &[u32]>::new_at_write_beginning(words);
+        let mut coder = RangeDecoder::from_compressed(source).expect(&rt, "no read fails");
+        let found = coder.decode_symbols(alloc, 10, &model);
+        holds(&rt, &found.expect(&rt, "the symbols"), symbols);
+    }
+    let source = Cursor::<u32, [u32; 3]>::new_at_write_beginning([u32::MAX; 3]);
+    let mut coder = RangeDecoder::from_compressed(source).expect(&rt, "no read fails");
+    for _ in 0..2 {
+        let invalid = CoderError::Frontend(RangeDecodingFault::InvalidData);
+        same(&rt, coder.decode_symbol(&model), Err(invalid));
+        same(&rt, coder.maybe_exhausted(), false);
+    }
+}
+
+/// A message by the calls that have its laws.
+#[test]
+fn a_message_comes_back(rt: HostRuntime) {
+    let alloc = rt.alloc();
+    let model = DefaultUniformModel::new(1000);
+    let symbols = [990, 991, 992, 993, 994, 995, 996, 997, 998, 999];
+    let words = message_of(alloc, &model, &symbols).expect(&rt, "the words");
+    holds(&rt, &words, &LAST_TEN);
+    let source = Cursor::<u32, Vec<u32>>::new_at_write_beginning(words);
+    let found = message_from(alloc, source, 10, &model, &model);
+    holds(&rt, &found.expect(&rt, "the symbols"), &symbols);
+    let found = message_comes_back(alloc, &model, &model, &symbols);
+    holds(&rt, &found.expect(&rt, "the symbols"), &symbols);
+    same(&rt, message_of(alloc, &model, &[1000]).is_err(), true);
+}
