@@ -1,6 +1,5 @@
--- What a decoder of a message answers, from the laws.
-use Rattle.std.proofs.Common.{◌≡◌, ℕ, ◌^◌, ◌<◌, ◌≤◌, Bool, List, ◌++◌, Option, Result, length, subst, arith, inl, inr}
-use Rattle.std.specs.Prelude.{All}
+-- What a decoder of symbols that were encoded answers, from the laws.
+use Rattle.std.proofs.Common.{◌≡◌, ℕ, ◌^◌, ◌<◌, ◌≤◌, Bool, List, Option, Result, length, subst, arith, inl, inr}
 use Rattle.std.specs.List.{AllZip}
 use Rattle.std.proofs.lemmas.List.{take_all}
 use Rattle.constriction.specs.Coding.{InTurn, StandsForEqual}
@@ -11,47 +10,46 @@ use Rattle.constriction_coders.specs.Intervals.{Interval, Held, IsRead, ReadingS
 use Rattle.constriction_coders.specs.declared.queue.range_decoder.RangeDecodingFault.{RangeDecodingFault}
 use Rattle.constriction_coders.specs.declared.queue.range_decoder.RangeDecodingFault.TheVariants.{InvalidData}
 use Rattle.constriction_coders.specs.RangeLaws.{IsAt, IsDecodedFrom, RangeSymbolsComeBack, NeverAboveAll}
-use Rattle.constriction_coders.specs.Spans.{whole, IsMessageOf}
-use Rattle.constriction_coders.proofs.Sealing.{sealed-tell}
+use Rattle.constriction_coders.specs.Spans.{Span, whole, IsNarrowed, IsToldBy}
 
 module _ {Symbol S E : Type 0} (Stands : Symbol → Symbol → Type 0) (eq : Symbol → Symbol → Bool) (entry : Symbol → Option (ℕ × ℕ))
     (rows : List (Row Symbol)) (gives : S → Result (Option ℕ) E → S → Type 0) (tells : S → List ℕ → Type 0) (precision : ℕ)
     (start : Held S) (count : ℕ) where
-  decoded-from : (symbols answers : List Symbol) (now : Held S) (words more : List ℕ) → IsMessageOf entry precision symbols words
-      → All (λ w. w < 2 ^ 32) more → IsAt tells whole (words ++ more) start
-      → InTurn (IsRead Stands rows gives precision) answers start now → length answers ≤ length symbols
-      → IsDecodedFrom Stands eq entry rows gives tells precision symbols answers (words ++ more) now
-  decoded-from symbols answers now words more message fit begun decoded as_many = record {
-    last = message.0;
-    encoded = message.1;
-    message = sealed-tell message.0 words more message.2 fit;
-    start = start;
-    begun = begun;
-    decoded = decoded;
-    as_many = as_many;
-  }
-
   pub came-back : RangeSymbolsComeBack Stands eq entry rows gives tells precision → (answers : List Symbol) (now : Held S)
       → InTurn (IsRead Stands rows gives precision) answers start now → length answers ≡ count
-      → (symbols : List Symbol) (words more : List ℕ) → length symbols ≡ count → IsMessageOf entry precision symbols words
-      → All (λ w. w < 2 ^ 32) more → IsAt tells whole (words ++ more) start
+      → (symbols : List Symbol) (words : List ℕ) (last : Span) → length symbols ≡ count
+      → InTurn (IsNarrowed entry precision) symbols whole last → IsToldBy last words → IsAt tells whole words start
       → AllZip (StandsForEqual Stands eq) symbols answers
-  came-back back answers now decoded many symbols words more long message fit begun =
+  came-back back answers now decoded many symbols words last long encoded message begun =
       subst (λ (ss : List Symbol). AllZip (StandsForEqual Stands eq) ss answers) (take_all (length answers) symbols (omega (arith, many, long)))
-      (back symbols answers (words ++ more) now (decoded-from symbols answers now words more message fit begun decoded (omega (arith, many, long))))
+      (back symbols answers words now (record {
+        last = last;
+        encoded = encoded;
+        message = message;
+        start = start;
+        begun = begun;
+        decoded = decoded;
+        as_many = omega (arith, many, long);
+      }))
 
   pub not-invalid : NeverAboveAll Stands eq entry rows gives tells precision → (MayRefuse : Symbol → Type 0)
       → (error : CoderError RangeDecodingFault E) (held : Interval) (left : S)
       → ReadingStops Stands MayRefuse rows gives precision count error start held left → error ≡ Frontend InvalidData
-      → (symbols : List Symbol) (words more : List ℕ) → length symbols ≡ count → IsMessageOf entry precision symbols words
-      → All (λ w. w < 2 ^ 32) more → IsAt tells whole (words ++ more) start → ⊥
-  not-invalid valid MayRefuse error held left stops is symbols words more long message fit begun =
+      → (symbols : List Symbol) (words : List ℕ) (last : Span) → length symbols ≡ count
+      → InTurn (IsNarrowed entry precision) symbols whole last → IsToldBy last words → IsAt tells whole words start → ⊥
+  not-invalid valid MayRefuse error held left stops is symbols words last long encoded message begun =
       let invalid = subst (λ (e : CoderError RangeDecodingFault E). ReadingStops Stands MayRefuse rows gives precision count e start held left)
       is stops in
-      let now : Held S = record { held = held; source = invalid.reached } in
       elim invalid.why [
         | inl fewer ↦
-            valid symbols invalid.done (words ++ more) now (decoded-from symbols invalid.done now words more message fit begun invalid.led
-            (omega (arith, fewer.0, long))) (omega (arith, fewer.0, long)) fewer.1.0
+            valid symbols invalid.done words (record { held = held; source = invalid.reached }) (record {
+              last = last;
+              encoded = encoded;
+              message = message;
+              start = start;
+              begun = begun;
+              decoded = invalid.led;
+              as_many = omega (arith, fewer.0, long);
+            }) (omega (arith, fewer.0, long)) fewer.1.0
         | inr none ↦ cc (none.1)
       ]

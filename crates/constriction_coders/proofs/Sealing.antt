@@ -1,12 +1,13 @@
 -- The words of a message.
-use Rattle.std.proofs.Common.{◌≡◌, ℕ, ◌+◌, ◌-◌, ◌*◌, ◌/◌, ◌^◌, ◌<◌, ◌≤◌, List, [], ◌∷◌, ◌++◌, length, get_or, ap, sym, ◌∙◌, subst, arith, inl, inr}
-use Rattle.std.specs.Prelude.{All}
-use Rattle.std.proofs.lemmas.List.{length_push}
+use Rattle.std.proofs.Common.{◌≡◌, ℕ, zero, suc, ◌+◌, ◌-◌, ◌*◌, ◌/◌, ◌%◌, ◌^◌, ◌<◌, ◌≤◌, List, [], ◌∷◌, ◌++◌, length, get_or, ap, sym, ◌∙◌, subst, arith, inl, inr}
+use Rattle.std.specs.Bool.{OnFalse}
+use Rattle.std.specs.Prelude.{◌≢◌, ◌↔◌, All, Bool, true, false, IsTrue}
+use Rattle.std.proofs.lemmas.List.{append_assoc, length-append, length_push, nil_from_length}
 use Rattle.std.proofs.lemmas.List.Elements.{All-append}
 use Rattle.constriction_coders.specs.Intervals.{Interval, interval, MayBeAtEnd}
 use Rattle.constriction_coders.specs.Numbers.{number_first, number_of}
 use Rattle.constriction_coders.specs.RangeLaws.{SealedWordsTell}
-use Rattle.constriction_coders.specs.Spans.{Span, span_of, IsPointOf, IsSealed}
+use Rattle.constriction_coders.specs.Spans.{Span, span_of, IsPointOf, IsSealed, IsToldBy}
 use Rattle.constriction_coders.proofs.NumberLemmas.{number-push, first-append, first-more, word-fits}
 
 module _ (words raised : List ℕ) (lower range point_lower : ℕ) (wide : 2 ^ 32 ≤ range)
@@ -113,3 +114,34 @@ ends-there s words more i fit (inl none) is = inl (ap (λ (x : Interval). x.rang
 ends-there s words more i fit (inr point) is =
     let first = point-first s words more fit point.1 in
     inr (omega (arith, ap (λ (x : Interval). x.offset) is, first.1, point.1.least))
+
+two-fit : (a b : ℕ) → a < 2 ^ 32 → b < 2 ^ 32 → All (λ (w : ℕ). w < 2 ^ 32) (a ∷ b ∷ [])
+two-fit a b p q zero d h = p
+two-fit a b p q (suc zero) d h = q
+two-fit a b p q (suc (suc k)) d h = absurd (omega (arith, h))
+
+-- the least number of a span tells what leads to it
+pub lower-tells : (words : List ℕ) (lower range : ℕ) → All (λ w. w < 2 ^ 32) words → lower < 2 ^ 64 → 2 ^ 32 ≤ range
+    → IsToldBy (span_of words lower range) (words ++ lower / 2 ^ 32 ∷ lower % 2 ^ 32 ∷ [])
+lower-tells words lower range fit below wide =
+    let high = lower / 2 ^ 32 in
+    let low = lower % 2 ^ 32 in
+    let all = words ++ high ∷ low ∷ [] in
+    let number : number_of all ≡ (number_of words * 2 ^ 32 + high) * 2 ^ 32 + low =
+    ap number_of (sym (append_assoc words (high ∷ []) (low ∷ []))) ∙ number-push (words ++ high ∷ []) low
+    ∙ ap (λ n. n * 2 ^ 32 + low) (number-push words high) in
+    let long : length all ≡ length words + 2 = omega (arith, length-append words (high ∷ low ∷ [])) in
+    let first : number_first (length words + 2) all ≡ number_of words * 2 ^ 64 + lower =
+    ap (λ n. number_first n all) (sym long) ∙ omega (arith, number) in
+    record {
+      fit = All-append (λ w. w < 2 ^ 32) words (high ∷ low ∷ []) fit (two-fit high low (omega (arith, below)) (omega arith));
+      lies = λ some. (omega (arith, first), omega (arith, first, wide));
+    }
+
+-- words are left where the last of them are
+pub some-left : (first last : List ℕ) (ended : Bool) → IsTrue ended ↔ (last ≡ [])
+    → OnFalse ended ((words : List ℕ) → words ≡ first ++ last → words ≢ [])
+some-left first last true h = tt
+some-left first last false h = λ words is none.
+    let empty : last ≡ [] = nil_from_length last (omega (arith, ap length (sym is ∙ none), length-append first last)) in
+    absurd (let wrong = h.1 empty in cc)

@@ -1,5 +1,7 @@
 pub mod BitsBack
 pub mod Compressed
+pub mod EncodedWords
+pub mod EncodedWordsLaws
 pub mod Intervals
 pub mod Laws
 pub mod Numbers

@@ -2,11 +2,13 @@
 
 mod carrying;
 mod decoding_walk;
+mod encoded_words;
 mod encoding_walk;
 mod interval;
 mod range_decoder;
 mod range_encoder;
 
 pub use self::decoding_walk::DecodeIidSymbols;
+pub use self::encoded_words::EncodedWords;
 pub use self::range_decoder::{RangeDecoder, RangeDecodingFault};
 pub use self::range_encoder::RangeEncoder;

@@ -88,7 +88,8 @@ fn a_carry_goes_as_far_as_words_are_full(rt: HostRuntime) {
 /// The words of the ten numbers from 990 on, which are as likely as a thousand.
 const LAST_TEN: [u32; 4] = [0xFDB0_D073, 0xB20E_D10D, 0x2470_C869, 0x265E_B9CD];
 
-/// An encoder of what iterators give takes no symbol that has no entry, and asks for none after it. It encodes on.
+/// An encoder of what iterators give takes no symbol that has no entry, and asks for none after it. It encodes on, and what it
+/// holds can be decoded before it is done.
 #[test]
 fn an_impossible_symbol_leaves_the_encoder_as_it_was(rt: HostRuntime) {
     let alloc = rt.alloc();
@@ -109,6 +110,12 @@ fn an_impossible_symbol_leaves_the_encoder_as_it_was(rt: HostRuntime) {
     );
     same(&rt, given.next(), Some(5));
     same(&rt, coder.encode_iid_symbols(992..1000, &model), Ok(()));
+    let mut decoder = coder.decoder();
+    same(&rt, decoder.maybe_exhausted(), false);
+    for symbol in 990..1000 {
+        same(&rt, decoder.decode_symbol(&model), Ok(symbol));
+    }
+    same(&rt, decoder.maybe_exhausted(), true);
     let words = coder.into_compressed().expect(&rt, "memory");
     holds(&rt, &words, &LAST_TEN);
 }

@@ -4,8 +4,10 @@ ghost use Rattle.std.specs.Prelude.{IfSome};
 ghost use Rattle.std.specs.List.{AllZip};
 ghost use Rattle.constriction.specs.Coding.{StandsForEqual};
 
-use crate::laws::{message_comes_back, message_from, message_of, range_symbol_comes_back};
-use crate::queue::{RangeDecoder, RangeEncoder};
+use crate::laws::{
+    message_comes_back, message_from, message_of, range_symbol_comes_back, range_symbols_come_back,
+};
+use crate::queue::{EncodedWords, RangeDecoder, RangeEncoder};
 use constriction::backends::Cursor;
 use constriction::stream::model::{DecoderModel, EncoderModel};
 use std::alloc::Global;
@@ -45,6 +47,30 @@ where
     }
     let source = Cursor::new_at_write_beginning(words);
     match message_from::<M, M, _, PRECISION>(alloc, source, symbols.len(), model, model) {
+        Ok(answers) => Some(answers),
+        Err(_) => None,
+    }
+}
+
+/// Symbols that are decoded while the encoder stays.
+pub fn while_encoding<M, const PRECISION: usize>(
+    alloc: Global,
+    model: &M,
+    symbols: &[M::Symbol],
+) -> Option<Vec<M::Symbol>>
+where
+    M: EncoderModel<PRECISION, Probability = u32> + DecoderModel<PRECISION, Probability = u32>,
+    M::Symbol: Drop,
+    ensures { IfSome result (λ answers. AllZip (StandsForEqual M.stands_for M.symbol_eq) symbols.now answers.items) }
+{
+    range_symbols_come_back::<M, M, EncodedWords, PRECISION>(model, model);
+    let mut coder = RangeEncoder::new(alloc);
+    match coder.encode_symbols::<M, PRECISION>(symbols, model) {
+        Ok(()) => {}
+        Err(_) => return None,
+    }
+    let mut decoder = coder.decoder();
+    match decoder.decode_symbols::<M, PRECISION>(alloc, symbols.len(), model) {
         Ok(answers) => Some(answers),
         Err(_) => None,
     }

@@ -1,14 +1,19 @@
 //! A range encoder: what is encoded first is decoded first.
 
 ghost use Rattle.std.specs.Prelude.{◌≡◌, ◌≢◌, ◌↔◌, ℕ, List, length, None, Err, IfOk, IfErr, OnErr, OnOk, IsTrue};
-ghost use Rattle.constriction_coders.specs.Spans.{whole, IsNarrowed, IsNarrowingFault, NarrowingStops, IsSealed};
+ghost use Rattle.constriction_coders.specs.Intervals.{held_of};
+ghost use Rattle.constriction_coders.specs.RangeLaws.{IsAt};
+ghost use Rattle.constriction_coders.specs.Spans.{whole, IsNarrowed, IsNarrowingFault, NarrowingStops, IsSealed, IsToldBy};
 ghost use Rattle.constriction.specs.Coding.{InTurn};
 ghost use Rattle.constriction.specs.Rows.{entry_of};
 
 use crate::queue::carrying::{ends_in_zero, raised, sealed, widened};
+use crate::queue::encoded_words::EncodedWords;
 use crate::queue::interval::unit_of;
+use crate::queue::range_decoder::RangeDecoder;
+use constriction::backends::ReadWords;
 use constriction::stream::model::EncoderModel;
-use constriction::{CoderError, DefaultEncoderFrontendError};
+use constriction::{CoderError, DefaultEncoderFrontendError, Queue};
 use std::alloc::{AllocError, Global};
 use std::marker::Model;
 
@@ -155,6 +160,18 @@ impl RangeEncoder {
         let mut all = Vec::with_capacity(alloc, words.len() + 2)?;
         all.extend_from_slice(words)?;
         sealed(all, self.lower, self.range)
+    }
+
+    /// A decoder of what is encoded so far, while the encoder stays as it is. No memory is asked for, and no word is copied.
+    pub fn decoder<'e>(&'e self) -> RangeDecoder<EncodedWords<'e>>
+        ensures { (words : List ℕ) × IsToldBy self.now words
+            × IsAt ⟦<EncodedWords<'e> as ReadWords<u32, Queue>>⟧.tells_upcoming whole words (held_of result.range result.offset result.words) }
+    {
+        let words = EncodedWords::new(self.words.as_slice(), self.lower);
+        match RangeDecoder::from_compressed(words) {
+            Ok(decoder) => decoder,
+            Err(never) => match never {},
+        }
     }
 
     /// The words of the message: none where no symbol is encoded, and otherwise one or two more than were written.
