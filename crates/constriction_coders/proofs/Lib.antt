@@ -1,7 +1,9 @@
+pub mod BitsComingBack
 pub mod Closing
 pub mod ComingBack
 pub mod CountsLemmas
 pub mod Decoding
+pub mod Exchanging
 pub mod Giving
 pub mod GivingSpans
 pub mod GoingBack
@@ -12,6 +14,7 @@ pub mod NarrowingStops
 pub mod NumberLemmas
 pub mod Once
 pub mod Pairs
+pub mod Placing
 pub mod PublishedWords
 pub mod RangeWalking
 pub mod Sealing

@@ -1,3 +1,4 @@
+pub mod BitsBack
 pub mod Bytes
 pub mod BytesLemmas
 pub mod Compressed
@@ -7,6 +8,7 @@ pub mod EncodedWordsLaws
 pub mod Intervals
 pub mod Laws
 pub mod Numbers
+pub mod Positions
 pub mod Published
 pub mod RangeLaws
 pub mod RangeWalks

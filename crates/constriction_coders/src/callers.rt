@@ -8,6 +8,7 @@ ghost use Rattle.constriction.specs.Coding.{InTurn, StandsForEqual};
 ghost use Rattle.constriction_coders.specs.Steps.{content, IsDecoded, IsEncoded};
 
 mod queue;
+mod stack;
 
 use crate::laws::{compressed_comes_back, symbols_come_back, there_and_back};
 use crate::stack::AnsCoder;

@@ -1,10 +1,11 @@
 //! A stack coder over any stack of words: what was encoded last is decoded first.
 
 mod ans_coder;
-mod callers;
+pub mod bits_back;
 mod compressed;
 mod decoding_walk;
 mod encoding_walks;
+mod positions;
 mod runs;
 mod state;
 

@@ -7,6 +7,8 @@
 #![tactic(auto)]
 
 #[cfg(test)]
+mod bits_back;
+#[cfg(test)]
 mod checks;
 #[cfg(test)]
 mod copies;
@@ -14,6 +16,10 @@ mod copies;
 mod known;
 #[cfg(test)]
 mod known_models;
+#[cfg(test)]
+mod messages_of_stack;
+#[cfg(test)]
+mod positions;
 #[cfg(test)]
 mod range_coder;
 #[cfg(test)]

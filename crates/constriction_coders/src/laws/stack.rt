@@ -1,9 +1,12 @@
 //! What comes back from a stack coder, each law the contract of a function.
 
 ghost use Rattle.std.specs.Prelude.{◌≡◌, ◌≢◌, ◌++◌, ◌∷◌, [], ℕ, List, Some, Ok, Err, IsTrue, length, reverse, IfOk, OnOk};
+ghost use Rattle.std.specs.Fn.{FnReturnsAt};
 ghost use Rattle.std.specs.List.{AllZip};
+ghost use Rattle.constriction_coders.specs.BitsBack.{FitTogether, BitsComeBack};
 ghost use Rattle.constriction_coders.specs.Compressed.{IsCompressed, IsClosed, ClosingStops, IsOpened, OpeningStops};
 ghost use Rattle.constriction_coders.specs.Laws.{SymbolComesBack, SymbolsComeBack, EncodedOnce, EncodesThen, IsInvertible, DecodedGoesBack, DecodedHasEntry};
+ghost use Rattle.constriction_coders.specs.Positions.{PlaceComesBack};
 ghost use Rattle.constriction_coders.specs.StackMessages.{WordsOnce, WordsComeBack, SymbolsOnce, WordsEndAbove0};
 ghost use Rattle.constriction_coders.specs.Steps.{Content, content, MayBeHeld, IsDecoded, EncodingStops, DecodingStops};
 ghost use Rattle.constriction.specs.Coding.{InTurn, StandsForEqual};
@@ -92,6 +95,14 @@ where
 {
     encoded_once::<E, PRECISION>(encoder);
 }
+
+/// What encodes by this model: a coder that is sought to a place from before some symbols, whose words are still there, holds what it
+/// held then, and so decodes from there.
+pub fn place_comes_back<E, const PRECISION: usize>(encoder: &E)
+where
+    E: EncoderModel<PRECISION, Probability = u32>,
+    ensures { PlaceComesBack (entry_of E.symbol_eq (E.rows encoder.now)) PRECISION }
+{}
 
 /// Encodes the symbols and decodes as many again: they come back in reverse, with the state and the words as before.
 ///
@@ -182,6 +193,31 @@ where
         Err(error) => Err(MessageFault::Encoding(error)),
     }
 }
+
+/// What [`encode`](crate::stack::bits_back::encode) and [`decode`](crate::stack::bits_back::decode) do by models that fit together: the
+/// symbol comes back, and the coder holds what it held before.
+pub fn bits_come_back<
+    Symbol,
+    Latent,
+    PosteriorModel: EncoderModel<PRECISION, Probability = u32>
+        + DecoderModel<PRECISION, Symbol = Latent, Probability = u32>,
+    LikelihoodModel: EncoderModel<PRECISION, Probability = u32>
+        + DecoderModel<PRECISION, Symbol = Symbol, Probability = u32>,
+    Prior: EncoderModel<PRECISION, Probability = u32>
+        + DecoderModel<PRECISION, Symbol = Latent, Probability = u32>,
+    Posterior: Fn(&Symbol) -> PosteriorModel,
+    Likelihood: Fn(&Latent) -> LikelihoodModel,
+    const PRECISION: usize,
+>(posterior: &Posterior, likelihood: &Likelihood, prior: &Prior)
+    requires { FitTogether (FnReturnsAt Posterior.Fn posterior.now) (FnReturnsAt Likelihood.Fn likelihood.now) PRECISION
+        Prior.stands_for Prior.symbol_eq PosteriorModel.symbol_eq PosteriorModel.stands_for PosteriorModel.rows
+        LikelihoodModel.stands_for LikelihoodModel.symbol_eq LikelihoodModel.rows }
+    ensures { BitsComeBack (FnReturnsAt Posterior.Fn posterior.now) (FnReturnsAt Likelihood.Fn likelihood.now) PRECISION
+        Prior.stands_for (Prior.rows prior.now) (entry_of Prior.symbol_eq (Prior.rows prior.now))
+        PosteriorModel.stands_for PosteriorModel.rows (λ m. entry_of PosteriorModel.symbol_eq (PosteriorModel.rows m))
+        LikelihoodModel.stands_for LikelihoodModel.symbol_eq LikelihoodModel.rows
+        (λ m. entry_of LikelihoodModel.symbol_eq (LikelihoodModel.rows m)) }
+{}
 
 /// The words of a coder, and the coder of these words: it has the state and the words of the first.
 ///

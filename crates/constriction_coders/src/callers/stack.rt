@@ -7,7 +7,7 @@ ghost use Rattle.constriction.specs.Rows.{entry_of};
 ghost use Rattle.constriction_coders.specs.StackMessages.{IsStackOf};
 
 use crate::laws::{words_come_back, words_once};
-use crate::stack::ans_coder::AnsCoder;
+use crate::stack::AnsCoder;
 use constriction::CoderError;
 use constriction::stream::model::{DecoderModel, EncoderModel};
 use std::alloc::Global;

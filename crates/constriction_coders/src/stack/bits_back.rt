@@ -1,0 +1,251 @@
+//! Bits-back coding: a symbol is encoded by way of a latent symbol, which what the coder holds chooses.
+//!
+//! 1. A latent symbol is decoded by the posterior, the model that the symbol chooses.
+//! 2. The symbol is encoded by the likelihood, the model that the latent symbol chooses.
+//! 3. The latent symbol is encoded by its prior.
+//!
+//! Decoding undoes these steps, the last one first, so that step 1 costs nothing: what it took from the coder comes back.
+
+ghost use Rattle.std.specs.Prelude.{◌≡◌, ◌+◌, ◌%◌, ◌^◌, ◌<◌, ◌≤◌, None, Some, Err, IfOk, IfSome, OnOk, OnErr, length, vec_capacity};
+ghost use Rattle.std.specs.Fn.{FnReturnsAt};
+ghost use Rattle.constriction.specs.Rows.{Row, IsRowOf, entry_of};
+ghost use Rattle.constriction_coders.specs.BitsBack.{EncodesByLatent, DecodesByLatent, LacksEntry, LacksLatent};
+ghost use Rattle.constriction_coders.specs.Steps.{Content, content, MayBeHeld, IsOnTop};
+
+use crate::laws::may_be_held;
+use crate::stack::ans_coder::AnsCoder;
+use crate::stack::state::quantile_of;
+use constriction::stream::model::{DecoderModel, EncoderModel};
+use constriction::{CoderError, DefaultEncoderFrontendError};
+use std::alloc::AllocError;
+
+/// A left cumulative and a weight.
+type Entry = (u32, u32);
+
+/// The entry of a symbol.
+fn entry<E, const PRECISION: usize>(model: &E, symbol: &E::Symbol) -> Option<Entry>
+where
+    E: EncoderModel<PRECISION, Probability = u32>,
+    ensures known { IfSome result (λ entry. entry_of E.symbol_eq (E.rows model.now) symbol.now ≡ Some (entry.0, entry.1)) }
+    ensures none { result ≡ None → entry_of E.symbol_eq (E.rows model.now) symbol.now ≡ None }
+    ensures some { IfSome result (λ entry. 0 < entry.1) }
+    ensures within { IfSome result (λ entry. entry.0 + entry.1 ≤ 2 ^ PRECISION) }
+{
+    match model.left_cumulative_and_probability(symbol) {
+        Some((left, weight)) => Some((left, weight.get())),
+        None => None,
+    }
+}
+
+/// The symbol of a quantile, and its entry.
+fn row<D, const PRECISION: usize>(
+    model: &D,
+    quantile: u32,
+) -> Result<(D::Symbol, Entry), AllocError>
+where
+    D: DecoderModel<PRECISION, Probability = u32>,
+    requires { quantile < 2 ^ PRECISION }
+    ensures found { IfOk result (λ answer. (row : Row D.Symbol) × IsRowOf (D.rows model.now) quantile row
+        × D.stands_for row.symbol answer.0 × (row.left ≡ answer.1.0) × (row.weight ≡ answer.1.1)) }
+    ensures some { IfOk result (λ answer. 0 < answer.1.1) }
+    ensures within { IfOk result (λ answer. answer.1.0 + answer.1.1 ≤ 2 ^ PRECISION) }
+    ensures from { IfOk result (λ answer. answer.1.0 ≤ quantile) }
+    ensures to { IfOk result (λ answer. quantile < answer.1.0 + answer.1.1) }
+{
+    match model.quantile_function(quantile) {
+        Ok((symbol, left, weight)) => Ok((symbol, (left, weight.get()))),
+        Err(error) => Err(error),
+    }
+}
+
+/// Takes the symbol of this entry from the top.
+fn take<const PRECISION: usize>(coder: &mut AnsCoder<Vec<u32>>, entry: Entry)
+    requires fits { PRECISION ≤ 32 }
+    requires some { 0 < entry.1 }
+    requires within { entry.0 + entry.1 ≤ 2 ^ PRECISION }
+    requires from { entry.0 ≤ coder.old.state % 2 ^ PRECISION }
+    requires to { coder.old.state % 2 ^ PRECISION < entry.0 + entry.1 }
+    ensures under { IsOnTop PRECISION entry.0 entry.1 (content coder.old.state coder.old.words.items)
+        (content coder.new.state coder.new.words.items) }
+    ensures len { length coder.new.words.items ≤ length coder.old.words.items }
+    ensures capacity { vec_capacity coder.new.words ≡ vec_capacity coder.old.words }
+{
+    match coder.take_entry::<PRECISION>(entry.0, entry.1) {
+        Ok(()) => {}
+        Err(error) => match error {},
+    }
+}
+
+/// Puts a symbol of this entry on top. There is room for a word.
+fn put<const PRECISION: usize>(coder: &mut AnsCoder<Vec<u32>>, entry: Entry)
+    requires positive { 0 < PRECISION }
+    requires fits { PRECISION ≤ 32 }
+    requires some { 0 < entry.1 }
+    requires within { entry.0 + entry.1 ≤ 2 ^ PRECISION }
+    requires room { length coder.old.words.items < vec_capacity coder.old.words }
+    ensures over { IsOnTop PRECISION entry.0 entry.1 (content coder.new.state coder.new.words.items)
+        (content coder.old.state coder.old.words.items) }
+    ensures len { length coder.new.words.items ≤ length coder.old.words.items + 1 }
+    ensures capacity { vec_capacity coder.new.words ≡ vec_capacity coder.old.words }
+    ensures held { MayBeHeld (content coder.new.state coder.new.words.items) }
+{
+    match coder.put_entry::<PRECISION>(entry.0, entry.1) {
+        Ok(()) => {}
+        Err(_) => unreachable!(),
+    }
+    may_be_held(coder);
+}
+
+/// Takes a symbol from the top and puts two others there; or memory for their words is refused, and the coder stays as it was.
+fn exchange<const PRECISION: usize>(
+    coder: &mut AnsCoder<Vec<u32>>,
+    drawn: Entry,
+    coded: Entry,
+    paid: Entry,
+) -> Result<(), AllocError>
+    requires positive { 0 < PRECISION }
+    requires fits { PRECISION ≤ 32 }
+    requires drawn_some { 0 < drawn.1 }
+    requires drawn_within { drawn.0 + drawn.1 ≤ 2 ^ PRECISION }
+    requires from { drawn.0 ≤ coder.old.state % 2 ^ PRECISION }
+    requires to { coder.old.state % 2 ^ PRECISION < drawn.0 + drawn.1 }
+    requires coded_some { 0 < coded.1 }
+    requires coded_within { coded.0 + coded.1 ≤ 2 ^ PRECISION }
+    requires paid_some { 0 < paid.1 }
+    requires paid_within { paid.0 + paid.1 ≤ 2 ^ PRECISION }
+    ensures ok { OnOk result ((rest full : Content)
+        × IsOnTop PRECISION drawn.0 drawn.1 (content coder.old.state coder.old.words.items) rest
+        × IsOnTop PRECISION coded.0 coded.1 full rest
+        × IsOnTop PRECISION paid.0 paid.1 (content coder.new.state coder.new.words.items) full) }
+    ensures state { OnErr result (coder.new.state ≡ coder.old.state) }
+    ensures words { OnErr result (coder.new.words.items ≡ coder.old.words.items) }
+{
+    match coder.words.reserve(2) {
+        Ok(()) => {}
+        Err(error) => return Err(error),
+    }
+    take::<PRECISION>(coder, drawn);
+    put::<PRECISION>(coder, coded);
+    put::<PRECISION>(coder, paid);
+    Ok(())
+}
+
+/// Encodes a symbol by a latent one, which is decoded from what the coder holds.
+///
+/// `ImpossibleSymbol` comes where the latent symbol has no entry in its prior, or the symbol has none by the likelihood. The other
+/// error is that memory was refused: for a clone of the latent symbol, or for two words. An error leaves the state and the words.
+pub fn encode<
+    Symbol,
+    Latent: Drop,
+    PosteriorModel: DecoderModel<PRECISION, Symbol = Latent, Probability = u32> + Drop,
+    LikelihoodModel: EncoderModel<PRECISION, Symbol = Symbol, Probability = u32> + Drop,
+    Prior: EncoderModel<PRECISION, Symbol = Latent, Probability = u32>,
+    Posterior: Fn(&Symbol) -> PosteriorModel,
+    Likelihood: Fn(&Latent) -> LikelihoodModel,
+    const PRECISION: usize,
+>(
+    coder: &mut AnsCoder<Vec<u32>>,
+    symbol: &Symbol,
+    posterior: Posterior,
+    likelihood: Likelihood,
+    prior: &Prior,
+) -> Result<(), CoderError<DefaultEncoderFrontendError, AllocError>>
+    requires posterior { Posterior.IsAlwaysCallable posterior }
+    requires likelihood { Likelihood.IsAlwaysCallable likelihood }
+    ensures ok { OnOk result (EncodesByLatent (FnReturnsAt Posterior.Fn posterior) (FnReturnsAt Likelihood.Fn likelihood) PRECISION
+        PosteriorModel.stands_for PosteriorModel.rows (λ m. entry_of LikelihoodModel.symbol_eq (LikelihoodModel.rows m))
+        (entry_of Prior.symbol_eq (Prior.rows prior.now)) symbol.now
+        (content coder.old.state coder.old.words.items) (content coder.new.state coder.new.words.items)) }
+    ensures impossible { (fault : _) → result ≡ Err (CoderError.Frontend fault)
+        → LacksEntry (FnReturnsAt Posterior.Fn posterior) (FnReturnsAt Likelihood.Fn likelihood) PRECISION
+        PosteriorModel.stands_for PosteriorModel.rows (λ m. entry_of LikelihoodModel.symbol_eq (LikelihoodModel.rows m))
+        (entry_of Prior.symbol_eq (Prior.rows prior.now)) symbol.now coder.old.state }
+    ensures state { OnErr result (coder.new.state ≡ coder.old.state) }
+    ensures words { OnErr result (coder.new.words.items ≡ coder.old.words.items) }
+{
+    let chosen = posterior(symbol);
+    let (latent, drawn) = match row::<PosteriorModel, PRECISION>(
+        &chosen,
+        quantile_of::<PRECISION>(coder.state),
+    ) {
+        Ok(answer) => answer,
+        Err(error) => return Err(CoderError::Backend(error)),
+    };
+    let given = likelihood(&latent);
+    let Some(coded) = entry::<LikelihoodModel, PRECISION>(&given, symbol) else {
+        return Err(CoderError::Frontend(DefaultEncoderFrontendError::ImpossibleSymbol));
+    };
+    let Some(paid) = entry::<Prior, PRECISION>(prior, &latent) else {
+        return Err(CoderError::Frontend(DefaultEncoderFrontendError::ImpossibleSymbol));
+    };
+    match exchange::<PRECISION>(coder, drawn, coded, paid) {
+        Ok(()) => Ok(()),
+        Err(error) => Err(CoderError::Backend(error)),
+    }
+}
+
+/// Decodes a symbol that [`encode`] encoded by a latent one, which goes back to what the coder holds.
+///
+/// `ImpossibleSymbol` comes where the posterior of the symbol has no entry for the latent one: then no such symbol was encoded. The other
+/// error is that memory was refused: for a clone of either symbol, or for a word. An error leaves the state and the words.
+pub fn decode<
+    Symbol: Drop,
+    Latent: Drop,
+    PosteriorModel: EncoderModel<PRECISION, Symbol = Latent, Probability = u32> + Drop,
+    LikelihoodModel: DecoderModel<PRECISION, Symbol = Symbol, Probability = u32> + Drop,
+    Prior: DecoderModel<PRECISION, Symbol = Latent, Probability = u32>,
+    Posterior: Fn(&Symbol) -> PosteriorModel,
+    Likelihood: Fn(&Latent) -> LikelihoodModel,
+    const PRECISION: usize,
+>(
+    coder: &mut AnsCoder<Vec<u32>>,
+    posterior: Posterior,
+    likelihood: Likelihood,
+    prior: &Prior,
+) -> Result<Symbol, CoderError<DefaultEncoderFrontendError, AllocError>>
+    requires posterior { Posterior.IsAlwaysCallable posterior }
+    requires likelihood { Likelihood.IsAlwaysCallable likelihood }
+    ensures ok { IfOk result (λ symbol. DecodesByLatent (FnReturnsAt Posterior.Fn posterior) (FnReturnsAt Likelihood.Fn likelihood)
+        PRECISION Prior.stands_for (Prior.rows prior.now) LikelihoodModel.stands_for LikelihoodModel.rows
+        (λ m. entry_of PosteriorModel.symbol_eq (PosteriorModel.rows m)) symbol
+        (content coder.old.state coder.old.words.items) (content coder.new.state coder.new.words.items)) }
+    ensures impossible { (fault : _) → result ≡ Err (CoderError.Frontend fault)
+        → LacksLatent (FnReturnsAt Posterior.Fn posterior) (FnReturnsAt Likelihood.Fn likelihood)
+        PRECISION Prior.stands_for (Prior.rows prior.now) LikelihoodModel.stands_for LikelihoodModel.rows
+        (λ m. entry_of PosteriorModel.symbol_eq (PosteriorModel.rows m)) (content coder.old.state coder.old.words.items) }
+    ensures state { OnErr result (coder.new.state ≡ coder.old.state) }
+    ensures words { OnErr result (coder.new.words.items ≡ coder.old.words.items) }
+{
+    may_be_held(coder);
+    let (latent, paid) = match row::<Prior, PRECISION>(
+        prior,
+        quantile_of::<PRECISION>(coder.state),
+    ) {
+        Ok(answer) => answer,
+        Err(error) => return Err(CoderError::Backend(error)),
+    };
+    match coder.words.reserve(1) {
+        Ok(()) => {}
+        Err(error) => return Err(CoderError::Backend(error)),
+    }
+    take::<PRECISION>(coder, paid);
+    let given = likelihood(&latent);
+    let (symbol, coded) = match row::<LikelihoodModel, PRECISION>(
+        &given,
+        quantile_of::<PRECISION>(coder.state),
+    ) {
+        Ok(answer) => answer,
+        Err(error) => {
+            put::<PRECISION>(coder, paid);
+            return Err(CoderError::Backend(error));
+        }
+    };
+    let chosen = posterior(&symbol);
+    let Some(returned) = entry::<PosteriorModel, PRECISION>(&chosen, &latent) else {
+        put::<PRECISION>(coder, paid);
+        return Err(CoderError::Frontend(DefaultEncoderFrontendError::ImpossibleSymbol));
+    };
+    take::<PRECISION>(coder, coded);
+    put::<PRECISION>(coder, returned);
+    Ok(symbol)
+}

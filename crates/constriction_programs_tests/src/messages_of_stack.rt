@@ -1,0 +1,31 @@
+//! Messages that one program encodes and another one decodes that has their words alone.
+
+use crate::checks::{holds, same};
+use constriction::stream::model::DefaultUniformModel;
+use constriction_coders::laws::{
+    compressed_once, may_be_held, place_comes_back, words_come_back, words_once,
+};
+use constriction_coders::stack::AnsCoder;
+
+/// The words of seven symbols, by the formulas.
+#[test]
+fn a_message_of_seven_symbols(rt: HostRuntime) {
+    let alloc = rt.alloc();
+    let model = DefaultUniformModel::new(1000);
+    let symbols = [5, 42, 79, 116, 153, 190, 227];
+    let mut coder = AnsCoder::new(alloc);
+    same(&rt, coder.encode_symbols_reverse(&symbols, &model), Ok(()));
+    may_be_held(&coder);
+    let words = coder.into_compressed().expect(&rt, "memory");
+    holds(&rt, &words, &[18_104_627, 2_332_123_633, 206_639]);
+    words_once(&model);
+    words_come_back(&model, &model);
+    place_comes_back(&model);
+    compressed_once();
+    let mut opened = AnsCoder::from_compressed(words).expect(&rt, "the coder");
+    let answers = opened
+        .decode_symbols(alloc, 7, &model)
+        .expect(&rt, "the symbols");
+    holds(&rt, &answers, &symbols);
+    same(&rt, opened.is_empty(), true);
+}

@@ -1,0 +1,93 @@
+//! Places of a stack coder: noted while symbols are encoded, and sought.
+
+use crate::checks::same;
+use constriction::backends::Cursor;
+use constriction::stream::model::DefaultUniformModel;
+use constriction::{Pos, Seek};
+use constriction_coders::stack::AnsCoder;
+use std::alloc::Global;
+use std::process::Abort;
+
+/// How many symbols are encoded.
+const MANY: usize = 20;
+
+/// After how many symbols a place is noted, and the place, by the formulas.
+const PLACES: [(usize, (usize, u64)); 4] = [
+    (0, (0, 0)),
+    (3, (0, 84_592_049_535)),
+    (10, (2, 4_585_285_923_701)),
+    (19, (5, 57_892_654_500)),
+];
+
+/// The symbol of a step.
+fn symbol_of(step: usize) -> usize
+    requires { step < 1000 }
+{
+    (step * 37 + 5) % 1000
+}
+
+/// The coder of all symbols. The places are those that it notes.
+fn encoded(rt: &impl Abort, alloc: Global, model: &DefaultUniformModel) -> AnsCoder<Vec<u32>> {
+    let mut coder = AnsCoder::new(alloc);
+    for step in 0..MANY {
+        for (steps, place) in &PLACES {
+            if *steps == step {
+                same(rt, coder.pos(), *place);
+            }
+        }
+        same(rt, coder.encode_symbol(&symbol_of(step), model), Ok(()));
+    }
+    coder
+}
+
+/// A stack goes back only, and drops what comes after.
+#[test]
+fn a_stack_goes_back_to_its_places(rt: HostRuntime) {
+    let model = DefaultUniformModel::new(1000);
+    let mut coder = encoded(&rt, rt.alloc(), &model);
+    for (steps, place) in PLACES.iter().rev() {
+        same(&rt, coder.seek(*place), Ok(()));
+        same(&rt, coder.pos(), *place);
+        if *steps > 0 && *steps <= MANY {
+            same(&rt, coder.decode_symbol(&model), Ok(symbol_of(*steps - 1)));
+        }
+    }
+    same(&rt, coder.is_empty(), true);
+}
+
+/// A place has to have as many words as there are, and none under a state below `2^32`.
+#[test]
+fn places_that_no_coder_has_are_refused(rt: HostRuntime) {
+    let model = DefaultUniformModel::new(1000);
+    let mut coder = encoded(&rt, rt.alloc(), &model);
+    let stands = coder.pos();
+    same(&rt, stands, (5, 57_893_402_796_501));
+    for place in [(6, 1 << 40), (5, u32::MAX as u64)] {
+        same(&rt, coder.seek(place), Err(()));
+        same(&rt, coder.pos(), stands);
+    }
+}
+
+/// A cursor over the words of the coder goes back and forth.
+#[test]
+fn a_cursor_goes_to_its_places_back_and_forth(rt: HostRuntime) {
+    let model = DefaultUniformModel::new(1000);
+    let words = encoded(&rt, rt.alloc(), &model)
+        .into_compressed()
+        .expect(&rt, "memory");
+    let Ok(mut coder) = AnsCoder::from_compressed(Cursor::new_at_write_end(words)) else {
+        panic!(&rt; "the words were refused");
+    };
+    same(&rt, coder.pos(), (5, 57_893_402_796_501));
+    for turn in [3, 1, 2, 3, 2, 0] {
+        let (steps, place) = PLACES[turn];
+        same(&rt, coder.seek(place), Ok(()));
+        if steps > 0 && steps <= MANY {
+            same(&rt, coder.decode_symbol(&model), Ok(symbol_of(steps - 1)));
+        }
+    }
+    same(&rt, coder.is_empty(), true);
+    same(&rt, coder.seek((8, 1 << 40)), Err(()));
+    same(&rt, coder.seek((1, 7)), Err(()));
+    same(&rt, coder.pos(), (0, 0));
+}
