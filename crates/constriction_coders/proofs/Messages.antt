@@ -1,5 +1,5 @@
 -- What a decoder of symbols that were encoded answers, from the laws.
-use Rattle.std.proofs.Common.{◌≡◌, ℕ, ◌^◌, ◌<◌, ◌≤◌, Bool, List, Option, Result, length, subst, arith, inl, inr}
+use Rattle.std.proofs.Common.{◌≡◌, ℕ, Bool, List, Option, Result, length, subst, arith, inl, inr}
 use Rattle.std.specs.List.{AllZip}
 use Rattle.std.proofs.lemmas.List.{take_all}
 use Rattle.constriction.specs.Coding.{InTurn, StandsForEqual}
@@ -9,7 +9,7 @@ use Rattle.constriction.specs.Rows.{Row}
 use Rattle.constriction_coders.specs.Intervals.{Interval, Held, IsRead, ReadingStops}
 use Rattle.constriction_coders.specs.declared.queue.range_decoder.RangeDecodingFault.{RangeDecodingFault}
 use Rattle.constriction_coders.specs.declared.queue.range_decoder.RangeDecodingFault.TheVariants.{InvalidData}
-use Rattle.constriction_coders.specs.RangeLaws.{IsAt, IsDecodedFrom, RangeSymbolsComeBack, NeverAboveAll}
+use Rattle.constriction_coders.specs.RangeLaws.{IsAt, RangeSymbolsComeBack, NeverAboveAll}
 use Rattle.constriction_coders.specs.Spans.{Span, whole, IsNarrowed, IsToldBy}
 
 module _ {Symbol S E : Type 0} (Stands : Symbol → Symbol → Type 0) (eq : Symbol → Symbol → Bool) (entry : Symbol → Option (ℕ × ℕ))
