@@ -6,8 +6,8 @@ use Rattle.constriction.specs.Coding.{StandsForEqual}
 use Rattle.constriction.specs.Model.{ClonesAreEqual, LiesWithin}
 use Rattle.constriction.specs.PairLemmas.{one-to-one}
 use Rattle.constriction.specs.Rows.{Row, RowsTile, entry_of}
-use Rattle.constriction_coders.specs.BitsBack.{EncodesByLatent, DecodesByLatent, FitTogether, BitsComeBack}
-use Rattle.constriction_coders.specs.Steps.{Content, MayBeHeld, IsEncoded, IsDecoded}
+use Rattle.constriction_coders.specs.BitsBack.{FitTogether, BitsComeBack}
+use Rattle.constriction_coders.specs.Steps.{Content, IsEncoded, IsDecoded}
 use Rattle.constriction_coders.proofs.ComingBack.{encode-once, symbol-back}
 use Rattle.constriction_coders.proofs.GoingBack.{own-row}
 

@@ -1,11 +1,11 @@
 -- The words under a place stay under what is encoded after it.
-use Rattle.std.proofs.Common.{◌≡◌, ℕ, ◌^◌, ◌<◌, ◌≤◌, ◌⊎◌, List, [], ◌∷◌, ◌++◌, Option, Result, Ok, Err, length, take, refl, ap, sym, ◌∙◌, arith, inl, inr}
+use Rattle.std.proofs.Common.{◌≡◌, ℕ, ◌≤◌, List, [], ◌∷◌, ◌++◌, Option, Result, Ok, Err, length, take, refl, ap, sym, ◌∙◌, arith, inl, inr}
 use Rattle.std.specs.Prelude.{IsOk}
 use Rattle.std.proofs.lemmas.List.{append-nil, append_assoc, length-append, take-append-le, take_all}
 use Rattle.constriction.specs.Coding.{InTurn}
 use Rattle.constriction_coders.specs.Positions.{SeeksPlace, PlaceComesBack}
 use Rattle.constriction_coders.specs.States.{taken}
-use Rattle.constriction_coders.specs.Steps.{Content, content, MayBeHeld, Refills, IsEncoded}
+use Rattle.constriction_coders.specs.Steps.{Content, content, Refills, IsEncoded}
 
 -- what is under a state that took a word, or none, begins the words
 begins : (state : ℕ) (words : List ℕ) (new : Content) → Refills state words new → (more : List ℕ) × (words ≡ new.words ++ more)

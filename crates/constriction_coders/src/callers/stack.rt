@@ -1,15 +1,17 @@
-//! What callers of a stack coder learn from the contracts alone: one encodes symbols, and the other has their words alone.
+//! What callers of a stack coder learn from the contracts alone: of words that another program has, and of bits-back coding.
 
-ghost use Rattle.std.specs.Prelude.{◌≡◌, Err, IfOk, IfSome, List, length};
+ghost use Rattle.std.specs.Prelude.{◌+◌, ◌%◌, ◌≡◌, Err, IfOk, IfSome, List, length};
 ghost use Rattle.std.specs.List.{AllZip};
 ghost use Rattle.constriction.specs.Coding.{StandsForEqual};
-ghost use Rattle.constriction.specs.Rows.{entry_of};
+ghost use Rattle.constriction.specs.Rows.{entry_of, uniform_rows};
 ghost use Rattle.constriction_coders.specs.StackMessages.{IsStackOf};
 
-use crate::laws::{words_come_back, words_once};
+use crate::laws::{bits_come_back, may_be_held, words_come_back, words_once};
 use crate::stack::AnsCoder;
+use crate::stack::bits_back::{decode, encode};
 use constriction::CoderError;
-use constriction::stream::model::{DecoderModel, EncoderModel};
+use constriction::laws::contiguous_symbols_differ;
+use constriction::stream::model::{DecoderModel, EncoderModel, EntropyModel, UniformModel};
 use std::alloc::Global;
 
 /// Why no symbols were decoded.
@@ -69,4 +71,44 @@ where
         return Err(WordsFault::OtherWords);
     }
     Ok(answers)
+}
+
+/// Numbers below a range.
+type Numbers = UniformModel<u32, 24>;
+
+/// The model of latent numbers that a number chooses: whatever it is, four have the same weight.
+fn posterior(_symbol: &usize) -> Numbers
+    ensures { ⟦<Numbers as EntropyModel<24>>⟧.rows result ≡ uniform_rows 24 4 }
+{
+    Numbers::new(4)
+}
+
+/// The model of numbers that a latent number chooses.
+fn likelihood(latent: &usize) -> Numbers
+    ensures { ⟦<Numbers as EntropyModel<24>>⟧.rows result ≡ uniform_rows 24 (2 + latent.now % 4) }
+{
+    Numbers::new(2 + *latent % 4)
+}
+
+/// A number that is encoded by way of a latent one comes back, and so does what the coder held.
+pub fn by_a_latent_number(coder: &mut AnsCoder<Vec<u32>>, symbol: usize) -> Option<usize>
+    ensures symbol { IfSome result (λ answer. answer ≡ symbol) }
+    ensures state { IfSome result (λ _. coder.new.state ≡ coder.old.state) }
+    ensures words { IfSome result (λ _. coder.new.words.items ≡ coder.old.words.items) }
+{
+    contiguous_symbols_differ();
+    let prior = Numbers::new(4);
+    bits_come_back(&posterior, &likelihood, &prior);
+    may_be_held(coder);
+    match encode(coder, &symbol, posterior, likelihood, &prior) {
+        Ok(()) => {}
+        Err(_) => return None,
+    }
+    match decode(coder, posterior, likelihood, &prior) {
+        Ok(answer) => {
+            may_be_held(coder);
+            Some(answer)
+        }
+        Err(_) => None,
+    }
 }

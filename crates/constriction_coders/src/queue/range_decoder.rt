@@ -155,6 +155,9 @@ impl<Source: ReadWords<u32, Queue>> RangeDecoder<Source> {
     }
 
     /// Decodes so many symbols, the one that was encoded first first.
+    ///
+    /// Memory for all of them is asked for at once, before the first one is decoded. Where the number comes from outside, walk by
+    /// [`decode_iid_symbols`](Self::decode_iid_symbols), which asks for none.
     pub fn decode_symbols<D, const PRECISION: usize>(
         &mut self,
         alloc: Global,
