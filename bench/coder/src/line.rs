@@ -2,12 +2,14 @@
 
 /// What a line asks of a coder.
 pub enum Call {
-    /// `encode P W.. : S..`: these symbols.
-    Encode(Vec<u64>),
-    /// `decode P W.. : N : WORD..`: how many symbols, and the words.
-    Decode(usize, Vec<u32>),
-    /// `queue P W.. : N : WORD..`: how many symbols, and the words.
-    Queue(usize, Vec<u32>),
+    /// `stack-encode P W.. : S..`: these symbols.
+    StackEncode(Vec<u64>),
+    /// `stack-decode P W.. : N : WORD..`: how many symbols, and the words.
+    StackDecode(usize, Vec<u32>),
+    /// `queue-encode P W.. : S..`: these symbols.
+    QueueEncode(Vec<u64>),
+    /// `queue-decode P W.. : N : WORD..`: how many symbols, and the words.
+    QueueDecode(usize, Vec<u32>),
 }
 
 /// A line that spells a call.
@@ -18,7 +20,7 @@ pub struct Request {
 }
 
 /// The most symbols that a line may want.
-const MOST: u64 = 1_048_576;
+const MOST_SYMBOLS: u64 = 1_048_576;
 
 /// The most digits of a number.
 const DIGITS: usize = 20;
@@ -42,7 +44,7 @@ fn words_of(words: &[&str]) -> Option<Vec<u32>> {
 fn count_of(words: &[&str]) -> Option<usize> {
     let [word] = words else { return None };
     let count = number(word)?;
-    if count > MOST {
+    if count > MOST_SYMBOLS {
         return None;
     }
     count.try_into().ok()
@@ -54,9 +56,10 @@ pub fn parse(line: &str) -> Option<Request> {
     let [kind, precision, rest @ ..] = &words[..] else { return None };
     let parts: Vec<&[&str]> = rest.split(|word| *word == ":").collect();
     let (call, weights) = match (*kind, &parts[..]) {
-        ("encode", [weights, symbols]) => (Call::Encode(numbers(symbols)?), weights),
-        ("decode", [weights, count, words]) => (Call::Decode(count_of(count)?, words_of(words)?), weights),
-        ("queue", [weights, count, words]) => (Call::Queue(count_of(count)?, words_of(words)?), weights),
+        ("stack-encode", [weights, symbols]) => (Call::StackEncode(numbers(symbols)?), weights),
+        ("stack-decode", [weights, count, words]) => (Call::StackDecode(count_of(count)?, words_of(words)?), weights),
+        ("queue-encode", [weights, symbols]) => (Call::QueueEncode(numbers(symbols)?), weights),
+        ("queue-decode", [weights, count, words]) => (Call::QueueDecode(count_of(count)?, words_of(words)?), weights),
         _ => return None,
     };
     let precision = number(precision)?;

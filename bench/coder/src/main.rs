@@ -5,7 +5,7 @@
 mod coding;
 mod line;
 
-use coding::{decoded, encoded, queued, Refusal};
+use coding::{queue_decode, queue_encode, stack_decode, stack_encode, Refusal};
 use line::{parse, Call, Request};
 use std::fmt::Display;
 use std::io::{stdin, stdout, BufRead, BufWriter, Write};
@@ -18,9 +18,10 @@ fn joined<N: Display>(numbers: Vec<N>) -> String {
 
 fn answer_at<const PRECISION: usize>(asked: Request) -> Result<String, Refusal> {
     match asked.call {
-        Call::Encode(symbols) => encoded::<PRECISION>(&asked.weights, &symbols).map(joined),
-        Call::Decode(count, words) => decoded::<PRECISION>(&asked.weights, count, words).map(joined),
-        Call::Queue(count, words) => queued::<PRECISION>(&asked.weights, count, words).map(joined),
+        Call::StackEncode(symbols) => stack_encode::<PRECISION>(&asked.weights, &symbols).map(joined),
+        Call::StackDecode(count, words) => stack_decode::<PRECISION>(&asked.weights, count, words).map(joined),
+        Call::QueueEncode(symbols) => queue_encode::<PRECISION>(&asked.weights, &symbols).map(joined),
+        Call::QueueDecode(count, words) => queue_decode::<PRECISION>(&asked.weights, count, words).map(joined),
     }
 }
 

@@ -1,5 +1,5 @@
 -- The symbols of contiguous rows are the numbers below their count.
-use Rattle.std.proofs.Common.{◌≡◌, ℕ, ◌+◌, ◌<◌, ◌≤◌, List, length, get_or, take, Some, None, ap, sym, ◌∙◌, arith, inr, nat_eq}
+use Rattle.std.proofs.Common.{◌≡◌, ℕ, ◌+◌, ◌<◌, ◌≤◌, List, length, get_or, take, Some, None, ap, ◌∙◌, arith, inr, nat_eq}
 use Rattle.std.specs.Prelude.{◌≢◌, sum}
 use Rattle.std.proofs.lemmas.List.FromFn.{length-range_with_len, get_or-range_with_len}
 use Rattle.constriction_model.specs.RowLemmas.{contiguous-at, contiguous-past, indices, length-rows_from, rows_from-at}

@@ -2,7 +2,9 @@
 
 ghost use Rattle.std.specs.Prelude.{◌<◌, ◌≤◌};
 
-use crate::coding::{Refusal, decoded, encoded, queued, words_of};
+use crate::coding::{
+    Refusal, queue_decode, queue_encode, stack_decode, stack_encode, symbols_of, words_of,
+};
 use crate::line::{Call, Request, parse};
 use std::alloc::{AllocError, Global};
 use std::fmt::{Display, Write};
@@ -14,24 +16,49 @@ enum Answer {
     Symbols(Vec<usize>),
 }
 
+/// The words that a line asks for, at a precision.
+fn encoded_at<const PRECISION: usize>(alloc: Global, request: &Request) -> Result<Vec<u32>, Refusal>
+    requires positive { 0 < PRECISION }
+    requires fits { PRECISION ≤ 32 }
+{
+    let symbols = symbols_of(alloc, &request.numbers)?;
+    if request.call == Call::StackEncode {
+        stack_encode::<PRECISION>(alloc, &request.weights, &symbols)
+    } else {
+        queue_encode::<PRECISION>(alloc, &request.weights, &symbols)
+    }
+}
+
+/// The symbols that a line asks for, at a precision.
+fn decoded_at<const PRECISION: usize>(
+    alloc: Global,
+    request: &Request,
+) -> Result<Vec<usize>, Refusal>
+    requires positive { 0 < PRECISION }
+    requires fits { PRECISION ≤ 32 }
+{
+    let Some(words) = words_of(alloc, &request.numbers)? else {
+        return Err(Refusal::BadLine);
+    };
+    if request.call == Call::StackDecode {
+        stack_decode::<PRECISION>(alloc, &request.weights, request.count, words)
+    } else {
+        queue_decode::<PRECISION>(alloc, &request.weights, request.count, words)
+    }
+}
+
 /// The answer at a precision.
 fn answer_at<const PRECISION: usize>(alloc: Global, request: &Request) -> Result<Answer, Refusal>
     requires positive { 0 < PRECISION }
     requires fits { PRECISION ≤ 32 }
 {
-    if request.call == Call::Encode {
-        let words = encoded::<PRECISION>(alloc, &request.weights, &request.numbers)?;
-        return Ok(Answer::Words(words));
-    }
-    let Some(words) = words_of(alloc, &request.numbers)? else {
-        return Err(Refusal::BadLine);
-    };
-    let symbols = if request.call == Call::Decode {
-        decoded::<PRECISION>(alloc, &request.weights, request.count, words)?
+    if request.call.is_decode() {
+        let symbols = decoded_at::<PRECISION>(alloc, request)?;
+        Ok(Answer::Symbols(symbols))
     } else {
-        queued::<PRECISION>(alloc, &request.weights, request.count, words)?
-    };
-    Ok(Answer::Symbols(symbols))
+        let words = encoded_at::<PRECISION>(alloc, request)?;
+        Ok(Answer::Words(words))
+    }
 }
 
 /// The answer at the precision that the line names.
@@ -68,8 +95,8 @@ pub(crate) fn push_answer(alloc: Global, text: &mut String, line: &[u8]) -> Resu
         Ok(Answer::Symbols(symbols)) => push_numbers(text, &symbols),
         Err(Refusal::BadLine) => text.push_str("bad line\n"),
         Err(Refusal::Invalid) => text.push_str("invalid\n"),
-        Err(Refusal::NoRow) => text.push_str("none\n"),
-        Err(Refusal::Refused) => text.push_str("refused\n"),
+        Err(Refusal::ImpossibleSymbol) => text.push_str("none\n"),
+        Err(Refusal::EndsInZero) => text.push_str("refused\n"),
         Err(Refusal::Damaged) => text.push_str("damaged\n"),
         Err(Refusal::OutOfMemory) => Err(AllocError),
     }

@@ -5,7 +5,7 @@ ghost use Rattle.std.specs.Prelude.{◌<◌, ◌≤◌};
 use constriction::CoderError;
 use constriction::backends::Cursor;
 use constriction::stream::model::{ContiguousCategoricalEntropyModel, ModelError};
-use constriction_coders::queue::{RangeDecoder, RangeDecodingFault};
+use constriction_coders::queue::{RangeDecoder, RangeDecodingFault, RangeEncoder};
 use constriction_coders::stack::AnsCoder;
 use std::alloc::{AllocError, Global};
 
@@ -16,10 +16,10 @@ pub(crate) enum Refusal {
     BadLine,
     /// The weights do not tile.
     Invalid,
-    /// A symbol has no row.
-    NoRow,
-    /// The words end in 0.
-    Refused,
+    /// A symbol has no weight.
+    ImpossibleSymbol,
+    /// The words end in 0, which those of no stack coder do.
+    EndsInZero,
     /// The range decoder met no quantile.
     Damaged,
     OutOfMemory,
@@ -46,6 +46,15 @@ pub(crate) fn words_of(alloc: Global, numbers: &[u64]) -> Result<Option<Vec<u32>
     Ok(Some(words))
 }
 
+/// These numbers as symbols.
+pub(crate) fn symbols_of(alloc: Global, numbers: &[u64]) -> Result<Vec<usize>, AllocError> {
+    let mut symbols = Vec::with_capacity(alloc, numbers.len())?;
+    for number in numbers {
+        symbols.push(*number as usize)?;
+    }
+    Ok(symbols)
+}
+
 /// The model of these weights.
 fn model_of<const PRECISION: usize>(
     alloc: Global,
@@ -64,26 +73,20 @@ fn model_of<const PRECISION: usize>(
     }
 }
 
-/// The words of these symbols, from which they are decoded in order.
-pub(crate) fn encoded<const PRECISION: usize>(
+/// The words of the stack coder from which these symbols are decoded in order.
+pub(crate) fn stack_encode<const PRECISION: usize>(
     alloc: Global,
     weights: &[u64],
-    symbols: &[u64],
+    symbols: &[usize],
 ) -> Result<Vec<u32>, Refusal>
     requires positive { 0 < PRECISION }
     requires fits { PRECISION ≤ 32 }
 {
     let model = model_of::<PRECISION>(alloc, weights)?;
-    let mut indices = Vec::with_capacity(alloc, symbols.len())?;
-    for symbol in symbols {
-        if indices.push(*symbol as usize).is_err() {
-            return Err(Refusal::OutOfMemory);
-        }
-    }
     let mut coder = AnsCoder::new(alloc);
-    match coder.encode_symbols_reverse(&indices, &model) {
+    match coder.encode_symbols_reverse(symbols, &model) {
         Ok(()) => {}
-        Err(CoderError::Frontend(_)) => return Err(Refusal::NoRow),
+        Err(CoderError::Frontend(_)) => return Err(Refusal::ImpossibleSymbol),
         Err(CoderError::Backend(_)) => return Err(Refusal::OutOfMemory),
     }
     match coder.into_compressed() {
@@ -93,7 +96,7 @@ pub(crate) fn encoded<const PRECISION: usize>(
 }
 
 /// So many symbols of these words, by the stack coder.
-pub(crate) fn decoded<const PRECISION: usize>(
+pub(crate) fn stack_decode<const PRECISION: usize>(
     alloc: Global,
     weights: &[u64],
     count: usize,
@@ -105,7 +108,7 @@ pub(crate) fn decoded<const PRECISION: usize>(
     let model = model_of::<PRECISION>(alloc, weights)?;
     let mut coder = match AnsCoder::from_compressed(words) {
         Ok(coder) => coder,
-        Err(_) => return Err(Refusal::Refused),
+        Err(_) => return Err(Refusal::EndsInZero),
     };
     match coder.decode_symbols(alloc, count, &model) {
         Ok(symbols) => Ok(symbols),
@@ -113,8 +116,30 @@ pub(crate) fn decoded<const PRECISION: usize>(
     }
 }
 
+/// The words of the range encoder for these symbols.
+pub(crate) fn queue_encode<const PRECISION: usize>(
+    alloc: Global,
+    weights: &[u64],
+    symbols: &[usize],
+) -> Result<Vec<u32>, Refusal>
+    requires positive { 0 < PRECISION }
+    requires fits { PRECISION ≤ 32 }
+{
+    let model = model_of::<PRECISION>(alloc, weights)?;
+    let mut encoder = RangeEncoder::new(alloc);
+    match encoder.encode_symbols(symbols, &model) {
+        Ok(()) => {}
+        Err(CoderError::Frontend(_)) => return Err(Refusal::ImpossibleSymbol),
+        Err(CoderError::Backend(_)) => return Err(Refusal::OutOfMemory),
+    }
+    match encoder.into_compressed() {
+        Ok(words) => Ok(words),
+        Err(_) => Err(Refusal::OutOfMemory),
+    }
+}
+
 /// So many symbols of these words, by the range decoder.
-pub(crate) fn queued<const PRECISION: usize>(
+pub(crate) fn queue_decode<const PRECISION: usize>(
     alloc: Global,
     weights: &[u64],
     count: usize,

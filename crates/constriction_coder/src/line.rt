@@ -6,12 +6,24 @@ use std::alloc::{AllocError, Global};
 /// What a line asks of a coder.
 #[derive(Clone, Copy, Debug, PartialEq, Eq)]
 pub(crate) enum Call {
-    /// `encode P W.. : S..`: the words of the stack coder for these symbols.
-    Encode,
-    /// `decode P W.. : N : WORD..`: so many symbols of these words, by the stack coder.
-    Decode,
-    /// `queue P W.. : N : WORD..`: so many symbols of these words, by the range decoder.
-    Queue,
+    /// `stack-encode P W.. : S..`: the words of the stack coder for these symbols.
+    StackEncode,
+    /// `stack-decode P W.. : N : WORD..`: so many symbols of these words, by the stack coder.
+    StackDecode,
+    /// `queue-encode P W.. : S..`: the words of the range encoder for these symbols.
+    QueueEncode,
+    /// `queue-decode P W.. : N : WORD..`: so many symbols of these words, by the range decoder.
+    QueueDecode,
+}
+
+impl Call {
+    /// Whether it wants symbols of words.
+    pub(crate) fn is_decode(self) -> bool {
+        match self {
+            Call::StackDecode | Call::QueueDecode => true,
+            Call::StackEncode | Call::QueueEncode => false,
+        }
+    }
 }
 
 /// A line that spells a call.
@@ -30,7 +42,7 @@ pub(crate) struct Request {
 const SPACE: u8 = b' ';
 
 /// The most symbols that a line may want.
-const MOST: u64 = 1_048_576;
+const MOST_SYMBOLS: u64 = 1_048_576;
 
 /// Adds the numbers up to a colon, or up to the end where none is wanted. It answers whether only numbers stand there, and what follows
 /// the colon.
@@ -55,14 +67,17 @@ fn push_numbers<'a>(
 }
 
 fn parse_call(word: &[u8]) -> Option<Call> {
-    if word == b"encode".as_slice() {
-        return Some(Call::Encode);
+    if word == b"stack-encode".as_slice() {
+        return Some(Call::StackEncode);
     }
-    if word == b"decode".as_slice() {
-        return Some(Call::Decode);
+    if word == b"stack-decode".as_slice() {
+        return Some(Call::StackDecode);
     }
-    if word == b"queue".as_slice() {
-        return Some(Call::Queue);
+    if word == b"queue-encode".as_slice() {
+        return Some(Call::QueueEncode);
+    }
+    if word == b"queue-decode".as_slice() {
+        return Some(Call::QueueDecode);
     }
     None
 }
@@ -87,10 +102,10 @@ pub(crate) fn parse(alloc: Global, line: &[u8]) -> Result<Option<Request>, Alloc
         return Ok(None);
     }
     let mut count = 0u64;
-    if call != Call::Encode {
+    if call.is_decode() {
         let mut counts = Vec::new(alloc);
         let (spelled, after) = push_numbers(rest, true, &mut counts)?;
-        if !spelled || counts.len() != 1 || counts[0] > MOST {
+        if !spelled || counts.len() != 1 || counts[0] > MOST_SYMBOLS {
             return Ok(None);
         }
         count = counts[0];

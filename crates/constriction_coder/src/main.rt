@@ -12,8 +12,7 @@ use std::process::ExitCode;
 
 fn main(rt: HostRuntime) -> ExitCode {
     let mut reader = rt.reader();
-    let mut writer = io::writer(&rt);
-    match run_lines(rt.alloc(), &mut reader, &mut writer) {
+    match run_lines(rt.alloc(), &mut reader, io::writer(&rt)) {
         Ok(()) => ExitCode::SUCCESS,
         Err(fault) => ExitCode::from(fault.status()),
     }

@@ -3,35 +3,36 @@
 use crate::answers::push_answer;
 use constriction_text::{RunFault, first_line, read_input, write_whole};
 use std::alloc::Global;
-use std::io::{Read, Write};
+use std::io::{BufWriter, Read, Write};
 
-/// How many bytes of answers are many.
-const MANY: usize = 65_536;
-
-/// Writes the answers to the lines of an input: once there are many bytes of them, and at the end.
+/// Writes the answers to the lines of an input.
 fn write_answers<W: Write>(alloc: Global, input: &[u8], writer: &mut W) -> Result<(), RunFault> {
     let mut text = String::new(alloc);
     let mut rest = input;
     while !rest.is_empty() {
         let (line, after) = first_line(rest);
+        text.clear();
         if push_answer(alloc, &mut text, line).is_err() {
             return Err(RunFault::OutOfMemory);
         }
-        if text.len() >= MANY {
-            write_whole(writer, text.as_bytes())?;
-            text.clear();
-        }
+        write_whole(writer, text.as_bytes())?;
         rest = after;
     }
-    write_whole(writer, text.as_bytes())
+    match writer.flush() {
+        Ok(()) => Ok(()),
+        Err(_) => Err(RunFault::Write),
+    }
 }
 
 /// Reads an input to its end, and writes the answers to its lines.
-pub(crate) fn run_lines<R: Read, W: Write>(
+pub(crate) fn run_lines<R: Read, W: Write + Drop>(
     alloc: Global,
     reader: &mut R,
-    writer: &mut W,
+    writer: W,
 ) -> Result<(), RunFault> {
     let input = read_input(alloc, reader)?;
-    write_answers(alloc, &input, writer)
+    match BufWriter::new(alloc, writer) {
+        Ok(mut writer) => write_answers(alloc, &input, &mut writer),
+        Err(_) => Err(RunFault::OutOfMemory),
+    }
 }

@@ -12,8 +12,8 @@ use constriction::laws::{
     contiguous_symbols_have_entries, listed_symbols_and_weights_decide, listed_weights_decide,
 };
 use constriction::stream::model::{
-    ContiguousCategoricalEntropyModel, EncoderModel, ModelError,
-    NonContiguousCategoricalDecoderModel,
+    ContiguousCategoricalEntropyModel, EncoderModel, EntropyModel, ModelError,
+    NonContiguousCategoricalDecoderModel, UniformModel,
 };
 use constriction_coders::stack::AnsCoder;
 use std::alloc::{AllocError, Global};
@@ -99,12 +99,40 @@ fn encode_below<const PRECISION: usize>(
     }
 }
 
+/// Encodes a number if it is below the range of a uniform model, which fails only where memory is refused.
+fn encode_in_range(
+    coder: &mut AnsCoder<Vec<u32>>,
+    model: &UniformModel<u32, 24>,
+    place: usize,
+) -> Result<bool, AllocError> {
+    if place >= model.support_size() {
+        return Ok(false);
+    }
+    contiguous_symbols_have_entries();
+    match coder.encode_symbol(&place, model) {
+        Ok(()) => Ok(true),
+        Err(CoderError::Frontend(_)) => unreachable!(),
+        Err(CoderError::Backend(error)) => Err(error),
+    }
+}
+
 /// Decodes a number, which is below `support_size`.
 fn decode_below<const PRECISION: usize>(
     coder: &mut AnsCoder<Vec<u32>>,
     model: &Model<PRECISION>,
 ) -> Option<usize>
     ensures { IfSome result (λ place. place < length (contiguous_model_rows model.now)) }
+{
+    contiguous_symbols_have_entries();
+    match coder.decode_symbol(model) {
+        Ok(place) => Some(place),
+        Err(_) => None,
+    }
+}
+
+/// Decodes a number, which is in the range.
+fn decode_in_range(coder: &mut AnsCoder<Vec<u32>>, model: &UniformModel<u32, 24>) -> Option<usize>
+    ensures { IfSome result (λ place. place < length (⟦<UniformModel<u32, 24> as EntropyModel<24>>⟧.rows model.now)) }
 {
     contiguous_symbols_have_entries();
     match coder.decode_symbol(model) {
@@ -170,4 +198,13 @@ fn a_number_below_the_count_is_encoded_and_decoded(rt: HostRuntime) {
         same(&rt, encode_below(&mut coder, &model, 2), Ok(()));
     }
     same(&rt, decode_below(&mut coder, &model), Some(2));
+}
+
+#[test]
+fn a_number_in_range_is_encoded(rt: HostRuntime) {
+    let mut coder = AnsCoder::new(rt.alloc());
+    let model = UniformModel::new(3);
+    same(&rt, encode_in_range(&mut coder, &model, 2), Ok(true));
+    same(&rt, encode_in_range(&mut coder, &model, 3), Ok(false));
+    same(&rt, decode_in_range(&mut coder, &model), Some(2));
 }
