@@ -13,10 +13,10 @@ use constriction::stream::model::{
     NonContiguousCategoricalDecoderModel, to_generic_decoder_model,
     to_generic_lookup_decoder_model_of_distinct,
 };
-use constriction_client::laws::{DecoderAndEncoder, decoder_and_encoder};
-use constriction_client::{ChainStep, DecoderForm, convert_chain};
+use constriction_client::laws::{DecoderAndEncoder, decoder_and_encoder, there_and_back_of_two};
+use constriction_client::{ChainStep, DecoderForm, Query, answer_queries, convert_chain};
 use constriction_test_models::watched::{Tally, Watched, count, symbols, tally, told};
-use std::alloc::Global;
+use std::alloc::{AllocError, Global};
 use std::cell::Cell;
 use std::iter;
 use std::process::Abort;
@@ -218,6 +218,48 @@ fn a_decoder_and_an_encoder_take_one_walk_each(rt: HostRuntime) {
     let (_compared, cloned, alive) = told(&tally);
     same(&rt, [walks.get(), cloned, alive], [2, 200, 300]);
     same(&rt, both.1.support_size(), 100);
+}
+
+/// How often symbols were hashed and cloned since that was asked the last time.
+fn hashed_and_cloned(tally: &Tally) -> [usize; 2] {
+    [tally.hashed.replace(0), tally.cloned.replace(0)]
+}
+
+/// A hundred items, and two hundred queries, about symbols and quantiles of these.
+type Questions = (Vec<(Watched, usize)>, Vec<Query<Watched, usize>>);
+
+fn questions(alloc: Global, tally: &Tally) -> Result<Questions, AllocError> {
+    let (mut items, mut queries) = (Vec::new(alloc), Vec::new(alloc));
+    for symbol in symbols(alloc, tally, 99, 100)? {
+        items.push((symbol, 0))?;
+    }
+    for symbol in symbols(alloc, tally, 99, 100)? {
+        queries.push(Query::OfQuantile(symbol.number as usize))?;
+        queries.push(Query::OfSymbol(symbol))?;
+    }
+    Ok((items, queries))
+}
+
+/// Stops the test where a decoder and an encoder that are made of a model are asked more than once for an item or a query: the
+/// encoder hashes a symbol each time, and the decoder clones one.
+fn are_asked_once(rt: &impl Abort, alloc: Global, tally: &Tally, model: &Decoder) {
+    let made = decoder_and_encoder(alloc, model);
+    let (decoder, encoder) = made.expect(rt, "both models");
+    let (items, queries) = questions(alloc, tally).expect(rt, "memory");
+    let _ = hashed_and_cloned(tally);
+    let back = there_and_back_of_two(alloc, &decoder, &encoder, &items);
+    same(rt, back.is_ok(), true);
+    same(rt, hashed_and_cloned(tally), [100, 100]);
+    let replies = answer_queries(alloc, &decoder, &encoder, &queries);
+    same(rt, replies.is_ok(), true);
+    same(rt, hashed_and_cloned(tally), [100, 100]);
+}
+
+#[test]
+fn each_item_and_each_query_takes_one_look_up(rt: HostRuntime) {
+    let tally = tally(rt.alloc()).expect(&rt, "memory");
+    let made = hashed(&rt, rt.alloc(), &tally, 99, 100);
+    are_asked_once(&rt, rt.alloc(), &tally, &made.expect(&rt, "accepted"));
 }
 
 /// Where a symbol is there twice, and where a clone is refused, no symbol is left.

@@ -6,12 +6,13 @@ ghost use Rattle.constriction_models_tests.specs.Evens.{evens};
 use crate::checks::{same, same_at};
 use constriction::laws::contiguous_symbols_differ;
 use constriction::stream::model::{
-    Cumulative, CdfEntry, CdfProbe, DecoderModel, DefaultContiguousCategoricalEntropyModel, Probe,
-    CumulativeAndSymbol, row_of_quantile, to_generic_decoder_model_of_distinct,
+    CdfEntry, CdfProbe, Cumulative, CumulativeAndSymbol, DecoderModel,
+    DefaultContiguousCategoricalEntropyModel, EncoderModel, Probe, row_of_quantile, to_generic_decoder_model_of_distinct,
+    to_generic_encoder_model,
 };
 use constriction_model::row_in_probe;
 use constriction_test_models::plain_rows::row;
-use constriction_words::WholeNumber;
+use constriction_words::{NonZeroBitArray, WholeNumber};
 use std::cell::Cell;
 use std::iter;
 
@@ -164,5 +165,21 @@ fn a_look_up_of_any_symbols_does_not_go_over_all_rows(rt: HostRuntime) {
     for symbol in 0..4_194_304u32 {
         let answer = row(Some(model.quantile_function(4 * symbol + 3)));
         same_at(&rt, symbol, answer, Some((symbol as usize, 4 * symbol, 4)));
+    }
+}
+
+/// The encoder over the entries of 1,048,576 rows. If a look-up went over these, as many look-ups would not end within a minute.
+#[test]
+fn a_look_up_of_an_encoder_does_not_go_over_all_symbols(rt: HostRuntime) {
+    let sixteens = iter::repeat_n(16u32, 1_048_576);
+    let numbers = Wide::from_nonzero_fixed_point_probabilities(rt.alloc(), sixteens, false);
+    let made = to_generic_encoder_model(rt.alloc(), &numbers.expect(&rt, "accepted"));
+    let model = made.expect(&rt, "a model");
+    for symbol in 0..1_048_576usize {
+        let found = match model.left_cumulative_and_probability(&symbol) {
+            Some((left, weight)) => Some((left as usize, weight.get())),
+            None => None,
+        };
+        same_at(&rt, symbol, found, Some((16 * symbol, 16)));
     }
 }
