@@ -18,7 +18,7 @@ use constriction_model::{
     DecoderModel, EncoderModel, EntropyModel, ModelError, Probe, Weight, row_in_probe,
 };
 use constriction_numbers::WholeNumber;
-use constriction_stored_rows::{Cumulative, CdfProbe, cdf_of, contiguous_row_at, copy_of, row_at};
+use constriction_stored_rows::{CdfProbe, Cumulative, cdf_of, contiguous_row_at, copy_of, row_at};
 use std::alloc::{AllocError, Global};
 use std::marker::PhantomData;
 

@@ -19,7 +19,8 @@ use constriction_buffers::SafeBuf;
 use constriction_model::{DecoderModel, EntropyModel, ModelError, Probe, Weight, row_in_probe};
 use constriction_numbers::WholeNumber;
 use constriction_stored_rows::{
-    CdfProbe, CumulativeAndSymbol, cloned_row_at, entries_announced, entries_cloned, rows_read, end_words_of,
+    CdfProbe, CumulativeAndSymbol, cloned_row_at, end_words_of, entries_announced, entries_cloned,
+    rows_read,
 };
 use std::alloc::{AllocError, Global};
 use std::marker::PhantomData;
@@ -247,7 +248,10 @@ impl<
     pub fn quantile_probe<'m>(
         &'m self,
         quantile: Probability,
-    ) -> (usize, CdfProbe<'m, (Probability, Symbol), CumulativeAndSymbol>)
+    ) -> (
+        usize,
+        CdfProbe<'m, (Probability, Symbol), CumulativeAndSymbol>,
+    )
         requires { Probability.whole quantile < 2 ^ PRECISION }
         ensures { IsProbeFor ⟦<CdfProbe<'m, (Probability, Symbol), CumulativeAndSymbol> as Probe>⟧
             (decoder_model_rows self.now) (λ _. ⊤) (Probability.whole quantile) result.0 result.1 }

@@ -14,7 +14,7 @@ use constriction_buffers::SafeBuf;
 use constriction_model::{DecoderModel, EntropyModel, Weight};
 use constriction_numbers::WholeNumber;
 use constriction_stored_rows::{
-    Cumulative, CdfEntry, CumulativeAndSymbol, cloned_row_among, cloned_row_at, contiguous_row_at,
+    CdfEntry, Cumulative, CumulativeAndSymbol, cloned_row_among, cloned_row_at, contiguous_row_at,
 };
 use std::alloc::AllocError;
 

@@ -12,10 +12,10 @@ pub use self::round_trips::{
     CursorFault, DecoderAndEncoder, decoder_and_encoder, there_and_back,
     there_and_back_in_a_cursor, there_and_back_of_two,
 };
+pub use self::runs::{run_cursor_and_reversal, runs_are_alike};
 pub use constriction::laws::{
     each_quantile_in_range_has_a_row, the_row_found_is_the_row_of_the_quantile,
 };
-pub use self::runs::{run_cursor_and_reversal, runs_are_alike};
 
 /// What was written for items is read back as these items, in the order of a queue.
 pub fn reads_back<Symbol, Word>()

@@ -16,9 +16,9 @@ mod quantiles;
 mod queries;
 
 pub use crate::chain::{ChainStep, convert_chain};
+pub use crate::cursor_calls::{CursorCall, CursorReply};
+pub use crate::cursor_runs::{run_cursor, run_reversed};
 pub use crate::decoder_form::{DecoderForm, SearchOrLookup};
 pub use crate::quantiles::{QuantileFault, ReadFault, read_symbols, write_quantiles};
 pub use crate::queries::{Query, Reply, answer_queries};
-pub use crate::cursor_calls::{CursorCall, CursorReply};
-pub use crate::cursor_runs::{run_cursor, run_reversed};
 pub use constriction_text::{RunFault, run};

@@ -10,7 +10,7 @@ ghost use Rattle.constriction_conversions.specs.Walked.{WalkedGood, WalkedBad};
 
 use crate::hash_table::Entry;
 use constriction_model::ModelError;
-use constriction_stored_rows::{with_item, entries_announced, has_symbol, rows_announced};
+use constriction_stored_rows::{entries_announced, has_symbol, rows_announced, with_item};
 use std::alloc::{AllocError, Global};
 use std::collections::HashMap;
 use std::hash::Hash;

@@ -6,8 +6,8 @@ ghost use Rattle.std.specs.Prelude.{◌<◌, ◌^◌};
 use crate::checks::{same, same_at};
 use crate::watched_symbols::{Decoder, sixteen};
 use constriction::stream::model::{
-    AnswersRows, CdfEntry, DecoderModel, EntropyModel, LookupDecoderModel, StoresRows, Weight,
-    CumulativeAndSymbol, is_quantile,
+    AnswersRows, CdfEntry, CumulativeAndSymbol, DecoderModel, EntropyModel, LookupDecoderModel,
+    StoresRows, Weight, is_quantile,
 };
 use constriction_test_models::watched::{Watched, count, tally};
 use std::alloc::{AllocError, Global};

@@ -7,8 +7,8 @@ use crate::checks::{same, same_at};
 use constriction::laws::contiguous_symbols_differ;
 use constriction::stream::model::{
     CdfEntry, CdfProbe, Cumulative, CumulativeAndSymbol, DecoderModel,
-    DefaultContiguousCategoricalEntropyModel, EncoderModel, Probe, row_of_quantile, to_generic_decoder_model_of_distinct,
-    to_generic_encoder_model,
+    DefaultContiguousCategoricalEntropyModel, EncoderModel, Probe, row_of_quantile,
+    to_generic_decoder_model_of_distinct, to_generic_encoder_model,
 };
 use constriction_model::row_in_probe;
 use constriction_test_models::plain_rows::row;

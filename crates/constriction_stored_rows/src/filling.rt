@@ -216,7 +216,10 @@ fn fill<P: WholeNumber, I: Iterator<Item = P>, const PRECISION: usize>(
         }
         cdf.push_reserved(left);
         if leaves_none(weight, one, room) {
-            return finish::<P, PRECISION>(cdf, is_end_of_given(rest, weight, one, room, infer_last));
+            return finish::<P, PRECISION>(
+                cdf,
+                is_end_of_given(rest, weight, one, room, infer_last),
+            );
         }
         left = left.plus(weight);
         room = room.minus(weight);

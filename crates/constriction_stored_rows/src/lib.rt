@@ -17,11 +17,11 @@ mod stored;
 mod uncompared;
 
 pub use crate::apart::{are_apart, are_in_order};
-pub use crate::cdf_probe::{Cumulative, CdfEntry, CdfProbe, CumulativeAndSymbol};
+pub use crate::cdf_probe::{CdfEntry, CdfProbe, Cumulative, CumulativeAndSymbol};
 pub use crate::ends::{
-    cloned_row_among, cloned_row_at, end_before, paired_row_at, row_up_to, with_ends, end_words_of,
+    cloned_row_among, cloned_row_at, end_before, end_words_of, paired_row_at, row_up_to, with_ends,
 };
-pub use crate::filling::{with_item, cdf_of, copy_of, entries_announced, rows_announced};
+pub use crate::filling::{cdf_of, copy_of, entries_announced, rows_announced, with_item};
 pub use crate::paired::{entries_cloned, has_symbol};
 pub use crate::reading::{TakesRows, rows_read};
 pub use crate::slots::{row_in_slot, slot_probe, table_of_slots, words_of_table};

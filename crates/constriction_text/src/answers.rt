@@ -7,9 +7,9 @@ ghost use Rattle.constriction_text.specs.Answering.{answer_of, answer_to, text_o
 ghost use Rattle.constriction_text.specs.Grammar.{bits_of, format_of, precision_of, view};
 ghost use Rattle.constriction_text.specs.Text.{IsAnswer, rows_text, quantile_text, symbol_text, uniform_text};
 
+use crate::line::{Command, Format, parse};
 use crate::line_model::{LineModel, UniformRows, model_of, push_row, push_rows};
 use constriction_categorical::ContiguousCategoricalEntropyModel;
-use crate::line::{Command, Format, parse};
 use constriction_model::UniformModel;
 use std::alloc::{AllocError, Global};
 

@@ -21,7 +21,9 @@ mod symbols;
 mod weights;
 
 pub use crate::forms::{FormAndReplies, answer_by_form};
-pub use crate::models::{AnswersOfModel, answer_beside_encoder, answer_by_model, answer_by_symbol_table};
+pub use crate::models::{
+    AnswersOfModel, answer_beside_encoder, answer_by_model, answer_by_symbol_table,
+};
 pub use crate::ranges::{
     answer_from_range_u8, answer_from_range_u16, answer_from_range_u32, answer_from_range_u64,
     answer_from_range_usize,

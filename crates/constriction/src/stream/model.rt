@@ -24,4 +24,4 @@ pub use constriction_model::{
     DecoderModel, DefaultUniformModel, EncoderModel, EntropyModel, ModelError, Probe,
     SmallUniformModel, UniformModel, UniformSymbolTable, Weight, is_quantile, row_of_quantile,
 };
-pub use constriction_stored_rows::{Cumulative, CdfEntry, CdfProbe, CumulativeAndSymbol};
+pub use constriction_stored_rows::{CdfEntry, CdfProbe, Cumulative, CumulativeAndSymbol};
