@@ -76,11 +76,11 @@ where
 /// Numbers below a range.
 type Numbers = UniformModel<u32, 24>;
 
-/// The model of latent numbers that a number chooses: whatever it is, four have the same weight.
+/// The model of latent numbers that a number chooses: whatever it is, three have the same weight.
 fn posterior(_symbol: &usize) -> Numbers
-    ensures { ⟦<Numbers as EntropyModel<24>>⟧.rows result ≡ uniform_rows 24 4 }
+    ensures { ⟦<Numbers as EntropyModel<24>>⟧.rows result ≡ uniform_rows 24 3 }
 {
-    Numbers::new(4)
+    Numbers::new(3)
 }
 
 /// The model of numbers that a latent number chooses.
