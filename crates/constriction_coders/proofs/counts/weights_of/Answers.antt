@@ -1,6 +1,5 @@
-use Rattle.std.proofs.Common.{◌≡◌, ◌+◌, ◌-◌, ◌^◌, ◌<◌, length, sum, arith}
+use Rattle.std.proofs.Common.{arith}
 use Rattle.std.proofs.lemmas.Nat.{one_shl}
-use Rattle.constriction_coders.specs.Counts.{occurring}
 use Rattle.constriction_coders.proofs.CountsLemmas.{in_all, positive_accepted}
 use Rattle.constriction_coders.proofs.counts.weights_of.Goals as goal
 

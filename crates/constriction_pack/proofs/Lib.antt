@@ -1,0 +1,4 @@
+pub mod BlockLemmas
+pub mod FrameLemmas
+pub mod StreamLemmas
+pub mod WeightLemmas

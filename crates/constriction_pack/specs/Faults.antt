@@ -1,0 +1,22 @@
+-- What stops packing and unpacking.
+use Rattle.std.specs.Prelude.{ℕ}
+use Rattle.constriction_pack.specs.declared.fault.PackFault.{PackFault}
+use Rattle.constriction_pack.specs.declared.fault.PackFault.TheVariants.{Read, Write, OutOfMemory, NotPacked, Cut, Damaged}
+
+-- the input is refused
+abbrev pub IsRefusal : PackFault → Type 0
+IsRefusal Read = ⊥
+IsRefusal Write = ⊥
+IsRefusal OutOfMemory = ⊥
+IsRefusal NotPacked = Unit {0}
+IsRefusal Cut = Unit {0}
+IsRefusal Damaged = Unit {0}
+
+-- the exit status of a program that a fault stops
+abbrev pub status_of : PackFault → ℕ
+status_of Read = 1
+status_of Write = 1
+status_of OutOfMemory = 3
+status_of NotPacked = 2
+status_of Cut = 2
+status_of Damaged = 2

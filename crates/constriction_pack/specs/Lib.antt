@@ -1,0 +1,4 @@
+pub mod Blocks
+pub mod Faults
+pub mod Frames
+pub mod Packed

@@ -1,0 +1,63 @@
+//! What stops packing and unpacking.
+
+ghost use Rattle.std.specs.Prelude.{◌≡◌};
+ghost use Rattle.constriction_pack.specs.Faults.{status_of};
+
+use std::alloc::{AllocError, AllocFailed};
+use thiserror::Error;
+
+/// What stops packing and unpacking. What was written before stands.
+#[derive(Debug, Clone, Copy, PartialEq, Eq, Drop, Error)]
+pub enum PackFault {
+    /// The reader answered an error, an interruption too.
+    #[error("The input could not be read.")]
+    Read,
+    /// The writer answered an error, or took no byte.
+    #[error("The output could not be written.")]
+    Write,
+    /// Memory was refused.
+    #[error("Memory was refused.")]
+    OutOfMemory,
+    /// The input does not begin as a packed file does. Nothing was written.
+    #[error("The input is no packed file.")]
+    NotPacked,
+    /// The input ends before the packed file does.
+    #[error("The packed file was cut.")]
+    Cut,
+    /// A block, its number of words or its checksum is wrong, or something follows the packed file.
+    #[error("The packed file is damaged.")]
+    Damaged,
+}
+
+impl PackFault {
+    /// The exit status of a program that the fault stops: 1, 2 or 3.
+    pub fn status(&self) -> u8
+        ensures { result ≡ status_of self.now }
+    {
+        match self {
+            PackFault::Read | PackFault::Write => 1,
+            PackFault::NotPacked | PackFault::Cut | PackFault::Damaged => 2,
+            PackFault::OutOfMemory => 3,
+        }
+    }
+}
+
+impl From<AllocError> for PackFault {
+    ghost use Rattle.constriction_pack.specs.declared.fault.PackFault.TheVariants.{OutOfMemory};
+
+    ghost from_gives = { λ _ fault. fault ≡ OutOfMemory };
+
+    fn from(_error: AllocError) -> Self {
+        PackFault::OutOfMemory
+    }
+}
+
+impl<T: Drop> From<AllocFailed<T>> for PackFault {
+    ghost use Rattle.constriction_pack.specs.declared.fault.PackFault.TheVariants.{OutOfMemory};
+
+    ghost from_gives = { λ _ fault. fault ≡ OutOfMemory };
+
+    fn from(_error: AllocFailed<T>) -> Self {
+        PackFault::OutOfMemory
+    }
+}
