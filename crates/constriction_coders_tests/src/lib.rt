@@ -1,4 +1,4 @@
-//! The tests of the coders, of weights as words, and of laws that their callers use.
+//! The tests of the coders, of weights and words, and of laws that their callers use.
 //!
 //! A library that has tests of its own is proved twice, so none of them has any. Tests use the
 //! public interface alone.
@@ -10,6 +10,8 @@ mod bits_back;
 mod checks;
 #[cfg(test)]
 mod copies;
+#[cfg(test)]
+mod counts;
 #[cfg(test)]
 mod known_models;
 #[cfg(test)]

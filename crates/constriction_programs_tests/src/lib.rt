@@ -1,4 +1,4 @@
-//! The tests of what the programs call, of lines and of whole inputs.
+//! The tests of what the programs call: of lines, whole inputs and packed files.
 //!
 //! What lines are answered is compared by the input and the output of `constriction_rows` and `constriction_coder`.
 //!
@@ -10,5 +10,7 @@
 mod checks;
 #[cfg(test)]
 mod known;
+#[cfg(test)]
+mod packing;
 #[cfg(test)]
 mod runs;

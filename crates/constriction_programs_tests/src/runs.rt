@@ -11,9 +11,9 @@ const LIMIT: usize = 1_048_576;
 
 /// Gives one byte a turn, and fails once, after so many turns. Whoever asks it again is given the rest.
 #[derive(Drop)]
-struct SlowReader<'a> {
-    rest: &'a [u8],
-    turns: usize,
+pub(crate) struct SlowReader<'a> {
+    pub(crate) rest: &'a [u8],
+    pub(crate) turns: usize,
 }
 
 impl Read for SlowReader<'_> {
@@ -37,9 +37,9 @@ impl Read for SlowReader<'_> {
 
 /// Takes one byte a turn, and fails after so many turns.
 #[derive(Drop)]
-struct SlowWriter {
-    taken: Vec<u8>,
-    turns: usize,
+pub(crate) struct SlowWriter {
+    pub(crate) taken: Vec<u8>,
+    pub(crate) turns: usize,
 }
 
 impl Write for SlowWriter {

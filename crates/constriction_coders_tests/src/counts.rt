@@ -1,0 +1,78 @@
+//! Weights from counts, and words as bytes.
+
+ghost use Rattle.std.specs.Prelude.{◌≤◌};
+
+use crate::checks::{holds, same};
+use constriction_coders::bytes::{BytesFault, push_words, words_of};
+use constriction_coders::counts::{CountsFault, weights_of};
+use std::alloc::Global;
+use std::process::Abort;
+
+/// Counts whose sum has more than 64 bits.
+const MANY: u64 = u64::MAX;
+
+/// Stops the test where counts do not have these weights.
+fn are_weighed<const PRECISION: usize>(
+    rt: &impl Abort,
+    alloc: Global,
+    counts: &[u64],
+    weights: &[u32],
+)
+    requires { PRECISION ≤ 32 }
+{
+    match weights_of::<PRECISION>(alloc, counts) {
+        Ok(found) => holds(rt, &found, weights),
+        Err(fault) => same(rt, Err(fault), Ok(())),
+    }
+}
+
+/// Stops the test where counts do not have this fault.
+fn are_refused<const PRECISION: usize>(
+    rt: &impl Abort,
+    alloc: Global,
+    counts: &[u64],
+    fault: CountsFault,
+)
+    requires { PRECISION ≤ 32 }
+{
+    same(
+        rt,
+        weights_of::<PRECISION>(alloc, counts).err(),
+        Some(fault),
+    );
+}
+
+/// The sums of weights are 1 for each symbol, and a share, rounded down.
+#[test]
+fn counts_have_weights(rt: HostRuntime) {
+    let alloc = rt.alloc();
+    are_weighed::<0>(&rt, alloc, &[0, 5], &[0, 1]);
+    are_weighed::<3>(&rt, alloc, &[3, 0, 1], &[5, 0, 3]);
+    are_weighed::<8>(&rt, alloc, &[3, 0, 1], &[191, 0, 65]);
+    are_weighed::<12>(&rt, alloc, &[MANY, MANY, 1, 0, 5], &[2046, 2047, 1, 0, 2]);
+    are_weighed::<31>(&rt, alloc, &[7], &[1 << 31]);
+    let quintillion = 1_000_000_000_000_000_000;
+    let weights = [4_294_967_288, 1, 1, 6];
+    are_weighed::<32>(&rt, alloc, &[quintillion, 1, 7, 1_000_000_000], &weights);
+}
+
+#[test]
+fn counts_without_weights_are_refused(rt: HostRuntime) {
+    let alloc = rt.alloc();
+    are_refused::<12>(&rt, alloc, &[], CountsFault::NothingOccurs);
+    are_refused::<12>(&rt, alloc, &[0, 0], CountsFault::NothingOccurs);
+    are_refused::<1>(&rt, alloc, &[1, 1, 0, 1], CountsFault::TooManySymbols);
+    are_refused::<32>(&rt, alloc, &[0, 3], CountsFault::WeightIsNoWord);
+}
+
+#[test]
+fn words_are_bytes_the_lowest_first(rt: HostRuntime) {
+    let mut bytes = Vec::new(rt.alloc());
+    bytes.push(7u8).expect(&rt, "memory");
+    push_words(&mut bytes, &[0x0403_0201, 0xfffe_fdfc]).expect(&rt, "memory");
+    holds(&rt, &bytes, &[7, 1, 2, 3, 4, 252, 253, 254, 255]);
+    let words = words_of(rt.alloc(), &bytes[1..]).expect(&rt, "words");
+    holds(&rt, &words, &[0x0403_0201, 0xfffe_fdfc]);
+    let cut = words_of(rt.alloc(), &bytes).err();
+    same(&rt, cut, Some(BytesFault::CutWord));
+}

@@ -1,0 +1,179 @@
+//! Packed files: their bytes, that they come back, and that damaged ones are refused.
+
+use crate::checks::{holds, prints, same};
+use crate::runs::{SlowReader, SlowWriter};
+use constriction_pack::laws::block_comes_back;
+use constriction_pack::{BLOCK_BYTES, PackFault, pack, pack_block, unpack, unpack_block};
+use std::alloc::Global;
+use std::process::Abort;
+
+/// Bytes, and what they are packed to. A program wrote these from the description of the format alone.
+const FILES: [(&[u8], &[u8]); 3] = [
+    (b"", b"cpk1\x00\x00\x00\x00\xf5\x13\xce\x9d\x7f\x76\x25\x4d"),
+    (
+        b"\0",
+        b"cpk1\x03\x00\x00\x00\x01\x00\x00\x00\x01\x00\x00\x00\x00\x00\x01\x00\x5f\x4e\xf6\xc3\x18\x58\x6a\xad\
+          \x00\x00\x00\x00\xcf\x27\xbb\x03\x3a\xad\x03\x07",
+    ),
+    (
+        b"\x02\x00\x01\x00\x00\x02\x00\x01\x00",
+        b"cpk1\x06\x00\x00\x00\x09\x00\x00\x00\x03\x00\x00\x00\xff\x7f\x00\x00\x00\x40\x00\x00\x01\x40\x00\x00\
+          \x90\xfe\x03\x02\xcd\x4b\xfe\xa9\xe0\xd6\xba\xb2\x00\x00\x00\x00\x1d\x7b\x24\x98\x9b\x6b\x51\xeb",
+    ),
+];
+
+/// The words of a block of the last of these bytes.
+const BLOCK: [u32; 6] = [9, 3, 32_767, 16_384, 16_385, 33_816_208];
+
+/// What packing bytes answers, and writes.
+fn packed(alloc: Global, mut bytes: &[u8]) -> (Result<(), PackFault>, Vec<u8>) {
+    let mut packed = Vec::new(alloc);
+    let result = pack(alloc, &mut bytes, &mut packed);
+    (result, packed)
+}
+
+/// What unpacking bytes answers, and writes.
+fn unpacked(alloc: Global, mut bytes: &[u8]) -> (Result<(), PackFault>, Vec<u8>) {
+    let mut unpacked = Vec::new(alloc);
+    let result = unpack(alloc, &mut bytes, &mut unpacked);
+    (result, unpacked)
+}
+
+/// Stops the test where bytes are not unpacked to these.
+fn comes_back(rt: &impl Abort, alloc: Global, file: &[u8], bytes: &[u8]) {
+    let (result, again) = unpacked(alloc, file);
+    same(rt, result, Ok(()));
+    holds(rt, &again, bytes);
+}
+
+#[test]
+fn files_are_packed_as_described(rt: HostRuntime) {
+    for file in &FILES {
+        let (bytes, expected) = *file;
+        let (result, found) = packed(rt.alloc(), bytes);
+        same(&rt, result, Ok(()));
+        holds(&rt, &found, expected);
+        comes_back(&rt, rt.alloc(), expected, bytes);
+    }
+}
+
+/// One byte more than a block has, of all kinds, is two blocks.
+#[test]
+fn two_blocks_come_back(rt: HostRuntime) {
+    let mut bytes = Vec::new(rt.alloc());
+    for place in 0..BLOCK_BYTES + 1 {
+        bytes.push((place % 251) as u8).expect(&rt, "memory");
+    }
+    let (result, found) = packed(rt.alloc(), &bytes);
+    same(&rt, result, Ok(()));
+    comes_back(&rt, rt.alloc(), &found, &bytes);
+}
+
+/// Stops the test where bytes are not refused so. What was written is a beginning of the bytes that were packed.
+fn is_refused(rt: &impl Abort, alloc: Global, file: &[u8], fault: PackFault, written: &[u8]) {
+    let (result, again) = unpacked(alloc, file);
+    same(rt, result, Err(fault));
+    holds(rt, &again, written);
+}
+
+/// Each cut is refused, and each flipped bit.
+#[test]
+fn damaged_files_are_refused(rt: HostRuntime) {
+    let alloc = rt.alloc();
+    let (bytes, file) = FILES[2];
+    for end in 0..file.len() {
+        let fault = if end < 4 {
+            PackFault::NotPacked
+        } else {
+            PackFault::Cut
+        };
+        let written = if end < 40 { &[] } else { bytes };
+        is_refused(&rt, alloc, &file[..end], fault, written);
+    }
+    let mut damaged = Vec::from_slice(alloc, file).expect(&rt, "memory");
+    for place in 0..damaged.len() {
+        let byte = damaged[place];
+        for bit in 0..8u32 {
+            damaged[place] = byte ^ (1 << bit);
+            let (result, _) = unpacked(alloc, &damaged);
+            same(&rt, result.is_err_and(|fault| fault.status() == 2), true);
+        }
+        damaged[place] = byte;
+    }
+    damaged.push(0).expect(&rt, "memory");
+    is_refused(&rt, alloc, &damaged, PackFault::Damaged, bytes);
+    is_refused(&rt, alloc, b"cpk1\xff\xff\xff\xff", PackFault::Damaged, &[]);
+}
+
+/// Words that are those of no block: no numbers, no bytes, too many of them, too many weights, weights that end or do not add up, a last
+/// word 0, bytes too few, and one too many.
+const WRONG_BLOCKS: [&[u32]; 9] = [
+    &[9],
+    &[0, 1, 65_536],
+    &[1_048_577, 1, 65_536],
+    &[9, 257],
+    &[9, 3, 32_767, 16_384],
+    &[9, 3, 32_767, 16_384, 16_384, 33_816_208],
+    &[9, 3, 32_767, 16_384, 16_385, 33_816_208, 0],
+    &[7, 3, 32_767, 16_384, 16_385, 33_816_208],
+    &[9, 3, 32_767, 16_384, 16_385, 33_816_208, 1],
+];
+
+#[test]
+fn wrong_blocks_are_refused(rt: HostRuntime) {
+    let bytes = unpack_block(rt.alloc(), &BLOCK).expect(&rt, "the block");
+    holds(&rt, &bytes, FILES[2].0);
+    let words = pack_block(rt.alloc(), FILES[2].0).expect(&rt, "memory");
+    holds(&rt, &words, &BLOCK);
+    for words in &WRONG_BLOCKS {
+        let fault = unpack_block(rt.alloc(), words).err();
+        same(&rt, fault, Some(PackFault::Damaged));
+    }
+    let again = block_comes_back(rt.alloc(), b"there and back").expect(&rt, "memory");
+    holds(&rt, &again, b"there and back");
+}
+
+/// A reader that fails is not asked again, and what was written before stands.
+#[test]
+fn readers_and_writers_fail(rt: HostRuntime) {
+    let alloc = rt.alloc();
+    let (bytes, file) = FILES[2];
+    let mut reader = SlowReader {
+        rest: file,
+        turns: 45,
+    };
+    let mut written = Vec::new(alloc);
+    let result = unpack(alloc, &mut reader, &mut written);
+    same(&rt, result, Err(PackFault::Read));
+    holds(&rt, &written, bytes);
+    let mut reader = SlowReader {
+        rest: bytes,
+        turns: 3,
+    };
+    let mut written = Vec::new(alloc);
+    let result = pack(alloc, &mut reader, &mut written);
+    same(&rt, result, Err(PackFault::Read));
+    holds(&rt, &written, b"cpk1");
+    let mut writer = SlowWriter {
+        taken: Vec::new(alloc),
+        turns: 5,
+    };
+    let result = pack(alloc, &mut b"abc".as_slice(), &mut writer);
+    same(&rt, result, Err(PackFault::Write));
+}
+
+#[test]
+fn pack_faults_are_sentences(rt: HostRuntime) {
+    let sentences = [
+        (PackFault::Read, 1, "The input could not be read."),
+        (PackFault::Write, 1, "The output could not be written."),
+        (PackFault::OutOfMemory, 3, "Memory was refused."),
+        (PackFault::NotPacked, 2, "The input is no packed file."),
+        (PackFault::Cut, 2, "The packed file was cut."),
+        (PackFault::Damaged, 2, "The packed file is damaged."),
+    ];
+    for (fault, status, sentence) in sentences {
+        same(&rt, fault.status(), status);
+        prints(&rt, rt.alloc(), &fault, sentence);
+    }
+}
