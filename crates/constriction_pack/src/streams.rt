@@ -96,8 +96,8 @@ fn unpack_next<R: Read, W: Write>(
 /// Unpacks what [`pack`] wrote, to the reader's end.
 ///
 /// The writer is not flushed. A block is written once its checksum is right and all of it is decoded, so that what stands after any fault
-/// is a beginning of the bytes. `NotPacked`, `Cut` and `Damaged` come only where the input is no packed file. Memory is asked for one
-/// block at a time, and for what was read and decoded, however much there is said to be.
+/// is a beginning of the bytes. `NotPacked`, `Cut` and `Damaged` say how the input is no packed file. Memory is asked for one block at a
+/// time, and for what was read and decoded, however much there is said to be. No clause says this of whole files; tests show it.
 pub fn unpack<R: Read, W: Write>(
     alloc: Global,
     reader: &mut R,
