@@ -5,21 +5,21 @@ use Rattle.std.proofs.lemmas.List.{reverse-append}
 use Rattle.std.proofs.Math.Bridge.{le_prop}
 use Rattle.constriction_buffers.specs.declared.buf.SafeBuf.{Ghosts}
 use Rattle.constriction_backends.specs.declared.cursor.Cursor.{Cursor}
-use Rattle.constriction_sources.specs.Source.{ReadsTold, CountsRead}
-use Rattle.constriction_sources.specs.Sink.{WritesTold, CountsWrite}
+use Rattle.constriction_sources.specs.Source.{ReadsUpcoming, CountsRead}
+use Rattle.constriction_sources.specs.Sink.{WritesAppend, CountsWrite}
 use Rattle.constriction_backends.specs.CursorState.{State, StackReads, QueueReads, Overwrites}
 
 module _ {S W E : Type 0} (view : S → State W) where
-  pub StackReads-told : (s : S) (r : Result (Option W) E) (t : S) → StackReads (view s) r (view t) → (words : List W)
-      → words ≡ reverse (view s).before → ReadsTold (λ u ws. ws ≡ reverse (view u).before) words r t
-  StackReads-told s (Ok None) t h words e = (e ∙ ap reverse h.0, sym (ap (λ u. reverse u.before) h.1 ∙ ap reverse h.0))
-  StackReads-told s (Ok (Some w)) t h words e = (
+  pub StackReads-upcoming : (s : S) (r : Result (Option W) E) (t : S) → StackReads (view s) r (view t) → (words : List W)
+      → words ≡ reverse (view s).before → ReadsUpcoming (λ u ws. ws ≡ reverse (view u).before) words r t
+  StackReads-upcoming s (Ok None) t h words e = (e ∙ ap reverse h.0, sym (ap (λ u. reverse u.before) h.1 ∙ ap reverse h.0))
+  StackReads-upcoming s (Ok (Some w)) t h words e = (
     reverse (view t).before,
     e ∙ (ap reverse h.0 ∙ reverse-append (view t).before (w
         ∷ [])),
     λ _. reverse (view t).before,
   )
-  StackReads-told s (Err x) t h words e = absurd h
+  StackReads-upcoming s (Err x) t h words e = absurd h
 
   pub StackReads-counts : (s : S) (r : Result (Option W) E) (t : S) → StackReads (view s) r (view t)
       → CountsRead (length (view s).before) r (length (view t).before)
@@ -27,11 +27,11 @@ module _ {S W E : Type 0} (view : S → State W) where
   StackReads-counts s (Ok (Some w)) t h = ap length h.0 ∙ length-append (view t).before (w ∷ [])
   StackReads-counts s (Err x) t h = absurd h
 
-  pub QueueReads-told : (s : S) (r : Result (Option W) E) (t : S) → QueueReads (view s) r (view t) → (words : List W)
-      → words ≡ (view s).after → ReadsTold (λ u ws. ws ≡ (view u).after) words r t
-  QueueReads-told s (Ok None) t h words e = (e ∙ h.0, sym (ap (λ u. u.after) h.1 ∙ h.0))
-  QueueReads-told s (Ok (Some w)) t h words e = ((view t).after, e ∙ h.0, λ _. (view t).after)
-  QueueReads-told s (Err x) t h words e = absurd h
+  pub QueueReads-upcoming : (s : S) (r : Result (Option W) E) (t : S) → QueueReads (view s) r (view t) → (words : List W)
+      → words ≡ (view s).after → ReadsUpcoming (λ u ws. ws ≡ (view u).after) words r t
+  QueueReads-upcoming s (Ok None) t h words e = (e ∙ h.0, sym (ap (λ u. u.after) h.1 ∙ h.0))
+  QueueReads-upcoming s (Ok (Some w)) t h words e = ((view t).after, e ∙ h.0, λ _. (view t).after)
+  QueueReads-upcoming s (Err x) t h words e = absurd h
 
   pub QueueReads-counts : (s : S) (r : Result (Option W) E) (t : S) → QueueReads (view s) r (view t)
       → CountsRead (length (view s).after) r (length (view t).after)
@@ -39,10 +39,10 @@ module _ {S W E : Type 0} (view : S → State W) where
   QueueReads-counts s (Ok (Some w)) t h = rw add-one (ap length h.0)
   QueueReads-counts s (Err x) t h = absurd h
 
-  pub Overwrites-told : (s : S) (w : W) (r : Result (Unit {0}) E) (t : S) → Overwrites (view s) w r (view t) → (words : List W)
-      → (view s).before ≡ words → WritesTold (λ u ws. (view u).before ≡ ws) words w r t
-  Overwrites-told s w (Ok x) t h words e = h.0 ∙ ap (λ ws. ws ++ w ∷ []) e
-  Overwrites-told s w (Err x) t h words e = ap (λ u. u.before) h.1 ∙ e
+  pub Overwrites-append : (s : S) (w : W) (r : Result (Unit {0}) E) (t : S) → Overwrites (view s) w r (view t) → (words : List W)
+      → (view s).before ≡ words → WritesAppend (λ u ws. (view u).before ≡ ws) words w r t
+  Overwrites-append s w (Ok x) t h words e = h.0 ∙ ap (λ ws. ws ++ w ∷ []) e
+  Overwrites-append s w (Err x) t h words e = ap (λ u. u.before) h.1 ∙ e
 
   pub Overwrites-counts : (s : S) (w : W) (r : Result (Unit {0}) E) (t : S) → Overwrites (view s) w r (view t)
       → CountsWrite (length (view s).after) r (length (view t).after)

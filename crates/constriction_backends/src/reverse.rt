@@ -6,7 +6,7 @@ ghost use Rattle.std.proofs.Common.{sym, ◌∙◌};
 ghost use Rattle.std.proofs.lemmas.List.{reverse-reverse};
 ghost use Rattle.constriction_backends.specs.Cursor.{pos_of, state_of, PutsAt, TurnsRound};
 ghost use Rattle.constriction_backends.specs.CursorState.{reversal, Overwrites};
-ghost use Rattle.constriction_backends.specs.CursorLaws.{Overwrites-told, Overwrites-counts};
+ghost use Rattle.constriction_backends.specs.CursorLaws.{Overwrites-append, Overwrites-counts};
 ghost use Rattle.constriction_sources.specs.SinkLaws.{free_is_taken};
 
 use crate::cursor::Cursor;
@@ -44,7 +44,7 @@ impl<Word, Backend: ReadWords<Word, Stack>> ReadWords<Word, Queue> for Reverse<B
         ReadWords::<Word, Stack>::maybe_exhausted(&self.0)
     }
 
-    ghost reads_told = { λ s r t. Backend.reads_told s.0 r t.0 };
+    ghost reads_upcoming = { λ s r t. Backend.reads_upcoming s.0 r t.0 };
 }
 
 impl<Word, Backend: ReadWords<Word, Queue>> ReadWords<Word, Stack> for Reverse<Backend> {
@@ -66,7 +66,7 @@ impl<Word, Backend: ReadWords<Word, Queue>> ReadWords<Word, Stack> for Reverse<B
         ReadWords::<Word, Queue>::maybe_exhausted(&self.0)
     }
 
-    ghost reads_told = { λ s r t. Backend.reads_told s.0 r t.0 };
+    ghost reads_upcoming = { λ s r t. Backend.reads_upcoming s.0 r t.0 };
 }
 
 impl<Word, Backend: BoundedReadWords<Word, Stack>> BoundedReadWords<Word, Queue>
@@ -87,7 +87,7 @@ impl<Word, Backend: BoundedReadWords<Word, Stack>> BoundedReadWords<Word, Queue>
 
     ghost counts_reads = { λ s r t. Backend.counts_reads s.0 r t.0 };
 
-    ghost counts_told = { λ s. Backend.counts_told s.0 };
+    ghost counts_upcoming = { λ s. Backend.counts_upcoming s.0 };
 }
 
 impl<Word, Backend: BoundedReadWords<Word, Queue>> BoundedReadWords<Word, Stack>
@@ -108,7 +108,7 @@ impl<Word, Backend: BoundedReadWords<Word, Queue>> BoundedReadWords<Word, Stack>
 
     ghost counts_reads = { λ s r t. Backend.counts_reads s.0 r t.0 };
 
-    ghost counts_told = { λ s. Backend.counts_told s.0 };
+    ghost counts_upcoming = { λ s. Backend.counts_upcoming s.0 };
 }
 
 impl<Backend: PosSeek> PosSeek for Reverse<Backend> {
@@ -196,7 +196,7 @@ impl<Word: Drop, Buf: SafeBufMut<Word>> WriteWords<Word> for Reverse<Cursor<Word
         true
     }
 
-    ghost writes_told = { λ s w r t h. Overwrites-told (λ (x : _). reversal (state_of x.0)) s w r t h.0 };
+    ghost writes_append = { λ s w r t h. Overwrites-append (λ (x : _). reversal (state_of x.0)) s w r t h.0 };
 
     ghost room_suffices = { λ s w r t h.
         free_is_taken (length (reversal (state_of s.0)).after) r (length (reversal (state_of t.0)).after)
@@ -221,11 +221,11 @@ impl<Word: Copy, Buf: SafeBufMut<Word>> WordStack<Word> for Reverse<Cursor<Word,
 
     ghost tells_words = { λ s. refl };
 
-    ghost tells_no_others = { λ s words told. sym told };
+    ghost tells_no_others = { λ s words known. sym known };
 
     ghost words_come = { λ s. reverse-reverse (state_of s.0).after };
 
-    ghost no_others_come = { λ s words told. told ∙ sym (reverse-reverse (state_of s.0).after) };
+    ghost no_others_come = { λ s words known. known ∙ sym (reverse-reverse (state_of s.0).after) };
 
     ghost always_writable = { λ s. tt };
 

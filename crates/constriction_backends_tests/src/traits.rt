@@ -25,7 +25,7 @@ impl ReadWords<u8, Stack> for Endless {
         Err(7)
     }
 
-    ghost reads_told = { λ s r t h words told. absurd told };
+    ghost reads_upcoming = { λ s r t h words known. absurd known };
 }
 
 /// A sink that keeps the default answers, and refuses what is above 9.
@@ -48,7 +48,7 @@ impl WriteWords<u8> for Small {
         Ok(())
     }
 
-    ghost writes_told = { λ s word r t h words told. absurd told };
+    ghost writes_append = { λ s word r t h words known. absurd known };
 
     ghost room_suffices = { λ s word r t h room. absurd room };
 }
@@ -88,7 +88,7 @@ impl ReadWords<u8, Queue> for Countdown {
         Ok(Some(word))
     }
 
-    ghost reads_told = { λ s r t h words told. absurd told };
+    ghost reads_upcoming = { λ s r t h words known. absurd known };
 }
 
 impl BoundedReadWords<u8, Queue> for Countdown {
@@ -100,7 +100,7 @@ impl BoundedReadWords<u8, Queue> for Countdown {
 
     ghost counts_reads = { λ s r t exact h. (h, exact) };
 
-    ghost counts_told = { λ s exact words told. absurd told };
+    ghost counts_upcoming = { λ s exact words known. absurd known };
 }
 
 /// A sink that keeps nothing but the number of its free places.
@@ -124,7 +124,7 @@ impl WriteWords<u8> for Places {
         Ok(())
     }
 
-    ghost writes_told = { λ s word r t h words told. absurd told };
+    ghost writes_append = { λ s word r t h words known. absurd known };
 
     ghost room_suffices = { λ s word r t h. free_is_taken s.free r t.free h };
 }

@@ -22,8 +22,8 @@ module _ {Symbol Word Entries : Type 0} (items : Entries → List (Word × Symbo
       (λ v ss ws. HoldsRows whole (items v) (rows_of ss ws)) r
 
   -- a model of the entries has these rows
-  abbrev pub AreTold : (List Symbol → List ℕ → Type 0) → Result Entries ModelError → Type 0
-  AreTold Accepted r =
+  abbrev pub AreKnown : (List Symbol → List ℕ → Type 0) → Result Entries ModelError → Type 0
+  AreKnown Accepted r =
       IsMadeOfBoth Accepted completes ReadSymbols Read whole (λ v ss ws. rows_paired whole precision (items v) ≡ rows_of ss ws) r
 
   module _ (compared : Symbol → Symbol → Bool) (v : Entries) (held : AreHeld compared (Ok v)) where
@@ -39,8 +39,8 @@ module _ {Symbol Word Entries : Type 0} (items : Entries → List (Word × Symbo
     pub held-stored : IsStored bits precision (map (λ x. whole x.0) (items v))
     held-stored = held-paired.0
 
-    held-told : (Accepted : List Symbol → List ℕ → Type 0) → Accepted held.ok.0 weights → AreTold Accepted (Ok v)
-    held-told Accepted accepted = record {
+    held-known : (Accepted : List Symbol → List ℕ → Type 0) → Accepted held.ok.0 weights → AreKnown Accepted (Ok v)
+    held-known Accepted accepted = record {
       ok = (held.ok.0, held.ok.1, held.ok.2, held.ok.3, accepted, held-paired.1);
       invalid = λ is. absurd (made-unrefused _ _ is);
     }
@@ -51,14 +51,14 @@ module _ {Symbol Word Entries : Type 0} (items : Entries → List (Word × Symbo
     held-symbols = read-symbols eq whole bits precision (items v) held.ok.0 (completes (map whole held.ok.1)) held.ok.4 held.ok.5
 
     -- and of which some more is known
-    pub judged-told : (Good : List Symbol → Type 0) (Accepted : List Symbol → List ℕ → Type 0)
+    pub judged-known : (Good : List Symbol → Type 0) (Accepted : List Symbol → List ℕ → Type 0)
         → ((ss : List Symbol) (ws : List ℕ) → AreAccepted eq bits precision ss ws → Good ss → Accepted ss ws)
-        → IsDistinct eq (map (λ x. x.1) (items v)) → Good (map (λ x. x.1) (items v)) → AreTold Accepted (Ok v)
-    judged-told Good Accepted accepts differ good =
+        → IsDistinct eq (map (λ x. x.1) (items v)) → Good (map (λ x. x.1) (items v)) → AreKnown Accepted (Ok v)
+    judged-known Good Accepted accepts differ good =
         let ws : List ℕ = completes (map whole held.ok.1) in
         let apart = apart-accepted eq whole bits precision (items v) held.ok.0 ws held.ok.4 held.ok.5
         (subst (IsDistinct eq) held-symbols differ) in
-        held-told (λ _ _. false) v held Accepted (accepts held.ok.0 ws apart (subst Good held-symbols good))
+        held-known (λ _ _. false) v held Accepted (accepts held.ok.0 ws apart (subst Good held-symbols good))
 
     -- what is not known of them though it has to be
     pub judged-refused : (Good : List Symbol → Type 0) (Accepted : List Symbol → List ℕ → Type 0)
@@ -81,12 +81,12 @@ module _ {Symbol Word Entries : Type 0} (items : Entries → List (Word × Symbo
 
   -- symbols that are known to differ
   module _ (eq : Symbol → Symbol → Bool) (differ : (ss : List Symbol) → ReadSymbols ToItsEnd ss → IsDistinct eq ss) where
-    pub apart-told : (r : Result Entries ModelError) → AreHeld (λ _ _. false) r → AreTold (AreAccepted eq bits precision) r
-    apart-told (Ok v) held =
-        held-told (λ _ _. false) v held (AreAccepted eq bits precision)
+    pub apart-known : (r : Result Entries ModelError) → AreHeld (λ _ _. false) r → AreKnown (AreAccepted eq bits precision) r
+    apart-known (Ok v) held =
+        held-known (λ _ _. false) v held (AreAccepted eq bits precision)
         (apart-accepted eq whole bits precision (items v) held.ok.0 (completes (map whole held.ok.1)) held.ok.4 held.ok.5
         (differ held.ok.0 held.ok.2))
-    apart-told (Err e) held = record {
+    apart-known (Err e) held = record {
       ok = tt;
       invalid = read-refused eq (AreAccepted eq bits precision) (λ ss ws good. good) (Err e) held;
     }
@@ -109,9 +109,9 @@ module _ {Symbol Word Entries : Type 0} (items : Entries → List (Word × Symbo
         paired-distinct compared bits precision held.ok.0 (completes (map whole held.ok.1)) held.ok.4 whole (items v) held.ok.5
     all-differ (Err e) held = tt
 
-    pub all-told : (r : Result Entries ModelError) → AreHeld compared r → AreTold (AreAccepted compared bits precision) r
-    all-told (Ok v) held = held-told compared v held (AreAccepted compared bits precision) held.ok.4
-    all-told (Err e) held = record { ok = tt; invalid = held.invalid }
+    pub all-known : (r : Result Entries ModelError) → AreHeld compared r → AreKnown (AreAccepted compared bits precision) r
+    all-known (Ok v) held = held-known compared v held (AreAccepted compared bits precision) held.ok.4
+    all-known (Err e) held = record { ok = tt; invalid = held.invalid }
 
 -- what a reader says of two iterators it says of the arguments that became them
 module _ {J S K T Symbol Word Entries : Type 0} (becomes : J → S → Type 0) (steps : S → Option Symbol → S → Type 0) (from : J)

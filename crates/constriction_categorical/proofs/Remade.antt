@@ -11,14 +11,14 @@ use Rattle.constriction_stored_rows.proofs.MadeLemmas.{made-unrefused}
 module _ {Symbol Word Source Model : Type 0} (Accepted : List Symbol → List ℕ → Type 0) (completes : List ℕ → List ℕ)
     (ReadSymbols : Reading → List Symbol → Type 0) (Read : Reading → List Word → Type 0) (whole : Word → ℕ)
     (rows : Model → List (Row Symbol)) where
-  pub made_of_both : (told : Source → List (Row Symbol)) (v : Source) (result : Result Model ModelError)
-      → IsMadeOfBoth Accepted completes ReadSymbols Read whole (λ v ss ws. told v ≡ rows_of ss ws) (Ok v)
-      → IfOk result (λ m. rows m ≡ told v) → IfErr result (λ e. e ≡ OutOfMemory)
+  pub made_of_both : (known : Source → List (Row Symbol)) (v : Source) (result : Result Model ModelError)
+      → IsMadeOfBoth Accepted completes ReadSymbols Read whole (λ v ss ws. known v ≡ rows_of ss ws) (Ok v)
+      → IfOk result (λ m. rows m ≡ known v) → IfErr result (λ e. e ≡ OutOfMemory)
       → IsMadeOfBoth Accepted completes ReadSymbols Read whole (λ m ss ws. rows m ≡ rows_of ss ws) result
-  made_of_both told v (Ok m) read made memory =
+  made_of_both known v (Ok m) read made memory =
       let ok = read.ok in
       record { ok = (ok.0, ok.1, ok.2, ok.3, ok.4, made ∙ ok.5); invalid = λ is. absurd (made-unrefused _ _ is) }
-  made_of_both told v (Err e) read made memory = record {
+  made_of_both known v (Err e) read made memory = record {
     ok = tt;
     invalid = λ is.
         let bad : OutOfMemory ≡ InvalidTable = cc in
@@ -37,14 +37,14 @@ module _ {Symbol Word Source Model : Type 0} (Accepted : List Symbol → List �
 
 module _ {Word Source Model : Type 0} (Accepted : List ℕ → Type 0) (completes : List ℕ → List ℕ)
     (Read : Reading → List Word → Type 0) (whole : Word → ℕ) (rows : Model → List (Row ℕ)) where
-  pub made_of_weights : (told : Source → List (Row ℕ)) (v : Source) (result : Result Model ModelError)
-      → IsMadeOfWeights Accepted completes Read whole (λ v ws. told v ≡ contiguous_rows ws) (Ok v)
-      → IfOk result (λ m. rows m ≡ told v) → IfErr result (λ e. e ≡ OutOfMemory)
+  pub made_of_weights : (known : Source → List (Row ℕ)) (v : Source) (result : Result Model ModelError)
+      → IsMadeOfWeights Accepted completes Read whole (λ v ws. known v ≡ contiguous_rows ws) (Ok v)
+      → IfOk result (λ m. rows m ≡ known v) → IfErr result (λ e. e ≡ OutOfMemory)
       → IsMadeOfWeights Accepted completes Read whole (λ m ws. rows m ≡ contiguous_rows ws) result
-  made_of_weights told v (Ok m) read made memory =
+  made_of_weights known v (Ok m) read made memory =
       let ok = read.ok in
       record { ok = (ok.0, ok.1, ok.2, made ∙ ok.3); invalid = λ is. absurd (made-unrefused _ _ is) }
-  made_of_weights told v (Err e) read made memory = record {
+  made_of_weights known v (Err e) read made memory = record {
     ok = tt;
     invalid = λ is.
         let bad : OutOfMemory ≡ InvalidTable = cc in

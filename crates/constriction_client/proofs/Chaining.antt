@@ -19,11 +19,11 @@ module _ {Symbol : Type 0} (IsClone : Symbol → Symbol → Type 0) (steps : Lis
       (leaves-more IsClone (take i steps) (get_or steps i d) rows between made so_far one)
 
   -- where clones are the same values, the rows are those of before
-  pub exact-after : {Form Error : Type 0} (told : Form → List (Row Symbol)) (rows : List (Row Symbol)) (r : Result Form Error)
-      → IfOk r (λ made. ChainLeaves IsClone steps rows (told made))
-      → IfOk r (λ made. ClonesAreSame IsClone → told made ≡ rows)
-  exact-after told rows (Ok made) h = λ same. same-after IsClone same steps rows (told made) h
-  exact-after told rows (Err e) h = tt
+  pub exact-after : {Form Error : Type 0} (known : Form → List (Row Symbol)) (rows : List (Row Symbol)) (r : Result Form Error)
+      → IfOk r (λ made. ChainLeaves IsClone steps rows (known made))
+      → IfOk r (λ made. ClonesAreSame IsClone → known made ≡ rows)
+  exact-after known rows (Ok made) h = λ same. same-after IsClone same steps rows (known made) h
+  exact-after known rows (Err e) h = tt
 
 -- the kind after one step more: what the step says of the kind before it
 pub one-kind-more : (steps : List ChainStep) (i : ℕ) (d : ChainStep) (before now next : Bool) → i < length steps

@@ -41,7 +41,7 @@ module _ {Symbol Word Source Error : Type 0} (Stands : Symbol → Symbol → Typ
       → (words : List Word) → ComeNext tells s words → length words ≡ count
       → ArePairs Stands rows whole words new × Reads gives s words t
   all-read n read words next many =
-      let left = read.told (words ++ next.rest) next.told in
+      let left = read.known (words ++ next.rest) next.known in
       let split : words ++ next.rest ≡ read.words ++ left.0 =
       left.1 ∙ ap (λ ws. read.words ++ (ws ++ left.0)) read.ended.1 in
       let long = AllZip-long (IsPairOf Stands rows whole) read.words read.pairs read.of_words in
@@ -77,7 +77,7 @@ module _ {Symbol Word Source Error : Type 0} (Stands : Symbol → Symbol → Typ
   never-too-large error read is come =
       let at : ReadsPairs Stands MayRefuse precision rows whole gives tells count s [] (Err (Frontend QuantileTooLarge)) t new capacity =
       subst (λ e. ReadsPairs Stands MayRefuse precision rows whole gives tells count s [] (Err e) t new capacity) is read in
-      let left = at.told (come.words ++ come.next.rest) come.next.told in
+      let left = at.known (come.words ++ come.next.rest) come.next.known in
       let split : come.words ++ come.next.rest ≡ at.words ++ at.ended.0 ∷ left.0 =
       left.1 ∙ ap (λ ws. at.words ++ (ws ++ left.0)) at.ended.2 in
       let long = AllZip-long (IsPairOf Stands rows whole) at.words at.pairs at.of_words in

@@ -3,7 +3,7 @@ use Rattle.std.proofs.Common.{◌≡◌, ℕ, ◌+◌, ◌<◌, ◌≤◌, List,
 use Rattle.std.proofs.lemmas.List.{take_more, take_all}
 use Rattle.std.proofs.lemmas.Slice.Zip.{all_zipped_more}
 use Rattle.constriction_words.specs.declared.coder_error.CoderError.TheVariants.{Frontend, Backend}
-use Rattle.constriction_backends.specs.Sink.{WritesTold}
+use Rattle.constriction_backends.specs.Sink.{WritesAppend}
 use Rattle.constriction_backends.specs.SinkLaws.{writes_more}
 use Rattle.constriction_client.specs.declared.quantiles.QuantileFault.{QuantileFault}
 use Rattle.constriction_client.specs.Quantiles.{IsQuantileOf, IsFaultOf, WritesItems, StopsAtItem}
@@ -17,7 +17,7 @@ section_at xs i x h e =
 module _ {Symbol Word Sink Error : Type 0} (entry : Symbol → Option (ℕ × ℕ)) (whole : Word → ℕ)
     (gives : Sink → Word → Result (Unit {0}) Error → Sink → Type 0) (tells : Sink → List Word → Type 0)
     (law : (s : Sink) (w : Word) (r : Result (Unit {0}) Error) (t : Sink) → gives s w r t
-    → (ws : List Word) → tells s ws → WritesTold tells ws w r t) where
+    → (ws : List Word) → tells s ws → WritesAppend tells ws w r t) where
   pub wrote-more : (items : List (Symbol × Word)) (i : ℕ) (item : Symbol × Word) (word : Word) (s j t : Sink)
       → i < length items → item ≡ get_or items i item → WritesItems entry whole gives tells (take i items) s j
       → IsQuantileOf entry whole item (whole word) → gives j word (Ok tt) t
@@ -31,9 +31,9 @@ module _ {Symbol Word Sink Error : Type 0} (entry : Symbol → Option (ℕ × �
             all_zipped_more (λ x w. IsQuantileOf entry whole x (whole w))
             (take i items) so_far.words item word so_far.quantiles quantile;
         written = writes_more gives s so_far.words j word t so_far.written wrote;
-        told = λ old known.
+        known = λ old known.
             subst (λ (ws : List Word). tells t ws) (append_assoc old so_far.words (word ∷ []))
-            (law j word (Ok tt) t wrote (old ++ so_far.words) (so_far.told old known));
+            (law j word (Ok tt) t wrote (old ++ so_far.words) (so_far.known old known));
       })
 
   -- an item that has no quantile
@@ -45,7 +45,7 @@ module _ {Symbol Word Sink Error : Type 0} (entry : Symbol → Option (ℕ × �
     item = item;
     after = drop (suc i) items;
     split = section_at items i item h e;
-    is_such = (t, so_far, (is, refl), so_far.told);
+    is_such = (t, so_far, (is, refl), so_far.known);
   }
 
   -- an item whose quantile the sink refuses
@@ -62,7 +62,7 @@ module _ {Symbol Word Sink Error : Type 0} (entry : Symbol → Option (ℕ × �
       j,
       so_far,
       (word, quantile, refused),
-      λ old known. law j word (Err error) t refused (old ++ so_far.words) (so_far.told old known),
+      λ old known. law j word (Err error) t refused (old ++ so_far.words) (so_far.known old known),
     );
   }
 

@@ -149,5 +149,5 @@ module _ {Symbol Word Buf : Type 0} {g : Ghosts Buf Word} (entry : Symbol → Op
       → ComeNext (λ (s : Cursor Word Buf g) (words : List Word). words ≡ (state_of s).after) t back.placed.words
   come-next t back = record {
     rest = drop (length back.placed.words) (state_of c).after;
-    told = sym (back-at back.reached t back.placed back.buf back.pos).1;
+    known = sym (back-at back.reached t back.placed back.buf back.pos).1;
   }

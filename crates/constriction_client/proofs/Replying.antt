@@ -23,11 +23,11 @@ abbrev pub replies_of_two : {S Word : Type 0} → ℕ → (Word → ℕ) → Lis
 replies_of_two precision whole rows entry queries = map (reply_to_query precision whole rows entry) queries
 
 -- an answer to the quantile stands for the reply of a scan
-pub told-reply : {S Word Weight : Type 0} (Stands : S → S → Type 0) (whole : Word → ℕ) (base : Weight → Word) (bits precision : ℕ)
+pub known-reply : {S Word Weight : Type 0} (Stands : S → S → Type 0) (whole : Word → ℕ) (base : Weight → Word) (bits precision : ℕ)
     (rows : List (Row S)) (entry : S → Option (ℕ × ℕ)) (word : Word) (x : S × Word × Weight) → whole word < 2 ^ precision
     → RowsTile bits precision rows → AnswersQuantile Stands whole base rows (whole word) x
     → StandsForReply Stands (reply.Row x.0 (whole x.1) (whole (base x.2))) (reply_to_query precision whole rows entry (OfQuantile word))
-told-reply Stands whole base bits precision rows entry word x below tile answer = (
+known-reply Stands whole base bits precision rows entry word x below tile answer = (
   answer.0,
   answer.1,
   rw (
@@ -67,24 +67,24 @@ scan-of-rows {S = S} precision whole eq entry rows before queries same alike =
     ap (λ (rs : List (Row S)). replies_of_two precision whole rs entry queries) same ∙ by_entries
 
 -- one answer more, to the next question
-pub one-more-told : {A B C D : Type 0} (R : D → C → Type 0) (asked : A → C) (told : B → D) (items : List A) (i : ℕ) (item : A)
+pub one-more-known : {A B C D : Type 0} (R : D → C → Type 0) (asked : A → C) (known : B → D) (items : List A) (i : ℕ) (item : A)
     (answers more : List B) (answer : B) → i < length items → item ≡ get_or items i item → more ≡ answers ++ answer ∷ []
-    → R (told answer) (asked item)
-    → AllZip R (map told answers) (map asked (take i items)) → AllZip R (map told more) (map asked (take (i + 1) items))
-one-more-told {C = C} {D = D} R asked told items i item answers more answer within is grown answered so_far =
-    let given : map told more ≡ map told answers ++ told answer ∷ [] = ap (map told) grown ∙ map-append told answers (answer ∷ []) in
+    → R (known answer) (asked item)
+    → AllZip R (map known answers) (map asked (take i items)) → AllZip R (map known more) (map asked (take (i + 1) items))
+one-more-known {C = C} {D = D} R asked known items i item answers more answer within is grown answered so_far =
+    let given : map known more ≡ map known answers ++ known answer ∷ [] = ap (map known) grown ∙ map-append known answers (answer ∷ []) in
     let scanned : map asked (take (i + 1) items) ≡ map asked (take i items) ++ asked item ∷ [] =
     ap (map asked) (take_more items i item within) ∙ map-append asked (take i items) (get_or items i item ∷ [])
     ∙ ap (λ x. map asked (take i items) ++ asked x ∷ []) (sym is) in
     subst (λ (ds : List D). AllZip R ds (map asked (take (i + 1) items))) (sym given)
-    (subst (λ (cs : List C). AllZip R (map told answers ++ told answer ∷ []) cs) (sym scanned)
-    (all_zipped_more R (map told answers) (map asked (take i items)) (told answer) (asked item) so_far answered))
+    (subst (λ (cs : List C). AllZip R (map known answers ++ known answer ∷ []) cs) (sym scanned)
+    (all_zipped_more R (map known answers) (map asked (take i items)) (known answer) (asked item) so_far answered))
 
 -- replies to so many queries that there are no more are the replies to all
-pub all-told : {S Word : Type 0} (Stands : S → S → Type 0) (precision : ℕ) (whole : Word → ℕ) (rows : List (Row S))
+pub all-known : {S Word : Type 0} (Stands : S → S → Type 0) (precision : ℕ) (whole : Word → ℕ) (rows : List (Row S))
     (entry : S → Option (ℕ × ℕ)) (queries : List (Query S Word)) (n : ℕ) (given : List (Reply S ℕ ℕ)) → length queries ≤ n
     → StandForReplies Stands given (replies_of_two precision whole rows entry (take n queries))
     → StandForReplies Stands given (replies_of_two precision whole rows entry queries)
-all-told {S} {Word} Stands precision whole rows entry queries n given h is =
+all-known {S} {Word} Stands precision whole rows entry queries n given h is =
     subst (λ (qs : List (Query S Word)). StandForReplies Stands given (replies_of_two precision whole rows entry qs))
     (take_all n queries h) is

@@ -5,7 +5,7 @@ use Rattle.std.proofs.lemmas.List.{length_push}
 use Rattle.std.proofs.lemmas.List.Elements.{All-nil, All-push}
 use Rattle.std.proofs.lemmas.Slice.Zip.{all_zipped_more}
 use Rattle.constriction_words.specs.declared.coder_error.CoderError.TheVariants.{Frontend, Backend}
-use Rattle.constriction_backends.specs.Source.{ReadsTold, Reads}
+use Rattle.constriction_backends.specs.Source.{ReadsUpcoming, Reads}
 use Rattle.constriction_backends.specs.SourceLaws.{reads_more}
 use Rattle.constriction.specs.Model.{RowMayBeRefused}
 use Rattle.constriction.specs.Rows.{Row}
@@ -37,14 +37,14 @@ pub record HasRead {Symbol Word Source Error : Type 0} (Stands : Symbol → Symb
   pub added : new ≡ old ++ pairs
   pub many : length pairs ≡ n
   pub read : Reads gives s words t
-  pub told : (upcoming : List Word) → tells s upcoming
+  pub known : (upcoming : List Word) → tells s upcoming
       → (rest : List Word) × (upcoming ≡ words ++ rest) × tells t rest
 
 module _ {Symbol Word Source Error : Type 0} (Stands : Symbol → Symbol → Type 0) (MayRefuse : Symbol → Type 0) (precision : ℕ)
     (rows : List (Row Symbol)) (whole : Word → ℕ)
     (gives : Source → Result (Option Word) Error → Source → Type 0) (tells : Source → List Word → Type 0)
     (law : (s : Source) (r : Result (Option Word) Error) (t : Source) → gives s r t
-    → (ws : List Word) → tells s ws → ReadsTold tells ws r t) where
+    → (ws : List Word) → tells s ws → ReadsUpcoming tells ws r t) where
   pub read-none : (s : Source) (old : List (Symbol × Word))
       → HasRead Stands precision rows whole gives tells s old 0 s old
   read-none s old = record {
@@ -55,18 +55,18 @@ module _ {Symbol Word Source Error : Type 0} (Stands : Symbol → Symbol → Typ
     added = sym (append-nil old);
     many = refl;
     read = refl;
-    told = λ upcoming h. (upcoming, refl, h);
+    known = λ upcoming h. (upcoming, refl, h);
   }
 
   -- a source that told the words before still tells those after one more
-  told-more : (s : Source) (words : List Word) (j : Source) (word : Word) (t : Source)
+  known-more : (s : Source) (words : List Word) (j : Source) (word : Word) (t : Source)
       → gives j (Ok (Some word)) t
       → ((upcoming : List Word) → tells s upcoming
       → (rest : List Word) × (upcoming ≡ words ++ rest) × tells j rest)
       → (upcoming : List Word) → tells s upcoming
       → (rest : List Word) × (upcoming ≡ words ++ word ∷ rest) × tells t rest
-  told-more s words j word t took told upcoming h =
-      let before = told upcoming h in
+  known-more s words j word t took known upcoming h =
+      let before = known upcoming h in
       let now = law j (Ok (Some word)) t took before.0 before.2 in
       (now.0, before.1 ∙ ap (λ ws. words ++ ws) now.1, now.2)
 
@@ -84,8 +84,8 @@ module _ {Symbol Word Source Error : Type 0} (Stands : Symbol → Symbol → Typ
     added = e ∙ ap (λ ps. ps ++ pair ∷ []) so_far.added ∙ append_assoc old so_far.pairs (pair ∷ []);
     many = omega (arith, length-append so_far.pairs (pair ∷ []), so_far.many);
     read = reads_more gives s so_far.words j word t so_far.read took;
-    told = λ upcoming h.
-        let now = told-more s so_far.words j word t took so_far.told upcoming h in
+    known = λ upcoming h.
+        let now = known-more s so_far.words j word t took so_far.known upcoming h in
         (now.0, now.1 ∙ sym (append_assoc so_far.words (word ∷ []) now.0), now.2);
   }
 
@@ -103,7 +103,7 @@ module _ {Symbol Word Source Error : Type 0} (Stands : Symbol → Symbol → Typ
     read = so_far.read;
     more = [];
     ended = (sym (so_far.many ∙ e), refl, inl (so_far.many ∙ e, refl));
-    told = λ upcoming h. let now = so_far.told upcoming h in (now.0, now.1, now.2, λ less. absurd (omega arith));
+    known = λ upcoming h. let now = so_far.known upcoming h in (now.0, now.1, now.2, λ less. absurd (omega arith));
   }
 
   -- the source ended
@@ -120,8 +120,8 @@ module _ {Symbol Word Source Error : Type 0} (Stands : Symbol → Symbol → Typ
     read = so_far.read;
     more = [];
     ended = (sym so_far.many, refl, inr (omega (arith, so_far.many), end));
-    told = λ upcoming h.
-        let now = so_far.told upcoming h in
+    known = λ upcoming h.
+        let now = so_far.known upcoming h in
         let none = law j (Ok None) t end now.0 now.2 in
         ([], now.1 ∙ ap (λ ws. so_far.words ++ ws) none.0, none.1, λ _. refl);
   }
@@ -142,7 +142,7 @@ module _ {Symbol Word Source Error : Type 0} (Stands : Symbol → Symbol → Typ
     read = so_far.read;
     more = word ∷ [];
     ended = (word, omega (arith, so_far.many), refl, took, is);
-    told = λ upcoming h. let now = told-more s so_far.words j word t took so_far.told upcoming h in (now.0, now.1, now.2, tt);
+    known = λ upcoming h. let now = known-more s so_far.words j word t took so_far.known upcoming h in (now.0, now.1, now.2, tt);
   }
 
   pub read-fault : (s : Source) (old : List (Symbol × Word)) (count n : ℕ) (j : Source) (word : Word) (t : Source)
@@ -179,8 +179,8 @@ module _ {Symbol Word Source Error : Type 0} (Stands : Symbol → Symbol → Typ
     read = so_far.read;
     more = [];
     ended = (omega (arith, so_far.many), refl, failed);
-    told = λ upcoming h.
-        let now = so_far.told upcoming h in
+    known = λ upcoming h.
+        let now = so_far.known upcoming h in
         let left = law j (Err error) t failed now.0 now.2 in
         (now.0, now.1, left.1, left.0);
   }

@@ -9,7 +9,7 @@ use Rattle.constriction_client.specs.Placing.{PlacesItems}
 pub record ComeNext {Word Source : Type 0} (tells : Source → List Word → Type 0) (s : Source) (words : List Word)
     : Type 0 where
   pub rest : List Word
-  pub told : tells s (words ++ rest)
+  pub known : tells s (words ++ rest)
 
 -- the next words to come from s are so many quantiles
 pub record QuantilesCome {Word Source : Type 0} (precision : ℕ) (whole : Word → ℕ) (tells : Source → List Word → Type 0)

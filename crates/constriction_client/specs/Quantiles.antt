@@ -45,7 +45,7 @@ module _ {Symbol Word : Type 0} (entry : Symbol → Option (ℕ × ℕ)) (whole 
       pub words : List Word
       pub quantiles : AreQuantiles items words
       pub written : Writes gives s words t
-      pub told : (old : List Word) → tells s old → tells t (old ++ words)
+      pub known : (old : List Word) → tells s old → tells t (old ++ words)
 
     -- The item was refused, which leads from s to t: it has no quantile, and s stays, or the sink refused its quantile.
     abbrev pub RefusesItem : Symbol × Word → Sink → CoderError QuantileFault Error → Sink → Type 0
@@ -111,5 +111,5 @@ pub record ReadsPairs {Symbol Word Source Error : Type 0} (Stands : Symbol → S
   pub more : List Word
   pub ended : EndsReading precision (λ q. RowMayBeRefused MayRefuse rows q ⊎ (capacity ≤ length new)) whole gives count (length pairs)
       reached result more t
-  pub told : (upcoming : List Word) → tells s upcoming
+  pub known : (upcoming : List Word) → tells s upcoming
       → (rest : List Word) × (upcoming ≡ words ++ (more ++ rest)) × tells t rest × LeavesWords count result rest

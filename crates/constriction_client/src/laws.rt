@@ -9,7 +9,7 @@ mod runs;
 
 pub use self::forms::form_symbols_differ;
 pub use self::round_trips::{
-    CursorFault, DecoderAndEncoder, decoder_and_encoder, there_and_back,
+    CursorError, DecoderAndEncoder, decoder_and_encoder, there_and_back,
     there_and_back_in_a_cursor, there_and_back_of_two,
 };
 pub use self::runs::{run_cursor_and_reversal, runs_are_alike};

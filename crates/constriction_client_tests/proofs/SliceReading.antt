@@ -31,8 +31,8 @@ pub pairs-of-first : {Symbol Word Source Error : Type 0} (Stands : Symbol → Sy
     (s : Source) (old : List (Symbol × Word)) (n : ℕ) (t : Source) (new : List (Symbol × Word)) (capacity : ℕ) (upcoming : List Word)
     → ReadsPairs Stands MayRefuse precision rows whole gives tells count s old (Ok n) t new capacity → tells s upcoming
     → (pairs : List (Symbol × Word)) × ArePairs Stands rows whole (take count upcoming) pairs × (length pairs ≡ n) × (new ≡ old ++ pairs)
-pairs-of-first Stands MayRefuse precision rows whole gives tells count s old n t new capacity upcoming r told =
-    let left = r.told upcoming told in
+pairs-of-first Stands MayRefuse precision rows whole gives tells count s old n t new capacity upcoming r known =
+    let left = r.known upcoming known in
     let split : upcoming ≡ r.words ++ left.0 = left.1 ∙ ap (λ more. r.words ++ (more ++ left.0)) r.ended.1 in
     let long : length r.pairs ≡ length r.words = sym (as-many _ r.words r.pairs r.of_words) in
     let first : take count upcoming ≡ r.words =
@@ -46,9 +46,9 @@ pub pairs-if-read : {Symbol Word Source Error : Type 0} (Stands : Symbol → Sym
     → ReadsPairs Stands MayRefuse precision rows whole gives tells count s old r t new capacity → tells s upcoming
     → IfOk r (λ n. (pairs : List (Symbol × Word)) × ArePairs Stands rows whole (take count upcoming) pairs × (length pairs ≡ n)
     × (new ≡ old ++ pairs))
-pairs-if-read Stands MayRefuse precision rows whole gives tells count s old (Ok n) t new capacity upcoming r told =
-    pairs-of-first Stands MayRefuse precision rows whole gives tells count s old n t new capacity upcoming r told
-pairs-if-read Stands MayRefuse precision rows whole gives tells count s old (Err e) t new capacity upcoming r told = tt
+pairs-if-read Stands MayRefuse precision rows whole gives tells count s old (Ok n) t new capacity upcoming r known =
+    pairs-of-first Stands MayRefuse precision rows whole gives tells count s old n t new capacity upcoming r known
+pairs-if-read Stands MayRefuse precision rows whole gives tells count s old (Err e) t new capacity upcoming r known = tt
 
 -- of a model that refuses no row, memory was refused only where the list of pairs was full
 pub full-if-refused : {Symbol Word Source Error : Type 0} (Stands : Symbol → Symbol → Type 0) (precision : ℕ) (rows : List (Row Symbol))

@@ -2,7 +2,7 @@
 
 ghost use Rattle.std.specs.Prelude.{◌≡◌};
 ghost use Rattle.constriction_backends.specs.Stack.{Pushes};
-ghost use Rattle.constriction_backends.specs.StackLaws.{Pushes-told};
+ghost use Rattle.constriction_backends.specs.StackLaws.{Pushes-append};
 
 use crate::checks::{holds, same, small};
 use constriction_backends::{ReadWords, WriteWords};
@@ -33,7 +33,7 @@ impl WriteWords<u8> for TwoWords {
         }
     }
 
-    ghost writes_told = { Pushes-told (λ s. s.words.items) };
+    ghost writes_append = { Pushes-append (λ s. s.words.items) };
 
     ghost room_suffices = { λ s word r t h room. absurd room };
 }
@@ -72,7 +72,7 @@ impl ReadWords<u8, Queue> for Interrupted {
         }
     }
 
-    ghost reads_told = { λ s r t gives words told. absurd told };
+    ghost reads_upcoming = { λ s r t gives words known. absurd known };
 }
 
 fn read_interrupted(

@@ -10,7 +10,7 @@ use crate::items::Letters;
 use constriction::stream::model::{DecoderModel, EncoderModel, EntropyModel, Weight};
 use constriction_backends::{BoundedWriteError, Cursor};
 use constriction_client::QuantileFault;
-use constriction_client::laws::{CursorFault, there_and_back_in_a_cursor, there_and_back_of_two};
+use constriction_client::laws::{CursorError, there_and_back_in_a_cursor, there_and_back_of_two};
 use constriction_test_models::contiguous::{WEIGHTS, Weighted};
 use constriction_test_models::given::of_four;
 use constriction_words::{BitArray, CoderError, Pos, ReadWriteError, Seek};
@@ -114,7 +114,7 @@ fn in_a_cursor(
     model: &Weighted<6>,
     items: &[(usize, u8)],
     words: &mut [u8],
-) -> (Result<Vec<(usize, u8)>, CursorFault>, usize) {
+) -> (Result<Vec<(usize, u8)>, CursorError>, usize) {
     let mut cursor = Cursor::<u8, &mut [u8]>::new_at_write_end_mut(words);
     let _ = cursor.seek(1);
     let back = there_and_back_in_a_cursor(alloc, model, &model, items, &mut cursor);
@@ -127,7 +127,7 @@ fn keeps_the_words(
     alloc: Global,
     model: &Weighted<6>,
     items: &[(usize, u8)],
-    (fault, left, end): (CursorFault, [u8; 3], usize),
+    (fault, left, end): (CursorError, [u8; 3], usize),
 ) {
     let mut words = [7u8, 8, 9];
     let (back, pos) = in_a_cursor(alloc, model, items, &mut words);

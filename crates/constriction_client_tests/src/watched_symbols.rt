@@ -15,7 +15,7 @@ use constriction::stream::model::{
 };
 use constriction_client::laws::{DecoderAndEncoder, decoder_and_encoder, there_and_back_of_two};
 use constriction_client::{ChainStep, DecoderForm, Query, answer_queries, convert_chain};
-use constriction_test_models::watched::{Tally, Watched, count, symbols, tally, told};
+use constriction_test_models::watched::{Tally, Watched, count, symbols, tally, tallied};
 use std::alloc::{AllocError, Global};
 use std::cell::Cell;
 use std::iter;
@@ -171,14 +171,14 @@ fn five_thousand_symbols_are_converted_without_comparing_any(rt: HostRuntime) {
     let tally = tally(rt.alloc()).expect(&rt, "memory");
     let made = hashed(&rt, rt.alloc(), &tally, 4999, 5000);
     let model = made.expect(&rt, "accepted");
-    let (few, cloned, alive) = told(&tally);
+    let (few, cloned, alive) = tallied(&tally);
     same(&rt, (few <= 5000, cloned, alive), (true, 0, 5000));
     let form = converted(rt.alloc(), model).expect(&rt, "a form");
-    same(&rt, told(&tally), (few, 25_000, 5000));
+    same(&rt, tallied(&tally), (few, 25_000, 5000));
     same(&rt, number_at(&form, 4321), Some(4321));
     same(&rt, tally.hashed.get(), 5000);
     drop(form);
-    same(&rt, told(&tally), (few, 25_001, 0));
+    same(&rt, tallied(&tally), (few, 25_001, 0));
 }
 
 /// The conversion to a lookup model compares no two symbols, whether or not the walk announces how many rows there are.
@@ -187,10 +187,10 @@ fn five_thousand_symbols_are_looked_up_without_comparing_any(rt: HostRuntime) {
     let tally = tally(rt.alloc()).expect(&rt, "memory");
     let made = hashed(&rt, rt.alloc(), &tally, 4999, 5000);
     let model = made.expect(&rt, "accepted");
-    let (few, _cloned, _alive) = told(&tally);
+    let (few, _cloned, _alive) = tallied(&tally);
     let announced = looked_up(rt.alloc(), &model).expect(&rt, "a form");
     let unannounced = looked_up_unannounced(rt.alloc(), &model).expect(&rt, "a form");
-    same(&rt, told(&tally), (few, 10_000, 15_000));
+    same(&rt, tallied(&tally), (few, 10_000, 15_000));
     same(&rt, number_at(&announced, 4321), Some(4321));
     same(&rt, number_at(&unannounced, 4321), Some(4321));
 }
@@ -201,9 +201,9 @@ fn five_thousand_symbols_that_differ_are_not_compared(rt: HostRuntime) {
     let tally = tally(rt.alloc()).expect(&rt, "memory");
     let made = hashed(&rt, rt.alloc(), &tally, 4999, 5000);
     let model = made.expect(&rt, "accepted");
-    let (few, _cloned, _alive) = told(&tally);
+    let (few, _cloned, _alive) = tallied(&tally);
     let form = walked(rt.alloc(), &model).expect(&rt, "a form");
-    same(&rt, told(&tally), (few, 5000, 10_000));
+    same(&rt, tallied(&tally), (few, 5000, 10_000));
     same(&rt, number_at(&form, 4321), Some(4321));
 }
 
@@ -215,7 +215,7 @@ fn a_decoder_and_an_encoder_take_one_walk_each(rt: HostRuntime) {
     let model = made.expect(&rt, "accepted");
     let walks = Cell::new(0);
     let both = both_of(rt.alloc(), &model, &walks).expect(&rt, "both models");
-    let (_compared, cloned, alive) = told(&tally);
+    let (_compared, cloned, alive) = tallied(&tally);
     same(&rt, [walks.get(), cloned, alive], [2, 200, 300]);
     same(&rt, both.1.support_size(), 100);
 }
@@ -268,9 +268,9 @@ fn no_symbol_outlives_a_refusal(rt: HostRuntime) {
     let tally = tally(rt.alloc()).expect(&rt, "memory");
     let repeat = hashed(&rt, rt.alloc(), &tally, 3, 1);
     same(&rt, repeat.err(), Some(ModelError::InvalidTable));
-    same(&rt, told(&tally).2, 0);
+    same(&rt, tallied(&tally).2, 0);
     let made = hashed(&rt, rt.alloc(), &tally, 3, u32::MAX);
     let refused = converted(rt.alloc(), made.expect(&rt, "accepted"));
     same(&rt, refused.err(), Some(ModelError::OutOfMemory));
-    same(&rt, told(&tally).2, 0);
+    same(&rt, tallied(&tally).2, 0);
 }

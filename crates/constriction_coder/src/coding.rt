@@ -5,7 +5,7 @@ ghost use Rattle.std.specs.Prelude.{◌<◌, ◌≤◌};
 use constriction::CoderError;
 use constriction::backends::Cursor;
 use constriction::stream::model::{ContiguousCategoricalEntropyModel, ModelError};
-use constriction_coders::queue::{RangeDecoder, RangeDecodingFault, RangeEncoder};
+use constriction_coders::queue::{RangeDecoder, DecoderFrontendError, RangeEncoder};
 use constriction_coders::stack::AnsCoder;
 use std::alloc::{AllocError, Global};
 
@@ -155,7 +155,7 @@ pub(crate) fn queue_decode<const PRECISION: usize>(
     };
     match decoder.decode_symbols(alloc, count, &model) {
         Ok(symbols) => Ok(symbols),
-        Err(CoderError::Frontend(RangeDecodingFault::OutOfMemory)) => Err(Refusal::OutOfMemory),
+        Err(CoderError::Frontend(DecoderFrontendError::OutOfMemory)) => Err(Refusal::OutOfMemory),
         Err(_) => Err(Refusal::Damaged),
     }
 }

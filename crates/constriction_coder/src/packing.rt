@@ -1,6 +1,6 @@
 //! Whole files: standard input packed or unpacked onto standard output.
 
-use constriction_pack::{PackFault, pack, unpack};
+use constriction_pack::{PackError, pack, unpack};
 use std::io::{IsTerminal, Read};
 use std::process::ExitCode;
 use std::time::{Duration, Instant};
@@ -49,7 +49,7 @@ enum Call {
 }
 
 /// Packs or unpacks.
-fn run<R: Read>(rt: &HostRuntime, call: Call, reader: &mut R) -> Result<(), PackFault> {
+fn run<R: Read>(rt: &HostRuntime, call: Call, reader: &mut R) -> Result<(), PackError> {
     match call {
         Call::Pack => pack(rt.alloc(), reader, &mut io::writer(rt)),
         Call::Unpack => unpack(rt.alloc(), reader, &mut io::writer(rt)),

@@ -8,7 +8,7 @@ use Rattle.std.proofs.lemmas.Nat.{mul-le, le-div, div_below}
 use Rattle.constriction.specs.Coding.{InTurn, StandsForEqual}
 use Rattle.constriction.specs.CodingLemmas.{entry-back}
 use Rattle.constriction.specs.Rows.{Row, RowsTile, IsRowOf, entry_of}
-use Rattle.constriction_backends.specs.Source.{ReadsTold}
+use Rattle.constriction_backends.specs.Source.{ReadsUpcoming}
 use Rattle.constriction_coders.specs.Intervals.{Interval, interval, part_of, word_or_zero, HoldsPoint, IsAboveAll, IsStretched, IsStart, Held, held_of, IsRead}
 use Rattle.constriction_coders.specs.Numbers.{number_first}
 use Rattle.constriction_coders.specs.RangeLaws.{IsAt, IsDecodedFrom, DecoderFollows, EndsThere, NeverAboveAll, RangeSymbolComesBack, RangeSymbolsComeBack}
@@ -34,18 +34,18 @@ module _ (unit offset left weight : ℕ) (from : unit * left ≤ offset) (to : o
   quantile-to = div_below offset unit (left + weight) some-unit (omega (arith, to))
 
 module _ {S E : Type 0} (gives : S → Result (Option ℕ) E → S → Type 0) (tells : S → List ℕ → Type 0)
-    (law : (s : S) (r : Result (Option ℕ) E) (t : S) → gives s r t → (ws : List ℕ) → tells s ws → ReadsTold tells ws r t) where
+    (law : (s : S) (r : Result (Option ℕ) E) (t : S) → gives s r t → (ws : List ℕ) → tells s ws → ReadsUpcoming tells ws r t) where
   read-word : (s : S) (answer : Option ℕ) (t : S) → gives s (Ok answer) t → (words : List ℕ) (k : ℕ) → tells s (drop k words)
       → (word_or_zero answer ≡ get_or words k 0) × tells t (drop (k + 1) words)
-  read-word s None t read words k told =
-      let end = law s (Ok None) t read (drop k words) told in
+  read-word s None t read words k known =
+      let end = law s (Ok None) t read (drop k words) known in
       let same : k + 0 ≡ k = omega arith in
       let word : 0 ≡ get_or words k 0 =
       sym (ap (λ (ws : List ℕ). get_or ws 0 0) end.0) ∙ get_or-drop k words 0 0 ∙ ap (λ n. get_or words n 0) same in
       let rest : [] ≡ drop (k + 1) words = sym (ap (λ (ws : List ℕ). drop 1 ws) end.0) ∙ drop-drop 1 k words in
       (word, subst (λ (ws : List ℕ). tells t ws) rest end.1)
-  read-word s (Some w) t read words k told =
-      let next = law s (Ok (Some w)) t read (drop k words) told in
+  read-word s (Some w) t read words k known =
+      let next = law s (Ok (Some w)) t read (drop k words) known in
       let same : k + 0 ≡ k = omega arith in
       let word : w ≡ get_or words k 0 =
       sym (ap (λ (ws : List ℕ). get_or ws 0 0) next.1) ∙ get_or-drop k words 0 0 ∙ ap (λ n. get_or words n 0) same in
@@ -55,14 +55,14 @@ module _ {S E : Type 0} (gives : S → Result (Option ℕ) E → S → Type 0) (
   -- a decoder begins at the span of no symbol
   pub begins-whole : (source : S) (range offset : ℕ) (rest : S) → IsStart gives source (interval range offset) rest → (words : List ℕ)
       → tells source words → IsAt tells whole words (held_of range offset rest)
-  begins-whole source range offset rest opened words told =
-      let first = read-word source opened.0 opened.2 opened.3 words 0 told in
+  begins-whole source range offset rest opened words known =
+      let first = read-word source opened.0 opened.2 opened.3 words 0 known in
       let second = read-word opened.2 opened.1 rest opened.4 words 1 first.1 in
       let offset : word_or_zero opened.0 * 2 ^ 32 + word_or_zero opened.1 ≡ number_first 2 words - 0 =
       omega (arith, first.0, second.0) in
       record {
         held = opened.5 ∙ ap (λ n. interval (2 ^ 64 - 1) n) offset;
-        told = second.1;
+        known = second.1;
       }
 
   -- the part is held where the decoder and the encoder widen it, or leave it, alike
@@ -70,18 +70,18 @@ module _ {S E : Type 0} (gives : S → Result (Option ℕ) E → S → Type 0) (
       → i ≡ interval part.size (number_first (part.written + 2) words - part.low) → part.low ≤ number_first (part.written + 2) words
       → tells from (drop (part.written + 2) words) → IsStretched gives i from held to → IsWidened part new
       → IsAt tells new words (record { held = held; source = to })
-  is-at-part part new words i held from to is low told (inl stays) (inl same) =
+  is-at-part part new words i held from to is low known (inl stays) (inl same) =
       let there : IsAt tells part words (record { held = held; source = to }) = record {
         held = stays.1 ∙ is;
-        told = subst (λ (s : S). tells s (drop (part.written + 2) words)) (sym stays.2) told;
+        known = subst (λ (s : S). tells s (drop (part.written + 2) words)) (sym stays.2) known;
       } in
       subst (λ (s : Span). IsAt tells s words (record { held = held; source = to })) (sym same.1) there
-  is-at-part part new words i held from to is low told (inl stays) (inr wider) =
+  is-at-part part new words i held from to is low known (inl stays) (inr wider) =
       absurd (omega (arith, stays.0, wider.0, ap (λ (x : Interval). x.range) is))
-  is-at-part part new words i held from to is low told (inr stretched) (inl same) =
+  is-at-part part new words i held from to is low known (inr stretched) (inl same) =
       absurd (omega (arith, stretched.0, same.0, ap (λ (x : Interval). x.range) is))
-  is-at-part part new words i held from to is low told (inr stretched) (inr wider) =
-      let read = read-word from stretched.1 to stretched.2 words (part.written + 2) told in
+  is-at-part part new words i held from to is low known (inr stretched) (inr wider) =
+      let read = read-word from stretched.1 to stretched.2 words (part.written + 2) known in
       let sum : part.written + 2 + 1 ≡ part.written + 1 + 2 = omega arith in
       let more : number_first (part.written + 1 + 2) words
       ≡ number_first (part.written + 2) words * 2 ^ 32 + get_or words (part.written + 2) 0 =
@@ -94,14 +94,14 @@ module _ {S E : Type 0} (gives : S → Result (Option ℕ) E → S → Type 0) (
       record {
         held = stretched.3 ∙ ap (λ n. interval n (i.offset * 2 ^ 32 + word_or_zero stretched.1)) range
             ∙ ap (λ n. interval (part.size * 2 ^ 32) n) offset;
-        told = subst (λ n. tells to (drop n words)) sum read.1;
+        known = subst (λ n. tells to (drop n words)) sum read.1;
       } in
       subst (λ (s : Span). IsAt tells s words (record { held = held; source = to })) (sym wider.1) there
 
 module _ {Symbol S E : Type 0} (Stands : Symbol → Symbol → Type 0) (eq : Symbol → Symbol → Bool) (entry : Symbol → Option (ℕ × ℕ))
     (rows : List (Row Symbol)) (gives : S → Result (Option ℕ) E → S → Type 0) (tells : S → List ℕ → Type 0) (bits precision : ℕ)
     (tile : RowsTile bits precision rows) (alike : (s : Symbol) → entry s ≡ entry_of eq rows s)
-    (law : (s : S) (r : Result (Option ℕ) E) (t : S) → gives s r t → (ws : List ℕ) → tells s ws → ReadsTold tells ws r t) where
+    (law : (s : S) (r : Result (Option ℕ) E) (t : S) → gives s r t → (ws : List ℕ) → tells s ws → ReadsUpcoming tells ws r t) where
   fits : (symbol : Symbol) (left weight : ℕ) → entry symbol ≡ Some (left, weight) → left + weight ≤ 2 ^ precision
   fits = fits-entry eq entry rows bits precision tile alike
 
@@ -169,7 +169,7 @@ module _ {Symbol S E : Type 0} (Stands : Symbol → Symbol → Type 0) (eq : Sym
             let away : offset - unit * e.left ≡ number_first (old.written + 2) words - (old.low + unit * e.left) =
             omega (arith, inside.0) in
             is-at-part gives tells law part new words (interval (unit * e.weight) (offset - unit * e.left)) later.held now.source later.source
-            (ap (λ n. interval (unit * e.weight) n) away) inside.0 here.told stretched e.next
+            (ap (λ n. interval (unit * e.weight) n) away) inside.0 here.known stretched e.next
 
     -- ---- a message
 

@@ -6,8 +6,8 @@ use Rattle.constriction.specs.declared.CoderError.{CoderError}
 use Rattle.constriction.specs.declared.CoderError.TheVariants.{Frontend, Backend}
 use Rattle.constriction.specs.Model.{RowMayBeRefused}
 use Rattle.constriction.specs.Rows.{Row, IsRowOf}
-use Rattle.constriction_coders.specs.declared.queue.range_decoder.RangeDecodingFault.{RangeDecodingFault}
-use Rattle.constriction_coders.specs.declared.queue.range_decoder.RangeDecodingFault.TheVariants.{InvalidData, OutOfMemory}
+use Rattle.constriction_coders.specs.declared.queue.range_decoder.DecoderFrontendError.{DecoderFrontendError}
+use Rattle.constriction_coders.specs.declared.queue.range_decoder.DecoderFrontendError.TheVariants.{InvalidData, OutOfMemory}
 use Rattle.constriction_coders.specs.Intervals.{Interval, interval, word_or_zero, HoldsPoint, IsAboveAll, IsRead, IsReadingFault, ReadingStops, Held, held_of}
 
 module _ (offset unit quantile left weight : ℕ) (from : unit * quantile ≤ offset) (to : offset < unit * (quantile + 1))
@@ -90,28 +90,28 @@ module _ {Symbol S E : Type 0} (Stands : Symbol → Symbol → Type 0) (MayRefus
     (gives : S → Result (Option ℕ) E → S → Type 0) (precision : ℕ) (old : Held S) (range offset : ℕ) (reached : S)
     (new_range new_offset : ℕ)
     (left : S) (stays : new_range ≡ range) (stands : new_offset ≡ offset) where
-  pub fault : {T : Type 0} (error : CoderError RangeDecodingFault E)
-      → ((let r : Result T (CoderError RangeDecodingFault E) = Err error in r ≡ Err (Frontend InvalidData))
+  pub fault : {T : Type 0} (error : CoderError DecoderFrontendError E)
+      → ((let r : Result T (CoderError DecoderFrontendError E) = Err error in r ≡ Err (Frontend InvalidData))
       → IsAboveAll precision (interval range offset))
-      → ((let r : Result T (CoderError RangeDecodingFault E) = Err error in r ≡ Err (Frontend OutOfMemory))
+      → ((let r : Result T (CoderError DecoderFrontendError E) = Err error in r ≡ Err (Frontend OutOfMemory))
       → (quantile : ℕ) × HoldsPoint precision quantile 1 (interval range offset) × RowMayBeRefused MayRefuse rows quantile)
-      → ((e : E) → (let r : Result T (CoderError RangeDecodingFault E) = Err error in r ≡ Err (Backend e)) → gives reached (Err e) left)
-      → ((f : RangeDecodingFault)
-      → (let r : Result T (CoderError RangeDecodingFault E) = Err error in r ≡ Err (Frontend f)) → left ≡ reached)
+      → ((e : E) → (let r : Result T (CoderError DecoderFrontendError E) = Err error in r ≡ Err (Backend e)) → gives reached (Err e) left)
+      → ((f : DecoderFrontendError)
+      → (let r : Result T (CoderError DecoderFrontendError E) = Err error in r ≡ Err (Frontend f)) → left ≡ reached)
       → IsReadingFault MayRefuse rows gives precision error (held_of range offset reached) left
   fault (Frontend InvalidData) invalid memory failed source = (invalid refl, source InvalidData refl)
   fault (Frontend OutOfMemory) invalid memory failed source = (memory refl, source OutOfMemory refl)
   fault (Backend e) invalid memory failed source = failed e refl
 
-  pub reading_stops : {T : Type 0} (symbols : List Symbol) (count : ℕ) (error : CoderError RangeDecodingFault E)
+  pub reading_stops : {T : Type 0} (symbols : List Symbol) (count : ℕ) (error : CoderError DecoderFrontendError E)
       → length symbols < count → InTurn (IsRead Stands rows gives precision) symbols old (held_of range offset reached)
-      → ((let r : Result T (CoderError RangeDecodingFault E) = Err error in r ≡ Err (Frontend InvalidData))
+      → ((let r : Result T (CoderError DecoderFrontendError E) = Err error in r ≡ Err (Frontend InvalidData))
       → IsAboveAll precision (interval range offset))
-      → ((let r : Result T (CoderError RangeDecodingFault E) = Err error in r ≡ Err (Frontend OutOfMemory))
+      → ((let r : Result T (CoderError DecoderFrontendError E) = Err error in r ≡ Err (Frontend OutOfMemory))
       → (quantile : ℕ) × HoldsPoint precision quantile 1 (interval range offset) × RowMayBeRefused MayRefuse rows quantile)
-      → ((e : E) → (let r : Result T (CoderError RangeDecodingFault E) = Err error in r ≡ Err (Backend e)) → gives reached (Err e) left)
-      → ((f : RangeDecodingFault)
-      → (let r : Result T (CoderError RangeDecodingFault E) = Err error in r ≡ Err (Frontend f)) → left ≡ reached)
+      → ((e : E) → (let r : Result T (CoderError DecoderFrontendError E) = Err error in r ≡ Err (Backend e)) → gives reached (Err e) left)
+      → ((f : DecoderFrontendError)
+      → (let r : Result T (CoderError DecoderFrontendError E) = Err error in r ≡ Err (Frontend f)) → left ≡ reached)
       → ReadingStops Stands MayRefuse rows gives precision count error old (interval new_range new_offset) left
   reading_stops symbols count error fewer led invalid memory failed source =
       let same : interval range offset ≡ interval new_range new_offset =

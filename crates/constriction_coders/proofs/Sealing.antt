@@ -7,7 +7,7 @@ use Rattle.std.proofs.lemmas.List.Elements.{All-append}
 use Rattle.constriction_coders.specs.Intervals.{Interval, interval, MayBeAtEnd}
 use Rattle.constriction_coders.specs.Numbers.{number_first, number_of}
 use Rattle.constriction_coders.specs.RangeLaws.{SealedWordsTell}
-use Rattle.constriction_coders.specs.Spans.{Span, span_of, IsPointOf, IsSealed, IsToldBy}
+use Rattle.constriction_coders.specs.Spans.{Span, span_of, IsPointOf, IsSealed, LeadTo}
 use Rattle.constriction_coders.proofs.NumberLemmas.{number-push, first-append, first-more, word-fits}
 
 module _ (words raised : List ℕ) (lower range point_lower : ℕ) (wide : 2 ^ 32 ≤ range)
@@ -122,7 +122,7 @@ two-fit a b p q (suc (suc k)) d h = absurd (omega (arith, h))
 
 -- the least number of a span tells what leads to it
 pub lower-tells : (words : List ℕ) (lower range : ℕ) → All (λ w. w < 2 ^ 32) words → lower < 2 ^ 64 → 2 ^ 32 ≤ range
-    → IsToldBy (span_of words lower range) (words ++ lower / 2 ^ 32 ∷ lower % 2 ^ 32 ∷ [])
+    → LeadTo (span_of words lower range) (words ++ lower / 2 ^ 32 ∷ lower % 2 ^ 32 ∷ [])
 lower-tells words lower range fit below wide =
     let high = lower / 2 ^ 32 in
     let low = lower % 2 ^ 32 in

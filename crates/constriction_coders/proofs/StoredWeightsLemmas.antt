@@ -1,8 +1,8 @@
 -- Tables of weights as words: where writing one stops, that the words have one table, and that words are too few for one.
 use Rattle.std.proofs.Common.{◌≡◌, ℕ, List, [], ◌∷◌, ◌++◌, append-nil, Option, None, Result, Ok, Err, length, ap, sym, ◌∙◌, subst, arith, length-append}
 use Rattle.constriction_backends.specs.Sink.{Writes}
-use Rattle.constriction_backends.specs.Source.{ReadsTold}
-use Rattle.constriction_backends.specs.SourceLaws.{reads_told_all}
+use Rattle.constriction_backends.specs.Source.{ReadsUpcoming}
+use Rattle.constriction_backends.specs.SourceLaws.{reads_upcoming_all}
 use Rattle.constriction_coders.specs.StoredWeights.{weights_as_words, BeginsWeights, EndsInWeights, StopsAtWord}
 
 -- words were written up to one that was refused
@@ -29,9 +29,9 @@ same-weights weights others (w ∷ rest) e =
 
 -- a source that tells its words, and ended in a table, told the beginning of one
 pub short-weights : {S E : Type 0} (gives : S → Result (Option ℕ) E → S → Type 0) (tells : S → List ℕ → Type 0)
-    → ((s : S) (r : Result (Option ℕ) E) (t : S) → gives s r t → (ws : List ℕ) → tells s ws → ReadsTold tells ws r t)
+    → ((s : S) (r : Result (Option ℕ) E) (t : S) → gives s r t → (ws : List ℕ) → tells s ws → ReadsUpcoming tells ws r t)
     → (s t : S) → EndsInWeights gives s (Ok None) t → (words : List ℕ) → tells s words → BeginsWeights words
-short-weights gives tells law s t ends words told =
-    let read = reads_told_all gives tells law s ends.words ends.reached ends.read words told in
+short-weights gives tells law s t ends words known =
+    let read = reads_upcoming_all gives tells law s ends.words ends.reached ends.read words known in
     let none = (law ends.reached (Ok None) t ends.answered read.0 read.2).0 in
     subst BeginsWeights (sym (read.1 ∙ ap (λ ws. ends.words ++ ws) none ∙ append-nil ends.words)) ends.begins

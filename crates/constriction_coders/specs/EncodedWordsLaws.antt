@@ -1,12 +1,12 @@
 -- Reads that take the first word meet the law of sources: the impl cites it. No public clause cites this module.
 use Rattle.std.specs.Prelude.{◌≡◌, ℕ, List, Option, Some, None, Result, Ok, Err}
 use Rattle.std.proofs.Common.{sym, ◌∙◌}
-use Rattle.constriction_backends.specs.Source.{ReadsTold}
+use Rattle.constriction_backends.specs.Source.{ReadsUpcoming}
 use Rattle.constriction_coders.specs.EncodedWords.{TakesFirst}
 
-pub TakesFirst-told : {S E : Type 0} (upcoming : S → List ℕ) (s : S) (r : Result (Option ℕ) E) (t : S)
+pub TakesFirst-upcoming : {S E : Type 0} (upcoming : S → List ℕ) (s : S) (r : Result (Option ℕ) E) (t : S)
     → TakesFirst (upcoming s) r (upcoming t) → (words : List ℕ) → words ≡ upcoming s
-    → ReadsTold (λ u ws. ws ≡ upcoming u) words r t
-TakesFirst-told upcoming s (Ok None) t h words e = (e ∙ h.0, sym h.1)
-TakesFirst-told upcoming s (Ok (Some word)) t h words e = (upcoming t, e ∙ h, λ _. upcoming t)
-TakesFirst-told upcoming s (Err x) t h words e = absurd h
+    → ReadsUpcoming (λ u ws. ws ≡ upcoming u) words r t
+TakesFirst-upcoming upcoming s (Ok None) t h words e = (e ∙ h.0, sym h.1)
+TakesFirst-upcoming upcoming s (Ok (Some word)) t h words e = (upcoming t, e ∙ h, λ _. upcoming t)
+TakesFirst-upcoming upcoming s (Err x) t h words e = absurd h

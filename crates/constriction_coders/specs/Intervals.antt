@@ -5,8 +5,8 @@ use Rattle.constriction.specs.declared.CoderError.{CoderError}
 use Rattle.constriction.specs.declared.CoderError.TheVariants.{Frontend, Backend}
 use Rattle.constriction.specs.Model.{RowMayBeRefused}
 use Rattle.constriction.specs.Rows.{Row}
-use Rattle.constriction_coders.specs.declared.queue.range_decoder.RangeDecodingFault.{RangeDecodingFault}
-use Rattle.constriction_coders.specs.declared.queue.range_decoder.RangeDecodingFault.TheVariants.{InvalidData, OutOfMemory}
+use Rattle.constriction_coders.specs.declared.queue.range_decoder.DecoderFrontendError.{DecoderFrontendError}
+use Rattle.constriction_coders.specs.declared.queue.range_decoder.DecoderFrontendError.TheVariants.{InvalidData, OutOfMemory}
 
 -- An interval of so many numbers, and how far the point lies above its lower end.
 pub record Interval : Type 0 where
@@ -79,7 +79,7 @@ pub record IsRead {Symbol S E : Type 0} (Stands : Symbol → Symbol → Type 0) 
 -- Why a symbol was not decoded: the point lies above all quantiles, or memory for the row in which it lies was refused, and nothing
 -- was read; or a read answered the error.
 abbrev pub IsReadingFault : {Symbol S E : Type 0} → (Symbol → Type 0) → List (Row Symbol) → (S → Result (Option ℕ) E → S → Type 0)
-    → (precision : ℕ) → CoderError RangeDecodingFault E → Held S → S → Type 0
+    → (precision : ℕ) → CoderError DecoderFrontendError E → Held S → S → Type 0
 IsReadingFault MayRefuse rows gives precision (Frontend InvalidData) at left = IsAboveAll precision at.held × (left ≡ at.source)
 IsReadingFault MayRefuse rows gives precision (Frontend OutOfMemory) at left =
     ((quantile : ℕ) × HoldsPoint precision quantile 1 at.held × RowMayBeRefused MayRefuse rows quantile) × (left ≡ at.source)
@@ -87,7 +87,7 @@ IsReadingFault MayRefuse rows gives precision (Backend error) at left = gives at
 
 -- fewer symbols than asked for were decoded, and the next one was not; or none was, as memory for as many was refused
 pub record ReadingStops {Symbol S E : Type 0} (Stands : Symbol → Symbol → Type 0) (MayRefuse : Symbol → Type 0) (rows : List (Row Symbol))
-    (gives : S → Result (Option ℕ) E → S → Type 0) (precision count : ℕ) (error : CoderError RangeDecodingFault E) (old : Held S)
+    (gives : S → Result (Option ℕ) E → S → Type 0) (precision count : ℕ) (error : CoderError DecoderFrontendError E) (old : Held S)
     (held : Interval) (left : S) : Type 0 where
   pub done : List Symbol
   pub reached : S

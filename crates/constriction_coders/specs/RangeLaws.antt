@@ -5,17 +5,17 @@ use Rattle.constriction.specs.Coding.{StandsForEqual, InTurn}
 use Rattle.constriction.specs.Rows.{Row}
 use Rattle.constriction_coders.specs.Intervals.{Held, interval, IsRead, IsAboveAll, MayBeAtEnd}
 use Rattle.constriction_coders.specs.Numbers.{number_first}
-use Rattle.constriction_coders.specs.Spans.{Span, whole, IsNarrowed, LiesIn, IsToldBy, IsSealed, IsMessageOf}
+use Rattle.constriction_coders.specs.Spans.{Span, whole, IsNarrowed, LiesIn, LeadTo, IsSealed, IsMessageOf}
 
 -- A decoder is at a span: it holds how many numbers that has, and how far the number of the words, as many as the span's numbers have,
 -- lies above the least one. The words after these are still to come.
 pub record IsAt {S : Type 0} (tells : S → List ℕ → Type 0) (s : Span) (words : List ℕ) (now : Held S) : Type 0 where
   pub held : now.held ≡ interval s.size (number_first (s.written + 2) words - s.low)
-  pub told : tells now.source (drop (s.written + 2) words)
+  pub known : tells now.source (drop (s.written + 2) words)
 
 -- the words of a span tell what leads to it, whatever words come after them
 abbrev pub SealedWordsTell : Type 0
-SealedWordsTell = (s : Span) (words more : List ℕ) → IsSealed s words → All (λ w. w < 2 ^ 32) more → IsToldBy s (words ++ more)
+SealedWordsTell = (s : Span) (words more : List ℕ) → IsSealed s words → All (λ w. w < 2 ^ 32) more → LeadTo s (words ++ more)
 
 module _ {Symbol : Type 0} (entry : Symbol → Option (ℕ × ℕ)) (precision : ℕ) where
   -- a number in the span after a symbol is in the span before it
@@ -47,7 +47,7 @@ module _ {Symbol S E : Type 0} (Stands : Symbol → Symbol → Type 0) (eq : Sym
   pub record IsDecodedFrom (symbols answers : List Symbol) (words : List ℕ) (now : Held S) : Type 0 where
     pub last : Span
     pub encoded : InTurn (IsNarrowed entry precision) symbols whole last
-    pub message : IsToldBy last words
+    pub message : LeadTo last words
     pub start : Held S
     pub begun : IsAt tells whole words start
     pub decoded : InTurn (IsRead Stands rows gives precision) answers start now

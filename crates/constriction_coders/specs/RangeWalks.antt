@@ -5,7 +5,7 @@ use Rattle.std.specs.Iterator.{Drains, YieldsThen}
 use Rattle.constriction.specs.Coding.{InTurn}
 use Rattle.constriction.specs.declared.CoderError.{CoderError}
 use Rattle.constriction.specs.Rows.{Row}
-use Rattle.constriction_coders.specs.declared.queue.range_decoder.RangeDecodingFault.{RangeDecodingFault}
+use Rattle.constriction_coders.specs.declared.queue.range_decoder.DecoderFrontendError.{DecoderFrontendError}
 use Rattle.constriction_coders.specs.Intervals.{Held, IsRead, IsReadingFault}
 use Rattle.constriction_coders.specs.Spans.{Span, IsNarrowed, IsNarrowingFault}
 
@@ -27,7 +27,7 @@ module _ {Symbol S E : Type 0} (Stands : Symbol → Symbol → Type 0) (MayRefus
     (gives : S → Result (Option ℕ) E → S → Type 0) (precision : ℕ) where
   -- A step of an iterator over decoded symbols, which has `left` answers yet to give, and `rest` after it: the next symbol; or an error in
   -- the place of a symbol, which leaves what is held; or nothing, where no answer is left.
-  abbrev pub ReadsOn : (left : ℕ) → Held S → Option (Result Symbol (CoderError RangeDecodingFault E)) → (rest : ℕ) → Held S → Type 0
+  abbrev pub ReadsOn : (left : ℕ) → Held S → Option (Result Symbol (CoderError DecoderFrontendError E)) → (rest : ℕ) → Held S → Type 0
   ReadsOn left old None rest new = (left ≡ 0) × (rest ≡ 0) × (new ≡ old)
   ReadsOn left old (Some (Ok symbol)) rest new = (left ≡ rest + 1) × IsRead Stands rows gives precision symbol old new
   ReadsOn left old (Some (Err error)) rest new =

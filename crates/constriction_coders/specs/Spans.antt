@@ -69,7 +69,7 @@ abbrev pub LiesIn : Span → List ℕ → Type 0
 LiesIn s words = (s.low ≤ number_first (s.written + 2) words) × (number_first (s.written + 2) words < s.low + s.size)
 
 -- The words tell what leads to the span: their number is one of it. To no symbol any words lead.
-pub record IsToldBy (s : Span) (words : List ℕ) : Type 0 where
+pub record LeadTo (s : Span) (words : List ℕ) : Type 0 where
   pub fit : All (λ w. w < 2 ^ 32) words
   pub lies : s ≢ whole → LiesIn s words
 

@@ -32,7 +32,7 @@ pub record EndsInWeights {S E : Type 0} (gives : S → Result (Option ℕ) E →
 pub record ReadsWeights {S E : Type 0} (gives : S → Result (Option ℕ) E → S → Type 0) (tells : S → List ℕ → Type 0) (s : S)
     (weights : List ℕ) (t : S) : Type 0 where
   pub read : Reads gives s (weights_as_words weights) t
-  pub told : (words : List ℕ) → tells s words → (rest : List ℕ) × (words ≡ weights_as_words weights ++ rest) × tells t rest
+  pub known : (words : List ℕ) → tells s words → (rest : List ℕ) × (words ≡ weights_as_words weights ++ rest) × tells t rest
 
 -- weights were read that a model accepts for these symbols, and the rows are those of both
 pub record ReadsModel {Symbol S E : Type 0} (gives : S → Result (Option ℕ) E → S → Type 0) (tells : S → List ℕ → Type 0)

@@ -8,7 +8,7 @@ use thiserror::Error;
 
 /// Why bytes are no words.
 #[derive(Debug, PartialEq, Eq, Drop, Error)]
-pub enum BytesFault {
+pub enum BytesError {
     /// Their number is no multiple of 4.
     #[error("The last word was cut.")]
     CutWord,
@@ -34,16 +34,16 @@ pub fn push_words(bytes: &mut Vec<u8>, words: &[u32]) -> Result<(), AllocError>
 /// The words of these bytes, four bytes each.
 ///
 /// Memory is asked for once.
-pub fn words_of(alloc: Global, bytes: &[u8]) -> Result<Vec<u32>, BytesFault>
+pub fn words_of(alloc: Global, bytes: &[u8]) -> Result<Vec<u32>, BytesError>
     ensures ok { IfOk result (λ words. bytes_of_words words.items ≡ bytes.now) }
-    ensures cut { (result ≡ Err BytesFault.CutWord) ↔ (length bytes.now % 4 ≢ 0) }
+    ensures cut { (result ≡ Err BytesError.CutWord) ↔ (length bytes.now % 4 ≢ 0) }
 {
     if bytes.len() % 4 != 0 {
-        return Err(BytesFault::CutWord);
+        return Err(BytesError::CutWord);
     }
     let count = bytes.len() / 4;
     let Ok(mut words) = Vec::with_capacity(alloc, count) else {
-        return Err(BytesFault::OutOfMemory);
+        return Err(BytesError::OutOfMemory);
     };
     for at in 0..count {
         let first = 4 * at;

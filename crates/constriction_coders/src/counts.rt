@@ -10,7 +10,7 @@ use thiserror::Error;
 
 /// Why counts have no weights.
 #[derive(Debug, PartialEq, Eq, Drop, Error)]
-pub enum CountsFault {
+pub enum CountsError {
     /// No count is above 0.
     #[error("No symbol occurs.")]
     NothingOccurs,
@@ -98,30 +98,30 @@ fn shares_of(
 pub fn weights_of<const PRECISION: usize>(
     alloc: Global,
     counts: &[u64],
-) -> Result<Vec<u32>, CountsFault>
+) -> Result<Vec<u32>, CountsError>
     requires { PRECISION ≤ 32 }
     ensures ok { IfOk result (λ weights. AreWeightsOf PRECISION counts.now weights.items) }
     ensures total { IfOk result (λ weights. sum weights.items ≡ 2 ^ PRECISION) }
     ensures occur { IfOk result (λ weights. (place : ℕ) → (0 < slice_index weights.items place) ↔ (0 < slice_index counts.now place)) }
     ensures accepted { IfOk result (λ weights. IsAccepted 32 PRECISION (filter (λ w. nat_lt 0 w) weights.items)) }
-    ensures nothing { (result ≡ Err CountsFault.NothingOccurs) ↔ (occurring counts.now ≡ 0) }
-    ensures too_many { (result ≡ Err CountsFault.TooManySymbols) ↔ (2 ^ PRECISION < occurring counts.now) }
-    ensures no_word { (result ≡ Err CountsFault.WeightIsNoWord) ↔ ((PRECISION ≡ 32) × (occurring counts.now ≡ 1)) }
+    ensures nothing { (result ≡ Err CountsError.NothingOccurs) ↔ (occurring counts.now ≡ 0) }
+    ensures too_many { (result ≡ Err CountsError.TooManySymbols) ↔ (2 ^ PRECISION < occurring counts.now) }
+    ensures no_word { (result ≡ Err CountsError.WeightIsNoWord) ↔ ((PRECISION ≡ 32) × (occurring counts.now ≡ 1)) }
 {
     let size = 1u64 << PRECISION;
     let (total, occurring) = tally(counts);
     if occurring == 0 {
-        return Err(CountsFault::NothingOccurs);
+        return Err(CountsError::NothingOccurs);
     }
     if occurring > size {
-        return Err(CountsFault::TooManySymbols);
+        return Err(CountsError::TooManySymbols);
     }
     let shared = size - occurring;
     if shared >= u32::MAX as u64 {
-        return Err(CountsFault::WeightIsNoWord);
+        return Err(CountsError::WeightIsNoWord);
     }
     match shares_of(alloc, counts, shared, total) {
         Ok(weights) => Ok(weights),
-        Err(_) => Err(CountsFault::OutOfMemory),
+        Err(_) => Err(CountsError::OutOfMemory),
     }
 }

@@ -17,7 +17,7 @@ pub use self::stack::{
 
 /// Why a message did not come back.
 #[derive(Debug, Drop, Error)]
-pub enum MessageFault<EncodingError, DecodingError> {
+pub enum MessageError<EncodingError, DecodingError> {
     /// A symbol was not encoded.
     #[error("A symbol was not encoded.")]
     Encoding(EncodingError),

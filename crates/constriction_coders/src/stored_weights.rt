@@ -20,7 +20,7 @@ use thiserror::Error;
 
 /// Why no model was read.
 #[derive(Debug, PartialEq, Eq, Drop, Error)]
-pub enum ReadingFault {
+pub enum ReadingError {
     /// The words end before the weights do.
     #[error("The words end before the weights do.")]
     TooFewWords,
@@ -34,7 +34,7 @@ pub enum ReadingFault {
 
 /// Why no weights were written.
 #[derive(Debug, PartialEq, Eq, Drop, Error)]
-pub enum StoringFault {
+pub enum StoringError {
     /// The number of weights is no word.
     #[error("There are too many weights.")]
     TooManyWeights,
@@ -54,18 +54,18 @@ pub type StoredModel<Symbol, const PRECISION: usize> = NonContiguousCategoricalD
 /// The next word.
 fn next_word<Source: ReadWords<u32, Queue>>(
     source: &mut Source,
-) -> Result<u32, CoderError<ReadingFault, Source::ReadError>>
+) -> Result<u32, CoderError<ReadingError, Source::ReadError>>
     requires { Source.can_read source.old }
     ensures goes_on { Source.can_read source.new }
     ensures ok { IfOk result (λ word. Source.read_gives source.old (Ok (Some word)) source.new) }
-    ensures too_few { result ≡ Err (CoderError.Frontend ReadingFault.TooFewWords) → Source.read_gives source.old (Ok None) source.new }
-    ensures accepted { result ≢ Err (CoderError.Frontend ReadingFault.NotAccepted) }
-    ensures memory { result ≢ Err (CoderError.Frontend ReadingFault.OutOfMemory) }
+    ensures too_few { result ≡ Err (CoderError.Frontend ReadingError.TooFewWords) → Source.read_gives source.old (Ok None) source.new }
+    ensures accepted { result ≢ Err (CoderError.Frontend ReadingError.NotAccepted) }
+    ensures memory { result ≢ Err (CoderError.Frontend ReadingError.OutOfMemory) }
     ensures failed { (error : _) → result ≡ Err (CoderError.Backend error) → Source.read_gives source.old (Err error) source.new }
 {
     match source.read() {
         Ok(Some(word)) => Ok(word),
-        Ok(None) => Err(CoderError::Frontend(ReadingFault::TooFewWords)),
+        Ok(None) => Err(CoderError::Frontend(ReadingError::TooFewWords)),
         Err(error) => Err(CoderError::Backend(error)),
     }
 }
@@ -89,17 +89,17 @@ fn push_weight(weights: &mut Vec<u32>, weight: u32) -> Result<(), AllocError>
 pub fn read_weights<Source: ReadWords<u32, Queue>>(
     alloc: Global,
     source: &mut Source,
-) -> Result<Vec<u32>, CoderError<ReadingFault, Source::ReadError>>
+) -> Result<Vec<u32>, CoderError<ReadingError, Source::ReadError>>
     requires { Source.can_read source.old }
     ensures goes_on { Source.can_read source.new }
     ensures ok { IfOk result (λ weights. ReadsWeights Source.read_gives Source.tells_upcoming source.old weights.items source.new) }
-    ensures too_few { result ≡ Err (CoderError.Frontend ReadingFault.TooFewWords)
+    ensures too_few { result ≡ Err (CoderError.Frontend ReadingError.TooFewWords)
         → EndsInWeights Source.read_gives source.old (Ok None) source.new }
-    ensures short { result ≡ Err (CoderError.Frontend ReadingFault.TooFewWords)
+    ensures short { result ≡ Err (CoderError.Frontend ReadingError.TooFewWords)
         → (words : List ℕ) → Source.tells_upcoming source.old words → BeginsWeights words }
-    ensures memory { result ≡ Err (CoderError.Frontend ReadingFault.OutOfMemory)
+    ensures memory { result ≡ Err (CoderError.Frontend ReadingError.OutOfMemory)
         → (words : List ℕ) × StaysInWeights words × Reads Source.read_gives source.old words source.new }
-    ensures accepted { result ≢ Err (CoderError.Frontend ReadingFault.NotAccepted) }
+    ensures accepted { result ≢ Err (CoderError.Frontend ReadingError.NotAccepted) }
     ensures failed { (error : _) → result ≡ Err (CoderError.Backend error)
         → EndsInWeights Source.read_gives source.old (Err error) source.new }
 {
@@ -109,7 +109,7 @@ pub fn read_weights<Source: ReadWords<u32, Queue>>(
         let weight = next_word(source)?;
         match push_weight(&mut weights, weight) {
             Ok(()) => {}
-            Err(_) => return Err(CoderError::Frontend(ReadingFault::OutOfMemory)),
+            Err(_) => return Err(CoderError::Frontend(ReadingError::OutOfMemory)),
         }
     }
     Ok(weights)
@@ -119,20 +119,20 @@ pub fn read_weights<Source: ReadWords<u32, Queue>>(
 pub fn write_weights<Sink: WriteWords<u32>>(
     weights: &[u32],
     sink: &mut Sink,
-) -> Result<(), CoderError<StoringFault, Sink::WriteError>>
+) -> Result<(), CoderError<StoringError, Sink::WriteError>>
     requires { Sink.can_write sink.old }
     ensures goes_on { Sink.can_write sink.new }
     ensures ok { OnOk result (Writes Sink.write_gives sink.old (weights_as_words weights.now) sink.new) }
-    ensures told { OnOk result ((words : List ℕ) → Sink.tells_written sink.old words
+    ensures written { OnOk result ((words : List ℕ) → Sink.tells_written sink.old words
         → Sink.tells_written sink.new (words ++ weights_as_words weights.now)) }
-    ensures too_many { result ≡ Err (CoderError.Frontend StoringFault.TooManyWeights) → 2 ^ 32 ≤ length weights.now }
-    ensures memory { result ≢ Err (CoderError.Frontend StoringFault.OutOfMemory) }
+    ensures too_many { result ≡ Err (CoderError.Frontend StoringError.TooManyWeights) → 2 ^ 32 ≤ length weights.now }
+    ensures memory { result ≢ Err (CoderError.Frontend StoringError.OutOfMemory) }
     ensures unwritten { (fault : _) → result ≡ Err (CoderError.Frontend fault) → sink.new ≡ sink.old }
     ensures failed { (error : _) → result ≡ Err (CoderError.Backend error)
         → StopsAtWord Sink.write_gives sink.old (weights_as_words weights.now) error sink.new }
 {
     if weights.len() > u32::MAX as usize {
-        return Err(CoderError::Frontend(StoringFault::TooManyWeights));
+        return Err(CoderError::Frontend(StoringError::TooManyWeights));
     }
     sink.write(weights.len() as u32)?;
     for weight in weights {
@@ -146,20 +146,20 @@ fn model_of<Symbol: Eq + Drop, const PRECISION: usize>(
     alloc: Global,
     symbols: Vec<Symbol>,
     weights: Vec<u32>,
-) -> Result<StoredModel<Symbol, PRECISION>, ReadingFault>
+) -> Result<StoredModel<Symbol, PRECISION>, ReadingError>
     requires positive { 0 < PRECISION }
     requires fits { PRECISION ≤ 32 }
     ensures accepted { IfOk result (λ _. AreAccepted Symbol.eq 32 PRECISION symbols.items weights.items) }
     ensures rows { IfOk result (λ model. decoder_model_rows model ≡ rows_of symbols.items weights.items) }
-    ensures not_accepted { result ≡ Err ReadingFault.NotAccepted → ¬ (AreAccepted Symbol.eq 32 PRECISION symbols.items weights.items) }
-    ensures whole { result ≢ Err ReadingFault.TooFewWords }
+    ensures not_accepted { result ≡ Err ReadingError.NotAccepted → ¬ (AreAccepted Symbol.eq 32 PRECISION symbols.items weights.items) }
+    ensures whole { result ≢ Err ReadingError.TooFewWords }
 {
     match StoredModel::from_symbols_and_nonzero_fixed_point_probabilities(
         alloc, symbols, weights, false,
     ) {
         Ok(table) => Ok(table),
-        Err(ModelError::InvalidTable) => Err(ReadingFault::NotAccepted),
-        Err(ModelError::OutOfMemory) => Err(ReadingFault::OutOfMemory),
+        Err(ModelError::InvalidTable) => Err(ReadingError::NotAccepted),
+        Err(ModelError::OutOfMemory) => Err(ReadingError::OutOfMemory),
     }
 }
 
@@ -168,21 +168,21 @@ pub fn read_model<Symbol: Eq + Drop, Source: ReadWords<u32, Queue>, const PRECIS
     alloc: Global,
     symbols: Vec<Symbol>,
     source: &mut Source,
-) -> Result<StoredModel<Symbol, PRECISION>, CoderError<ReadingFault, Source::ReadError>>
+) -> Result<StoredModel<Symbol, PRECISION>, CoderError<ReadingError, Source::ReadError>>
     requires positive { 0 < PRECISION }
     requires fits { PRECISION ≤ 32 }
     requires can_read { Source.can_read source.old }
     ensures goes_on { Source.can_read source.new }
     ensures ok { IfOk result (λ model. ReadsModel Source.read_gives Source.tells_upcoming Symbol.eq PRECISION symbols.items
         source.old (decoder_model_rows model) source.new) }
-    ensures not_accepted { result ≡ Err (CoderError.Frontend ReadingFault.NotAccepted)
+    ensures not_accepted { result ≡ Err (CoderError.Frontend ReadingError.NotAccepted)
         → (weights : List ℕ) × ReadsWeights Source.read_gives Source.tells_upcoming source.old weights source.new
         × ¬ (AreAccepted Symbol.eq 32 PRECISION symbols.items weights) }
-    ensures too_few { result ≡ Err (CoderError.Frontend ReadingFault.TooFewWords)
+    ensures too_few { result ≡ Err (CoderError.Frontend ReadingError.TooFewWords)
         → EndsInWeights Source.read_gives source.old (Ok None) source.new }
-    ensures short { result ≡ Err (CoderError.Frontend ReadingFault.TooFewWords)
+    ensures short { result ≡ Err (CoderError.Frontend ReadingError.TooFewWords)
         → (words : List ℕ) → Source.tells_upcoming source.old words → BeginsWeights words }
-    ensures memory { result ≡ Err (CoderError.Frontend ReadingFault.OutOfMemory)
+    ensures memory { result ≡ Err (CoderError.Frontend ReadingError.OutOfMemory)
         → (words : List ℕ) × StaysInWeights words × Reads Source.read_gives source.old words source.new }
     ensures failed { (error : _) → result ≡ Err (CoderError.Backend error)
         → EndsInWeights Source.read_gives source.old (Err error) source.new }
@@ -214,22 +214,22 @@ pub fn write_model<M, Sink: WriteWords<u32>, const PRECISION: usize>(
     alloc: Global,
     model: M,
     sink: &mut Sink,
-) -> Result<(), CoderError<StoringFault, Sink::WriteError>>
+) -> Result<(), CoderError<StoringError, Sink::WriteError>>
 where
     M: IterableEntropyModel<PRECISION, Probability = u32>,
     M::Symbol: Drop,
     requires { Sink.can_write sink.old }
     ensures goes_on { Sink.can_write sink.new }
     ensures ok { OnOk result (Writes Sink.write_gives sink.old (weights_as_words (map (λ r. r.weight) (M.rows model))) sink.new) }
-    ensures told { OnOk result ((words : List ℕ) → Sink.tells_written sink.old words
+    ensures written { OnOk result ((words : List ℕ) → Sink.tells_written sink.old words
         → Sink.tells_written sink.new (words ++ weights_as_words (map (λ r. r.weight) (M.rows model)))) }
-    ensures too_many { result ≡ Err (CoderError.Frontend StoringFault.TooManyWeights) → 2 ^ 32 ≤ length (M.rows model) }
+    ensures too_many { result ≡ Err (CoderError.Frontend StoringError.TooManyWeights) → 2 ^ 32 ≤ length (M.rows model) }
     ensures unwritten { (fault : _) → result ≡ Err (CoderError.Frontend fault) → sink.new ≡ sink.old }
     ensures failed { (error : _) → result ≡ Err (CoderError.Backend error)
         → StopsAtWord Sink.write_gives sink.old (weights_as_words (map (λ r. r.weight) (M.rows model))) error sink.new }
 {
     let Ok(weights) = weights_of(alloc, model) else {
-        return Err(CoderError::Frontend(StoringFault::OutOfMemory));
+        return Err(CoderError::Frontend(StoringError::OutOfMemory));
     };
     write_weights(&weights, sink)
 }
@@ -241,17 +241,17 @@ pub fn model_comes_back<M, const PRECISION: usize>(
     symbols: Vec<M::Symbol>,
 ) -> Result<
     StoredModel<M::Symbol, PRECISION>,
-    ReadWriteError<CoderError<ReadingFault, Infallible>, CoderError<StoringFault, AllocError>>,
+    ReadWriteError<CoderError<ReadingError, Infallible>, CoderError<StoringError, AllocError>>,
 >
 where
     M: IterableEntropyModel<PRECISION, Probability = u32>,
     M::Symbol: Eq + Drop,
     requires { symbols.items ≡ symbols_of (M.rows model) }
     ensures rows { IfOk result (λ read. decoder_model_rows read ≡ M.rows model) }
-    ensures too_many { result ≡ Err (ReadWriteError.Write (CoderError.Frontend StoringFault.TooManyWeights))
+    ensures too_many { result ≡ Err (ReadWriteError.Write (CoderError.Frontend StoringError.TooManyWeights))
         → 2 ^ 32 ≤ length (M.rows model) }
-    ensures whole { result ≢ Err (ReadWriteError.Read (CoderError.Frontend ReadingFault.TooFewWords)) }
-    ensures accepted { result ≡ Err (ReadWriteError.Read (CoderError.Frontend ReadingFault.NotAccepted))
+    ensures whole { result ≢ Err (ReadWriteError.Read (CoderError.Frontend ReadingError.TooFewWords)) }
+    ensures accepted { result ≡ Err (ReadWriteError.Read (CoderError.Frontend ReadingError.NotAccepted))
         → ¬ (IsDistinct M.Symbol.eq symbols.items) }
 {
     let mut words = Vec::new(alloc);

@@ -3,8 +3,8 @@
 ghost use Rattle.std.specs.Prelude.{◌≤◌};
 
 use crate::checks::{holds, same};
-use constriction_coders::bytes::{BytesFault, push_words, words_of};
-use constriction_coders::counts::{CountsFault, weights_of};
+use constriction_coders::bytes::{BytesError, push_words, words_of};
+use constriction_coders::counts::{CountsError, weights_of};
 use std::alloc::Global;
 use std::process::Abort;
 
@@ -31,7 +31,7 @@ fn are_refused<const PRECISION: usize>(
     rt: &impl Abort,
     alloc: Global,
     counts: &[u64],
-    fault: CountsFault,
+    fault: CountsError,
 )
     requires { PRECISION ≤ 32 }
 {
@@ -59,10 +59,10 @@ fn counts_have_weights(rt: HostRuntime) {
 #[test]
 fn counts_without_weights_are_refused(rt: HostRuntime) {
     let alloc = rt.alloc();
-    are_refused::<12>(&rt, alloc, &[], CountsFault::NothingOccurs);
-    are_refused::<12>(&rt, alloc, &[0, 0], CountsFault::NothingOccurs);
-    are_refused::<1>(&rt, alloc, &[1, 1, 0, 1], CountsFault::TooManySymbols);
-    are_refused::<32>(&rt, alloc, &[0, 3], CountsFault::WeightIsNoWord);
+    are_refused::<12>(&rt, alloc, &[], CountsError::NothingOccurs);
+    are_refused::<12>(&rt, alloc, &[0, 0], CountsError::NothingOccurs);
+    are_refused::<1>(&rt, alloc, &[1, 1, 0, 1], CountsError::TooManySymbols);
+    are_refused::<32>(&rt, alloc, &[0, 3], CountsError::WeightIsNoWord);
 }
 
 #[test]
@@ -74,5 +74,5 @@ fn words_are_bytes_the_lowest_first(rt: HostRuntime) {
     let words = words_of(rt.alloc(), &bytes[1..]).expect(&rt, "words");
     holds(&rt, &words, &[0x0403_0201, 0xfffe_fdfc]);
     let cut = words_of(rt.alloc(), &bytes).err();
-    same(&rt, cut, Some(BytesFault::CutWord));
+    same(&rt, cut, Some(BytesError::CutWord));
 }

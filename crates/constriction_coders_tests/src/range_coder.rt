@@ -6,7 +6,7 @@ use constriction::backends::Cursor;
 use constriction::stream::model::{ContiguousCategoricalEntropyModel, DefaultUniformModel};
 use constriction::{CoderError, DefaultEncoderFrontendError};
 use constriction_coders::laws::{message_comes_back, message_from, message_of};
-use constriction_coders::queue::{RangeDecoder, RangeDecodingFault, RangeEncoder};
+use constriction_coders::queue::{RangeDecoder, DecoderFrontendError, RangeEncoder};
 use std::alloc::Global;
 use std::process::Abort;
 
@@ -172,7 +172,7 @@ fn words_of_no_message_are_decoded_or_invalid(rt: HostRuntime) {
     let source = Cursor::<u32, [u32; 3]>::new_at_write_beginning([u32::MAX; 3]);
     let mut coder = RangeDecoder::from_compressed(source).expect(&rt, "no read fails");
     for _ in 0..2 {
-        let invalid = CoderError::Frontend(RangeDecodingFault::InvalidData);
+        let invalid = CoderError::Frontend(DecoderFrontendError::InvalidData);
         same(&rt, coder.decode_symbol(&model), Err(invalid));
         same(&rt, coder.maybe_exhausted(), false);
     }

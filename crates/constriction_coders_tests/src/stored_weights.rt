@@ -5,7 +5,7 @@ use constriction::CoderError;
 use constriction::backends::Cursor;
 use constriction::stream::model::{IterableEntropyModel, to_generic_encoder_model};
 use constriction_coders::stack::AnsCoder;
-use constriction_coders::stored_weights::{ReadingFault, StoredModel, read_model, write_model};
+use constriction_coders::stored_weights::{ReadingError, StoredModel, read_model, write_model};
 use std::alloc::Global;
 use std::process::Abort;
 
@@ -134,7 +134,7 @@ fn five_thousand_rows_come_back(rt: HostRuntime) {
 }
 
 /// Stops the test where a model of 10 and 20 is read from these words, or is refused for another reason.
-fn is_refused(rt: &impl Abort, alloc: Global, words: &[u32], fault: ReadingFault) {
+fn is_refused(rt: &impl Abort, alloc: Global, words: &[u32], fault: ReadingError) {
     let mut source = Cursor::new_at_write_beginning(words);
     let symbols = [10u32, 20].to_vec(alloc).expect(rt, "memory");
     let model = read_model::<u32, _, 24>(alloc, symbols, &mut source);
@@ -143,12 +143,12 @@ fn is_refused(rt: &impl Abort, alloc: Global, words: &[u32], fault: ReadingFault
 
 #[test]
 fn words_that_end_before_the_weights_do_are_too_few(rt: HostRuntime) {
-    is_refused(&rt, rt.alloc(), &[], ReadingFault::TooFewWords);
-    is_refused(&rt, rt.alloc(), &[2, 5], ReadingFault::TooFewWords);
+    is_refused(&rt, rt.alloc(), &[], ReadingError::TooFewWords);
+    is_refused(&rt, rt.alloc(), &[2, 5], ReadingError::TooFewWords);
 }
 
 #[test]
 fn weights_of_no_model_are_not_accepted(rt: HostRuntime) {
-    is_refused(&rt, rt.alloc(), &[2, 5, 6], ReadingFault::NotAccepted);
-    is_refused(&rt, rt.alloc(), &[1, 1 << 24], ReadingFault::NotAccepted);
+    is_refused(&rt, rt.alloc(), &[2, 5, 6], ReadingError::NotAccepted);
+    is_refused(&rt, rt.alloc(), &[1, 1 << 24], ReadingError::NotAccepted);
 }

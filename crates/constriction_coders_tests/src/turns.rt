@@ -2,7 +2,7 @@
 
 ghost use Rattle.std.specs.Prelude.{◌≡◌, refl, reverse};
 ghost use Rattle.constriction_backends.specs.Stack.{Pops, Pushes};
-ghost use Rattle.constriction_backends.specs.StackLaws.{Pops-told, Pushes-told};
+ghost use Rattle.constriction_backends.specs.StackLaws.{Pops-upcoming, Pushes-append};
 
 use crate::checks::same;
 use constriction::Stack;
@@ -32,7 +32,7 @@ impl ReadWords<u32, Stack> for Counted {
         self.words.read()
     }
 
-    ghost reads_told = { Pops-told (λ s. s.words.items) };
+    ghost reads_upcoming = { Pops-upcoming (λ s. s.words.items) };
 }
 
 impl WriteWords<u32> for Counted {
@@ -46,7 +46,7 @@ impl WriteWords<u32> for Counted {
         self.words.write(word)
     }
 
-    ghost writes_told = { Pushes-told (λ s. s.words.items) };
+    ghost writes_append = { Pushes-append (λ s. s.words.items) };
 
     ghost room_suffices = { λ s word r t gives room. absurd room };
 }
@@ -56,11 +56,11 @@ impl WordStack<u32> for Counted {
 
     ghost tells_words = { λ s. refl };
 
-    ghost tells_no_others = { λ s words told. told };
+    ghost tells_no_others = { λ s words known. known };
 
     ghost words_come = { λ s. refl };
 
-    ghost no_others_come = { λ s words told. told };
+    ghost no_others_come = { λ s words known. known };
 
     ghost always_writable = { λ s. tt };
 

@@ -42,7 +42,7 @@ mod slot_bits;
 #[cfg(test)]
 mod symbol_types;
 #[cfg(test)]
-mod told_to_differ;
+mod known_to_differ;
 #[cfg(test)]
 mod uncloned_symbols;
 #[cfg(test)]

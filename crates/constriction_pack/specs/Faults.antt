@@ -1,10 +1,10 @@
 -- What stops packing and unpacking.
 use Rattle.std.specs.Prelude.{ℕ}
-use Rattle.constriction_pack.specs.declared.fault.PackFault.{PackFault}
-use Rattle.constriction_pack.specs.declared.fault.PackFault.TheVariants.{Read, Write, OutOfMemory, NotPacked, Cut, Damaged}
+use Rattle.constriction_pack.specs.declared.fault.PackError.{PackError}
+use Rattle.constriction_pack.specs.declared.fault.PackError.TheVariants.{Read, Write, OutOfMemory, NotPacked, Cut, Damaged}
 
 -- the input is refused
-abbrev pub IsRefusal : PackFault → Type 0
+abbrev pub IsRefusal : PackError → Type 0
 IsRefusal Read = ⊥
 IsRefusal Write = ⊥
 IsRefusal OutOfMemory = ⊥
@@ -13,7 +13,7 @@ IsRefusal Cut = Unit {0}
 IsRefusal Damaged = Unit {0}
 
 -- the exit status of a program that a fault stops
-abbrev pub status_of : PackFault → ℕ
+abbrev pub status_of : PackError → ℕ
 status_of Read = 1
 status_of Write = 1
 status_of OutOfMemory = 3

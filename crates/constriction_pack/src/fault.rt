@@ -8,7 +8,7 @@ use thiserror::Error;
 
 /// What stops packing and unpacking. What was written before stands.
 #[derive(Debug, Clone, Copy, PartialEq, Eq, Drop, Error)]
-pub enum PackFault {
+pub enum PackError {
     /// The reader answered an error, an interruption too.
     #[error("The input could not be read.")]
     Read,
@@ -29,35 +29,35 @@ pub enum PackFault {
     Damaged,
 }
 
-impl PackFault {
+impl PackError {
     /// The exit status of a program that the fault stops: 1, 2 or 3.
     pub fn status(&self) -> u8
         ensures { result ≡ status_of self.now }
     {
         match self {
-            PackFault::Read | PackFault::Write => 1,
-            PackFault::NotPacked | PackFault::Cut | PackFault::Damaged => 2,
-            PackFault::OutOfMemory => 3,
+            PackError::Read | PackError::Write => 1,
+            PackError::NotPacked | PackError::Cut | PackError::Damaged => 2,
+            PackError::OutOfMemory => 3,
         }
     }
 }
 
-impl From<AllocError> for PackFault {
-    ghost use Rattle.constriction_pack.specs.declared.fault.PackFault.TheVariants.{OutOfMemory};
+impl From<AllocError> for PackError {
+    ghost use Rattle.constriction_pack.specs.declared.fault.PackError.TheVariants.{OutOfMemory};
 
     ghost from_gives = { λ _ fault. fault ≡ OutOfMemory };
 
     fn from(_error: AllocError) -> Self {
-        PackFault::OutOfMemory
+        PackError::OutOfMemory
     }
 }
 
-impl<T: Drop> From<AllocFailed<T>> for PackFault {
-    ghost use Rattle.constriction_pack.specs.declared.fault.PackFault.TheVariants.{OutOfMemory};
+impl<T: Drop> From<AllocFailed<T>> for PackError {
+    ghost use Rattle.constriction_pack.specs.declared.fault.PackError.TheVariants.{OutOfMemory};
 
     ghost from_gives = { λ _ fault. fault ≡ OutOfMemory };
 
     fn from(_error: AllocFailed<T>) -> Self {
-        PackFault::OutOfMemory
+        PackError::OutOfMemory
     }
 }

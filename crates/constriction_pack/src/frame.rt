@@ -3,8 +3,8 @@
 ghost use Rattle.std.specs.Prelude.{◌≡◌, ◌<◌, ◌^◌, ℕ, List, IfOk, length};
 ghost use Rattle.constriction_pack.specs.Frames.{frame_of, hash_after, hash_after_frame};
 
-use crate::fault::PackFault;
-use constriction_coders::bytes::{BytesFault, push_words, words_of};
+use crate::fault::PackError;
+use constriction_coders::bytes::{BytesError, push_words, words_of};
 use std::alloc::{AllocError, Global};
 
 /// The 64-bit FNV-1a hash of these bytes after others.
@@ -41,26 +41,26 @@ pub(crate) fn words_in(
     alloc: Global,
     before: u64,
     frame: &[u8],
-) -> Result<(Vec<u32>, u64), PackFault> {
+) -> Result<(Vec<u32>, u64), PackError> {
     if frame.len() < 8 {
-        return Err(PackFault::Damaged);
+        return Err(PackError::Damaged);
     }
     let (counted, checksum) = frame.split_at(frame.len() - 8);
     let after = hash_of(before, counted);
     if checksum != after.to_le_bytes().as_slice() {
-        return Err(PackFault::Damaged);
+        return Err(PackError::Damaged);
     }
     let [first, second, third, fourth, bytes @ ..] = counted else {
-        return Err(PackFault::Damaged);
+        return Err(PackError::Damaged);
     };
     let number = u32::from_le_bytes([*first, *second, *third, *fourth]);
     let words = match words_of(alloc, bytes) {
         Ok(words) => words,
-        Err(BytesFault::CutWord) => return Err(PackFault::Damaged),
-        Err(BytesFault::OutOfMemory) => return Err(PackFault::OutOfMemory),
+        Err(BytesError::CutWord) => return Err(PackError::Damaged),
+        Err(BytesError::OutOfMemory) => return Err(PackError::OutOfMemory),
     };
     if words.len() != number as usize {
-        return Err(PackFault::Damaged);
+        return Err(PackError::Damaged);
     }
     Ok((words, after))
 }

@@ -5,7 +5,7 @@ ghost use Rattle.constriction_pack.specs.Blocks.{IsBlock};
 ghost use Rattle.constriction_pack.specs.Packed.{IsPacked};
 
 use crate::block::{pack_block, unpack_block};
-use crate::fault::PackFault;
+use crate::fault::PackError;
 use std::alloc::Global;
 
 /// Words are those of one block.
@@ -19,11 +19,11 @@ pub fn packed_once()
 {}
 
 /// The bytes of a block come back, unless memory is refused.
-pub fn block_comes_back(alloc: Global, bytes: &[u8]) -> Result<Vec<u8>, PackFault>
+pub fn block_comes_back(alloc: Global, bytes: &[u8]) -> Result<Vec<u8>, PackError>
     requires some { 0 < length bytes.now }
     requires short { length bytes.now ≤ 2 ^ 20 }
     ensures back { IfOk result (λ again. again.items ≡ bytes.now) }
-    ensures memory { IfErr result (λ fault. fault ≡ PackFault.OutOfMemory) }
+    ensures memory { IfErr result (λ fault. fault ≡ PackError.OutOfMemory) }
 {
     let words = pack_block(alloc, bytes)?;
     unpack_block(alloc, &words)

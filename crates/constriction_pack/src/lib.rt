@@ -25,5 +25,5 @@ mod streams;
 mod weighing;
 
 pub use crate::block::{BLOCK_BYTES, pack_block, unpack_block};
-pub use crate::fault::PackFault;
+pub use crate::fault::PackError;
 pub use crate::streams::{pack, unpack};

@@ -6,7 +6,7 @@ ghost use Rattle.constriction_pack.specs.Blocks.{most_words};
 ghost use Rattle.constriction_pack.specs.Faults.{IsRefusal};
 ghost use Rattle.constriction_pack.specs.Frames.{frame_of};
 
-use crate::fault::PackFault;
+use crate::fault::PackError;
 use std::io::Read;
 
 /// The most bytes that one turn of a reader takes.
@@ -25,7 +25,7 @@ fn read_turn<R: Read>(
     room: usize,
     chunk: &mut [u8],
     input: &mut Vec<u8>,
-) -> Result<usize, PackFault>
+) -> Result<usize, PackError>
     requires some { 0 < room }
     requires place { 0 < length chunk.old }
     ensures ok { IfOk result (λ count. (bytes : List ℕ) × Consumes (R.remaining reader.old) (R.remaining reader.new) bytes
@@ -37,11 +37,11 @@ fn read_turn<R: Read>(
     let part = &mut chunk[..most];
     let count = match reader.read(part) {
         Ok(count) => count,
-        Err(_) => return Err(PackFault::Read),
+        Err(_) => return Err(PackError::Read),
     };
     match input.extend_from_slice(&part[..count]) {
         Ok(()) => Ok(count),
-        Err(_) => Err(PackFault::OutOfMemory),
+        Err(_) => Err(PackError::OutOfMemory),
     }
 }
 
@@ -50,7 +50,7 @@ pub(crate) fn read_up_to<R: Read>(
     reader: &mut R,
     most: usize,
     input: &mut Vec<u8>,
-) -> Result<(), PackFault>
+) -> Result<(), PackError>
     requires { length input.old.items ≤ most }
     ensures ok { OnOk result ((bytes : List ℕ) × Consumes (R.remaining reader.old) (R.remaining reader.new) bytes
         × (input.new.items ≡ input.old.items ++ bytes)) }
@@ -69,20 +69,20 @@ pub(crate) fn read_up_to<R: Read>(
 }
 
 /// Reads what packed files begin with.
-pub(crate) fn read_magic<R: Read>(reader: &mut R, input: &mut Vec<u8>) -> Result<(), PackFault>
+pub(crate) fn read_magic<R: Read>(reader: &mut R, input: &mut Vec<u8>) -> Result<(), PackError>
     ensures ok { OnOk result (Consumes (R.remaining reader.old) (R.remaining reader.new) (codes "cpk1")) }
     ensures accepted { (rest : List ℕ) → R.remaining reader.old ≡ Some (codes "cpk1" ++ rest) → IfErr result (λ fault. ¬ (IsRefusal fault)) }
 {
     input.clear();
     read_up_to(reader, 4, input)?;
     if input.as_slice() != MAGIC {
-        return Err(PackFault::NotPacked);
+        return Err(PackError::NotPacked);
     }
     Ok(())
 }
 
 /// Reads that nothing follows.
-pub(crate) fn read_end<R: Read>(reader: &mut R, input: &mut Vec<u8>) -> Result<(), PackFault>
+pub(crate) fn read_end<R: Read>(reader: &mut R, input: &mut Vec<u8>) -> Result<(), PackError>
     ensures ok { OnOk result (Consumes (R.remaining reader.old) (R.remaining reader.new) [] × IsAtEnd (R.remaining reader.new)) }
     ensures accepted { R.remaining reader.old ≡ Some [] → IfErr result (λ fault. ¬ (IsRefusal fault)) }
 {
@@ -91,27 +91,27 @@ pub(crate) fn read_end<R: Read>(reader: &mut R, input: &mut Vec<u8>) -> Result<(
     if input.is_empty() {
         Ok(())
     } else {
-        Err(PackFault::Damaged)
+        Err(PackError::Damaged)
     }
 }
 
 /// Reads a frame. Of its words no more are read than a block has at most.
-pub(crate) fn read_frame<R: Read>(reader: &mut R, frame: &mut Vec<u8>) -> Result<(), PackFault>
+pub(crate) fn read_frame<R: Read>(reader: &mut R, frame: &mut Vec<u8>) -> Result<(), PackError>
     ensures ok { OnOk result (Consumes (R.remaining reader.old) (R.remaining reader.new) frame.new.items) }
 {
     frame.clear();
     read_up_to(reader, 4, frame)?;
     let [first, second, third, fourth] = frame.as_slice() else {
-        return Err(PackFault::Cut);
+        return Err(PackError::Cut);
     };
     let number = u32::from_le_bytes([*first, *second, *third, *fourth]);
     if number > MOST_WORDS {
-        return Err(PackFault::Damaged);
+        return Err(PackError::Damaged);
     }
     let length = 4 * number as usize + 12;
     read_up_to(reader, length, frame)?;
     if frame.len() < length {
-        return Err(PackFault::Cut);
+        return Err(PackError::Cut);
     }
     Ok(())
 }

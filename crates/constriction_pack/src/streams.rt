@@ -7,7 +7,7 @@ ghost use Rattle.constriction_pack.specs.Frames.{first_hash, frame_of};
 ghost use Rattle.constriction_pack.specs.Packed.{AreFramed, IsFramed, IsPacked};
 
 use crate::block::{BLOCK_BYTES, pack_block, unpack_block};
-use crate::fault::PackFault;
+use crate::fault::PackError;
 use crate::frame::{words_in, write_frame};
 use crate::reading::{MAGIC, read_end, read_frame, read_magic, read_up_to};
 use std::alloc::Global;
@@ -17,13 +17,13 @@ use std::io::{Read, Write};
 const FIRST_HASH: u64 = 0xcbf2_9ce4_8422_2325;
 
 /// Writes all of these bytes.
-fn write_whole<W: Write>(writer: &mut W, bytes: &[u8]) -> Result<(), PackFault>
+fn write_whole<W: Write>(writer: &mut W, bytes: &[u8]) -> Result<(), PackError>
     ensures ok { OnOk result (Appends (W.contents writer.old) (W.contents writer.new) bytes.now) }
     ensures faults { IfErr result (λ fault. ¬ (IsRefusal fault)) }
 {
     match writer.write_all(bytes) {
         Ok(()) => Ok(()),
-        Err(_) => Err(PackFault::Write),
+        Err(_) => Err(PackError::Write),
     }
 }
 
@@ -34,7 +34,7 @@ fn pack_next<R: Read, W: Write>(
     writer: &mut W,
     buffer: &mut Vec<u8>,
     before: u64,
-) -> Result<Option<u64>, PackFault>
+) -> Result<Option<u64>, PackError>
     ensures faults { IfErr result (λ fault. ¬ (IsRefusal fault)) }
 {
     buffer.clear();
@@ -59,7 +59,7 @@ pub fn pack<R: Read, W: Write>(
     alloc: Global,
     reader: &mut R,
     writer: &mut W,
-) -> Result<(), PackFault>
+) -> Result<(), PackError>
     ensures faults { IfErr result (λ fault. ¬ (IsRefusal fault)) }
 {
     write_whole(writer, MAGIC)?;
@@ -71,7 +71,7 @@ pub fn pack<R: Read, W: Write>(
             None => return Ok(()),
         }
     }
-    Err(PackFault::Read)
+    Err(PackError::Read)
 }
 
 /// Unpacks the next frame, after frames with this hash, and answers the hash after it; or none where it was the last one.
@@ -81,7 +81,7 @@ fn unpack_next<R: Read, W: Write>(
     writer: &mut W,
     buffer: &mut Vec<u8>,
     before: u64,
-) -> Result<Option<u64>, PackFault> {
+) -> Result<Option<u64>, PackError> {
     read_frame(reader, buffer)?;
     let (words, after) = words_in(alloc, before, buffer)?;
     if words.is_empty() {
@@ -102,7 +102,7 @@ pub fn unpack<R: Read, W: Write>(
     alloc: Global,
     reader: &mut R,
     writer: &mut W,
-) -> Result<(), PackFault> {
+) -> Result<(), PackError> {
     let mut buffer = Vec::new(alloc);
     read_magic(reader, &mut buffer)?;
     let mut before = FIRST_HASH;
@@ -112,5 +112,5 @@ pub fn unpack<R: Read, W: Write>(
             None => return Ok(()),
         }
     }
-    Err(PackFault::Read)
+    Err(PackError::Read)
 }

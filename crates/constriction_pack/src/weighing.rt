@@ -3,7 +3,7 @@
 ghost use Rattle.std.specs.Prelude.{◌≡◌, ◌+◌, ◌<◌, ◌≤◌, ◌^◌, All, IfOk, length, sum};
 ghost use Rattle.constriction.specs.Acceptance.{IsAccepted};
 
-use constriction_coders::counts::{CountsFault, weights_of};
+use constriction_coders::counts::{CountsError, weights_of};
 use std::alloc::{AllocError, Global};
 
 /// One more than the greatest byte, or 0 where there is none.
@@ -40,7 +40,7 @@ pub(crate) fn byte_weights(alloc: Global, bytes: &[u8]) -> Result<Vec<u32>, Allo
     let counts = counts_of(alloc, bytes)?;
     match weights_of::<16>(alloc, &counts) {
         Ok(weights) => Ok(weights),
-        Err(CountsFault::OutOfMemory) => Err(AllocError),
+        Err(CountsError::OutOfMemory) => Err(AllocError),
         Err(_) => unreachable!(),
     }
 }

@@ -3,7 +3,7 @@
 use crate::checks::{holds, prints, same};
 use crate::runs::{SlowReader, SlowWriter};
 use constriction_pack::laws::block_comes_back;
-use constriction_pack::{BLOCK_BYTES, PackFault, pack, pack_block, unpack, unpack_block};
+use constriction_pack::{BLOCK_BYTES, PackError, pack, pack_block, unpack, unpack_block};
 use std::alloc::Global;
 use std::process::Abort;
 
@@ -26,14 +26,14 @@ const FILES: [(&[u8], &[u8]); 3] = [
 const BLOCK: [u32; 6] = [9, 3, 32_767, 16_384, 16_385, 33_816_208];
 
 /// What packing bytes answers, and writes.
-fn packed(alloc: Global, mut bytes: &[u8]) -> (Result<(), PackFault>, Vec<u8>) {
+fn packed(alloc: Global, mut bytes: &[u8]) -> (Result<(), PackError>, Vec<u8>) {
     let mut packed = Vec::new(alloc);
     let result = pack(alloc, &mut bytes, &mut packed);
     (result, packed)
 }
 
 /// What unpacking bytes answers, and writes.
-fn unpacked(alloc: Global, mut bytes: &[u8]) -> (Result<(), PackFault>, Vec<u8>) {
+fn unpacked(alloc: Global, mut bytes: &[u8]) -> (Result<(), PackError>, Vec<u8>) {
     let mut unpacked = Vec::new(alloc);
     let result = unpack(alloc, &mut bytes, &mut unpacked);
     (result, unpacked)
@@ -70,7 +70,7 @@ fn two_blocks_come_back(rt: HostRuntime) {
 }
 
 /// Stops the test where bytes are not refused so. What was written is a beginning of the bytes that were packed.
-fn is_refused(rt: &impl Abort, alloc: Global, file: &[u8], fault: PackFault, written: &[u8]) {
+fn is_refused(rt: &impl Abort, alloc: Global, file: &[u8], fault: PackError, written: &[u8]) {
     let (result, again) = unpacked(alloc, file);
     same(rt, result, Err(fault));
     holds(rt, &again, written);
@@ -83,9 +83,9 @@ fn damaged_files_are_refused(rt: HostRuntime) {
     let (bytes, file) = FILES[2];
     for end in 0..file.len() {
         let fault = if end < 4 {
-            PackFault::NotPacked
+            PackError::NotPacked
         } else {
-            PackFault::Cut
+            PackError::Cut
         };
         let written = if end < 40 { &[] } else { bytes };
         is_refused(&rt, alloc, &file[..end], fault, written);
@@ -101,8 +101,8 @@ fn damaged_files_are_refused(rt: HostRuntime) {
         damaged[place] = byte;
     }
     damaged.push(0).expect(&rt, "memory");
-    is_refused(&rt, alloc, &damaged, PackFault::Damaged, bytes);
-    is_refused(&rt, alloc, b"cpk1\xff\xff\xff\xff", PackFault::Damaged, &[]);
+    is_refused(&rt, alloc, &damaged, PackError::Damaged, bytes);
+    is_refused(&rt, alloc, b"cpk1\xff\xff\xff\xff", PackError::Damaged, &[]);
 }
 
 /// Words that are those of no block: no numbers, no bytes, too many of them, too many weights, weights that end or do not add up, a last
@@ -127,7 +127,7 @@ fn wrong_blocks_are_refused(rt: HostRuntime) {
     holds(&rt, &words, &BLOCK);
     for words in &WRONG_BLOCKS {
         let fault = unpack_block(rt.alloc(), words).err();
-        same(&rt, fault, Some(PackFault::Damaged));
+        same(&rt, fault, Some(PackError::Damaged));
     }
     let again = block_comes_back(rt.alloc(), b"there and back").expect(&rt, "memory");
     holds(&rt, &again, b"there and back");
@@ -144,7 +144,7 @@ fn readers_and_writers_fail(rt: HostRuntime) {
     };
     let mut written = Vec::new(alloc);
     let result = unpack(alloc, &mut reader, &mut written);
-    same(&rt, result, Err(PackFault::Read));
+    same(&rt, result, Err(PackError::Read));
     holds(&rt, &written, bytes);
     let mut reader = SlowReader {
         rest: bytes,
@@ -152,25 +152,25 @@ fn readers_and_writers_fail(rt: HostRuntime) {
     };
     let mut written = Vec::new(alloc);
     let result = pack(alloc, &mut reader, &mut written);
-    same(&rt, result, Err(PackFault::Read));
+    same(&rt, result, Err(PackError::Read));
     holds(&rt, &written, b"cpk1");
     let mut writer = SlowWriter {
         taken: Vec::new(alloc),
         turns: 5,
     };
     let result = pack(alloc, &mut b"abc".as_slice(), &mut writer);
-    same(&rt, result, Err(PackFault::Write));
+    same(&rt, result, Err(PackError::Write));
 }
 
 #[test]
 fn pack_faults_are_sentences(rt: HostRuntime) {
     let sentences = [
-        (PackFault::Read, 1, "The input could not be read."),
-        (PackFault::Write, 1, "The output could not be written."),
-        (PackFault::OutOfMemory, 3, "Memory was refused."),
-        (PackFault::NotPacked, 2, "The input is no packed file."),
-        (PackFault::Cut, 2, "The packed file was cut."),
-        (PackFault::Damaged, 2, "The packed file is damaged."),
+        (PackError::Read, 1, "The input could not be read."),
+        (PackError::Write, 1, "The output could not be written."),
+        (PackError::OutOfMemory, 3, "Memory was refused."),
+        (PackError::NotPacked, 2, "The input is no packed file."),
+        (PackError::Cut, 2, "The packed file was cut."),
+        (PackError::Damaged, 2, "The packed file is damaged."),
     ];
     for (fault, status, sentence) in sentences {
         same(&rt, fault.status(), status);

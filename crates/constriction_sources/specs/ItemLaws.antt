@@ -4,7 +4,7 @@ use Rattle.std.specs.Prelude.{◌≡◌, ℕ, suc, zero, ◌+◌, List, [], ◌�
 use Rattle.std.specs.Iterator.{AlwaysYields, Count, size, count_unless}
 use Rattle.std.proofs.Common.{sym, ap, subst, refl, arith}
 use Rattle.std.proofs.lemmas.List.Elements.{All-nil, All-cons}
-use Rattle.constriction_sources.specs.Source.{ReadsTold, CountsRead, GivesAnswers}
+use Rattle.constriction_sources.specs.Source.{ReadsUpcoming, CountsRead, GivesAnswers}
 use Rattle.constriction_sources.specs.Items.{item_of, GivesWord, IsCount, CountsDown, EndIsForGood}
 
 -- an iterator inside a state, which is not asked again after its first end
@@ -25,18 +25,18 @@ module _ {I S A : Type 0} (steps : I → Option A → I → Type 0) (done : S �
   no-more : (t : S) → done t ≡ true → (x : A) (u : S) → ¬ (Fused t (Some x) u)
   no-more t d x u h = let e = (after-end t (Some x) u d h).0 in absurd (let n : Some x ≡ None = e in cc)
 
-  told-read : (s : S) (o : Option A) (t : S) → Fused s o t → (words : List A) → Tells s words
+  known-read : (s : S) (o : Option A) (t : S) → Fused s o t → (words : List A) → Tells s words
       → MatchOption o ((words ≡ []) × Tells t []) (λ w. (rest : List A) × (words ≡ w ∷ rest) × Tells t rest)
-  told-read s None t h [] g = (refl, no-more t h.1)
-  told-read s None t h (y ∷ ys) g = absurd (g.0 t h)
-  told-read s (Some w) t h [] g = absurd (g w t h)
-  told-read s (Some w) t h (y ∷ ys) g = let k = g.1 w t h in (ys, ap (λ x. x ∷ ys) (sym k.0), k.1)
+  known-read s None t h [] g = (refl, no-more t h.1)
+  known-read s None t h (y ∷ ys) g = absurd (g.0 t h)
+  known-read s (Some w) t h [] g = absurd (g w t h)
+  known-read s (Some w) t h (y ∷ ys) g = let k = g.1 w t h in (ys, ap (λ x. x ∷ ys) (sym k.0), k.1)
 
   -- a read answers from the told words
-  pub word-told : {E : Type 0} (s : S) (r : Result (Option A) E) (t : S) → GivesWord Fused s r t
-      → (words : List A) → Tells s words → ReadsTold Tells words r t
-  word-told s (Ok o) t h words g = told-read s o t h words g
-  word-told s (Err e) t h words g = absurd h
+  pub word-upcoming : {E : Type 0} (s : S) (r : Result (Option A) E) (t : S) → GivesWord Fused s r t
+      → (words : List A) → Tells s words → ReadsUpcoming Tells words r t
+  word-upcoming s (Ok o) t h words g = known-read s o t h words g
+  word-upcoming s (Err e) t h words g = absurd h
 
   not-ended : (s : S) (o : Option A) (t : S) → done s ≡ false → Fused s o t → steps (source s) o (source t)
   not-ended s o t d h = subst (λ (b : Bool). MatchBool b (o ≡ None) (steps (source s) o (source t))) d h.0
@@ -50,9 +50,9 @@ module _ {I S A : Type 0} (steps : I → Option A → I → Type 0) (done : S �
   )
 
   -- nothing is told after the end
-  pub none-told : (t : S) → done t ≡ true → (words : List A) → Tells t words → words ≡ []
-  none-told t d [] g = refl
-  none-told t d (w ∷ ws) g =
+  pub none-upcoming : (t : S) → done t ≡ true → (words : List A) → Tells t words → words ≡ []
+  none-upcoming t d [] g = refl
+  none-upcoming t d (w ∷ ws) g =
       let none : Option A = None in
       absurd (g.0 t (subst (λ (b : Bool). MatchBool b (none ≡ None) (steps (source t) none (source t))) (sym d) refl, d))
 
@@ -72,13 +72,13 @@ module _ {I S A : Type 0} (steps : I → Option A → I → Type 0) (done : S �
   word-end-is-for-good s t u later h k = words-end t u later h.1 k
 
   module _ {W : Type 0} (left : S → ℕ) (tells : S → List W → Type 0) (none_left : (t : S) → done t ≡ true → left t ≡ 0)
-      (none_told : (t : S) → done t ≡ true → (words : List W) → tells t words → words ≡ []) where
+      (none_upcoming : (t : S) → done t ≡ true → (words : List W) → tells t words → words ≡ []) where
     count-of : (n : ℕ) (s : S) → CountsDown Fused left tells n s → IsCount Fused left tells n s
     count-of zero s c = c.0
     count-of (suc n) s c = c.0
 
     count-end : (t : S) → done t ≡ true → CountsDown Fused left tells 0 t
-    count-end t d = ((none_left t d, λ words h. sym (ap length (none_told t d words h))), no-more t d)
+    count-end t d = ((none_left t d, λ words h. sym (ap length (none_upcoming t d words h))), no-more t d)
 
     count-item : (n : ℕ) (s : S) (o : Option A) (t : S) → CountsDown Fused left tells n s → Fused s o t
         → MatchOption o ((n ≡ 0) × (left t ≡ 0)) (λ _. n ≡ left t + 1) × CountsDown Fused left tells (left t) t
@@ -99,8 +99,8 @@ module _ {I S A : Type 0} (steps : I → Option A → I → Type 0) (done : S �
     word-counted s (Err e) t c h = absurd h
 
     -- so many words are told
-    pub told-counted : (s : S) → CountsDown Fused left tells (left s) s → (words : List W) → tells s words → left s ≡ length words
-    told-counted s c = (count-of (left s) s c).1
+    pub upcoming-counted : (s : S) → CountsDown Fused left tells (left s) s → (words : List W) → tells s words → left s ≡ length words
+    upcoming-counted s c = (count-of (left s) s c).1
 
 -- nothing is left after the end
 pub none-left : {I S : Type 0} (done : S → Bool) (source : S → I) (remaining : I → Count) (t : S) → done t ≡ true

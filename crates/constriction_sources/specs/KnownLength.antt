@@ -50,21 +50,21 @@ module _ {I A : Type 0} (steps : I → Option A → I → Type 0) (many : I → 
   one_less s x t h = one_by (fuse_done s) (fuse_done t) (fuse_source s) x (fuse_source t) h.0 h.1
 
   module _ {W : Type 0} (tells : Fuse I → List W → Type 0)
-      (told_many : (s : Fuse I) (words : List W) → tells s words → left s ≡ length words) where
+      (known_many : (s : Fuse I) (words : List W) → tells s words → left s ≡ length words) where
     counts_down : (n : ℕ) (s : Fuse I) → left s ≡ n → CountsDown (fuse_steps steps) left tells n s
     counts_down zero s e = (
-      (e, λ words told. sym e ∙ told_many s words told),
+      (e, λ words known. sym e ∙ known_many s words known),
       λ x t h. absurd (let less = one_less s x t h in omega arith),
     )
     counts_down (suc n) s e = (
-      (e, λ words told. sym e ∙ told_many s words told),
+      (e, λ words known. sym e ∙ known_many s words known),
       λ t h. absurd (let none = none_left s t h in omega arith),
       λ x t h. counts_down n t (let less = one_less s x t h in omega arith),
     )
 
   -- the count of a source over words and errors is right
   pub items-exact : (W : Type 0) (s : Fuse I) → IsExact {W = W} steps counted (λ _ _. ⊥) s
-  items-exact W s = counts_down {W = W} (λ _ _. ⊥) (λ t words told. absurd told) (left s) s refl
+  items-exact W s = counts_down {W = W} (λ _ _. ⊥) (λ t words known. absurd known) (left s) s refl
 
   -- so it is of a source over words, where the iterator always gives an answer
   module _ (answers : (i : I) → (o : Option A) × (j : I) × steps i o j) where
@@ -82,26 +82,26 @@ module _ {I A : Type 0} (steps : I → Option A → I → Type 0) (many : I → 
     abbrev Tells : Fuse I → List A → Type 0
     Tells = AlwaysYields (fuse_steps steps) (λ w. w)
 
-    told_none : (s : Fuse I) (o : Option A) (t : Fuse I) → fuse_steps steps s o t → Tells s [] → left s ≡ 0
-    told_none s None t h told = none_left s t h
-    told_none s (Some x) t h told = absurd (told x t h)
+    known_none : (s : Fuse I) (o : Option A) (t : Fuse I) → fuse_steps steps s o t → Tells s [] → left s ≡ 0
+    known_none s None t h known = none_left s t h
+    known_none s (Some x) t h known = absurd (known x t h)
 
-    told_one : (s : Fuse I) (w : A) (ws : List A) (o : Option A) (t : Fuse I) → fuse_steps steps s o t → Tells s (w ∷ ws)
+    known_one : (s : Fuse I) (w : A) (ws : List A) (o : Option A) (t : Fuse I) → fuse_steps steps s o t → Tells s (w ∷ ws)
         → ((u : Fuse I) → Tells u ws → left u ≡ length ws) → left s ≡ length (w ∷ ws)
-    told_one s w ws None t h told others = absurd (told.0 t h)
-    told_one s w ws (Some x) t h told others =
+    known_one s w ws None t h known others = absurd (known.0 t h)
+    known_one s w ws (Some x) t h known others =
         let less : left s ≡ left t + 1 = one_less s x t h in
-        let rest : left t ≡ length ws = others t (told.1 x t h).1 in
+        let rest : left t ≡ length ws = others t (known.1 x t h).1 in
         let goal : left s ≡ suc (length ws) = omega arith in
         goal
 
-    told_many : (s : Fuse I) (words : List A) → Tells s words → left s ≡ length words
-    told_many s [] told = let a = answer_by (fuse_done s) (fuse_source s) in told_none s a.0 a.1 a.2 told
-    told_many s (w ∷ ws) told =
-        let a = answer_by (fuse_done s) (fuse_source s) in told_one s w ws a.0 a.1 a.2 told (λ u. told_many u ws)
+    known_many : (s : Fuse I) (words : List A) → Tells s words → left s ≡ length words
+    known_many s [] known = let a = answer_by (fuse_done s) (fuse_source s) in known_none s a.0 a.1 a.2 known
+    known_many s (w ∷ ws) known =
+        let a = answer_by (fuse_done s) (fuse_source s) in known_one s w ws a.0 a.1 a.2 known (λ u. known_many u ws)
 
     pub words-exact : (s : Fuse I) → IsExact steps counted Tells s
-    words-exact s = counts_down Tells told_many (left s) s refl
+    words-exact s = counts_down Tells known_many (left s) s refl
 
 -- a slice's iterator, copied
 module _ {A : Type 0} where

@@ -4,8 +4,8 @@ use Rattle.std.specs.Prelude.{◌≡◌, ℕ, ◌+◌, List, [], ◌∷◌, ◌+
 use Rattle.std.specs.Iterator.{Drains, YieldsThen}
 
 -- A write where the words ws were written before: the word comes after them, or was refused and they stay.
-abbrev pub WritesTold : {S W E : Type 0} → (S → List W → Type 0) → List W → W → Result (Unit {0}) E → S → Type 0
-WritesTold tells ws w r t = MatchResult r (λ _. tells t (ws ++ w ∷ [])) (λ _. tells t ws)
+abbrev pub WritesAppend : {S W E : Type 0} → (S → List W → Type 0) → List W → W → Result (Unit {0}) E → S → Type 0
+WritesAppend tells ws w r t = MatchResult r (λ _. tells t (ws ++ w ∷ [])) (λ _. tells t ws)
 
 -- A write where m places were free before it and n are free after it: one less, or none was free and none is.
 abbrev pub CountsWrite : {E : Type 0} → ℕ → Result (Unit {0}) E → ℕ → Type 0

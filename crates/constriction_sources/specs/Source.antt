@@ -3,8 +3,8 @@ use Rattle.std.specs.Prelude.{◌≡◌, ◌≢◌, ℕ, ◌+◌, List, [], ◌�
 
 -- A read where the words ws were to come: the first word, and the rest is left; or nothing, where nothing was to come; or an error,
 -- where there was a word, which is still to come.
-abbrev pub ReadsTold : {S W E : Type 0} → (S → List W → Type 0) → List W → Result (Option W) E → S → Type 0
-ReadsTold {S} {W} tells ws r t =
+abbrev pub ReadsUpcoming : {S W E : Type 0} → (S → List W → Type 0) → List W → Result (Option W) E → S → Type 0
+ReadsUpcoming {S} {W} tells ws r t =
     MatchResult r
     (λ o. MatchOption o ((ws ≡ []) × tells t []) (λ w. (rest : List W) × (ws ≡ w ∷ rest) × tells t rest))
     (λ _. (ws ≢ []) × tells t ws)

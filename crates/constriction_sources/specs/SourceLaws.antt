@@ -2,7 +2,7 @@
 -- cites this module.
 use Rattle.std.specs.Prelude.{◌≡◌, List, [], ◌∷◌, ◌++◌, Option, Some, Result, Ok}
 use Rattle.std.proofs.Common.{refl, ap, sym, ◌∙◌, subst}
-use Rattle.constriction_sources.specs.Source.{ReadsTold, Reads}
+use Rattle.constriction_sources.specs.Source.{ReadsUpcoming, Reads}
 
 module _ {S W E : Type 0} (gives : S → Result (Option W) E → S → Type 0) where
   -- one more read after others
@@ -12,12 +12,12 @@ module _ {S W E : Type 0} (gives : S → Result (Option W) E → S → Type 0) w
   reads_more s (x ∷ xs) j w t p h = (p.0, p.1, reads_more p.0 xs j w t p.2 h)
 
   -- what was read are the first of the told words, and the others are left
-  pub reads_told_all : (tells : S → List W → Type 0)
-      → ((s : S) (r : Result (Option W) E) (t : S) → gives s r t → (ws : List W) → tells s ws → ReadsTold tells ws r t)
+  pub reads_upcoming_all : (tells : S → List W → Type 0)
+      → ((s : S) (r : Result (Option W) E) (t : S) → gives s r t → (ws : List W) → tells s ws → ReadsUpcoming tells ws r t)
       → (s : S) (ws : List W) (t : S) → Reads gives s ws t → (words : List W) → tells s words
       → (rest : List W) × (words ≡ ws ++ rest) × tells t rest
-  reads_told_all tells law s [] t e words told = (words, refl, subst (λ (x : S). tells x words) e told)
-  reads_told_all tells law s (w ∷ ws) t p words told =
-      let first = law s (Ok (Some w)) p.0 p.1 words told in
-      let others = reads_told_all tells law p.0 ws t p.2 first.0 first.2 in
+  reads_upcoming_all tells law s [] t e words known = (words, refl, subst (λ (x : S). tells x words) e known)
+  reads_upcoming_all tells law s (w ∷ ws) t p words known =
+      let first = law s (Ok (Some w)) p.0 p.1 words known in
+      let others = reads_upcoming_all tells law p.0 ws t p.2 first.0 first.2 in
       (others.0, first.1 ∙ ap (λ xs. w ∷ xs) others.1, others.2)

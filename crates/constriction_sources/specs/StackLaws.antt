@@ -5,24 +5,24 @@ use Rattle.std.specs.Prelude.{Bool, true, false, IsTrue}
 use Rattle.std.specs.Bool.{OnFalse}
 use Rattle.std.proofs.Common.{sym, ◌∙◌, ap}
 use Rattle.std.proofs.lemmas.List.{reverse-append, reverse-reverse, length-append, length-reverse}
-use Rattle.constriction_sources.specs.Source.{ReadsTold, CountsRead}
-use Rattle.constriction_sources.specs.Sink.{WritesTold}
+use Rattle.constriction_sources.specs.Source.{ReadsUpcoming, CountsRead}
+use Rattle.constriction_sources.specs.Sink.{WritesAppend}
 use Rattle.constriction_sources.specs.Stack.{Pops, Pushes, PopsOrFails}
 
 module _ {S W : Type 0} (items : S → List W) {E : Type 0} where
   -- a stack gives its words back in reverse
-  pub Pops-told : (s : S) (r : Result (Option W) E) (t : S) → Pops (items s) r (items t)
-      → (words : List W) → words ≡ reverse (items s) → ReadsTold (λ u ws. ws ≡ reverse (items u)) words r t
-  Pops-told s (Ok None) t h words e = (e ∙ ap reverse h.0, sym (ap reverse h.1))
-  Pops-told s (Ok (Some w)) t h words e =
+  pub Pops-upcoming : (s : S) (r : Result (Option W) E) (t : S) → Pops (items s) r (items t)
+      → (words : List W) → words ≡ reverse (items s) → ReadsUpcoming (λ u ws. ws ≡ reverse (items u)) words r t
+  Pops-upcoming s (Ok None) t h words e = (e ∙ ap reverse h.0, sym (ap reverse h.1))
+  Pops-upcoming s (Ok (Some w)) t h words e =
       (reverse (items t), e ∙ (ap reverse h ∙ reverse-append (items t) (w ∷ [])), λ _. reverse (items t))
-  Pops-told s (Err x) t h words e = absurd h
+  Pops-upcoming s (Err x) t h words e = absurd h
 
   -- the words of a stack are those that were written
-  pub Pushes-told : (s : S) (w : W) (r : Result (Unit {0}) E) (t : S) → Pushes (items s) w r (items t)
-      → (words : List W) → words ≡ items s → WritesTold (λ u ws. ws ≡ items u) words w r t
-  Pushes-told s w (Ok x) t h words e = ap (λ ws. ws ++ w ∷ []) e ∙ sym h
-  Pushes-told s w (Err x) t h words e = e ∙ sym h
+  pub Pushes-append : (s : S) (w : W) (r : Result (Unit {0}) E) (t : S) → Pushes (items s) w r (items t)
+      → (words : List W) → words ≡ items s → WritesAppend (λ u ws. ws ≡ items u) words w r t
+  Pushes-append s w (Ok x) t h words e = ap (λ ws. ws ++ w ∷ []) e ∙ sym h
+  Pushes-append s w (Err x) t h words e = e ∙ sym h
 
   -- a stack has as many words left as it holds
   pub Pops-counted : (s : S) (r : Result (Option W) E) (t : S) → ⊤ → Pops (items s) r (items t)
@@ -45,8 +45,8 @@ any_error (Err e) = tt
 pub tells_end : {W : Type 0} (items : List W) (ended : Bool) → IsTrue ended ↔ (items ≡ [])
     → OnFalse ended ((words : List W) → words ≡ reverse items → words ≢ [])
 tells_end items true h = tt
-tells_end items false h = λ words told none.
-    let empty : items ≡ [] = sym (reverse-reverse items) ∙ ap reverse (sym told ∙ none) in
+tells_end items false h = λ words known none.
+    let empty : items ≡ [] = sym (reverse-reverse items) ∙ ap reverse (sym known ∙ none) in
     absurd (let wrong = h.1 empty in cc)
 
 -- a stack that always has room has it whatever it says
@@ -57,19 +57,19 @@ always_room false = tt
 -- what a stack tells before and after a step is what the step does to its words, where it tells these and no others
 module _ {S W E : Type 0} (tells : S → List W → Type 0) (words_of : S → List W) (old : List W) where
   pub known_pushes : ((s : S) (words : List W) → tells s words → words ≡ words_of s) → (w : W) (r : Result (Unit {0}) E) (t : S)
-      → WritesTold tells old w r t → Pushes old w r (words_of t)
+      → WritesAppend tells old w r t → Pushes old w r (words_of t)
   known_pushes no_others w (Ok x) t h = sym (no_others t (old ++ w ∷ []) h)
   known_pushes no_others w (Err e) t h = sym (no_others t old h)
 
   pub known_pops : ((s : S) (words : List W) → tells s words → words ≡ reverse (words_of s)) → (r : Result (Option W) E) (t : S)
-      → ReadsTold tells (reverse old) r t → PopsOrFails old r (words_of t)
+      → ReadsUpcoming tells (reverse old) r t → PopsOrFails old r (words_of t)
   known_pops no_others (Ok None) t h = (
     sym (reverse-reverse old) ∙ ap reverse h.0,
     sym (reverse-reverse (words_of t)) ∙ ap reverse (sym (no_others t [] h.1)),
   )
-  known_pops no_others (Ok (Some w)) t (rest, e, told) =
+  known_pops no_others (Ok (Some w)) t (rest, e, known) =
       sym (reverse-reverse old) ∙ ap reverse e ∙ reverse-append (w ∷ []) rest
-      ∙ ap (λ ws. ws ++ w ∷ []) (ap reverse (no_others t rest told) ∙ reverse-reverse (words_of t))
+      ∙ ap (λ ws. ws ++ w ∷ []) (ap reverse (no_others t rest known) ∙ reverse-reverse (words_of t))
   known_pops no_others (Err e) t h = (
     λ none. h.0 (ap reverse none),
     sym (reverse-reverse (words_of t)) ∙ ap reverse (sym (no_others t (reverse old) h.1)) ∙ reverse-reverse old,

@@ -2,7 +2,7 @@
 
 ghost use Rattle.std.specs.Prelude.{◌≡◌, ◌≢◌, ◌↔◌, ℕ, List, [], ⊤, Option, Result, IsTrue, length};
 ghost use Rattle.std.specs.Bool.{OnFalse};
-ghost use Rattle.constriction_sources.specs.Source.{ReadsTold, CountsRead};
+ghost use Rattle.constriction_sources.specs.Source.{ReadsUpcoming, CountsRead};
 
 use constriction_words::Semantics;
 use std::fmt::Debug;
@@ -40,8 +40,8 @@ pub trait ReadWords<Word, S: Semantics> {
     }
 
     // A read answers from the told list.
-    ghost reads_told: { (s : Self) (r : Result (Option Word) Self.ReadError) (t : Self) → read_gives s r t
-        → (words : List Word) → tells_upcoming s words → ReadsTold tells_upcoming words r t };
+    ghost reads_upcoming: { (s : Self) (r : Result (Option Word) Self.ReadError) (t : Self) → read_gives s r t
+        → (words : List Word) → tells_upcoming s words → ReadsUpcoming tells_upcoming words r t };
 }
 
 /// A source that knows how many items it still has: words, and the errors that stand in the place
@@ -74,6 +74,6 @@ pub trait BoundedReadWords<Word, S: Semantics>: ReadWords<Word, S> {
         → CountsRead (items_left s) r (items_left t) × is_exact t };
 
     // The items are the told words.
-    ghost counts_told: { (s : Self) → is_exact s → (words : List Word) → Self.tells_upcoming s words
+    ghost counts_upcoming: { (s : Self) → is_exact s → (words : List Word) → Self.tells_upcoming s words
         → items_left s ≡ length words };
 }

@@ -42,11 +42,11 @@ impl<Word: Drop> WordStack<Word> for Vec<Word> {
 
     ghost tells_words = { λ s. refl };
 
-    ghost tells_no_others = { λ s words told. told };
+    ghost tells_no_others = { λ s words known. known };
 
     ghost words_come = { λ s. refl };
 
-    ghost no_others_come = { λ s words told. told };
+    ghost no_others_come = { λ s words known. known };
 
     ghost always_writable = { λ s. tt };
 
@@ -59,11 +59,11 @@ impl<Word: MadeWith<A> + Drop, const N: usize, A: Allocator + Copy> WordStack<Wo
 
     ghost tells_words = { λ s. refl };
 
-    ghost tells_no_others = { λ s words told. told };
+    ghost tells_no_others = { λ s words known. known };
 
     ghost words_come = { λ s. refl };
 
-    ghost no_others_come = { λ s words told. told };
+    ghost no_others_come = { λ s words known. known };
 
     ghost always_writable = { λ s. tt };
 

@@ -2,7 +2,7 @@
 
 ghost use Rattle.std.specs.Prelude.{◌≡◌, ◌↔◌, [], ⊤, false, reverse, length, IsTrue, vec_capacity};
 ghost use Rattle.constriction_sources.specs.Stack.{PopsFrom, PushesTo};
-ghost use Rattle.constriction_sources.specs.StackLaws.{Pops-told, Pops-counted, Pushes-told, tells_all, any_error};
+ghost use Rattle.constriction_sources.specs.StackLaws.{Pops-upcoming, Pops-counted, Pushes-append, tells_all, any_error};
 
 use crate::read::{BoundedReadWords, ReadWords};
 use crate::write::WriteWords;
@@ -29,7 +29,7 @@ impl<Word> ReadWords<Word, Stack> for Vec<Word> {
         self.is_empty()
     }
 
-    ghost reads_told = { λ s r t gives. Pops-told (λ (u : _). u.items) s r t gives.pops };
+    ghost reads_upcoming = { λ s r t gives. Pops-upcoming (λ (u : _). u.items) s r t gives.pops };
 }
 
 impl<Word> BoundedReadWords<Word, Stack> for Vec<Word> {
@@ -42,7 +42,7 @@ impl<Word> BoundedReadWords<Word, Stack> for Vec<Word> {
 
     ghost counts_reads = { λ s r t exact gives. Pops-counted (λ (u : _). u.items) s r t exact gives.pops };
 
-    ghost counts_told = { tells_all (λ s. s.items) };
+    ghost counts_upcoming = { tells_all (λ s. s.items) };
 }
 
 impl<Word: Drop> WriteWords<Word> for Vec<Word> {
@@ -72,7 +72,7 @@ impl<Word: Drop> WriteWords<Word> for Vec<Word> {
         false
     }
 
-    ghost writes_told = { λ s w r t gives. Pushes-told (λ (u : _). u.items) s w r t gives.pushes };
+    ghost writes_append = { λ s w r t gives. Pushes-append (λ (u : _). u.items) s w r t gives.pushes };
 
     ghost room_suffices = { λ s w r t gives room. any_error r };
 }

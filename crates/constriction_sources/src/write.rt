@@ -3,7 +3,7 @@
 ghost use Rattle.std.specs.Prelude.{◌≡◌, ◌<◌, ◌↔◌, ℕ, List, ⊤, Result, IsTrue, IfErr};
 ghost use Rattle.std.specs.Bool.{OnFalse};
 ghost use Rattle.std.specs.Iterator.{IsFinite};
-ghost use Rattle.constriction_sources.specs.Sink.{WritesTold, CountsWrite, ExtendsBy};
+ghost use Rattle.constriction_sources.specs.Sink.{WritesAppend, CountsWrite, ExtendsBy};
 
 use std::fmt::Debug;
 
@@ -64,8 +64,8 @@ pub trait WriteWords<Word> {
     }
 
     // A write goes to the end of the told list.
-    ghost writes_told: { (s : Self) (w : Word) (r : Result (Unit {0}) Self.WriteError) (t : Self)
-        → write_gives s w r t → (words : List Word) → tells_written s words → WritesTold tells_written words w r t };
+    ghost writes_append: { (s : Self) (w : Word) (r : Result (Unit {0}) Self.WriteError) (t : Self)
+        → write_gives s w r t → (words : List Word) → tells_written s words → WritesAppend tells_written words w r t };
 
     // With room, a write fails only if memory is refused.
     ghost room_suffices: { (s : Self) (w : Word) (r : Result (Unit {0}) Self.WriteError) (t : Self)

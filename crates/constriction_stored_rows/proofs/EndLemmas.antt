@@ -85,11 +85,11 @@ module _ {Word : Type 0} (whole : Word → ℕ) (bits precision : ℕ) (lefts : 
   pub end_words-last : (i r : ℕ) (x : Word) → 2 < length lefts → i + 1 ≡ length lefts → x ≡ get_or end_words 0 x → r < 2 ^ bits
       → (r + whole x) % 2 ^ bits ≡ get_or lefts i 0 → r ≡ end_at bits precision lefts i
   end_words-last i r x many h is small e =
-      let told : get_or (map whole end_words) 0 0 ≡ whole x = read-whole whole end_words 0 x (omega (arith, end_words-two)) is in
-      let fits : whole x < 2 ^ bits = omega (arith, told, b.fits many) in
+      let known : get_or (map whole end_words) 0 0 ≡ whole x = read-whole whole end_words 0 x (omega (arith, end_words-two)) is in
+      let fits : whole x < 2 ^ bits = omega (arith, known, b.fits many) in
       let last : length lefts - 1 ≡ i = omega arith in
       let leads : (total_of bits precision + whole x) % 2 ^ bits ≡ get_or lefts i 0 =
-      ap (λ n. (total_of bits precision + n) % 2 ^ bits) (sym told) ∙ b.leads many ∙ ap (λ n. get_or lefts n 0) last in
+      ap (λ n. (total_of bits precision + n) % 2 ^ bits) (sym known) ∙ b.leads many ∙ ap (λ n. get_or lefts n 0) last in
       let total : total_of bits precision < 2 ^ bits = mod-lt _ (pow_pos bits) in
       difference-mod (2 ^ bits) r (total_of bits precision) (whole x) small total fits (e ∙ sym leads)
       ∙ sym (end-last bits precision lefts i (omega arith))

@@ -108,19 +108,19 @@ slot-part lefts width slot first last s =
       in_order = ap (λ n. take n (drop first lefts)) (sym long);
     }
 
-module _ (lefts : List ℕ) (up : IsStrictlyIncreasing lefts) (width slot first : ℕ) (told : List ℕ)
-    (p : IsSlotPart lefts width slot first told) where
-  part-within : first + length told ≤ length lefts
+module _ (lefts : List ℕ) (up : IsStrictlyIncreasing lefts) (width slot first : ℕ) (known : List ℕ)
+    (p : IsSlotPart lefts width slot first known) where
+  part-within : first + length known ≤ length lefts
   part-within = omega (arith, p.long, p.rows.to.in_bounds)
 
-  part-at : (i : ℕ) → i < length told → get_or told i 0 ≡ get_or lefts (first + i) 0
+  part-at : (i : ℕ) → i < length known → get_or known i 0 ≡ get_or lefts (first + i) 0
   part-at i h =
-      ap (λ xs. get_or xs i 0) p.in_order ∙ get_or-take (length told) (drop first lefts) i 0 h ∙ get_or-drop first lefts i 0
+      ap (λ xs. get_or xs i 0) p.in_order ∙ get_or-take (length known) (drop first lefts) i 0 h ∙ get_or-drop first lefts i 0
 
-  part-some : 0 < length told
+  part-some : 0 < length known
   part-some = omega (arith, p.long, slot-order lefts width slot first p.last p.rows)
 
-  pub part-searchable : (q : ℕ) → slot * width ≤ q → IsSearchable told q
+  pub part-searchable : (q : ℕ) → slot * width ≤ q → IsSearchable known q
   part-searchable q low =
       let e : first + 0 ≡ first = omega arith in
       record {
@@ -132,7 +132,7 @@ module _ (lefts : List ℕ) (up : IsStrictlyIncreasing lefts) (width slot first 
         begins = rw (part-at 0 part-some, e) (omega (arith, p.rows.from.at_most));
       }
 
-  pub part-found : (q i : ℕ) → q ≤ slot * width + (width - 1) → IsLastAtMost told q i → IsLastAtMost lefts q (first + i)
+  pub part-found : (q i : ℕ) → q ≤ slot * width + (width - 1) → IsLastAtMost known q i → IsLastAtMost lefts q (first + i)
   part-found q i h f = record {
     in_bounds = omega (arith, part-within, f.in_bounds);
     at_most = rw (← part-at i f.in_bounds) f.at_most;
@@ -140,7 +140,7 @@ module _ (lefts : List ℕ) (up : IsStrictlyIncreasing lefts) (width slot first 
       | inl after ↦ omega (arith, p.rows.to.last j after b)
       | inr inside ↦ (
           let e : first + (j - first) ≡ j = omega arith in
-          let g : j - first < length told = omega (arith, p.long) in
+          let g : j - first < length known = omega (arith, p.long) in
           omega (arith, f.last (j - first) (omega arith) g, part-at (j - first) g ∙ ap (λ n. get_or lefts n 0) e))
     ];
   }
@@ -152,8 +152,8 @@ module _ {S : Type 0} (bits precision slot_bits : ℕ) (rows : List (Row S)) (t 
   up : IsStrictlyIncreasing (map (λ r. r.left) rows)
   up = tiles-increase bits precision rows t
 
-  module _ (j first : ℕ) (told : List ℕ)
-      (p : IsSlotPart (map (λ r. r.left) rows) (slot_width precision slot_bits) j first told) where
+  module _ (j first : ℕ) (known : List ℕ)
+      (p : IsSlotPart (map (λ r. r.left) rows) (slot_width precision slot_bits) j first known) where
     meets-in : (i : ℕ) (r : Row S) → i < length rows → IsTile precision rows i r → MeetsSlot (slot_width precision slot_bits) j r
         → (first ≤ i) × (i < p.last + 1)
     meets-in i r h tile m =
@@ -209,7 +209,7 @@ module _ {S : Type 0} (bits precision slot_bits : ℕ) (rows : List (Row S)) (t 
         ]
 
     -- exactly the rows that meet the slot are told
-    pub slot-tells : j < slot_count precision slot_bits → TellsRows rows (MeetsSlot (slot_width precision slot_bits) j) first told
+    pub slot-tells : j < slot_count precision slot_bits → TellsRows rows (MeetsSlot (slot_width precision slot_bits) j) first known
     slot-tells jb = record {
       exactly = λ i d h.
           let tile = tile-at bits precision rows t i d h in (
@@ -220,26 +220,26 @@ module _ {S : Type 0} (bits precision slot_bits : ℕ) (rows : List (Row S)) (t 
       in_order = p.in_order;
     }
 
-    slot-searchable : (q : ℕ) → j * slot_width precision slot_bits ≤ q → IsSearchable told q
+    slot-searchable : (q : ℕ) → j * slot_width precision slot_bits ≤ q → IsSearchable known q
     slot-searchable q low =
-        part-searchable (map (λ r. r.left) rows) up (slot_width precision slot_bits) j first told p q low
+        part-searchable (map (λ r. r.left) rows) up (slot_width precision slot_bits) j first known p q low
 
     slot-found : (q i : ℕ) → q < 2 ^ precision
-        → q ≤ j * slot_width precision slot_bits + (slot_width precision slot_bits - 1) → IsLastAtMost told q i
+        → q ≤ j * slot_width precision slot_bits + (slot_width precision slot_bits - 1) → IsLastAtMost known q i
         → IsRowIndexOf rows q (first + i)
     slot-found q i below high f =
         tiles-found bits precision rows t q (first + i) below
-        (part-found (map (λ r. r.left) rows) up (slot_width precision slot_bits) j first told p q i high f)
+        (part-found (map (λ r. r.left) rows) up (slot_width precision slot_bits) j first known p q i high f)
 
   -- a probe of the rows that meet the slot of a quantile
-  pub slot-probed : (q first : ℕ) (lefts told : List ℕ) → lefts ≡ map (λ r. r.left) rows → q < 2 ^ precision
-      → IsSlotPart lefts (slot_width precision slot_bits) (q / slot_width precision slot_bits) first told
-      → TellsRows rows (MeetsSlot (slot_width precision slot_bits) (q / slot_width precision slot_bits)) first told
-      × IsSearchable told q
-      × ((i : ℕ) → IsLastAtMost told q i → IsRowIndexOf rows q (first + i))
-  slot-probed q first lefts told e below part =
+  pub slot-probed : (q first : ℕ) (lefts known : List ℕ) → lefts ≡ map (λ r. r.left) rows → q < 2 ^ precision
+      → IsSlotPart lefts (slot_width precision slot_bits) (q / slot_width precision slot_bits) first known
+      → TellsRows rows (MeetsSlot (slot_width precision slot_bits) (q / slot_width precision slot_bits)) first known
+      × IsSearchable known q
+      × ((i : ℕ) → IsLastAtMost known q i → IsRowIndexOf rows q (first + i))
+  slot-probed q first lefts known e below part =
       let p = rw e at part in (
-        slot-tells (q / slot_width precision slot_bits) first told p (slot-below precision slot_bits q below),
-        slot-searchable (q / slot_width precision slot_bits) first told p q (slot-from precision slot_bits q),
-        (λ i f. slot-found (q / slot_width precision slot_bits) first told p q i below (slot-to precision slot_bits q) f),
+        slot-tells (q / slot_width precision slot_bits) first known p (slot-below precision slot_bits q below),
+        slot-searchable (q / slot_width precision slot_bits) first known p q (slot-from precision slot_bits q),
+        (λ i f. slot-found (q / slot_width precision slot_bits) first known p q i below (slot-to precision slot_bits q) f),
       )

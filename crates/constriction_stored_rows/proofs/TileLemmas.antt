@@ -53,11 +53,11 @@ module _ {S : Type 0} (bits precision : ℕ) (rows : List (Row S)) (t : RowsTile
       (symbol-found bits precision (map (λ r. r.symbol) rows) (map (λ r. r.left) rows) tiles-stored tiles-long q i below f)
 
   -- a probe of all rows
-  pub tiles-probed : (told : List ℕ) → told ≡ map (λ r. r.left) rows
-      → TellsRows rows (λ _. ⊤) 0 told
-      × ((q : ℕ) → IsSearchable told q)
-      × ((q i : ℕ) → q < 2 ^ precision → IsLastAtMost told q i → IsRowIndexOf rows q (0 + i))
-  tiles-probed told e = rw e (
+  pub tiles-probed : (known : List ℕ) → known ≡ map (λ r. r.left) rows
+      → TellsRows rows (λ _. ⊤) 0 known
+      × ((q : ℕ) → IsSearchable known q)
+      × ((q i : ℕ) → q < 2 ^ precision → IsLastAtMost known q i → IsRowIndexOf rows q (0 + i))
+  tiles-probed known e = rw e (
     rw ((stored-of_rows bits precision rows t).1) at
         (symbol-tells bits precision (map (λ r. r.symbol) rows) (map (λ r. r.left) rows) tiles-stored tiles-long),
     stored-searchable bits precision (map (λ r. r.left) rows) tiles-stored,

@@ -38,9 +38,9 @@ pub record IsFirstWord (width left word : ℕ) : Type 0 where
   pub first : (j : ℕ) → (word ≤ words_a_slot width * j) ↔ (left ≤ j * width)
   pub last : (j : ℕ) → (word ≤ words_a_slot width * j + (words_a_slot width - 1)) ↔ (left ≤ j * width + (width - 1))
 
--- what is told are the left cumulatives of the rows that meet the slot, from `first` on
-pub record IsSlotPart (lefts : List ℕ) (width slot first : ℕ) (told : List ℕ) : Type 0 where
+-- what is listed are the left cumulatives of the rows that meet the slot, from `first` on
+pub record IsSlotPart (lefts : List ℕ) (width slot first : ℕ) (listed : List ℕ) : Type 0 where
   pub last : ℕ
   pub rows : IsSlot lefts width slot first last
-  pub long : first + length told ≡ last + 1
-  pub in_order : told ≡ take (length told) (drop first lefts)
+  pub long : first + length listed ≡ last + 1
+  pub in_order : listed ≡ take (length listed) (drop first lefts)

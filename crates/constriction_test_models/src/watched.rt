@@ -48,7 +48,7 @@ pub fn count(counter: &Cell<usize>) {
 }
 
 /// How often symbols were compared and one was cloned, and how many there are.
-pub fn told(tally: &Tally) -> (usize, usize, usize) {
+pub fn tallied(tally: &Tally) -> (usize, usize, usize) {
     let alive = Rc::strong_count(tally).wrapping_sub(1);
     (tally.compared.get(), tally.cloned.get(), alive)
 }

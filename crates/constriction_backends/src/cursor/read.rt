@@ -5,7 +5,7 @@ ghost use Rattle.std.proofs.Common.{ap, sym, ◌∙◌};
 ghost use Rattle.std.proofs.lemmas.List.{length-reverse};
 ghost use Rattle.constriction_backends.specs.Cursor.{buf_of, state_of};
 ghost use Rattle.constriction_backends.specs.CursorState.{StackReads, QueueReads};
-ghost use Rattle.constriction_backends.specs.CursorLaws.{StackReads-told, StackReads-counts, QueueReads-told, QueueReads-counts};
+ghost use Rattle.constriction_backends.specs.CursorLaws.{StackReads-upcoming, StackReads-counts, QueueReads-upcoming, QueueReads-counts};
 
 use crate::cursor::Cursor;
 use constriction_buffers::SafeBuf;
@@ -37,7 +37,7 @@ impl<Word: Copy, Buf: SafeBuf<Word>> ReadWords<Word, Stack> for Cursor<Word, Buf
         self.pos == 0
     }
 
-    ghost reads_told = { λ s r t h. StackReads-told state_of s r t h.0 };
+    ghost reads_upcoming = { λ s r t h. StackReads-upcoming state_of s r t h.0 };
 }
 
 impl<Word: Copy, Buf: SafeBuf<Word>> ReadWords<Word, Queue> for Cursor<Word, Buf> {
@@ -64,7 +64,7 @@ impl<Word: Copy, Buf: SafeBuf<Word>> ReadWords<Word, Queue> for Cursor<Word, Buf
         self.pos == self.buf.words().len()
     }
 
-    ghost reads_told = { λ s r t h. QueueReads-told state_of s r t h.0 };
+    ghost reads_upcoming = { λ s r t h. QueueReads-upcoming state_of s r t h.0 };
 }
 
 impl<Word: Copy, Buf: SafeBuf<Word>> BoundedReadWords<Word, Stack> for Cursor<Word, Buf> {
@@ -77,7 +77,7 @@ impl<Word: Copy, Buf: SafeBuf<Word>> BoundedReadWords<Word, Stack> for Cursor<Wo
 
     ghost counts_reads = { λ s r t _ h. (StackReads-counts state_of s r t h.0, tt) };
 
-    ghost counts_told = { λ s _ words e. sym (ap length e ∙ length-reverse (state_of s).before) };
+    ghost counts_upcoming = { λ s _ words e. sym (ap length e ∙ length-reverse (state_of s).before) };
 }
 
 impl<Word: Copy, Buf: SafeBuf<Word>> BoundedReadWords<Word, Queue> for Cursor<Word, Buf> {
@@ -90,5 +90,5 @@ impl<Word: Copy, Buf: SafeBuf<Word>> BoundedReadWords<Word, Queue> for Cursor<Wo
 
     ghost counts_reads = { λ s r t _ h. (QueueReads-counts state_of s r t h.0, tt) };
 
-    ghost counts_told = { λ s _ words e. sym (ap length e) };
+    ghost counts_upcoming = { λ s _ words e. sym (ap length e) };
 }

@@ -3,7 +3,7 @@
 ghost use Rattle.std.specs.Prelude.{◌≡◌, ◌<◌, refl, true, length};
 ghost use Rattle.std.proofs.Common.{sym};
 ghost use Rattle.constriction_backends.specs.Cursor.{state_of, WritesTo};
-ghost use Rattle.constriction_backends.specs.CursorLaws.{Overwrites-told, Overwrites-counts};
+ghost use Rattle.constriction_backends.specs.CursorLaws.{Overwrites-append, Overwrites-counts};
 ghost use Rattle.constriction_sources.specs.SinkLaws.{free_is_taken};
 
 use crate::cursor::Cursor;
@@ -39,7 +39,7 @@ impl<Word: Drop, Buf: SafeBufMut<Word>> WriteWords<Word> for Cursor<Word, Buf> {
         true
     }
 
-    ghost writes_told = { λ s w r t h. Overwrites-told state_of s w r t h.0 };
+    ghost writes_append = { λ s w r t h. Overwrites-append state_of s w r t h.0 };
 
     ghost room_suffices = { λ s w r t h. free_is_taken (length (state_of s).after) r (length (state_of t).after)
         (Overwrites-counts state_of s w r t h.0) };
@@ -63,11 +63,11 @@ impl<Word: Copy, Buf: SafeBufMut<Word>> WordStack<Word> for Cursor<Word, Buf> {
 
     ghost tells_words = { λ s. refl };
 
-    ghost tells_no_others = { λ s words told. sym told };
+    ghost tells_no_others = { λ s words known. sym known };
 
     ghost words_come = { λ s. refl };
 
-    ghost no_others_come = { λ s words told. told };
+    ghost no_others_come = { λ s words known. known };
 
     ghost always_writable = { λ s. tt };
 

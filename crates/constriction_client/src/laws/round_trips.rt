@@ -29,7 +29,7 @@ use std::hash::Hash;
 
 /// Why items did not come back from a cursor: the fault of an item, memory that was refused when
 /// they were read, or a quantile that found no place.
-pub type CursorFault = CoderError<QuantileFault, ReadWriteError<AllocError, BoundedWriteError>>;
+pub type CursorError = CoderError<QuantileFault, ReadWriteError<AllocError, BoundedWriteError>>;
 
 /// A decoder model of some rows, and the encoder model of their entries.
 pub type DecoderAndEncoder<Symbol, Probability, const PRECISION: usize> = (
@@ -141,7 +141,7 @@ fn write_and_go_back<E, Buf, const PRECISION: usize>(
     encoder: &E,
     items: &[(E::Symbol, E::Probability)],
     cursor: &mut Cursor<E::Probability, Buf>,
-) -> Result<(), CursorFault>
+) -> Result<(), CursorError>
 where
     E: EncoderModel<PRECISION>,
     Buf: SafeBufMut<E::Probability>,
@@ -180,7 +180,7 @@ pub fn there_and_back_in_a_cursor<D, E, Buf, const PRECISION: usize>(
     encoder: &E,
     items: &[(D::Symbol, D::Probability)],
     cursor: &mut Cursor<D::Probability, Buf>,
-) -> Result<Vec<(D::Symbol, D::Probability)>, CursorFault>
+) -> Result<Vec<(D::Symbol, D::Probability)>, CursorError>
 where
     D: DecoderModel<PRECISION>,
     D::Symbol: Drop,

@@ -16,7 +16,7 @@ use std::alloc::Global;
 
 /// Why no symbols were decoded.
 #[derive(Debug, PartialEq, Eq, Drop)]
-pub enum WordsFault {
+pub enum WordsError {
     /// The words are not those of so many symbols.
     OtherWords,
     /// Memory for the symbols was refused.
@@ -47,28 +47,28 @@ pub fn symbols_of_words<M, const PRECISION: usize>(
     model: &M,
     words: Vec<u32>,
     count: usize,
-) -> Result<Vec<M::Symbol>, WordsFault>
+) -> Result<Vec<M::Symbol>, WordsError>
 where
     M: EncoderModel<PRECISION, Probability = u32> + DecoderModel<PRECISION, Probability = u32>,
     M::Symbol: Drop,
     ensures back { IfOk result (λ answers. (symbols : List M.Symbol) → length symbols ≡ count
         → IsStackOf (entry_of M.symbol_eq (M.rows model.now)) PRECISION symbols words.items
         → AllZip (StandsForEqual M.stands_for M.symbol_eq) symbols answers.items) }
-    ensures accepted { result ≡ Err WordsFault.OtherWords → (symbols : List M.Symbol) → length symbols ≡ count
+    ensures accepted { result ≡ Err WordsError.OtherWords → (symbols : List M.Symbol) → length symbols ≡ count
         → ¬ (IsStackOf (entry_of M.symbol_eq (M.rows model.now)) PRECISION symbols words.items) }
 {
     words_once::<M, PRECISION>(model);
     words_come_back::<M, M, PRECISION>(model, model);
     let mut coder = match AnsCoder::from_compressed(words) {
         Ok(coder) => coder,
-        Err(CoderError::Frontend(_)) => return Err(WordsFault::OtherWords),
+        Err(CoderError::Frontend(_)) => return Err(WordsError::OtherWords),
         Err(CoderError::Backend(error)) => match error {},
     };
     let Ok(answers) = coder.decode_symbols(alloc, count, model) else {
-        return Err(WordsFault::OutOfMemory);
+        return Err(WordsError::OutOfMemory);
     };
     if !coder.is_empty() {
-        return Err(WordsFault::OtherWords);
+        return Err(WordsError::OtherWords);
     }
     Ok(answers)
 }

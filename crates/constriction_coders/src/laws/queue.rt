@@ -9,8 +9,8 @@ ghost use Rattle.constriction.specs.Coding.{StandsForEqual};
 ghost use Rattle.constriction.specs.Model.{ClonesAreEqual};
 ghost use Rattle.constriction.specs.Rows.{entry_of};
 
-use crate::laws::MessageFault;
-use crate::queue::{RangeDecoder, RangeDecodingFault, RangeEncoder};
+use crate::laws::MessageError;
+use crate::queue::{RangeDecoder, DecoderFrontendError, RangeEncoder};
 use constriction::backends::{Cursor, ReadWords};
 use constriction::stream::model::{DecoderModel, EncoderModel};
 use constriction::{CoderError, DefaultEncoderFrontendError, Queue};
@@ -101,7 +101,7 @@ pub fn message_from<D, E, Source, const PRECISION: usize>(
     count: usize,
     decoder: &D,
     encoder: &E,
-) -> Result<Vec<D::Symbol>, CoderError<RangeDecodingFault, Source::ReadError>>
+) -> Result<Vec<D::Symbol>, CoderError<DecoderFrontendError, Source::ReadError>>
 where
     D: DecoderModel<PRECISION, Probability = u32>,
     D::Symbol: Drop,
@@ -112,7 +112,7 @@ where
     ensures back { IfOk result (λ answers. (symbols : List D.Symbol) (words more : List ℕ) → length symbols ≡ count
         → IsMessageOf (entry_of E.symbol_eq (E.rows encoder.now)) PRECISION symbols words → All (λ w. w < 2 ^ 32) more
         → Source.tells_upcoming source (words ++ more) → AllZip (StandsForEqual D.stands_for E.symbol_eq) symbols answers.items) }
-    ensures valid { result ≡ Err (CoderError.Frontend RangeDecodingFault.InvalidData)
+    ensures valid { result ≡ Err (CoderError.Frontend DecoderFrontendError.InvalidData)
         → (symbols : List D.Symbol) (words more : List ℕ) → length symbols ≡ count
         → IsMessageOf (entry_of E.symbol_eq (E.rows encoder.now)) PRECISION symbols words → All (λ w. w < 2 ^ 32) more
         → ¬ (Source.tells_upcoming source (words ++ more)) }
@@ -139,9 +139,9 @@ pub fn message_comes_back<D, E, const PRECISION: usize>(
     symbols: &[D::Symbol],
 ) -> Result<
     Vec<D::Symbol>,
-    MessageFault<
+    MessageError<
         CoderError<DefaultEncoderFrontendError, AllocError>,
-        CoderError<RangeDecodingFault, Infallible>,
+        CoderError<DecoderFrontendError, Infallible>,
     >,
 >
 where
@@ -152,17 +152,17 @@ where
     ensures back { IfOk result (λ answers. AllZip (StandsForEqual D.stands_for E.symbol_eq) symbols.now answers.items) }
     ensures equal { IfOk result (λ answers. ClonesAreEqual E.symbol_eq D.stands_for
         → AllZip (λ symbol answer. IsTrue (E.symbol_eq answer symbol)) symbols.now answers.items) }
-    ensures impossible { result ≡ Err (MessageFault.Encoding (CoderError.Frontend DefaultEncoderFrontendError.ImpossibleSymbol))
+    ensures impossible { result ≡ Err (MessageError.Encoding (CoderError.Frontend DefaultEncoderFrontendError.ImpossibleSymbol))
         → (symbol : D.Symbol) × Contains symbols.now symbol × (entry_of E.symbol_eq (E.rows encoder.now) symbol ≡ None) }
-    ensures valid { result ≢ Err (MessageFault.Decoding (CoderError.Frontend RangeDecodingFault.InvalidData)) }
+    ensures valid { result ≢ Err (MessageError.Decoding (CoderError.Frontend DecoderFrontendError.InvalidData)) }
 {
     let words = match message_of(alloc, encoder, symbols) {
         Ok(words) => words,
-        Err(error) => return Err(MessageFault::Encoding(error)),
+        Err(error) => return Err(MessageError::Encoding(error)),
     };
     let source = Cursor::new_at_write_beginning(words);
     match message_from(alloc, source, symbols.len(), decoder, encoder) {
         Ok(answers) => Ok(answers),
-        Err(error) => Err(MessageFault::Decoding(error)),
+        Err(error) => Err(MessageError::Decoding(error)),
     }
 }

@@ -13,7 +13,7 @@ ghost use Rattle.constriction.specs.Coding.{InTurn, StandsForEqual};
 ghost use Rattle.constriction.specs.Model.{ClonesAreEqual};
 ghost use Rattle.constriction.specs.Rows.{entry_of};
 
-use crate::laws::MessageFault;
+use crate::laws::MessageError;
 use crate::stack::AnsCoder;
 use constriction::backends::{ReadWriteError, WordStack};
 use constriction::stream::model::{DecoderModel, EncoderModel};
@@ -116,7 +116,7 @@ pub fn there_and_back<Backend, D, E, const PRECISION: usize>(
     symbols: &[D::Symbol],
 ) -> Result<
     Vec<D::Symbol>,
-    MessageFault<
+    MessageError<
         CoderError<DefaultEncoderFrontendError, Backend::WriteError>,
         CoderError<AllocError, Backend::ReadError>,
     >,
@@ -135,21 +135,21 @@ where
         answers.items full (content coder.new.state (Backend.words_of coder.new.words)))) }
     ensures state { OnOk result (coder.new.state ≡ coder.old.state) }
     ensures words { OnOk result (Backend.words_of coder.new.words ≡ Backend.words_of coder.old.words) }
-    ensures encoding { (error : _) → result ≡ Err (MessageFault.Encoding error)
+    ensures encoding { (error : _) → result ≡ Err (MessageError.Encoding error)
         → EncodingStops Backend.words_of (entry_of E.symbol_eq (E.rows encoder.now)) Backend.write_gives PRECISION symbols.now error
         (content coder.old.state (Backend.words_of coder.old.words)) coder.new.state coder.new.words }
-    ensures decoding { (e : _) → result ≡ Err (MessageFault.Decoding e) → EncodesThen (entry_of E.symbol_eq (E.rows encoder.now)) PRECISION
+    ensures decoding { (e : _) → result ≡ Err (MessageError.Decoding e) → EncodesThen (entry_of E.symbol_eq (E.rows encoder.now)) PRECISION
         (reverse symbols.now) (content coder.old.state (Backend.words_of coder.old.words)) (λ c. DecodingStops Backend.words_of D.stands_for
         D.may_refuse (D.rows decoder.now) Backend.read_gives PRECISION (length symbols.now) e c coder.new.state coder.new.words) }
 {
     symbols_come_back::<D, E, PRECISION>(decoder, encoder);
     match coder.encode_symbols(symbols, encoder) {
         Ok(()) => {}
-        Err(error) => return Err(MessageFault::Encoding(error)),
+        Err(error) => return Err(MessageError::Encoding(error)),
     }
     match coder.decode_symbols(alloc, symbols.len(), decoder) {
         Ok(answers) => Ok(answers),
-        Err(error) => Err(MessageFault::Decoding(error)),
+        Err(error) => Err(MessageError::Decoding(error)),
     }
 }
 
@@ -163,7 +163,7 @@ pub fn back_and_there<Backend, D, E, const PRECISION: usize>(
     encoder: &E,
 ) -> Result<
     D::Symbol,
-    MessageFault<
+    MessageError<
         CoderError<DefaultEncoderFrontendError, Backend::WriteError>,
         CoderError<AllocError, Backend::ReadError>,
     >,
@@ -175,7 +175,7 @@ where
     E: EncoderModel<PRECISION, Symbol = D::Symbol, Probability = u32>,
     requires alike { (s : D.Symbol) → entry_of E.symbol_eq (E.rows encoder.now) s ≡ entry_of E.symbol_eq (D.rows decoder.now) s }
     requires invertible { IsInvertible E.symbol_eq D.stands_for (D.rows decoder.now) }
-    ensures possible { (fault : _) → result ≢ Err (MessageFault.Encoding (CoderError.Frontend fault)) }
+    ensures possible { (fault : _) → result ≢ Err (MessageError.Encoding (CoderError.Frontend fault)) }
     ensures state { OnOk result (coder.new.state ≡ coder.old.state) }
     ensures words { OnOk result (Backend.words_of coder.new.words ≡ Backend.words_of coder.old.words) }
 {
@@ -183,14 +183,14 @@ where
     let _state = coder.state;
     let symbol = match coder.decode_symbol(decoder) {
         Ok(symbol) => symbol,
-        Err(error) => return Err(MessageFault::Decoding(error)),
+        Err(error) => return Err(MessageError::Decoding(error)),
     };
     match coder.encode_symbol(&symbol, encoder) {
         Ok(()) => {
             let _state = coder.state;
             Ok(symbol)
         }
-        Err(error) => Err(MessageFault::Encoding(error)),
+        Err(error) => Err(MessageError::Encoding(error)),
     }
 }
 

@@ -6,7 +6,7 @@ ghost use Rattle.std.specs.Iterator.SizeHint.{IsExactHint};
 ghost use Rattle.constriction_coders.specs.Intervals.{held_of};
 ghost use Rattle.constriction_coders.specs.RangeWalks.{ReadsOn};
 
-use crate::queue::range_decoder::{RangeDecoder, RangeDecodingFault};
+use crate::queue::range_decoder::{RangeDecoder, DecoderFrontendError};
 use constriction::backends::ReadWords;
 use constriction::stream::model::DecoderModel;
 use constriction::{CoderError, Queue};
@@ -39,7 +39,7 @@ impl<
 where
     D::Symbol: Drop,
 {
-    type Item = Result<D::Symbol, CoderError<RangeDecodingFault, Source::ReadError>>;
+    type Item = Result<D::Symbol, CoderError<DecoderFrontendError, Source::ReadError>>;
 
     ghost can_next = { λ s. Source.can_read s.decoder.now.words };
 
@@ -52,7 +52,7 @@ where
 
     fn next(
         &mut self,
-    ) -> Option<Result<D::Symbol, CoderError<RangeDecodingFault, Source::ReadError>>> {
+    ) -> Option<Result<D::Symbol, CoderError<DecoderFrontendError, Source::ReadError>>> {
         if self.left == 0 {
             return None;
         }

@@ -3,7 +3,7 @@
 ghost use Rattle.std.specs.Prelude.{◌≡◌, ◌++◌, ◌∷◌, ◌/◌, ◌%◌, ◌^◌, ◌<◌, [], All};
 ghost use Rattle.constriction_backends.specs.Cursor.{state_of};
 ghost use Rattle.constriction_coders.specs.EncodedWords.{TakesFirst};
-ghost use Rattle.constriction_coders.specs.EncodedWordsLaws.{TakesFirst-told};
+ghost use Rattle.constriction_coders.specs.EncodedWordsLaws.{TakesFirst-upcoming};
 
 use constriction::Queue;
 use constriction::backends::{Cursor, ReadWords};
@@ -51,5 +51,5 @@ impl<'e> ReadWords<u32, Queue> for EncodedWords<'e> {
         ReadWords::<u32, Queue>::maybe_exhausted(&self.lower)
     }
 
-    ghost reads_told = { TakesFirst-told (λ s. (state_of s.written).after ++ (state_of s.lower).after) };
+    ghost reads_upcoming = { TakesFirst-upcoming (λ s. (state_of s.written).after ++ (state_of s.lower).after) };
 }

@@ -17,7 +17,7 @@ use thiserror::Error;
 
 /// Why nothing was decoded.
 #[derive(Debug, PartialEq, Eq, Drop, Error)]
-pub enum RangeDecodingFault {
+pub enum DecoderFrontendError {
     /// The point belongs to no quantile, so that these are no words of a range encoder for such models.
     #[error("The compressed data is invalid.")]
     InvalidData,
@@ -65,8 +65,8 @@ impl<Source: ReadWords<u32, Queue> + Drop> RangeDecoder<Source> {
         requires { Source.can_read words }
         ensures goes_on { IfOk result (λ decoder. Source.can_read decoder.words) }
         ensures ok { IfOk result (λ decoder. IsStart Source.read_gives words (interval decoder.range decoder.offset) decoder.words) }
-        ensures begins { IfOk result (λ decoder. (told : List ℕ) → Source.tells_upcoming words told
-            → IsAt Source.tells_upcoming whole told (held_of decoder.range decoder.offset decoder.words)) }
+        ensures begins { IfOk result (λ decoder. (known : List ℕ) → Source.tells_upcoming words known
+            → IsAt Source.tells_upcoming whole known (held_of decoder.range decoder.offset decoder.words)) }
         ensures failed { (error : _) → result ≡ Err error → (reached left : Source) × Source.read_gives reached (Err error) left }
     {
         let mut words = words;
@@ -104,7 +104,7 @@ impl<Source: ReadWords<u32, Queue>> RangeDecoder<Source> {
     pub fn decode_symbol<D, const PRECISION: usize>(
         &mut self,
         model: &D,
-    ) -> Result<D::Symbol, CoderError<RangeDecodingFault, Source::ReadError>>
+    ) -> Result<D::Symbol, CoderError<DecoderFrontendError, Source::ReadError>>
     where
         D: DecoderModel<PRECISION, Probability = u32>,
         D::Symbol: Drop,
@@ -113,9 +113,9 @@ impl<Source: ReadWords<u32, Queue>> RangeDecoder<Source> {
         ensures ok { IfOk result (λ symbol. IsRead D.stands_for (D.rows model.now) Source.read_gives PRECISION symbol
             (held_of self.old.range self.old.offset self.old.words) (held_of self.new.range self.new.offset self.new.words)) }
         ensures inside { IfOk result (λ _. self.new.offset < self.new.range) }
-        ensures invalid { result ≡ Err (CoderError.Frontend RangeDecodingFault.InvalidData)
+        ensures invalid { result ≡ Err (CoderError.Frontend DecoderFrontendError.InvalidData)
             → IsAboveAll PRECISION (interval self.old.range self.old.offset) }
-        ensures memory { result ≡ Err (CoderError.Frontend RangeDecodingFault.OutOfMemory) → (quantile : ℕ)
+        ensures memory { result ≡ Err (CoderError.Frontend DecoderFrontendError.OutOfMemory) → (quantile : ℕ)
             × HoldsPoint PRECISION quantile 1 (interval self.old.range self.old.offset)
             × RowMayBeRefused D.may_refuse (D.rows model.now) quantile }
         ensures failed { (error : _) → result ≡ Err (CoderError.Backend error)
@@ -126,10 +126,10 @@ impl<Source: ReadWords<u32, Queue>> RangeDecoder<Source> {
     {
         let unit = unit_of::<PRECISION>(self.range);
         let Some(quantile) = quantile_at::<PRECISION>(unit, self.offset) else {
-            return Err(CoderError::Frontend(RangeDecodingFault::InvalidData));
+            return Err(CoderError::Frontend(DecoderFrontendError::InvalidData));
         };
         let Ok((symbol, left, weight)) = model.quantile_function(quantile) else {
-            return Err(CoderError::Frontend(RangeDecodingFault::OutOfMemory));
+            return Err(CoderError::Frontend(DecoderFrontendError::OutOfMemory));
         };
         let (range, offset) = part_of::<PRECISION>(
             self.range,
@@ -163,7 +163,7 @@ impl<Source: ReadWords<u32, Queue>> RangeDecoder<Source> {
         alloc: Global,
         count: usize,
         model: &D,
-    ) -> Result<Vec<D::Symbol>, CoderError<RangeDecodingFault, Source::ReadError>>
+    ) -> Result<Vec<D::Symbol>, CoderError<DecoderFrontendError, Source::ReadError>>
     where
         D: DecoderModel<PRECISION, Probability = u32>,
         D::Symbol: Drop,
@@ -176,7 +176,7 @@ impl<Source: ReadWords<u32, Queue>> RangeDecoder<Source> {
             error (held_of self.old.range self.old.offset self.old.words) (interval self.new.range self.new.offset) self.new.words) }
     {
         let Ok(mut symbols) = Vec::with_capacity(alloc, count) else {
-            return Err(CoderError::Frontend(RangeDecodingFault::OutOfMemory));
+            return Err(CoderError::Frontend(DecoderFrontendError::OutOfMemory));
         };
         for done in 0..count {
             match self.decode_symbol(model) {

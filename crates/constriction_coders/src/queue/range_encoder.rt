@@ -3,7 +3,7 @@
 ghost use Rattle.std.specs.Prelude.{◌≡◌, ◌≢◌, ◌↔◌, ℕ, List, length, None, Err, IfOk, IfErr, OnErr, OnOk, IsTrue};
 ghost use Rattle.constriction_coders.specs.Intervals.{held_of};
 ghost use Rattle.constriction_coders.specs.RangeLaws.{IsAt};
-ghost use Rattle.constriction_coders.specs.Spans.{whole, IsNarrowed, IsNarrowingFault, NarrowingStops, IsSealed, IsToldBy};
+ghost use Rattle.constriction_coders.specs.Spans.{whole, IsNarrowed, IsNarrowingFault, NarrowingStops, IsSealed, LeadTo};
 ghost use Rattle.constriction.specs.Coding.{InTurn};
 ghost use Rattle.constriction.specs.Rows.{entry_of};
 
@@ -164,7 +164,7 @@ impl RangeEncoder {
 
     /// A decoder of what is encoded so far, while the encoder stays as it is. No memory is asked for, and no word is copied.
     pub fn decoder<'e>(&'e self) -> RangeDecoder<EncodedWords<'e>>
-        ensures { (words : List ℕ) × IsToldBy self.now words
+        ensures { (words : List ℕ) × LeadTo self.now words
             × IsAt ⟦<EncodedWords<'e> as ReadWords<u32, Queue>>⟧.tells_upcoming whole words (held_of result.range result.offset result.words) }
     {
         let words = EncodedWords::new(self.words.as_slice(), self.lower);

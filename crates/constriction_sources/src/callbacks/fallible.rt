@@ -56,7 +56,7 @@ impl<Word, E: Debug, C: FnMut(Word) -> Result<(), E>> WriteWords<Word>
         (self.write_callback)(word)
     }
 
-    ghost writes_told = { λ _ _ _ _ _ _ h. absurd h };
+    ghost writes_append = { λ _ _ _ _ _ _ h. absurd h };
 
     ghost room_suffices = { λ _ _ _ _ _ h. absurd h };
 }

@@ -56,7 +56,7 @@ impl<Word, C: FnMut(Word)> WriteWords<Word> for InfallibleCallbackWriteWords<Wor
         Ok(())
     }
 
-    ghost writes_told = { λ _ _ _ _ _ _ h. absurd h };
+    ghost writes_append = { λ _ _ _ _ _ _ h. absurd h };
 
     ghost room_suffices = { λ _ _ _ _ _ h. absurd h };
 }

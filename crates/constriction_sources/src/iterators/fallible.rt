@@ -78,7 +78,7 @@ impl<
         true
     }
 
-    ghost reads_told = { λ _ _ _ _ _ h. absurd h };
+    ghost reads_upcoming = { λ _ _ _ _ _ h. absurd h };
 }
 
 impl<
@@ -102,5 +102,5 @@ impl<
         (λ it. size (count_unless (fuse_done it) (Iter.remaining (fuse_source it))))
         (none-left fuse_done fuse_source Iter.remaining) s.inner r t.inner };
 
-    ghost counts_told = { λ _ _ _ h. absurd h };
+    ghost counts_upcoming = { λ _ _ _ h. absurd h };
 }

@@ -4,7 +4,7 @@ ghost use Rattle.std.specs.Prelude.{◌≡◌, false, true};
 ghost use Rattle.std.specs.Iterator.{AlwaysYields, size, count_unless};
 ghost use Rattle.std.specs.Iterator.Adapters.{fuse_source, fuse_done, fuse_steps};
 ghost use Rattle.constriction_sources.specs.Items.{GivesWord, CountsDown};
-ghost use Rattle.constriction_sources.specs.ItemLaws.{word-told, word-counted, told-counted, none-left, none-told};
+ghost use Rattle.constriction_sources.specs.ItemLaws.{word-upcoming, word-counted, upcoming-counted, none-left, none-upcoming};
 
 use crate::iterators::FusedWords;
 use crate::read::{BoundedReadWords, ReadWords};
@@ -69,7 +69,7 @@ impl<Word, S: Semantics, Iter: Iterator<Item = Word>> ReadWords<Word, S>
         true
     }
 
-    ghost reads_told = { λ s r t. word-told Iter.next_gives fuse_done fuse_source s.inner r t.inner };
+    ghost reads_upcoming = { λ s r t. word-upcoming Iter.next_gives fuse_done fuse_source s.inner r t.inner };
 }
 
 impl<Word, S: Semantics, Iter: ExactSizeIterator<Item = Word>> BoundedReadWords<Word, S>
@@ -89,10 +89,10 @@ impl<Word, S: Semantics, Iter: ExactSizeIterator<Item = Word>> BoundedReadWords<
     ghost counts_reads = { λ s r t. word-counted Iter.next_gives fuse_done fuse_source
         (λ it. size (count_unless (fuse_done it) (Iter.remaining (fuse_source it))))
         (AlwaysYields (fuse_steps Iter.next_gives) (λ w. w))
-        (none-left fuse_done fuse_source Iter.remaining) (none-told Iter.next_gives fuse_done fuse_source) s.inner r t.inner };
+        (none-left fuse_done fuse_source Iter.remaining) (none-upcoming Iter.next_gives fuse_done fuse_source) s.inner r t.inner };
 
-    ghost counts_told = { λ s. told-counted Iter.next_gives fuse_done fuse_source
+    ghost counts_upcoming = { λ s. upcoming-counted Iter.next_gives fuse_done fuse_source
         (λ it. size (count_unless (fuse_done it) (Iter.remaining (fuse_source it))))
         (AlwaysYields (fuse_steps Iter.next_gives) (λ w. w))
-        (none-left fuse_done fuse_source Iter.remaining) (none-told Iter.next_gives fuse_done fuse_source) s.inner };
+        (none-left fuse_done fuse_source Iter.remaining) (none-upcoming Iter.next_gives fuse_done fuse_source) s.inner };
 }

@@ -111,14 +111,14 @@ part_mut_spec 𝓤 𝓛 𝓜 𝓡 wired X Y LX LY gm dm g d metm met =
     await ! tt $ pick ! (λ r. split ! $ move ! (1 ∷ []) $ pick ! (λ _. split3 ! $ drop ! $ move ! (1 ∷ []) $
     heard ! _ (λ shown. move ! (1 ∷ []) $ split ! $ move ! (1 ∷ []) $
     -- [the slice; the tokens; what the buffer follows; nothing]
-    peeks ! (MutSlice (named 0) κ R) (Is (MutSlice (named 0) κ R)) (shows 𝓛 (MutSlice (named 0) κ R)) r (v ∷ []) (λ told.
+    peeks ! (MutSlice (named 0) κ R) (Is (MutSlice (named 0) κ R)) (shows 𝓛 (MutSlice (named 0) κ R)) r (v ∷ []) (λ known.
     let b : ℕ = r.ref_ptr.0 in
     let o : ℕ = r.ref_ptr.1 in
     let xs : List X.Denot = r.now in
     let s : ℕ = size (layout X) in
     let mt : m ≤ t = le.0 in
     let tl : t ≤ length xs = subst (λ (ws : List X.Denot). t ≤ length ws) (sym shown) le.1 in
-    let fit : length xs * s < 2 ^ 63 = told.0.1.1 in
+    let fit : length xs * s < 2 ^ 63 = known.0.1.1 in
     let within : m * s ≤ length xs * s = mul-le-mul_right s (omega arith) in
     let fs : m * s < 2 ^ 64 = omega arith in
     let fr : t - m < 2 ^ 64 = omega arith in
@@ -129,12 +129,12 @@ part_mut_spec 𝓤 𝓛 𝓜 𝓡 wired X Y LX LY gm dm g d metm met =
     let lb' : length (drop_list m xs) ≡ length xs - m = length-drop m xs in
     let lm : length mid ≡ t - m = length-take-le (t - m) (drop_list m xs) (omega arith) in
     let small : length mid * s ≤ length xs * s = mul-le-mul_right s (omega arith) in
-    let fn₀ : length xs < 2 ^ 64 = told.0.1.0 in
+    let fn₀ : length xs < 2 ^ 64 = known.0.1.0 in
     let on : at o s (length front) ≡ m * s + o = at_mul o s (length front) ∙ ap (λ (j : ℕ). j * s + o) lf in
     let cut : xs ≡ front ++ (mid ++ back) = sym (cut_part xs m t mt tl) in
     let same : (ws : List X.Denot) → length ws ≡ length mid → with_part xs m t ws ≡ front ++ (ws ++ back) = λ ws e. refl in
-    rewrite ! 0 (λ (us : List Val). ‵ ((MutSlice (named 0) κ R).own_val r us)) told.0.0 refl $
-    lands_as ! (ap only told.0.0) refl (tt, (tt, (record { fits = fn₀ }, tt))) $
+    rewrite ! 0 (λ (us : List Val). ‵ ((MutSlice (named 0) κ R).own_val r us)) known.0.0 refl $
+    lands_as ! (ap only known.0.0) refl (tt, (tt, (record { fits = fn₀ }, tt))) $
     sets ! (addr ! (from ! (fld ! refl (hop ! (look_in_at ! 4 (sub ! 0 refl (whole !))) (stop !))))) refl (tt, tt) $
     first ! $ blocks ! $
     sets ! (is ! (bin ! (get ! refl) (size_word !)

@@ -2,7 +2,7 @@ use Rattle.std.proofs.Common.{◌≡◌, true, false, Err, sym, ◌∙◌, rules
 use Rattle.std.specs.List.{IsDistinct}
 use Rattle.constriction_model.specs.declared.error.ModelError.TheVariants.{InvalidTable}
 use Rattle.constriction_model.specs.Acceptance.{AreAccepted, WasReadOf, completed}
-use Rattle.constriction_categorical.proofs.ReadEntries.{held-stored, judged-told, judged-refused, read-refused}
+use Rattle.constriction_categorical.proofs.ReadEntries.{held-stored, judged-known, judged-refused, read-refused}
 use Rattle.constriction_categorical.proofs.distinct.entries_hashed.Goals as goal
 
 pub returns-in_err-entries-clause-made : goal.returns-in_err-entries-clause-made
@@ -38,7 +38,7 @@ returns-then-not-apart-clause-made g c =
 
 pub returns-clause-made : goal.returns-clause-made
 returns-clause-made g c =
-    judged-told vec_items g.P.WholeNumber.whole g.P.WholeNumber.BITS g.row.PRECISION (completed g.row.PRECISION c.args.infer_last)
+    judged-known vec_items g.P.WholeNumber.whole g.P.WholeNumber.BITS g.row.PRECISION (completed g.row.PRECISION c.args.infer_last)
     (WasReadOf g.S.IntoIterator.into_iter_gives g.S.IntoIter.Iterator.next_gives c.args.symbols)
     (WasReadOf g.W.IntoIterator.into_iter_gives g.W.IntoIter.Iterator.next_gives c.args.weights) g.Symbol.PartialEq.eq
     c.in_ok-entries.entries c.in_ok-entries.ensures (IsDistinct g.Symbol.PartialEq.eq)

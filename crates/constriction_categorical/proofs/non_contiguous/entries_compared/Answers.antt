@@ -2,7 +2,7 @@ use Rattle.std.proofs.Common.{refl, vec_items}
 use Rattle.constriction_model.specs.Acceptance.{AreAccepted, WasReadOf, completed}
 use Rattle.constriction_model.specs.Rows.{rows_of}
 use Rattle.constriction_stored_rows.specs.Filling.{HoldsRows}
-use Rattle.constriction_categorical.proofs.ReadEntries.{all-differ, all-stored, all-told, read-of_both}
+use Rattle.constriction_categorical.proofs.ReadEntries.{all-differ, all-stored, all-known, read-of_both}
 use Rattle.constriction_categorical.proofs.non_contiguous.entries_compared.Goals as goal
 
 pub rows_read-requires-clause-none : goal.rows_read-requires-clause-none
@@ -27,7 +27,7 @@ rows_read-requires-clause-weights_end g c =
 
 pub returns-clause-made : goal.returns-clause-made
 returns-clause-made g c =
-    all-told vec_items g.P.WholeNumber.whole g.P.WholeNumber.BITS g.row.PRECISION (completed g.row.PRECISION c.args.infer_last)
+    all-known vec_items g.P.WholeNumber.whole g.P.WholeNumber.BITS g.row.PRECISION (completed g.row.PRECISION c.args.infer_last)
     (WasReadOf g.S.IntoIterator.into_iter_gives g.S.IntoIter.Iterator.next_gives c.args.symbols)
     (WasReadOf g.W.IntoIterator.into_iter_gives g.W.IntoIter.Iterator.next_gives c.args.weights) g.Symbol.PartialEq.eq c.rows_read.result
     (read-of_both g.S.IntoIterator.into_iter_gives g.S.IntoIter.Iterator.next_gives c.args.symbols g.W.IntoIterator.into_iter_gives

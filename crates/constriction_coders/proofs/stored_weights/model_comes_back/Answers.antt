@@ -4,7 +4,7 @@ use Rattle.constriction.specs.Rows.{Row, rows_of}
 use Rattle.constriction.specs.StandLemmas.{tiling-rebuilds}
 use Rattle.constriction.specs.declared.CoderError.{CoderError}
 use Rattle.constriction_coders.specs.StoredWeights.{weights_as_words}
-use Rattle.constriction_coders.specs.declared.stored_weights.ReadingFault.TheVariants.{TooFewWords, NotAccepted}
+use Rattle.constriction_coders.specs.declared.stored_weights.ReadingError.TheVariants.{TooFewWords, NotAccepted}
 use Rattle.constriction_coders.proofs.StoredWeightsLemmas.{same-weights}
 use Rattle.constriction_coders.proofs.stored_weights.model_comes_back.Goals as goal
 
@@ -14,9 +14,9 @@ returns-in-Ok-read_model-clause-rows g c =
     let weights = map (λ (r : Row g.row.M-Symbol.Denot). r.weight) rows in
     let source = c.new_at_write_beginning-source in
     let coming : weights_as_words weights ≡ drop source.result.pos source.result.buf.items =
-    rw (ap (λ p. p.1) source.ensures, ap (λ p. p.0) source.ensures) (c.in-Ok.ensures.told _ (sym c.new-words.ensures.items)) in
+    rw (ap (λ p. p.1) source.ensures, ap (λ p. p.0) source.ensures) (c.in-Ok.ensures.written _ (sym c.new-words.ensures.items)) in
     let table = c.in-Ok-read_model.ensures.ok in
-    let read = table.reads.told (weights_as_words weights) coming in
+    let read = table.reads.known (weights_as_words weights) coming in
     let same : table.weights ≡ weights = same-weights weights table.weights read.0 read.1 in
     let made : rows_of c.args.symbols.items table.weights ≡ rows =
     rw (same, c.requires) (sym (g.met.M.IterableEntropyModel.tile_law c.args.model).in_order) in
@@ -27,7 +27,7 @@ returns-clause-whole g c = λ is.
     let weights = map (λ (r : Row g.row.M-Symbol.Denot). r.weight) (g.M.EntropyModel.rows c.args.model) in
     let source = c.new_at_write_beginning-source in
     let coming : weights_as_words weights ≡ drop source.result.pos source.result.buf.items =
-    rw (ap (λ p. p.1) source.ensures, ap (λ p. p.0) source.ensures) (c.in-Ok.ensures.told _ (sym c.new-words.ensures.items)) in
+    rw (ap (λ p. p.1) source.ensures, ap (λ p. p.0) source.ensures) (c.in-Ok.ensures.written _ (sym c.new-words.ensures.items)) in
     let same : c.in-Err-read_model.error ≡ CoderError.Frontend TooFewWords = cc in
     let short : length weights < length weights = c.in-Err-read_model.ensures.short (ap Err same) (weights_as_words weights) coming in
     absurd (omega arith)
@@ -38,10 +38,10 @@ returns-clause-accepted g c = λ is distinct.
     let weights = map (λ (r : Row g.row.M-Symbol.Denot). r.weight) rows in
     let source = c.new_at_write_beginning-source in
     let coming : weights_as_words weights ≡ drop source.result.pos source.result.buf.items =
-    rw (ap (λ p. p.1) source.ensures, ap (λ p. p.0) source.ensures) (c.in-Ok.ensures.told _ (sym c.new-words.ensures.items)) in
+    rw (ap (λ p. p.1) source.ensures, ap (λ p. p.0) source.ensures) (c.in-Ok.ensures.written _ (sym c.new-words.ensures.items)) in
     let same : c.in-Err-read_model.error ≡ CoderError.Frontend NotAccepted = cc in
     let table = c.in-Err-read_model.ensures.not_accepted (ap Err same) in
-    let read = table.1.told (weights_as_words weights) coming in
+    let read = table.1.known (weights_as_words weights) coming in
     let weights_are : table.0 ≡ weights = same-weights weights table.0 read.0 read.1 in
     let given = rw c.requires at distinct in
     let good = (tiling-rebuilds g.M.Symbol.PartialEq.eq 32 g.row.PRECISION rows

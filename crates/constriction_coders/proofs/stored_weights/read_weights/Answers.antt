@@ -2,9 +2,9 @@ use Rattle.std.proofs.Common.{◌≡◌, [], ◌∷◌, ◌++◌, List, ℕ, Err
 use Rattle.std.proofs.lemmas.Result.{err_from_is_err_and}
 use Rattle.constriction.specs.declared.CoderError.{CoderError}
 use Rattle.constriction_backends.specs.Source.{Reads}
-use Rattle.constriction_backends.specs.SourceLaws.{reads_more, reads_told_all}
+use Rattle.constriction_backends.specs.SourceLaws.{reads_more, reads_upcoming_all}
 use Rattle.constriction_coders.specs.StoredWeights.{weights_as_words}
-use Rattle.constriction_coders.specs.declared.stored_weights.ReadingFault.TheVariants.{TooFewWords}
+use Rattle.constriction_coders.specs.declared.stored_weights.ReadingError.TheVariants.{TooFewWords}
 use Rattle.constriction_coders.proofs.StoredWeightsLemmas.{short-weights}
 use Rattle.constriction_coders.proofs.stored_weights.read_weights.Goals as goal
 
@@ -12,7 +12,7 @@ pub returns-in_err-count-clause-short : goal.returns-in_err-count-clause-short
 returns-in_err-count-clause-short g c = λ is.
     let p = err_from_is_err_and c.from_residual.result c.from_residual.ensures.1 in
     let same : c.in_err-count.field-0.0 ≡ CoderError.Frontend TooFewWords = cc (p.1, p.2) in
-    short-weights g.Source.ReadWords.read_gives g.Source.ReadWords.tells_upcoming g.met.Source.ReadWords.reads_told _
+    short-weights g.Source.ReadWords.read_gives g.Source.ReadWords.tells_upcoming g.met.Source.ReadWords.reads_upcoming _
     c.next_word.new.source (record {
       words = [];
       begins = tt;
@@ -35,7 +35,7 @@ returns-in_err-weight-clause-too_few g c = λ is.
 
 pub returns-in_err-weight-clause-short : goal.returns-in_err-weight-clause-short
 returns-in_err-weight-clause-short g c = λ is.
-    short-weights g.Source.ReadWords.read_gives g.Source.ReadWords.tells_upcoming g.met.Source.ReadWords.reads_told c.args.source.now
+    short-weights g.Source.ReadWords.read_gives g.Source.ReadWords.tells_upcoming g.met.Source.ReadWords.reads_upcoming c.args.source.now
     c.next_word-in-loop-done.new.source (returns-in_err-weight-clause-too_few g c is)
 
 pub returns-in_err-weight-clause-failed : goal.returns-in_err-weight-clause-failed
@@ -75,8 +75,8 @@ returns-clause-ok g c =
     c.loop-done.invariant.so_far in
     record {
       read = read;
-      told =
-          reads_told_all g.Source.ReadWords.read_gives g.Source.ReadWords.tells_upcoming g.met.Source.ReadWords.reads_told
+      known =
+          reads_upcoming_all g.Source.ReadWords.read_gives g.Source.ReadWords.tells_upcoming g.met.Source.ReadWords.reads_upcoming
           c.args.source.now (weights_as_words c.loop-done.weights.items) c.loop-done.source read;
     }
 

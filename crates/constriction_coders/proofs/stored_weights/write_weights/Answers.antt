@@ -3,7 +3,7 @@ use Rattle.std.proofs.Math.Seq.{split_at}
 use Rattle.std.proofs.lemmas.List.{take_more, take_all}
 use Rattle.std.proofs.lemmas.Result.{err_from_is_err_and}
 use Rattle.constriction_backends.specs.Sink.{Writes}
-use Rattle.constriction_backends.specs.SinkLaws.{writes_more, writes_told_all}
+use Rattle.constriction_backends.specs.SinkLaws.{writes_more, writes_append_all}
 use Rattle.constriction_coders.specs.StoredWeights.{weights_as_words}
 use Rattle.constriction_coders.proofs.StoredWeightsLemmas.{stopped}
 use Rattle.constriction_coders.proofs.stored_weights.write_weights.Goals as goal
@@ -39,10 +39,10 @@ loop-weight-preserved g c =
           c.loop-weight.invariant.so_far c.in_ok-write-2.ensures.gives);
     }
 
-pub returns-clause-told : goal.returns-clause-told
-returns-clause-told g c =
+pub returns-clause-written : goal.returns-clause-written
+returns-clause-written g c =
     let all : take c.loop-weight.weight-index c.args.weights.now ≡ c.args.weights.now = take_all _ _ c.loop-weight-test.false in
-    writes_told_all g.Sink.WriteWords.write_gives g.Sink.WriteWords.tells_written g.met.Sink.WriteWords.writes_told c.args.sink.now
+    writes_append_all g.Sink.WriteWords.write_gives g.Sink.WriteWords.tells_written g.met.Sink.WriteWords.writes_append c.args.sink.now
     (weights_as_words c.args.weights.now) c.loop-weight.sink
     (subst (λ (ws : List ℕ). Writes g.Sink.WriteWords.write_gives c.args.sink.now (length c.args.weights.now ∷ ws) c.loop-weight.sink) all
     c.loop-weight.invariant.so_far)

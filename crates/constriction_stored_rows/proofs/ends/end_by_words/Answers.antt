@@ -13,26 +13,26 @@ either i n false e = inr (ltb-false i n e, e)
 pub returns : goal.returns
 returns g c =
     let whole = g.P.WholeNumber.whole in
-    let told = λ (x : g.row.P.Denot × g.row.Symbol.Denot). whole x.0 in
+    let known = λ (x : g.row.P.Denot × g.row.Symbol.Denot). whole x.0 in
     let entries = c.args.entries.now in
     let i = c.args.index in
-    let long : length (map told entries) ≡ length entries = length-map entries told in
-    let many : 2 < length (map told entries) = omega (arith, long, c.if-entries-le2.false) in
+    let long : length (map known entries) ≡ length entries = length-map entries known in
+    let many : 2 < length (map known entries) = omega (arith, long, c.if-entries-le2.false) in
     let bits = g.P.WholeNumber.BITS in
     let end = whole c.wrapping_minus.result in
     let x = c.index-end_words-next.result in
     let taken : (end + whole x) % 2 ^ bits ≡ whole c.index-entries-index.result.0 =
-    c.wrapping_minus.ensures.difference ∙ sym (ap told c.index-entries-index.is) in
+    c.wrapping_minus.ensures.difference ∙ sym (ap known c.index-entries-index.is) in
     elim (either i (length entries - 1) (nat_lt i (length entries - 1)) refl) [
       | inl less ↦
           let next : c.from-next.result ≡ 1 = rw less.1 at c.from-next.ensures in
-          end_words-next whole bits g.row.PRECISION (map told entries) c.args.end_words.now c.requires.end_words i end x many
+          end_words-next whole bits g.row.PRECISION (map known entries) c.args.end_words.now c.requires.end_words i end x many
           (omega (arith, long, less.0)) (rw next at c.index-end_words-next.is) c.wrapping_minus.ensures.range
-          (taken ∙ sym (read-whole told entries (i + 1) c.index-entries-index.result (omega (arith, less.0)) (rw next at c.index-entries-index.is)))
+          (taken ∙ sym (read-whole known entries (i + 1) c.index-entries-index.result (omega (arith, less.0)) (rw next at c.index-entries-index.is)))
       | inr last ↦
           let next : c.from-next.result ≡ 0 = rw last.1 at c.from-next.ensures in
           let same : i + c.from-next.result ≡ i = omega (arith, next) in
-          end_words-last whole bits g.row.PRECISION (map told entries) c.args.end_words.now c.requires.end_words i end x many
+          end_words-last whole bits g.row.PRECISION (map known entries) c.args.end_words.now c.requires.end_words i end x many
           (omega (arith, long, last.0, c.requires.in_bounds)) (rw next at c.index-end_words-next.is) c.wrapping_minus.ensures.range
-          (taken ∙ sym (read-whole told entries i c.index-entries-index.result c.requires.in_bounds (rw same at c.index-entries-index.is)))
+          (taken ∙ sym (read-whole known entries i c.index-entries-index.result c.requires.in_bounds (rw same at c.index-entries-index.is)))
     ]

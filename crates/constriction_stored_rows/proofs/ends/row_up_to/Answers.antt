@@ -8,25 +8,25 @@ use Rattle.constriction_stored_rows.proofs.ends.row_up_to.Goals as goal
 
 pub to_weight-requires : goal.to_weight-requires
 to_weight-requires g c =
-    let told = λ (x : g.row.P.Denot × g.row.Symbol.Denot). g.P.WholeNumber.whole x.0 in
+    let known = λ (x : g.row.P.Denot × g.row.Symbol.Denot). g.P.WholeNumber.whole x.0 in
     let entries = c.args.entries.now in
     let row = paired-row g.P.WholeNumber.whole g.P.WholeNumber.BITS g.row.PRECISION entries c.requires.stored c.args.index
     c.requires.in_bounds in
-    let weight : g.P.WholeNumber.whole c.wrapping_minus.result ≡ get_or (weights_of g.row.PRECISION (map told entries)) c.args.index 0 =
-    row-weight _ g.row.PRECISION (map told entries) c.requires.stored c.requires.fits c.args.index _ _ _
-    (omega (arith, c.requires.in_bounds, length-map entries told))
-    (read-whole told entries c.args.index c.index-entries-index.result c.requires.in_bounds c.index-entries-index.is
-    ∙ ap told c.index-entries-index.is)
+    let weight : g.P.WholeNumber.whole c.wrapping_minus.result ≡ get_or (weights_of g.row.PRECISION (map known entries)) c.args.index 0 =
+    row-weight _ g.row.PRECISION (map known entries) c.requires.stored c.requires.fits c.args.index _ _ _
+    (omega (arith, c.requires.in_bounds, length-map entries known))
+    (read-whole known entries c.args.index c.index-entries-index.result c.requires.in_bounds c.index-entries-index.is
+    ∙ ap known c.index-entries-index.is)
     c.requires.end c.wrapping_minus.ensures.range c.wrapping_minus.ensures.difference in
     omega (arith, row.positive, weight)
 
 pub returns-clause-weight : goal.returns-clause-weight
 returns-clause-weight g c =
-    let told = λ (x : g.row.P.Denot × g.row.Symbol.Denot). g.P.WholeNumber.whole x.0 in
+    let known = λ (x : g.row.P.Denot × g.row.Symbol.Denot). g.P.WholeNumber.whole x.0 in
     let entries = c.args.entries.now in
     rw c.to_weight.ensures
-    (row-weight _ g.row.PRECISION (map told entries) c.requires.stored c.requires.fits c.args.index _ _ _
-    (omega (arith, c.requires.in_bounds, length-map entries told))
-    (read-whole told entries c.args.index c.index-entries-index.result c.requires.in_bounds c.index-entries-index.is
-    ∙ ap told c.index-entries-index.is)
+    (row-weight _ g.row.PRECISION (map known entries) c.requires.stored c.requires.fits c.args.index _ _ _
+    (omega (arith, c.requires.in_bounds, length-map entries known))
+    (read-whole known entries c.args.index c.index-entries-index.result c.requires.in_bounds c.index-entries-index.is
+    ∙ ap known c.index-entries-index.is)
     c.requires.end c.wrapping_minus.ensures.range c.wrapping_minus.ensures.difference)

@@ -33,9 +33,9 @@ pub overflow_add-result : goal.overflow_add-result
 overflow_add-result g c =
     let lefts = map g.Kind.CdfEntry.cumulative c.args.entries.now in
     let width : ℕ = slot_width g.row.PRECISION g.row.SLOT_BITS in
-    let told =
+    let known =
     slot-long lefts width (g.Kind.Word.WholeNumber.whole c.args.quantile / width) c.args.first c.args.last c.requires.slot in
     let found = rw c.probe_of-rows.ensures.cumulatives at c.row_in_probe.ensures in
     let word : c.args.last < 2 ^ 64 = search (rules, c.ranges) in
-    let below : c.args.first + c.row_in_probe.result < 2 ^ 64 = omega (arith, told, found.in_bounds, c.requires.order, word) in
+    let below : c.args.first + c.row_in_probe.result < 2 ^ 64 = omega (arith, known, found.in_bounds, c.requires.order, word) in
     search rules

@@ -107,25 +107,25 @@ module _ (X : RattleType) {M : Type 1} {𝓤 : Ura M} (𝓛 : Logic 𝓤)
         alloc_all ! (λ l. pass_all ! refl ((tt, tt), tt) $
         move ! (1 ∷ []) $ fsplit ! $ fsplit3 ! $ drop ! $ move ! (3 ∷ []) $ split3 ! $ move ! (3 ∷ 4 ∷ 0 ∷ []) $
         opens ! tt Sl {h = h} rb ro (λ vs. move ! (1 ∷ []) $
-        peeks ! Sl (Is Sl) (shows 𝓛 Sl) h vs (λ told.
-        rewrite ! 0 (λ (us : List Val). ‵ (Sl.own_val h us)) told.0.0 refl $
-        rewrite ! 1 (λ (us : List Val). ‵ (cell_at full_share Sl.mir us rb ro)) told.0.0 refl $ move ! (1 ∷ []) $
+        peeks ! Sl (Is Sl) (shows 𝓛 Sl) h vs (λ known.
+        rewrite ! 0 (λ (us : List Val). ‵ (Sl.own_val h us)) known.0.0 refl $
+        rewrite ! 1 (λ (us : List Val). ‵ (cell_at full_share Sl.mir us rb ro)) known.0.0 refl $ move ! (1 ∷ []) $
         -- [the word; the slice; the open borrow; obs γ; auth γ; the tokens]
         use1 𝓛 (‵ (fat full_share written rb ro word)) (𝓛.laws.raw_at full_share written rb ro word) $
         sets ! (of_opd ! (load ! (through ! refl (fld ! refl (stop !))) (look_in ! 0 (sub ! 1 refl (whole !)))))
-        refl (tt, record { fits = told.0.1.0 }) $
+        refl (tt, record { fits = known.0.1.0 }) $
         sets ! (addr ! (through ! refl (fld ! refl (hop ! (look_in ! 0 (sub ! 0 refl (whole !))) (stop !))))) refl (tt, tt) $
-        sets ! (agg ! (and_then ! (get ! refl) (and_then ! (get ! refl) (no_more !)))) refl (tt, (tt, (record { fits = told.0.1.0 }, tt))) $
+        sets ! (agg ! (and_then ! (get ! refl) (and_then ! (get ! refl) (no_more !)))) refl (tt, (tt, (record { fits = known.0.1.0 }, tt))) $
         use1 𝓛 (‵ (fat full_share (bare written) rb ro word)) (𝓛.laws.at_raw full_share written rb ro word) $
         closes ! tt Sl h (word ∷ []) rb ro $
         use3 𝓛 (later (some (λ (δ : GName). ‵ ((MutSlice (named 0) κ (R X)).own_val (renamed h δ) (mut_slice_vals h))
         ⊛ ‵ (flft κ q)
         ⊛ ‵ (follows Sl (Array (R X) 0) γ δ (at_last h)))))
-        (lends_inner_slice 𝓛 (R X) (named 0) (named 1) κ κ' self bd.0 told.0.1 q) $ await ! tt $ pick ! (λ δ'. split3 ! $
+        (lends_inner_slice 𝓛 (R X) (named 0) (named 1) κ κ' self bd.0 known.0.1 q) $ await ! tt $ pick ! (λ δ'. split3 ! $
         use2 𝓛 (later (some (part_lent 𝓛 (named 0) κ q h.ref_ptr.0 h.ref_ptr.1 δ' (R X) xs [] xs []
         cut h.ref_ptr.1 refl (refilled xs) same)))
         (lends_part 𝓛 (named 0) κ q h.ref_ptr.0 h.ref_ptr.1 δ' (R X) xs [] xs []
-        cut h.ref_ptr.1 refl (refilled xs) same told.0.1 (mut_slice_vals h)) $ await ! tt $
+        cut h.ref_ptr.1 refl (refilled xs) same known.0.1 (mut_slice_vals h)) $ await ! tt $
         pick ! (λ δ. split3 ! $
         move ! (3 ∷ 2 ∷ []) $
         use2 𝓛 (‵ (follows Sl (Array (R X) 0) γ δ (λ w. at_last h (refilled xs w))))

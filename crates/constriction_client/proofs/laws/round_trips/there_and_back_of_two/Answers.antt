@@ -15,10 +15,10 @@ pub read_back-requires-clause-come : goal.read_back-requires-clause-come
 read_back-requires-clause-come g c =
     let wrote = c.in-Ok.ensures.ok in
     let entry = entry_of g.E.EncoderModel.symbol_eq (g.E.EntropyModel.rows c.args.encoder.now) in
-    let stored : wrote.words ≡ c.write_quantiles.new.sink.items = wrote.told [] (sym c.new-words.ensures.items) in
+    let stored : wrote.words ≡ c.write_quantiles.new.sink.items = wrote.known [] (sym c.new-words.ensures.items) in
     record {
       words = reverse wrote.words;
-      next = record { rest = []; told = append-nil (reverse wrote.words) ∙ ap reverse stored };
+      next = record { rest = []; known = append-nil (reverse wrote.words) ∙ ap reverse stored };
       many =
           length-reverse wrote.words
           ∙ as-many entry g.D.Probability.WholeNumber.whole c.args.items.now wrote.words wrote.quantiles;
@@ -34,7 +34,7 @@ pub returns-in-Ok-read_back : goal.returns-in-Ok-read_back
 returns-in-Ok-read_back g c =
     let wrote = c.in-Ok.ensures.ok in
     let entry = entry_of g.E.EncoderModel.symbol_eq (g.E.EntropyModel.rows c.args.encoder.now) in
-    let stored : wrote.words ≡ c.write_quantiles.new.sink.items = wrote.told [] (sym c.new-words.ensures.items) in
+    let stored : wrote.words ≡ c.write_quantiles.new.sink.items = wrote.known [] (sym c.new-words.ensures.items) in
     record {
       ok =
           stand-back-reversed g.D.DecoderModel.stands_for g.E.EncoderModel.symbol_eq g.met.E.EncoderModel.equality_law entry
@@ -42,7 +42,7 @@ returns-in-Ok-read_back g c =
           c.in-Ok-read_back.pairs.items wrote.words (g.met.D.DecoderModel.tile_law c.args.decoder.now) g.met.D.Probability.WholeNumber.same_law
           c.requires.alike wrote.quantiles
           (c.in-Ok-read_back.ensures.ok (reverse wrote.words)
-          (record { rest = []; told = append-nil (reverse wrote.words) ∙ ap reverse stored })
+          (record { rest = []; known = append-nil (reverse wrote.words) ∙ ap reverse stored })
           (length-reverse wrote.words
           ∙ as-many entry g.D.Probability.WholeNumber.whole c.args.items.now wrote.words wrote.quantiles)).0;
       fault = λ fault e. absurd (cc);

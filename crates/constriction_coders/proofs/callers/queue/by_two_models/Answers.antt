@@ -8,11 +8,11 @@ pub returns-in-Ok-decode_symbol-2 : goal.returns-in-Ok-decode_symbol-2
 returns-in-Ok-decode_symbol-2 g c =
     let source = c.new_at_write_beginning in
     let words = c.in-Ok-into_compressed.words.items in
-    let told : words ++ [] ≡ drop source.result.pos source.result.buf.items =
+    let known : words ++ [] ≡ drop source.result.pos source.result.buf.items =
     rw (ap (λ p. p.1) source.ensures, ap (λ p. p.0) source.ensures) (append-nil words) in
     two-back _ _ _ _ _ _ _ _ _ _ _ _ c.range_symbol_comes_back.ensures.back c.range_symbol_comes_back.ensures.leaves
     c.range_symbol_comes_back-2.ensures.back c.range_symbol_comes_back-2.ensures.before c.range_symbol_comes_back-2.ensures.leaves
     _ _ _ _ _ _ _ words
     (held_of c.in-Ok-from_compressed.opened.range c.in-Ok-from_compressed.opened.offset c.in-Ok-from_compressed.opened.words) _ _
     c.new-coder.ensures c.in-Ok.ensures.ok c.in-Ok-encode_symbol.ensures.ok c.in-Ok-into_compressed.ensures.ok
-    (c.in-Ok-from_compressed.ensures.begins (words ++ []) told) c.in-Ok-decode_symbol.ensures.ok c.in-Ok-decode_symbol-2.ensures.ok
+    (c.in-Ok-from_compressed.ensures.begins (words ++ []) known) c.in-Ok-decode_symbol.ensures.ok c.in-Ok-decode_symbol-2.ensures.ok

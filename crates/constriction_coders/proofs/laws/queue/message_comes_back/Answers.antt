@@ -2,16 +2,16 @@ use Rattle.std.proofs.Common.{◌≡◌, ◌++◌, [], Err, drop, refl, ap, arit
 use Rattle.std.proofs.lemmas.List.{append-nil}
 use Rattle.constriction.specs.TurnLemmas.{are-equal}
 use Rattle.constriction.specs.declared.CoderError.TheVariants.{Frontend}
-use Rattle.constriction_coders.specs.declared.queue.range_decoder.RangeDecodingFault.TheVariants.{InvalidData}
+use Rattle.constriction_coders.specs.declared.queue.range_decoder.DecoderFrontendError.TheVariants.{InvalidData}
 use Rattle.constriction_coders.proofs.laws.queue.message_comes_back.Goals as goal
 
 pub returns-in-Ok-message_from-clause-back : goal.returns-in-Ok-message_from-clause-back
 returns-in-Ok-message_from-clause-back g c =
     let source = c.new_at_write_beginning-source in
-    let told : c.in-Ok.words.items ++ [] ≡ drop source.result.pos source.result.buf.items =
+    let known : c.in-Ok.words.items ++ [] ≡ drop source.result.pos source.result.buf.items =
     rw (ap (λ p. p.1) source.ensures, ap (λ p. p.0) source.ensures) (append-nil c.in-Ok.words.items) in
     c.in-Ok-message_from.ensures.back c.args.symbols.now c.in-Ok.words.items [] refl c.in-Ok.ensures.ok
-    (λ k d h. absurd (omega (arith, h))) told
+    (λ k d h. absurd (omega (arith, h))) known
 
 pub returns-in-Ok-message_from-clause-equal : goal.returns-in-Ok-message_from-clause-equal
 returns-in-Ok-message_from-clause-equal g c = λ clones.
@@ -21,8 +21,8 @@ returns-in-Ok-message_from-clause-equal g c = λ clones.
 pub returns-in-Err-message_from-clause-valid : goal.returns-in-Err-message_from-clause-valid
 returns-in-Err-message_from-clause-valid g c = λ is.
     let source = c.new_at_write_beginning-source in
-    let told : c.in-Ok.words.items ++ [] ≡ drop source.result.pos source.result.buf.items =
+    let known : c.in-Ok.words.items ++ [] ≡ drop source.result.pos source.result.buf.items =
     rw (ap (λ p. p.1) source.ensures, ap (λ p. p.0) source.ensures) (append-nil c.in-Ok.words.items) in
     let same : c.in-Err-message_from.error ≡ Frontend InvalidData = cc in
     c.in-Err-message_from.ensures.valid (ap Err same) c.args.symbols.now c.in-Ok.words.items [] refl c.in-Ok.ensures.ok
-    (λ k d h. absurd (omega (arith, h))) told
+    (λ k d h. absurd (omega (arith, h))) known

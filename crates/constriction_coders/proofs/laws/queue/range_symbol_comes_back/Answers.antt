@@ -7,7 +7,7 @@ pub returns-clause-back : goal.returns-clause-back
 returns-clause-back g c = range-symbol-back g.D.DecoderModel.stands_for g.E.EncoderModel.symbol_eq
     (entry_of g.E.EncoderModel.symbol_eq (g.E.EntropyModel.rows c.args.encoder.now)) (g.D.EntropyModel.rows c.args.decoder.now)
     g.Source.ReadWords.read_gives g.Source.ReadWords.tells_upcoming 32 g.row.PRECISION
-    (g.met.D.DecoderModel.tile_law c.args.decoder.now) c.requires g.met.Source.ReadWords.reads_told
+    (g.met.D.DecoderModel.tile_law c.args.decoder.now) c.requires g.met.Source.ReadWords.reads_upcoming
 
 pub returns-clause-before : goal.returns-clause-before
 returns-clause-before g c =

@@ -14,10 +14,10 @@ returns-in-Err-next_or_zero-clause-failed g c = λ error is.
     (c.next_or_zero.new.source, c.next_or_zero-2.new.source, c.in-Err-next_or_zero.ensures.failed error (ap Err same))
 
 pub returns-in-Ok-next_or_zero-clause-begins : goal.returns-in-Ok-next_or_zero-clause-begins
-returns-in-Ok-next_or_zero-clause-begins g c = λ told tells.
+returns-in-Ok-next_or_zero-clause-begins g c = λ known tells.
     let high = c.in-Ok.ensures.ok in
     let low = c.in-Ok-next_or_zero.ensures.ok in
-    begins-whole g.Source.ReadWords.read_gives g.Source.ReadWords.tells_upcoming g.met.Source.ReadWords.reads_told c.args.words _ _
+    begins-whole g.Source.ReadWords.read_gives g.Source.ReadWords.tells_upcoming g.met.Source.ReadWords.reads_upcoming c.args.words _ _
     c.next_or_zero-2.new.source (
       high.0,
       low.0,
@@ -26,4 +26,4 @@ returns-in-Ok-next_or_zero-clause-begins g c = λ told tells.
       low.1,
       ap (λ n. interval (2 ^ 64 - 1) n)
           (omega (arith, high.2, low.2, c.in-Ok.ensures.small, c.in-Ok-next_or_zero.ensures.small)),
-    ) told tells
+    ) known tells

@@ -15,7 +15,7 @@ use constriction_test_models::symbol_types::letters;
 use constriction_test_models::widths::model_of;
 
 /// What a caller who knows the trait alone learns.
-fn told<M: IterableEntropyModel<PRECISION>, const PRECISION: usize>(model: &M) -> bool
+fn differ<M: IterableEntropyModel<PRECISION>, const PRECISION: usize>(model: &M) -> bool
 where
     M::Symbol: Eq,
     requires { M.is_equality M.Symbol.eq }
@@ -27,17 +27,17 @@ where
 #[test]
 fn models_of_the_library_know_that_their_symbols_differ(rt: HostRuntime) {
     let numbers = model_of::<u8, 6>(rt.alloc(), &WEIGHTS, false).expect(&rt, "accepted");
-    same(&rt, told(&&numbers), true);
-    same(&rt, told(&UniformModel::<u8, 6>::new(4)), true);
+    same(&rt, differ(&&numbers), true);
+    same(&rt, differ(&UniformModel::<u8, 6>::new(4)), true);
     let chars = decoder::<6>(rt.alloc(), &SYMBOLS, &WEIGHTS, false).expect(&rt, "accepted");
-    same(&rt, told(&&chars), true);
+    same(&rt, differ(&&chars), true);
     let made = to_generic_decoder_model(rt.alloc(), &chars).expect(&rt, "memory");
     same(&rt, made.support_size(), 4);
 }
 
 #[test]
 fn a_model_of_the_caller_that_says_nothing_is_compared(rt: HostRuntime) {
-    same(&rt, told(&&three('a', 'b', 'c')), false);
+    same(&rt, differ(&&three('a', 'b', 'c')), false);
     let made = to_generic_decoder_model_by_comparison(rt.alloc(), &three('p', 'q', 'p'));
     same(&rt, made.err(), Some(ModelError::InvalidTable));
     let model = letters(rt.alloc()).expect(&rt, "accepted");
