@@ -166,7 +166,7 @@ fn turned<Word, Buf: SafeBufMut<Word>>(mut cursor: Cursor<Word, Buf>) -> Cursor<
 impl<Word: Drop, Buf: SafeBufMut<Word>> WriteWords<Word> for Reverse<Cursor<Word, Buf>> {
     type WriteError = BoundedWriteError;
 
-    // A write is one on the reversed state. It puts the word at the new position, and is refused if and only if the position is 0.
+    // A write is a write on the reversed state. It puts the word at the new position, and is refused if and only if the position is 0.
     ghost write_gives = { λ s w r t. Overwrites (reversal (state_of s.0)) w r (reversal (state_of t.0))
         × PutsAt s.0 Buf.with_words (pos_of t.0) w r t.0 × (IsOk r ↔ (0 < pos_of s.0)) };
 

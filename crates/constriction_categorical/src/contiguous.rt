@@ -62,8 +62,9 @@ impl<Probability: WholeNumber, const PRECISION: usize> ContiguousCategoricalEntr
     /// The weights are accepted if and only if all, with the inferred one, are positive, add up to
     /// `2^PRECISION` and are words. So below the full width of the word the single weight `2^PRECISION` is
     /// accepted, and so is the empty list if the last weight is inferred. At the full width neither is,
-    /// since `2^PRECISION` is no word. Else `InvalidTable` comes, after the iterator was read to its end, or as
-    /// soon as no list with this beginning is accepted. `OutOfMemory` comes if memory for the cdf is refused.
+    /// since `2^PRECISION` is no word. If the weights are not accepted, `InvalidTable` comes after the iterator
+    /// was read to its end, or as soon as no list with this beginning is accepted. `OutOfMemory` comes if
+    /// memory for the cdf is refused.
     ///
     /// One pass over the weights, one word of memory a symbol, and one allocation if the iterator
     /// announces the number of weights.

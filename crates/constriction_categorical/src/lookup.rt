@@ -16,7 +16,7 @@ use std::alloc::{AllocError, Global};
 ///
 /// The quantiles are divided into `2^min(PRECISION, SLOT_BITS)` slots of equal width. The lookup table has two
 /// words a slot, the first and the last row that meet it, so a look-up searches only the rows from one to the
-/// other. Up to three rows take two comparisons. If the model has few rows and one alone meets the slot, none is made.
+/// other. Up to three rows take at most two comparisons, and in a model of few rows one row takes none.
 ///
 /// If `SLOT_BITS` is at least `PRECISION`, a slot holds one quantile. The lookup table then has one word a slot, the
 /// quantile's row, and a look-up searches nothing.

@@ -134,8 +134,8 @@ impl<
     ///
     /// They are accepted if and only if all weights, with the inferred one, are positive, add up to
     /// `2^PRECISION` and are words, there is exactly one symbol for each weight, and no two symbols are
-    /// equal. Else `InvalidTable` comes, after both iterators were read to their ends, or as soon as no lists
-    /// with this beginning are accepted. `OutOfMemory` comes if memory for the entries is refused.
+    /// equal. If they are not, `InvalidTable` comes after both iterators were read to their ends, or as soon
+    /// as no lists with this beginning are accepted. `OutOfMemory` comes if memory for the entries is refused.
     ///
     /// One pass over both, one entry a symbol, and one allocation if the symbols' iterator announces their
     /// number. No symbol is cloned. Each symbol is compared with all before it, which takes no memory and

@@ -1,4 +1,4 @@
-//! Models that store their rows, to which a lookup table can be added.
+//! Models that store their rows, and so can have a lookup table.
 
 ghost use Rattle.std.specs.Prelude.{◌≡◌, ◌<◌, length, map, slice_get, Some, IfOk};
 ghost use Rattle.constriction_model.specs.Model.{row_of, LiesWithin};

@@ -125,7 +125,7 @@ module _ {K : Type 0} (eq : K → K → Bool) (laws : IsEquivalence eq) where
         (rows_of_table numbers es) here
         (table-rows_within precision es (IsDistinct-tail eq e.0 (keys_of es) d) (λ s. tail-within precision e es s d (eq s e.0) refl (h s)))
 
-    -- a table of the entries of rows has as many as the rows have distinct symbols
+    -- a table of the entries of rows has as many entries as the rows have distinct symbols
     pub table-count : (es : List (K × X)) (rows : List (Row K)) → IsDistinct eq (keys_of es)
         → ((s : K) → option_map numbers (lookup (eq s) es) ≡ entry_of eq rows s)
         → length (rows_of_table numbers es) ≡ distinct_count eq (symbols_of rows)

@@ -113,8 +113,8 @@ impl<
     ///
     /// They are accepted if and only if all weights, with the inferred one, are positive, add up to
     /// `2^PRECISION` and are words, there is exactly one symbol for each weight, and no two symbols are
-    /// equal. Else `InvalidTable` comes, after both iterators were read to their ends, or as soon as no lists
-    /// with this beginning are accepted. `OutOfMemory` comes if memory for the hash table is refused.
+    /// equal. If they are not, `InvalidTable` comes after both iterators were read to their ends, or as soon
+    /// as no lists with this beginning are accepted. `OutOfMemory` comes if memory for the hash table is refused.
     ///
     /// One pass over both, and one hash a symbol. If the symbols' iterator announces their number, memory is
     /// requested before the first symbol and not again: the hash table has four allocations.

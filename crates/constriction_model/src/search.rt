@@ -6,7 +6,7 @@ ghost use Rattle.constriction_model.specs.Probe.{digits, IsSearchable, IsLastAtM
 
 use crate::probe::Probe;
 
-/// Halves the rows from `first` on, of which there are at least two.
+/// Halves the rows from `first` on. There are at least two.
 #[inline(always)]
 #[tactic(auto, using(crate::proofs::Digits::digits_step))]
 fn half_of_more<R: Probe>(rows: &mut R, q: R::Word, first: usize, size: usize) -> (usize, usize)
@@ -110,7 +110,7 @@ fn sixteenth<R: Probe>(rows: &mut R, q: R::Word, first: usize, size: usize) -> (
     halve_four_times(rows, q, first, size)
 }
 
-/// The greatest index whose cumulative is at most `q`, of at most two. It is the answer to one question, as a number: a choice
+/// The greatest index whose cumulative is at most `q`, in a list of at most two. It is the answer to one question, as a number: a choice
 /// between two rows is compiled to a jump, which the processor has to predict.
 #[inline(always)]
 #[tactic(auto, using(crate::proofs::Digits::digits_two))]
@@ -194,7 +194,7 @@ fn row_of_sixteen<R: Probe>(rows: &mut R, q: R::Word, first: usize) -> usize
     row_of_eight(rows, q, half)
 }
 
-/// The greatest index whose cumulative is at most `q`, of at most 32.
+/// The greatest index whose cumulative is at most `q`, in a list of at most 32.
 ///
 /// The first question leaves a power of two, so each later one asks about the row at a fixed distance from the first row left.
 /// The number of questions is chosen once, before the first one, and nothing is tested between them.

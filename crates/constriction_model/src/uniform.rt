@@ -1,4 +1,4 @@
-//! Models whose symbols all have the same weight, except the last one.
+//! Uniform models: all symbols have the same weight, and the last one also has the remainder.
 
 ghost use Rattle.std.specs.Prelude.{◌≡◌, ◌+◌, ◌-◌, ◌*◌, ◌/◌, ◌^◌, ◌<◌, ◌≤◌, length, nat_eq, ⊤};
 ghost use Rattle.std.specs.Cmp.{nat_eq_equiv};

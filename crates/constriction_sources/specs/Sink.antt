@@ -21,7 +21,7 @@ TakesItems {I} {W} next items r OfAll OfThose =
     (λ e. (ws : List W) × (w : W) × (rest : I) × YieldsThen next items ws (Some w) rest × OfThose ws w e)
 
 module _ {S W E : Type 0} (gives : S → W → Result (Unit {0}) E → S → Type 0) where
-  -- writes in order from s, each of which succeeded, lead to t
+  -- successful writes, in order, lead from s to t
   abbrev pub Writes : S → List W → S → Type 0
   Writes s [] t = s ≡ t
   Writes s (w ∷ ws) t = (j : S) × gives s w (Ok tt) j × Writes j ws t

@@ -79,8 +79,8 @@ pub fn extending_counts<Word, Sink: BoundedWriteWords<Word>, Words: Iterator<Ite
     sink.extend_from_iter(words)
 }
 
-/// After `extend_from_iter` the written words are the old ones and then those of the iterator, up to the
-/// first refused one.
+/// After `extend_from_iter` the written words are the old ones and then the iterator's words, up to the first
+/// refused one.
 pub fn extending_tells<Word, Sink: WriteWords<Word>, Words: Iterator<Item = Word>>()
     ensures { (s : Sink) (items : Words) (r : Result (Unit {0}) Sink.WriteError) (t : Sink) (old : List Word)
         → ExtendsBy Sink.write_gives Words.next_gives s items r t → Sink.tells_written s old

@@ -32,7 +32,7 @@ pub trait ReadWords<Word, S: Semantics> {
         ensures gives { read_gives self.old result self.new }
         ensures goes_on { can_read self.new };
 
-    /// Whether the source may be at its end. `false` means that the upcoming words, if it tells them, are some; `true` means nothing.
+    /// Whether the source may be at its end. `false` means that words are to come, if the source tells them; `true` means nothing.
     fn maybe_exhausted(&self) -> bool
         ensures { OnFalse result ((words : List Word) → tells_upcoming self.now words → words ≢ []) }
     {

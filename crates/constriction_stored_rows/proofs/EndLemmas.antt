@@ -1,4 +1,4 @@
--- Where rows end, as words. A row's weight is its end minus its left cumulative.
+-- The ends of rows, as words. A row's weight is its end minus its left cumulative.
 use Rattle.std.proofs.Common.{◌≡◌, ℕ, ◌+◌, ◌-◌, ◌%◌, ◌^◌, ◌<◌, ◌≤◌, List, [], ◌∷◌, length, get_or, map, ap, sym, refl, ◌∙◌, arith, inl, inr}
 use Rattle.std.proofs.Math.Nat.{mod-eq_of_lt, mod-lt, pow-le-pow_right}
 use Rattle.std.proofs.lemmas.Bool.{cases_lt}
@@ -67,7 +67,7 @@ module _ (bits precision : ℕ) (lefts : List ℕ) where
     among-end i x h is =
         sym (read-whole whole cdf (i + 1) x (omega (arith, among-long)) is) ∙ ap (λ ns. get_or ns (i + 1) 0) e ∙ end-in i h
 
--- where rows end, by the two end words
+-- the ends of rows, by the two end words
 module _ {Word : Type 0} (whole : Word → ℕ) (bits precision : ℕ) (lefts : List ℕ) (end_words : List Word)
     (b : AreEndWords bits precision lefts (map whole end_words)) where
   pub end_words-two : length end_words ≡ 2

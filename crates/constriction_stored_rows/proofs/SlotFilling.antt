@@ -151,7 +151,7 @@ pub next-word : (w : ℕ) (lefts : List ℕ) (row next x y : ℕ) → 0 < w → 
 next-word w lefts row next x y some up e b from to =
     word-order w (get_or lefts row 0) (get_or lefts next 0) x y some from to (omega (arith, later lefts row next up (omega arith) b))
 
--- the first word of the row of an entry, whose left cumulative is this number
+-- the first word of an entry's row, by the number of its left cumulative
 pub entry-word : {Entry : Type 0} (cumulative : Entry → ℕ) (w : ℕ) (entries : List Entry) (i : ℕ) (entry : Entry) (number word : ℕ)
     → i < length entries → entry ≡ get_or entries i entry → number ≡ cumulative entry
     → IsFirstWord w number word → IsFirstWord w (get_or (map cumulative entries) i 0) word

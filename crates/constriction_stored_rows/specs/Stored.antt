@@ -5,12 +5,12 @@ use Rattle.constriction_model.specs.Acceptance.{IsAccepted}
 use Rattle.constriction_model.specs.Rows.{Row, contiguous_rows, rows_of}
 use Rattle.constriction_model.specs.Tables.{rows_between}
 
--- the left cumulatives of these weights, the first of which is `left`
+-- the left cumulatives of these weights, from `left` on
 abbrev pub lefts_from : ℕ → List ℕ → List ℕ
 lefts_from left [] = []
 lefts_from left (w ∷ ws) = left ∷ lefts_from (left + w) ws
 
--- the weights of rows with these left cumulatives, the last of which ends at `total`
+-- the weights of rows that have these left cumulatives and end at `total`
 abbrev pub gaps : ℕ → List ℕ → List ℕ
 gaps total [] = []
 gaps total (l ∷ []) = (total - l) ∷ []
@@ -38,16 +38,16 @@ pub record IsCdf (bits precision : ℕ) (cdf : List ℕ) : Type 0 where
 abbrev pub total_of : (bits precision : ℕ) → ℕ
 total_of bits precision = 2 ^ precision % 2 ^ bits
 
--- where the row at an index ends, over such words: where the next one begins, or at the total
+-- the end of the row at an index, over such words: the next left cumulative, or the total
 abbrev pub end_at : (bits precision : ℕ) → List ℕ → ℕ → ℕ
 end_at bits precision lefts i = slice_index_or lefts (i + 1) (total_of bits precision)
 
--- where the first row ends, and where the last row ends
+-- the ends of the first and of the last row
 abbrev pub ends_of : (bits precision : ℕ) → List ℕ → List ℕ
 ends_of bits precision lefts = end_at bits precision lefts 0 ∷ total_of bits precision ∷ []
 
--- two numbers beside the left cumulatives, by which the end of a row is computed without a choice: with one or two rows, where the first
--- row ends and where the last row ends; with more, the last left cumulative minus the total, modulo 2 ^ bits, and 0
+-- two numbers beside the left cumulatives, by which the end of a row is computed without a choice: with one or two rows, the ends of the
+-- first and of the last row; with more, the last left cumulative minus the total, modulo 2 ^ bits, and 0
 pub record AreEndWords (bits precision : ℕ) (lefts end_words : List ℕ) : Type 0 where
   pub two : length end_words ≡ 2
   pub ends : length lefts ≤ 2 → end_words ≡ ends_of bits precision lefts

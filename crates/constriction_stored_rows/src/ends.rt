@@ -1,4 +1,4 @@
-//! Where rows end that are stored as one entry of a left cumulative and a symbol for each row.
+//! The ends of rows that are stored as one entry of a left cumulative and a symbol for each row.
 //!
 //! A row ends where the next entry begins. The last row ends at the total, which no entry has.
 
@@ -37,7 +37,7 @@ pub fn end_words_of<P: WholeNumber, Symbol, const PRECISION: usize>(
 }
 
 /// Where the row at `index` ends. With one or two rows this is an end word. With more rows it is the left cumulative of
-/// the next row minus the second end word, or that of the last row itself minus the first end word.
+/// the next row minus the second end word, or the last row's own left cumulative minus the first end word.
 #[inline(always)]
 fn end_by_words<P: WholeNumber, Symbol, const PRECISION: usize>(
     entries: &[(P, Symbol)],

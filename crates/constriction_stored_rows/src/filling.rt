@@ -85,8 +85,7 @@ pub(crate) fn is_inferred_last<P: WholeNumber>(room: P, infer_last: bool) -> boo
     false
 }
 
-/// How many rows to request memory for at once, of the announced number: no more than an accepted list can
-/// have.
+/// How many of the announced rows to request memory for at once: no more than an accepted list can have.
 #[inline]
 #[tactic(auto, using(crate::proofs::AnnouncedLemmas::few_announced))]
 pub fn rows_announced<const PRECISION: usize>(announced: usize) -> usize
@@ -227,7 +226,7 @@ fn fill<P: WholeNumber, I: Iterator<Item = P>, const PRECISION: usize>(
     finish_inferred::<P, PRECISION>(cdf, left, is_inferred_last(room, infer_last))
 }
 
-/// The cdf of these weights, the last of which may be inferred.
+/// The cdf of these weights. The last weight may be inferred.
 pub fn cdf_of<P: WholeNumber, I: IntoIterator<Item = P>, const PRECISION: usize>(
     alloc: Global,
     weights: I,

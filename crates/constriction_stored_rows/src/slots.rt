@@ -209,9 +209,9 @@ fn above<Entry, Kind: CdfEntry<Entry>>(entries: &[Entry], row: usize, quantile: 
     }
 }
 
-/// The last row that begins at a quantile or below it, if at most three rows meet its slot. Its index is that of the
-/// slot's last row, less 1 if the last row begins after the quantile, and less 1 if the middle row does. If fewer rows
-/// meet the slot, the first row takes the place of a missing one, and it never begins after the quantile.
+/// The last row that begins at a quantile or below it, if at most three rows meet its slot. Its index is the last
+/// of these, less 1 if the last row begins after the quantile, and less 1 if the middle row does. If fewer rows meet the
+/// slot, the first row takes the place of a missing one, and it never begins after the quantile.
 #[inline(always)]
 fn row_of_up_to_three<Entry, Kind: CdfEntry<Entry>, const PRECISION: usize, const SLOT_BITS: usize>(
     entries: &[Entry],
@@ -232,13 +232,14 @@ fn row_of_up_to_three<Entry, Kind: CdfEntry<Entry>, const PRECISION: usize, cons
 }
 
 /// The last row that begins at a quantile or below it, among the rows that meet its slot. If the slot holds one
-/// quantile, it is the slot's row. Else two comparisons without a jump find it among up to three rows, and a search
-/// among more.
+/// quantile, it is the slot's row. Else, in a model of many rows, two comparisons without a jump find it among up to
+/// three rows, and a search among more.
 ///
 /// In a model of few rows, most slots are met by one row alone, which is found without a comparison. The test for this is
-/// a jump, which is predicted right for at least 15 of 16 quantiles if these are spread evenly. All else of such a model
-/// is out of line, so a loop has one body for models of few rows and one for others, and chooses between them once. A
-/// model of one or two rows always counts as one of few rows, since two comparisons are more than its search makes.
+/// a jump, which is predicted right for at least 15 of 16 quantiles if these are spread evenly. All other
+/// look-ups of such a model search out of line, so a loop has one body for models of few rows and one for others, and
+/// chooses between them once. A model of one or two rows always counts as one of few rows, since two comparisons are
+/// more than its search makes.
 #[inline(always)]
 pub fn row_in_slot<Entry, Kind: CdfEntry<Entry>, const PRECISION: usize, const SLOT_BITS: usize>(
     entries: &[Entry],

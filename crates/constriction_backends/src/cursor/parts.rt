@@ -11,7 +11,7 @@ use constriction_words::{Pos, PosSeek, Seek};
 use std::marker::PhantomData;
 
 impl<Word, Buf: SafeBuf<Word>> Cursor<Word, Buf> {
-    /// A cursor at the same position that borrows the words. This one stays when that one moves.
+    /// A cursor at the same position that borrows the words. Its moves leave this cursor in place.
     #[inline]
     pub fn as_view(&self) -> Cursor<Word, &[Word]>
         ensures buf { (buf_of result).now ≡ Buf.words_of (buf_of self.now) }
@@ -99,8 +99,8 @@ impl<Word, Buf: SafeBufMut<Word>> Cursor<Word, Buf> {
         part_mut(&mut self.buf, pos, len)
     }
 
-    /// A cursor at the same position that borrows the words for writing. The buffer keeps what that one
-    /// wrote at the end of the loan. This one stays when that one moves.
+    /// A cursor at the same position that borrows the words for writing. At the end of the loan the buffer
+    /// has what was written. Moves of the borrowing cursor leave this one in place.
     ///
     /// A caller's proof then knows the position and the number of words, but not the words. A proof that
     /// needs them makes the cursor over a local that holds the loan of [`buf_mut`](Self::buf_mut), and
