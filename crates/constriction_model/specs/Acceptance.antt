@@ -53,8 +53,8 @@ MayGive ToItsEnd xs all = all ≡ xs
 MayGive {A} SoFar xs all = (ys : List A) × (all ≡ xs ++ ys)
 
 -- If there is a model, the weights were read to their end and are accepted, and `Tells` relates the model to them. The result is
--- InvalidTable only if no list is accepted that the iterator may give in all, after what was read from it. `completes` makes the judged
--- weights of the numbers that are read.
+-- InvalidTable only if the iterator, after what was read from it, can give no accepted list. `completes` makes the judged weights of the
+-- numbers that are read.
 pub record IsMadeOfWeights {Word Model : Type 0} (Accepted : List ℕ → Type 0) (completes : List ℕ → List ℕ)
     (Read : Reading → List Word → Type 0) (whole : Word → ℕ) (Tells : Model → List ℕ → Type 0) (result : Result Model ModelError)
     : Type 0 where
