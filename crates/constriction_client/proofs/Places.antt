@@ -100,7 +100,7 @@ module _ {Word Buf : Type 0} {g : Ghosts Buf Word} (Error : Type 0) where
 module _ {Symbol Word Buf : Type 0} {g : Ghosts Buf Word} (entry : Symbol → Option (ℕ × ℕ)) (whole : Word → ℕ)
     (with_words : Buf → List Word → Buf) (c : Cursor Word Buf g) (items : List (Symbol × Word)) where
   module _ (j t : Cursor Word Buf g) (placed : PlacesItems entry whole with_words c items j) where
-    -- the place where c stood is still there
+    -- the position of c is still in range
     pub in-range : ((b : Buf) (ws : List Word) → length (g.words_of (with_words b ws)) ≡ length (g.words_of b))
         → c.pos ≤ length (g.words_of j.buf)
     in-range keeps_length =

@@ -115,7 +115,7 @@ module _ {W : Type 0} where
       (ap (λ x. x ∷ os) one.0 ∙ ap (λ xs. r ∷ xs) rest.0, rest.1)
   runs-once s calls replies others t u h k = absurd (assumption)
 
-  -- a run in a state, and one in what its reversal is the reversal of
+  -- a run in a state, and a run in a state that is equal to it, have the same replies and end in equal states
   pub runs_alike : (calls : List (CursorCall W)) (s t turned left : State W) (replies others : List (CursorReply W))
       → turned ≡ reversal s → Runs s calls replies t → Runs (reversal turned) calls others (reversal left)
       → (others ≡ replies) × (left ≡ reversal t) × (t ≡ reversal left)
