@@ -65,7 +65,7 @@ narrowed_same bits precision number le below =
     let more : 2 ^ precision ≤ 2 ^ bits = pow-le-pow_right {n = 2} (omega arith) le in
     ap (λ b. cond b number 0) (lt-ltb number (2 ^ bits) (omega arith))
 
--- narrowed weights of which none is 0 are the weights
+-- if no narrowed weight is 0, the narrowed weights are the weights
 all_positive : (bits : ℕ) (weights : List ℕ) → All (λ w. 0 < w) (map (narrowed_to bits) weights)
     → map (narrowed_to bits) weights ≡ weights
 all_positive bits [] h = refl
@@ -152,7 +152,7 @@ module _ {S Word : Type 0} (steps : S → Option Word → S → Type 0) (it : S)
             some.3 (map word_of (drop n weights)) (subst Good (sym whole_list) accepted)
       ])
 
--- ---- what was made of such an iterator, of which only what it came from is known
+-- ---- what was made of an iterator, if it is only known where the iterator came from
 
 module _ {S Word : Type 0} (steps : S → Option Word → S → Type 0) (came : S → Type 0) (whole : Word → ℕ)
     (bits precision : ℕ) (infer : Bool) (weights : List ℕ) where

@@ -291,7 +291,7 @@ line_read line request spelled =
     (format_no_space (format_of request), numbers_no_space h.0 (numbers_of request) h.1) in
     ap read_words words ∙ words_read request h.0 h.1
 
--- where reading finds nothing, the line spells nothing
+-- if reading finds nothing, the line spells no request
 pub spells_none : (line : List ℕ) → read_line line ≡ None → (request : Request) → ¬ (Spells line request)
 spells_none line none request spelled = none_is_none request (sym none ∙ line_read line request spelled)
 

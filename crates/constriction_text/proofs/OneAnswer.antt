@@ -1,4 +1,4 @@
--- What `answer_of`, `answer_to` and `answers_of` give is what answers a request, a line and lines, and nothing else is.
+-- `answer_of`, `answer_to` and `answers_of` give the only answer to a request, a line and lines.
 use Rattle.std.proofs.Common.{refl, subst, ◌≡◌, ℕ, Bool, true, false, cond, List, [], ◌∷◌, ◌++◌, Option, Some, None, ap, sym, ◌∙◌, codes, inl, inr}
 use Rattle.std.specs.List.{AllZip, concat}
 use Rattle.constriction_model.specs.Acceptance.{completed}
