@@ -1,4 +1,4 @@
--- The words of a state: that there are some, how many, and what writing them gives.
+-- The words of a state: they exist, how many there are, and what writing them gives.
 use Rattle.std.proofs.Common.{◌≡◌, ℕ, ◌+◌, ◌/◌, ◌%◌, ◌^◌, ◌<◌, ◌≤◌, List, [], ◌∷◌, ◌++◌, suc, zero, Result, Ok, Err, length, refl, ap, sym, ◌∙◌, arith, inl, inr}
 use Rattle.std.proofs.lemmas.Bool.{cases_lt}
 use Rattle.std.proofs.lemmas.List.{append_assoc, length-append, same_from_push}
@@ -74,7 +74,7 @@ module _ {S E : Type 0} (gives : S → ℕ → Result (Unit {0}) E → S → Typ
     },
   )
 
--- as many words as those under the state, and those that the state has
+-- there are as many words as under the state, and in the state
 pub counted : (c : Content) (all : List ℕ) (n : ℕ) → (c.state ≡ 0 → n ≡ 0) → (0 < c.state → c.state < 2 ^ 32 → n ≡ 1)
     → (2 ^ 32 ≤ c.state → n ≡ 2) → IsCompressed c all → length c.words + n ≡ length all
 counted c all n none one two compressed = go compressed.words

@@ -120,7 +120,7 @@ two-fit a b p q zero d h = p
 two-fit a b p q (suc zero) d h = q
 two-fit a b p q (suc (suc k)) d h = absurd (omega (arith, h))
 
--- the least number of a span tells what leads to it
+-- the least number of a span leads to it
 pub lower-tells : (words : List ℕ) (lower range : ℕ) → All (λ w. w < 2 ^ 32) words → lower < 2 ^ 64 → 2 ^ 32 ≤ range
     → LeadTo (span_of words lower range) (words ++ lower / 2 ^ 32 ∷ lower % 2 ^ 32 ∷ [])
 lower-tells words lower range fit below wide =

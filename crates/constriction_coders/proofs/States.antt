@@ -12,7 +12,7 @@ one_shifted precision h = one_shl precision 64 (omega arith)
 pub mod_fits : (n precision : ℕ) → precision ≤ 32 → n % 2 ^ precision < 2 ^ 32
 mod_fits n precision h = omega (arith, mod_below n (2 ^ precision) (pow_pos precision), pow_mono {i = precision} {j = 32} h)
 
--- a quotient is at least a number exactly where the multiple is
+-- w is at most the quotient of s exactly if the multiple of w is at most s
 pub full_is : (s w k : ℕ) → w ≤ s / 2 ^ k → w * 2 ^ k ≤ s
 full_is s w k h = omega (arith, mul-le w (2 ^ k) (s / 2 ^ k) (2 ^ k) h (omega arith), div-add-mod' s (2 ^ k))
 
@@ -118,7 +118,7 @@ module _ (precision left weight state : ℕ) (fits : precision ≤ 32) (some : 0
   above : put precision left weight state / 2 ^ precision ≡ state / weight
   above = div-mul-add (state / weight) (2 ^ precision) (left + state % weight) (place precision left weight state some within)
 
-  -- where the new state is below 2 ^ 64, the old one had room
+  -- if the new state is below 2 ^ 64, the old one had room
   pub put_low : put precision left weight state < 2 ^ 64 → state < weight * 2 ^ (64 - precision)
   put_low below =
       let sum : 64 - precision + precision ≡ 64 = omega arith in
@@ -133,7 +133,7 @@ module _ (precision left weight state : ℕ) (fits : precision ≤ 32) (some : 0
         mul-le (state / weight + 1) weight (2 ^ (64 - precision)) weight (omega (arith, quotient)) (omega arith),
       )
 
-  -- where the new state is no less than 2 ^ 32, neither is the old one too small for that
+  -- if the new state is at least 2 ^ 32, the old one is not too small for that
   pub put_high : 2 ^ 32 ≤ put precision left weight state → weight * 2 ^ (64 - precision) ≤ state * 2 ^ 32
   put_high least =
       let sum : 32 - precision + precision ≡ 32 = omega arith in

@@ -12,7 +12,7 @@ pub refills-back : (state : ℕ) (words all : List ℕ) → state < 2 ^ 64 → a
     → Refills (state / 2 ^ 32) all (content state words)
 refills-back state words all h is = inr (omega arith, state % 2 ^ 32, omega arith, is, sym (div-add-mod' state (2 ^ 32)))
 
--- a state that is below 2 ^ 32 without its symbol needs a word, where there is one
+-- a state that is below 2 ^ 32 without its symbol needs a word, if there is one
 pub needs_word : {Symbol : Type 0} (precision left weight other state quantile : ℕ) (words : List ℕ) (rows : List (Row Symbol))
     (own : Symbol) → quantile ≡ state % 2 ^ precision → IsRowOf rows quantile (record { symbol = own; left = left; weight = other })
     → other ≡ weight → taken precision left weight state < 2 ^ 32 → words ≢ [] → NeedsWord rows precision (content state words)
@@ -58,7 +58,7 @@ decoded precision left weight other Stands rows own answer quantile full rest qu
       top = top;
     }
 
--- where nothing is left of a state without its symbol, there is no word under it
+-- if nothing is left of a state without its symbol, there is no word under it
 pub whole-taken : (precision left weight state next : ℕ) (words : List ℕ) → precision ≤ 32 → 0 < weight
     → next ≡ taken precision left weight state → IsWhole state words → next ≡ 0 → words ≡ []
 whole-taken precision left weight state next words fits some is whole none =

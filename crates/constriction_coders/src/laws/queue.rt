@@ -10,7 +10,7 @@ ghost use Rattle.constriction.specs.Model.{ClonesAreEqual};
 ghost use Rattle.constriction.specs.Rows.{entry_of};
 
 use crate::laws::MessageError;
-use crate::queue::{RangeDecoder, DecoderFrontendError, RangeEncoder};
+use crate::queue::{DecoderFrontendError, RangeDecoder, RangeEncoder};
 use constriction::backends::{Cursor, ReadWords};
 use constriction::stream::model::{DecoderModel, EncoderModel};
 use constriction::{CoderError, DefaultEncoderFrontendError, Queue};
@@ -56,7 +56,7 @@ pub fn sealed_words_tell()
     ensures { SealedWordsTell }
 {}
 
-/// What encodes by this model: symbols have one message, whoever encoded them.
+/// Symbols have one message, whoever encoded them.
 pub fn one_message<E, const PRECISION: usize>(encoder: &E)
 where
     E: EncoderModel<PRECISION, Probability = u32>,
@@ -70,7 +70,7 @@ pub fn published_message()
 
 /// The words of these symbols.
 ///
-/// A symbol with no entry is not encoded. Any other error is that memory was refused.
+/// A symbol with no entry is not encoded. Otherwise it fails only if memory is refused.
 pub fn message_of<E, const PRECISION: usize>(
     alloc: Global,
     encoder: &E,
@@ -93,8 +93,8 @@ where
     }
 }
 
-/// Decodes a message from a source: where it tells the words of as many symbols, and whatever words after them, these come back in
-/// order, and the words are not invalid.
+/// Decodes a message of `count` symbols from a source. If the source tells the words of that many symbols, and any words after them, the
+/// symbols come back in order, and the words are not invalid.
 pub fn message_from<D, E, Source, const PRECISION: usize>(
     alloc: Global,
     source: Source,
@@ -130,8 +130,8 @@ where
 
 /// Encodes the symbols and decodes as many: they come back in order.
 ///
-/// What comes back stands for equal symbols: where the decoder owns its symbols it is a clone, and where a clone equals its symbol it is
-/// equal to what was encoded. A symbol with no entry is not encoded. Any other fault is that memory was refused.
+/// What comes back stands for equal symbols. If the decoder owns its symbols, it is a clone; if a clone equals its symbol, it is equal to
+/// what was encoded. A symbol with no entry is not encoded. Otherwise it fails only if memory is refused.
 pub fn message_comes_back<D, E, const PRECISION: usize>(
     alloc: Global,
     decoder: &D,
