@@ -138,7 +138,7 @@ lower-tells words lower range fit below wide =
       lies = λ some. (omega (arith, first), omega (arith, first, wide));
     }
 
--- words are left where the last of them are
+-- if the last words are left, words are left
 pub some-left : (first last : List ℕ) (ended : Bool) → IsTrue ended ↔ (last ≡ [])
     → OnFalse ended ((words : List ℕ) → words ≡ first ++ last → words ≢ [])
 some-left first last true h = tt

@@ -1,4 +1,4 @@
--- Where runs of symbols stop.
+-- A run of symbols stops at the first one that fails.
 use Rattle.std.proofs.Common.{◌≡◌, ℕ, ◌%◌, ◌^◌, ◌<◌, suc, List, [], ◌∷◌, ◌++◌, Option, None, Result, Err, length, reverse, take, drop, get_or, refl, ap, sym, ◌∙◌, subst, inl}
 use Rattle.std.proofs.lemmas.List.{append_assoc, reverse-append, reverse-reverse}
 use Rattle.std.proofs.Math.Seq.{split_at}

@@ -17,9 +17,9 @@ use constriction::{CoderError, DefaultEncoderFrontendError, Queue};
 use std::alloc::{AllocError, Global};
 use std::convert::Infallible;
 
-/// What encodes and decodes by these two models, whatever models the symbols before and after it have: a symbol comes back where
-/// the decoder is at the span before it and the number of the words is in the span after it. Then the decoder is at the span
-/// after it, and the number is in the span before it.
+/// A symbol that is encoded by one model and decoded by the other comes back, whatever models the symbols before and after it have, if
+/// the decoder is at the span before it and the number of the words is in the span after it. Then the decoder is at the span after it.
+/// A number in the span after it is in the span before it.
 pub fn range_symbol_comes_back<D, E, Source, const PRECISION: usize>(decoder: &D, encoder: &E)
 where
     D: DecoderModel<PRECISION, Probability = u32>,
@@ -32,9 +32,8 @@ where
     ensures leaves { LeavesWhole (entry_of E.symbol_eq (E.rows encoder.now)) PRECISION }
 {}
 
-/// What encodes and decodes by these two models: from any source that tells the words of a message, what is decoded stands for what
-/// was encoded, in order; the decoder is at the span of as many symbols; the words are never invalid before all symbols are
-/// decoded; and then the decoder may be at the end.
+/// From any source that tells the words of a message, what is decoded stands for what was encoded, in order, and the decoder is at the
+/// span of as many symbols. The words are never invalid before all symbols are decoded. Then the decoder may be at the end.
 pub fn range_symbols_come_back<D, E, Source, const PRECISION: usize>(decoder: &D, encoder: &E)
 where
     D: DecoderModel<PRECISION, Probability = u32>,
