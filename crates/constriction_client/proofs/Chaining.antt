@@ -10,7 +10,7 @@ use Rattle.constriction_client.specs.ChainLemmas.{leaves-more, same-after}
 use Rattle.constriction_client.specs.Chains.{is_lookup_after, StepLeaves, ChainLeaves}
 
 module _ {Symbol : Type 0} (IsClone : Symbol → Symbol → Type 0) (steps : List ChainStep) where
-  -- one step more
+  -- one more step leaves what a chain of one more step leaves
   pub one-step-more : (i : ℕ) (d : ChainStep) (rows between made : List (Row Symbol)) → i < length steps
       → ChainLeaves IsClone (take i steps) rows between → StepLeaves IsClone (get_or steps i d) between made
       → ChainLeaves IsClone (take (i + 1) steps) rows made

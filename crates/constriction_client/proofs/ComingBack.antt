@@ -13,7 +13,7 @@ use Rattle.constriction_client.specs.Coming.{ComeNext, QuantilesCome}
 use Rattle.constriction_client.specs.Quantiles.{IsPairOf, ArePairs, ReadsPairs}
 use Rattle.constriction_backends.specs.SourceLaws.{reads_more}
 
--- two beginnings of one list that are as long as each other
+-- beginnings of one list that have the same length are equal
 same-front : {X : Type 0} (a b c d : List X) → a ++ b ≡ c ++ d → length a ≡ length c → a ≡ c
 same-front [] b [] d e n = refl
 same-front [] b (z ∷ c) d e n = absurd (omega arith)
@@ -24,7 +24,7 @@ same-front (y ∷ a) b (z ∷ c) d e n =
     let rest : a ≡ c = same-front a b c d others (omega arith) in
     cc
 
--- an element that stands within a beginning
+-- an element with fewer elements before it than a beginning has is in the beginning
 among-front : {X : Type 0} (a b c d : List X) (x : X) → a ++ b ≡ c ++ x ∷ d → length c < length a → Contains a x
 among-front [] b c d x e n = absurd (omega arith)
 among-front (y ∷ a) b [] d x e n = let here : y ≡ x = cc in (0, omega arith, here)

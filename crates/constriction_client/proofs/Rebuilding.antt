@@ -55,7 +55,7 @@ module _ {J S K T Symbol Word Model : Type 0} (becomes : J → S → Type 0) (st
 
 -- ---- the symbols and the weights of a table
 
--- items none of which is a refusal, and the symbols and weights of their rows
+-- no item is a refusal, and these are the symbols and the weights of the items' rows
 pub record Parted {Symbol Word Weight Refusal : Type 0} (base : Weight → Word)
     (items : List (Result (Symbol × Word × Weight) Refusal)) (symbols : List Symbol) (weights : List Word) : Type 0 where
   pub rows : List (Symbol × Word × Weight)
@@ -82,7 +82,7 @@ module _ {Symbol Word Weight Refusal : Type 0} (base : Weight → Word) where
             ∙ sym (map-append (λ (x : Symbol × Word × Weight). base x.2) p.rows (row ∷ []));
       }
 
-  -- what a walk to its end gave
+  -- a walk to its end gave rows with these symbols and weights
   pub parted-all : {Walk : Type 0} (steps : Walk → Option (Result (Symbol × Word × Weight) Refusal) → Walk → Type 0) (started walk : Walk)
       (items : List (Result (Symbol × Word × Weight) Refusal)) (symbols : List Symbol) (weights : List Word)
       → started ≡ walk → Drains steps started items → Parted base items symbols weights

@@ -66,7 +66,7 @@ scan-of-rows {S = S} precision whole eq entry rows before queries same alike =
     λ i. replies_of_two precision whole before (λ (s : S). alike s i) queries in
     ap (λ (rs : List (Row S)). replies_of_two precision whole rs entry queries) same ∙ by_entries
 
--- one answer more, to the next question
+-- answers to the first questions and to the next one answer one more question
 pub one-more-known : {A B C D : Type 0} (R : D → C → Type 0) (asked : A → C) (known : B → D) (items : List A) (i : ℕ) (item : A)
     (answers more : List B) (answer : B) → i < length items → item ≡ get_or items i item → more ≡ answers ++ answer ∷ []
     → R (known answer) (asked item)

@@ -21,7 +21,7 @@ abbrev StandOneByOne : {Symbol Word : Type 0} → (Symbol → Symbol → Type 0)
 StandOneByOne {Symbol} Stands eq items pairs =
     AllZip (λ item pair. ((own : Symbol) × IsTrue (eq own item.0) × Stands own pair.0) × (pair.1 ≡ item.1)) items pairs
 
--- one item
+-- the pair of an item's word has the item's offset, and its symbol stands for an equal one
 same-item : {Symbol Word : Type 0} (Stands : Symbol → Symbol → Type 0) (eq : Symbol → Symbol → Bool) (entry : Symbol → Option (ℕ × ℕ))
     (whole : Word → ℕ) (bits precision : ℕ) (rows : List (Row Symbol))
     (item pair : Symbol × Word) (word : Word) → RowsTile bits precision rows → ((a b : Word)
@@ -41,7 +41,7 @@ same-item {Symbol = Symbol} Stands eq entry whole bits precision rows item pair 
       one_word pair.1 item.1 (omega (arith, left, is.offset, quantile.sum)),
     )
 
--- all items, in order
+-- so it is for all items, in order
 stand-one-by-one : {Symbol Word : Type 0} (Stands : Symbol → Symbol → Type 0) (eq : Symbol → Symbol → Bool)
     (entry : Symbol → Option (ℕ × ℕ)) (whole : Word → ℕ) (bits precision : ℕ) (rows : List (Row Symbol))
     (items pairs : List (Symbol × Word)) (words : List Word)

@@ -12,7 +12,7 @@ use Rattle.constriction_client.specs.declared.cursor_calls.CursorReply.TheVarian
 abbrev pub words : {W : Type 0} → State W → List W
 words s = s.before ++ s.after
 
--- the results of a read, which cannot fail, of a write or a seek that was made, and of one that was refused
+-- the result of a read, which cannot fail; of a write or a seek that was made; and of one that was refused
 abbrev pub found : {W : Type 0} → Option W → Result (Option W) Infallible
 found word = Ok word
 

@@ -49,7 +49,7 @@ module _ {Symbol : Type 0} (Stands : Symbol → Symbol → Type 0) (eq : Symbol 
       (subst (λ (c : Content). InTurn (IsDecoded Stands rows precision) ts c under) first.1 d.2) (omega arith) in
       ((first.0, others.0), others.1)
 
--- with a word under it, the state of a whole content is no less than 2 ^ 32
+-- with a word under it, the state of a whole content is at least 2 ^ 32
 pub not-below : (c : Content) (under : List ℕ) (word : ℕ) → c.words ≡ under ++ word ∷ [] → IsWhole c.state c.words → 2 ^ 32 ≤ c.state
 not-below c under word is whole =
     elim (cases_lt c.state (2 ^ 32)) [

@@ -16,7 +16,7 @@ share_fits count shared carried total few small fits less =
     let most : count * shared ≤ 18446744073709551616 * 4294967296 =
     mul-le count shared 18446744073709551616 4294967296 (omega arith) (omega arith) in omega arith
 
--- what it adds to a weight is no more than is shared
+-- a share adds no more to a weight than is shared
 pub quotient_fits : (count shared carried total : ℕ) → count ≤ total → carried < total
     → (count * shared + carried) / total ≤ shared
 quotient_fits count shared carried total few less =
@@ -36,7 +36,7 @@ shared_out given total carried shares ones less e =
     let parts : given * total + carried ≡ (ones + shares / total) * total + shares % total = omega (arith, div-add-mod' shares total) in
     (same_from_place given carried (ones + shares / total) (shares % total) total less (mod_below shares total (omega arith)) parts).0
 
--- one weight more
+-- the sum of the weights so far, with one more weight
 pub shares_more : (ws cs : List ℕ) (i w carried left shared total : ℕ) → i < length cs
     → w * total + left ≡ cond (nat_lt 0 (get_or cs i 0)) 1 0 * total + get_or cs i 0 * shared + carried
     → sum ws * total + carried ≡ sum (take i cs) * shared + occurring (take i cs) * total
@@ -76,7 +76,7 @@ before_all ws cs i shared total long over is before k =
       | inr within ↦ rw (← is) (before k within)
     ]
 
--- all weights
+-- all weights add up to 2 ^ precision
 pub in_all : (precision : ℕ) (cs ws : List ℕ) (shared : ℕ) → length ws ≡ length cs → 0 < sum cs → shared + occurring cs ≡ 2 ^ precision
     → ((k : ℕ) → sum (take k ws) ≡ occurring (take k cs) + sum (take k cs) * shared / sum cs) → sum ws ≡ 2 ^ precision
 in_all precision cs ws shared long some parts before =

@@ -22,11 +22,11 @@ module _ (offset unit quantile left weight : ℕ) (from : unit * quantile ≤ of
   pub part_from : unit * left ≤ offset
   part_from = omega (arith, above, from)
 
-  -- and ends above it
+  -- the part of a row of the quantile ends above the point
   pub part_to : offset < unit * (left + weight)
   part_to = omega (arith, below, to)
 
-  -- so that the point lies in it
+  -- the point lies in the part
   pub part_inside : offset - unit * left < unit * weight
   part_inside = omega (arith, part_to, part_from)
 

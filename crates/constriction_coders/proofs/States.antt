@@ -20,22 +20,22 @@ pub not_full_is : (s w k : ℕ) → w * 2 ^ k ≤ s → w ≤ s / 2 ^ k
 not_full_is s w k h = le-div w s (2 ^ k) (pow_pos k) h
 
 module _ (precision left weight state : ℕ) (some : 0 < weight) (within : left + weight ≤ 2 ^ precision) where
-  -- the place among the quantiles of the symbol
+  -- the quantile that a symbol gives the state is below 2 ^ precision
   pub place : left + state % weight < 2 ^ precision
   place = omega (arith, mod_below state weight some)
 
-  -- what was put on top is there
+  -- the state with a symbol on top has this quantile
   pub put_quantile : put precision left weight state % 2 ^ precision ≡ left + state % weight
   put_quantile = mod-mul-add (state / weight) (2 ^ precision) (left + state % weight) place
 
-  -- and without it the state is as it was
+  -- a symbol that is put on top and taken leaves the state as it was
   pub taken_put : taken precision left weight (put precision left weight state) ≡ state
   taken_put =
       let above : put precision left weight state / 2 ^ precision ≡ state / weight =
       div-mul-add (state / weight) (2 ^ precision) (left + state % weight) place in
       rw (put_quantile, above) (omega (arith, div-add-mod state weight))
 
-  -- a state does not become less
+  -- a symbol on top does not make the state less
   pub put_least : state ≤ put precision left weight state
   put_least = omega (
     arith,
@@ -73,7 +73,7 @@ taken_at_most precision left weight state within =
       mul-le weight (state / 2 ^ precision) (2 ^ precision) (state / 2 ^ precision) (omega arith) (omega arith),
     )
 
--- without the symbol on top, a state that is no less than 2 ^ 32 is not 0
+-- without the symbol on top, a state of at least 2 ^ 32 is not 0
 pub taken_some : (precision left weight state : ℕ) → precision ≤ 32 → 0 < weight → 2 ^ 32 ≤ state
     → 0 < taken precision left weight state
 taken_some precision left weight state fits some least =
@@ -81,7 +81,7 @@ taken_some precision left weight state fits some least =
     let high : 1 ≤ state / 2 ^ precision = le-div 1 state (2 ^ precision) (pow_pos precision) (omega (arith, above)) in
     omega (arith, mul-le 1 1 weight (state / 2 ^ precision) some high)
 
--- a state that has no room has it once a word left it, and with the symbol on top it is no less than 2 ^ 32
+-- a state without room has room when a word has left it, and with the symbol on top it is at least 2 ^ 32
 pub room_after : (precision weight state : ℕ) → precision ≤ 32 → 0 < weight → state < 2 ^ 64
     → state / 2 ^ 32 < weight * 2 ^ (64 - precision)
 room_after precision weight state fits some below =

@@ -23,7 +23,7 @@ needs_word precision left weight other state quantile words rows own quantile_is
   some,
 )
 
--- a symbol was put on a state that has room for it
+-- a symbol that is put on a state is on top
 pub put-on-top : (precision left weight state next : ℕ) (words : List ℕ) (other : Content) → 0 < weight → left + weight ≤ 2 ^ precision
     → next ≡ put precision left weight state → Refills state words other
     → IsOnTop precision left weight (content next words) other
@@ -38,14 +38,14 @@ put-on-top precision left weight state next words other some within is refills =
       under = subst (λ n. Refills n words other) (sym under_is) refills;
     }
 
--- a symbol with this entry was encoded
+-- if the entry of a symbol is on top, the symbol was encoded
 pub encoded : {Symbol : Type 0} (precision left weight other : ℕ) (entry : Symbol → Option (ℕ × ℕ)) (symbol : Symbol) (full rest : Content)
     → entry symbol ≡ Some (left, other) → other ≡ weight → IsOnTop precision left weight full rest
     → IsEncoded entry precision symbol full rest
 encoded precision left weight other entry symbol full rest known same top =
     record { left = left; weight = weight; known = rw same at known; top = top }
 
--- and one of the row of the quantile was decoded
+-- if the row of the quantile is on top, its symbol was decoded
 pub decoded : {Symbol : Type 0} (precision left weight other : ℕ) (Stands : Symbol → Symbol → Type 0) (rows : List (Row Symbol))
     (own answer : Symbol) (quantile : ℕ) (full rest : Content) → quantile ≡ full.state % 2 ^ precision
     → IsRowOf rows quantile (record { symbol = own; left = left; weight = other }) → other ≡ weight → Stands own answer

@@ -31,7 +31,7 @@ EncodedOnce {Symbol} entry precision =
     (symbol : Symbol) (a b rest : Content) → MayBeHeld a → MayBeHeld b → IsEncoded entry precision symbol a rest
     → IsEncoded entry precision symbol b rest → a ≡ b
 
--- no two symbols of these rows are equal, and what stands for a symbol is equal to it, so that it has the entry of its row
+-- no two symbols of these rows are equal, and what stands for a symbol is equal to it; so it has the entry of its row
 pub record IsInvertible {Symbol : Type 0} (eq : Symbol → Symbol → Bool) (Stands : Symbol → Symbol → Type 0) (rows : List (Row Symbol))
     : Type 0 where
   pub distinct : IsDistinct eq (symbols_of rows)

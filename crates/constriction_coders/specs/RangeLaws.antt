@@ -35,8 +35,8 @@ module _ {Symbol : Type 0} (entry : Symbol → Option (ℕ × ℕ)) (precision :
 
 module _ {Symbol S E : Type 0} (Stands : Symbol → Symbol → Type 0) (eq : Symbol → Symbol → Bool) (entry : Symbol → Option (ℕ × ℕ))
     (rows : List (Row Symbol)) (gives : S → Result (Option ℕ) E → S → Type 0) (tells : S → List ℕ → Type 0) (precision : ℕ) where
-  -- A decoder that is at the span before a symbol, and reads words whose number is in the span after it: what it decodes stands for the
-  -- symbol, and it is at the span after it.
+  -- If a decoder is at the span before a symbol, and the number of its words is in the span after it, what it decodes stands for the
+  -- symbol, and then it is at the span after it.
   abbrev pub RangeSymbolComesBack : Type 0
   RangeSymbolComesBack =
       (symbol answer : Symbol) (old new : Span) (words : List ℕ) (now later : Held S) → All (λ w. w < 2 ^ 32) words

@@ -4,7 +4,7 @@ use Rattle.std.specs.List.{slice_split}
 use Rattle.std.proofs.lemmas.List.Splits.{length-slice_split}
 use Rattle.constriction_text.specs.Text.{lines_of, without_last_empty}
 
--- a part before others is a line
+-- a part that others follow is a line
 before_others : (line : List ℕ) (parts : List (List ℕ)) → 0 < length parts
     → without_last_empty (line ∷ parts) ≡ line ∷ without_last_empty parts
 before_others line [] some = absurd (omega arith)

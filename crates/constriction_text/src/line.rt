@@ -30,7 +30,7 @@ pub enum Command {
         format: Format,
         weights: Vec<u64>,
     },
-    /// `infer FORMAT W..`: all rows of the weights, and of one more weight, which is what they leave.
+    /// `infer FORMAT W..`: all rows of the weights and of one more weight, the remainder.
     Infer {
         format: Format,
         weights: Vec<u64>,

@@ -18,7 +18,7 @@ use thiserror::Error;
 /// Why nothing was decoded.
 #[derive(Debug, PartialEq, Eq, Drop, Error)]
 pub enum DecoderFrontendError {
-    /// The point belongs to no quantile, so that these are no words of a range encoder for such models.
+    /// The point belongs to no quantile, so these are not the words of a range encoder for such models.
     #[error("The compressed data is invalid.")]
     InvalidData,
     /// Memory for the symbol was refused.
