@@ -6,7 +6,7 @@ use constriction::backends::Cursor;
 use constriction::stream::model::{ContiguousCategoricalEntropyModel, DefaultUniformModel};
 use constriction::{CoderError, DefaultEncoderFrontendError};
 use constriction_coders::laws::{message_comes_back, message_from, message_of};
-use constriction_coders::queue::{RangeDecoder, DecoderFrontendError, RangeEncoder};
+use constriction_coders::queue::{DecoderFrontendError, RangeDecoder, RangeEncoder};
 use std::alloc::Global;
 use std::process::Abort;
 

@@ -24,6 +24,8 @@ mod distinct_symbols;
 #[cfg(test)]
 mod generic_callers;
 #[cfg(test)]
+mod known_to_differ;
+#[cfg(test)]
 mod laws;
 #[cfg(test)]
 mod lookup_any_symbols;
@@ -41,8 +43,6 @@ mod search;
 mod slot_bits;
 #[cfg(test)]
 mod symbol_types;
-#[cfg(test)]
-mod known_to_differ;
 #[cfg(test)]
 mod uncloned_symbols;
 #[cfg(test)]
