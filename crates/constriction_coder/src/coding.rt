@@ -5,7 +5,7 @@ ghost use Rattle.std.specs.Prelude.{◌<◌, ◌≤◌};
 use constriction::CoderError;
 use constriction::backends::Cursor;
 use constriction::stream::model::{ContiguousCategoricalEntropyModel, ModelError};
-use constriction_coders::queue::{RangeDecoder, DecoderFrontendError, RangeEncoder};
+use constriction_coders::queue::{DecoderFrontendError, RangeDecoder, RangeEncoder};
 use constriction_coders::stack::AnsCoder;
 use std::alloc::{AllocError, Global};
 

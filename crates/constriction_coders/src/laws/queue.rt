@@ -10,7 +10,7 @@ ghost use Rattle.constriction.specs.Model.{ClonesAreEqual};
 ghost use Rattle.constriction.specs.Rows.{entry_of};
 
 use crate::laws::MessageError;
-use crate::queue::{RangeDecoder, DecoderFrontendError, RangeEncoder};
+use crate::queue::{DecoderFrontendError, RangeDecoder, RangeEncoder};
 use constriction::backends::{Cursor, ReadWords};
 use constriction::stream::model::{DecoderModel, EncoderModel};
 use constriction::{CoderError, DefaultEncoderFrontendError, Queue};

@@ -6,7 +6,7 @@ ghost use Rattle.std.specs.Iterator.SizeHint.{IsExactHint};
 ghost use Rattle.constriction_coders.specs.Intervals.{held_of};
 ghost use Rattle.constriction_coders.specs.RangeWalks.{ReadsOn};
 
-use crate::queue::range_decoder::{RangeDecoder, DecoderFrontendError};
+use crate::queue::range_decoder::{DecoderFrontendError, RangeDecoder};
 use constriction::backends::ReadWords;
 use constriction::stream::model::DecoderModel;
 use constriction::{CoderError, Queue};
