@@ -12,7 +12,7 @@ pub enum Refusal {
     Invalid,
     /// A symbol has no weight.
     ImpossibleSymbol,
-    /// The words end in 0, as no words of a stack coder do.
+    /// The words end in 0, which those of no stack coder do.
     EndsInZero,
     /// The range decoder met no quantile.
     Damaged,
@@ -37,7 +37,7 @@ fn model_of<const PRECISION: usize>(weights: &[u64]) -> Result<Model<PRECISION>,
     let Ok(weights) = weights.iter().map(|it| u32::try_from(*it)).collect::<Result<Vec<_>, _>>() else {
         return Err(Refusal::Invalid);
     };
-    // by rule: at a PRECISION of 32 the crate accepts a single weight of 0, which is no probability
+    // by rule: at a PRECISION of 32 the crate accepts a single weight of 0, whose symbol then has a probability that is none
     if weights == [0] {
         return Err(Refusal::Invalid);
     }
@@ -73,7 +73,7 @@ pub fn queue_encode<const PRECISION: usize>(weights: &[u64], symbols: &[u64]) ->
     Ok(encoder.into_compressed().expect("a Vec takes each word"))
 }
 
-/// The first symbols of these words, by the stack coder.
+/// So many symbols of these words, by the stack coder.
 pub fn stack_decode<const PRECISION: usize>(weights: &[u64], count: usize, words: Vec<u32>) -> Result<Vec<usize>, Refusal> {
     let model = model_of::<PRECISION>(weights)?;
     let Ok(mut coder) = DefaultAnsCoder::from_compressed(words) else {
@@ -83,7 +83,7 @@ pub fn stack_decode<const PRECISION: usize>(weights: &[u64], count: usize, words
     Ok(symbols.expect("a stack of words gives each symbol"))
 }
 
-/// The first symbols of these words, by the range decoder.
+/// So many symbols of these words, by the range decoder.
 pub fn queue_decode<const PRECISION: usize>(weights: &[u64], count: usize, words: Vec<u32>) -> Result<Vec<usize>, Refusal> {
     let model = model_of::<PRECISION>(weights)?;
     let mut decoder = DefaultRangeDecoder::from_compressed(words).expect("a Vec gives each word");
