@@ -1,8 +1,8 @@
 //! The kernels over this repository's libraries.
 //!
-//! To Rattle's functions a slice is passed as a pointer and a length, and an allocator is not passed at all. What
-//! each function requires, its caller here has to ensure: quantiles lie below `2^PRECISION`, a uniform model has
-//! 2 to `2^24` symbols, and no two symbols of a table are equal.
+//! Of Rattle's functions a slice is a pointer and a length, and an allocator is nothing. What each requires is
+//! asked of its caller here: quantiles lie below `2^PRECISION`, and a uniform model has 2 to `2^24` symbols, and
+//! no two symbols of a table are equal.
 
 /// A safe function for each export, over slices.
 macro_rules! exports {

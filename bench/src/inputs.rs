@@ -1,4 +1,4 @@
-//! The inputs of the kernels: the same numbers in each run, kept as long as the program runs.
+//! What the kernels work on: the same numbers in each run, and kept as long as the program runs.
 use std::collections::{BTreeSet, HashSet};
 
 /// Random numbers by the generator SplitMix64.
@@ -21,7 +21,7 @@ impl Random {
         ((u128::from(self.number()) * u128::from(end)) >> 64) as u64
     }
 
-    /// Weights that fill `0..2^precision`, which is cut at random places.
+    /// So many weights, which fill `0..2^precision`: it is cut at random places.
     pub fn weights(&mut self, rows: usize, precision: u32) -> Vec<u64> {
         let whole = 1u64 << precision;
         let mut cuts = BTreeSet::from([0, whole]);
@@ -32,7 +32,7 @@ impl Random {
         cuts.windows(2).map(|pair| pair[1] - pair[0]).collect()
     }
 
-    /// Symbols, no two of them equal.
+    /// So many symbols, no two of which are equal.
     pub fn symbols(&mut self, count: usize) -> Vec<u32> {
         let mut seen = HashSet::new();
         let mut symbols = vec![];
@@ -49,7 +49,7 @@ impl Random {
 /// How many quantiles, symbols or words a kernel goes over.
 pub const MANY: usize = 1 << 16;
 
-/// A table over 24 bits of `u32`, and what is asked of it.
+/// A table of so many rows over 24 bits of `u32`, and what is asked of it.
 pub struct Table {
     pub rows: usize,
     pub weights: &'static [u32],

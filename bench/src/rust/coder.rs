@@ -11,7 +11,7 @@ struct StackCoder {
 }
 
 impl StackCoder {
-    /// Puts a symbol on the state. A state without room first loses a word to the stack.
+    /// Puts a symbol on the state, which loses a word first where it has no room.
     #[inline(always)]
     fn encode_symbol<M: EncoderModel<24, Symbol = usize, Probability = u32>>(&mut self, symbol: usize, model: &M) -> Result<(), ()> {
         let (left, weight) = model.left_cumulative_and_probability(symbol).ok_or(())?;
@@ -24,7 +24,7 @@ impl StackCoder {
         Ok(())
     }
 
-    /// Takes the symbol on top of the state. A state that has become small then takes a word.
+    /// Takes the symbol on top of the state, which takes a word where it has become small.
     #[inline(always)]
     fn decode_symbol<M: DecoderModel<24, Symbol = usize, Probability = u32>>(&mut self, model: &M) -> usize {
         let quantile = (self.state % (1 << 24)) as u32;
@@ -38,7 +38,7 @@ impl StackCoder {
         symbol
     }
 
-    /// The words, with the words of the state on top.
+    /// The words with those of the state on top.
     fn into_compressed(mut self) -> Vec<u32> {
         while self.state != 0 {
             self.words.push(self.state as u32);
@@ -47,7 +47,7 @@ impl StackCoder {
         self.words
     }
 
-    /// The coder with these words, unless they end in 0.
+    /// The coder of such words, unless they end in 0.
     fn from_compressed(mut words: Vec<u32>) -> Option<Self> {
         let state = match words.pop() {
             None => 0,
