@@ -87,7 +87,7 @@ head before (block ∷ blocks) bytes h =
 pub not_empty : (block words : List ℕ) → IsBlock block words → words ≡ [] → ⊥
 not_empty block words h e = let some = (block_words block words h).0 in omega (arith, some, ap length e)
 
--- where frames were left, a block's frame was the first of them
+-- if frames were left, a block's frame was the first of them
 pub next_frames : (before after : ℕ) (blocks : List (List ℕ)) (block frame rest : List ℕ) (a b : Option (List ℕ))
     → AreFramed before blocks rest → a ≡ Some rest → IsFramed before block frame after → Consumes a b frame
     → (others : List (List ℕ)) × (left : List ℕ) × AreFramed after others left × (b ≡ Some left)
