@@ -146,10 +146,10 @@ class Repository:
         return next((it for it in found if it.file == near.file or it.is_public and is_imported), None)
 
     def named(self, name):
-        """Returns the public items of this name, as `answer_queries` or `Cursor::pos`."""
+        """Returns the public items of this name, as `answer_queries`, `laws::push` or `Cursor::pos`."""
         owner, _, last = name.rpartition("::")
-        if not owner:
-            return [it for it in self.items if it.name == name and it.is_public and it.kind not in ("use", "mod")]
+        if not owner or owner.islower():
+            return [it for it in self.items if it.name == last and it.is_public and it.kind not in ("use", "mod")]
         members = [it for block in self.items if owner in (block.name, block.trait[1]) for it in block.members]
         found = [it for it in members if (it.kind, it.name) == ("fn", last)]
         above = [self.traits[it.owner.trait[0]] for it in found if not it.clauses and it.owner.trait[0] in self.traits]
