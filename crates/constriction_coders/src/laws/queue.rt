@@ -4,6 +4,7 @@ ghost use Rattle.std.specs.Prelude.{◌≡◌, ◌≢◌, ◌++◌, ◌^◌, ◌
 ghost use Rattle.std.specs.List.{AllZip};
 ghost use Rattle.constriction_coders.specs.Published.{published_entries, published_words};
 ghost use Rattle.constriction_coders.specs.RangeLaws.{DecoderFollows, EndsThere, LeavesWhole, LiesBefore, MessageOnce, NeverAboveAll, RangeSymbolComesBack, RangeSymbolsComeBack, SealedWordsTell};
+ghost use Rattle.constriction_coders.specs.RangePositions.{RangePlaceComesBack};
 ghost use Rattle.constriction_coders.specs.Spans.{IsMessageOf};
 ghost use Rattle.constriction.specs.Coding.{StandsForEqual};
 ghost use Rattle.constriction.specs.Model.{ClonesAreEqual};
@@ -32,9 +33,9 @@ where
     ensures leaves { LeavesWhole (entry_of E.symbol_eq (E.rows encoder.now)) PRECISION }
 {}
 
-/// What encodes and decodes by these two models: from any source that tells the words of a message, what is decoded stands for what
-/// was encoded, in order; the decoder is at the span of as many symbols; the words are never invalid before all symbols are
-/// decoded; and then the decoder may be at the end.
+/// What encodes and decodes by these two models: from any source that tells the words of a message, and from any span of it that the decoder
+/// is at, what is decoded stands for what was encoded, in order; the decoder is at the span of as many symbols; the words are never invalid
+/// before all symbols are decoded; and then the decoder may be at the end.
 pub fn range_symbols_come_back<D, E, Source, const PRECISION: usize>(decoder: &D, encoder: &E)
 where
     D: DecoderModel<PRECISION, Probability = u32>,
@@ -49,6 +50,15 @@ where
         Source.read_gives Source.tells_upcoming PRECISION }
     ensures ends { EndsThere D.stands_for E.symbol_eq (entry_of E.symbol_eq (E.rows encoder.now)) (D.rows decoder.now)
         Source.read_gives Source.tells_upcoming PRECISION }
+{}
+
+/// What encodes by this model: where a place was noted and symbols were encoded since, a decoder over all words of the message, and whatever
+/// words after them, goes to the place and is at the span that was noted, though a carry may have changed words since.
+pub fn range_place_comes_back<E, Source, const PRECISION: usize>(encoder: &E)
+where
+    E: EncoderModel<PRECISION, Probability = u32>,
+    Source: ReadWords<u32, Queue>,
+    ensures { RangePlaceComesBack (entry_of E.symbol_eq (E.rows encoder.now)) PRECISION Source.tells_upcoming }
 {}
 
 /// The words of an encoder are words of its message, whatever words come after them.
