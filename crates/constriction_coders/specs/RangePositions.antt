@@ -25,8 +25,8 @@ pub record IsPlaceIn (words : List ℕ) (place : ℕ × RangeCoderState) : Type 
   pub inside : distance_at place words ≤ place.1.range
 
 -- A seek of a decoder to a place, where these are all words: it holds as many numbers as were noted, with the point so far above the lower
--- end, and the words after the two are still to come. It is refused where the words do not go up to the place, the numbers are fewer than
--- 2 ^ 32, or the point lies above them, and then nothing changes.
+-- end, and the words after the two are still to come. It is refused where fewer words are there, or fewer than 2 ^ 32 numbers were noted, or
+-- the point lies above the upper end, and then nothing changes.
 abbrev pub SeeksSpan : {S : Type 0} → (S → List ℕ → Type 0) → List ℕ → Held S → ℕ × RangeCoderState → Result (Unit {0}) (Unit {0}) → Held S
     → Type 0
 SeeksSpan tells words old place r new =

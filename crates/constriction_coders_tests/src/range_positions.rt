@@ -40,14 +40,9 @@ const PLACES: [(usize, (usize, u64, u64)); 7] = [
     (300, (9, 0xFFFE_0000_0004_0000, 0x0003_FFFF_FFF8_0000)),
 ];
 
-/// The symbols.
-fn symbols(rt: &impl Abort, alloc: Global) -> Vec<usize> {
-    let mut symbols = Vec::new(alloc);
-    for step in 0..MANY {
-        let symbol = if step == 128 || step == 229 { 2 } else { 1 };
-        symbols.push(symbol).expect(rt, "memory");
-    }
-    symbols
+/// The symbol of a step.
+fn symbol_of(step: usize) -> usize {
+    if step == 128 || step == 229 { 2 } else { 1 }
 }
 
 /// The place of a row.
@@ -57,12 +52,13 @@ fn place_of(row: (usize, u64, u64)) -> (usize, RangeCoderState) {
 }
 
 /// The words of the symbols. The places are those that the encoder notes.
-fn encoded(rt: &impl Abort, alloc: Global, model: &Quarters, symbols: &[usize]) -> Vec<u32> {
+fn encoded(rt: &impl Abort, alloc: Global, model: &Quarters) -> Vec<u32> {
     let mut coder = RangeEncoder::new(alloc);
     let mut done = 0;
     for (steps, row) in &PLACES {
-        let more = coder.encode_symbols(&symbols[done..*steps], model);
-        same(rt, more, Ok(()));
+        for step in done..*steps {
+            same(rt, coder.encode_symbol(&symbol_of(step), model), Ok(()));
+        }
         done = *steps;
         let (words, state) = coder.pos();
         same(rt, (words, state.lower(), state.range()), *row);
@@ -78,14 +74,15 @@ fn quarters(rt: &impl Abort, alloc: Global) -> Quarters {
 }
 
 /// Goes to each place, back and forth, and decodes all symbols after it.
-fn seeks(rt: &impl Abort, alloc: Global, model: &Quarters, symbols: &[usize], words: &[u32]) {
+fn seeks(rt: &impl Abort, model: &Quarters, words: &[u32]) {
     let source = Cursor::<u32, &[u32]>::new_at_write_beginning(words);
     let mut coder = RangeDecoder::from_compressed(source).expect(rt, "no read fails");
     for turn in [4, 1, 6, 2, 3, 0, 5] {
         let (steps, row) = PLACES[turn];
         same(rt, coder.seek(place_of(row)), Ok(()));
-        let found = coder.decode_symbols(alloc, MANY - steps, model);
-        holds(rt, &found.expect(rt, "the symbols"), &symbols[steps..]);
+        for step in steps..MANY {
+            same(rt, coder.decode_symbol(model), Ok(symbol_of(step)));
+        }
     }
 }
 
@@ -94,15 +91,14 @@ fn seeks(rt: &impl Abort, alloc: Global, model: &Quarters, symbols: &[usize], wo
 fn what_comes_after_a_place_is_decoded_from_there(rt: HostRuntime) {
     let alloc = rt.alloc();
     let model = quarters(&rt, alloc);
-    let symbols = symbols(&rt, alloc);
-    let mut words = encoded(&rt, alloc, &model, &symbols);
+    let mut words = encoded(&rt, alloc, &model);
     holds(&rt, &words, &WORDS);
-    seeks(&rt, alloc, &model, &symbols, &words);
+    seeks(&rt, &model, &words);
     words.push(u32::MAX).expect(&rt, "memory");
-    seeks(&rt, alloc, &model, &symbols, &words);
+    seeks(&rt, &model, &words);
 }
 
-/// Places past the words; of too few numbers; and in whose span the words do not lie, but just below it, or one above its upper end.
+/// Places past the words; of too few numbers; and such that the words lie just below the lower end, or one above the upper end.
 const NO_PLACES: [(usize, u64, u64); 4] = [
     (11, 0, u64::MAX),
     (4, 0x5FFF_FFFF_4000_0000, 0xFFFF_FFFF),
