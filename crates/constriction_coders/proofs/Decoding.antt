@@ -18,7 +18,7 @@ use Rattle.constriction_coders.proofs.Once.{run-once}
 use Rattle.constriction_coders.proofs.Sealing.{ends-there}
 use Rattle.constriction_coders.proofs.Spanning.{fits-entry, lies-run, lies-unwidened, some-symbol}
 
--- a point in the part of some quantiles is in that of one of them
+-- a point in the part of some quantiles is in the part of one of them
 module _ (unit offset left weight : ℕ) (from : unit * left ≤ offset) (to : offset < unit * (left + weight)) where
   some-unit : 0 < unit
   some-unit =
@@ -65,7 +65,7 @@ module _ {S E : Type 0} (gives : S → Result (Option ℕ) E → S → Type 0) (
         known = second.1;
       }
 
-  -- the part is held where the decoder and the encoder widen it, or leave it, alike
+  -- the decoder holds the part if decoder and encoder widen it, or leave it, alike
   pub is-at-part : (part new : Span) (words : List ℕ) (i held : Interval) (from to : S)
       → i ≡ interval part.size (number_first (part.written + 2) words - part.low) → part.low ≤ number_first (part.written + 2) words
       → tells from (drop (part.written + 2) words) → IsStretched gives i from held to → IsWidened part new

@@ -25,7 +25,7 @@ pub part-within : (precision range unit left weight : ℕ) → unit * 2 ^ precis
 part-within precision range unit left weight within fits =
     omega (arith, within, mul-le unit (left + weight) unit (2 ^ precision) (omega arith) fits)
 
--- and it is not the whole of all numbers, of which there is an odd number
+-- the part is not the span of no symbol, which has an odd number of numbers
 pub part-less : (precision range unit left weight : ℕ) → 0 < precision → unit * 2 ^ precision ≤ range → range < 2 ^ 64
     → left + weight ≤ 2 ^ precision → unit * weight < 2 ^ 64 - 1
 part-less precision range unit left weight positive within bound fits =
@@ -66,7 +66,7 @@ module _ (precision left weight : ℕ) (words raised : List ℕ) (lower range un
             (long_new ∙ ap (λ n. n + 1) long),
       )
 
--- ---- what is so of a span is so of the one that a symbol leaves
+-- ---- what holds of a span holds of the one that a symbol leaves
 
 module _ (precision left weight : ℕ) (positive : 0 < precision) (few : precision ≤ 32) (some : 0 < weight)
     (fits : left + weight ≤ 2 ^ precision) (old : Span) (bound : old.size < 2 ^ 64) (reached : IsReached old) where

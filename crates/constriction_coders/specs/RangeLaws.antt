@@ -13,7 +13,7 @@ pub record IsAt {S : Type 0} (tells : S → List ℕ → Type 0) (s : Span) (wor
   pub held : now.held ≡ interval s.size (number_first (s.written + 2) words - s.low)
   pub known : tells now.source (drop (s.written + 2) words)
 
--- the words of a span tell what leads to it, whatever words come after them
+-- the words of a message lead to its last span, whatever words come after them
 abbrev pub SealedWordsTell : Type 0
 SealedWordsTell = (s : Span) (words more : List ℕ) → IsSealed s words → All (λ w. w < 2 ^ 32) more → LeadTo s (words ++ more)
 
@@ -35,8 +35,8 @@ module _ {Symbol : Type 0} (entry : Symbol → Option (ℕ × ℕ)) (precision :
 
 module _ {Symbol S E : Type 0} (Stands : Symbol → Symbol → Type 0) (eq : Symbol → Symbol → Bool) (entry : Symbol → Option (ℕ × ℕ))
     (rows : List (Row Symbol)) (gives : S → Result (Option ℕ) E → S → Type 0) (tells : S → List ℕ → Type 0) (precision : ℕ) where
-  -- A decoder that is at the span before a symbol, and reads words whose number is in the span after it: what it decodes stands for the
-  -- symbol, and it is at the span after it.
+  -- If a decoder is at the span before a symbol, and the number of its words is in the span after it, what it decodes stands for the
+  -- symbol, and then it is at the span after it.
   abbrev pub RangeSymbolComesBack : Type 0
   RangeSymbolComesBack =
       (symbol answer : Symbol) (old new : Span) (words : List ℕ) (now later : Held S) → All (λ w. w < 2 ^ 32) words
@@ -65,13 +65,13 @@ module _ {Symbol S E : Type 0} (Stands : Symbol → Symbol → Type 0) (eq : Sym
       (symbols answers : List Symbol) (words : List ℕ) (now : Held S) → IsDecodedFrom symbols answers words now
       → AllZip (StandsForEqual Stands eq) (take (length answers) symbols) answers
 
-  -- where a symbol is left, the point is in its part: the words are never invalid
+  -- if a symbol is left, the point is in its part: the words are never invalid
   abbrev pub NeverAboveAll : Type 0
   NeverAboveAll =
       (symbols answers : List Symbol) (words : List ℕ) (now : Held S) → IsDecodedFrom symbols answers words now
       → length answers < length symbols → ¬ (IsAboveAll precision now.held)
 
-  -- where none is left, and the words are those of the message with others after them, the decoder may be at the end
+  -- if no symbol is left, and the words are those of the message with others after them, the decoder may be at the end
   abbrev pub EndsThere : Type 0
   EndsThere =
       (symbols answers : List Symbol) (words more : List ℕ) (now : Held S) → IsMessageOf entry precision symbols words

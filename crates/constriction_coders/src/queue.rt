@@ -10,5 +10,5 @@ mod range_encoder;
 
 pub use self::decoding_walk::DecodeIidSymbols;
 pub use self::encoded_words::EncodedWords;
-pub use self::range_decoder::{RangeDecoder, DecoderFrontendError};
+pub use self::range_decoder::{DecoderFrontendError, RangeDecoder};
 pub use self::range_encoder::RangeEncoder;

@@ -1,4 +1,4 @@
--- Frames: their words are known from their bytes, also where others follow.
+-- Frames: their bytes fix their words, also if other bytes follow.
 use Rattle.std.proofs.Common.{◌≡◌, ℕ, ◌+◌, ◌-◌, ◌*◌, ◌/◌, ◌%◌, ◌<◌, ◌≤◌, List, [], ◌∷◌, ◌++◌, length, get_or, take, drop, refl, ap, sym, ◌∙◌, arith}
 use Rattle.std.specs.Int.{from_le_bytes, to_le_bytes, w32, w64}
 use Rattle.std.proofs.lemmas.List.{length-append, length-drop, take_all, take_at, drop_at}
@@ -6,7 +6,7 @@ use Rattle.constriction_coders.specs.Bytes.{bytes_of_words}
 use Rattle.constriction_coders.specs.BytesLemmas.{bytes_once, length-bytes_of_words, word_back}
 use Rattle.constriction_pack.specs.Frames.{counted_bytes, frame_of, hash_after, hash_after_frame}
 
--- lists that go on to be equal are equal where they are as long
+-- if two lists are equal, so are their beginnings of one length
 pub same_front : (xs ys vs ws : List ℕ) → xs ++ vs ≡ ys ++ ws → length xs ≡ length ys → (xs ≡ ys) × (vs ≡ ws)
 same_front xs ys vs ws e n = (
   sym (take_at xs vs (length xs) refl) ∙ ap (λ zs. take (length xs) zs) e ∙ take_at ys ws (length xs) (sym n),

@@ -27,7 +27,7 @@ fn write_whole<W: Write>(writer: &mut W, bytes: &[u8]) -> Result<(), PackError>
     }
 }
 
-/// Packs the next block, after frames with this hash, and answers the hash after it; or none where the last frame was written.
+/// Packs the next block, after frames with this hash, and answers the hash after it, or `None` if it wrote the last frame.
 fn pack_next<R: Read, W: Write>(
     alloc: Global,
     reader: &mut R,
@@ -81,7 +81,7 @@ pub fn pack<R: Read, W: Write>(
     Err(PackError::Read)
 }
 
-/// Unpacks the next frame, after frames with this hash, and answers the hash after it; or none where it was the last one.
+/// Unpacks the next frame, after frames with this hash, and answers the hash after it, or `None` if it was the last one.
 fn unpack_next<R: Read, W: Write>(
     alloc: Global,
     reader: &mut R,
