@@ -1,7 +1,7 @@
 //! Whole files packed by a stack coder, and unpacked again.
 //!
 //! [`pack`] and [`unpack`] go from any reader to any writer, block by block. [`pack_block`] and [`unpack_block`] turn the bytes of one
-//! block into words and back.
+//! block into words and back. [`laws`] says what comes back.
 //!
 //! A packed file is the four letters `cpk1`, a frame for each block, and a last frame with no words. All numbers are words of 32 bits, the
 //! lowest byte first.
