@@ -9,15 +9,16 @@ SEARCHING = """u8/1 u8/3 u8/6 u8/7 u8/8 u16/12 u16/16 u32/24 u32/32 u64/40 u64/6
 UNIFORM = "u8/1 u8/3 u8/6 u8/7 u8/8 u16/12 u16/16 u32/24 u32/32 u64/63 u64/64 usize/64 u128/64".split()
 LOOKUP = """u8/1 u8/3 u8/6 u8/7 u8/8 u16/12 u16/16 u32/12 u32/24 u32/32 u64/40 u64/63
     usize/6 usize/12 usize/40 usize/63 u128/40 u128/63""".split()
-SLOTTED = {"u8/6": [*range(7)], "u16/12": [*range(13)], "u32/24": [8, 12, 16], "u64/40": [12], "u64/63": [12], "usize/40": [8, 12], "u128/40": [8]}
+SLOTTED = {"u8/6": range(7), "u16/12": range(13), "u32/24": [8, 12, 16]}
+SLOTTED |= {"u64/40": [12], "u64/63": [12], "usize/40": [8, 12], "u128/40": [8]}
 BITS = {"u8": 8, "u16": 16, "u32": 32, "u64": 64, "usize": 64, "u128": 128}
 CALLS = "sr qr w w sn qn sl sx qx fu po k k".split()
 STACK_CALLS = "sr sr w w x sn sx me mf po k".split()
-# Kinds of lines about models, and what each has: i, one weight is inferred; S, symbols; q, a quantile; n or s, a number or a symbol that is
-# looked up; e, the ends that a walk takes; c, steps of a chain; a, steps and queries.
+# Kinds of lines about models, and what each has: i, one weight is inferred; S, symbols; q, a quantile; n or s, a number or a symbol that
+# is looked up; e, the ends that a walk takes; c, steps of a chain; a, steps and queries.
 MODELS = "table infer:i quantile:q symbol:n size sizei:i gendec gendist genenc:n probe:q ends:e"
-SYMBOLS = """dec:Sq deci:Siq dectable:S dectablei:Si decsize:S decsizei:Si enc:Ss enci:Sis encsize:S encsizei:Si encof:Ss encofsize:S tagenc:Ss
-    hashed:S hashedi:Si sorted:S sortedi:Si distinct:S distincti:Si dprobe:Sq dends:Se"""
+SYMBOLS = """dec:Sq deci:Siq dectable:S dectablei:Si decsize:S decsizei:Si enc:Ss enci:Sis encsize:S encsizei:Si encof:Ss encofsize:S
+    tagenc:Ss hashed:S hashedi:Si sorted:S sortedi:Si distinct:S distincti:Si dprobe:Sq dends:Se"""
 LOOKUPS = """look:q looki:iq looktable looktablei:i tolook:q intotable lprobe:q lends:e
     nlook:Sq nlooki:Siq nlooktable:S nlooktablei:Si nprobe:Sq nends:Se chain:Sc ask:Sa"""
 SLOTS = "slot:q slottable sprobe:q nslot:Sq nslottable:S"
@@ -228,11 +229,11 @@ class Maker(random.Random):
         return ["word", name, self.choice(edge), self.choice(edge)]
 
 
-def fresh(seed, rounds):
-    """Returns the lines of each file: in each round one line of each kind at each form, and several of each call."""
+def fresh(seed):
+    """Returns the lines of each file: twice a line of each kind at each form, and several of each call."""
     make = Maker(seed)
     models, symbols, lookups, backends, items = [], [], [], [], []
-    for _ in range(rounds):
+    for _ in range(2):
         for form in SEARCHING:
             models += make.of_models(MODELS, form, 40)
             symbols += make.of_models(SYMBOLS, form, 24)

@@ -1,17 +1,19 @@
 """What something rests on: the definitions, types and members of traits that it cites, and that these cite."""
 import re
 
-from sources import AT_TYPE, PATH, Definition, indent_of, plain
+from sources import WORD, indent_of, plain
 
 # The crates that a caller's line of crates.txt lists. Of the others a caller knows what these pass on.
-LISTED = ("constriction_words", "constriction_backends", "constriction", "constriction_client", "constriction_theorem", "constriction_text")
-# Types of the kit of which a member of a trait is read too. The members of probes are read of all types.
-PLAIN = ("u8", "Vec")
+LISTED = tuple("constriction_" + it for it in ("words", "backends", "client", "theorem", "text", "coders", "pack")) + ("constriction",)
+# Types of which a member of a trait is read too: of the kit, and without fields. The members of probes are read of all types.
+PLAIN = ("u8", "Vec", "Cumulative", "CumulativeAndSymbol")
 NAME_OF_TYPE = re.compile(r"\b[A-Z]\w*")
+HEAD = re.compile(rf"(?<![\w.'-]){WORD}")
+AT_TYPE = re.compile(r"⟦<(.+?) as (\w+)(?:<[^⟧]*)?>⟧\.(\w+)")
 
 
 class Reading:
-    """What is to be read, each once: definitions, types, and ghost members of traits and impls; and the kit's words among what they cite."""
+    """What is to be read, each once: definitions, types, ghost members of traits and impls, and the kit's words among what they cite."""
 
     def __init__(self, repository):
         self.all, self.kit, self.cited = repository, set(), {}
@@ -21,47 +23,40 @@ class Reading:
         if it in self.cited:
             return
         self.cited[it] = True
-        if isinstance(it, Definition):
-            text = "\n".join([*it.lines, *(line for header in it.context for line in header if not line.strip().startswith("--"))])
+        if it.kind == "definition":
+            around = [line for header in it.around for line in header if not line.strip().startswith("--")]
             # the traits whose ghost members the file takes as an argument, by the name `Ghosts` or that of their module
-            ghosts = [module.split(".")[-1] for module, name in it.names.values() if name == "Ghosts" or name is None and ".specs.declared." in module]
-            self.follow(text, it, [self.all.traits[trait] for trait in ghosts if trait in self.all.traits])
-        elif it.owner is None:
+            ghosts = [module.rpartition(".")[2] for module, name in it.names.values() if name in ("Ghosts", None)]
+            self.follow("\n".join([*it.lines, *around]), it, [self.all.traits[name] for name in ghosts if name in self.all.traits])
+        elif not it.owner:
             self.types_in(fields_of(it), it)
         else:
             self.clauses(it, it.lines)
             for block in self.all.impls if it.owner.kind == "trait" else ():
                 trait, kind = block.trait
-                if trait == it.owner.name and (trait == "Probe" or kind in PLAIN or kind in self.all.markers):
+                if trait == it.owner.name and (trait == "Probe" or kind in PLAIN):
                     self.members_of(block, [it.name])
 
     def cite(self, module, name):
         """Follows a name that is imported from a module of antt."""
-        found = re.match(r"Rattle\.(\w+)\.specs\.(.+)", module)
-        crate, rest = found.groups() if found else ("", "")
+        crate, _, rest = module.removeprefix("Rattle.").partition(".specs.")
+        last = module.rpartition(".")[2]
         if crate not in self.all.crates:
-            self.kit.add(name or module.rpartition(".")[2])
+            self.kit.add(name or last)
         elif rest.startswith("declared."):
-            last = [it for it in rest.split(".") if it != "TheVariants"][-1]
-            # one that a crate passes on stands in another
-            types = [it for it in self.all.types if it.name == last and (it.crate == crate or it.is_public)]
-            if types and name != "Ghosts":
-                self.read(min(types, key=lambda it: it.crate != crate))
-        elif not rest.startswith("contracts."):
-            key = (self.all.passed_on.get((crate, rest), crate), rest, name)
-            if key not in self.all.defined:
-                raise SystemExit(f"{name} is cited from {crate}/specs/{rest}.antt, which does not define it")
-            self.read(self.all.defined[key])
+            for it in [it for it in self.all.types if it.name == last][:1]:
+                self.read(it)
+        elif own := self.all.defined.get((self.all.passed_on.get((crate, rest), crate), rest, name)):
+            self.read(own)
 
     def follow(self, text, it, traits):
         """Follows the names in a text of an item or a definition, its operators, and the ghost members of these traits that it names."""
-        is_definition = isinstance(it, Definition)
-        for head, _ in PATH.findall(text):
-            if is_definition and (own := self.all.defined.get((it.crate, it.module, head))):
+        for head in HEAD.findall(text):
+            if own := self.all.defined.get((it.crate, it.module, head)):
                 self.read(own)
             elif head in it.names:
                 self.cite(*it.names[head])
-            elif not is_definition and head[0].isupper() and (own := self.all.type_named(head, it)):
+            elif own := self.all.type_named(head, it):
                 self.read(own)
         for name, target in it.names.items():
             if "◌" in name and all(part in text for part in name.split("◌") if part):
@@ -72,13 +67,13 @@ class Reading:
                 self.read(member)
 
     def types_in(self, lines, near):
-        for it in (self.all.type_named(name, near) for line in lines for name in NAME_OF_TYPE.findall(plain(line))):
-            if it is not None:
+        for name in NAME_OF_TYPE.findall("\n".join(map(plain, lines))):
+            if it := self.all.type_named(name, near):
                 self.read(it)
 
     def clauses(self, it, lines):
         """Follows what lines of an item cite: definitions, types, members of traits, and members at a type."""
-        text = "\n".join(plain(line) for line in lines)
+        text = "\n".join(map(plain, lines))
         for kind, trait, member in AT_TYPE.findall(text):
             self.member_at(kind, trait, member, it)
         self.follow(AT_TYPE.sub(" ", text), it, self.bounds(it))
@@ -90,10 +85,10 @@ class Reading:
 
     def member_at(self, kind, trait, member, near):
         """Follows a member of a trait at a type, to the impl that says what it is."""
-        if kind == "Self" and near.owner is not None and near.owner.kind == "impl":
-            kind = near.owner.trait[1]
+        if kind == "Self" and near.owner:
+            kind = near.owner.trait[1] or kind
         names = [re.match(r"(?:&(?:'\w+ )?)*(\w+)", kind)[1]]
-        while (it := self.all.type_named(names[-1], near)) is not None:
+        while it := self.all.type_named(names[-1], near):
             self.read(it)
             if it.kind != "type":
                 break
@@ -105,44 +100,35 @@ class Reading:
 
     def bounds(self, it):
         """Returns the repository's traits that the bounds of an item name, with those above them and of their types."""
-        more = NAME_OF_TYPE.findall("\n".join([*(it.signature if it.kind == "fn" else it.lines), it.owner.header if it.owner else ""]))
-        found = []
+        more = NAME_OF_TYPE.findall("\n".join([*it.signature, it.owner.header if it.owner else ""]))
+        found = {}
         while more:
             trait = self.all.traits.get(more.pop(0))
-            if trait is not None and trait not in found:
-                found.append(trait)
-                more += NAME_OF_TYPE.findall(trait.header.partition(":")[2])
-                more += [name for each in trait.members if each.kind == "type" for name in NAME_OF_TYPE.findall(" ".join(each.lines))]
+            if trait and trait not in found:
+                found[trait] = True
+                types = [line for each in trait.members if each.kind == "type" for line in each.lines]
+                more += NAME_OF_TYPE.findall("\n".join([trait.header.partition(":")[2], *types]))
         return found
 
     def item(self, it):
         """Follows an item: its signature, what it requires and what it ensures."""
         if it.kind in ("trait", "impl"):
-            for each in it.members:
-                if is_read(self.all, it, each):
-                    self.item(each)
+            for each in members_read(self.all, it):
+                self.item(each)
         elif it.kind == "fn":
             self.types_in(it.signature, it)
             for _, _, lines in it.clauses:
                 self.clauses(it, lines)
-            block = it.owner
-            if not it.clauses and block is not None and block.kind == "impl" and block.trait[0] in self.all.traits:
+            if not it.clauses and it.owner and (trait := self.all.traits.get(it.owner.trait[0])):
                 # what the clauses of the trait's function of this name mean here
-                above = [each for each in self.all.traits[block.trait[0]].members if (each.kind, each.name) == ("fn", it.name)]
-                cited = {word for each in above for _, _, lines in each.clauses for word in re.findall(r"\w+", " ".join(lines))}
-                self.members_of(block, [each.name for each in block.members if each.name in cited and not is_proof(self.all, block, each)])
+                above = [lines for each in trait.members if (each.kind, each.name) == ("fn", it.name) for _, _, lines in each.clauses]
+                self.members_of(it.owner, re.findall(r"\w+", "\n".join(line for lines in above for line in lines)))
         else:
             self.clauses(it, it.lines)
 
 
-def is_proof(repository, block, member):
-    """Whether a ghost member of an impl is a proof of one of its trait's laws."""
-    known = [it for trait in [repository.traits.get(block.trait[0])] if trait for it in trait.members if it.name == member.name]
-    return known[0].is_law if known else member.name.endswith("_law")
-
-
 def fields_of(it):
-    """Returns the lines of a type without its ghost fields, and without the docs of what is left out."""
+    """Returns the lines of a type without its ghost fields."""
     lines, skipping = [], False
     for line in it.lines:
         skipping = line.lstrip().startswith("ghost ") if indent_of(line) == it.depth + 4 else skipping and indent_of(line) > it.depth
@@ -152,15 +138,14 @@ def fields_of(it):
 
 def is_known(repository, it):
     """Whether a caller can name an item: its crate is one that callers list, or one of these passes it on."""
-    return it.crate in LISTED or (it.crate, it.name) in repository.passed_names
+    return bool(it) and it.is_public and (it.crate in LISTED or (it.crate, it.name) in repository.passed_names)
 
 
-def is_read(repository, block, it=None):
-    """Whether an auditor reads a member of a trait or an impl; or the block itself, where it has no such member: its laws are the promise."""
-    trait = repository.traits.get(block.trait[0]) if block.kind == "impl" else block
-    of_public = trait is not None and trait.is_public and is_known(repository, trait)
-    if it is None or trait is not None and not of_public or block.kind == "trait":
-        return of_public
-    if it.kind == "ghost":
-        return not is_proof(repository, block, it)
-    return it.kind == "type" or it.kind == "fn" and (it.is_public or block.trait[0] is not None and bool(it.clauses))
+def members_read(repository, block):
+    """Returns the members of a trait or an impl that an auditor reads; of an impl no proof of a law: the promise is the trait's."""
+    trait = repository.traits.get(block.trait[0])
+    if block.kind == "trait" or trait and not is_known(repository, trait):
+        return block.members if is_known(repository, block) else []
+    laws = {it.name for it in (trait or block).members if it.is_law}
+    kept = {"type": lambda it: True, "ghost": lambda it: it.name not in laws, "fn": lambda it: it.is_public or block.trait[0] and it.clauses}
+    return [it for it in block.members if it.kind in kept and kept[it.kind](it)]

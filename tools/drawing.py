@@ -1,13 +1,12 @@
 """Pictures as SVG files, which read well on a light page and on a dark one.
 
-A colour is a name of COLOURS, with a value for each kind of page: the browser takes the one that its
-reader prefers. Lengths are pixels, and `y` goes downwards. A picture of WIDTH with no text below SMALL can still be
-read where a page shows it 700 pixels wide: its smallest text is then 11 pixels high.
+Lengths are pixels, and `y` goes downwards. A picture of WIDTH with no text below SMALL can still be read where a page shows it 700 pixels
+wide: its smallest text is then 11 pixels high.
 """
 from xml.sax.saxutils import escape
 
 WIDTH, SMALL = 760, 12
-# name: on a light page, on a dark page
+# name: on a light page, on a dark page; the browser takes the one that its reader prefers
 COLOURS = {
     "page": ("#ffffff", "#0d1117"),
     "edge": ("#d0d7de", "#30363d"),
@@ -41,14 +40,13 @@ class Drawing:
         self.box(0.5, 0.5, width - 1, height - 1, "page", "edge", corner=8)
 
     def box(self, x, y, width, height, fill, line, corner=0):
-        self.parts.append(
-            f'<rect class="fill-{fill} line-{line}" x="{x:g}" y="{y:g}" width="{width:g}" height="{height:g}" rx="{corner:g}" stroke-width="1"/>'
-        )
+        place = f'x="{x:g}" y="{y:g}" width="{width:g}" height="{height:g}" rx="{corner:g}"'
+        self.parts.append(f'<rect class="fill-{fill} line-{line}" {place} stroke-width="1"/>')
 
     def text(self, x, y, words, colour="ink", size=13, at="start", bold=False):
         """Writes words whose base line is at `y`; `at` is start, middle or end."""
-        weight = ' font-weight="600"' if bold else ""
-        self.parts.append(f'<text class="fill-{colour}" x="{x:g}" y="{y:g}" font-size="{size:g}" text-anchor="{at}"{weight}>{escape(words)}</text>')
+        how = f'x="{x:g}" y="{y:g}" font-size="{size:g}" text-anchor="{at}"' + (' font-weight="600"' if bold else "")
+        self.parts.append(f'<text class="fill-{colour}" {how}>{escape(words)}</text>')
 
     def path(self, steps, colour="faint", thick=1.0, arrow=False, dashed=False):
         """Draws a line by the steps of an SVG path; an arrow's head stands at its end."""

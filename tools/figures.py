@@ -130,7 +130,8 @@ def look_ups_of(saved):
         pays = (made - plain) * rows / (search - found)
         return f"{found:.1f} ({(made - plain) * rows / 1000:.1f} µs, {round(pays, 2 - len(f'{pays:.0f}')):,.0f})"
 
-    found = sorted({(words, name.removesuffix(" quantile_function")) for name, words, _ in at if re.match("(?!uniform).* quantile_function$", name)})
+    models = [(words, name) for name, words, _ in at if re.match("(?!uniform).* quantile_function$", name)]
+    found = sorted({(words, name.removesuffix(" quantile_function")) for words, name in models})
     rows = ([name, words, *(cell(name, words, rows) for rows in sizes)] for words, name in found)
     return [["Model", "Words", *(f"{rows:,} rows" for rows in sizes)], *rows]
 
@@ -142,37 +143,40 @@ def wrapped(text):
 def summary(saved):
     """Returns the lines of the README: one of each part, with its worst at any number of rows."""
     makes = {it["name"] for it in saved["memory"]}
-    of = {side: part_of(saved, (side,)) for side in SIDES}
-    worst, repeats = max(of["same"], key=ratio), max(of["repeats"], key=ratio)
-    slots = max((it for it in of["slots"] if it["name"].endswith("quantile_function")), key=ratio)
-    found = sorted((it for it in of["search"] if it["name"] not in makes), key=ratio)
-    ratios = sorted(ratio(it) for it in saved["kernels"] if it["sides"] == "same" and it["name"] != LOOP and is_measured(it))
+    same, repeats, slots, search = ([*part_of(saved, (side,))] for side in SIDES)
+    worst, repeated = max(same, key=ratio), max(repeats, key=ratio)
+    slot = max((it for it in slots if it["name"].endswith("quantile_function")), key=ratio)
+    found, made = (sorted((it for it in search if (it["name"] in makes) == is_made), key=ratio) for is_made in (False, True))
+    usual = sorted(ratio(it) for it in saved["kernels"] if it["sides"] == "same" and it["name"] != LOOP and is_measured(it))
+    few = sum(round(it, 2) <= 1.1 for it in usual)
     lines = (
-        f"The same work: half of {len(ratios)} kernels take at most {ratios[len(ratios) // 2]:.2f} times as long as in the Rust crate, and the "
-        f"worst {ratio_text(worst)} times (`{worst['name']}`, {rows_of(worst)} rows).",
-        f"Other work, by a rule: a constructor that refuses repeats takes up to {ratio_text(repeats)} times as long (`{repeats['name']}`, "
-        f"{rows_of(repeats)} rows), a look-up by 256 slots up to {ratio_text(slots)} times.",
-        f"A lookup table, which the Rust crate lacks: a look-up takes {ratio_text(found[0])} to {ratio_text(found[-1])} of its search.",
+        f"The same work on both sides: half of {len(usual)} rows take at most {usual[len(usual) // 2]:.2f} times what the Rust crate takes "
+        f"in the same run, {few} at most 1.1 times, and `{worst['name']}` at {rows_of(worst)} rows {ratio_text(worst)} times, the worst.",
+        f"Other work here, by a rule: a constructor that refuses repeats takes up to {ratio_text(repeated)} times as long "
+        f"({rows_of(repeated)} rows: each symbol is compared with all before it), and a look-up by 256 slots up to {ratio_text(slot)} "
+        "times as long as by the Rust crate's slot for each quantile.",
+        f"What the Rust crate lacks: a look-up over 24 bits by a lookup table takes {ratio_text(found[0])} to {ratio_text(found[-1])} of "
+        f"its search, and such a model takes {ratio_text(made[0])} to {ratio_text(made[-1])} times as long to make as its searching one.",
     )
     return "\n".join(textwrap.indent(wrapped(line), "  ").replace("  ", "- ", 1) for line in lines)
 
 
 def sources_table(saved):
     """The sources of the Rust crate that were measured, and whether they are those that cases/ was recorded with."""
-    if "crate" not in saved:
-        return "Which these were was not saved with this run."
     said = "These are" if saved["crate"] == json.loads(read("cases/recorded.json"))["crate"] else "These are not all"
     table = markdown([["Source", "sha256, the first 16 digits"], *map(list, saved["crate"].items())], 2)
     return f"{said} those that `cases/` was recorded with.\n\n{table}"
 
 
-def write_tables(file):
-    """Writes each section of a page, between its marks, from saved figures."""
+def saved_in(file):
     with open(file, encoding="utf-8") as it:
-        saved = json.load(it)
-    about = saved["machine"]
+        return json.load(it)
+
+
+def write_tables(saved):
+    """Writes each section of a page, between its marks, from saved figures."""
     sections = {
-        "machine": wrapped(f"Measured on {about['date']} at commit {about['commit']}: {about['processor']}; {about['rust']}; {about['kit']}."),
+        "machine": wrapped("Measured on {date} at commit {commit}: {processor}; {rust}; {kit}.".format(**saved["machine"])),
         "ratios": markdown(ratios_of(saved), 1),
         "look-ups": markdown(look_ups_of(saved), 2),
         "speed": summary(saved),

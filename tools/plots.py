@@ -1,9 +1,9 @@
 """The plots of docs/pictures that tools/bench draws from its figures."""
-import json
 import math
 
 from drawing import SMALL, WIDTH, Drawing
 from figures import PARTS, is_measured, part_of, ratio, ratio_text, rows_of
+from sources import TOP
 
 # Kinds of models, and ways to the row of a quantile of 24 bits: the kernel, its colour, and whether the Rust crate's line is drawn too.
 KINDS = (
@@ -22,9 +22,7 @@ SLOTS = (
 STEP, ABOVE, BELOW = 22, 58, 44
 
 
-def draw_plots(top, file):
-    with open(file, encoding="utf-8") as it:
-        saved = json.load(it)
+def draw_plots(saved):
     wide = [it for it in saved["kernels"] if it["words"] == "u32/24" and it["rows"] >= 16]
     rows, slots = "The time of a look-up by the number of rows", "The time of a look-up over 24 bits of u32"
     for name, drawing in (
@@ -32,7 +30,7 @@ def draw_plots(top, file):
         ("speed-rows", draw_look_ups(saved["growth"], KINDS, f"{rows}, for the four kinds of models", rows)),
         ("speed-slots", draw_look_ups(wide, SLOTS, f"{slots} by the number of rows, by a search and by tables of slots", slots)),
     ):
-        with open(f"{top}/docs/pictures/{name}.svg", "w", encoding="utf-8") as to:
+        with open(f"{TOP}/docs/pictures/{name}.svg", "w", encoding="utf-8") as to:
             to.write(drawing.written())
         print(f"drew docs/pictures/{name}.svg")
 
@@ -52,18 +50,17 @@ def scale(ticks, first, last):
 
 def draw_ratios(saved):
     """The ratios in three parts, each with a scale of its own: what the sides compare is not the same in them."""
-    parts = []
-    for heading, sides in PARTS:
-        of = {}
+    parts = [(heading, {}) for heading, _ in PARTS]
+    for (_, of), (_, sides) in zip(parts, PARTS):
         for one in part_of(saved, sides):
             of.setdefault(one["name"], []).append(one)
-        if of:
-            parts.append((heading, of))
     left = 36 + 6.2 * max(len(name) for _, of in parts for name in of)
     top = 88
-    it = Drawing(WIDTH, top + sum(ABOVE + STEP * len(of) + BELOW for _, of in parts), "How many times the Rust crate's time each kernel takes, in three parts")
+    height = top + sum(ABOVE + STEP * len(of) + BELOW for _, of in parts)
+    it = Drawing(WIDTH, height, "How many times the Rust crate's time each kernel takes, in three parts")
     it.text(24, 32, "The time of each kernel, over the Rust crate's", bold=True, size=14)
-    it.text(24, 52, "A dot for each number of rows; those above 1.1 are orange. Where the greatest is above 2, it is written out.", "faint", SMALL)
+    dots = "A dot for each number of rows; those above 1.1 are orange. Where the greatest is above 2, it is written out."
+    it.text(24, 52, dots, "faint", SMALL)
     it.text(24, 70, "Each part has a scale of its own, as its ratios say nothing of those of another part.", "faint", SMALL)
     for heading, of in parts:
         draw_part(it, heading, of, left, top + ABOVE)

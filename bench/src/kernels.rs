@@ -3,7 +3,7 @@ use crate::inputs::{Inputs, SmallTable, Table, BLOCK, MANY};
 use crate::{here, rust};
 use std::hint::black_box;
 
-/// Goes over the input so many times, and answers a checksum.
+/// Goes over the input as many times as the argument says, and returns a checksum.
 pub type Run = Box<dyn FnMut(u32) -> u64>;
 
 /// What the two sides of a kernel do.
@@ -15,7 +15,7 @@ pub enum Sides {
     Repeats,
     /// Both have a lookup table: here one of fewer slots, there one with a slot for each quantile.
     Slots,
-    /// Here is a lookup table. The Rust crate has none over such words, and its model that searches stands there.
+    /// A lookup table here. The Rust crate has none over such words, so its searching model is measured.
     Search,
 }
 
@@ -50,7 +50,7 @@ impl Kernel {
         Kernel { sides, ..self }
     }
 
-    /// Whether both sides see the same.
+    /// Whether both sides compute the same checksum.
     pub fn agrees(&mut self) -> bool {
         [0, 1, 2].into_iter().all(|repeats| (self.rust)(repeats) == (self.here)(repeats))
     }
@@ -246,7 +246,7 @@ pub fn growing() -> Vec<Kernel> {
         kernels.push(decoder_build_distinct(&table));
         kernels.push(decoder_build_hashable(&table));
         kernels.push(decoder_build_sorted(&table));
-        // it compares each symbol with all before it
+        // this one compares each symbol with all before it
         if bits <= 14 {
             kernels.push(decoder_build(&table));
         }

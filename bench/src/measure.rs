@@ -1,8 +1,8 @@
 //! How long a kernel takes on each side.
 //!
-//! A sample is a call that goes over the input some times, and one that goes over it not at all, on one side and
-//! then on the other. Of each the least time counts: what disturbs a sample only makes it longer. What is left of
-//! the first call without the second, divided by the items, is the time of an item: making the model is in both.
+//! A sample is two calls, on one side and then on the other: one goes over the input several times, the other not
+//! at all. Of each call the least time counts, because what disturbs a sample only makes it longer. Both calls make
+//! the model, so the difference of their times, divided by the number of items, is the time of an item.
 use crate::kernels::{Kernel, Run};
 use std::hint::black_box;
 use std::time::{Duration, Instant};
@@ -40,8 +40,8 @@ fn timed(run: &mut Run, repeats: u32) -> f64 {
     start.elapsed().as_nanos() as f64
 }
 
-/// How often a kernel goes over its input, so that it takes as long as a sample has to, and no less than half as long
-/// as making the model takes: what is left without it would else be lost in how that time varies.
+/// How often a kernel goes over its input, so that it takes as long as a sample has to, and at least half as long as
+/// making the model. Otherwise the difference would be lost in how much the time of making the model varies.
 fn repeats_of(run: &mut Run, effort: &Effort) -> u32 {
     let none = timed(run, 0).min(timed(run, 0));
     let least = (effort.sample.as_nanos() as f64).max(none / 2.0);

@@ -62,7 +62,7 @@ fn items<W: Word>(mut fields: Fields) -> Result<Said, String> {
     said(replies.join(" "))
 }
 
-/// The crate's constructor takes items that are `Result`s, though its source reads words of any type: so its words are these.
+/// The crate's constructor takes only items that are `Result`s, so the words here are `Result`s. Its source could read any words.
 fn words<W: Word>(mut fields: Fields) -> Result<Said, String> {
     let count = fields.index()?;
     let given: Vec<Result<W, Infallible>> = fields.words::<W>()?.into_iter().map(Ok).collect();

@@ -16,7 +16,7 @@ pub fn moved(answer: Result<(), ()>) -> String {
     if answer.is_ok() { "mv".into() } else { "no".into() }
 }
 
-/// One call of a backend. Where a length is given, positions count from its other end; where free places are, they are answered.
+/// One call of a backend. If a length is given, positions count from the other end. If free places are given, they are the answer.
 fn reply<W: Word, B>(backend: &mut B, call: &str, len: Option<usize>, free: Option<usize>) -> Result<String, String>
 where
     B: BoundedReadWords<W, Stack, ReadError = Infallible>
@@ -42,7 +42,7 @@ where
                 Err(BoundedWriteError::OutOfSpace) => "oos".into(),
             },
             (Some(("k", to)), None) => moved(backend.seek(index(to)?)),
-            // a position past the words is none of the inner cursor's either
+            // the inner cursor has no position past the words either
             (Some(("k", to)), Some(len)) => moved(backend.seek(len.wrapping_sub(index(to)?))),
             _ => return Err(format!("{call} is no call")),
         },

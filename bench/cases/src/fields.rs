@@ -3,14 +3,14 @@ use constriction::BitArray;
 use std::fmt::{Debug, Display};
 use std::hash::Hash;
 
-/// An answer: its lines, and the rule that it is by, or "" where the crate gave it to this very call.
+/// An answer: its lines, and the rule that it is by, or "" if the crate gave it to this very call.
 pub struct Said {
     pub text: String,
     pub rule: &'static str,
 }
 
 impl Said {
-    /// The same answer by a rule of its kind or its form, if there is one. That a quantile is out of range stands whatever the kind is.
+    /// The same answer by a rule of its kind or its form, if there is one. If a quantile is out of range, that rule stays for any kind.
     pub fn ruled(self, rule: &'static str) -> Self {
         if rule.is_empty() || self.text == "range" { self } else { Self { rule, ..self } }
     }

@@ -1,4 +1,4 @@
-//! Symbols as words, and words as symbols, which the crate has inside its coders alone: its models answer.
+//! Symbols as words, and words as symbols. The crate does this only inside its coders, so its models are asked instead.
 use crate::fields::{below, commas, said, Fields, Said, Word};
 use crate::models::searching;
 use constriction::stream::model::{DecoderModel, EncoderModel};

@@ -1,10 +1,10 @@
 //! Answers lines of cases, from standard input, by the Rust crate constriction 0.5.0; `cases/README.md` says which
 //! lines there are.
 //!
-//! An answer is what the crate says to the very call of the line. Where it has no such call, or where this repository's
-//! library differs from it there by rule, a line `! RULE` stands before the answer. After each answer stands a line `;`.
-//! A line of no kind ends the program with status 1, and so does an answer of the crate that differs from the rules where
-//! no rule says so.
+//! An answer is what the crate says to the very call of the line. If it has no such call, or if this repository's
+//! library differs from it by a rule, a line `! RULE` stands before the answer. A line `;` stands after each answer.
+//! A line of no kind ends the program with status 1, and so does an answer of the crate that differs from what is expected
+//! by no rule.
 mod adapters;
 mod cursors;
 mod fields;

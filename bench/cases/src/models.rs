@@ -11,10 +11,10 @@ pub type Row = (u64, u128, u128);
 
 type Contiguous<P, const N: usize> = ContiguousCategoricalEntropyModel<P, Vec<P>, N>;
 
-/// A model, or nothing where it is refused, and the rule by which that is not the crate's own answer, or "".
+/// A model, or `None` if it is refused, and the rule by which this is not the crate's own answer, or "".
 pub type Made<M> = Result<(Option<M>, &'static str), String>;
 
-/// All weights, the last one too, where they tile `0..2^precision`.
+/// All weights, the last one too, if they tile `0..2^precision`.
 fn tiling<P: Word>(weights: &[P], infer: bool, precision: usize) -> Option<Vec<P>> {
     // what is left of the total, less one, or nothing
     let mut left = Some(u128::MAX >> (128 - precision));
@@ -28,7 +28,7 @@ fn tiling<P: Word>(weights: &[P], infer: bool, precision: usize) -> Option<Vec<P
     }
 }
 
-/// Asks a constructor of the crate, and says where a rule answers otherwise. Fails where it answers otherwise by no rule.
+/// Asks a constructor of the crate. Returns the rule if one answers otherwise, and fails if the answer differs by no rule.
 pub fn judged<P: Word, S: Hash + Eq, M, F>(symbols: &[S], weights: &[P], infer: bool, precision: usize, make: F) -> Made<M>
 where
     F: Fn(&[P], bool) -> Result<M, ()>,
@@ -92,7 +92,7 @@ where
     said(line(row(model.quantile_function(word(asked)?))))
 }
 
-/// So many rows, from the front (`f`) or the back (`b`), and how many are left before each.
+/// Rows from the front (`f`) or the back (`b`), and how many are left before each.
 fn walked(count: usize, row: impl Fn(usize) -> Row, letters: &str) -> Result<String, String> {
     let mut left = 0..count;
     let mut out = String::new();
@@ -108,8 +108,8 @@ fn walked(count: usize, row: impl Fn(usize) -> Row, letters: &str) -> Result<Str
     Ok(out + &format!("#{}", left.len()))
 }
 
-/// The first of the rows that share a quantile with the slot of the asked one, and how many do, where `2^bits` slots of equal width divide
-/// all quantiles.
+/// The first of the rows that share a quantile with the slot of the asked quantile, and how many rows do. `2^bits` slots of equal
+/// width divide all quantiles.
 fn in_question(rows: &[Row], asked: u128, precision: usize, bits: usize) -> String {
     let within = u128::MAX.checked_shr((128 - precision + bits.min(precision)) as u32).unwrap_or(0);
     let meets = |it: &&Row| it.1 <= asked | within && asked & !within <= it.1 + (it.2 - 1);

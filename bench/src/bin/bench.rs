@@ -3,14 +3,14 @@
 //!
 //! usage: bench [--growth] [--quick] [--list] [WORD..]
 //!
-//! A word picks the kernels that have it in their names. Exit status: 1 where the checksums of a kernel differ.
+//! A word picks the kernels that have it in their names. Exit status: 1 if the checksums of a kernel differ.
 use constriction_bench::kernels::{growing, usual, Kernel};
 use constriction_bench::measure::{Effort, Samples};
 use std::io::{stderr, IsTerminal, Write};
 use std::process::ExitCode;
 use std::time::{Duration, Instant};
 
-/// Says how far a run is: on a terminal at each kernel, else every ten seconds.
+/// Prints how far a run is: on a terminal at each kernel, otherwise every ten seconds.
 struct Progress {
     said: Instant,
 }

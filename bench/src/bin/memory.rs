@@ -52,7 +52,7 @@ fn counted() -> [u64; 3] {
     [&ALLOCATIONS, &GROWTHS, &BYTES].map(|it| it.load(Relaxed))
 }
 
-/// What one pass of a kernel asks for, beside what it asks for before.
+/// What one pass of a kernel requests, without what the kernel requests before it.
 fn pass(run: &mut Run) -> [u64; 3] {
     let start = counted();
     run(0);

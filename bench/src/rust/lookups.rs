@@ -1,4 +1,4 @@
-//! Lookup models. The Rust crate's have a slot for each quantile; what here has 256 slots stands beside the same ones.
+//! Lookup models. The Rust crate's have a slot for each quantile, and are compared with models of 256 slots here too.
 use super::{mix, row};
 use constriction::stream::model::{DecoderModel, SmallContiguousLookupDecoderModel, SmallNonContiguousLookupDecoderModel};
 

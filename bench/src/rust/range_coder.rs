@@ -4,7 +4,7 @@ use constriction::stream::model::{DecoderModel, DefaultContiguousCategoricalEntr
 
 type Contiguous = DefaultContiguousCategoricalEntropyModel;
 
-/// So many numbers from the least one on, which is the words with `lower` after them.
+/// A span of numbers. The least one is the words with `lower` after them.
 struct RangeEncoder {
     words: Vec<u32>,
     lower: u64,
@@ -27,7 +27,7 @@ impl RangeEncoder {
         self.lower = sum;
     }
 
-    /// Leaves the part of a symbol, which has a word more where it is small.
+    /// Narrows the span to the part of a symbol. A small part gets a word more.
     #[inline(always)]
     fn encode_symbol<M: EncoderModel<24, Symbol = usize, Probability = u32>>(&mut self, symbol: usize, model: &M) -> Result<(), ()> {
         let (left, weight) = model.left_cumulative_and_probability(symbol).ok_or(())?;
@@ -42,7 +42,7 @@ impl RangeEncoder {
         Ok(())
     }
 
-    /// The words with those of a number, such that all that begin with them are of the message.
+    /// The words and then the words of a number, such that all numbers that begin with them are in the span.
     fn into_compressed(mut self) -> Vec<u32> {
         if self.range == u64::MAX {
             return self.words;

@@ -1,4 +1,4 @@
--- What is read of an iterator that gives a list is the list, or a beginning of it.
+-- What is read from an iterator that gives a list is the list, or a beginning of it.
 use Rattle.std.proofs.Common.{◌≡◌, ℕ, suc, ◌<◌, ◌≤◌, true, false, List, [], ◌∷◌, ◌++◌, length, get_or, map, Option, Some, Result, Ok, Err, refl, ap, sym, subst, ◌∙◌, arith}
 use Rattle.std.specs.Prelude.{IfOk, slice_get}
 use Rattle.std.specs.Iterator.{DrainsIf}
@@ -12,7 +12,7 @@ use Rattle.constriction_model.specs.declared.error.ModelError.TheVariants.{Inval
 some-inj : {A : Type 0} (x y : A) → Some x ≡ Some y → x ≡ y
 some-inj x y e = cc
 
--- a list whose items stand first in another one is a beginning of it
+-- a list is a beginning of another one if its items come first there
 beginning : {A : Type 0} (xs list : List A) → length xs ≤ length list
     → ((k : ℕ) (d : A) → k < length xs → option_map (λ y. y) (slice_get xs k) ≡ Some (get_or list k d))
     → (ys : List A) × (list ≡ xs ++ ys)
@@ -28,7 +28,7 @@ false-is-true e = cc
 
 module _ {J S A : Type 0} (becomes : J → S → Type 0) (steps : S → Option A → S → Type 0) (from : J) (list : List A)
     (gives : GivesList becomes steps from list) where
-  -- what is read of a value that gives a list may be followed by the rest of the list, and to its end it is the list
+  -- what is read from a value that gives a list is a beginning of the list, and what is read to the end is the list
   list-read : (reading : Reading) (xs : List A) → WasReadOf becomes steps from reading xs → MayGive reading xs list
   list-read ToItsEnd xs read =
       let p = run steps read.iterator xs true (to_end steps read.iterator xs read.was_read) in
@@ -39,12 +39,12 @@ module _ {J S A : Type 0} (becomes : J → S → Type 0) (steps : S → Option A
       let given = gives read.iterator read.became p (seen (length xs)) refl in
       beginning xs list given.0 given.2
 
--- ---- what a constructor answered, as its contract says it, where its arguments give these lists
+-- ---- what a constructor answers, by its contract, if its arguments give these lists
 
 module _ {J S Word Model : Type 0} (becomes : J → S → Type 0) (steps : S → Option Word → S → Type 0) (from : J) (list : List Word)
     (gives : GivesList becomes steps from list)
     (completes : List ℕ → List ℕ) (whole : Word → ℕ) (Accepted : List ℕ → Type 0) (Tells : Model → List ℕ → Type 0) where
-  -- a model is that of the list, which is accepted
+  -- a model is the model of the list, which is accepted
   pub made-of-weights : (r : Result Model ModelError)
       → IsMadeOfWeights Accepted completes (WasReadOf becomes steps from) whole Tells r
       → IfOk r (λ m. Accepted (completes (map whole list)) × Tells m (completes (map whole list)))
@@ -54,7 +54,7 @@ module _ {J S Word Model : Type 0} (becomes : J → S → Type 0) (steps : S →
       (sym (list-read becomes steps from list gives ToItsEnd given.0 given.1)) (given.2, given.3)
   made-of-weights (Err e) made = tt
 
-  -- where it is invalid, the list is not accepted
+  -- if the result is InvalidTable, the list is not accepted
   pub refused-weights : (r : Result Model ModelError)
       → IsMadeOfWeights Accepted completes (WasReadOf becomes steps from) whole Tells r
       → r ≡ Err InvalidTable → ¬ (Accepted (completes (map whole list)))
@@ -68,7 +68,7 @@ module _ {J S K T Symbol Word Model : Type 0} (becomes : J → S → Type 0) (st
     (other_gives : GivesList other_becomes other_steps other others)
     (completes : List ℕ → List ℕ) (whole : Word → ℕ) (Accepted : List Symbol → List ℕ → Type 0)
     (Tells : Model → List Symbol → List ℕ → Type 0) where
-  -- the same of two lists
+  -- the same for two lists
   pub made-of-both : (r : Result Model ModelError)
       → IsMadeOfBoth Accepted completes (WasReadOf becomes steps from) (WasReadOf other_becomes other_steps other) whole Tells r
       → IfOk r (λ m. Accepted list (completes (map whole others)) × Tells m list (completes (map whole others)))

@@ -3,8 +3,8 @@ use Rattle.std.specs.Prelude.{◌≡◌, ℕ, ◌<◌, ◌≤◌, true, List, le
 use Rattle.std.specs.Iterator.Runs.{EachRunFrom}
 use Rattle.std.specs.Option.{option_map}
 
--- Whatever iterator a value becomes gives the items of this list, in order: those that came so far are the first of them, and up to its end
--- all of them come.
+-- Each iterator that a value becomes gives the items of this list, in order: the items so far are its first items, and at the end all of
+-- them came.
 abbrev pub GivesList : {J S A : Type 0} → (J → S → Type 0) → (S → Option A → S → Type 0) → J → List A → Type 0
 GivesList {S = S} {A = A} becomes steps from list =
     (it : S) → becomes from it → EachRunFrom steps it (λ p. (p.len ≤ length list) × (p.whole ≡ true → p.items ≡ list)

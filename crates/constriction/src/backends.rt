@@ -1,4 +1,4 @@
-//! Where words are written to and read from.
+//! Backends: what words are written to and read from.
 
 pub use constriction_backends::{
     AsReadWords, AsSeekReadWords, BoundedReadWords, BoundedWriteError, BoundedWriteWords, Cursor,

@@ -5,7 +5,7 @@
 //! the other when it decodes ([`stream::model::DecoderModel`]), and the contracts of the two say
 //! that both answer from one list of rows.
 //!
-//! The names and the paths are those of the Rust crate `constriction`.
+//! Names and paths are the same as in the Rust crate `constriction`.
 #![tactic(auto)]
 
 pub mod backends;

@@ -1,3 +1,3 @@
-//! What stream coders stand on.
+//! What stream coders need: models.
 
 pub mod model;

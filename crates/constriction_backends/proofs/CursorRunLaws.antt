@@ -1,4 +1,4 @@
--- What follows from the steps of a cursor, proved. No public clause cites this module.
+-- Laws that follow from the steps of a cursor. No public clause cites this module.
 use Rattle.std.proofs.Common.{◌≡◌, ◌<◌, ◌≤◌, suc, List, [], ◌∷◌, ◌++◌, length, drop, reverse, Option, Some, None, Result, Ok, Err}
 use Rattle.std.specs.Prelude.{◌↔◌, IsOk}
 use Rattle.constriction_backends.specs.declared.cursor.Cursor.{Cursor}
@@ -65,14 +65,14 @@ module _ {W B : Type 0} {g : Ghosts B W} where
       (unchanged : (b : B) → with_words b (g.words_of b) ≡ b)
       (again : (b : B) (ws vs : List W) → length vs ≡ length (g.words_of b)
       → with_words (with_words b ws) vs ≡ with_words b vs) where
-    -- a buffer that has other words twice has the last ones
+    -- a buffer that is given words twice has the last ones
     pub twice : (b j d : B) (ws : List W) → j ≡ with_words b ws → d ≡ with_words j (g.words_of d) → d ≡ with_words b (g.words_of d)
     twice b j d ws e k =
         let one : length (g.words_of j) ≡ length (g.words_of b) = ap (λ x. length (g.words_of x)) e ∙ keeps_length b ws in
         let two : length (g.words_of d) ≡ length (g.words_of j) = ap (λ x. length (g.words_of x)) k ∙ keeps_length j (g.words_of d) in
         k ∙ (ap (λ x. with_words x (g.words_of d)) e ∙ again b ws (g.words_of d) (two ∙ one))
 
-    -- writes in a row that succeeded
+    -- successful writes in a row overwrite words from the position on
     pub extending_overwrites : (E : Type 0) (c : Cursor W B g) (words : List W) (d : Cursor W B g)
         → Writes {E = E} (λ s w r t. WritesTo s with_words w r t) c words d
         → ((state_of d).before ≡ (state_of c).before ++ words)
@@ -90,7 +90,7 @@ module _ {W B : Type 0} {g : Ghosts B W} where
           twice c.buf j.buf d.buf (g.words_of j.buf) h.1.1 others.2,
         )
 
-    -- a cursor that was turned round and turned back
+    -- a cursor that was turned round twice is as it was
     pub turned_twice : (c t d : Cursor W B g) → TurnsRound with_words c t → TurnsRound with_words t d → d ≡ c
     turned_twice c t d once back_again =
         let all = g.words_of c.buf in

@@ -16,10 +16,10 @@ module _ {W B : Type 0} {g : Ghosts B W} (c : Cursor W B g) where
   over_either b h (inl l) = absurd (omega arith)
   over_either b h (inr k) = ap (at_buffer b) (le_prop h k)
 
-  -- it stands over the buffer, where the position is in its range
+  -- it is over that buffer if the position is in range
   pub over_in_range : (b : B) (h : c.pos ≤ length (g.words_of b)) → record c { buf = b; in_range = h } ≡ over c b
   over_in_range b h = over_either b h (cases_lt (length (g.words_of b)) c.pos)
 
-  -- the same, where the buffer is known by another name
+  -- the same for a buffer under another name
   pub over_known : (b d : B) → b ≡ d → (h : c.pos ≤ length (g.words_of b)) → record c { buf = b; in_range = h } ≡ over c d
   over_known b d e h = over_in_range b h ∙ ap (over c) e

@@ -4,7 +4,7 @@ use Rattle.std.proofs.lemmas.List.{reverse-append, length-reverse, length-drop, 
 use Rattle.std.proofs.Math.Seq.{take-append_seam, drop-append_seam}
 use Rattle.constriction_backends.specs.CursorState.{State, state, reversal}
 
--- the words backwards, cut as far from the other end, are the reversal of the state
+-- the words backwards, cut at the same place, are the reversal of the state
 pub state-reverse : {W : Type 0} (xs : List W) (pos : ℕ) → pos ≤ length xs
     → state (reverse xs) (length xs - pos) ≡ reversal (state xs pos)
 state-reverse {W = W} xs pos in_range =
@@ -18,7 +18,7 @@ state-reverse {W = W} xs pos in_range =
     let made = λ (b a : List W). let s : State W = record { before = b; after = a } in s in
     ap (λ b. made b (drop (length xs - pos) (reverse xs))) before ∙ ap (made front) after
 
--- the same, of words that were reversed in place
+-- the same for words that were reversed in place
 pub state-turned : {W : Type 0} (made new xs : List W) (pos : ℕ) → made ≡ new → new ≡ reverse xs → pos ≤ length xs
     → state made (length new - pos) ≡ reversal (state xs pos)
 state-turned made new xs pos m n in_range = rw (m, n, length-reverse xs) (state-reverse xs pos in_range)

@@ -1,4 +1,4 @@
--- The steps of a cursor's state meet the laws of sources and sinks: the impls cite these. No public clause cites this module.
+-- The steps of a cursor's state meet the laws of sources and sinks. The impls cite these. No public clause cites this module.
 use Rattle.std.specs.Prelude.{◌≡◌, ◌≤◌, ℕ, List, [], ◌∷◌, ◌++◌, length, reverse, Option, Some, None, Result, Ok, Err}
 use Rattle.std.proofs.Common.{sym, ◌∙◌, ap, subst, length-append, add-one}
 use Rattle.std.proofs.lemmas.List.{reverse-append}
@@ -53,7 +53,7 @@ module _ {W B : Type 0} {g : Ghosts B W} where
   abbrev at_position : (b : B) (p : ℕ) → p ≤ length (g.words_of b) → Cursor W B g
   at_position b p h = record { buf = b; pos = p; phantom = record {}; in_range = h }
 
-  -- a cursor is its buffer and its position
+  -- cursors with the same buffer and position are equal
   pub same_cursor : (c d : Cursor W B g) → d.buf ≡ c.buf → d.pos ≡ c.pos → d ≡ c
   same_cursor c d e k =
       let ranges = λ (h : c.pos ≤ length (g.words_of c.buf)). ap (at_position c.buf c.pos) (le_prop h c.in_range) in

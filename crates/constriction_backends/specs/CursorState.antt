@@ -1,4 +1,4 @@
--- What a cursor is: a list of words that a position cuts in two. Each call is a step from one state to another.
+-- A cursor as a list of words that a position cuts in two. Each call is a step from one state to another.
 use Rattle.std.specs.Prelude.{◌≡◌, ℕ, List, [], ◌∷◌, ◌++◌, take, drop, reverse, Option, Result, MatchResult, MatchOption}
 
 -- the words before the position, and those from the position on
@@ -13,8 +13,8 @@ state words pos = record { before = take pos words; after = drop pos words }
 abbrev pub reversal : {W : Type 0} → State W → State W
 reversal s = record { before = reverse s.after; after = reverse s.before }
 
--- The last word before the position is answered, and the position moves back over it.
--- Where there is none, nothing is answered and nothing moves.
+-- A stack read answers the last word before the position and moves the position back over it.
+-- If there is no such word, it answers None and nothing changes.
 abbrev pub StackReads : {W E : Type 0} → State W → Result (Option W) E → State W → Type 0
 StackReads s r t =
     MatchResult r
@@ -22,8 +22,8 @@ StackReads s r t =
     (λ w. (s.before ≡ t.before ++ w ∷ []) × (t.after ≡ w ∷ s.after)))
     (λ _. ⊥)
 
--- The word at the position is answered, and the position moves forward over it.
--- Where there is none, nothing is answered and nothing moves.
+-- A queue read answers the word at the position and moves the position forward over it.
+-- If there is no such word, it answers None and nothing changes.
 abbrev pub QueueReads : {W E : Type 0} → State W → Result (Option W) E → State W → Type 0
 QueueReads s r t =
     MatchResult r
@@ -31,8 +31,8 @@ QueueReads s r t =
     (λ w. (s.after ≡ w ∷ t.after) × (t.before ≡ s.before ++ w ∷ [])))
     (λ _. ⊥)
 
--- The word takes the place of the one at the position, and the position moves forward over it.
--- Where there is none, the word is refused and nothing changes.
+-- A write replaces the word at the position and moves the position forward over it.
+-- If there is no such word, the write is refused and nothing changes.
 abbrev pub Overwrites : {W E : Type 0} → State W → W → Result (Unit {0}) E → State W → Type 0
 Overwrites {W} s w r t =
     MatchResult r

@@ -10,8 +10,8 @@ use constriction_words::{Queue, Seek, Semantics, Stack};
 
 /// A value that turns into a source of words, which are read in the order of `S`.
 ///
-/// Each [`SafeBuf`] does: into a [`Cursor`] over it, which stands at the write end for a stack and
-/// at the write beginning for a queue.
+/// Each [`SafeBuf`] turns into a [`Cursor`] over it, at the write end for a stack and at the write
+/// beginning for a queue.
 pub trait IntoReadWords<Word, S: Semantics> {
     /// The source.
     type IntoReadWords: ReadWords<Word, S>;
@@ -24,7 +24,7 @@ pub trait IntoReadWords<Word, S: Semantics> {
         ensures { into_read_words_gives self result };
 }
 
-/// As [`IntoReadWords`], where the source can be moved to a position.
+/// As [`IntoReadWords`], for a source that can be moved to a position.
 pub trait IntoSeekReadWords<Word, S: Semantics> {
     /// The source.
     type IntoSeekReadWords: Seek + ReadWords<Word, S>;
@@ -39,8 +39,8 @@ pub trait IntoSeekReadWords<Word, S: Semantics> {
 
 /// A value that lends a source of words, which are read in the order of `S`.
 ///
-/// Each [`SafeBuf`] does: a [`Cursor`] over its words, which stands at the write end for a stack and
-/// at the write beginning for a queue. Reads move the source alone.
+/// Each [`SafeBuf`] lends a [`Cursor`] over its words, at the write end for a stack and at the write
+/// beginning for a queue. Reads move the source alone.
 pub trait AsReadWords<'a, Word, S: Semantics>: 'a {
     /// The source.
     type AsReadWords: ReadWords<Word, S>;
@@ -53,7 +53,7 @@ pub trait AsReadWords<'a, Word, S: Semantics>: 'a {
         ensures { as_read_words_gives self.now result };
 }
 
-/// As [`AsReadWords`], where the source can be moved to a position.
+/// As [`AsReadWords`], for a source that can be moved to a position.
 pub trait AsSeekReadWords<'a, Word, S: Semantics>: 'a {
     /// The source.
     type AsSeekReadWords: Seek + ReadWords<Word, S>;

@@ -1,4 +1,4 @@
-//! A buffer with a position, which cuts its words in those before it and those from it on.
+//! A buffer with a position, which cuts its words in two.
 
 ghost use Rattle.std.specs.Prelude.{◌≤◌, length};
 
@@ -10,7 +10,7 @@ mod write;
 use constriction_buffers::SafeBuf;
 use std::marker::PhantomData;
 
-/// A buffer with a position in it: the words before the position were written, and those from it
+/// A buffer with a position in it: the words before the position are written, and the words from it
 /// on are free.
 ///
 /// As a sink it overwrites the word at the position, and never grows. As a source it is read

@@ -1,5 +1,5 @@
-//! A backend that is read in the other order. Its positions are those of the backend. Where that is a cursor, it reads, writes and counts
-//! words as a cursor in the `reversal` of the state does. Of reads, which are the backend's own, the law `reversal_reads` says so.
+//! A backend that is read in the other order. Over a cursor it reads, writes and counts words as a cursor in the `reversal` of the state
+//! does. Its reads are the backend's own, so for them the law `reversal_reads` says this.
 
 ghost use Rattle.std.specs.Prelude.{◌≡◌, ◌<◌, ◌↔◌, refl, true, length, reverse, IsOk};
 ghost use Rattle.std.proofs.Common.{sym, ◌∙◌};
@@ -15,13 +15,12 @@ use constriction_buffers::SafeBufMut;
 use constriction_sources::{BoundedReadWords, BoundedWriteWords, ReadWords, WordStack, WriteWords};
 use constriction_words::{Pos, PosSeek, Queue, Seek, Stack};
 
-/// A backend whose order of reading is exchanged: a stack is read as a queue, and a queue as a
-/// stack.
+/// A backend with the other order of reading: a stack is read as a queue, and a queue as a stack.
 ///
 /// Over a [`Cursor`] it is a sink too: a write overwrites the word before the cursor's position, and
 /// moves the position back over it.
 ///
-/// It holds nothing but the backend. Positions are those of the backend, unconverted.
+/// Positions are the backend's own, unconverted.
 #[derive(Debug, Drop)]
 pub struct Reverse<Backend>(pub Backend);
 
@@ -134,9 +133,8 @@ impl<Backend: Seek> Seek for Reverse<Backend> {
 }
 
 impl<Word, Buf: SafeBufMut<Word>> Cursor<Word, Buf> {
-    /// Reverses the words in place, and moves the position to the same cut: the cursor that results
-    /// reads, inside `Reverse`, the same words in the same orders, and overwrites the same ones.
-    /// One pass over the words.
+    /// Reverses the words in place, in one pass, and moves the position to the same cut. Inside the
+    /// `Reverse`, the cursor reads the same words in the same orders, and overwrites the same words.
     pub fn into_reversed(self) -> Reverse<Self>
         ensures { TurnsRound Buf.with_words self result.0 }
     {
@@ -145,8 +143,8 @@ impl<Word, Buf: SafeBufMut<Word>> Cursor<Word, Buf> {
 }
 
 impl<Word, Buf: SafeBufMut<Word>> Reverse<Cursor<Word, Buf>> {
-    /// Takes [`Cursor::into_reversed`] back: turned round twice, a cursor is as it was. One pass
-    /// over the words.
+    /// Undoes [`Cursor::into_reversed`], in one pass over the words. A cursor that is reversed twice is
+    /// as it was.
     pub fn into_reversed(self) -> Cursor<Word, Buf>
         ensures { TurnsRound Buf.with_words self.0 result }
     {
@@ -168,7 +166,7 @@ fn turned<Word, Buf: SafeBufMut<Word>>(mut cursor: Cursor<Word, Buf>) -> Cursor<
 impl<Word: Drop, Buf: SafeBufMut<Word>> WriteWords<Word> for Reverse<Cursor<Word, Buf>> {
     type WriteError = BoundedWriteError;
 
-    // The step of the reversed state, the word is put at the new position, and it is refused exactly where the position is 0.
+    // A write is a write on the reversed state. It puts the word at the new position, and is refused if and only if the position is 0.
     ghost write_gives = { λ s w r t. Overwrites (reversal (state_of s.0)) w r (reversal (state_of t.0))
         × PutsAt s.0 Buf.with_words (pos_of t.0) w r t.0 × (IsOk r ↔ (0 < pos_of s.0)) };
 

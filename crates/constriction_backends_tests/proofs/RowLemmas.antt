@@ -8,7 +8,7 @@ module _ {W V : Type 0} (a b : ℕ × W × V) (word weight : Bool)
   abbrev agree : Bool
   agree = (eqb a.0 b.0 && word) && weight
 
-  -- where all parts agree, two rows are one
+  -- if all parts agree, two rows are one
   one_row : IsTrue agree → a ≡ b
   one_row all_hold =
       let all = and_parts (eqb a.0 b.0 && word) weight all_hold in
@@ -24,6 +24,6 @@ module _ {W V : Type 0} (a b : ℕ × W × V) (word weight : Bool)
       (and_from (eqb a.0 b.0) word ((Decides-eqb a.0 b.0).1 (ap (λ x. x.0) e)) (word_is.1 (ap (λ x. x.1) e)))
       (weight_is.1 (ap (λ x. x.2) e))
 
-  -- two rows are one exactly where their parts agree
+  -- two rows are one exactly if their parts agree
   pub rows_agree : (found : Bool) → found ≡ agree → IsTrue found ↔ (a ≡ b)
   rows_agree found is = ((λ t. one_row (sym is ∙ t)), (λ e. is ∙ all_agree e))

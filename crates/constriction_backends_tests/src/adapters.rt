@@ -13,7 +13,7 @@ use constriction_words::{Queue, UnwrapInfallible};
 use std::convert::Infallible;
 use std::ops::Range;
 
-/// The first word of a slice, by a source over its iterator.
+/// The first word of a slice, read by a source over its iterator.
 fn first_of(words: &[u8]) -> Option<u8>
     ensures { result ≡ slice_get words.now 0 }
 {
@@ -21,7 +21,7 @@ fn first_of(words: &[u8]) -> Option<u8>
     ReadWords::<u8, Queue>::read(&mut source).unwrap_infallible()
 }
 
-/// The same of a vector, which the source takes.
+/// The same for a `Vec`, which the source takes.
 fn first_of_vec(words: Vec<u8>) -> Option<u8>
     ensures { result ≡ slice_get words.items 0 }
 {
@@ -29,7 +29,7 @@ fn first_of_vec(words: Vec<u8>) -> Option<u8>
     ReadWords::<u8, Queue>::read(&mut source).unwrap_infallible()
 }
 
-/// The half of the first word of a slice.
+/// Half of the first word of a slice.
 fn first_half_of(words: &[u8]) -> Option<u8>
     ensures { result ≡ option_map (λ word. word / 2) (slice_get words.now 0) }
 {
@@ -37,7 +37,7 @@ fn first_half_of(words: &[u8]) -> Option<u8>
     ReadWords::<u8, Queue>::read(&mut source).unwrap_infallible()
 }
 
-/// The first word of a vector that turns into a source.
+/// The first word of a `Vec` that turns into a source.
 fn first_turned(words: Vec<u8>) -> Option<u8>
     ensures { result ≡ slice_get words.items 0 }
 {
@@ -70,7 +70,7 @@ fn callers_know_which_word_comes_first(rt: HostRuntime) {
     );
 }
 
-/// What a callback adds up of two words.
+/// The sum of two words, by a callback.
 fn sum_of_two(first: u8, second: u8) -> u32
     ensures { result ≡ first + second }
 {
@@ -83,7 +83,7 @@ fn sum_of_two(first: u8, second: u8) -> u32
     total
 }
 
-/// What a callback adds up of the words of a slice.
+/// The wrapping sum of the words of a slice, by a callback.
 fn sum_of(words: &[u8]) -> u32 {
     let mut total = 0u32;
     let mut sink = InfallibleCallbackWriteWords::new(|word: u8| total = total.wrapping_add(
@@ -93,7 +93,7 @@ fn sum_of(words: &[u8]) -> u32 {
     total
 }
 
-/// How often a callback was called that refuses its second word, and whether that word was refused.
+/// How often a callback that refuses its second word was called, and whether that word was refused.
 fn calls_of_two(first: u8, second: u8) -> (u8, bool)
     ensures calls { result.0 ≡ 2 }
 {
@@ -107,7 +107,7 @@ fn calls_of_two(first: u8, second: u8) -> (u8, bool)
     (calls, refused)
 }
 
-/// An iterator that has no item at its second call, and goes on after it.
+/// An iterator that gives `None` at its second call, and goes on after it.
 #[derive(Drop)]
 struct Gapped {
     calls: u8,
@@ -138,12 +138,12 @@ fn the_end_of_an_iterator_is_for_good(rt: HostRuntime) {
     same(&rt, left.next(), None);
 }
 
-/// Words, and an error in the place of one.
+/// Two words, with an error between them.
 const ITEMS: [Result<u8, char>; 3] = [Ok(1), Err('x'), Ok(2)];
 
 type ReadItem = Result<Option<u8>, char>;
 
-/// Two reads of a source whose count is right: the second one finds an item where two were left.
+/// Two reads of a source whose count is right. The second one finds an item if two were left.
 fn two_reads<Source: BoundedReadWords<u8, Queue>>(
     source: &mut Source,
 ) -> (
@@ -172,7 +172,7 @@ fn two_of_range(numbers: Range<u8>) -> (Read, Read)
     two_reads(&mut InfallibleIteratorReadWords::new(numbers))
 }
 
-/// Two reads of words, and of errors in their place.
+/// Two reads of words and errors.
 fn two_of_items(items: &[Result<u8, char>]) -> (ReadItem, ReadItem)
     ensures { (result.1 ≡ Ok None) ↔ (length items.now ≤ 1) }
 {
@@ -186,7 +186,7 @@ fn the_second_read_ends_where_one_item_was_left(rt: HostRuntime) {
     same(&rt, two_of_items(&ITEMS), (Ok(Some(1)), Err('x')));
 }
 
-/// What a callback that counts its calls answers when it is taken out of its sink and called a third time.
+/// What a callback that counts its calls answers to the third call, after it was taken out of its sink.
 fn calls_of_three(word: u8) -> Result<(), u8>
     ensures { result ≡ Err 3 }
 {

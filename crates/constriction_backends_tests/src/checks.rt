@@ -1,6 +1,6 @@
-//! What is found, beside what is expected.
+//! Compares what is found with what is expected.
 //!
-//! A proof of `assert_eq!` costs much and a call of these costs nothing, so tests call these.
+//! Tests call these functions, because `assert_eq!` takes long to prove and a call takes no time.
 
 use constriction_backends::{Cursor, SafeBuf};
 use constriction_words::Pos;
@@ -9,39 +9,39 @@ use std::error::Error;
 use std::fmt::{Debug, Display};
 use std::process::Abort;
 
-/// Stops the test where the two differ, and shows both.
+/// Asserts that the two are equal, and shows both if they are not.
 pub fn same<T: PartialEq + Debug + Drop>(rt: &impl Abort, found: T, expected: T) {
     assert_eq!(rt; found, expected);
 }
 
-/// Stops the test where a `Vec` does not hold these words.
+/// Asserts that a `Vec` holds these words.
 pub fn holds(rt: &impl Abort, found: &Vec<u8>, expected: &[u8]) {
     same(rt, found.as_slice(), expected);
 }
 
-/// A clone. It stops the test where memory is refused.
+/// A clone. The test fails if memory is refused.
 pub fn clone_of<T: Clone>(rt: &impl Abort, value: &T) -> T {
     value.clone().expect(rt, "memory was refused")
 }
 
-/// Stops the test where the value is not printed as this text.
+/// Asserts that the value is displayed as this text.
 pub fn prints<T: Display>(rt: &impl Abort, alloc: Global, value: &T, text: &str) {
     let printed = format!(in alloc; "{value}").expect(rt, "memory was refused");
     same(rt, printed.as_str(), text);
 }
 
-/// Stops the test where the value is not shown to a programmer as this text.
+/// Asserts that `Debug` shows the value as this text.
 pub fn shows<T: Debug>(rt: &impl Abort, alloc: Global, value: &T, text: &str) {
     let shown = format!(in alloc; "{value:?}").expect(rt, "memory was refused");
     same(rt, shown.as_str(), text);
 }
 
-/// These words in memory of their own. It stops the test where memory is refused.
+/// These words in a `Vec`. The test fails if memory is refused.
 pub fn vec_of(rt: &impl Abort, alloc: Global, words: &[u8]) -> Vec<u8> {
     words.to_vec(alloc).expect(rt, "memory")
 }
 
-/// Stops the test where a cursor does not stand at this position, or does not hold these words.
+/// Asserts that a cursor stands at this position and holds these words.
 pub fn is_at<Buf: SafeBuf<u8>, const N: usize>(
     rt: &impl Abort,
     cursor: &Cursor<u8, Buf>,
@@ -52,5 +52,5 @@ pub fn is_at<Buf: SafeBuf<u8>, const N: usize>(
     same(rt, cursor.pos(), pos);
 }
 
-/// The value is an error, as its type says.
+/// Compiles only if the type of the value is an `Error`.
 pub fn is_an_error<E: Error>(_error: &E) {}

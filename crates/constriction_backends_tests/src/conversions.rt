@@ -1,4 +1,4 @@
-//! A buffer of a caller's own, which turns into sources and lends them.
+//! A buffer of a caller's own that turns into sources and lends them.
 
 use crate::checks::{same, vec_of};
 use constriction_backends::{
@@ -9,12 +9,12 @@ use constriction_words::{Queue, Seek, Stack, UnwrapInfallible};
 use std::alloc::Global;
 use std::process::Abort;
 
-/// The buffer of 1, 2 and 3.
+/// A buffer of 1, 2 and 3.
 fn marked(rt: &impl Abort, alloc: Global) -> Marked {
     Marked::new(vec_of(rt, alloc, &[1, 2, 3]))
 }
 
-/// The next word of a stack and that of a queue that a buffer lends.
+/// The first word that a buffer gives as a stack, and the first that it gives as a queue. It lends both.
 fn lent(words: &Marked) -> [Option<u8>; 2] {
     let mut stack = AsReadWords::<u8, Stack>::as_read_words(words);
     let mut queue = AsSeekReadWords::<u8, Queue>::as_seek_read_words(words);
@@ -24,13 +24,13 @@ fn lent(words: &Marked) -> [Option<u8>; 2] {
     ]
 }
 
-/// The next word of a stack that a buffer turns into.
+/// The first word that a buffer gives after it turned into a stack.
 fn last(words: Marked) -> Option<u8> {
     let mut stack = IntoReadWords::<u8, Stack>::into_read_words(words);
     ReadWords::<u8, Stack>::read(&mut stack).unwrap_infallible()
 }
 
-/// What a queue that a buffer turns into answers to a seek to 1, and the word that it reads there.
+/// Turns a buffer into a queue: what it answers to a seek to 1, and the word that it reads there.
 fn second(words: Marked) -> (Result<(), ()>, Option<u8>) {
     let mut queue = IntoSeekReadWords::<u8, Queue>::into_seek_read_words(words);
     let sought = queue.seek(1);

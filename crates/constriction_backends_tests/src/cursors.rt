@@ -12,7 +12,7 @@ use constriction_words::{Pos, Queue, Seek};
 use std::alloc::Global;
 use std::process::Abort;
 
-/// A cursor begins at the end that its constructor names, or at the position that it is given.
+/// Asserts that a cursor begins at the end that its constructor names, or at the given position.
 fn begins<Buf: SafeBufMut<u8> + Drop>(rt: &impl Abort, buf: Buf) -> Buf {
     let (buf, beginning) = Cursor::<u8, Buf>::new_at_write_beginning(buf).into_buf_and_pos();
     let (buf, end) = Cursor::<u8, Buf>::new_at_write_end(buf).into_buf_and_pos();
@@ -29,8 +29,8 @@ fn begins<Buf: SafeBufMut<u8> + Drop>(rt: &impl Abort, buf: Buf) -> Buf {
     buf
 }
 
-/// What a cursor answers to the words of an iterator. Where it took them, they stand after those that
-/// were written before, in their order.
+/// What a cursor answers to the words of an iterator. If it took them, they stand in order after the words
+/// that were written before.
 fn extended<Buf: SafeBufMut<u8>>(
     cursor: &mut Cursor<u8, Buf>,
     added: &[u8],
@@ -40,14 +40,14 @@ fn extended<Buf: SafeBufMut<u8>>(
     laws::extending_counts(cursor, added.iter().copied())
 }
 
-/// Words that are written to a cursor of three words from its second one on, whether there is no place for the last of them,
-/// and the words of the cursor then.
+/// Words to write to a cursor of three words from its second one on, whether they are too many, and the words of the cursor
+/// then.
 const FILLS: [(&[u8], bool, [u8; 3]); 2] = [
     (&[1, 2, 3], true, [10, 1, 2]),
     (&[20, 30], false, [10, 20, 30]),
 ];
 
-/// A cursor of 10, 99, 30 is filled from its second word on.
+/// Asserts that a cursor of 10, 99, 30 is filled from its second word on.
 fn is_filled<Buf: SafeBufMut<u8>>(rt: &impl Abort, buf: Buf) -> Buf {
     let mut cursor = Cursor::<u8, Buf>::new_at_write_beginning(buf);
     for (added, are_too_many, words) in FILLS {
@@ -58,7 +58,7 @@ fn is_filled<Buf: SafeBufMut<u8>>(rt: &impl Abort, buf: Buf) -> Buf {
     cursor.into_buf_and_pos().0
 }
 
-/// What a cursor of one word answers to the words of an iterator, the word that the iterator gives next, and the word that was
+/// What a cursor of one word answers to the words of an iterator, which word the iterator gives next, and which word was
 /// written.
 fn next_after_a_refusal(words: &[u8]) -> (Result<(), BoundedWriteError>, Option<u8>, u8) {
     let mut place = [0u8];
@@ -78,7 +78,7 @@ fn words_before_a_refused_one_stay_and_none_after_it_is_asked_for(rt: HostRuntim
     );
 }
 
-/// A view of a cursor of 10, 20, 30 at 1 moves by itself.
+/// Asserts that a view of a cursor of 10, 20, 30 at 1 moves without it.
 fn is_viewed<Buf: SafeBuf<u8>>(rt: &impl Abort, cursor: &Cursor<u8, Buf>) {
     same(rt, cursor.written(), [10].as_slice());
     same(rt, cursor.unwritten(), [20, 30].as_slice());
@@ -87,14 +87,14 @@ fn is_viewed<Buf: SafeBuf<u8>>(rt: &impl Abort, cursor: &Cursor<u8, Buf>) {
     same(rt, (word, view.pos()), (Ok(Some(20)), 2));
 }
 
-/// So does a copy of it.
+/// Asserts that a copy of this cursor moves without it.
 fn is_copied<Buf: SafeBuf<u8>>(rt: &impl Abort, alloc: Global, cursor: &Cursor<u8, Buf>) {
     let mut copy = cursor.cloned(alloc).expect(rt, "memory");
     same(rt, copy.write(21), Ok(()));
     same(rt, copy.buf().as_slice(), [10, 21, 30].as_slice());
 }
 
-/// A cursor of 10, 20, 30 at 1 stays as it is.
+/// Asserts that a cursor of 10, 20, 30 at 1 stays as it is while its view and its copy move.
 fn stays<Buf: SafeBufMut<u8> + Drop>(rt: &impl Abort, alloc: Global, buf: Buf) {
     let mut cursor = Cursor::<u8, Buf>::new_at_write_beginning(buf);
     same(rt, cursor.seek(1), Ok(()));

@@ -1,4 +1,4 @@
-//! What is an error, how it compares, and how it is shown.
+//! Which types are errors, how errors compare, and how they are shown.
 
 use crate::checks::{is_an_error, same, shows};
 use constriction_backends::{BoundedWriteError, Cursor, WriteWords};
@@ -18,7 +18,7 @@ fn a_full_sink_is_out_of_space(rt: HostRuntime) {
     }
 }
 
-/// An error that holds any other one.
+/// An error that may hold each of the others.
 type Nested = CoderError<DefaultEncoderFrontendError, ReadWriteError<NanError, BoundedWriteError>>;
 
 #[test]

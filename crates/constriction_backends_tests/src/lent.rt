@@ -1,4 +1,4 @@
-//! What is left in a cursor whose words were written through a loan, or read.
+//! What a cursor holds after its words were written or read through a borrow.
 
 use crate::checks::{is_at, same, vec_of};
 use constriction_backends::Cursor;

@@ -1,9 +1,9 @@
-//! The tests of words, of sources, sinks, buffers and cursors of words, and of words that a cursor lends.
+//! The tests of words, and of sources, sinks, buffers and cursors.
 //!
-//! Those of words are calls through a bound, and calls at a word type of a caller's own.
+//! The tests of words call through a bound, and at a word type of a caller's own.
 //!
-//! A library that has tests of its own is proved twice, so none of them has any. Tests use the
-//! public interface alone.
+//! The libraries have no tests of their own, because a library with tests is proved twice. These tests use the public
+//! interface alone.
 #![tactic(auto)]
 
 #[cfg(test)]

@@ -1,4 +1,4 @@
-//! Words: what generic code learns of an operation from the bound alone, and words that are indices.
+//! What generic code learns of operations on words from the bound alone, and words as indices.
 
 ghost use Rattle.std.specs.Prelude.{◌≡◌, ◌+◌, ◌-◌, ◌*◌, ◌/◌, ◌%◌, ◌<◌, ◌≤◌, ◌^◌};
 
@@ -22,7 +22,7 @@ pub fn half_way<P: BitArray>(from: P, to: P) -> P
     (to - from) >> 1
 }
 
-/// How many words there are from one to a greater one.
+/// How many words there are from `b` to `a`, both included.
 fn difference_plus<P: BitArray>(a: P, b: P) -> P
     requires order { P.whole b ≤ P.whole a }
     requires room { P.whole a + 1 < 2 ^ P.BITS }
@@ -31,7 +31,7 @@ fn difference_plus<P: BitArray>(a: P, b: P) -> P
     a - b + P::one()
 }
 
-/// A whole quotient.
+/// A quotient, rounded down.
 fn over<P: BitArray>(a: P, b: P) -> P
     requires { 0 < P.whole b }
     ensures { P.whole result ≡ P.whole a / P.whole b }
@@ -48,7 +48,7 @@ pub fn remainder_of_product<P: BitArray>(a: P, b: P, divisor: P) -> P
     a * b % divisor
 }
 
-/// The lower bits of a word, moved up.
+/// A word shifted up, without the bits that leave it.
 pub fn moved_up<P: BitArray>(a: P, n: u32) -> P
     requires { n < P.BITS }
     ensures { P.whole result ≡ (P.whole a * 2 ^ n) % 2 ^ P.BITS }
@@ -56,7 +56,7 @@ pub fn moved_up<P: BitArray>(a: P, n: u32) -> P
     a << n
 }
 
-/// The lower one of two words.
+/// The lesser of two words.
 pub fn lower<P: BitArray>(a: P, b: P) -> P
     ensures a { P.whole result ≤ P.whole a }
     ensures b { P.whole result ≤ P.whole b }

@@ -1,4 +1,4 @@
-//! Samples where only the bound of words is known, and as the probabilities of a model.
+//! Samples in code that is generic over words, and as the probabilities of a model.
 
 ghost use Rattle.std.specs.Prelude.{◌≡◌, ◌/◌, ◌^◌, ◌<◌};
 
@@ -17,7 +17,7 @@ use std::test::Fail;
 
 type Model = ContiguousCategoricalEntropyModel<Sample, Vec<Sample>, 12>;
 
-/// What is learned of a sample from the contract over all words.
+/// What a caller learns of a sample from a contract over all words.
 fn half_of_sample(a: Sample) -> Sample
     ensures { result.0 ≡ a.0 / 2 }
 {
@@ -45,13 +45,13 @@ fn operations_give_the_exact_number(rt: HostRuntime) {
     );
 }
 
-/// The number of the word in a `NonZero`, where there is one.
+/// The number of the word in a `NonZero`, if there is one.
 fn held<P: BitArray>(word: Option<P::NonZero>) -> Option<u128> {
     word?.get().to_u128()
 }
 
-/// Stops the test where this is not the number of the greatest word, or where a call does not wrap after it or before 0. It
-/// stops too where a `NonZero` is made of 0, or where none is made of 1 or of the greatest word, or one with another number.
+/// Asserts that the greatest word has this number, and that calls wrap after it and before 0. Asserts too that no `NonZero`
+/// is made of 0, and that 1 and the greatest word make one with their number.
 fn has_ends<P: BitArray>(rt: &impl Abort, greatest_number: u128) {
     let (zero, one, greatest) = (P::zero(), P::one(), P::max_value());
     let last = Some(greatest_number);
@@ -110,7 +110,7 @@ fn weights_are_compared_by_their_numbers(rt: HostRuntime) {
     );
 }
 
-/// How many bits are 1, and how many are 0: of all bits, from the highest one on, and from the lowest one on.
+/// How many bits are 1, and how many are 0: in all, at the high end, and at the low end.
 fn counted_bits<W: BitArray>(x: W) -> [u32; 6] {
     [
         x.count_ones(),
@@ -122,7 +122,7 @@ fn counted_bits<W: BitArray>(x: W) -> [u32; 6] {
     ]
 }
 
-/// The bits rotated by one place, shifted by one place, in the other order of bytes, and in the other order of bits.
+/// The bits rotated by one, shifted by one, with the bytes reversed, and with the bits reversed.
 fn moved_bits<W: BitArray>(x: W) -> (W, W, W, W, W, W, W)
     requires { W.BITS ≡ 16 }
 {
@@ -137,8 +137,8 @@ fn moved_bits<W: BitArray>(x: W) -> (W, W, W, W, W, W, W)
     )
 }
 
-/// The complement of a word, the word without its lowest bit, all bits, no bit, and the word there and back in both orders of
-/// bytes.
+/// The complement of a word, the word without its lowest bit, all bits, no bit, and the word converted to each byte order and
+/// back.
 fn combined_bits<W: BitArray>(x: W) -> (W, W, W, W, W, W) {
     (
         !x,
@@ -193,7 +193,7 @@ fn as_numbers<W: BitArray>(x: W) -> (bool, Option<u16>, Option<i128>, Option<f32
     (x.is_zero(), x.to_u16(), x.to_i128(), x.to_f32(), x.to_f64())
 }
 
-/// Numbers as a word of 16 bits: 0x8003, and two that are none.
+/// Numbers as words of 16 bits: 0x8003, and two that are no such word.
 fn from_numbers<W: BitArray>() -> (Option<W>, bool, Option<W>) {
     (
         W::from_str_radix("8003", 16).ok(),
@@ -202,7 +202,7 @@ fn from_numbers<W: BitArray>() -> (Option<W>, bool, Option<W>) {
     )
 }
 
-/// What checked operations answer, where the result fits and where it does not.
+/// What checked operations answer, with results that fit and results that do not.
 fn checked<W: BitArray>(x: W) -> [Option<W>; 7] {
     [
         x.checked_add(&x),
@@ -215,7 +215,7 @@ fn checked<W: BitArray>(x: W) -> [Option<W>; 7] {
     ]
 }
 
-/// A sum that stops at the greatest word, a difference that stops at the least one, and the least word.
+/// A sum that saturates at the greatest word, a difference that saturates at the least one, and the least word.
 fn saturated<W: BitArray>(x: W) -> [W; 3] {
     [
         x.saturating_add(x),

@@ -1,4 +1,4 @@
-//! Positions that are taken and sought, through the bounds.
+//! Positions that are noted and sought, through the bounds.
 
 ghost use Rattle.std.specs.Prelude.{◌<◌, ◌≤◌, MatchResult};
 

@@ -12,7 +12,7 @@ use constriction_words::{Pos, Queue, Seek, Semantics, Stack, UnwrapInfallible};
 use std::convert::Infallible;
 use std::process::Abort;
 
-/// A cursor of four words at 0 is written, turned round, written once more and turned back.
+/// Writes to a cursor of four words at 0, reverses it, writes to it again, and reverses it back.
 fn is_written_from_both_ends<Buf: SafeBufMut<u8> + Drop>(rt: &impl Abort, buf: Buf) {
     let mut cursor = Cursor::<u8, Buf>::new_at_write_beginning(buf);
     same(rt, (cursor.write(1), cursor.write(2)), (Ok(()), Ok(())));
@@ -29,7 +29,7 @@ fn a_buffer_of_the_caller_is_written_from_both_ends(rt: HostRuntime) {
     is_written_from_both_ends(&rt, Marked::new(words));
 }
 
-/// Whether a source of one word may be exhausted before that word is read, and after it.
+/// What `maybe_exhausted` answers of a source of one word, before that word is read and after it.
 fn may_be_exhausted<S: Semantics, Source>(source: &mut Source) -> [bool; 2]
 where
     Source: ReadWords<u8, S, ReadError = Infallible>,
@@ -40,7 +40,7 @@ where
     [before, source.maybe_exhausted()]
 }
 
-/// A stack and a cursor are read as queues, and a cursor as a stack.
+/// A stack and a cursor are reversed to queues, and another cursor to a stack.
 #[test]
 fn a_reversal_may_be_exhausted_where_its_backend_may(rt: HostRuntime) {
     let words = [1u8];
@@ -58,7 +58,8 @@ fn a_reversal_may_be_exhausted_where_its_backend_may(rt: HostRuntime) {
     );
 }
 
-/// How many words a stack has as a queue and the word that it reads so, and how many it has and where it stands then.
+/// Of a reversed stack, read as a queue: the number of its words, the word that it reads, and then their number and its
+/// position.
 fn read_as_a_queue(reversed: &mut Reverse<Vec<u8>>) -> (usize, Option<u8>, usize, usize) {
     let count = BoundedReadWords::<u8, Queue>::remaining(reversed);
     let word = ReadWords::<u8, Queue>::read(reversed).unwrap_infallible();
@@ -72,7 +73,7 @@ fn a_reversed_stack_is_read_as_a_queue(rt: HostRuntime) {
     same(&rt, read_as_a_queue(&mut reversed), (3, Some(3), 2, 2));
 }
 
-/// A cursor that is turned round and back: the caller knows by the law that it is the very same one.
+/// Reverses a cursor twice. By the law the caller knows that the result is the same cursor.
 fn turned_and_back<Buf: SafeBufMut<u8>>(cursor: Cursor<u8, Buf>) -> Cursor<u8, Buf>
     ensures { result ≡ cursor }
 {

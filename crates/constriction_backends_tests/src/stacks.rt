@@ -12,7 +12,7 @@ use std::iter::Copied;
 use std::process::Abort;
 use std::slice::Iter;
 
-/// A stack whose first two words stand in the value itself.
+/// A stack that holds up to two words inline.
 type Two = SmallVec<u8, 2>;
 
 /// What a stack answers to the words of an iterator.
@@ -26,7 +26,7 @@ where
 
 const NINE: [u8; 9] = [1, 2, 3, 4, 5, 6, 7, 8, 9];
 
-/// The word 7, so often. It stops the test where memory is refused.
+/// `count` times the word 7. The test fails if memory is refused.
 fn sevens(rt: &impl Abort, alloc: Global, count: usize) -> Vec<u8> {
     let Ok(words) = vec![in alloc; 7u8; count] else {
         panic!(rt; "memory was refused");
@@ -34,7 +34,7 @@ fn sevens(rt: &impl Abort, alloc: Global, count: usize) -> Vec<u8> {
     words
 }
 
-/// There is memory for more words than the other tests write: for each of 100,000, and for a copy of them.
+/// Many more words than in the other tests succeed too: 100,000, and a copy of them.
 #[test]
 fn a_hundred_thousand_words_are_written_and_copied(rt: HostRuntime) {
     let many = sevens(&rt, rt.alloc(), 100_000);
@@ -47,7 +47,7 @@ fn a_hundred_thousand_words_are_written_and_copied(rt: HostRuntime) {
     holds(&rt, copy.expect(&rt, "memory").buf(), &many);
 }
 
-/// The word that comes back from a `Vec`, or the refusal of memory.
+/// The word that comes back from a `Vec`, or an error if memory is refused.
 fn there_and_back_in_a_vec(words: &mut Vec<u8>, word: u8) -> Result<Option<u8>, AllocError> {
     match laws::push_then_pop(words, word) {
         Ok(word) => Ok(word),
@@ -56,7 +56,7 @@ fn there_and_back_in_a_vec(words: &mut Vec<u8>, word: u8) -> Result<Option<u8>, 
     }
 }
 
-/// A read of any stack: where there are no words, nothing comes.
+/// Reads any stack. The contract says that an empty one gives `None` and stays empty.
 fn read_once<Backend: WordStack<u8>>(
     backend: &mut Backend,
 ) -> Result<Option<u8>, Backend::ReadError>
@@ -79,7 +79,7 @@ fn what_was_pushed_is_popped(rt: HostRuntime) {
     same(&rt, read_once(&mut words), Ok(None));
 }
 
-/// The last word of a stack is replaced: that needs no memory, and none is asked for.
+/// Replaces the last word of a stack. This needs no memory, so it cannot fail.
 fn replace_last(words: &mut Vec<u8>, word: u8) -> Result<(), AllocError>
     requires { 0 < length words.old.items }
     ensures ok { IsOk result }
@@ -89,7 +89,7 @@ fn replace_last(words: &mut Vec<u8>, word: u8) -> Result<(), AllocError>
     words.write(word)
 }
 
-/// The same of a queue that is a reversed stack.
+/// The same for a reversed stack, which is a queue.
 fn replace_first(words: &mut Reverse<Vec<u8>>, word: u8) -> Result<(), AllocError>
     requires { 0 < length words.old.0.items }
     ensures { IsOk result }
@@ -110,8 +110,8 @@ fn a_popped_word_leaves_its_place(rt: HostRuntime) {
     holds(&rt, &reversed.0, &[1, 2, 5]);
 }
 
-/// Two words through any stack, as a stack coder writes and reads them: they come back, the second one
-/// first, and then the stack has its old words.
+/// Writes two words to any stack and reads them, as a stack coder does. They come back, the second one first, and then
+/// the stack has its old words.
 fn there_and_back<Backend: WordStack<u8>>(
     backend: &mut Backend,
     first: u8,

@@ -1,4 +1,4 @@
-//! Default answers, at sources and sinks of a caller's own.
+//! The default answers of traits, at sources and sinks of a caller's own.
 
 ghost use Rattle.std.specs.Prelude.{◌≡◌, ◌<◌, ◌≤◌, Err, IfErr, MatchResult};
 ghost use Rattle.constriction_backends.specs.Source.{CountsRead};
@@ -28,7 +28,7 @@ impl ReadWords<u8, Stack> for Endless {
     ghost reads_upcoming = { λ s r t h words known. absurd known };
 }
 
-/// A sink that keeps the default answers, and refuses what is above 9.
+/// A sink that keeps the default answers, and refuses words above 9.
 #[derive(Drop)]
 struct Small {
     last: u8,
@@ -68,7 +68,7 @@ fn default_answers_say_nothing(rt: HostRuntime) {
     same(&rt, sink.last, 5);
 }
 
-/// Words that count down to 1, and tell how many are left.
+/// A source of words that count down to 1. It knows how many are left.
 #[derive(Drop)]
 struct Countdown {
     left: u8,
@@ -103,7 +103,7 @@ impl BoundedReadWords<u8, Queue> for Countdown {
     ghost counts_upcoming = { λ s exact words known. absurd known };
 }
 
-/// A sink that keeps nothing but the number of its free places.
+/// A sink that stores only the number of its free places.
 #[derive(Drop)]
 struct Places {
     free: u8,
@@ -182,7 +182,7 @@ fn a_source_is_exhausted_where_nothing_remains(rt: HostRuntime) {
     }
 }
 
-/// The words of an iterator, how many places are free after them, and whether the iterator and one more word are refused.
+/// The words of an iterator, how many places are free then, and whether the iterator and one more word are refused.
 const EXTENDED: [(&[u8], usize, bool); 2] = [(&[1, 2, 3], 2, false), (&[4, 5], 0, true)];
 
 #[test]

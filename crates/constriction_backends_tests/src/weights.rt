@@ -1,4 +1,4 @@
-//! Words that are not 0: what generic code learns of two of them from the bound alone.
+//! Nonzero words: what generic code learns of two of them from the bound alone.
 
 ghost use Rattle.std.specs.Prelude.{◌≡◌, ◌↔◌, IsTrue};
 
@@ -12,14 +12,14 @@ pub fn are_same_weight<P: BitArray>(a: P::NonZero, b: P::NonZero) -> bool
     a == b
 }
 
-/// Whether two words that are not 0 are the very same one.
+/// Whether two nonzero words are the same value.
 pub fn are_one<W: NonZeroBitArray>(a: W, b: W) -> bool
     ensures { IsTrue result ↔ (a ≡ b) }
 {
     a == b
 }
 
-/// Whether two rows are the very same one: symbol, left cumulative and weight.
+/// Whether two rows are the same value: symbol, left cumulative and weight.
 pub fn are_same_row<P: BitArray>(a: (usize, P, P::NonZero), b: (usize, P, P::NonZero)) -> bool
     ensures { IsTrue result ↔ (a ≡ b) }
 {
@@ -50,7 +50,7 @@ fn weights_are_compared_by_their_numbers(rt: HostRuntime) {
     same(&rt, greatest_is_same_as::<u8>(), Some([true, false, false]));
 }
 
-/// Whether two rows are the very same one, whose weights are given as words.
+/// Whether two rows are the same value. Their weights are given as words.
 fn rows_agree<P: BitArray>(a: (usize, P, P), b: (usize, P, P)) -> Option<bool> {
     let (Some(first), Some(second)) = (a.2.into_nonzero(), b.2.into_nonzero()) else {
         return None;

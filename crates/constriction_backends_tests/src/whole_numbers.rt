@@ -1,4 +1,4 @@
-//! Words as whole numbers: what code over that bound alone learns, and the ends of each width.
+//! Words as whole numbers: what generic code learns from the bound alone, and the ends of each width.
 
 ghost use Rattle.std.specs.Prelude.{◌≡◌, ◌+◌, ◌-◌, ◌<◌, ◌%◌, ◌^◌};
 
@@ -16,14 +16,14 @@ fn distance<N: WholeNumber>(a: N, b: N) -> N
     }
 }
 
-/// How far it is from the one number up to the other, with 0 after the greatest one.
+/// How far it is up from one number to another, if 0 follows the greatest number.
 fn way_up<N: WholeNumber>(from: N, to: N) -> N
     ensures { (N.whole result + N.whole from) % 2 ^ N.BITS ≡ N.whole to }
 {
     to.wrapping_minus(from)
 }
 
-/// How far 3 and 250 are apart, and how far it is up from one to the other.
+/// How far 3 and 250 are apart, and how far it is up from each to the other.
 fn ways() -> [u8; 4] {
     [
         distance(3, 250),
@@ -33,7 +33,7 @@ fn ways() -> [u8; 4] {
     ]
 }
 
-/// What each call answers at the ends of a width: of comparisons, and of the others as numbers.
+/// What each call answers at the ends of a width: the comparisons, and the other calls as numbers.
 fn ends<N: WholeNumber>() -> ([bool; 6], [usize; 6])
     requires { 1 < N.BITS }
 {

@@ -1,4 +1,4 @@
-//! Errors and markers: derives, and calls through a bound.
+//! Errors and marker types: their derived traits, and calls through a bound.
 
 ghost use Rattle.std.specs.Prelude.{◌≡◌, ◌+◌, ◌<◌};
 

@@ -22,7 +22,7 @@ module _ {X Z : Type 0} (v : Vec X Z) where
   Fits-prop : (xs : List X) → IsProp (Fits xs)
   Fits-prop xs = Prim.hlevel props
 
-  -- two of them with the same items are the same
+  -- two vectors that differ from v in their items alone are equal if their items are
   made_same : (xs ys : List X) (k : Fits xs) (l : Fits ys) → xs ≡ ys → made xs k ≡ made ys l
   made_same xs ys k l e =
       subst (λ (zs : List X). (m : Fits zs) → made xs k ≡ made zs m) e (λ m. ap (made xs) (Fits-prop xs k m)) l

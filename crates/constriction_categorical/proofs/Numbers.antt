@@ -1,4 +1,4 @@
--- What is known by the equality of numbers, for any equality that is that one.
+-- Facts of the equality of numbers, for any equality that is that one.
 use Rattle.std.proofs.Common.{◌≡◌, Bool, List, ℕ, eq-eqb, nat_eq, subst, sym}
 use Rattle.std.specs.List.{IsDistinct}
 use Rattle.constriction_model.specs.Model.{ClonesAreEqual}

@@ -1,4 +1,4 @@
--- Symbols and weights that were read into entries, whose symbols differ or were found to.
+-- Symbols and weights that were read into entries. The symbols are known to differ, or were found to.
 use Rattle.std.specs.Prelude.{◌≡◌, ℕ, Bool, false, List, map, Option, Result, Ok, Err, IfOk}
 use Rattle.std.proofs.Common.{sym, subst}
 use Rattle.std.specs.List.{IsDistinct}
@@ -15,7 +15,7 @@ use Rattle.constriction_stored_rows.proofs.PairedLemmas.{paired-of_rows, accepte
 
 module _ {Symbol Word Entries : Type 0} (items : Entries → List (Word × Symbol)) (whole : Word → ℕ) (bits precision : ℕ)
     (completes : List ℕ → List ℕ) (ReadSymbols : Reading → List Symbol → Type 0) (Read : Reading → List Word → Type 0) where
-  -- entries hold the rows of what was read, whose symbols were compared so
+  -- the entries hold the rows of what was read, with symbols compared by `compared`
   abbrev pub AreHeld : (Symbol → Symbol → Bool) → Result Entries ModelError → Type 0
   AreHeld compared r =
       IsMadeOfBoth (AreAccepted compared bits precision) completes ReadSymbols Read whole
@@ -45,12 +45,12 @@ module _ {Symbol Word Entries : Type 0} (items : Entries → List (Word × Symbo
       invalid = λ is. absurd (made-unrefused _ _ is);
     }
 
-  -- symbols that were not compared, and of which no two are equal
+  -- symbols that were not compared, and no two of them are equal
   module _ (eq : Symbol → Symbol → Bool) (v : Entries) (held : AreHeld (λ _ _. false) (Ok v)) where
     held-symbols : map (λ x. x.1) (items v) ≡ held.ok.0
     held-symbols = read-symbols eq whole bits precision (items v) held.ok.0 (completes (map whole held.ok.1)) held.ok.4 held.ok.5
 
-    -- and of which some more is known
+    -- a further fact of the symbols, which acceptance asks for, holds
     pub judged-known : (Good : List Symbol → Type 0) (Accepted : List Symbol → List ℕ → Type 0)
         → ((ss : List Symbol) (ws : List ℕ) → AreAccepted eq bits precision ss ws → Good ss → Accepted ss ws)
         → IsDistinct eq (map (λ x. x.1) (items v)) → Good (map (λ x. x.1) (items v)) → AreKnown Accepted (Ok v)
@@ -60,7 +60,7 @@ module _ {Symbol Word Entries : Type 0} (items : Entries → List (Word × Symbo
         (subst (IsDistinct eq) held-symbols differ) in
         held-known (λ _ _. false) v held Accepted (accepts held.ok.0 ws apart (subst Good held-symbols good))
 
-    -- what is not known of them though it has to be
+    -- a further fact of the symbols, which acceptance asks for, does not hold
     pub judged-refused : (Good : List Symbol → Type 0) (Accepted : List Symbol → List ℕ → Type 0)
         → ((ss : List Symbol) (ws : List ℕ) → Accepted ss ws → Good ss) → ¬ (Good (map (λ x. x.1) (items v)))
         → BothBad ReadSymbols Read (λ ss ws. Accepted ss (completes (map whole ws)))
@@ -113,7 +113,7 @@ module _ {Symbol Word Entries : Type 0} (items : Entries → List (Word × Symbo
     all-known (Ok v) held = held-known compared v held (AreAccepted compared bits precision) held.ok.4
     all-known (Err e) held = record { ok = tt; invalid = held.invalid }
 
--- what a reader says of two iterators it says of the arguments that became them
+-- what a reader says of two iterators it says of the arguments that they were made of
 module _ {J S K T Symbol Word Entries : Type 0} (becomes : J → S → Type 0) (steps : S → Option Symbol → S → Type 0) (from : J)
     (other_becomes : K → T → Type 0) (other_steps : T → Option Word → T → Type 0) (other : K)
     (Accepted : List Symbol → List ℕ → Type 0) (completes : List ℕ → List ℕ) (whole : Word → ℕ)

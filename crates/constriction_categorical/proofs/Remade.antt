@@ -1,4 +1,4 @@
--- What was said of what a model is made of, a constructor says of the model: the rows are the same, and so are the refusals.
+-- What was said of the parts of a model, a constructor says of the model: its rows are the same, and so are the refusals.
 use Rattle.std.specs.Prelude.{◌≡◌, ℕ, List, Result, Ok, Err, IfOk, IfErr}
 use Rattle.std.proofs.Common.{sym, subst, ◌∙◌}
 use Rattle.constriction_model.specs.Acceptance.{IsMadeOfBoth, IsMadeOfWeights, Reading}
@@ -61,7 +61,7 @@ module _ {Word Source Model : Type 0} (Accepted : List ℕ → Type 0) (complete
         read.invalid cc;
   }
 
--- a model of the rows of another one, and of rows that stand for its
+-- a model of the rows of another one, or of rows that stand for them
 pub rows_same : {Symbol Model Error : Type 0} (rows : Model → List (Row Symbol)) (made others : List (Row Symbol)) (r : Result Model Error)
     → IfOk r (λ m. rows m ≡ made) → made ≡ others → IfOk r (λ m. rows m ≡ others)
 rows_same rows made others (Ok m) is same = is ∙ same

@@ -1,4 +1,4 @@
--- What is answered of the row at an index.
+-- Answers for the row at an index.
 use Rattle.std.specs.Prelude.{⊤}
 use Rattle.std.proofs.Common.{◌≡◌, ℕ, ◌+◌, ◌^◌, ◌<◌, List, length, get_or, refl, subst, sym, arith}
 use Rattle.std.specs.Prelude.{Some, Result, Ok, Err, IfOk, IfErr, slice_get}
@@ -12,7 +12,7 @@ use Rattle.constriction_model.specs.Tables.{StandsFor}
 
 module _ {Symbol Word Weight Refusal : Type 0} (Stands : Symbol → Symbol → Type 0) (MayRefuse : Symbol → Type 0) (whole : Word → ℕ)
     (base : Weight → Word) (rows : List (Row Symbol)) (index : ℕ) (h : index < length rows) where
-  -- an answer of the row there, or a refusal where a clone of its symbol may be refused, stands for this row
+  -- an answer with the row there, or a refusal if a clone of its symbol may be refused, stands for this row
   pub row-stands : (result : Result (Symbol × Word × Weight) Refusal)
       → IfOk result (λ x. (own : Symbol) × Stands own x.0
       × (get_or rows index (row_of whole base (own, x.1, x.2)) ≡ row_of whole base (own, x.1, x.2)))
@@ -30,7 +30,7 @@ row-found rows q index r found at = subst (IsRowOf rows q) (get_or_from_slice_ge
 
 module _ {Symbol Word Weight Refusal : Type 0} (Stands : Symbol → Symbol → Type 0) (MayRefuse : Symbol → Type 0) (whole : Word → ℕ)
     (base : Weight → Word) (rows : List (Row Symbol)) (q index : ℕ) (found : IsRowIndexOf rows q index) where
-  -- what answers with the row at the index of a quantile's row answers the quantile
+  -- an answer with the row at the index of a quantile's row answers the quantile
   pub row-answered : (result : Result (Symbol × Word × Weight) Refusal)
       → IfOk result (λ x. (own : Symbol) × Stands own x.0
       × (get_or rows index (row_of whole base (own, x.1, x.2)) ≡ row_of whole base (own, x.1, x.2)))
@@ -41,7 +41,7 @@ module _ {Symbol Word Weight Refusal : Type 0} (Stands : Symbol → Symbol → T
       ((ok.0, ok.1, rw ok.2 at (found.row row)), tt)
   row-answered (Err e) ok err = (tt, (err.0, rw err.1 at (found.row err.0), err.2))
 
-  -- and so does what stands for that row
+  -- and so does an answer that stands for that row
   pub row-stood_for : (result : Result (Symbol × Word × Weight) Refusal)
       → (r : Row Symbol) × (slice_get rows index ≡ Some r) × StandsFor Stands MayRefuse whole base result r
       → IfOk result (AnswersQuantile Stands whole base rows q) × IfErr result (λ _. RowMayBeRefused MayRefuse rows q)
@@ -49,7 +49,7 @@ module _ {Symbol Word Weight Refusal : Type 0} (Stands : Symbol → Symbol → T
       ((at.2.0.0, at.2.0.1, subst (IsRowOf rows q) (sym at.2.0.2) (row-found rows q index at.0 found at.1)), tt)
   row-stood_for (Err e) at = (tt, (at.0, row-found rows q index at.0 found at.1, at.2.1))
 
--- where all rows are in question, what a search of them finds is the index of the quantile's row
+-- if all rows are in question, a search of them finds the index of the quantile's row
 pub all-searched : {Symbol P Word : Type 0} (g : Ghosts P Word) (bits precision : ℕ) (rows : List (Row Symbol)) (q first i : ℕ)
     (probe : P) → RowsTile bits precision rows → q < 2 ^ precision → IsProbeFor g rows (λ _. ⊤) q first probe
     → IsLastAtMost (g.cumulatives probe) q i → IsRowIndexOf rows q i

@@ -1,4 +1,4 @@
--- The words of a table that are lent: those of its slots, and what stands after these.
+-- The words that a table lends: the words of its slots, and the words after these.
 use Rattle.std.proofs.Common.{◌≡◌, ℕ, ◌-◌, ◌*◌, List, length, map, take, drop, arith}
 use Rattle.std.proofs.lemmas.List.{drop-map, length-drop, take-map, take_all}
 use Rattle.constriction_stored_rows.specs.SlotTable.{BeginsWithSlots, HasSlots, MayFollow, words_a_slot}

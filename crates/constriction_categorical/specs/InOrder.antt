@@ -4,7 +4,7 @@ use Rattle.std.specs.List.Sorted.{IsStrictlySortedBy}
 use Rattle.std.specs.declared.cmp.Ordering.{Ordering}
 use Rattle.constriction_model.specs.Acceptance.{AreAccepted}
 
--- symbols and completed weights that a model of any symbols accepts, and the symbols are in order: each is less than the next one
+-- a model of any symbols accepts the symbols and completed weights, and each symbol is less than the next one
 abbrev pub AreInOrder : {Symbol : Type 0} → (Symbol → Symbol → Bool) → (Symbol → Symbol → Ordering) → (bits precision : ℕ)
     → List Symbol → List ℕ → Type 0
 AreInOrder eq cmp bits precision symbols weights =

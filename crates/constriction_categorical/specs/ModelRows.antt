@@ -1,4 +1,4 @@
--- The rows of each model that is given by weights: what its member `rows` tells, in one word for the clauses that speak of it.
+-- The rows of each model of given weights, its member `rows`, under one name for the clauses that speak of them.
 use Rattle.std.specs.Prelude.{ℕ, List, map}
 use Rattle.std.specs.declared.cmp.PartialEq as equality
 use Rattle.constriction_numbers.specs.declared.whole_number.WholeNumber as number
@@ -11,13 +11,13 @@ use Rattle.constriction_categorical.specs.declared.lookup.LookupDecoderModel.{Lo
 use Rattle.constriction_categorical.specs.declared.non_contiguous.NonContiguousCategoricalDecoderModel as decoder
 
 module _ {Word NonZero Cdf : Type 0} {precision : ℕ} {words : number.Ghosts Word NonZero} {cdf : buffer.Ghosts Cdf Word} where
-  -- the rows of a model of the symbols 0, 1, ..: their weights are those of the left cumulatives in its cdf
+  -- the rows of a model of the symbols 0, 1, ..: their weights follow from the left cumulatives in its cdf
   abbrev pub contiguous_model_rows : ContiguousCategoricalEntropyModel Word Cdf precision NonZero words cdf → List (Row ℕ)
   contiguous_model_rows m = contiguous_rows (weights_of precision (lefts_in (map words.whole (cdf.words_of m.cdf))))
 
 module _ {Symbol Word NonZero Cdf : Type 0} {precision : ℕ} {symbols : equality.Ghosts Symbol} {words : number.Ghosts Word NonZero}
     {cdf : buffer.Ghosts Cdf (Word × Symbol)} where
-  -- the rows of a decoder's model of any symbols: those of its entries, each a left cumulative and a symbol
+  -- the rows of a decoder's model of any symbols: the rows of its entries, each a left cumulative and a symbol
   abbrev pub decoder_model_rows : decoder.NonContiguousCategoricalDecoderModel Symbol Word Cdf precision NonZero symbols words cdf
       → List (Row Symbol)
   decoder_model_rows m = rows_paired words.whole precision (cdf.words_of m.cdf)
@@ -25,7 +25,7 @@ module _ {Symbol Word NonZero Cdf : Type 0} {precision : ℕ} {symbols : equalit
 module _ {Model LookupTable Symbol Word NonZero : Type 0} {precision slot_bits : ℕ}
     {searching : model.Ghosts Model precision Symbol Word NonZero} {words : number.Ghosts Word NonZero}
     {table : buffer.Ghosts LookupTable Word} where
-  -- the rows of a lookup model: those of the searching model beside its lookup table
+  -- the rows of a lookup model: the rows of the searching model beside its lookup table
   abbrev pub lookup_model_rows : LookupDecoderModel Model LookupTable precision slot_bits Symbol Word NonZero searching words table
       → List (Row Symbol)
   lookup_model_rows m = searching.rows m.model

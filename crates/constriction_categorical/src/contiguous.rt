@@ -24,7 +24,7 @@ use std::marker::PhantomData;
 
 /// A model of the symbols 0, 1, .., given by their weights.
 ///
-/// It stores one word a symbol, the left cumulative, and one word more, the total, in a buffer of
+/// It stores one word a symbol, the left cumulative, and one more word, the total, in a buffer of
 /// the caller's choice.
 #[derive(Debug, Drop)]
 pub struct ContiguousCategoricalEntropyModel<
@@ -56,18 +56,18 @@ impl<Probability: WholeNumber, const PRECISION: usize> ContiguousCategoricalEntr
 > {
     ghost use Rattle.constriction_categorical.specs.ModelRows.{contiguous_model_rows};
 
-    /// The model of these weights. Where the last weight is inferred, it is what the given ones
-    /// leave of `2^PRECISION`, and there is one symbol more than given weights.
+    /// The model of these weights. If the last weight is inferred, it is what the given weights leave of
+    /// `2^PRECISION`, and there is one more symbol than given weights.
     ///
-    /// The weights are accepted exactly where they are all positive, the inferred one included,
-    /// their sum is `2^PRECISION`, and each of them is a word. So below the full width of the word
-    /// the single weight `2^PRECISION` is accepted, and so is the empty list where the last weight is
-    /// inferred. At the full width neither is, as `2^PRECISION` is no word. `InvalidTable` comes where they are not
-    /// accepted, whether the iterator was read to its end or only so far that no list that begins
-    /// so is accepted. `OutOfMemory` comes where memory for the cdf is refused.
+    /// The weights are accepted if and only if all, with the inferred one, are positive, add up to
+    /// `2^PRECISION` and are words. So below the full width of the word the single weight `2^PRECISION` is
+    /// accepted, and so is the empty list if the last weight is inferred. At the full width neither is,
+    /// since `2^PRECISION` is no word. If the weights are not accepted, `InvalidTable` comes after the iterator
+    /// was read to its end, or as soon as no list with this beginning is accepted. `OutOfMemory` comes if
+    /// memory for the cdf is refused.
     ///
-    /// One pass over the weights, one word of memory a symbol, and one allocation where the iterator
-    /// announces how many weights there are.
+    /// One pass over the weights, one word of memory a symbol, and one allocation if the iterator
+    /// announces the number of weights.
     pub fn from_nonzero_fixed_point_probabilities<I: IntoIterator<Item = Probability>>(
         alloc: Global,
         probabilities: I,
@@ -97,7 +97,7 @@ impl<Probability: WholeNumber, const PRECISION: usize> Clone
 
     ghost is_clone = { λ x y. contiguous_model_rows y ≡ contiguous_model_rows x };
 
-    /// A model of the same rows, with a cdf of its own from the allocator of this one's.
+    /// A copy of the model. Its cdf comes from the allocator of this model's.
     ///
     /// One allocation and one copy of the cdf.
     fn clone(&self) -> Result<Self, AllocError> {
@@ -129,7 +129,7 @@ impl<
         &cdf[..cdf.len() - 1]
     }
 
-    /// The same model over a copy of the cdf of this one.
+    /// The same model over a copy of the cdf.
     pub(crate) fn clone_in(
         &self,
         alloc: Global,
@@ -146,7 +146,7 @@ impl<
         })
     }
 
-    /// The same model over the cdf of this one.
+    /// A view of the model, which borrows its cdf.
     #[inline]
     pub fn as_view<'m>(
         &'m self,
@@ -159,9 +159,9 @@ impl<
         }
     }
 
-    /// A probe of the rows in question for a quantile, which are all rows, and the index of the
-    /// first of them. What [`row_of_quantile`] answers on it, plus that index, is the index of the
-    /// quantile's row.
+    /// A probe of the rows in question for a quantile, which are all rows, and the index of the first
+    /// one. This index plus what [`row_of_quantile`] answers on the probe is the index of the quantile's
+    /// row.
     ///
     /// [`row_of_quantile`]: constriction_model::row_of_quantile
     #[inline]
@@ -245,13 +245,13 @@ impl<
 
     ghost is_equality = { λ eq. eq ≡ nat_eq };
 
-    /// They are 0, 1, ..
+    /// `true`: the symbols are 0, 1, ..
     #[inline]
     fn symbols_differ(&self) -> bool {
         true
     }
 
-    /// All rows in order, each once: symbol, left cumulative and weight. It takes no memory, and
+    /// All rows in order, each once: symbol, left cumulative and weight. The walk takes no memory, and
     /// every item is a row.
     #[inline]
     fn symbol_table(self) -> ContiguousSymbolTable<'m, Probability, PRECISION> {

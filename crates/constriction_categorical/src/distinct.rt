@@ -1,7 +1,7 @@
 //! Constructors of the decoder over any symbols that do not compare each symbol with all before it.
 //!
-//! [`into_lookup_decoder_model`](NonContiguousCategoricalDecoderModel::into_lookup_decoder_model) makes a lookup
-//! model of what they make.
+//! [`into_lookup_decoder_model`](NonContiguousCategoricalDecoderModel::into_lookup_decoder_model) turns their
+//! models into lookup models.
 
 ghost use Rattle.std.specs.Prelude.{◌≡◌, ◌<◌, ◌≤◌, map, IfOk};
 ghost use Rattle.std.specs.Iterator.{IsFiniteIterable};
@@ -43,7 +43,7 @@ fn entries_of_distinct<
     entries_read::<P, Symbol, S, W, PRECISION>(alloc, symbols, weights, infer_last)
 }
 
-/// The entries of these symbols and weights, if no two of the symbols are equal, which a hash of each tells.
+/// The entries of these symbols and weights, if no two of the symbols are equal. Each symbol is hashed.
 #[inline]
 fn entries_hashed<
     P: WholeNumber,
@@ -103,10 +103,10 @@ impl<
     const PRECISION: usize,
 > NonContiguousCategoricalDecoderModel<Symbol, Probability, Vec<(Probability, Symbol)>, PRECISION> {
     /// The model of these symbols and weights, for a caller who knows that no two of the symbols are equal. It
-    /// accepts and refuses what [`from_symbols_and_nonzero_fixed_point_probabilities`] does.
+    /// accepts and refuses the same as [`from_symbols_and_nonzero_fixed_point_probabilities`].
     ///
-    /// One pass over both, one entry a symbol, and one allocation where the symbols' iterator announces how many
-    /// there are. No symbol is compared or cloned.
+    /// One pass over both, one entry a symbol, and one allocation if the symbols' iterator announces their
+    /// number. No symbol is compared or cloned.
     ///
     /// [`from_symbols_and_nonzero_fixed_point_probabilities`]: Self::from_symbols_and_nonzero_fixed_point_probabilities
     #[tactic(auto, using(crate::proofs::Remade::made_of_both, crate::proofs::Remade::refused_both))]
@@ -144,12 +144,12 @@ impl<
     Probability: WholeNumber,
     const PRECISION: usize,
 > NonContiguousCategoricalDecoderModel<Symbol, Probability, Vec<(Probability, Symbol)>, PRECISION> {
-    /// The model of these symbols and weights, for symbols that have a hash. It accepts and refuses what
-    /// [`from_symbols_and_nonzero_fixed_point_probabilities`] does. Two equal symbols are found once both
-    /// iterators were read to their ends. `OutOfMemory` comes where memory for the entries, or for a set of
+    /// The model of these symbols and weights, for symbols that have a hash. It accepts and refuses the same as
+    /// [`from_symbols_and_nonzero_fixed_point_probabilities`], but finds two equal symbols only after both
+    /// iterators were read to their ends. `OutOfMemory` comes if memory for the entries, or for a set of
     /// references to the symbols, is refused.
     ///
-    /// One pass over both, and one hash a symbol after it. No symbol is cloned. The set has as many places as there
+    /// One pass over both, and then one hash a symbol. No symbol is cloned. The set has as many places as there
     /// are symbols, and is dropped before the call returns.
     ///
     /// [`from_symbols_and_nonzero_fixed_point_probabilities`]: Self::from_symbols_and_nonzero_fixed_point_probabilities
@@ -187,13 +187,12 @@ impl<
     Probability: WholeNumber,
     const PRECISION: usize,
 > NonContiguousCategoricalDecoderModel<Symbol, Probability, Vec<(Probability, Symbol)>, PRECISION> {
-    /// The model of these symbols and weights, for symbols in increasing order. Where they are, it accepts and
-    /// refuses what [`from_symbols_and_nonzero_fixed_point_probabilities`] does. Where one of them is not less
-    /// than the next one, they are refused: `InvalidTable` then says that the list is invalid or not in order,
-    /// and another constructor may accept it.
+    /// The model of these symbols and weights, for symbols in increasing order. It then accepts and refuses the
+    /// same as [`from_symbols_and_nonzero_fixed_point_probabilities`]. If a symbol is not less than the next one,
+    /// it refuses them. So `InvalidTable` means that the lists are invalid or not in order, and in the second case
+    /// another constructor may accept them.
     ///
-    /// One pass over both, one entry a symbol, and one comparison of neighbours for each symbol after it. No symbol
-    /// is cloned.
+    /// One pass over both, one entry a symbol, and then one comparison of each two neighbours. No symbol is cloned.
     ///
     /// [`from_symbols_and_nonzero_fixed_point_probabilities`]: Self::from_symbols_and_nonzero_fixed_point_probabilities
     #[tactic(auto, using(crate::proofs::Remade::made_of_both, crate::proofs::Remade::refused_both))]

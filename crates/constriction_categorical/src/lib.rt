@@ -1,8 +1,8 @@
-//! Entropy models that are given by a list of weights.
+//! Entropy models of given weights.
 //!
 //! Models of the symbols 0, 1, .. and of any symbols, which search for the row of a quantile; the same with a
-//! lookup table that tells where to search; and walks through their rows. Encoders that hash, and models that are made of
-//! any model that can be walked through, stand in the crate above.
+//! lookup table that says where to search; and walks through their rows. The crate above has encoders that hash, and makes
+//! models of any model that can be walked through.
 #![tactic(auto)]
 
 mod contiguous;

@@ -11,18 +11,20 @@ use constriction_model::{DecoderModel, EntropyModel, ModelError, Probe, Weight};
 use constriction_stored_rows::{CdfProbe, row_in_slot, slot_probe, table_of_slots, words_of_table};
 use std::alloc::{AllocError, Global};
 
-/// A searching model with a lookup table, for decoders: the lookup table tells where to search for the row of a
+/// A searching model with a lookup table, for decoders. The lookup table says where to search for the row of a
 /// quantile.
 ///
 /// The quantiles are divided into `2^min(PRECISION, SLOT_BITS)` slots of equal width. The lookup table has two
-/// words a slot, the first and the last row that meet it, so a look-up searches the rows between these
-/// alone. Two comparisons tell up to three of them apart; none is made where the model has few rows and one of them meets the
-/// slot. Where `SLOT_BITS` is at least `PRECISION`, a slot holds one quantile: the lookup table has one word a slot, the
-/// quantile's row, and a look-up searches nothing.
-/// Beside the lookup table stands the searching model. Of a model over any symbols the lookup table has, after its slots, where
-/// each row begins and the total, so that the words of a row stand side by side.
+/// words a slot, the first and the last row that meet it, so a look-up searches only the rows from one to the
+/// other. Up to three rows take at most two comparisons, and in a model of few rows one row takes none.
 ///
-/// [`ContiguousLookupDecoderModel`] and [`NonContiguousLookupDecoderModel`] are names of it with 8
+/// If `SLOT_BITS` is at least `PRECISION`, a slot holds one quantile. The lookup table then has one word a slot, the
+/// quantile's row, and a look-up searches nothing.
+///
+/// In a model over any symbols the lookup table also has the left cumulatives and the total after its slots, so that a
+/// look-up finds the words of a row side by side.
+///
+/// [`ContiguousLookupDecoderModel`] and [`NonContiguousLookupDecoderModel`] are names of this type with 8
 /// `SLOT_BITS`. A caller's own model that [`StoresRows`] gets a lookup table by [`with_table`](Self::with_table).
 ///
 /// [`ContiguousLookupDecoderModel`]: crate::ContiguousLookupDecoderModel
@@ -67,8 +69,8 @@ impl<
 
     /// The model of the same rows, with a lookup table. It fails only if memory for the lookup table is refused.
     ///
-    /// One pass over the rows, or two where the lookup table has where each row begins, and one allocation: of two words a
-    /// slot, or of one where a slot holds one quantile, and of one word a row and one more where the lookup table has these.
+    /// One pass over the rows and one allocation, of two words a slot, or of one if a slot holds one quantile. Left cumulatives
+    /// and the total in the lookup table take a second pass, and in the same allocation one word a row and one more.
     pub fn with_table(alloc: Global, model: Model) -> Result<Self, AllocError>
     where
         Model: Drop,
@@ -87,8 +89,8 @@ impl<
     }
 }
 
-/// The model that [`LookupDecoderModel::with_table`] makes, with the refusal of a constructor, which is `OutOfMemory`. Where
-/// memory for the lookup table is refused, the searching model is given up. Crates above call it that have made one.
+/// The model that [`LookupDecoderModel::with_table`] makes, with `OutOfMemory` as the error, as constructors have it. If
+/// memory for the lookup table is refused, the searching model is dropped. Crates above call it when they have made one.
 #[inline]
 pub fn lookup_over<Model, const PRECISION: usize, const SLOT_BITS: usize>(
     alloc: Global,
@@ -134,7 +136,7 @@ where
         &self.lookup_table.words()[..words_of_table::<PRECISION, SLOT_BITS>()]
     }
 
-    /// What stands after these.
+    /// The words after the slots.
     #[inline(always)]
     fn after_slots<'m>(&'m self) -> &'m [Model::Probability]
         ensures { MayFollow Model.Probability.BITS PRECISION (map (λ r. r.left) (Model.rows self.now.model))
@@ -143,10 +145,10 @@ where
         &self.lookup_table.words()[words_of_table::<PRECISION, SLOT_BITS>()..]
     }
 
-    /// A probe of the rows in question for a quantile, which are those that meet its slot, and the
-    /// index of the first of them. What [`row_of_quantile`] answers on it, plus that index, is the
-    /// index of the quantile's row. Where `m` rows meet the slot, the search asks as many questions as
-    /// `m - 1` has binary digits.
+    /// A probe of the rows in question for a quantile, which are the rows that meet its slot, and the
+    /// index of the first one. This index plus what [`row_of_quantile`] answers on the probe is the index
+    /// of the quantile's row. If `m` rows meet the slot, the search asks as many questions as `m - 1` has
+    /// binary digits.
     ///
     /// [`row_of_quantile`]: constriction_model::row_of_quantile
     #[inline]
@@ -190,8 +192,8 @@ where
 
     ghost may_refuse = { Model.may_refuse };
 
-    /// The row of a quantile, by the lookup table, and where more than one row meets the quantile's slot by comparing
-    /// the quantile with where these begin. Where the model owns its symbols the answer has a clone.
+    /// The row of a quantile, by the lookup table. If more than one row meets the quantile's slot, the quantile is compared
+    /// with their left cumulatives. A model that owns its symbols answers a clone.
     #[inline(always)]
     fn quantile_function(
         &self,
@@ -223,8 +225,7 @@ where
 {
     ghost use Rattle.constriction_categorical.specs.ModelRows.{lookup_model_rows};
 
-    /// The searching model without the lookup table, which is dropped: the model that was given to
-    /// [`with_table`](Self::with_table).
+    /// The searching model, which was given to [`with_table`](Self::with_table). The lookup table is dropped.
     #[inline]
     pub fn into_searching_model(self) -> Model
     where

@@ -20,10 +20,10 @@ use constriction_stored_rows::copy_of;
 use std::alloc::{AllocError, Global};
 
 /// A model of the symbols 0, 1, .., given by their weights, for decoders: a lookup table of
-/// `2^min(PRECISION, SLOT_BITS)` slots tells where to search for the row of a quantile.
+/// `2^min(PRECISION, SLOT_BITS)` slots says where to search for the row of a quantile.
 ///
-/// Beside the lookup table of a [`LookupDecoderModel`] stands what a [`ContiguousCategoricalEntropyModel`]
-/// stores, one word a symbol and one word more.
+/// Beside the lookup table of a [`LookupDecoderModel`] it stores the cdf of a
+/// [`ContiguousCategoricalEntropyModel`], one word a symbol and one more.
 pub type SlottedContiguousLookupDecoderModel<
     Probability,
     Cdf,
@@ -37,7 +37,7 @@ pub type SlottedContiguousLookupDecoderModel<
     SLOT_BITS,
 >;
 
-/// The model with `2^min(PRECISION, 8)` slots, whose lookup table has 512 words at most.
+/// The model with `2^min(PRECISION, 8)` slots. Its lookup table has at most 512 words.
 pub type ContiguousLookupDecoderModel<Probability, Cdf, LookupTable, const PRECISION: usize> =
     SlottedContiguousLookupDecoderModel<Probability, Cdf, LookupTable, PRECISION, 8>;
 
@@ -45,17 +45,17 @@ pub type ContiguousLookupDecoderModel<Probability, Cdf, LookupTable, const PRECI
 pub type SmallContiguousLookupDecoderModel<Cdf = Vec<u16>, LookupTable = Vec<u16>> =
     ContiguousLookupDecoderModel<u16, Cdf, LookupTable, 12>;
 
-/// The model over 12 bits of `u16` with a slot for each quantile: its lookup table has 4,096 words, and a look-up
+/// The model over 12 bits of `u16` with a slot for each quantile. Its lookup table has 4,096 words, and a look-up
 /// searches nothing.
 pub type SmallContiguousDirectLookupDecoderModel<Cdf = Vec<u16>, LookupTable = Vec<u16>> =
     SlottedContiguousLookupDecoderModel<u16, Cdf, LookupTable, 12, 12>;
 
-/// The model over 24 bits of `u32`, as [`DefaultContiguousCategoricalEntropyModel`], with 4,096 slots: its lookup table has
+/// The model over 24 bits of `u32`, as [`DefaultContiguousCategoricalEntropyModel`], with 4,096 slots. Its lookup table has
 /// 8,192 words, 32 KiB, beside one word a symbol and one more.
 ///
-/// A look-up takes a quarter to two fifths of the time that a search of all rows takes. The lookup table takes time to make: of
-/// 4,096 rows it pays after some 2,000 look-ups, and who decodes fewer symbols with one model searches. Where memory
-/// counts, [`ContiguousLookupDecoderModel`] has 512 words.
+/// A look-up takes a quarter to two fifths of the time that a search of all rows takes. The lookup table takes time to make:
+/// with 4,096 rows it pays after some 2,000 look-ups. To decode fewer symbols with one model, take the searching model. If
+/// memory counts, take [`ContiguousLookupDecoderModel`], with 512 words.
 ///
 /// [`DefaultContiguousCategoricalEntropyModel`]: crate::DefaultContiguousCategoricalEntropyModel
 pub type DefaultContiguousLookupDecoderModel<Cdf = Vec<u32>, LookupTable = Vec<u32>> =
@@ -74,11 +74,11 @@ impl<
 > {
     /// The model of these weights. It accepts what
     /// [`ContiguousCategoricalEntropyModel::from_nonzero_fixed_point_probabilities`] accepts, and
-    /// refuses the others with `InvalidTable` as soon as that is known, before there is a lookup table of
-    /// slots. `OutOfMemory` comes where memory for the rows or for the lookup table is refused.
+    /// refuses all else with `InvalidTable` as soon as that is known, before it makes the lookup table.
+    /// `OutOfMemory` comes if memory for the rows or for the lookup table is refused.
     ///
     /// One pass over the weights and one over the rows. Beside the rows it takes one allocation for the
-    /// lookup table, with 8 `SLOT_BITS` of 512 words at most.
+    /// lookup table, of at most 512 words with 8 `SLOT_BITS`.
     #[tactic(auto, using(crate::proofs::Remade::made_of_weights, crate::proofs::Remade::refused_weights))]
     pub fn from_nonzero_fixed_point_probabilities<I: IntoIterator<Item = Probability>>(
         alloc: Global,
@@ -113,7 +113,7 @@ impl<Probability: IndexWord, const PRECISION: usize, const SLOT_BITS: usize> Clo
     > {
     ghost is_clone = { λ x y. lookup_model_rows y ≡ lookup_model_rows x };
 
-    /// A model of the same rows, with rows and a lookup table of its own from the allocators of this one's.
+    /// A copy of the model. Its rows and its lookup table come from the allocators of this model's.
     ///
     /// Two allocations, and one copy of each.
     fn clone(&self) -> Result<Self, AllocError> {
@@ -133,8 +133,8 @@ impl<
     Cdf: SafeBuf<Probability>,
     const PRECISION: usize,
 > ContiguousCategoricalEntropyModel<Probability, Cdf, PRECISION> {
-    /// The model of the same rows that looks up where to search. Its only refusal is `OutOfMemory`,
-    /// where memory for a copy of the rows, or for the lookup table, is refused.
+    /// The lookup model of the same rows. The only error is `OutOfMemory`, if memory for a copy of the
+    /// rows or for the lookup table is refused.
     ///
     /// Two allocations, one copy of the rows and one pass over them.
     pub fn to_lookup_decoder_model(
@@ -184,7 +184,7 @@ impl<
     const PRECISION: usize,
     const SLOT_BITS: usize,
 > SlottedContiguousLookupDecoderModel<Probability, Cdf, LookupTable, PRECISION, SLOT_BITS> {
-    /// The same model over the rows and the lookup table of this one.
+    /// A view of the model, which borrows its rows and its lookup table.
     #[inline]
     pub fn as_view<'m>(
         &'m self,
@@ -203,8 +203,7 @@ impl<
         }
     }
 
-    /// The model of the same rows, over the rows of this one, that searches all of them. It encodes
-    /// too.
+    /// The searching model of the same rows, which borrows them. It encodes too.
     #[inline]
     pub fn as_contiguous_categorical<'m>(
         &'m self,
@@ -236,13 +235,13 @@ impl<
 
     ghost is_equality = { λ eq. eq ≡ nat_eq };
 
-    /// They are 0, 1, ..
+    /// `true`: the symbols are 0, 1, ..
     #[inline]
     fn symbols_differ(&self) -> bool {
         true
     }
 
-    /// All rows in order, each once: symbol, left cumulative and weight. It takes no memory, and
+    /// All rows in order, each once: symbol, left cumulative and weight. The walk takes no memory, and
     /// every item is a row.
     #[inline]
     fn symbol_table(self) -> ContiguousSymbolTable<'m, Probability, PRECISION> {

@@ -21,11 +21,12 @@ use constriction_numbers::IndexWord;
 use constriction_stored_rows::copy_of;
 use std::alloc::{AllocError, Global};
 
-/// A model of any symbols, no two of which are equal, for decoders: a lookup table of
-/// `2^min(PRECISION, SLOT_BITS)` slots tells where to search for the row of a quantile.
+/// A model of any distinct symbols, for decoders: a lookup table of `2^min(PRECISION, SLOT_BITS)` slots says where to
+/// search for the row of a quantile.
 ///
-/// Beside the lookup table of a [`LookupDecoderModel`] stands what a [`NonContiguousCategoricalDecoderModel`] stores, one
-/// entry a symbol. The lookup table has one word a symbol and one more after its slots.
+/// Beside the lookup table of a [`LookupDecoderModel`] it stores the entries of a
+/// [`NonContiguousCategoricalDecoderModel`], one a symbol. After its slots the lookup table has one word a symbol and one
+/// more.
 pub type SlottedNonContiguousLookupDecoderModel<
     Symbol,
     Probability,
@@ -40,7 +41,7 @@ pub type SlottedNonContiguousLookupDecoderModel<
     SLOT_BITS,
 >;
 
-/// The model with `2^min(PRECISION, 8)` slots, which are 512 words of its lookup table at most.
+/// The model with `2^min(PRECISION, 8)` slots, which take at most 512 words of its lookup table.
 pub type NonContiguousLookupDecoderModel<
     Symbol,
     Probability,
@@ -56,18 +57,19 @@ pub type SmallNonContiguousLookupDecoderModel<
     LookupTable = Vec<u16>,
 > = NonContiguousLookupDecoderModel<Symbol, u16, Cdf, LookupTable, 12>;
 
-/// The model over 12 bits of `u16` with a slot for each quantile, which are 4,096 words of its lookup table: a look-up
-/// searches nothing.
+/// The model over 12 bits of `u16` with a slot for each quantile. The slots take 4,096 words of its lookup table, and a
+/// look-up searches nothing.
 pub type SmallNonContiguousDirectLookupDecoderModel<
     Symbol,
     Cdf = Vec<(u16, Symbol)>,
     LookupTable = Vec<u16>,
 > = SlottedNonContiguousLookupDecoderModel<Symbol, u16, Cdf, LookupTable, 12, 12>;
 
-/// The model over 24 bits of `u32`, as [`DefaultNonContiguousCategoricalDecoderModel`], with 4,096 slots, which are 8,192
-/// words of its lookup table, 32 KiB; after these stand one word a symbol and one more, and beside them an entry a symbol.
+/// The model over 24 bits of `u32`, as [`DefaultNonContiguousCategoricalDecoderModel`], with 4,096 slots. The slots take
+/// 8,192 words of its lookup table, 32 KiB. After them it has one word a symbol and one more, and beside it an entry a
+/// symbol.
 ///
-/// When it pays is as of [`DefaultContiguousLookupDecoderModel`]: from a few thousand symbols to decode on.
+/// It pays from a few thousand symbols to decode on, as [`DefaultContiguousLookupDecoderModel`] does.
 ///
 /// [`DefaultNonContiguousCategoricalDecoderModel`]: crate::DefaultNonContiguousCategoricalDecoderModel
 /// [`DefaultContiguousLookupDecoderModel`]: crate::DefaultContiguousLookupDecoderModel
@@ -77,8 +79,8 @@ pub type DefaultNonContiguousLookupDecoderModel<
     LookupTable = Vec<u32>,
 > = SlottedNonContiguousLookupDecoderModel<Symbol, u32, Cdf, LookupTable, 24, 12>;
 
-// The model whose rows and lookup table are its own. Its short name keeps the names of modules of proofs below 239 characters:
-// longer ones are not kept, and each crate above checks them anew.
+// The model that owns its rows and its lookup table. Its short name keeps the names of proof modules below 239 characters: modules with
+// longer names are not kept, and each crate above checks them anew.
 type OwnLookupDecoderModel<Symbol, Probability, const PRECISION: usize, const SLOT_BITS: usize> =
     SlottedNonContiguousLookupDecoderModel<
         Symbol,
@@ -97,13 +99,13 @@ impl<
 > OwnLookupDecoderModel<Symbol, Probability, PRECISION, SLOT_BITS> {
     /// The model of these symbols and weights. It accepts what
     /// [`NonContiguousCategoricalDecoderModel::from_symbols_and_nonzero_fixed_point_probabilities`]
-    /// accepts, so distinct symbols alone, and refuses the others with `InvalidTable` as soon as that is
-    /// known, before there is a lookup table of slots. `OutOfMemory` comes where memory for the rows or for the lookup table is
+    /// accepts, so only distinct symbols, and refuses all else with `InvalidTable` as soon as that is known,
+    /// before it makes the lookup table. `OutOfMemory` comes if memory for the rows or for the lookup table is
     /// refused.
     ///
-    /// One pass over both, in which each symbol is compared with those before it, and two over the rows. No symbol is
-    /// cloned. Beside the rows it takes one allocation for the lookup table, with 8 `SLOT_BITS` of 512 words at most and
-    /// one word a symbol and one more.
+    /// One pass over both, in which each symbol is compared with all before it, and two over the rows. No symbol is
+    /// cloned. Beside the rows it takes one allocation for the lookup table: with 8 `SLOT_BITS`, at most 512 words, one
+    /// word a symbol and one more.
     #[tactic(auto, using(crate::proofs::Remade::made_of_both, crate::proofs::Remade::refused_both))]
     pub fn from_symbols_and_nonzero_fixed_point_probabilities<
         S: IntoIterator<Item = Symbol>,
@@ -144,10 +146,10 @@ impl<
     const PRECISION: usize,
     const SLOT_BITS: usize,
 > OwnLookupDecoderModel<Symbol, Probability, PRECISION, SLOT_BITS> {
-    /// A model of the same rows with clones of the symbols, and with rows and a lookup table of its own from the
-    /// allocators of this one's. A clone has to be equal to its symbol, so that no two are equal.
+    /// A copy of the model, with clones of the symbols. Its rows and its lookup table come from the allocators of this
+    /// model's. A clone has to be equal to its symbol, so that no two clones are equal.
     ///
-    /// Two allocations, and a clone of each symbol. It is refused where memory for one of these is.
+    /// Two allocations, and a clone of each symbol. The call fails if memory for one of these is refused.
     pub fn clone(&self) -> Result<Self, AllocError>
         requires { ClonesAreEqual Symbol.eq Symbol.is_clone }
         ensures { IfOk result (λ m. StandForRows Symbol.is_clone (lookup_model_rows m) (lookup_model_rows self.now)) }
@@ -169,9 +171,9 @@ impl<
     Cdf: SafeBuf<(Probability, Symbol)>,
     const PRECISION: usize,
 > NonContiguousCategoricalDecoderModel<Symbol, Probability, Cdf, PRECISION> {
-    /// The model of the same rows, with clones of the symbols, that looks up where to search. A clone has to be
-    /// equal to its symbol, so that no two are equal. Its only refusal is `OutOfMemory`, where memory for the
-    /// rows, for a clone of a symbol, or for the lookup table is refused.
+    /// The lookup model of the same rows, with clones of the symbols. A clone has to be equal to its symbol, so
+    /// that no two clones are equal. The only error is `OutOfMemory`, if memory for the rows, for a clone of a
+    /// symbol, or for the lookup table is refused.
     ///
     /// Two allocations, a clone of each symbol, and two passes over the rows. No symbols are compared.
     pub fn to_lookup_decoder_model(
@@ -228,9 +230,9 @@ impl<
     Probability: IndexWord,
     const PRECISION: usize,
 > NonContiguousCategoricalDecoderModel<Symbol, Probability, Vec<(Probability, Symbol)>, PRECISION> {
-    /// The model of the same rows, with the entries of this one, that looks up where to search. So each
-    /// constructor of this type is one of a lookup model too. Its only refusal is `OutOfMemory`, where memory
-    /// for the lookup table is refused, and then the model is given up.
+    /// The lookup model of the same rows, with the entries of this model. So each constructor of this type makes
+    /// lookup models too. The only error is `OutOfMemory`, if memory for the lookup table is refused, and then
+    /// this model is dropped.
     ///
     /// One allocation and two passes over the rows. No symbol is cloned or compared.
     pub fn into_lookup_decoder_model(
@@ -269,7 +271,7 @@ impl<
     PRECISION,
     SLOT_BITS,
 > {
-    /// The same model over the entries and the lookup table of this one.
+    /// A view of the model, which borrows its entries and its lookup table.
     #[inline]
     pub fn as_view<'m>(
         &'m self,
@@ -289,7 +291,7 @@ impl<
         }
     }
 
-    /// The model of the same rows, over the entries of this one, that searches all of them.
+    /// The searching model of the same rows, which borrows the entries.
     #[inline]
     pub fn as_non_contiguous_categorical<'m>(
         &'m self,
@@ -332,14 +334,14 @@ impl<
 
     ghost is_equality = { λ eq. (eq ≡ Symbol.eq) × ClonesAreEqual Symbol.eq Symbol.is_clone };
 
-    /// No two symbols are equal, and who converts by it shows that a clone is equal to its symbol.
+    /// No two symbols are equal. A caller who relies on this shows that a clone is equal to its symbol.
     #[inline]
     fn symbols_differ(&self) -> bool {
         true
     }
 
-    /// All rows in order, each once: symbol, left cumulative and weight, the symbol by a clone. Where
-    /// memory for a clone is refused, the refusal stands in the row's place.
+    /// All rows in order, each once: a clone of the symbol, the left cumulative and the weight. If memory
+    /// for a clone is refused, the row's item is the refusal.
     #[inline]
     fn symbol_table(self) -> NonContiguousSymbolTable<'m, Symbol, Probability, PRECISION> {
         (&self.model).symbol_table()

@@ -25,10 +25,10 @@ use constriction_stored_rows::{
 use std::alloc::{AllocError, Global};
 use std::marker::PhantomData;
 
-/// A model of any symbols, no two of which are equal, for decoders: it finds the row of a quantile.
+/// A model of any distinct symbols, for decoders: it finds the row of a quantile.
 ///
-/// It stores one entry a symbol, the left cumulative and the symbol, in a buffer of the caller's choice, and
-/// beside it two words, by which it reads where a row ends.
+/// It stores one entry a symbol, the left cumulative and the symbol, in a buffer of the caller's choice. Two
+/// words beside the buffer serve to compute where a row ends.
 #[derive(Debug, Drop)]
 pub struct NonContiguousCategoricalDecoderModel<
     Symbol: Eq,
@@ -97,8 +97,8 @@ fn entries_compared<
     rows_read::<P, Symbol, Vec<(P, Symbol)>, _, _, PRECISION>(room, symbols, weights, infer_last)
 }
 
-/// The model over these entries: a model's left cumulatives, each with a symbol, no two of which are equal. It takes
-/// no memory. Crates above call it that have collected entries.
+/// The model over these entries: a model's left cumulatives, each with a symbol, and all symbols distinct. It takes no
+/// memory. Crates above call it when they have collected entries.
 pub fn decoder_over<Symbol: Eq, Probability: WholeNumber, const PRECISION: usize>(
     entries: Vec<(Probability, Symbol)>,
 ) -> NonContiguousCategoricalDecoderModel<
@@ -129,20 +129,19 @@ impl<
 > NonContiguousCategoricalDecoderModel<Symbol, Probability, Vec<(Probability, Symbol)>, PRECISION> {
     ghost use Rattle.constriction_categorical.specs.ModelRows.{decoder_model_rows};
 
-    /// The model of these symbols and weights, one weight a symbol. Where the last weight is inferred,
-    /// it is what the given ones leave of `2^PRECISION`, and there is one symbol more than given weights.
+    /// The model of these symbols and weights, one weight a symbol. If the last weight is inferred, it is
+    /// what the given weights leave of `2^PRECISION`, and there is one more symbol than given weights.
     ///
-    /// They are accepted exactly where the weights are all positive, the inferred one included, their
-    /// sum is `2^PRECISION`, each of them is a word, there is exactly one symbol for each weight, and no
-    /// two symbols are equal. `InvalidTable` comes where they are not accepted, whether both iterators
-    /// were read to their ends or only so far that no lists that begin so are accepted. `OutOfMemory`
-    /// comes where memory for the entries is refused.
+    /// They are accepted if and only if all weights, with the inferred one, are positive, add up to
+    /// `2^PRECISION` and are words, there is exactly one symbol for each weight, and no two symbols are
+    /// equal. If they are not, `InvalidTable` comes after both iterators were read to their ends, or as soon
+    /// as no lists with this beginning are accepted. `OutOfMemory` comes if memory for the entries is refused.
     ///
-    /// One pass over both, one entry a symbol, and one allocation where the symbols' iterator announces how many
-    /// there are. No symbol is cloned. Each symbol is compared with those before it, which takes no memory and
-    /// `n * (n - 1) / 2` comparisons for `n` symbols. Where that is too much, take
+    /// One pass over both, one entry a symbol, and one allocation if the symbols' iterator announces their
+    /// number. No symbol is cloned. Each symbol is compared with all before it, which takes no memory and
+    /// `n * (n - 1) / 2` comparisons for `n` symbols. If that is too much, take
     /// [`from_hashable_symbols_and_nonzero_fixed_point_probabilities`],
-    /// [`from_sorted_symbols_and_nonzero_fixed_point_probabilities`], or, where symbols are known to differ,
+    /// [`from_sorted_symbols_and_nonzero_fixed_point_probabilities`], or, if symbols are known to differ,
     /// [`from_distinct_symbols_and_nonzero_fixed_point_probabilities`].
     ///
     /// [`from_hashable_symbols_and_nonzero_fixed_point_probabilities`]: Self::from_hashable_symbols_and_nonzero_fixed_point_probabilities
@@ -184,10 +183,10 @@ impl<
 > NonContiguousCategoricalDecoderModel<Symbol, Probability, Vec<(Probability, Symbol)>, PRECISION> {
     ghost use Rattle.constriction_categorical.specs.ModelRows.{decoder_model_rows};
 
-    /// A model of the same rows with clones of the symbols, and with entries of its own from the allocator of
-    /// this one's. A clone has to be equal to its symbol, so that no two are equal.
+    /// A copy of the model, with clones of the symbols. Its entries come from the allocator of this model's. A
+    /// clone has to be equal to its symbol, so that no two clones are equal.
     ///
-    /// One allocation, and a clone of each symbol. It is refused where memory for one of these is.
+    /// One allocation, and a clone of each symbol. The call fails if memory for one of these is refused.
     pub fn clone(&self) -> Result<Self, AllocError>
         requires { ClonesAreEqual Symbol.eq Symbol.is_clone }
         ensures { IfOk result (λ m. StandForRows Symbol.is_clone (decoder_model_rows m) (decoder_model_rows self.now)) }
@@ -212,7 +211,7 @@ impl<
         self.cdf.words().len()
     }
 
-    /// The entries: left cumulative and symbol of each row.
+    /// The entries: the left cumulative and the symbol of each row.
     #[inline]
     pub(crate) fn cdf_entries<'m>(&'m self) -> &'m [(Probability, Symbol)]
         ensures { result.now ≡ Cdf.words_of self.now.cdf }
@@ -220,7 +219,7 @@ impl<
         self.cdf.words()
     }
 
-    /// The same model over the entries of this one.
+    /// A view of the model, which borrows its entries.
     #[inline]
     pub fn as_view<'m>(
         &'m self,
@@ -239,9 +238,9 @@ impl<
         }
     }
 
-    /// A probe of the rows in question for a quantile, which are all rows, and the index of the
-    /// first of them. What [`row_of_quantile`] answers on it, plus that index, is the index of the
-    /// quantile's row.
+    /// A probe of the rows in question for a quantile, which are all rows, and the index of the first
+    /// one. This index plus what [`row_of_quantile`] answers on the probe is the index of the quantile's
+    /// row.
     ///
     /// [`row_of_quantile`]: constriction_model::row_of_quantile
     #[inline]
@@ -268,7 +267,7 @@ impl<
 > NonContiguousCategoricalDecoderModel<Symbol, Probability, Cdf, PRECISION> {
     ghost use Rattle.constriction_categorical.specs.ModelRows.{decoder_model_rows};
 
-    /// Clones of the entries, which have to be equal to these.
+    /// Clones of the entries. A clone of a symbol has to be equal to it.
     #[inline]
     fn cloned_entries(&self, alloc: Global) -> Result<Vec<(Probability, Symbol)>, AllocError>
         requires { ClonesAreEqual Symbol.eq Symbol.is_clone }
@@ -280,7 +279,7 @@ impl<
         entries_cloned(alloc, self.cdf_entries())
     }
 
-    /// The same model over clones of the entries of this one, which have to be equal to these.
+    /// The same model over clones of the entries. A clone of a symbol has to be equal to it.
     #[tactic(auto, using(crate::proofs::Remade::rows_stand))]
     pub(crate) fn clone_in(
         &self,
@@ -348,14 +347,14 @@ impl<
 
     ghost is_equality = { λ eq. (eq ≡ Symbol.eq) × ClonesAreEqual Symbol.eq Symbol.is_clone };
 
-    /// No two symbols are equal, and who converts by it shows that a clone is equal to its symbol.
+    /// No two symbols are equal. A caller who relies on this shows that a clone is equal to its symbol.
     #[inline]
     fn symbols_differ(&self) -> bool {
         true
     }
 
-    /// All rows in order, each once: symbol, left cumulative and weight, the symbol by a clone. Where
-    /// memory for a clone is refused, the refusal stands in the row's place.
+    /// All rows in order, each once: a clone of the symbol, the left cumulative and the weight. If memory
+    /// for a clone is refused, the row's item is the refusal.
     #[inline]
     fn symbol_table(self) -> NonContiguousSymbolTable<'m, Symbol, Probability, PRECISION> {
         let cdf = self.cdf.words();

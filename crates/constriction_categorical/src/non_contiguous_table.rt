@@ -13,12 +13,11 @@ use constriction_stored_rows::{end_before, paired_row_at, row_up_to};
 use std::alloc::AllocError;
 use std::iter::FusedIterator;
 
-/// The rows of a [`NonContiguousCategoricalDecoderModel`] that are left, walked through from either
-/// end.
+/// The remaining rows of a [`NonContiguousCategoricalDecoderModel`], from either end.
 ///
-/// Each row is given once, whichever end it is taken from, with a clone of its symbol, and either end
-/// answers `None` exactly where none is left. Where memory for a clone is refused, the refusal stands
-/// in the row's place, and the walk goes on with the next one.
+/// Each row is given once, from one end or the other, with a clone of its symbol. Both ends answer `None` if
+/// and only if no row is left. If memory for a clone is refused, the row's item is the refusal, and the walk
+/// goes on with the next row.
 ///
 /// [`NonContiguousCategoricalDecoderModel`]: crate::NonContiguousCategoricalDecoderModel
 #[derive(Debug, Drop)]

@@ -1,4 +1,4 @@
-//! A reference to a model that is copied into its symbol table is walked through as the model is.
+//! If a model is copied into its symbol table, a reference to it is walked through in the same way.
 
 use crate::iterable::IterableEntropyModel;
 

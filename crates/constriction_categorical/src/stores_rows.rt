@@ -1,4 +1,4 @@
-//! Models that store their rows, which is what a lookup table stands beside.
+//! Models that store their rows, and so can have a lookup table.
 
 ghost use Rattle.std.specs.Prelude.{◌≡◌, ◌<◌, length, map, slice_get, Some, IfOk};
 ghost use Rattle.constriction_model.specs.Model.{row_of, LiesWithin};
@@ -18,20 +18,20 @@ use constriction_stored_rows::{
 };
 use std::alloc::AllocError;
 
-/// A model that stores an entry a row, in order, and lends them. A caller's own model may be one.
+/// A model that stores one entry a row, in order, and lends the entries. A caller's own model may be one.
 pub trait StoresRows<const PRECISION: usize>: EntropyModel<PRECISION> {
-    /// What is stored of a row.
+    /// The type of a stored entry.
     type Entry;
 
-    /// How an entry tells where its row begins.
+    /// How the left cumulative of an entry is read.
     type Kind: CdfEntry<Self::Entry, Word = Self::Probability>;
 
     /// The entries, one a row.
     fn entries(&self) -> &[Self::Entry]
         ensures { map Self.Kind.cumulative result.now ≡ map (λ r. r.left) (Self.rows self.now) };
 
-    /// Whether a lookup table beside the model has, after its slots, where each row begins and the total, which
-    /// [`AnswersRows::row_with_ends`] then reads. A model that tells where each row ends by itself wants none.
+    /// Whether a lookup table beside the model has the left cumulatives and the total after its slots, which
+    /// [`AnswersRows::row_with_ends`] then reads. A model that has the end of each row itself wants none.
     #[inline]
     fn wants_ends(&self) -> bool {
         false
@@ -41,7 +41,7 @@ pub trait StoresRows<const PRECISION: usize>: EntropyModel<PRECISION> {
     ghost stored_law: { (m : Self) → RowsTile Self.Probability.BITS PRECISION (Self.rows m) };
 }
 
-/// A model that stores its rows and answers each of them.
+/// A model that stores its rows, and answers the row at an index.
 pub trait AnswersRows<const PRECISION: usize>: StoresRows<PRECISION> + DecoderModel<PRECISION> {
     /// The row at an index, as [`DecoderModel::quantile_function`] answers one.
     fn row_at(
@@ -54,8 +54,7 @@ pub trait AnswersRows<const PRECISION: usize>: StoresRows<PRECISION> + DecoderMo
         ensures within { IfOk result (λ x. LiesWithin PRECISION
             (row_of Self.Probability.whole Self.Probability.base x)) };
 
-    /// The same, where what stands after the slots of a lookup table is at hand: nothing, or where each row begins and after
-    /// that the total.
+    /// The same with the words after the slots of a lookup table at hand: none, or the left cumulatives and the total.
     #[inline]
     fn row_with_ends(
         &self,
@@ -150,15 +149,15 @@ impl<
     }
 }
 
-/// The searching models of the symbols 0, 1, .. It stands in the bound of `into_contiguous_categorical` alone, and is no name
-/// of a caller's.
+/// The searching models of the symbols 0, 1, .. Only the bound of `into_contiguous_categorical` uses this trait, and callers
+/// do not name it.
 pub trait OfNumbers<const PRECISION: usize>: EntropyModel<PRECISION> {}
 
 impl<Probability: WholeNumber, Cdf: SafeBuf<Probability>, const PRECISION: usize> OfNumbers<
     PRECISION,
 > for ContiguousCategoricalEntropyModel<Probability, Cdf, PRECISION> {}
 
-/// The searching models of any symbols, in the bound of `into_non_contiguous_categorical` alone.
+/// The searching models of any symbols. Only the bound of `into_non_contiguous_categorical` uses this trait.
 pub trait OfAnySymbols<const PRECISION: usize>: EntropyModel<PRECISION> {}
 
 impl<

@@ -13,11 +13,10 @@ use constriction_stored_rows::row_at;
 use std::alloc::AllocError;
 use std::iter::FusedIterator;
 
-/// The rows of a [`ContiguousCategoricalEntropyModel`] that are left, walked through from either end.
+/// The remaining rows of a [`ContiguousCategoricalEntropyModel`], from either end.
 ///
-/// Each row is given once, whichever end it is taken from, and either end answers `None` exactly
-/// where none is left. Every item is `Ok`, as the walk takes no memory. A step reads two neighbours
-/// of the model's cdf.
+/// Each row is given once, from one end or the other. Both ends answer `None` if and only if no row is left.
+/// Every item is `Ok`, since the walk takes no memory. A step reads two neighbours of the model's cdf.
 ///
 /// [`ContiguousCategoricalEntropyModel`]: crate::ContiguousCategoricalEntropyModel
 #[derive(Debug, Drop)]

@@ -17,13 +17,13 @@ impl<Probability: WholeNumber, const PRECISION: usize> IterableEntropyModel<PREC
 
     ghost is_equality = { λ eq. eq ≡ nat_eq };
 
-    /// They are 0, 1, ..
+    /// `true`: the symbols are 0, 1, ..
     #[inline]
     fn symbols_differ(&self) -> bool {
         true
     }
 
-    /// All rows in order, each once: symbol, left cumulative and weight. It takes no memory, and
+    /// All rows in order, each once: symbol, left cumulative and weight. The walk takes no memory, and
     /// every item is a row.
     #[inline]
     fn symbol_table(self) -> UniformSymbolTable<Probability, PRECISION> {

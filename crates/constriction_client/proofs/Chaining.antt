@@ -10,7 +10,7 @@ use Rattle.constriction_client.specs.ChainLemmas.{leaves-more, same-after}
 use Rattle.constriction_client.specs.Chains.{is_lookup_after, StepLeaves, ChainLeaves}
 
 module _ {Symbol : Type 0} (IsClone : Symbol → Symbol → Type 0) (steps : List ChainStep) where
-  -- one step more
+  -- one more step leaves what a chain of one more step leaves
   pub one-step-more : (i : ℕ) (d : ChainStep) (rows between made : List (Row Symbol)) → i < length steps
       → ChainLeaves IsClone (take i steps) rows between → StepLeaves IsClone (get_or steps i d) between made
       → ChainLeaves IsClone (take (i + 1) steps) rows made
@@ -18,14 +18,14 @@ module _ {Symbol : Type 0} (IsClone : Symbol → Symbol → Type 0) (steps : Lis
       subst (λ (ss : List ChainStep). ChainLeaves IsClone ss rows made) (sym (take_more steps i d within))
       (leaves-more IsClone (take i steps) (get_or steps i d) rows between made so_far one)
 
-  -- where clones are the same values, the rows are those of before
+  -- if each clone is its symbol, the rows are those of before
   pub exact-after : {Form Error : Type 0} (known : Form → List (Row Symbol)) (rows : List (Row Symbol)) (r : Result Form Error)
       → IfOk r (λ made. ChainLeaves IsClone steps rows (known made))
       → IfOk r (λ made. ClonesAreSame IsClone → known made ≡ rows)
   exact-after known rows (Ok made) h = λ same. same-after IsClone same steps rows (known made) h
   exact-after known rows (Err e) h = tt
 
--- the kind after one step more: what the step says of the kind before it
+-- the kind after one more step is what the step makes of the kind before
 pub one-kind-more : (steps : List ChainStep) (i : ℕ) (d : ChainStep) (before now next : Bool) → i < length steps
     → now ≡ fold is_lookup_after before (take i steps) → next ≡ is_lookup_after now (get_or steps i d)
     → next ≡ fold is_lookup_after before (take (i + 1) steps)

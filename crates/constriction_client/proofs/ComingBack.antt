@@ -13,7 +13,7 @@ use Rattle.constriction_client.specs.Coming.{ComeNext, QuantilesCome}
 use Rattle.constriction_client.specs.Quantiles.{IsPairOf, ArePairs, ReadsPairs}
 use Rattle.constriction_backends.specs.SourceLaws.{reads_more}
 
--- two beginnings of one list that are as long as each other
+-- beginnings of one list that have the same length are equal
 same-front : {X : Type 0} (a b c d : List X) → a ++ b ≡ c ++ d → length a ≡ length c → a ≡ c
 same-front [] b [] d e n = refl
 same-front [] b (z ∷ c) d e n = absurd (omega arith)
@@ -24,7 +24,7 @@ same-front (y ∷ a) b (z ∷ c) d e n =
     let rest : a ≡ c = same-front a b c d others (omega arith) in
     cc
 
--- an element that stands within a beginning
+-- an element with fewer elements before it than a beginning has is in the beginning
 among-front : {X : Type 0} (a b c d : List X) (x : X) → a ++ b ≡ c ++ x ∷ d → length c < length a → Contains a x
 among-front [] b c d x e n = absurd (omega arith)
 among-front (y ∷ a) b [] d x e n = let here : y ≡ x = cc in (0, omega arith, here)
@@ -36,7 +36,7 @@ among-front (y ∷ a) b (z ∷ c) d x e n =
 module _ {Symbol Word Source Error : Type 0} (Stands : Symbol → Symbol → Type 0) (MayRefuse : Symbol → Type 0) (precision : ℕ)
     (rows : List (Row Symbol)) (whole : Word → ℕ) (gives : Source → Result (Option Word) Error → Source → Type 0)
     (tells : Source → List Word → Type 0) (count : ℕ) (s t : Source) (new : List (Symbol × Word)) (capacity : ℕ) where
-  -- where as many words as are asked for were to come, all of them are read
+  -- if as many words as are asked for were to come, all of them are read
   pub all-read : (n : ℕ) → ReadsPairs Stands MayRefuse precision rows whole gives tells count s [] (Ok n) t new capacity
       → (words : List Word) → ComeNext tells s words → length words ≡ count
       → ArePairs Stands rows whole words new × Reads gives s words t
@@ -61,7 +61,7 @@ module _ {Symbol Word Source Error : Type 0} (Stands : Symbol → Symbol → Typ
             (subst (λ (u : Source). Reads gives s read.words u) (sym whole_list.1) read.read),
       )
 
-  -- where memory was refused, some words were read
+  -- if memory was refused, some words were read
   pub some-read : (error : CoderError ReadFault Error)
       → ReadsPairs Stands MayRefuse precision rows whole gives tells count s [] (Err error) t new capacity
       → error ≡ Frontend OutOfMemory → (words : List Word) × Reads gives s words t
@@ -70,7 +70,7 @@ module _ {Symbol Word Source Error : Type 0} (Stands : Symbol → Symbol → Typ
       subst (λ e. ReadsPairs Stands MayRefuse precision rows whole gives tells count s [] (Err e) t new capacity) is read in
       (at.words ++ at.ended.0 ∷ [], reads_more gives s at.words at.reached at.ended.0 t at.read at.ended.3)
 
-  -- of quantiles none is too large
+  -- if the words to come are quantiles, none is too large
   pub never-too-large : (error : CoderError ReadFault Error)
       → ReadsPairs Stands MayRefuse precision rows whole gives tells count s [] (Err error) t new capacity
       → error ≡ Frontend QuantileTooLarge → QuantilesCome precision whole tells count s → ⊥

@@ -8,7 +8,7 @@ use Rattle.constriction_backends.specs.SinkLaws.{writes_more}
 use Rattle.constriction_client.specs.declared.quantiles.QuantileFault.{QuantileFault}
 use Rattle.constriction_client.specs.Quantiles.{IsQuantileOf, IsFaultOf, WritesItems, StopsAtItem}
 
--- a list about one of its elements
+-- a list is the elements before an index, the element there, and those after it
 section_at : {X : Type 0} (xs : List X) (i : ℕ) (x : X) → i < length xs → x ≡ get_or xs i x
     → xs ≡ take i xs ++ x ∷ drop (suc i) xs
 section_at xs i x h e =
@@ -36,7 +36,7 @@ module _ {Symbol Word Sink Error : Type 0} (entry : Symbol → Option (ℕ × �
             (law j word (Ok tt) t wrote (old ++ so_far.words) (so_far.known old known));
       })
 
-  -- an item that has no quantile
+  -- writing stops at an item that has no quantile
   pub stopped-at-fault : (items : List (Symbol × Word)) (i : ℕ) (item : Symbol × Word) (s t : Sink) (fault : QuantileFault)
       → i < length items → item ≡ get_or items i item → WritesItems entry whole gives tells (take i items) s t
       → IsFaultOf entry whole item fault → StopsAtItem entry whole gives tells items s (Frontend fault) t
@@ -48,7 +48,7 @@ module _ {Symbol Word Sink Error : Type 0} (entry : Symbol → Option (ℕ × �
     is_such = (t, so_far, (is, refl), so_far.known);
   }
 
-  -- an item whose quantile the sink refuses
+  -- writing stops at an item if the sink refuses its quantile
   pub stopped-at-refusal : (items : List (Symbol × Word)) (i : ℕ) (item : Symbol × Word) (word : Word) (s j t : Sink) (error : Error)
       → i < length items → item ≡ get_or items i item → WritesItems entry whole gives tells (take i items) s j
       → IsQuantileOf entry whole item (whole word) → gives j word (Err error) t
@@ -66,7 +66,7 @@ module _ {Symbol Word Sink Error : Type 0} (entry : Symbol → Option (ℕ × �
     );
   }
 
-  -- all items
+  -- if as many items were written as there are, all were
   pub wrote-all : (items : List (Symbol × Word)) (n : ℕ) (s t : Sink) → length items ≤ n
       → WritesItems entry whole gives tells (take n items) s t → WritesItems entry whole gives tells items s t
   wrote-all items n s t h so_far =

@@ -1,4 +1,4 @@
--- Words that took places in a cursor, and are read from there.
+-- Words that were written to a cursor, and are read again.
 use Rattle.std.proofs.Common.{◌≡◌, ℕ, ◌≤◌, List, [], ◌∷◌, ◌++◌, Option, Result, length, take, drop, ap, sym, ◌∙◌, subst, arith, append_assoc, append-nil, take-append-drop}
 use Rattle.std.proofs.lemmas.List.{length-take-le}
 use Rattle.std.proofs.Math.Seq.{take-append_seam, drop-append_seam}
@@ -14,7 +14,7 @@ use Rattle.constriction_client.specs.Coming.{ComeNext, GoesBack}
 use Rattle.constriction_client.specs.Placing.{PlacesItems}
 use Rattle.constriction_client.specs.Quantiles.{IsQuantileOf, IsFaultOf, WritesItems, StopsAt, StopsAtItem}
 
--- what comes after the same beginning
+-- equal lists with the same beginning have the same rest
 same-back : {X : Type 0} (a b c : List X) → a ++ b ≡ a ++ c → b ≡ c
 same-back [] b c e = e
 same-back (x ∷ a) b c e = let rest : a ++ b ≡ a ++ c = cc in same-back a b c rest
@@ -100,7 +100,7 @@ module _ {Word Buf : Type 0} {g : Ghosts Buf Word} (Error : Type 0) where
 module _ {Symbol Word Buf : Type 0} {g : Ghosts Buf Word} (entry : Symbol → Option (ℕ × ℕ)) (whole : Word → ℕ)
     (with_words : Buf → List Word → Buf) (c : Cursor Word Buf g) (items : List (Symbol × Word)) where
   module _ (j t : Cursor Word Buf g) (placed : PlacesItems entry whole with_words c items j) where
-    -- the place where c stood is still there
+    -- the position of c is still in range
     pub in-range : ((b : Buf) (ws : List Word) → length (g.words_of (with_words b ws)) ≡ length (g.words_of b))
         → c.pos ≤ length (g.words_of j.buf)
     in-range keeps_length =
@@ -109,7 +109,7 @@ module _ {Symbol Word Buf : Type 0} {g : Ghosts Buf Word} (entry : Symbol → Op
         let stood : c.pos ≤ length (g.words_of c.buf) = c.in_range in
         omega arith
 
-    -- a cursor that is back there has the words before it
+    -- a cursor that is back at its position has the old words before it, and then the placed words
     pub back-at : t.buf ≡ j.buf → t.pos ≡ c.pos
         → ((state_of t).before ≡ (state_of c).before)
         × ((state_of t).after ≡ placed.words ++ drop (length placed.words) (state_of c).after)
@@ -144,7 +144,7 @@ module _ {Symbol Word Buf : Type 0} {g : Ghosts Buf Word} (entry : Symbol → Op
         buf = same ∙ placed.buf ∙ ap (λ b. with_words c.buf (g.words_of b)) (sym same);
       }
 
-  -- after the writing and the way back, the words are the next ones to come
+  -- if a cursor wrote words and was sought back, these are the next ones to come
   pub come-next : (t : Cursor Word Buf g) (back : GoesBack entry whole with_words c items t)
       → ComeNext (λ (s : Cursor Word Buf g) (words : List Word). words ≡ (state_of s).after) t back.placed.words
   come-next t back = record {

@@ -16,7 +16,7 @@ use Rattle.constriction.specs.StandLemmas.{tile-made, distinct-made, tiling-rebu
 use Rattle.constriction_model.specs.declared.error.ModelError.{ModelError}
 use Rattle.constriction_model.specs.declared.error.ModelError.TheVariants.{InvalidTable, OutOfMemory}
 
--- where a table is not invalid, memory alone is wanting
+-- an error that is not `InvalidTable` is `OutOfMemory`
 pub memory-alone : (e : ModelError) → (e ≡ InvalidTable → ⊥) → e ≡ OutOfMemory
 memory-alone OutOfMemory h = refl
 memory-alone InvalidTable h = absurd (h refl)
@@ -35,7 +35,7 @@ module _ {J S K T Symbol Word Model : Type 0} (becomes : J → S → Type 0) (st
     (rows : Model → List (Row Symbol)) (r : Result Model ModelError)
     (made : IsMadeOfBoth (AreAccepted eq bits precision) (completed precision false) (WasReadOf becomes steps from)
     (WasReadOf other_becomes other_steps other) whole (λ m ss ws. rows m ≡ rows_of ss ws) r) where
-  -- its model has the rows of these
+  -- its model has the rows of these symbols and weights
   pub made-of-them : IfOk r (λ m. rows m ≡ rows_of symbols (map whole weights))
   made-of-them =
       second (λ (m : Model). AreAccepted eq bits precision symbols (map whole weights))
@@ -47,7 +47,7 @@ module _ {J S K T Symbol Word Model : Type 0} (becomes : J → S → Type 0) (st
       second P Q (Ok x) k = k.1
       second P Q (Err e) k = tt
 
-  -- where they are accepted, memory alone was wanting
+  -- if they are accepted, the only error is `OutOfMemory`
   pub not-refused : AreAccepted eq bits precision symbols (map whole weights) → IfErr r (λ e. e ≡ OutOfMemory)
   not-refused accepted = only-memory r (λ invalid.
       refused-lists becomes steps from symbols gives other_becomes other_steps other weights other_gives (completed precision false) whole
@@ -55,7 +55,7 @@ module _ {J S K T Symbol Word Model : Type 0} (becomes : J → S → Type 0) (st
 
 -- ---- the symbols and the weights of a table
 
--- items none of which is a refusal, and the symbols and weights of their rows
+-- no item is a refusal, and these are the symbols and the weights of the items' rows
 pub record Parted {Symbol Word Weight Refusal : Type 0} (base : Weight → Word)
     (items : List (Result (Symbol × Word × Weight) Refusal)) (symbols : List Symbol) (weights : List Word) : Type 0 where
   pub rows : List (Symbol × Word × Weight)
@@ -82,7 +82,7 @@ module _ {Symbol Word Weight Refusal : Type 0} (base : Weight → Word) where
             ∙ sym (map-append (λ (x : Symbol × Word × Weight). base x.2) p.rows (row ∷ []));
       }
 
-  -- what a walk to its end gave
+  -- a walk to its end gave rows with these symbols and weights
   pub parted-all : {Walk : Type 0} (steps : Walk → Option (Result (Symbol × Word × Weight) Refusal) → Walk → Type 0) (started walk : Walk)
       (items : List (Result (Symbol × Word × Weight) Refusal)) (symbols : List Symbol) (weights : List Word)
       → started ≡ walk → Drains steps started items → Parted base items symbols weights
@@ -95,7 +95,7 @@ module _ {Symbol Word Weight Refusal : Type 0} (base : Weight → Word) where
     p.weights_are,
   )
 
--- these are the symbols and the weights of the rows that the items are
+-- the lists that were read are the symbols and the weights of the rows
 pub parted-rows : {Symbol Word Weight : Type 0} (base : Weight → Word) (whole : Word → ℕ) (read : List (Symbol × Word × Weight))
     (symbols : List Symbol) (weights : List Word)
     → symbols ≡ map (λ x. x.0) read → weights ≡ map (λ x. base x.2) read
@@ -107,7 +107,7 @@ parted-rows {Symbol} {Word} {Weight} base whole read symbols weights symbols_are
       ∙ sym (map-map (λ (r : Row Symbol). r.weight) (row_of whole base) read),
 )
 
--- what is true of the symbols and weights of rows is true of lists that are these
+-- what is true of the symbols and the weights of rows is true of lists that are equal to them
 their-lists : {Symbol : Type 0} (eq : Symbol → Symbol → Bool) (bits precision : ℕ) (rows : List (Row Symbol))
     (symbols : List Symbol) (numbers : List ℕ)
     → (symbols ≡ symbols_of rows) × (numbers ≡ map (λ r. r.weight) rows)
@@ -116,7 +116,7 @@ their-lists : {Symbol : Type 0} (eq : Symbol → Symbol → Bool) (bits precisio
     → AreAccepted eq bits precision symbols numbers × (rows_of symbols numbers ≡ rows)
 their-lists eq bits precision rows symbols numbers same h = rw (same.0, same.1) h
 
--- of the lists that were read of a table
+-- the lists that were read of a table are accepted, and their rows stand for those of the table
 module _ {Symbol Word Weight Refusal Walk : Type 0} (eq : Symbol → Symbol → Bool) (laws : IsEquivalence eq)
     (Stands : Symbol → Symbol → Type 0) (equal : ClonesAreEqual eq Stands) (MayRefuse : Symbol → Type 0) (bits precision : ℕ)
     (whole : Word → ℕ) (base : Weight → Word) (steps : Walk → Option (Result (Symbol × Word × Weight) Refusal) → Walk → Type 0) where
@@ -146,7 +146,7 @@ module _ {Symbol Word Weight Refusal Walk : Type 0} (eq : Symbol → Symbol → 
       (subst (λ (rs : List (Row Symbol)). StandForRows Stands (map (row_of whole base) read) rs) e
       ((gives (map Ok read) drained).unrefused read refl)) ss ws
 
--- a form whose rows are these, where these stand for others
+-- if the rows of a form are `listed`, and these stand for others, the rows of the form stand for the others
 pub rows_stand : {Symbol Form Error : Type 0} (Stands : Symbol → Symbol → Type 0) (rows : Form → List (Row Symbol))
     (listed others : List (Row Symbol)) (r : Result Form Error) → IfOk r (λ m. rows m ≡ listed) → StandForRows Stands listed others
     → IfOk r (λ m. StandForRows Stands (rows m) others)

@@ -17,7 +17,7 @@ use Rattle.constriction_model.proofs.Finding.{find_row}
 abbrev pub StandForReplies : {S : Type 0} → (S → S → Type 0) → List (Reply S ℕ ℕ) → List (Reply S ℕ ℕ) → Type 0
 StandForReplies Stands replies scanned = AllZip (StandsForReply Stands) replies scanned
 
--- the replies to queries, one by one, where the rows and the entries are those of two models
+-- the replies to queries, one by one, by the rows of one model and the entries of another
 abbrev pub replies_of_two : {S Word : Type 0} → ℕ → (Word → ℕ) → List (Row S) → (S → Option (ℕ × ℕ)) → List (Query S Word)
     → List (Reply S ℕ ℕ)
 replies_of_two precision whole rows entry queries = map (reply_to_query precision whole rows entry) queries
@@ -36,7 +36,7 @@ known-reply Stands whole base bits precision rows entry word x below tile answer
   ) refl,
 )
 
--- where clones are the same values, what stands for the replies of a scan are these
+-- if each clone is its symbol, a reply that stands for a scan's reply is that reply
 same-reply : {S : Type 0} (Stands : S → S → Type 0) → ClonesAreSame Stands → (given scanned : Reply S ℕ ℕ)
     → StandsForReply Stands given scanned → given ≡ scanned
 same-reply Stands same (reply.Row symbol left weight) scanned h =
@@ -56,7 +56,7 @@ pub replies-of : {S : Type 0} (Stands : S → S → Type 0) (given scanned : Lis
     → AreRepliesOf Stands scanned given
 replies-of Stands given scanned h = record { stand = h; exact = λ same. same-replies Stands same given scanned h }
 
--- replies by rows that are those of before, and by entries that are these rows', are a scan's of the rows of before
+-- if a model's rows and entries are those of a list of rows, its replies are those of a scan of the list
 pub scan-of-rows : {S Word : Type 0} (precision : ℕ) (whole : Word → ℕ) (eq : S → S → Bool) (entry : S → Option (ℕ × ℕ))
     (rows before : List (Row S)) (queries : List (Query S Word))
     → rows ≡ before → ((s : S) → entry s ≡ entry_of eq before s)
@@ -66,7 +66,7 @@ scan-of-rows {S = S} precision whole eq entry rows before queries same alike =
     λ i. replies_of_two precision whole before (λ (s : S). alike s i) queries in
     ap (λ (rs : List (Row S)). replies_of_two precision whole rs entry queries) same ∙ by_entries
 
--- one answer more, to the next question
+-- answers to the first questions and to the next one answer one more question
 pub one-more-known : {A B C D : Type 0} (R : D → C → Type 0) (asked : A → C) (known : B → D) (items : List A) (i : ℕ) (item : A)
     (answers more : List B) (answer : B) → i < length items → item ≡ get_or items i item → more ≡ answers ++ answer ∷ []
     → R (known answer) (asked item)
@@ -80,7 +80,7 @@ one-more-known {C = C} {D = D} R asked known items i item answers more answer wi
     (subst (λ (cs : List C). AllZip R (map known answers ++ known answer ∷ []) cs) (sym scanned)
     (all_zipped_more R (map known answers) (map asked (take i items)) (known answer) (asked item) so_far answered))
 
--- replies to so many queries that there are no more are the replies to all
+-- replies to at least as many queries as there are, are the replies to all
 pub all-known : {S Word : Type 0} (Stands : S → S → Type 0) (precision : ℕ) (whole : Word → ℕ) (rows : List (Row S))
     (entry : S → Option (ℕ × ℕ)) (queries : List (Query S Word)) (n : ℕ) (given : List (Reply S ℕ ℕ)) → length queries ≤ n
     → StandForReplies Stands given (replies_of_two precision whole rows entry (take n queries))

@@ -1,4 +1,4 @@
--- The pair of an item's word is the item, one by one and over whole lists, but that its symbol may stand for an equal one.
+-- The pair of an item's word is the item, except that its symbol may stand for an equal one. So it is for whole lists.
 use Rattle.std.proofs.Common.{◌≡◌, ℕ, ◌^◌, ◌<◌, Bool, List, [], ◌∷◌, Option, Result, length, reverse, ap, sym, ◌∙◌, subst, arith}
 use Rattle.std.specs.Prelude.{All, IsTrue}
 use Rattle.std.specs.Cmp.{IsEquivalence}
@@ -15,13 +15,13 @@ use Rattle.constriction_client.specs.Quantiles.{IsQuantileOf, AreQuantiles, IsPa
 use Rattle.constriction_client.specs.ThereAndBack.{AreItems, StandForItems, ReadsBack, HasFault}
 use Rattle.constriction.specs.CodingLemmas.{entry-row, entry-below, one-row}
 
--- the pairs are the items, one by one, but that each symbol stands for one that is equal to the item's
+-- the pairs are the items, one by one, except that each symbol stands for one that is equal to the item's
 abbrev StandOneByOne : {Symbol Word : Type 0} → (Symbol → Symbol → Type 0) → (Symbol → Symbol → Bool) → List (Symbol × Word)
     → List (Symbol × Word) → Type 0
 StandOneByOne {Symbol} Stands eq items pairs =
     AllZip (λ item pair. ((own : Symbol) × IsTrue (eq own item.0) × Stands own pair.0) × (pair.1 ≡ item.1)) items pairs
 
--- one item
+-- the pair of an item's word has the item's offset, and its symbol stands for an equal one
 same-item : {Symbol Word : Type 0} (Stands : Symbol → Symbol → Type 0) (eq : Symbol → Symbol → Bool) (entry : Symbol → Option (ℕ × ℕ))
     (whole : Word → ℕ) (bits precision : ℕ) (rows : List (Row Symbol))
     (item pair : Symbol × Word) (word : Word) → RowsTile bits precision rows → ((a b : Word)
@@ -41,7 +41,7 @@ same-item {Symbol = Symbol} Stands eq entry whole bits precision rows item pair 
       one_word pair.1 item.1 (omega (arith, left, is.offset, quantile.sum)),
     )
 
--- all items, in order
+-- so it is for all items, in order
 stand-one-by-one : {Symbol Word : Type 0} (Stands : Symbol → Symbol → Type 0) (eq : Symbol → Symbol → Bool)
     (entry : Symbol → Option (ℕ × ℕ)) (whole : Word → ℕ) (bits precision : ℕ) (rows : List (Row Symbol))
     (items pairs : List (Symbol × Word)) (words : List Word)
@@ -58,7 +58,7 @@ stand-one-by-one Stands eq entry whole bits precision rows (i ∷ is) (p ∷ ps)
   stand-one-by-one Stands eq entry whole bits precision rows is ps ws tile one_word agree h.1 k.1,
 )
 
--- pairs whose symbols stand for equal ones are the items, where a symbol that stands for one is equal to what that is
+-- pairs whose symbols stand for equal ones are the items, if a symbol that stands for another is equal to all that the other is equal to
 are-these : {Symbol Word : Type 0} (Stands : Symbol → Symbol → Type 0) (eq : Symbol → Symbol → Bool)
     → ((s t u : Symbol) → Stands s t → IsTrue (eq s u) → IsTrue (eq t u))
     → (items pairs : List (Symbol × Word)) → StandOneByOne Stands eq items pairs → AreItems eq items pairs
@@ -133,7 +133,7 @@ quantiles-below eq whole precision rows (i ∷ is) (w ∷ ws) within h =
     All-cons (λ x. whole x < 2 ^ precision) w ws (omega (arith, below, q.sum))
     (quantiles-below eq whole precision rows is ws within h.1)
 
--- where the writing stopped at a fault, that fault is the first one
+-- if the writing stopped at a fault, that fault is the first one
 pub first-fault : {Symbol Word Sink Error : Type 0} (entry : Symbol → Option (ℕ × ℕ)) (whole : Word → ℕ)
     (gives : Sink → Word → Result (Unit {0}) Error → Sink → Type 0) (tells : Sink → List Word → Type 0)
     (items : List (Symbol × Word)) (s : Sink) (error : CoderError QuantileFault Error) (t : Sink) (fault : QuantileFault)

@@ -1,4 +1,4 @@
--- Runs of calls: one call more, and that each run has one outcome.
+-- Runs of calls: a run and one more call are a run, and each run has one outcome.
 use Rattle.std.specs.Prelude.{◌≡◌, ◌↔◌, ◌<◌, ℕ, ◌+◌, Bool, true, false, List, [], ◌∷◌, ◌++◌, length, take, drop, Option, Some, None, IsTrue}
 use Rattle.std.proofs.Common.{refl, sym, ◌∙◌, ap, subst, arith, get_or, length-append}
 use Rattle.std.proofs.lemmas.List.{take_more, same_from_push}
@@ -18,7 +18,7 @@ flag-once n false true h k = sym (h.1 (k.0 refl))
 flag-once n false false h k = refl
 
 module _ {W : Type 0} where
-  -- one call more
+  -- a run and one more call are a run
   runs-push : (s j t : State W) (calls : List (CursorCall W)) (replies : List (CursorReply W)) (asked : CursorCall W) (said : CursorReply W)
       → Runs s calls replies j → RepliesTo j asked said t → Runs s (calls ++ asked ∷ []) (replies ++ said ∷ []) t
   runs-push s j t [] [] asked said h one = (t, subst (λ (u : State W). RepliesTo u asked said t) (sym h) one, refl)
@@ -46,7 +46,7 @@ module _ {W : Type 0} where
       let one = same_from_push u.before t.before v w (sym k.0 ∙ h.0) in
       (ap Some one.1, same-state t u one.0 (k.1 ∙ ap (λ x. x ∷ s.after) one.1 ∙ sym h.1))
 
-  -- the word and the rest of a list that begins with them
+  -- equal lists have the same first word and the same rest
   same-parts : (v w : W) (vs ws : List W) → v ∷ vs ≡ w ∷ ws → (v ≡ w) × (vs ≡ ws)
   same-parts v w vs ws e = (cc, cc)
 
@@ -104,7 +104,7 @@ module _ {W : Type 0} where
       (ap (λ x. reply.Flag x) (flag-once (length s.after) a b h.0 k.0), k.1 ∙ sym h.1)
   replies-once s asked said other t u h k = absurd (assumption)
 
-  -- ---- and so has a run
+  -- ---- a run has one outcome
 
   pub runs-once : (s : State W) (calls : List (CursorCall W)) (replies others : List (CursorReply W)) (t u : State W) → Runs s calls replies t
       → Runs s calls others u → (others ≡ replies) × (u ≡ t)
@@ -115,7 +115,7 @@ module _ {W : Type 0} where
       (ap (λ x. x ∷ os) one.0 ∙ ap (λ xs. r ∷ xs) rest.0, rest.1)
   runs-once s calls replies others t u h k = absurd (assumption)
 
-  -- a run in a state, and one in what its reversal is the reversal of
+  -- a run in a state, and a run in a state that is equal to it, have the same replies and end in equal states
   pub runs_alike : (calls : List (CursorCall W)) (s t turned left : State W) (replies others : List (CursorReply W))
       → turned ≡ reversal s → Runs s calls replies t → Runs (reversal turned) calls others (reversal left)
       → (others ≡ replies) × (left ≡ reversal t) × (t ≡ reversal left)

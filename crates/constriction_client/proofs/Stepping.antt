@@ -1,4 +1,4 @@
--- A seek in the reversal of a state: a place is as far from the other end.
+-- A seek in the reversal of a state: a position there is as far from the other end.
 use Rattle.std.specs.Prelude.{◌≡◌, ◌≤◌, ℕ, ◌-◌, List, length, take, drop, reverse}
 use Rattle.std.proofs.Common.{sym, ◌∙◌, ap, arith, take-append-drop, length-drop}
 use Rattle.std.proofs.lemmas.List.{reverse-append, length-reverse}

@@ -13,8 +13,7 @@ use Rattle.constriction_client.specs.declared.quantiles.ReadFault.{ReadFault}
 use Rattle.constriction_client.specs.declared.quantiles.ReadFault.TheVariants.{OutOfMemory, QuantileTooLarge}
 use Rattle.constriction_client.specs.Quantiles.{IsPairOf, ArePairs, IsReadFaultOf, ReadsPairs}
 
--- Where one more pair has room, the capacity stays, and so it does where it was refused. `room` is the first capacity, and `held` the one
--- before this pair.
+-- If one more pair has room, the capacity stays. `room` is the first capacity, and `held` the one before this pair.
 pub has-room : {X : Type 0} (room held capacity : ℕ) (mid new : List X) (x : X) → new ≡ mid ++ x ∷ []
     → (length mid < held → capacity ≡ held) → (length mid ≤ room → held ≡ room) → length new ≤ room → capacity ≡ room
 has-room room held capacity mid new x is keeps so_far fits =
@@ -58,7 +57,7 @@ module _ {Symbol Word Source Error : Type 0} (Stands : Symbol → Symbol → Typ
     known = λ upcoming h. (upcoming, refl, h);
   }
 
-  -- a source that told the words before still tells those after one more
+  -- a source that tells its upcoming words still tells them after one more read
   known-more : (s : Source) (words : List Word) (j : Source) (word : Word) (t : Source)
       → gives j (Ok (Some word)) t
       → ((upcoming : List Word) → tells s upcoming
@@ -89,7 +88,7 @@ module _ {Symbol Word Source Error : Type 0} (Stands : Symbol → Symbol → Typ
         (now.0, now.1 ∙ sym (append_assoc so_far.words (word ∷ []) now.0), now.2);
   }
 
-  -- all that were asked for
+  -- reading ends with as many pairs as were asked for
   pub read-all : (s : Source) (old : List (Symbol × Word)) (count n : ℕ) (t : Source) (new : List (Symbol × Word)) (capacity : ℕ)
       → HasRead Stands precision rows whole gives tells s old n t new → n ≡ count
       → ReadsPairs Stands MayRefuse precision rows whole gives tells count s old (Ok count) t new capacity
@@ -106,7 +105,7 @@ module _ {Symbol Word Source Error : Type 0} (Stands : Symbol → Symbol → Typ
     known = λ upcoming h. let now = so_far.known upcoming h in (now.0, now.1, now.2, λ less. absurd (omega arith));
   }
 
-  -- the source ended
+  -- reading ends if the source ended
   pub read-to-end : (s : Source) (old : List (Symbol × Word)) (count n : ℕ) (j t : Source) (new : List (Symbol × Word)) (capacity : ℕ)
       → HasRead Stands precision rows whole gives tells s old n j new → n < count → gives j (Ok None) t
       → ReadsPairs Stands MayRefuse precision rows whole gives tells count s old (Ok n) t new capacity
@@ -126,7 +125,7 @@ module _ {Symbol Word Source Error : Type 0} (Stands : Symbol → Symbol → Typ
         ([], now.1 ∙ ap (λ ws. so_far.words ++ ws) none.0, none.1, λ _. refl);
   }
 
-  -- a word that gives no pair, by itself or for want of memory
+  -- reading ends at a word that gives no pair: it is no quantile, or memory is refused
   read-stop : (s : Source) (old : List (Symbol × Word)) (count n : ℕ) (j : Source) (word : Word) (t : Source)
       (new : List (Symbol × Word)) (capacity : ℕ) (fault : ReadFault) → HasRead Stands precision rows whole gives tells s old n j new
       → n < count → gives j (Ok (Some word)) t
@@ -164,7 +163,7 @@ module _ {Symbol Word Source Error : Type 0} (Stands : Symbol → Symbol → Typ
       (subst (λ (ps : List (Symbol × Word)). HasRead Stands precision rows whole gives tells s old n j ps) (sym stays) so_far) less took
       (small, inr (omega (arith, full.0, full.1, ap length stays)))
 
-  -- a read that failed
+  -- reading ends if a read failed
   pub read-failed : (s : Source) (old : List (Symbol × Word)) (count n : ℕ) (j t : Source) (new : List (Symbol × Word)) (capacity : ℕ)
       (error : Error)
       → HasRead Stands precision rows whole gives tells s old n j new → n < count → gives j (Err error) t

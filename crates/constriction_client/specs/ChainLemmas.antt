@@ -1,5 +1,5 @@
--- What follows of the rows that a chain of conversions leaves: where clones are the same values they are the rows of before, and where a
--- clone is equal to its symbol they have the entries of these. No public clause cites this module.
+-- The rows that a chain of conversions leaves are the rows of before if each clone is its symbol, and have their entries if each clone is
+-- equal to its symbol. No public clause cites this module.
 use Rattle.std.specs.Prelude.{◌≡◌, Bool, List, [], ◌∷◌, ◌++◌}
 use Rattle.std.specs.Cmp.{IsEquivalence}
 use Rattle.std.proofs.Common.{refl, ap, ◌∙◌, subst}

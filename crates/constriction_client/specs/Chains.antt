@@ -1,4 +1,4 @@
--- What a chain of conversions leaves: the kind of the form, and its rows.
+-- The kind of form that a chain of conversions leaves, and its rows.
 use Rattle.std.specs.Prelude.{◌≡◌, Bool, true, false, List, [], ◌∷◌}
 use Rattle.constriction.specs.Model.{StandForRows}
 use Rattle.constriction.specs.Rows.{Row}
@@ -12,19 +12,19 @@ abbrev pub is_lookup : {Searching Tabled : Type 0} → SearchOrLookup Searching 
 is_lookup (Search _) = false
 is_lookup (Lookup _) = true
 
--- whether a form is a lookup form after a step, where `before` says whether it was one: a rebuilding keeps the kind
+-- whether a form is a lookup form after a step; `before` says whether it was one before
 abbrev pub is_lookup_after : Bool → ChainStep → Bool
 is_lookup_after before ToLookup = true
 is_lookup_after before Rebuild = before
 is_lookup_after before _ = false
 
--- The rows that a step leaves of others: those themselves where the form's entries stay, and with clones of the symbols where the form is
--- made anew.
+-- a step leaves these rows of others: the same rows if it keeps the form's entries, or rows with clones of the symbols if it makes the form
+-- anew
 abbrev pub StepLeaves : {Symbol : Type 0} → (Symbol → Symbol → Type 0) → ChainStep → List (Row Symbol) → List (Row Symbol) → Type 0
 StepLeaves IsClone IntoSearch rows made = made ≡ rows
 StepLeaves IsClone _ rows made = StandForRows IsClone made rows
 
--- the rows that steps leave, one after another
+-- steps in a row leave these rows of others
 abbrev pub ChainLeaves : {Symbol : Type 0} → (Symbol → Symbol → Type 0) → List ChainStep → List (Row Symbol) → List (Row Symbol)
     → Type 0
 ChainLeaves IsClone [] rows made = made ≡ rows

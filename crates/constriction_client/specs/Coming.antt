@@ -11,7 +11,7 @@ pub record ComeNext {Word Source : Type 0} (tells : Source → List Word → Typ
   pub rest : List Word
   pub known : tells s (words ++ rest)
 
--- the next words to come from s are so many quantiles
+-- the next `count` words to come from s are quantiles
 pub record QuantilesCome {Word Source : Type 0} (precision : ℕ) (whole : Word → ℕ) (tells : Source → List Word → Type 0)
     (count : ℕ) (s : Source) : Type 0 where
   pub words : List Word

@@ -1,4 +1,4 @@
--- What a cursor replies to a call, and the state that the call leaves; and runs of calls.
+-- What a cursor replies to a call, which state the call leaves, and runs of calls.
 -- A state is the words before the position and those from it on, and a call moves words from one list to the other.
 use Rattle.std.specs.Prelude.{◌≡◌, ◌↔◌, ◌<◌, ℕ, List, [], ◌∷◌, ◌++◌, length, Option, Result, Ok, Err, MatchResult, IsTrue}
 use Rattle.std.specs.declared.convert.Infallible.{Infallible}
@@ -12,7 +12,7 @@ use Rattle.constriction_client.specs.declared.cursor_calls.CursorReply.TheVarian
 abbrev pub words : {W : Type 0} → State W → List W
 words s = s.before ++ s.after
 
--- what a read answered, which cannot fail; that a write or a seek was made, and that it was refused
+-- the result of a read, which cannot fail; of a write or a seek that was made; and of one that was refused
 abbrev pub found : {W : Type 0} → Option W → Result (Option W) Infallible
 found word = Ok word
 
@@ -22,8 +22,7 @@ done = Ok tt
 abbrev pub refused : Result (Unit {0}) (Unit {0})
 refused = Err tt
 
--- The words stay, and so many of them are before the position. Where there are fewer words than that, the seek is refused and nothing
--- changes.
+-- A seek keeps the words, and then `position` of them are before the position. If there are fewer words, it is refused and nothing changes.
 abbrev pub Seeks : {W : Type 0} → State W → ℕ → Result (Unit {0}) (Unit {0}) → State W → Type 0
 Seeks s position r t =
     MatchResult r

@@ -1,4 +1,4 @@
--- The rows of a decoder in one of two forms: what its member `rows` tells, in one word for the clauses that speak of it.
+-- The rows of a decoder in one of two forms: its member `rows`, under a short name for clauses.
 use Rattle.std.specs.Prelude.{ℕ, List}
 use Rattle.std.specs.declared.cmp.PartialEq as equality
 use Rattle.constriction_words.specs.declared.WholeNumber as number
@@ -14,7 +14,7 @@ use Rattle.constriction_client.specs.declared.decoder_form.SearchOrLookup.TheVar
 module _ {Symbol Word NonZero Cdf Searching LookupTable : Type 0} {precision slot_bits : ℕ} {symbols : equality.Ghosts Symbol}
     {words : number.Ghosts Word NonZero} {cdf : buffer.Ghosts Cdf (Word × Symbol)}
     {searching : model.Ghosts Searching precision Symbol Word NonZero} {table : buffer.Ghosts LookupTable Word} where
-  -- those of the model in it
+  -- the rows of the model in the form
   abbrev pub form_rows : SearchOrLookup (decoder.NonContiguousCategoricalDecoderModel Symbol Word Cdf precision NonZero symbols words cdf)
       (lookup.LookupDecoderModel Searching LookupTable precision slot_bits Symbol Word NonZero searching words table) → List (Row Symbol)
   form_rows (Search m) = decoder_model_rows m

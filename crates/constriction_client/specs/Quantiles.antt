@@ -14,9 +14,9 @@ use Rattle.constriction_client.specs.declared.quantiles.QuantileFault.TheVariant
 use Rattle.constriction_client.specs.declared.quantiles.ReadFault.{ReadFault}
 use Rattle.constriction_client.specs.declared.quantiles.ReadFault.TheVariants.{OutOfMemory, QuantileTooLarge}
 
--- Below, `entry` tells the entry of each symbol, and `whole` the number of each word.
+-- Below, `entry` gives the entry of each symbol, and `whole` the number of each word.
 
--- of one of the items, and of those before it, this is true
+-- `IsSuch` is true of one of the items and the items before it
 pub record StopsAt {Item : Type 0} (items : List Item) (IsSuch : List Item → Item → Type 0) : Type 0 where
   pub before : List Item
   pub item : Item
@@ -25,11 +25,11 @@ pub record StopsAt {Item : Type 0} (items : List Item) (IsSuch : List Item → I
   pub is_such : IsSuch before item
 
 module _ {Symbol Word : Type 0} (entry : Symbol → Option (ℕ × ℕ)) (whole : Word → ℕ) where
-  -- q is the quantile of the item: that of its symbol and its offset
+  -- q is the quantile of the item: the left cumulative of its symbol plus its offset, which is below the symbol's weight
   abbrev pub IsQuantileOf : Symbol × Word → ℕ → Type 0
   IsQuantileOf item q = IsQuantileAt entry item.0 (whole item.1) q
 
-  -- why an item has no quantile: its symbol has no entry, or it has one and the offset isn't below the weight
+  -- this is why an item has no quantile: its symbol has no entry, or the offset is not below the weight
   abbrev pub IsFaultOf : Symbol × Word → QuantileFault → Type 0
   IsFaultOf item ImpossibleSymbol = entry item.0 ≡ None
   IsFaultOf item OffsetTooLarge = (left weight : ℕ) × (entry item.0 ≡ Some (left, weight)) × (weight ≤ whole item.1)
@@ -39,7 +39,7 @@ module _ {Symbol Word : Type 0} (entry : Symbol → Option (ℕ × ℕ)) (whole 
   AreQuantiles items words = AllZip (λ item word. IsQuantileOf item (whole word)) items words
 
   module _ {Sink Error : Type 0} (gives : Sink → Word → Result (Unit {0}) Error → Sink → Type 0) where
-    -- The quantiles of the items were written in order, which leads from s to t. Where s tells its words, t tells them and
+    -- The quantiles of the items were written in order, which leads from s to t. If s tells words, t tells them and
     -- then these.
     pub record WritesItems (tells : Sink → List Word → Type 0) (items : List (Symbol × Word)) (s t : Sink) : Type 0 where
       pub words : List Word
@@ -47,12 +47,12 @@ module _ {Symbol Word : Type 0} (entry : Symbol → Option (ℕ × ℕ)) (whole 
       pub written : Writes gives s words t
       pub known : (old : List Word) → tells s old → tells t (old ++ words)
 
-    -- The item was refused, which leads from s to t: it has no quantile, and s stays, or the sink refused its quantile.
+    -- The item was refused, which leads from s to t: it has no quantile, and t is s, or the sink refused its quantile.
     abbrev pub RefusesItem : Symbol × Word → Sink → CoderError QuantileFault Error → Sink → Type 0
     RefusesItem item s (Frontend fault) t = IsFaultOf item fault × (t ≡ s)
     RefusesItem item s (Backend e) t = (word : Word) × IsQuantileOf item (whole word) × gives s word (Err e) t
 
-    -- The quantiles of the items before one were written, and that item was refused. Where s tells its words, t tells them
+    -- The quantiles of the items before one were written, and that item was refused. If s tells words, t tells them
     -- and then these.
     abbrev pub StopsAtItem : (Sink → List Word → Type 0) → List (Symbol × Word) → Sink → CoderError QuantileFault Error → Sink → Type 0
     StopsAtItem tells items s fault t =
@@ -60,8 +60,8 @@ module _ {Symbol Word : Type 0} (entry : Symbol → Option (ℕ × ℕ)) (whole 
         × ((old : List Word) → tells s old → tells t (old ++ wrote.words)))
 
 module _ {Symbol Word : Type 0} (Stands : Symbol → Symbol → Type 0) (rows : List (Row Symbol)) (whole : Word → ℕ) where
-  -- The pair of a word: a symbol that stands for that of the word's row, and how far the word lies after the left cumulative of that
-  -- row. `Stands` says what the symbols of a decoder's answers are of those of its rows.
+  -- The pair is that of the word: a symbol that stands for the symbol of the word's row, and how far the word lies after the left
+  -- cumulative of that row. `Stands row_symbol answered` says that an answered symbol stands for a row's.
   pub record IsPairOf (word : Word) (pair : Symbol × Word) : Type 0 where
     pub row : Row Symbol
     pub found : IsRowOf rows (whole word) row
@@ -72,31 +72,29 @@ module _ {Symbol Word : Type 0} (Stands : Symbol → Symbol → Type 0) (rows : 
   abbrev pub ArePairs : List Word → List (Symbol × Word) → Type 0
   ArePairs words pairs = AllZip IsPairOf words pairs
 
--- why a word q gave no pair: memory for the pair was refused, as it may be, or the word is no quantile
+-- this is why a word q gave no pair: memory for the pair was refused, as it may be, or the word is no quantile
 abbrev pub IsReadFaultOf : ℕ → (ℕ → Type 0) → ℕ → ReadFault → Type 0
 IsReadFaultOf precision MayLackMemory q OutOfMemory = (q < 2 ^ precision) × MayLackMemory q
 IsReadFaultOf precision MayLackMemory q QuantileTooLarge = 2 ^ precision ≤ q
 
 module _ {Word Source Error : Type 0} (precision : ℕ) (MayLackMemory : ℕ → Type 0) (whole : Word → ℕ)
     (gives : Source → Result (Option Word) Error → Source → Type 0) (count : ℕ) where
-  -- How reading ends after n pairs, which leads from s to t, and the words `more` that it takes beside those of the pairs:
-  -- with as many pairs as were asked for; or with fewer, where the source ended, at a word that gives no pair, or where a
-  -- read fails.
+  -- Reading ends so after n pairs, which leads from s to t, and takes the words `more` after those of the pairs. It ends with as many
+  -- pairs as were asked for, or with fewer: because the source ended, at a word that gives no pair, or because a read failed.
   abbrev pub EndsReading : ℕ → Source → Result ℕ (CoderError ReadFault Error) → List Word → Source → Type 0
   EndsReading n s (Ok k) more t = (k ≡ n) × (more ≡ []) × (((n ≡ count) × (t ≡ s)) ⊎ ((n < count) × gives s (Ok None) t))
   EndsReading n s (Err (Frontend fault)) more t =
       (word : Word) × (n < count) × (more ≡ word ∷ []) × gives s (Ok (Some word)) t × IsReadFaultOf precision MayLackMemory (whole word) fault
   EndsReading n s (Err (Backend e)) more t = (n < count) × (more ≡ []) × gives s (Err e) t
 
--- what is then still to come: nothing, where the source ended; and a word, where a read failed
+-- the words `rest` are still to come after that: none if the source ended, and at least one if a read failed
 abbrev pub LeavesWords : {Word Error : Type 0} → ℕ → Result ℕ (CoderError ReadFault Error) → List Word → Type 0
 LeavesWords count (Ok n) rest = n < count → rest ≡ []
 LeavesWords count (Err (Frontend fault)) rest = Unit {0}
 LeavesWords count (Err (Backend e)) rest = rest ≢ []
 
--- Words were read in order, and their pairs were put after the old ones. Where s tells the words to come, t tells
--- those that are left. Memory for a pair was refused only where that for its row may be, by `MayRefuse`, or where the list of pairs was
--- full, which has this capacity.
+-- Words were read in order, and their pairs were put after the old ones. If s tells upcoming words, t tells those that are left. Memory
+-- for a pair was refused only if the model may refuse its row, by `MayRefuse`, or if the list of pairs fills its capacity.
 pub record ReadsPairs {Symbol Word Source Error : Type 0} (Stands : Symbol → Symbol → Type 0) (MayRefuse : Symbol → Type 0) (precision : ℕ)
     (rows : List (Row Symbol)) (whole : Word → ℕ) (gives : Source → Result (Option Word) Error → Source → Type 0)
     (tells : Source → List Word → Type 0) (count : ℕ) (s : Source) (old : List (Symbol × Word))

@@ -1,4 +1,4 @@
--- There and back: the words of items, read by the model whose rows gave them, are these items.
+-- There and back: the words of items, read by a model with the same entries, give these items.
 use Rattle.std.specs.Prelude.{◌≡◌, ℕ, Bool, List, Option, IsTrue}
 use Rattle.std.specs.List.{AllZip}
 use Rattle.constriction.specs.Model.{ClonesAreEqual}
@@ -11,17 +11,16 @@ abbrev pub AreItems : {Symbol Word : Type 0} → (Symbol → Symbol → Bool) �
     → Type 0
 AreItems eq items pairs = AllZip (λ item pair. IsTrue (eq pair.0 item.0) × (pair.1 ≡ item.1)) items pairs
 
--- The pairs stand for the items, one by one: each symbol stands for one that is equal to the item's, and the offsets are the same. Where
--- what stands for a symbol is equal to it, they are the items.
+-- The pairs stand for the items, one by one: each symbol stands for one that is equal to the item's, and the offsets are the same. If
+-- each symbol that stands for another is equal to it, the pairs are the items.
 pub record StandForItems {Symbol Word : Type 0} (Stands : Symbol → Symbol → Type 0) (eq : Symbol → Symbol → Bool)
     (items pairs : List (Symbol × Word)) : Type 0 where
   pub stand : AllZip (λ item pair. ((own : Symbol) × IsTrue (eq own item.0) × Stands own pair.0) × (pair.1 ≡ item.1)) items pairs
   pub equal : ClonesAreEqual eq Stands → AreItems eq items pairs
 
--- In rows that tile, the pairs of the words of items are the items, where the symbols of the pairs are those of rows. The words may be
--- read in another order, as the last one first, and then the items come in that order. The items' entries may be those of another model,
--- as long as they are the entries of these rows. Two words of one number are one word, and that is all that is asked of words;
--- nothing is asked of the equality of symbols, and rows may repeat a symbol.
+-- The words of items, read in rows that tile, give pairs that are the items. The symbols of the pairs are those of the rows. If the words
+-- are read in another order, as the last one first, the items come in that order. The entries that wrote the words are those of these
+-- rows. Two words of one number are one word. Nothing is required of the equality of symbols, and rows may repeat a symbol.
 abbrev pub ReadsBack : (Symbol Word : Type 0) → (List Word → List Word) → (List (Symbol × Word) → List (Symbol × Word)) → Type 0
 ReadsBack Symbol Word words_in_order items_in_order =
     (eq : Symbol → Symbol → Bool) (entry : Symbol → Option (ℕ × ℕ)) (whole : Word → ℕ) (bits precision : ℕ)
@@ -31,7 +30,7 @@ ReadsBack Symbol Word words_in_order items_in_order =
     → AreQuantiles entry whole items words → ArePairs (λ s t. t ≡ s) rows whole (words_in_order words) pairs
     → AreItems eq (items_in_order items) pairs
 
--- an item has no quantile for this reason, and those before it have one
+-- one of the items has no quantile for this reason, and all items before it have one
 abbrev pub HasFault : {Symbol Word : Type 0} → (Symbol → Option (ℕ × ℕ)) → (Word → ℕ) → List (Symbol × Word) → QuantileFault → Type 0
 HasFault {Word = Word} entry whole items fault =
     StopsAt items (λ before item. (words : List Word) × AreQuantiles entry whole before words × IsFaultOf entry whole item fault)

@@ -28,14 +28,14 @@ pub enum ChainStep {
     /// To the form with a lookup table, by `to_generic_decoder_model_of_distinct` and `into_lookup_decoder_model`.
     ToLookup,
     /// To the form that searches all rows, by `into_non_contiguous_categorical`, which takes no memory. A
-    /// form that searches stays.
+    /// form that already searches stays as it is.
     IntoSearch,
-    /// To a form of the same kind, by `from_distinct_symbols_and_nonzero_fixed_point_probabilities` from the
-    /// symbols and the weights of the rows.
+    /// To a form of the same kind, made by `from_distinct_symbols_and_nonzero_fixed_point_probabilities` of
+    /// the symbols and the weights of the rows.
     Rebuild,
 }
 
-/// The symbols and the words of the weights of rows that are walked through, in order. It ends at the first
+/// The symbols of the rows that a walk gives, and their weights as words, in order. It stops at the first
 /// refusal.
 fn symbols_and_words<Symbol: Drop, Word: WholeNumber, Walk>(
     alloc: Global,
@@ -59,8 +59,8 @@ where
     Ok((symbols, words))
 }
 
-/// The symbols that a walk through a model gives and the weights of its rows, in order. They are accepted by the
-/// constructors from symbols and weights, and give rows that stand for the model's.
+/// The symbols that a walk through a model gives, and the weights of its rows, in order. The constructors from
+/// symbols and weights accept them, and make rows that stand for the model's.
 fn symbols_and_weights<M, const PRECISION: usize>(
     alloc: Global,
     model: M,
@@ -80,8 +80,8 @@ where
     Ok((symbols, weights))
 }
 
-/// The searching model of two lists, as its constructor tells it of the iterators that they become. So what follows
-/// of it for the lists is proved apart, over plain terms.
+/// The searching model of two lists. The clause is the constructor's, which is about the iterators that the lists
+/// become; `searching_of` has the clauses about the lists themselves.
 fn from_lists<Symbol: Eq + Drop, Probability: WholeNumber, const PRECISION: usize>(
     alloc: Global,
     symbols: Vec<Symbol>,
@@ -129,7 +129,7 @@ fn searched<Symbol: Eq + Clone + Drop, Probability: IndexWord, const PRECISION: 
     to_generic_decoder_model_of_distinct(alloc, form)
 }
 
-/// Of forms whose symbols differ, this one's do.
+/// If no form has two equal symbols, this one has none.
 fn symbols_differ_of<Symbol: Eq, Probability: IndexWord, const PRECISION: usize>(
     form: &DecoderForm<Symbol, Probability, PRECISION>,
 )
@@ -154,8 +154,8 @@ fn tabled_of<Symbol: Eq + Drop, Probability: IndexWord, const PRECISION: usize>(
     }
 }
 
-/// What a chain takes its form through. A conversion keeps the rows, or makes them anew with clones of their
-/// symbols, and the only refusal is `OutOfMemory`.
+/// A form that a chain can convert. A conversion keeps the rows, or makes them anew with clones of their
+/// symbols. The only refusal is `OutOfMemory`.
 trait Converts<Symbol>: Sized {
     // The rows of a form.
     ghost rows_of_form: { Self → List (Row Symbol) };
@@ -166,7 +166,7 @@ trait Converts<Symbol>: Sized {
     // Whether a form looks up which rows to search.
     ghost looks_up: { Self → Bool };
 
-    // What a conversion asks of symbols, words and their precision.
+    // What a conversion requires of symbols, words and their precision.
     ghost may_convert: { Type 0 };
 
     /// The searching form of the same rows.
@@ -281,16 +281,16 @@ fn convert_by<Symbol, Form: Converts<Symbol> + Drop>(
     Ok(form)
 }
 
-/// Conversions of a decoder's model, one after another. Whatever they are, the model tells the same rows
-/// after them, and so answers alike: where a step makes the model anew, with clones of the symbols, which
-/// have to be equal to these, so that no two are equal. The last step that is not [`ChainStep::Rebuild`] says
-/// which form it has; where there is none, it has the form that it had.
+/// Converts a decoder's model by each step in turn. Whatever the steps are, the model keeps its rows, and so
+/// answers alike. A step that makes the model anew clones its symbols, and a clone has to be equal to its
+/// symbol. The last step that is not [`ChainStep::Rebuild`] says which form the model ends in; without one it
+/// keeps the form that it had.
 ///
-/// The only refusal is `OutOfMemory`, where memory for a model, for the lists of a rebuilding or for a clone
-/// of a symbol is refused. The form is then given up.
+/// The only refusal is `OutOfMemory`, if memory for a model, for the lists of a rebuilding or for a clone of
+/// a symbol is refused. The form is then dropped.
 ///
-/// Beside the form one more is in memory at a time; a rebuilding has a list of symbols and one of weights
-/// too. `PRECISION` is at most 63.
+/// At most one more form is in memory at a time; a rebuilding also has a list of symbols and a list of
+/// weights. `PRECISION` is at most 63.
 pub fn convert_chain<Symbol: Eq + Clone + Drop, Probability: IndexWord, const PRECISION: usize>(
     alloc: Global,
     form: DecoderForm<Symbol, Probability, PRECISION>,

@@ -30,18 +30,18 @@ pub enum CursorCall<Word> {
 /// The reply to a call of a cursor.
 #[derive(Debug, Drop, PartialEq, Eq)]
 pub enum CursorReply<Word> {
-    /// The word that was read, or `None` where none was left.
+    /// The word that was read, or `None` if no word was left.
     Word(Option<Word>),
     /// The word was written.
     Written,
     /// There was no word at the position to overwrite, and nothing changed.
     OutOfSpace,
-    /// How many words, or the position.
+    /// A number of words, or the position.
     Count(usize),
-    /// Whether it is so.
+    /// The answer to `StackExhausted`, `QueueExhausted` or `Full`.
     Flag(bool),
     /// The position is the one that was asked for.
     Moved,
-    /// There are fewer words than that, and nothing changed.
+    /// The position that was asked for is past the words, and nothing changed.
     NotMoved,
 }

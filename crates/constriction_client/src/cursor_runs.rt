@@ -1,4 +1,4 @@
-//! Whole runs of calls: on a cursor, and on one that was turned round.
+//! Runs of calls: on a cursor, and on one that was turned round.
 
 ghost use Rattle.std.specs.Prelude.{◌≡◌, ◌<◌, ◌≤◌, ◌++◌, [], ◌∷◌, length, IfOk, OnErr, vec_len, vec_capacity};
 ghost use Rattle.constriction_backends.specs.Cursor.{buf_of, state_of};
@@ -54,7 +54,7 @@ fn step<Word: Copy + Drop, Buf: SafeBufMut<Word>>(
     }
 }
 
-/// Seeks a position of the unreversed side in a cursor that was turned round.
+/// Seeks in a cursor that was turned round, to a position that is counted on the unreversed side.
 fn seek_reversed<Word, Buf: SafeBufMut<Word>>(
     reversed: &mut Reverse<Cursor<Word, Buf>>,
     position: usize,
@@ -73,7 +73,7 @@ fn seek_reversed<Word, Buf: SafeBufMut<Word>>(
     }
 }
 
-/// Makes a call of a cursor that was turned round, with positions as of the unreversed side.
+/// Makes a call of a cursor that was turned round, with positions that are counted on the unreversed side.
 fn step_reversed<Word: Copy + Drop, Buf: SafeBufMut<Word>>(
     reversed: &mut Reverse<Cursor<Word, Buf>>,
     call: &CursorCall<Word>,
@@ -110,7 +110,7 @@ fn step_reversed<Word: Copy + Drop, Buf: SafeBufMut<Word>>(
     }
 }
 
-/// Runs calls on a cursor, and puts the replies where room was made for them.
+/// Runs calls on a cursor, and puts the replies into a `Vec` that has room for them.
 pub(crate) fn run_reserved<Word: Copy + Drop, Buf: SafeBufMut<Word>>(
     cursor: &mut Cursor<Word, Buf>,
     calls: &[CursorCall<Word>],
@@ -128,7 +128,7 @@ pub(crate) fn run_reserved<Word: Copy + Drop, Buf: SafeBufMut<Word>>(
     replies
 }
 
-/// The same on a cursor that was turned round.
+/// As `run_reserved`, on a cursor that was turned round.
 pub(crate) fn run_reversed_reserved<Word: Copy + Drop, Buf: SafeBufMut<Word>>(
     reversed: &mut Reverse<Cursor<Word, Buf>>,
     calls: &[CursorCall<Word>],
@@ -149,8 +149,8 @@ pub(crate) fn run_reversed_reserved<Word: Copy + Drop, Buf: SafeBufMut<Word>>(
 /// Runs calls on a cursor, in order, and answers a reply for each. A call that is refused, or that
 /// finds no word, leaves the cursor as it is, and the run goes on.
 ///
-/// Memory is asked for once, for the replies, before the first call: where it is refused, nothing
-/// was run. Nothing of the buffer changes but its words.
+/// Memory for the replies is asked for once, before the first call. If it is refused, no call was
+/// made. Of the buffer only its words change.
 pub fn run_cursor<Word: Copy + Drop, Buf: SafeBufMut<Word>>(
     alloc: Global,
     cursor: &mut Cursor<Word, Buf>,
@@ -164,12 +164,12 @@ pub fn run_cursor<Word: Copy + Drop, Buf: SafeBufMut<Word>>(
     Ok(run_reserved(cursor, calls, replies))
 }
 
-/// As [`run_cursor`], on a cursor that was turned round, as by `into_reversed`: it replies as the
-/// cursor would that was turned round, and is left as the reversal of what would be left of that.
+/// As [`run_cursor`], on a cursor that was turned round, as by `into_reversed`. It replies as the
+/// unreversed cursor would, and ends in the reversal of the state in which that cursor would end.
 ///
-/// Positions are given and taken as of the unreversed side. The reply to `Position` is the number of
-/// words less the inner position, and `Seek(position)` moves to the number of words less `position`,
-/// or replies `NotMoved` where there are fewer words than `position`.
+/// Positions are counted on the unreversed side. The reply to `Position` is the number of words less
+/// the inner position. `Seek(position)` moves to the number of words less `position`, or replies
+/// `NotMoved` if there are fewer words than `position`.
 pub fn run_reversed<Word: Copy + Drop, Buf: SafeBufMut<Word>>(
     alloc: Global,
     reversed: &mut Reverse<Cursor<Word, Buf>>,

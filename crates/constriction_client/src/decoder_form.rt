@@ -35,7 +35,7 @@ pub enum SearchOrLookup<Searching, Tabled> {
     Lookup(Tabled),
 }
 
-/// A decoder's model over any symbols, no two of which are equal, in one of two forms.
+/// A decoder's model over any symbols, in one of two forms. No two of its symbols are equal.
 pub type DecoderForm<Symbol, Probability, const PRECISION: usize> = SearchOrLookup<
     Searching<Symbol, Probability, PRECISION>,
     Tabled<Symbol, Probability, PRECISION>,

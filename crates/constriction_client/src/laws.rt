@@ -17,13 +17,13 @@ pub use constriction::laws::{
     each_quantile_in_range_has_a_row, the_row_found_is_the_row_of_the_quantile,
 };
 
-/// What was written for items is read back as these items, in the order of a queue.
+/// The words of items are read back as these items, in the order of a queue.
 pub fn reads_back<Symbol, Word>()
     ensures { ReadsBack Symbol Word (λ words. words) (λ items. items) }
 {}
 
-/// What was written for items is read back as these items from the last to the first, in the order
-/// of a stack.
+/// The words of items are read back as these items from the last to the first, in the order of a
+/// stack.
 pub fn reads_back_reversed<Symbol, Word>()
     ensures { ReadsBack Symbol Word reverse reverse }
 {}

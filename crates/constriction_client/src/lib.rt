@@ -1,8 +1,8 @@
-//! What stands on the models: symbols as words and back, conversions, queries, and runs of calls.
+//! Functions over models and cursors: symbols as words and back, conversions, queries, and runs of calls.
 //!
 //! [`write_quantiles`] and [`read_symbols`] turn symbols into words and words into symbols, over
 //! any model and any sink or source. [`convert_chain`] takes a decoder's model through any
-//! conversions, and [`answer_queries`] asks a decoder and an encoder, which reply as a scan of their
+//! conversions. [`answer_queries`] asks a decoder and an encoder, which reply as a scan of their
 //! rows does. [`run_cursor`] and [`run_reversed`] run calls on a cursor and on its reversal, which
 //! answer alike. [`run`], of `constriction_text`, answers the lines of a whole text.
 #![tactic(auto)]

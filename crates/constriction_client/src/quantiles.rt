@@ -74,7 +74,7 @@ where
     }
 }
 
-/// The pair of a word, where it is a quantile.
+/// The pair of a word, if the word is a quantile.
 #[inline]
 fn pair_of<M, const PRECISION: usize>(
     model: &M,
@@ -99,9 +99,9 @@ where
 /// Writes the quantile of each item, in order: the left cumulative of its symbol plus its offset,
 /// which says which of the symbol's quantiles is meant.
 ///
-/// It stops at the first item that is refused, with `Frontend` where the item has no quantile and
-/// with `Backend` where the sink refuses it. The words of the items before it stay written, and
-/// those after it are not looked at. One pass over the items, and one write for each.
+/// It stops at the first item that is refused, with `Frontend` if the item has no quantile and
+/// with `Backend` if the sink refuses it. The words of the items before it stay written; the items
+/// after it are not looked at. It makes one pass over the items, and one write for each.
 pub fn write_quantiles<E, W, const PRECISION: usize>(
     encoder: &E,
     items: &[(E::Symbol, E::Probability)],
@@ -130,15 +130,15 @@ where
     Ok(())
 }
 
-/// Reads up to `count` words, and adds the pair of each to `out`: the symbol of the word's row, as the model
-/// answers it, so a clone where the model owns its symbols, and the offset, which is how far the word lies
-/// after the left cumulative of that row.
+/// Reads up to `count` words, and adds the pair of each to `out`: the symbol of the word's row, and the offset,
+/// which is how far the word lies after the left cumulative of that row. If the model owns its symbols, the
+/// symbol is a clone.
 ///
-/// The answer is the number of pairs that were added. It is below `count` only where the source
-/// ended, which is no fault. `Frontend` is answered at a word that is no quantile, and where memory
-/// for a pair is refused: that word has been read. `Backend` is answered where a read fails. In
-/// each case `out` keeps its pairs and those of the words before, and reading may go on after the
-/// fault. One look-up for each word; memory for the symbols and for `out` alone.
+/// It answers the number of pairs that were added. This is below `count` only if the source ended,
+/// which is no fault. It fails with `Frontend` at a word that is no quantile, and if memory for a
+/// pair is refused; that word has been read. It fails with `Backend` if a read fails. Either way
+/// `out` keeps its old pairs and the pairs of the words before, and reading may go on after the
+/// fault. It makes one look-up for each word, and takes memory only for the symbols and for `out`.
 pub fn read_symbols<S: Semantics, M, R, const PRECISION: usize>(
     model: &M,
     source: &mut R,
@@ -153,7 +153,7 @@ where
     ensures pairs { ReadsPairs M.stands_for M.may_refuse PRECISION (M.rows model.now) M.Probability.whole R.read_gives R.tells_upcoming
         count source.old out.old.items result source.new out.new.items (vec_capacity out.new) }
 
-    // No memory for pairs is asked for while they have room.
+    // While there is room for the pairs, no memory is asked for.
     ensures capacity { length out.new.items ≤ vec_capacity out.old → vec_capacity out.new ≡ vec_capacity out.old }
     ensures goes_on { R.can_read source.new }
 {

@@ -30,7 +30,7 @@ pub enum Reply<Symbol, Word: WholeNumber> {
     Row(Symbol, Word, Weight<Word>),
     /// The word is no quantile: it is not below `2^PRECISION`.
     OutOfRange,
-    /// The entry, left cumulative and weight, or `None` where the symbol has none.
+    /// The entry, left cumulative and weight, or `None` if the symbol has none.
     Entry(Option<(Word, Weight<Word>)>),
 }
 
@@ -62,15 +62,15 @@ where
     }
 }
 
-/// The replies to queries, in order: to a quantile by the decoder `form`, to a symbol by the encoder, which
-/// is over the same symbols and words.
+/// The replies to queries, in order. The decoder `form` answers quantiles, and the encoder, which is over the
+/// same symbols and words, answers symbols.
 ///
-/// Where both are of one list of rows, and so after any conversions, the replies are those that a scan of
-/// these rows gives, with clones of the rows' symbols where the decoder owns them. A word that is no quantile
-/// is not asked of the decoder.
+/// If the encoder has the entries of the decoder's rows, the replies are those that a scan of these rows
+/// gives; a decoder that owns its symbols answers clones of them. The decoder is not asked for a word that is
+/// no quantile.
 ///
-/// Memory for the replies is asked for once, before the first query. It fails where that is refused, or
-/// memory for a clone of a symbol.
+/// Memory for the replies is asked for once, before the first query. The call fails if that is refused, or if
+/// memory for a clone of a symbol is.
 pub fn answer_queries<D, E, const PRECISION: usize>(
     alloc: Global,
     form: &D,

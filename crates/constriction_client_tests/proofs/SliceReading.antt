@@ -1,4 +1,4 @@
--- What reading gives where the words to come are known.
+-- What reading gives if the upcoming words are known.
 use Rattle.std.specs.Prelude.{◌≡◌, ◌<◌, ◌≤◌, ◌⊎◌, ℕ, List, [], ◌∷◌, ◌++◌, length, take, Option, Result, Ok, Err, IfOk}
 use Rattle.std.proofs.Common.{suc, refl, ap, sym, ◌∙◌, subst, arith, inl, inr}
 use Rattle.std.specs.List.{AllZip}
@@ -16,7 +16,7 @@ as-many R [] (y ∷ ys) h = absurd h
 as-many R (x ∷ xs) [] h = absurd h
 as-many R (x ∷ xs) (y ∷ ys) h = ap suc (as-many R xs ys h.1)
 
--- The words of `many` pairs, which are as many as were asked for, or all where these are fewer. `n` is the answer.
+-- The words of `many` pairs: as many as were asked for, or all if there are fewer. `n` is the answer.
 asked-for : {Word P Q : Type 0} (count n many : ℕ) (upcoming words rest : List Word) → upcoming ≡ words ++ rest → n ≡ many
     → many ≡ length words → ((many ≡ count) × P) ⊎ ((many < count) × Q) → (n < count → rest ≡ []) → take count upcoming ≡ words
 asked-for count n many upcoming words rest split same long (inl end) none =
@@ -25,7 +25,7 @@ asked-for count n many upcoming words rest split same long (inr end) none =
     let all : upcoming ≡ words = split ∙ ap (λ more. words ++ more) (none (omega (arith, same, end.0))) ∙ append-nil words in
     ap (take count) all ∙ take_all count words (omega (arith, long, end.0))
 
--- the pairs that were added are those of as many of the words to come as were asked for, or of all where these are fewer
+-- the pairs that were added are the pairs of the first `count` upcoming words, or of all if there are fewer
 pub pairs-of-first : {Symbol Word Source Error : Type 0} (Stands : Symbol → Symbol → Type 0) (MayRefuse : Symbol → Type 0)
     (precision : ℕ) (rows : List (Row Symbol)) (whole : Word → ℕ) (gives : Source → Result (Option Word) Error → Source → Type 0) (tells : Source → List Word → Type 0) (count : ℕ)
     (s : Source) (old : List (Symbol × Word)) (n : ℕ) (t : Source) (new : List (Symbol × Word)) (capacity : ℕ) (upcoming : List Word)
@@ -50,7 +50,7 @@ pairs-if-read Stands MayRefuse precision rows whole gives tells count s old (Ok 
     pairs-of-first Stands MayRefuse precision rows whole gives tells count s old n t new capacity upcoming r known
 pairs-if-read Stands MayRefuse precision rows whole gives tells count s old (Err e) t new capacity upcoming r known = tt
 
--- of a model that refuses no row, memory was refused only where the list of pairs was full
+-- of a model that refuses no row, memory was refused only if the list of pairs was full
 pub full-if-refused : {Symbol Word Source Error : Type 0} (Stands : Symbol → Symbol → Type 0) (precision : ℕ) (rows : List (Row Symbol))
     (whole : Word → ℕ) (gives : Source → Result (Option Word) Error → Source → Type 0) (tells : Source → List Word → Type 0) (count : ℕ)
     (s : Source) (old : List (Symbol × Word)) (r : Result ℕ (CoderError ReadFault Error)) (t : Source) (new : List (Symbol × Word))

@@ -1,4 +1,4 @@
-//! Words of iterators, as pairs.
+//! The words of an iterator, read as pairs.
 
 ghost use Rattle.std.specs.Prelude.{◌≡◌, ◌≤◌, ◌++◌, List, length, take, Err, IfOk, vec_capacity};
 ghost use Rattle.constriction_client.specs.Quantiles.{ArePairs};
@@ -14,8 +14,8 @@ type Small = ContiguousCategoricalEntropyModel<u8, Vec<u8>, 6>;
 
 type Read = Result<usize, CoderError<ReadFault, Infallible>>;
 
-/// Reads the pairs of the first words of a slice, by a source over its iterator: of `count` words, or of all where these are fewer.
-/// Since the model clones no symbol, memory is wanting only where there is no room for a pair.
+/// Reads the first `count` words of a slice as pairs, or all words if there are fewer. The source is over the slice's iterator. The
+/// model clones no symbol, so memory is refused only if the list of pairs is full.
 fn read_slice(model: &Small, words: &[u8], count: usize, out: &mut Vec<(usize, u8)>) -> Read
     ensures pairs { IfOk result (λ n. (pairs : List _)
         × ArePairs (λ s t. t ≡ s) (⟦<ContiguousCategoricalEntropyModel<u8, Vec<u8>, 6> as EntropyModel<6>>⟧.rows model.now) (λ word. word)
@@ -37,7 +37,7 @@ fn words_of_an_iterator_are_read_as_pairs(rt: HostRuntime) {
     holds(&rt, &out, &[(0, 2), (3, 41), (1, 0)]);
 }
 
-/// Memory for pairs is asked for as words come, whatever the count is.
+/// Memory for pairs is requested as words come, whatever the count is.
 #[test]
 fn five_thousand_words_are_read_as_pairs(rt: HostRuntime) {
     let model = small(&rt, rt.alloc());

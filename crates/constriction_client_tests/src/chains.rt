@@ -18,8 +18,8 @@ use constriction_words::{IndexWord, NonZeroBitArray};
 use std::alloc::Global;
 use std::process::Abort;
 
-/// A caller over any symbols and words. It turns a form into one that looks up, makes it anew and turns it into one that
-/// searches, and it knows the rows of that.
+/// A caller over any symbols and words. It converts a form to a lookup form, rebuilds it and converts it to a searching form,
+/// whose rows it knows.
 fn searched_again<Symbol: Eq + Clone + Drop, Probability: IndexWord, const PRECISION: usize>(
     alloc: Global,
     form: DecoderForm<Symbol, Probability, PRECISION>,
@@ -56,7 +56,7 @@ fn a_form_of_words_of_16_bits_is_searched_again(rt: HostRuntime) {
     same(&rt, (symbol, left, weight.get()), (30, 1, 4094));
 }
 
-/// So a conversion of a form compares no symbols.
+/// Both forms answer that their symbols differ, so a conversion of a form compares no symbols.
 #[test]
 fn a_form_knows_that_its_symbols_differ(rt: HostRuntime) {
     let model = decoder::<6>(rt.alloc(), &SYMBOLS, &WEIGHTS, false).expect(&rt, "accepted");
@@ -68,7 +68,7 @@ fn a_form_knows_that_its_symbols_differ(rt: HostRuntime) {
     same(&rt, differ, true);
 }
 
-/// Stops the test where a walk from the back gives other rows than those of the letters.
+/// Asserts that a walk from the back gives the rows of the letters.
 fn gives_letters(rt: &impl Abort, symbol_table: NonContiguousSymbolTable<'_, char, u8, 6>) {
     let mut walk = symbol_table;
     for row in ROWS.iter().rev() {
@@ -81,7 +81,7 @@ fn gives_letters(rt: &impl Abort, symbol_table: NonContiguousSymbolTable<'_, cha
     same(rt, walk.next_back().is_none(), true);
 }
 
-/// Steps of each kind, of which the last one leaves a form that looks up.
+/// Steps of each kind. The last one leaves a lookup form.
 const TO_LOOKUP: [ChainStep; 5] = [
     ChainStep::ToSearch,
     ChainStep::ToLookup,
@@ -103,7 +103,7 @@ fn five_thousand_steps_leave_the_rows_of_the_letters(rt: HostRuntime) {
     same(&rt, agree(&encoder, &made, &SYMBOLS), Ok(true));
 }
 
-/// The error of a chain that begins with the form of letters whose clones may be refused, if it has one.
+/// The error of a chain, if it has one. It begins with a form of letters, one of which fails to clone.
 fn refusal_of(alloc: Global, steps: &[ChainStep]) -> Option<ModelError> {
     let searching = match letters(alloc) {
         Ok(model) => model,
@@ -115,7 +115,7 @@ fn refusal_of(alloc: Global, steps: &[ChainStep]) -> Option<ModelError> {
     }
 }
 
-/// Chains of one step, which clones symbols.
+/// Chains of one step that clones symbols.
 const CLONING: [[ChainStep; 1]; 3] = [
     [ChainStep::ToSearch],
     [ChainStep::ToLookup],

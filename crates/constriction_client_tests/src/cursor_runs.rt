@@ -45,7 +45,8 @@ fn at_1<Buf: SafeBufMut<u8> + Drop>(rt: &impl Abort, buf: Buf) -> Cursor<u8, Buf
     Cursor::<u8, Buf>::new_at_pos_mut(buf, 1).expect(rt, "1 is a position")
 }
 
-/// Two runs that are made one after the other reply the same, by the law, where the one cursor is the reversal of the other.
+/// Runs the calls on a cursor, and then on another one. By the law the replies are the same if one cursor is the reversal of the
+/// other.
 fn one_after_the_other<Buf: SafeBufMut<u8>, Turned: SafeBufMut<u8>>(
     alloc: Global,
     cursor: &mut Cursor<u8, Buf>,
@@ -61,20 +62,20 @@ fn one_after_the_other<Buf: SafeBufMut<u8>, Turned: SafeBufMut<u8>>(
     Ok((replies, others))
 }
 
-/// Stops the test where the replies of both are not these.
+/// Asserts that both replied this.
 fn both_are(rt: &impl Abort, found: BothReplies, expected: &[CursorReply<u8>]) {
     let (replies, others) = found.expect(rt, "memory");
     holds(rt, &replies, expected);
     holds(rt, &others, expected);
 }
 
-/// The buffer of a caller's own of 10, 20, 30.
+/// A buffer of a caller's own, with 10, 20, 30.
 fn marked(rt: &impl Abort, alloc: Global) -> Marked {
     Marked::new(vec_of(rt, alloc, &[10, 20, 30]))
 }
 
-/// Stops the test where a cursor over 10, 20, 30 at 1, or the reversal of one over a copy of them, replies otherwise to the
-/// calls, or leaves other words or another position.
+/// Asserts that a cursor over 10, 20, 30 at 1, and the reversal of one over a copy of them, give the expected replies to the
+/// calls, and leave the expected words and positions.
 fn are_run<Buf: SafeBufMut<u8> + Drop>(rt: &impl Abort, alloc: Global, buf: Buf, copy: Buf) {
     let mut cursor = at_1(rt, buf);
     let mut reversed = at_1(rt, copy).into_reversed();
@@ -91,7 +92,7 @@ fn a_cursor_over_a_buffer_of_the_caller_and_its_reversal_reply_the_same(rt: Host
     are_run(&rt, alloc, marked(&rt, alloc), marked(&rt, alloc));
 }
 
-/// A cursor and the reversal of a copy of it reply the same, whatever the calls are.
+/// The replies of a cursor and of the reversal of a copy of it. They are the same, whatever the calls are.
 fn replies_of_both<Buf: SafeBufMut<u8>>(
     alloc: Global,
     cursor: &mut Cursor<u8, Buf>,

@@ -8,7 +8,7 @@ use constriction_test_models::own_model::{Triple, three};
 use constriction_words::{CoderError, Pos};
 use std::alloc::AllocError;
 
-/// What a write answers, where its sink refuses a word with a `Refusal`.
+/// What a write of items answers. `Refusal` is the error of the sink.
 type Written<Refusal> = Result<(), CoderError<QuantileFault, Refusal>>;
 
 #[test]
@@ -22,7 +22,8 @@ fn a_cursor_of_two_words_refuses_the_third_item(rt: HostRuntime) {
     same(&rt, (answer, words, pos), (refused, [2, 63], 2));
 }
 
-/// What a callback that refuses its third word was handed last, how often it was called, and the answer.
+/// The answer of a write to a callback that refuses its third word, the last words that the callback was handed, and how often
+/// it was called.
 fn handed(model: &Weighted<6>, items: &[(usize, u8)]) -> (Written<char>, [u8; 3], u8) {
     let mut last = [0u8; 3];
     let mut calls = 0u8;
@@ -44,13 +45,13 @@ fn a_callback_is_handed_no_word_after_one_that_it_refuses(rt: HostRuntime) {
     same(&rt, found, (refused, [2, 63, 3], 3));
 }
 
-/// Writes items by a model of the caller.
+/// Writes items by a model of the caller's own.
 fn write_letters(model: &Triple, items: &[(char, u8)], words: &mut Vec<u8>) -> Written<AllocError> {
     write_quantiles(model, items, words)
 }
 
-/// Its first and its third row are of one letter, and the entry of the letter is the third row, of one
-/// quantile.
+/// The first and the third row of the model have the same letter. The entry of the letter is the third row, which has
+/// one quantile.
 #[test]
 fn a_model_of_the_caller_judges_offsets_by_its_last_row(rt: HostRuntime) {
     let model = three('p', 'q', 'p');

@@ -14,7 +14,7 @@ type Read = Result<usize, CoderError<ReadFault, Infallible>>;
 /// A source of borrowed words.
 type Words<'a> = Cursor<u8, &'a [u8]>;
 
-/// Reads pairs of letters, of which memory for a clone is refused where it is `r`.
+/// Reads pairs of letters. A clone of `r` fails.
 fn read_letters(
     model: &LetterDecoder,
     source: &mut Words,
@@ -36,7 +36,7 @@ fn a_word_whose_letter_is_not_cloned_is_gone(rt: HostRuntime) {
     holds(&rt, &out, &[(Letter('c'), 2)]);
 }
 
-/// Reads pairs of numbers, and where the source stands then.
+/// Reads pairs of numbers. Returns the position of the source too.
 fn read_words(
     model: &Weighted<6>,
     source: &mut Words,
@@ -70,7 +70,7 @@ fn words_after_one_that_is_no_quantile_are_read(rt: HostRuntime) {
 /// A source over words and errors.
 type Results = FallibleIteratorReadWords<vec::IntoIter<Result<u8, u8>>>;
 
-/// Reads pairs of numbers, and how many words and errors are left.
+/// Reads pairs of numbers. Returns too how many words and errors are left.
 fn read_results(
     model: &Weighted<6>,
     source: &mut Results,

@@ -1,4 +1,4 @@
-//! Items to words and back, by the model of four weights.
+//! Items written as words and read back, by the model of four weights.
 
 ghost use Rattle.std.specs.Prelude.{◌≡◌, [], ◌∷◌, nat_eq};
 ghost use Rattle.std.specs.Cmp.{nat_eq_equiv};
@@ -16,7 +16,7 @@ use constriction_words::BitArray;
 use std::alloc::AllocError;
 use std::error::Error;
 
-/// A model of the caller that names a letter twice: `a`, `b` and `a` again have the weights 1, 2
+/// A model of the caller's own with two rows of one letter: `a`, `b` and `a` again, of weights 1, 2
 /// and 1.
 pub(crate) struct Letters;
 

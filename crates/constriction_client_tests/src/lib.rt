@@ -1,7 +1,7 @@
-//! The tests of items there and back, chains of conversions, queries, and runs of calls on a cursor.
+//! The tests of items written and read back, chains of conversions, queries, and runs of calls on a cursor.
 //!
-//! A library that has tests of its own is proved twice, so none of them has any. Tests use the
-//! public interface alone.
+//! The libraries have no tests of their own, because a library with tests is proved twice. These tests use the public
+//! interface alone.
 #![tactic(auto)]
 
 #[cfg(test)]

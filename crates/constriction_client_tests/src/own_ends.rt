@@ -1,4 +1,4 @@
-//! Items to words and back, over ends of the caller that refuse.
+//! Items written and read by a sink and a source of the caller's own that fail.
 
 ghost use Rattle.std.specs.Prelude.{◌≡◌};
 ghost use Rattle.constriction_backends.specs.Stack.{Pushes};
@@ -10,7 +10,7 @@ use constriction_client::{ReadFault, read_symbols, write_quantiles};
 use constriction_test_models::contiguous::Weighted;
 use constriction_words::{CoderError, Queue};
 
-/// A sink of at most two words, which hands a word back where it refuses it.
+/// A sink of at most two words. It hands back each word that it refuses.
 #[derive(Drop)]
 struct TwoWords {
     words: Vec<u8>,
@@ -50,7 +50,7 @@ fn a_refusal_of_the_sink_is_handed_on(rt: HostRuntime) {
     holds(&rt, &sink.words, &[2, 63]);
 }
 
-/// A source that answers 63, an error, 2, and then that it ended.
+/// A source that answers 63, an error, 2, and then `None`.
 #[derive(Drop)]
 struct Interrupted {
     reads: u8,

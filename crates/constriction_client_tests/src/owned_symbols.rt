@@ -1,4 +1,4 @@
-//! Models of symbols that own memory: a clone of a `String` has the same text, and is not the same value.
+//! Models of symbols that own memory. A clone of a `String` has the same text, but need not be the same value.
 
 ghost use Rattle.std.specs.Prelude.{◌≡◌, ◌<◌, IfOk, string_bytes};
 ghost use Rattle.constriction.specs.Rows.{Row, IsRowOf};
@@ -25,12 +25,12 @@ type Encoder = NonContiguousCategoricalEncoderModel<String, u8, 6>;
 
 const WEIGHTS: [u8; 3] = [3, 18, 43];
 
-/// A text in memory of its own. It stops the test where memory is refused.
+/// A text as a `String`. The test fails if memory is refused.
 fn text(rt: &impl Abort, alloc: Global, text: &str) -> String {
     String::from_str(alloc, text).expect(rt, "memory")
 }
 
-/// The texts of the models, each in memory of its own.
+/// The texts of the models, as `String`s.
 fn texts(rt: &impl Abort, alloc: Global) -> [String; 3] {
     [
         text(rt, alloc, "a"),
@@ -52,7 +52,7 @@ fn encoder(rt: &impl Abort, alloc: Global) -> Result<Encoder, ModelError> {
     Encoder::from_symbols_and_nonzero_fixed_point_probabilities(alloc, texts, WEIGHTS, false)
 }
 
-/// The text of a quantile: that of the symbol of its row.
+/// The text at a quantile: the symbol of its row has this text.
 fn text_of(model: &Decoder, quantile: u8) -> Result<String, AllocError>
     requires { quantile < 64 }
     ensures { IfOk result (λ text. (row : Row _)
@@ -63,7 +63,7 @@ fn text_of(model: &Decoder, quantile: u8) -> Result<String, AllocError>
     Ok(text)
 }
 
-/// Stops the test where an answer is not this row.
+/// Asserts that an answer is this row.
 fn is_row(
     rt: &impl Abort,
     answer: Result<(String, u8, Weight<u8>), AllocError>,
@@ -75,7 +75,7 @@ fn is_row(
     }
 }
 
-/// The quantiles at both ends of each row, and the row.
+/// The first and the last quantile of each row, and the row.
 const ROWS: [(u8, (&str, u8, u8)); 6] = [
     (0, ("a", 0, 3)),
     (2, ("a", 0, 3)),
@@ -85,7 +85,7 @@ const ROWS: [(u8, (&str, u8, u8)); 6] = [
     (63, ("", 21, 43)),
 ];
 
-/// Stops the test where the model does not answer these rows.
+/// Asserts that the model answers these rows.
 fn answers<M>(rt: &impl Abort, model: &M)
 where
     M: DecoderModel<6, Symbol = String, Probability = u8>,
@@ -97,7 +97,7 @@ where
     }
 }
 
-/// The entries of the texts, and that of another text.
+/// The entries of the texts, and of a text that has none.
 const ENTRIES: [(&str, Option<(u8, u8)>); 4] = [
     ("a", Some((0, 3))),
     ("be", Some((3, 18))),
@@ -105,7 +105,7 @@ const ENTRIES: [(&str, Option<(u8, u8)>); 4] = [
     ("b", None),
 ];
 
-/// Stops the test where a clone of the model does not have these entries.
+/// Asserts that a clone of the model has these entries.
 fn clone_encodes(rt: &impl Abort, alloc: Global, model: &Encoder) {
     let clone = model.clone().expect(rt, "memory");
     for each in &ENTRIES {
@@ -116,12 +116,12 @@ fn clone_encodes(rt: &impl Abort, alloc: Global, model: &Encoder) {
     same(rt, clone.support_size(), 3);
 }
 
-/// Stops the test where a clone of a model that searches does not answer the rows.
+/// Asserts that a clone of a searching model answers these rows.
 fn clone_searches(rt: &impl Abort, model: &Decoder) {
     answers(rt, &model.clone().expect(rt, "memory"));
 }
 
-/// The same of a lookup model.
+/// The same for a lookup model.
 fn clone_looks_up(rt: &impl Abort, made: Result<Lookup, ModelError>) {
     let made = made.expect(rt, "a model");
     answers(rt, &made.clone().expect(rt, "memory"));
@@ -143,7 +143,7 @@ fn an_encoder_of_texts_is_cloned_and_answers(rt: HostRuntime) {
     clone_encodes(&rt, rt.alloc(), &made);
 }
 
-/// The form that each kind of step leaves of a decoder of texts.
+/// Converts a decoder of texts by a chain with each kind of step.
 fn converted(alloc: Global, model: Decoder) -> Result<DecoderForm<String, u8, 6>, ModelError> {
     let steps = [
         ChainStep::ToLookup,
@@ -166,7 +166,7 @@ fn ask(
     answer_queries(alloc, form, encoder, queries)
 }
 
-/// Stops the test where a form does not reply to two quantiles and to two texts as the rows of the texts do.
+/// Asserts that a form replies to two quantiles and to two texts by the rows of the texts.
 fn replies(rt: &impl Abort, alloc: Global, form: &DecoderForm<String, u8, 6>) {
     let queries = [
         Query::OfQuantile(20),
@@ -195,7 +195,7 @@ fn a_chain_of_texts_replies(rt: HostRuntime) {
 
 type Back = Result<Vec<(String, u8)>, CoderError<QuantileFault, AllocError>>;
 
-/// Texts with offsets, which are written and read back by the two models that are made of one decoder.
+/// Writes texts with offsets and reads them back, by the decoder and the encoder made of one decoder.
 fn there_and_back(rt: &impl Abort, alloc: Global, model: &Decoder, items: &[(String, u8)]) -> Back {
     let made = decoder_and_encoder(alloc, model);
     let (decoder, encoder) = made.expect(rt, "two models");

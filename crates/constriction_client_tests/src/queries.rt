@@ -7,10 +7,10 @@ use constriction_test_models::symbol_types::{Letter, LetterDecoder, letters};
 use constriction_words::BitArray;
 use std::alloc::{AllocError, Global};
 
-/// An encoder's model of letters that may refuse a clone.
+/// An encoder model over letters that may fail to clone.
 type LetterEncoder = NonContiguousCategoricalEncoderModel<Letter, u8, 6>;
 
-/// Asks for the row of a quantile, where the clone of a letter may be refused.
+/// Asks for the row of a quantile, whose letter may fail to clone.
 fn ask_for_row(
     alloc: Global,
     form: &LetterDecoder,

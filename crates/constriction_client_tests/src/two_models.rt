@@ -1,4 +1,4 @@
-//! Items that one model writes and another one reads back: through a stack, and in a cursor.
+//! Items that one model writes and another one reads back, through a stack and in a cursor.
 
 ghost use Rattle.std.specs.Prelude.{◌≡◌, [], ◌∷◌, nat_eq};
 ghost use Rattle.std.specs.Cmp.{nat_eq_equiv};
@@ -17,8 +17,8 @@ use constriction_words::{BitArray, CoderError, Pos, ReadWriteError, Seek};
 use std::alloc::{AllocError, Global};
 use std::process::Abort;
 
-/// The entries of [`Letters`], and no more: `b` and the later `a`. They leave a quantile out, so no
-/// decoder has these rows.
+/// An encoder with the entries of [`Letters`] as its rows: `b` and the later `a`. They leave a quantile out,
+/// so no decoder has these rows.
 struct LetterEntries;
 
 impl EntropyModel<2> for LetterEntries {
@@ -49,7 +49,7 @@ impl EncoderModel<2> for LetterEntries {
 
 type Back<Symbol, Word> = Result<Vec<(Symbol, Word)>, CoderError<QuantileFault, AllocError>>;
 
-/// Items there and back through a stack, by any decoder and any encoder over its symbols and words.
+/// Writes items to a stack and reads them back, by any decoder and any encoder over its symbols and words.
 fn back_of_any<D, E, const PRECISION: usize>(
     alloc: Global,
     decoder: &D,
@@ -66,7 +66,7 @@ where
     there_and_back_of_two(alloc, decoder, encoder, items)
 }
 
-/// The same where the words are bytes.
+/// The same if the words are bytes.
 fn back_of_bytes<D, E, const PRECISION: usize>(
     alloc: Global,
     decoder: &D,
@@ -82,12 +82,12 @@ where
     back_of_any(alloc, decoder, encoder, items)
 }
 
-/// Items, and the same from the last to the first.
+/// Three items. `REVERSED` has them in reverse order.
 const ITEMS: [(usize, u8); 3] = [(0, 2), (3, 41), (1, 0)];
 
 const REVERSED: [(usize, u8); 3] = [(1, 0), (3, 41), (0, 2)];
 
-/// The same by two models of the same rows.
+/// The same by two models with the same rows.
 fn back_of_two(
     alloc: Global,
     decoder: &Weighted<6>,
@@ -107,8 +107,8 @@ fn two_models_of_the_same_weights_give_items_back(rt: HostRuntime) {
     holds(&rt, &back, &REVERSED);
 }
 
-/// The way in a cursor that stands after the first of these words, by a model and a reference to it. It gives what comes
-/// back, and the position that is left.
+/// Writes items into a cursor that stands after the first of these words, and reads them back, by a model and a reference to
+/// it. Returns what comes back, and the position of the cursor.
 fn in_a_cursor(
     alloc: Global,
     model: &Weighted<6>,
@@ -121,7 +121,8 @@ fn in_a_cursor(
     (back, cursor.pos())
 }
 
-/// Items are refused in a cursor over 7, 8 and 9 that stands after the first, and these words and the position stay.
+/// Asserts that items are refused in a cursor over 7, 8 and 9 that stands after the 7, and which words and position that
+/// leaves.
 fn keeps_the_words(
     rt: &impl Abort,
     alloc: Global,
@@ -150,12 +151,12 @@ fn a_cursor_keeps_the_words_before_a_refusal(rt: HostRuntime) {
 
 type Letter = (u8, u8);
 
-/// The way through a stack, by a decoder and an encoder that is none.
+/// Writes letters to a stack and reads them back, by a decoder and an encoder that is no decoder.
 fn letters_through_a_stack(alloc: Global, items: &[Letter]) -> Back<u8, u8> {
     there_and_back_of_two(alloc, &Letters, &LetterEntries, items)
 }
 
-/// Whether they come back from a cursor over these words.
+/// Whether letters come back from a cursor over these words.
 fn letters_come_back(alloc: Global, items: &[Letter], words: &mut [u8]) -> bool {
     let mut cursor = Cursor::<u8, &mut [u8]>::new_at_write_beginning(words);
     there_and_back_in_a_cursor(alloc, &Letters, &LetterEntries, items, &mut cursor).is_ok()

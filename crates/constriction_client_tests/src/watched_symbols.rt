@@ -1,5 +1,5 @@
-//! Conversions of models of symbols that are watched: how often two of them are compared, how often
-//! one is cloned, and how many there are.
+//! Conversions of models whose symbols count how often they are compared and cloned, and how many of
+//! them there are.
 
 ghost use Rattle.std.specs.Prelude.{◌<◌, ◌^◌};
 ghost use Rattle.std.specs.List.{IsDistinct};
@@ -15,7 +15,7 @@ use constriction::stream::model::{
 };
 use constriction_client::laws::{DecoderAndEncoder, decoder_and_encoder, there_and_back_of_two};
 use constriction_client::{ChainStep, DecoderForm, Query, answer_queries, convert_chain};
-use constriction_test_models::watched::{Tally, Watched, count, symbols, tally, tallied};
+use constriction_test_models::watched::{Tally, Watched, count, symbols, tallied, tally};
 use std::alloc::{AllocError, Global};
 use std::cell::Cell;
 use std::iter;
@@ -27,8 +27,8 @@ type Form = DecoderForm<Watched, usize, 24>;
 
 type Both = DecoderAndEncoder<Watched, usize, 24>;
 
-/// The model of so many numbers from 0 on, and of the number `last` after them, made by their hashes. Each has one
-/// quantile, but the last one has all that are left. So the rows of the others all meet the first slot of a lookup table.
+/// The model of the numbers `0..count`, and of the number `last` after them, by the constructor that hashes. Each has one
+/// quantile, except that the last one has all others. So the rows of the others all meet the first slot of a lookup table.
 fn hashed(
     rt: &impl Abort,
     alloc: Global,
@@ -41,15 +41,15 @@ fn hashed(
     Decoder::from_hashable_symbols_and_nonzero_fixed_point_probabilities(alloc, symbols, ones, true)
 }
 
-/// A model of the caller, which has the rows of another model and counts the walks through it. Its symbol table does not announce
-/// how many rows there are.
+/// A model of the caller's own that has the rows of another model, and counts the walks through them. Its symbol table does not
+/// announce how many rows there are.
 #[derive(Clone, Copy)]
 struct Unannounced<'w, Model> {
     model: Model,
     walks: &'w Cell<usize>,
 }
 
-/// Its symbol table, which keeps the default `size_hint` of the trait.
+/// Its symbol table. It keeps the default `size_hint` of the trait.
 #[derive(Drop)]
 struct UnannouncedSymbolTable<SymbolTable> {
     held: SymbolTable,
@@ -101,14 +101,14 @@ impl<'w, Model: IterableEntropyModel<24>> IterableEntropyModel<24> for Unannounc
     ghost tile_law = { λ m. Model.tile_law m.model };
 }
 
-/// No two symbols of a decoder's model are equal.
+/// No two symbols of a decoder model are equal.
 fn symbols_differ(model: &Decoder)
     ensures { IsDistinct ⟦<Watched as PartialEq>⟧.eq (symbols_of (⟦<Decoder as EntropyModel<24>>⟧.rows model.now)) }
 {
     non_contiguous_symbols_differ::<Watched, usize, Vec<(usize, Watched)>, 24>();
 }
 
-/// The form of the same rows with a lookup table.
+/// The lookup form of the same rows, by a conversion that compares nothing.
 fn looked_up(alloc: Global, model: &Decoder) -> Result<Form, ModelError> {
     symbols_differ(model);
     match to_generic_lookup_decoder_model_of_distinct(alloc, model) {
@@ -117,7 +117,7 @@ fn looked_up(alloc: Global, model: &Decoder) -> Result<Form, ModelError> {
     }
 }
 
-/// The same by a walk that does not announce how many rows there are.
+/// The same, from a symbol table that does not announce how many rows there are.
 fn looked_up_unannounced(alloc: Global, model: &Decoder) -> Result<Form, ModelError> {
     symbols_differ(model);
     let walks = &Cell::new(0);
@@ -127,7 +127,7 @@ fn looked_up_unannounced(alloc: Global, model: &Decoder) -> Result<Form, ModelEr
     }
 }
 
-/// The form of the same rows, of a model that knows whether its symbols differ.
+/// The searching form of the same rows, by a conversion that asks the model whether its symbols differ.
 fn walked(alloc: Global, model: &Decoder) -> Result<Form, ModelError> {
     match to_generic_decoder_model(alloc, model) {
         Ok(made) => Ok(DecoderForm::Search(made)),
@@ -135,12 +135,12 @@ fn walked(alloc: Global, model: &Decoder) -> Result<Form, ModelError> {
     }
 }
 
-/// The two models of the same rows, by a model that counts the walks through it.
+/// A decoder and an encoder of the same rows, made of a model that counts the walks through it.
 fn both_of(alloc: Global, model: &Decoder, walks: &Cell<usize>) -> Result<Both, ModelError> {
     decoder_and_encoder(alloc, Unannounced { model, walks })
 }
 
-/// Each kind of step, and a rebuilding of each form.
+/// Each kind of step, and a `Rebuild` of each form.
 const EACH_STEP: [ChainStep; 6] = [
     ChainStep::ToSearch,
     ChainStep::Rebuild,
@@ -150,12 +150,12 @@ const EACH_STEP: [ChainStep; 6] = [
     ChainStep::Rebuild,
 ];
 
-/// The form that each kind of step leaves of a model.
+/// Converts a model by a chain with each kind of step.
 fn converted(alloc: Global, model: Decoder) -> Result<Form, ModelError> {
     convert_chain(alloc, DecoderForm::Search(model), &EACH_STEP)
 }
 
-/// The number of a quantile's symbol.
+/// The number of the symbol at a quantile.
 fn number_at(form: &Form, quantile: usize) -> Option<u32>
     requires { quantile < 2 ^ 24 }
 {
@@ -165,7 +165,8 @@ fn number_at(form: &Form, quantile: usize) -> Option<u32>
     }
 }
 
-/// One hash of each tells most of 5,000 symbols apart, and no conversion compares any. No clone outlives the form.
+/// The constructor hashes each of 5,000 symbols once and compares few. No conversion compares any, and no clone outlives the
+/// form.
 #[test]
 fn five_thousand_symbols_are_converted_without_comparing_any(rt: HostRuntime) {
     let tally = tally(rt.alloc()).expect(&rt, "memory");
@@ -181,7 +182,7 @@ fn five_thousand_symbols_are_converted_without_comparing_any(rt: HostRuntime) {
     same(&rt, tallied(&tally), (few, 25_001, 0));
 }
 
-/// The conversion to a lookup model compares no two symbols, whether or not the walk announces how many rows there are.
+/// The conversion to a lookup model compares no symbols, whether or not the symbol table announces how many rows there are.
 #[test]
 fn five_thousand_symbols_are_looked_up_without_comparing_any(rt: HostRuntime) {
     let tally = tally(rt.alloc()).expect(&rt, "memory");
@@ -207,7 +208,7 @@ fn five_thousand_symbols_that_differ_are_not_compared(rt: HostRuntime) {
     same(&rt, number_at(&form, 4321), Some(4321));
 }
 
-/// The model is walked through once for each of them, and each walk clones each symbol once.
+/// Each of the two models takes one walk, and each walk clones each symbol once.
 #[test]
 fn a_decoder_and_an_encoder_take_one_walk_each(rt: HostRuntime) {
     let tally = tally(rt.alloc()).expect(&rt, "memory");
@@ -220,12 +221,12 @@ fn a_decoder_and_an_encoder_take_one_walk_each(rt: HostRuntime) {
     same(&rt, both.1.support_size(), 100);
 }
 
-/// How often symbols were hashed and cloned since that was asked the last time.
+/// How often symbols were hashed and cloned since the last call.
 fn hashed_and_cloned(tally: &Tally) -> [usize; 2] {
     [tally.hashed.replace(0), tally.cloned.replace(0)]
 }
 
-/// A hundred items, and two hundred queries, about symbols and quantiles of these.
+/// A hundred items, and two hundred queries about the same symbols and about quantiles.
 type Questions = (Vec<(Watched, usize)>, Vec<Query<Watched, usize>>);
 
 fn questions(alloc: Global, tally: &Tally) -> Result<Questions, AllocError> {
@@ -240,8 +241,8 @@ fn questions(alloc: Global, tally: &Tally) -> Result<Questions, AllocError> {
     Ok((items, queries))
 }
 
-/// Stops the test where a decoder and an encoder that are made of a model are asked more than once for an item or a query: the
-/// encoder hashes a symbol each time, and the decoder clones one.
+/// Asserts that a decoder and an encoder made of a model are asked once for each item and each query. The encoder hashes a
+/// symbol each time, and the decoder clones one.
 fn are_asked_once(rt: &impl Abort, alloc: Global, tally: &Tally, model: &Decoder) {
     let made = decoder_and_encoder(alloc, model);
     let (decoder, encoder) = made.expect(rt, "both models");
@@ -262,7 +263,7 @@ fn each_item_and_each_query_takes_one_look_up(rt: HostRuntime) {
     are_asked_once(&rt, rt.alloc(), &tally, &made.expect(&rt, "accepted"));
 }
 
-/// Where a symbol is there twice, and where a clone is refused, no symbol is left.
+/// All symbols are dropped if a symbol comes twice, and if a clone fails.
 #[test]
 fn no_symbol_outlives_a_refusal(rt: HostRuntime) {
     let tally = tally(rt.alloc()).expect(&rt, "memory");

@@ -88,7 +88,7 @@ fn push_numbers<N: Display>(text: &mut String, numbers: &[N]) -> Result<(), Allo
     text.push_str("\n")
 }
 
-/// Adds the answer to a line. Where memory is refused, a part of it may be added.
+/// Adds the answer to a line. If memory is refused, a part of it may have been added.
 pub(crate) fn push_answer(alloc: Global, text: &mut String, line: &[u8]) -> Result<(), AllocError> {
     match answered(alloc, line) {
         Ok(Answer::Words(words)) => push_numbers(text, &words),

@@ -5,22 +5,22 @@ ghost use Rattle.std.specs.Prelude.{◌<◌, ◌≤◌};
 use constriction::CoderError;
 use constriction::backends::Cursor;
 use constriction::stream::model::{ContiguousCategoricalEntropyModel, ModelError};
-use constriction_coders::queue::{RangeDecoder, DecoderFrontendError, RangeEncoder};
+use constriction_coders::queue::{DecoderFrontendError, RangeDecoder, RangeEncoder};
 use constriction_coders::stack::AnsCoder;
 use std::alloc::{AllocError, Global};
 
 /// Why a line has no words or symbols as its answer.
 #[derive(Debug, Drop)]
 pub(crate) enum Refusal {
-    /// No call is spelled so.
+    /// The line spells no call.
     BadLine,
     /// The weights do not tile.
     Invalid,
     /// A symbol has no weight.
     ImpossibleSymbol,
-    /// The words end in 0, which those of no stack coder do.
+    /// The words end in 0, so they are those of no stack coder.
     EndsInZero,
-    /// The range decoder met no quantile.
+    /// The range decoder found the words invalid.
     Damaged,
     OutOfMemory,
 }
@@ -95,7 +95,7 @@ pub(crate) fn stack_encode<const PRECISION: usize>(
     }
 }
 
-/// So many symbols of these words, by the stack coder.
+/// The `count` symbols that the stack coder decodes from these words.
 pub(crate) fn stack_decode<const PRECISION: usize>(
     alloc: Global,
     weights: &[u64],
@@ -138,7 +138,7 @@ pub(crate) fn queue_encode<const PRECISION: usize>(
     }
 }
 
-/// So many symbols of these words, by the range decoder.
+/// The `count` symbols that the range decoder decodes from these words.
 pub(crate) fn queue_decode<const PRECISION: usize>(
     alloc: Global,
     weights: &[u64],

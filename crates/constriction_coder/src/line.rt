@@ -8,16 +8,16 @@ use std::alloc::{AllocError, Global};
 pub(crate) enum Call {
     /// `stack-encode P W.. : S..`: the words of the stack coder for these symbols.
     StackEncode,
-    /// `stack-decode P W.. : N : WORD..`: so many symbols of these words, by the stack coder.
+    /// `stack-decode P W.. : N : WORD..`: the `N` symbols that the stack coder decodes from these words.
     StackDecode,
     /// `queue-encode P W.. : S..`: the words of the range encoder for these symbols.
     QueueEncode,
-    /// `queue-decode P W.. : N : WORD..`: so many symbols of these words, by the range decoder.
+    /// `queue-decode P W.. : N : WORD..`: the `N` symbols that the range decoder decodes from these words.
     QueueDecode,
 }
 
 impl Call {
-    /// Whether it wants symbols of words.
+    /// Whether it asks for symbols.
     pub(crate) fn is_decode(self) -> bool {
         match self {
             Call::StackDecode | Call::QueueDecode => true,
@@ -32,7 +32,7 @@ pub(crate) struct Request {
     pub(crate) call: Call,
     pub(crate) precision: u64,
     pub(crate) weights: Vec<u64>,
-    /// How many symbols are wanted; 0 where symbols are encoded.
+    /// How many symbols are asked for; 0 if symbols are encoded.
     pub(crate) count: usize,
     /// The symbols or the words.
     pub(crate) numbers: Vec<u64>,
@@ -41,11 +41,11 @@ pub(crate) struct Request {
 /// The byte between two words of a line.
 const SPACE: u8 = b' ';
 
-/// The most symbols that a line may want.
+/// The most symbols that a line may ask for.
 const MOST_SYMBOLS: u64 = 1_048_576;
 
-/// Adds the numbers up to a colon, or up to the end where none is wanted. It answers whether only numbers stand there, and what follows
-/// the colon.
+/// Adds the numbers up to a colon, or up to the end if `to_colon` is false. Answers whether the words are spelled so, and what follows the
+/// colon.
 fn push_numbers<'a>(
     text: Option<&'a [u8]>,
     to_colon: bool,

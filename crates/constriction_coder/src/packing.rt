@@ -16,7 +16,7 @@ struct Watched<'a, R> {
 }
 
 impl<R> Watched<'_, R> {
-    /// Says how much was read, where a second went by. What a clock or standard error refuses is not said.
+    /// Says how much was read, if a second went by. It ignores errors of the clock and of standard error.
     fn say(&mut self) {
         let Ok(now) = Instant::now(self.rt) else {
             return;
@@ -56,7 +56,7 @@ fn run<R: Read>(rt: &HostRuntime, call: Call, reader: &mut R) -> Result<(), Pack
     }
 }
 
-/// Packs or unpacks, with a line a second on standard error where that is a terminal, and answers the exit status.
+/// Packs or unpacks, with a line a second on standard error if that is a terminal, and answers the exit status.
 fn status_of(rt: &HostRuntime, call: Call) -> ExitCode {
     let mut reader = rt.reader();
     let done = if rt.stderr().is_terminal() {
@@ -79,7 +79,7 @@ fn status_of(rt: &HostRuntime, call: Call) -> ExitCode {
     }
 }
 
-/// Does what the argument asks for, `pack` or `unpack`, and answers the exit status; or nothing where there is no argument.
+/// Does what the argument asks for, `pack` or `unpack`, and answers the exit status, or `None` if there is no argument.
 pub(crate) fn asked(rt: &HostRuntime) -> Option<ExitCode> {
     let Ok(arguments) = env::args(rt) else {
         return Some(ExitCode::from(3));

@@ -11,7 +11,7 @@ use Rattle.constriction_coders.specs.Steps.{Content, IsEncoded, IsDecoded}
 use Rattle.constriction_coders.proofs.ComingBack.{encode-once, symbol-back}
 use Rattle.constriction_coders.proofs.GoingBack.{own-row}
 
--- what stands for a symbol that equals another one is equal to that
+-- what stands for a symbol is equal to each symbol that this one equals
 equal-to : {Symbol : Type 0} (Stands : Symbol → Symbol → Type 0) (eq : Symbol → Symbol → Bool) → IsEquivalence eq → ClonesAreEqual eq Stands
     → (symbol answer : Symbol) → StandsForEqual Stands eq symbol answer → eq symbol answer ≡ true
 equal-to Stands eq laws clones symbol answer h = sym (laws.congr h.0 symbol answer h.1) ∙ clones h.0 answer h.2

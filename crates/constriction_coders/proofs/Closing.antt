@@ -1,4 +1,4 @@
--- The words of a state: that there are some, how many, and what writing them gives.
+-- The words of a state: they exist, how many there are, and what writing them gives.
 use Rattle.std.proofs.Common.{◌≡◌, ℕ, ◌+◌, ◌/◌, ◌%◌, ◌^◌, ◌<◌, ◌≤◌, List, [], ◌∷◌, ◌++◌, suc, zero, Result, Ok, Err, length, refl, ap, sym, ◌∙◌, arith, inl, inr}
 use Rattle.std.proofs.lemmas.Bool.{cases_lt}
 use Rattle.std.proofs.lemmas.List.{append_assoc, length-append, same_from_push}
@@ -6,7 +6,7 @@ use Rattle.constriction_coders.specs.Compressed.{AreWordsOf, AreAllWordsOf, IsCo
 use Rattle.constriction_coders.specs.Steps.{Content, IsWhole}
 use Rattle.constriction_coders.proofs.ComingBack.{same-content}
 
--- a state below 2 ^ 32 has the one word
+-- a state below 2 ^ 32 that is not 0 is its only word
 pub one-word : (state : ℕ) → 0 < state → state < 2 ^ 32 → AreWordsOf state (state % 2 ^ 32 ∷ [])
 one-word state some small = let same : state % 2 ^ 32 ≡ state = omega (arith, small) in rw same (inr (inl (some, small, refl)))
 
@@ -56,7 +56,7 @@ module _ {S E : Type 0} (gives : S → ℕ → Result (Unit {0}) E → S → Typ
         )
       ]
 
-  -- the second one was
+  -- the second word was refused
   pub stops-second : (reached left : S) (error : E) → 2 ^ 32 ≤ state → gives from (state % 2 ^ 32) (Ok tt) reached
       → gives reached (state / 2 ^ 32) (Err error) left → ClosingStops gives state from error
   stops-second reached left error least low step = (
@@ -74,7 +74,7 @@ module _ {S E : Type 0} (gives : S → ℕ → Result (Unit {0}) E → S → Typ
     },
   )
 
--- as many words as those under the state, and those that the state has
+-- there are as many words as under the state, and in the state
 pub counted : (c : Content) (all : List ℕ) (n : ℕ) → (c.state ≡ 0 → n ≡ 0) → (0 < c.state → c.state < 2 ^ 32 → n ≡ 1)
     → (2 ^ 32 ≤ c.state → n ≡ 2) → IsCompressed c all → length c.words + n ≡ length all
 counted c all n none one two compressed = go compressed.words
@@ -85,7 +85,7 @@ counted c all n none one two compressed = go compressed.words
     go (inr (inr p)) =
         omega (arith, two p.0, ap length p.1, length-append c.words (c.state % 2 ^ 32 ∷ c.state / 2 ^ 32 ∷ []))
 
--- a number that is not 0
+-- a number that is not 0 is positive
 pub positive : (n : ℕ) → (n ≡ 0 → ⊥) → 0 < n
 positive zero h = absurd (h refl)
 positive (suc n) h = omega arith

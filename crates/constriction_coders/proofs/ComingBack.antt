@@ -15,7 +15,7 @@ use Rattle.std.proofs.lemmas.Bool.{cases_lt}
 pub same-content : (a b : Content) → a.state ≡ b.state → a.words ≡ b.words → a ≡ b
 same-content a b s w = ap (λ n. content n a.words) s ∙ ap (λ ws. content b.state ws) w
 
--- there is a word where one is on top
+-- a stack with a word on top is not empty
 pub not-empty : {A : Type 0} (words others : List A) (word : A) → words ≡ others ++ word ∷ [] → words ≡ [] → ⊥
 not-empty words others word is none = absurd (omega (arith, ap length (sym is ∙ none), length_push others word))
 
@@ -49,7 +49,7 @@ module _ {Symbol : Type 0} (Stands : Symbol → Symbol → Type 0) (eq : Symbol 
       (subst (λ (c : Content). InTurn (IsDecoded Stands rows precision) ts c under) first.1 d.2) (omega arith) in
       ((first.0, others.0), others.1)
 
--- with a word under it, the state of a whole content is no less than 2 ^ 32
+-- with a word under it, the state of a whole content is at least 2 ^ 32
 pub not-below : (c : Content) (under : List ℕ) (word : ℕ) → c.words ≡ under ++ word ∷ [] → IsWhole c.state c.words → 2 ^ 32 ≤ c.state
 not-below c under word is whole =
     elim (cases_lt c.state (2 ^ 32)) [
@@ -57,7 +57,7 @@ not-below c under word is whole =
       | inr least ↦ least
     ]
 
--- on a content that a coder may hold a symbol is put in one way
+-- a symbol is put on a content in one way, if a coder may hold the result
 pub put-once : (precision left weight : ℕ) (a b rest : Content) → precision ≤ 32 → 0 < weight → left + weight ≤ 2 ^ precision
     → MayBeHeld a → MayBeHeld b → IsOnTop precision left weight a rest → IsOnTop precision left weight b rest → a ≡ b
 put-once precision left weight a b rest fits some within ha hb p q = go p.under q.under

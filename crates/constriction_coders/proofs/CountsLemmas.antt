@@ -16,7 +16,7 @@ share_fits count shared carried total few small fits less =
     let most : count * shared ≤ 18446744073709551616 * 4294967296 =
     mul-le count shared 18446744073709551616 4294967296 (omega arith) (omega arith) in omega arith
 
--- what it adds to a weight is no more than is shared
+-- a share adds no more to a weight than is shared
 pub quotient_fits : (count shared carried total : ℕ) → count ≤ total → carried < total
     → (count * shared + carried) / total ≤ shared
 quotient_fits count shared carried total few less =
@@ -29,14 +29,14 @@ quotient_fits count shared carried total few less =
       | inr not ↦ not
     ]
 
--- what weights have in all, where less than `total` is left to share
+-- how many quantiles weights have in all, if less than `total` is left to share
 shared_out : (given total carried shares ones : ℕ) → carried < total → given * total + carried ≡ shares + ones * total
     → given ≡ ones + shares / total
 shared_out given total carried shares ones less e =
     let parts : given * total + carried ≡ (ones + shares / total) * total + shares % total = omega (arith, div-add-mod' shares total) in
     (same_from_place given carried (ones + shares / total) (shares % total) total less (mod_below shares total (omega arith)) parts).0
 
--- one weight more
+-- the sum of the weights so far, with one more weight
 pub shares_more : (ws cs : List ℕ) (i w carried left shared total : ℕ) → i < length cs
     → w * total + left ≡ cond (nat_lt 0 (get_or cs i 0)) 1 0 * total + get_or cs i 0 * shared + carried
     → sum ws * total + carried ≡ sum (take i cs) * shared + occurring (take i cs) * total
@@ -63,7 +63,7 @@ before_more ws cs i w left shared total long less given before k h =
       | inr earlier ↦ ap sum (take-append-le k ws (w ∷ []) (omega arith)) ∙ before k earlier
     ]
 
--- the weights before each place, where no place is left
+-- the weights before each place, if no place is left
 pub before_all : (ws cs : List ℕ) (i shared total : ℕ) → length ws ≡ i → length cs ≤ i → total ≡ sum cs
     → ((k : ℕ) → k ≤ i → sum (take k ws) ≡ occurring (take k cs) + sum (take k cs) * shared / total)
     → (k : ℕ) → sum (take k ws) ≡ occurring (take k cs) + sum (take k cs) * shared / sum cs
@@ -76,7 +76,7 @@ before_all ws cs i shared total long over is before k =
       | inr within ↦ rw (← is) (before k within)
     ]
 
--- all weights
+-- all weights add up to 2 ^ precision
 pub in_all : (precision : ℕ) (cs ws : List ℕ) (shared : ℕ) → length ws ≡ length cs → 0 < sum cs → shared + occurring cs ≡ 2 ^ precision
     → ((k : ℕ) → sum (take k ws) ≡ occurring (take k cs) + sum (take k cs) * shared / sum cs) → sum ws ≡ 2 ^ precision
 in_all precision cs ws shared long some parts before =
@@ -97,7 +97,7 @@ some_more ws cs i w long some before =
     below_more P i (λ b less h. omega (arith, before b less h, get_or_append_left ws (w ∷ []) 0 b (omega arith)))
     (λ h. omega (arith, some h, get_or_push ws w 0 i long))
 
--- and none for one that is 0
+-- no weight for one count more that is 0
 pub none_more : (ws cs : List ℕ) (i w : ℕ) → length ws ≡ i → (get_or cs i 0 ≡ 0 → w ≡ 0)
     → ((b : ℕ) → b < i → get_or cs b 0 ≡ 0 → get_or ws b 0 ≡ 0)
     → (b : ℕ) → b < i + 1 → get_or cs b 0 ≡ 0 → get_or (ws ++ w ∷ []) b 0 ≡ 0
@@ -106,7 +106,7 @@ none_more ws cs i w long none before =
     below_more P i (λ b less h. get_or_append_left ws (w ∷ []) 0 b (omega arith) ∙ before b less h)
     (λ h. get_or_push ws w 0 i long ∙ none h)
 
--- ---- weights of which some are 0: the others are accepted
+-- ---- the weights that are not 0 are accepted
 
 sum-kept : (b : Bool) (w : ℕ) (xs : List ℕ) → (b ≡ false → w ≡ 0) → sum (cond b (w ∷ xs) xs) ≡ w + sum xs
 sum-kept true w xs h = sum_by-cons (λ x. x) w xs

@@ -4,7 +4,7 @@ use Rattle.constriction.specs.Rows.{Row, IsRowOf}
 use Rattle.constriction_coders.specs.Steps.{Content, content, MayBeHeld, IsOnTop, IsDecoded}
 use Rattle.constriction_coders.proofs.ComingBack.{put-once}
 
--- the entry of a row that was looked up was taken, so that its symbol was decoded
+-- if the entry of a row that was looked up was taken, its symbol was decoded
 pub decoded-row : {Symbol : Type 0} (precision left weight quantile : ℕ) (Stands : Symbol → Symbol → Type 0) (rows : List (Row Symbol))
     (symbol : Symbol) (full rest : Content) → quantile ≡ full.state % 2 ^ precision
     → (r : Row Symbol) × IsRowOf rows quantile r × Stands r.symbol symbol × (r.left ≡ left) × (r.weight ≡ weight)
@@ -12,7 +12,7 @@ pub decoded-row : {Symbol : Type 0} (precision left weight quantile : ℕ) (Stan
 decoded-row precision left weight quantile Stands rows symbol full rest same found top =
     record { row = found.0; found = rw same at found.1; stands = found.2; top = rw (found.3, found.4) top }
 
--- an entry that was taken and put again
+-- an entry that is taken and put again leaves the content as it was
 pub undone : (precision left weight state : ℕ) (words reserved : List ℕ) (rest again : Content) → precision ≤ 32 → 0 < weight
     → left + weight ≤ 2 ^ precision → MayBeHeld (content state words) → MayBeHeld again → reserved ≡ words
     → IsOnTop precision left weight (content state reserved) rest → IsOnTop precision left weight again rest

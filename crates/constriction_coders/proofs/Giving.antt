@@ -61,7 +61,7 @@ module _ {Symbol I : Type 0} (steps : I → Option Symbol → I → Type 0) (ent
 
 module _ {Symbol I : Type 0} (steps : I → Option Symbol → I → Type 0) (rest : I → List Symbol)
     (shows : (s : I) (answer : Option Symbol) (t : I) → steps s answer t → YieldsLast rest s answer t) where
-  -- where each state shows what is left, what was given from the back is that, the last one first
+  -- if each state shows what is left, that is what was given from the back, the last one first
   shown-back : (given : List Symbol) (s u : I) → YieldsThen steps s given None u → reverse given ≡ rest s
   shown-back [] s u (t, same, end) = sym (ap rest same ∙ (shows t None u end).0)
   shown-back (x ∷ xs) s u (t, (j, step, yields), end) =

@@ -22,11 +22,11 @@ module _ (offset unit quantile left weight : ℕ) (from : unit * quantile ≤ of
   pub part_from : unit * left ≤ offset
   part_from = omega (arith, above, from)
 
-  -- and ends above it
+  -- the part of a row of the quantile ends above the point
   pub part_to : offset < unit * (left + weight)
   part_to = omega (arith, below, to)
 
-  -- so that the point lies in it
+  -- the point lies in the part
   pub part_inside : offset - unit * left < unit * weight
   part_inside = omega (arith, part_to, part_from)
 
@@ -47,7 +47,7 @@ module _ {Symbol S E : Type 0} (Stands : Symbol → Symbol → Type 0) (rows : L
     to = subst (λ u. offset < u * (left + weight)) is high;
   }
 
-  -- the part is held next where it is not small
+  -- a part that is not small is held next
   pub read_wide : (new_range new_offset : ℕ) → new_range ≡ unit * weight → new_offset ≡ offset - unit * left → 2 ^ 32 ≤ new_range
       → to ≡ from
       → IsRead Stands rows gives precision answer (held_of range offset from) (held_of new_range new_offset to)
@@ -64,7 +64,7 @@ module _ {Symbol S E : Type 0} (Stands : Symbol → Symbol → Type 0) (rows : L
     );
   }
 
-  -- and stretched by a word where it is small
+  -- a small part is stretched by a word
   pub read_small : (part_range part_offset word new_range new_offset : ℕ) → part_range ≡ unit * weight
       → part_offset ≡ offset - unit * left → part_range < 2 ^ 32 → new_range ≡ part_range * 2 ^ 32
       → new_offset ≡ part_offset * 2 ^ 32 + word → (asked : Option ℕ) → gives from (Ok asked) to → word ≡ word_or_zero asked

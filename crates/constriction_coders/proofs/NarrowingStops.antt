@@ -1,4 +1,4 @@
--- Where a run of symbols goes on, and where it stops.
+-- A run of symbols goes on, or stops at a symbol.
 use Rattle.std.proofs.Common.{◌≡◌, ℕ, ◌+◌, ◌<◌, suc, List, [], ◌∷◌, ◌++◌, Option, length, take, drop, get_or, ap, sym, ◌∙◌, subst}
 use Rattle.std.proofs.lemmas.List.{take_more}
 use Rattle.std.proofs.Math.Seq.{split_at}

@@ -52,7 +52,7 @@ module _ (old new : List ℕ) (place : ℕ) (front : (j : ℕ) → j < place →
   same-front zero h = refl
   same-front (suc k) h = omega (arith, same-front k (omega arith), front k (omega arith))
 
-  -- one word is raised, and those after it are cleared, which were full
+  -- one word is raised, and the words after it, which were full, are cleared
   pub carried : (top : ℕ) → get_or new place 0 ≡ get_or old place 0 + 1
       → ((j : ℕ) → place < j → j < top → get_or old j 0 ≡ 2 ^ 32 - 1) → ((j : ℕ) → place < j → j < top → get_or new j 0 ≡ 0)
       → (n : ℕ) → place < n → n ≤ top → number_first n new ≡ number_first n old + 1
@@ -69,7 +69,7 @@ module _ (old new : List ℕ) (place : ℕ) (front : (j : ℕ) → j < place →
         )
       ]
 
--- where all words are full, there is no number above
+-- if all words are full, no number of as many words is greater
 pub all-full : (words : List ℕ) (n : ℕ) → ((j : ℕ) → j < n → get_or words j 0 ≡ 2 ^ 32 - 1) → number_first n words + 1 ≡ 2 ^ (32 * n)
 all-full words zero full = refl
 all-full words (suc n) full =

@@ -34,7 +34,7 @@ module _ {Symbol : Type 0} (entry : Symbol → Option (ℕ × ℕ)) (precision :
       run-once xs p.0 a b p.2
       (subst (λ (t : Span). InTurn (IsNarrowed entry precision) xs t b) (narrowed-once x s q.0 p.0 q.1 p.1) q.2)
 
--- words that are one number are the same words, where they are as many
+-- as many words with the same number are the same words
 module _ (a b : List ℕ) (fit : All (λ w. w < 2 ^ 32) a) (fine : All (λ w. w < 2 ^ 32) b) where
   fronts-once : (n : ℕ) → number_first (suc n) a ≡ number_first (suc n) b
       → (number_first n a ≡ number_first n b) × (get_or a n 0 ≡ get_or b n 0)

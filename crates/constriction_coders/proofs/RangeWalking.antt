@@ -13,7 +13,7 @@ use Rattle.constriction_coders.proofs.Intervals.{fault}
 
 module _ {Symbol S E : Type 0} (Stands : Symbol → Symbol → Type 0) (MayRefuse : Symbol → Type 0) (rows : List (Row Symbol))
     (gives : S → Result (Option ℕ) E → S → Type 0) (precision : ℕ) where
-  -- what decoding one symbol says makes a step
+  -- the contract of decoding one symbol gives a step
   pub reads-on : (left rest range offset : ℕ) (from : S) (new_range new_offset : ℕ) (to : S)
       (answer : Result Symbol (CoderError DecoderFrontendError E)) → left ≡ rest + 1
       → IfOk answer (λ symbol. IsRead Stands rows gives precision symbol (held_of range offset from) (held_of new_range new_offset to))

@@ -16,7 +16,7 @@ module _ (words raised : List ℕ) (lower range point_lower : ℕ) (wide : 2 ^ 3
   abbrev point : ℕ
   point = number_of raised * 2 ^ 32 + point_lower / 2 ^ 32
 
-  -- the point without the word of 0
+  -- if all numbers that begin with the point are in the span, it is written without the word of 0
   pub sealed-short : (all : List ℕ) → All (λ w. w < 2 ^ 32) all → all ≡ raised ++ point_lower / 2 ^ 32 ∷ []
       → ((lower + (2 ^ 32 - 1)) / 2 ^ 32 + 1) * 2 ^ 32 ≤ lower + range → IsPointOf (span_of words lower range) all
   sealed-short all fit is above =
@@ -32,7 +32,7 @@ module _ (words raised : List ℕ) (lower range point_lower : ℕ) (wide : 2 ^ 3
         is = inl (omega (arith, point_is, above), number, many);
       }
 
-  -- and with it
+  -- if some number that begins with the point is above the span, it is written with the word of 0
   pub sealed-long : (all : List ℕ) → All (λ w. w < 2 ^ 32) all → all ≡ (raised ++ point_lower / 2 ^ 32 ∷ []) ++ 0 ∷ []
       → lower + range < ((lower + (2 ^ 32 - 1)) / 2 ^ 32 + 1) * 2 ^ 32 → IsPointOf (span_of words lower range) all
   sealed-long all fit is below =
@@ -107,7 +107,7 @@ sealed-tell s words more (inr point) fit =
       lies = λ some. (omega (arith, first.0, point.1.from), first.2);
     }
 
--- and after the last symbol a decoder may be at the end
+-- after the last symbol a decoder may be at the end
 pub ends-there : (s : Span) (words more : List ℕ) (i : Interval) → All (λ w. w < 2 ^ 32) (words ++ more) → IsSealed s words
     → i ≡ interval s.size (number_first (s.written + 2) (words ++ more) - s.low) → MayBeAtEnd i
 ends-there s words more i fit (inl none) is = inl (ap (λ (x : Interval). x.range) is ∙ ap (λ (x : Span). x.size) none.0)
@@ -120,7 +120,7 @@ two-fit a b p q zero d h = p
 two-fit a b p q (suc zero) d h = q
 two-fit a b p q (suc (suc k)) d h = absurd (omega (arith, h))
 
--- the least number of a span tells what leads to it
+-- the least number of a span leads to it
 pub lower-tells : (words : List ℕ) (lower range : ℕ) → All (λ w. w < 2 ^ 32) words → lower < 2 ^ 64 → 2 ^ 32 ≤ range
     → LeadTo (span_of words lower range) (words ++ lower / 2 ^ 32 ∷ lower % 2 ^ 32 ∷ [])
 lower-tells words lower range fit below wide =
@@ -138,7 +138,7 @@ lower-tells words lower range fit below wide =
       lies = λ some. (omega (arith, first), omega (arith, first, wide));
     }
 
--- words are left where the last of them are
+-- if the last words are left, words are left
 pub some-left : (first last : List ℕ) (ended : Bool) → IsTrue ended ↔ (last ≡ [])
     → OnFalse ended ((words : List ℕ) → words ≡ first ++ last → words ≢ [])
 some-left first last true h = tt

@@ -17,7 +17,7 @@ use Rattle.constriction_coders.proofs.Closing.{compressed-once, words-once, not-
 use Rattle.constriction_coders.proofs.ComingBack.{not-below, refills-once}
 use Rattle.constriction_coders.proofs.States.{taken_at_most, taken_some}
 
--- what is under a symbol on top of what a coder may hold, a coder may hold
+-- if a coder may hold a content, it may hold what is under the symbol on top
 rest-held : (precision left weight : ℕ) (full rest : Content) → precision ≤ 32 → 0 < weight → left + weight ≤ 2 ^ precision
     → MayBeHeld full → IsOnTop precision left weight full rest → MayBeHeld rest
 rest-held precision left weight full rest fits some within held top = go top.under

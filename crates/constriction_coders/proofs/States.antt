@@ -12,7 +12,7 @@ one_shifted precision h = one_shl precision 64 (omega arith)
 pub mod_fits : (n precision : ℕ) → precision ≤ 32 → n % 2 ^ precision < 2 ^ 32
 mod_fits n precision h = omega (arith, mod_below n (2 ^ precision) (pow_pos precision), pow_mono {i = precision} {j = 32} h)
 
--- a quotient is at least a number exactly where the multiple is
+-- w is at most the quotient of s exactly if the multiple of w is at most s
 pub full_is : (s w k : ℕ) → w ≤ s / 2 ^ k → w * 2 ^ k ≤ s
 full_is s w k h = omega (arith, mul-le w (2 ^ k) (s / 2 ^ k) (2 ^ k) h (omega arith), div-add-mod' s (2 ^ k))
 
@@ -20,22 +20,22 @@ pub not_full_is : (s w k : ℕ) → w * 2 ^ k ≤ s → w ≤ s / 2 ^ k
 not_full_is s w k h = le-div w s (2 ^ k) (pow_pos k) h
 
 module _ (precision left weight state : ℕ) (some : 0 < weight) (within : left + weight ≤ 2 ^ precision) where
-  -- the place among the quantiles of the symbol
+  -- the quantile that a symbol gives the state is below 2 ^ precision
   pub place : left + state % weight < 2 ^ precision
   place = omega (arith, mod_below state weight some)
 
-  -- what was put on top is there
+  -- the state with a symbol on top has this quantile
   pub put_quantile : put precision left weight state % 2 ^ precision ≡ left + state % weight
   put_quantile = mod-mul-add (state / weight) (2 ^ precision) (left + state % weight) place
 
-  -- and without it the state is as it was
+  -- a symbol that is put on top and taken leaves the state as it was
   pub taken_put : taken precision left weight (put precision left weight state) ≡ state
   taken_put =
       let above : put precision left weight state / 2 ^ precision ≡ state / weight =
       div-mul-add (state / weight) (2 ^ precision) (left + state % weight) place in
       rw (put_quantile, above) (omega (arith, div-add-mod state weight))
 
-  -- a state does not become less
+  -- a symbol on top does not make the state less
   pub put_least : state ≤ put precision left weight state
   put_least = omega (
     arith,
@@ -73,7 +73,7 @@ taken_at_most precision left weight state within =
       mul-le weight (state / 2 ^ precision) (2 ^ precision) (state / 2 ^ precision) (omega arith) (omega arith),
     )
 
--- without the symbol on top, a state that is no less than 2 ^ 32 is not 0
+-- without the symbol on top, a state of at least 2 ^ 32 is not 0
 pub taken_some : (precision left weight state : ℕ) → precision ≤ 32 → 0 < weight → 2 ^ 32 ≤ state
     → 0 < taken precision left weight state
 taken_some precision left weight state fits some least =
@@ -81,7 +81,7 @@ taken_some precision left weight state fits some least =
     let high : 1 ≤ state / 2 ^ precision = le-div 1 state (2 ^ precision) (pow_pos precision) (omega (arith, above)) in
     omega (arith, mul-le 1 1 weight (state / 2 ^ precision) some high)
 
--- a state that has no room has it once a word left it, and with the symbol on top it is no less than 2 ^ 32
+-- a state without room has room when a word has left it, and with the symbol on top it is at least 2 ^ 32
 pub room_after : (precision weight state : ℕ) → precision ≤ 32 → 0 < weight → state < 2 ^ 64
     → state / 2 ^ 32 < weight * 2 ^ (64 - precision)
 room_after precision weight state fits some below =
@@ -118,7 +118,7 @@ module _ (precision left weight state : ℕ) (fits : precision ≤ 32) (some : 0
   above : put precision left weight state / 2 ^ precision ≡ state / weight
   above = div-mul-add (state / weight) (2 ^ precision) (left + state % weight) (place precision left weight state some within)
 
-  -- where the new state is below 2 ^ 64, the old one had room
+  -- if the new state is below 2 ^ 64, the old one had room
   pub put_low : put precision left weight state < 2 ^ 64 → state < weight * 2 ^ (64 - precision)
   put_low below =
       let sum : 64 - precision + precision ≡ 64 = omega arith in
@@ -133,7 +133,7 @@ module _ (precision left weight state : ℕ) (fits : precision ≤ 32) (some : 0
         mul-le (state / weight + 1) weight (2 ^ (64 - precision)) weight (omega (arith, quotient)) (omega arith),
       )
 
-  -- where the new state is no less than 2 ^ 32, neither is the old one too small for that
+  -- if the new state is at least 2 ^ 32, the old one is not too small for that
   pub put_high : 2 ^ 32 ≤ put precision left weight state → weight * 2 ^ (64 - precision) ≤ state * 2 ^ 32
   put_high least =
       let sum : 32 - precision + precision ≡ 32 = omega arith in

@@ -12,7 +12,7 @@ pub refills-back : (state : ℕ) (words all : List ℕ) → state < 2 ^ 64 → a
     → Refills (state / 2 ^ 32) all (content state words)
 refills-back state words all h is = inr (omega arith, state % 2 ^ 32, omega arith, is, sym (div-add-mod' state (2 ^ 32)))
 
--- a state that is below 2 ^ 32 without its symbol needs a word, where there is one
+-- a state that is below 2 ^ 32 without its symbol needs a word, if there is one
 pub needs_word : {Symbol : Type 0} (precision left weight other state quantile : ℕ) (words : List ℕ) (rows : List (Row Symbol))
     (own : Symbol) → quantile ≡ state % 2 ^ precision → IsRowOf rows quantile (record { symbol = own; left = left; weight = other })
     → other ≡ weight → taken precision left weight state < 2 ^ 32 → words ≢ [] → NeedsWord rows precision (content state words)
@@ -23,7 +23,7 @@ needs_word precision left weight other state quantile words rows own quantile_is
   some,
 )
 
--- a symbol was put on a state that has room for it
+-- a symbol that is put on a state is on top
 pub put-on-top : (precision left weight state next : ℕ) (words : List ℕ) (other : Content) → 0 < weight → left + weight ≤ 2 ^ precision
     → next ≡ put precision left weight state → Refills state words other
     → IsOnTop precision left weight (content next words) other
@@ -38,14 +38,14 @@ put-on-top precision left weight state next words other some within is refills =
       under = subst (λ n. Refills n words other) (sym under_is) refills;
     }
 
--- a symbol with this entry was encoded
+-- if the entry of a symbol is on top, the symbol was encoded
 pub encoded : {Symbol : Type 0} (precision left weight other : ℕ) (entry : Symbol → Option (ℕ × ℕ)) (symbol : Symbol) (full rest : Content)
     → entry symbol ≡ Some (left, other) → other ≡ weight → IsOnTop precision left weight full rest
     → IsEncoded entry precision symbol full rest
 encoded precision left weight other entry symbol full rest known same top =
     record { left = left; weight = weight; known = rw same at known; top = top }
 
--- and one of the row of the quantile was decoded
+-- if the row of the quantile is on top, its symbol was decoded
 pub decoded : {Symbol : Type 0} (precision left weight other : ℕ) (Stands : Symbol → Symbol → Type 0) (rows : List (Row Symbol))
     (own answer : Symbol) (quantile : ℕ) (full rest : Content) → quantile ≡ full.state % 2 ^ precision
     → IsRowOf rows quantile (record { symbol = own; left = left; weight = other }) → other ≡ weight → Stands own answer
@@ -58,7 +58,7 @@ decoded precision left weight other Stands rows own answer quantile full rest qu
       top = top;
     }
 
--- where nothing is left of a state without its symbol, there is no word under it
+-- if nothing is left of a state without its symbol, there is no word under it
 pub whole-taken : (precision left weight state next : ℕ) (words : List ℕ) → precision ≤ 32 → 0 < weight
     → next ≡ taken precision left weight state → IsWhole state words → next ≡ 0 → words ≡ []
 whole-taken precision left weight state next words fits some is whole none =

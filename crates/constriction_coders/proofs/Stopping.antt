@@ -1,4 +1,4 @@
--- Where runs of symbols stop.
+-- A run of symbols stops at the first one that fails.
 use Rattle.std.proofs.Common.{◌≡◌, ℕ, ◌%◌, ◌^◌, ◌<◌, suc, List, [], ◌∷◌, ◌++◌, Option, None, Result, Err, length, reverse, take, drop, get_or, refl, ap, sym, ◌∙◌, subst, inl}
 use Rattle.std.proofs.lemmas.List.{append_assoc, reverse-append, reverse-reverse}
 use Rattle.std.proofs.Math.Seq.{split_at}
@@ -44,7 +44,7 @@ module _ {Symbol S Fault E : Type 0} (words_of : S → List ℕ) (entry : Symbol
     why = encoding-fault error symbol impossible failed;
   }
 
-  -- where symbols are encoded from the last one on, the same is so of their reverse
+  -- if symbols are encoded from the last one on, the same holds of their reverse
   pub encoding-stops-back : (symbols : List Symbol) (i : ℕ) (symbol : Symbol) (error : CoderError Fault E)
       → i < length symbols → symbol ≡ get_or symbols i symbol
       → InTurn (IsEncoded entry precision) (drop (suc i) symbols) (content held (words_of reached)) old

@@ -1,4 +1,4 @@
--- Tables of weights as words: where writing one stops, that the words have one table, and that words are too few for one.
+-- Stored weights: writing them stops at a word, words are those of one list of weights, and words may be too few for weights.
 use Rattle.std.proofs.Common.{◌≡◌, ℕ, List, [], ◌∷◌, ◌++◌, append-nil, Option, None, Result, Ok, Err, length, ap, sym, ◌∙◌, subst, arith, length-append}
 use Rattle.constriction_backends.specs.Sink.{Writes}
 use Rattle.constriction_backends.specs.Source.{ReadsUpcoming}
@@ -19,7 +19,7 @@ stopped gives s before word after reached t words found error same split written
   refused = subst (λ e. gives reached word (Err e) t) same refused;
 }
 
--- words that begin with a table and are one are this table
+-- words that are stored weights, and begin with stored weights, are these
 pub same-weights : (weights others rest : List ℕ) → weights_as_words weights ≡ weights_as_words others ++ rest → others ≡ weights
 same-weights weights others [] e = let tails : weights ≡ others ++ [] = cc in sym (tails ∙ append-nil others)
 same-weights weights others (w ∷ rest) e =
@@ -27,7 +27,7 @@ same-weights weights others (w ∷ rest) e =
     let many : length weights ≡ length others = cc in
     absurd (omega (arith, many, ap length tails, length-append others (w ∷ rest)))
 
--- a source that tells its words, and ended in a table, told the beginning of one
+-- if a source tells its upcoming words and ends within weights, the words are a beginning of weights
 pub short-weights : {S E : Type 0} (gives : S → Result (Option ℕ) E → S → Type 0) (tells : S → List ℕ → Type 0)
     → ((s : S) (r : Result (Option ℕ) E) (t : S) → gives s r t → (ws : List ℕ) → tells s ws → ReadsUpcoming tells ws r t)
     → (s t : S) → EndsInWeights gives s (Ok None) t → (words : List ℕ) → tells s words → BeginsWeights words

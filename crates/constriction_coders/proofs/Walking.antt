@@ -20,7 +20,7 @@ exact-hint n (lower, Some k) e = (λ _. omega (arith, e.0, min-le_left n (2 ^ 64
 
 module _ {Symbol S Fault E : Type 0} (words_of : S → List ℕ) (Stands : Symbol → Symbol → Type 0) (MayRefuse : Symbol → Type 0)
     (gives : S → Result (Option ℕ) E → S → Type 0) (rows : List (Row Symbol)) (precision : ℕ) where
-  -- what decoding one symbol says makes a step
+  -- the contract of decoding one symbol gives a step
   pub step-on : (left next held : ℕ) (reached : S) (state : ℕ) (backend : S) (answer : Result Symbol (CoderError Fault E))
       → left ≡ next + 1
       → IfOk answer (λ symbol. IsDecoded Stands rows precision symbol (content held (words_of reached))

@@ -1,4 +1,4 @@
--- Bits-back coding: a symbol on a stack by way of a latent symbol, which what the coder holds chooses.
+-- Bits-back coding: a symbol is put on a stack by way of a latent symbol, which is decoded from what the coder holds.
 use Rattle.std.specs.Prelude.{◌≡◌, ℕ, ◌%◌, ◌^◌, ◌⊎◌, Bool, IsTrue, List, Option, None}
 use Rattle.constriction.specs.Coding.{StandsForEqual}
 use Rattle.constriction.specs.Model.{ClonesAreEqual}
@@ -41,7 +41,7 @@ module _ {Symbol Latent PosteriorModel LikelihoodModel : Type 0} (Posterior : Sy
     pub chosen : Posterior symbol posterior
     pub returned : IsEncoded (posterior_entry posterior) precision latent new rest
 
-  -- Why a symbol is not encoded: the latent symbol that the state chooses has no entry in the prior, or the symbol has none by the
+  -- The symbol is not encoded, because the latent symbol that the state chooses has no entry in the prior, or the symbol has none in the
   -- likelihood.
   pub record LacksEntry (Stands : Latent → Latent → Type 0) (posterior_rows : PosteriorModel → List (Row Latent))
       (likelihood_entry : LikelihoodModel → Symbol → Option (ℕ × ℕ)) (prior_entry : Latent → Option (ℕ × ℕ)) (symbol : Symbol)
@@ -56,7 +56,7 @@ module _ {Symbol Latent PosteriorModel LikelihoodModel : Type 0} (Posterior : Sy
     pub given : Likelihood latent likelihood
     pub lacks : (prior_entry latent ≡ None) ⊎ (likelihood_entry likelihood symbol ≡ None)
 
-  -- Why none is decoded: the latent symbol has no entry in the posterior of the symbol, so that no such symbol was encoded.
+  -- No symbol is decoded, because the latent symbol has no entry in the posterior of the symbol; so no such symbol was encoded.
   pub record LacksLatent (LatentStands : Latent → Latent → Type 0) (prior : List (Row Latent)) (Stands : Symbol → Symbol → Type 0)
       (likelihood_rows : LikelihoodModel → List (Row Symbol)) (posterior_entry : PosteriorModel → Latent → Option (ℕ × ℕ))
       (old : Content) : Type 0 where

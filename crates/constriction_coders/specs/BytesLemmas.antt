@@ -20,7 +20,7 @@ bytes_of_words-append [] vs = refl
 bytes_of_words-append (x ∷ xs) vs =
     ap (λ ys. x % 256 ∷ x / 256 % 256 ∷ x / 65536 % 256 ∷ x / 16777216 ∷ ys) (bytes_of_words-append xs vs)
 
--- the words of bytes are known from these
+-- words with the same bytes are the same words
 pub bytes_once : (ms bs : List ℕ) → bytes_of_words ms ≡ bytes_of_words bs → ms ≡ bs
 bytes_once [] [] e = refl
 bytes_once [] (b ∷ bs) e = cc
@@ -53,7 +53,7 @@ take_four xs i h =
     let t4 : take (i + 4) xs ≡ take (i + 3) xs ++ get_or xs (i + 3) 0 ∷ [] = rw e4 at (take_more xs (i + 3) 0 (omega arith)) in
     rw (t4, t3, t2, t1) (simp append_assoc)
 
--- the word of four bytes has these
+-- the bytes of the word of four bytes are these bytes
 pub word_back : (a b c d w : ℕ) → a < 256 → b < 256 → c < 256 → d < 256 → w ≡ from_le_bytes w32 (a ∷ b ∷ c ∷ d ∷ [])
     → bytes_of_words (w ∷ []) ≡ a ∷ b ∷ c ∷ d ∷ []
 word_back a b c d w p q r s is =

@@ -1,10 +1,10 @@
--- What a coder holds as words alone, and the writes and reads that make it so and undo it.
+-- A coder as words alone, and the writes and reads that turn one into the other.
 use Rattle.std.specs.Prelude.{◌≡◌, ℕ, ◌+◌, ◌*◌, ◌/◌, ◌%◌, ◌^◌, ◌<◌, ◌≤◌, ◌⊎◌, List, [], ◌∷◌, ◌++◌, Option, Some, None, Result, Ok, Err}
 use Rattle.constriction_backends.specs.Sink.{Writes}
 use Rattle.constriction_coders.specs.Steps.{Content, MayBeHeld}
 use Rattle.constriction_coders.specs.StoredWeights.{StopsAtWord}
 
--- the words of a state, the lower one first and none that is a leading zero: none of 0, one of a state below 2 ^ 32, and two of any other
+-- the words of a state, the lower one first and without a leading zero: none for 0, one for a state below 2 ^ 32, and two for any other
 abbrev pub AreWordsOf : ℕ → List ℕ → Type 0
 AreWordsOf state own =
     ((state ≡ 0) × (own ≡ []))
@@ -18,7 +18,7 @@ AreAllWordsOf c all =
     ⊎ ((0 < c.state) × (c.state < 2 ^ 32) × (all ≡ c.words ++ c.state ∷ []))
     ⊎ ((2 ^ 32 ≤ c.state) × (all ≡ c.words ++ c.state % 2 ^ 32 ∷ c.state / 2 ^ 32 ∷ []))
 
--- a coder may hold this content, which has these words alone
+-- a coder may hold this content, and these are all of its words
 pub record IsCompressed (c : Content) (all : List ℕ) : Type 0 where
   pub held : MayBeHeld c
   pub words : AreAllWordsOf c all
@@ -28,13 +28,13 @@ module _ {S E : Type 0} (gives : S → ℕ → Result (Unit {0}) E → S → Typ
   abbrev pub IsClosed : S → Type 0
   IsClosed to = (own : List ℕ) × AreWordsOf state own × Writes gives from own to
 
-  -- or one of them was refused with this error
+  -- one of the words of the state was refused with this error
   abbrev pub ClosingStops : E → Type 0
   ClosingStops error = (own : List ℕ) × AreWordsOf state own × (left : S) × StopsAtWord gives from own error left
 
 module _ {S E : Type 0} (gives : S → Result (Option ℕ) E → S → Type 0) (from : S) where
-  -- Reads gave the words of the state from the top: none at its end; one that is not 0, and then none; or two, of which the first is not
-  -- 0. They led to `to`.
+  -- Reads gave the words of the state from the top, and led to `to`: none, because the source was at its end; one that is not 0, and then
+  -- the end; or two, the first of them not 0.
   abbrev pub IsOpened : ℕ → S → Type 0
   IsOpened state to =
       ((state ≡ 0) × gives from (Ok None) to)
@@ -42,7 +42,7 @@ module _ {S E : Type 0} (gives : S → Result (Option ℕ) E → S → Type 0) (
       ⊎ ((high : ℕ) × (low : ℕ) × (0 < high) × (state ≡ high * 2 ^ 32 + low)
       × ((reached : S) × gives from (Ok (Some high)) reached × gives reached (Ok (Some low)) to))
 
-  -- or one of the reads answered this error
+  -- one of these reads answered this error
   abbrev pub OpeningStops : E → Type 0
   OpeningStops error =
       ((left : S) × gives from (Err error) left)

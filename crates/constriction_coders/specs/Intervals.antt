@@ -8,7 +8,7 @@ use Rattle.constriction.specs.Rows.{Row}
 use Rattle.constriction_coders.specs.declared.queue.range_decoder.DecoderFrontendError.{DecoderFrontendError}
 use Rattle.constriction_coders.specs.declared.queue.range_decoder.DecoderFrontendError.TheVariants.{InvalidData, OutOfMemory}
 
--- An interval of so many numbers, and how far the point lies above its lower end.
+-- An interval of `range` numbers, and a point that lies `offset` above its lower end.
 pub record Interval : Type 0 where
   pub range : ℕ
   pub offset : ℕ
@@ -16,7 +16,7 @@ pub record Interval : Type 0 where
 abbrev pub interval : ℕ → ℕ → Interval
 interval r o = record { range = r; offset = o }
 
--- how many of so many numbers belong to each quantile
+-- how many numbers of an interval of `range` numbers belong to each quantile
 abbrev pub unit_of : (precision range : ℕ) → ℕ
 unit_of precision range = range / 2 ^ precision
 
@@ -29,12 +29,12 @@ pub record HoldsPoint (precision left weight : ℕ) (i : Interval) : Type 0 wher
 abbrev pub IsAboveAll : ℕ → Interval → Type 0
 IsAboveAll precision i = unit_of precision i.range * 2 ^ precision ≤ i.offset
 
--- that part alone
+-- the part of the interval that belongs to these quantiles, with the point in it
 abbrev pub part_of : (precision left weight : ℕ) → Interval → Interval
 part_of precision left weight i = interval (unit_of precision i.range * weight) (i.offset - unit_of precision i.range * left)
 
--- after the last symbol of a message the point lies no higher, whatever words come after those of the message; before the first one it may
--- lie anywhere
+-- The decoder may be at the end of its message: it is at the start, or the point lies no higher than it does after the last symbol of a
+-- message, whatever words come after those of the message.
 abbrev pub MayBeAtEnd : Interval → Type 0
 MayBeAtEnd i = (i.range ≡ 2 ^ 64 - 1) ⊎ (i.offset < 2 ^ 33 - 1)
 
@@ -44,8 +44,8 @@ word_or_zero None = 0
 word_or_zero (Some word) = word
 
 module _ {S E : Type 0} (gives : S → Result (Option ℕ) E → S → Type 0) where
-  -- An interval of at least 2 ^ 32 numbers stays as it is. A smaller one is stretched 2 ^ 32 times, and a word that is read says where in
-  -- the point's place the point lies.
+  -- An interval of at least 2 ^ 32 numbers stays as it is. A smaller one gets 2 ^ 32 times as many numbers, and a word that is read says
+  -- which of the 2 ^ 32 numbers in the place of the point is the point.
   abbrev pub IsStretched : Interval → S → Interval → S → Type 0
   IsStretched i from new to =
       ((2 ^ 32 ≤ i.range) × (new ≡ i) × (to ≡ from))
@@ -66,8 +66,8 @@ pub record Held (S : Type 0) : Type 0 where
 abbrev pub held_of : {S : Type 0} → ℕ → ℕ → S → Held S
 held_of range offset source = record { held = interval range offset; source = source }
 
--- The point lies in the part of the interval that belongs to one of these rows, the symbol stands for that of the row, and the part,
--- stretched where it is small, is held next.
+-- The point lies in the part of the interval that belongs to one of these rows, the symbol stands for that of the row, and the part is held
+-- next, stretched if it is small.
 pub record IsRead {Symbol S E : Type 0} (Stands : Symbol → Symbol → Type 0) (rows : List (Row Symbol))
     (gives : S → Result (Option ℕ) E → S → Type 0) (precision : ℕ) (symbol : Symbol) (old new : Held S) : Type 0 where
   pub row : Row Symbol
@@ -76,8 +76,8 @@ pub record IsRead {Symbol S E : Type 0} (Stands : Symbol → Symbol → Type 0) 
   pub holds : HoldsPoint precision row.left row.weight old.held
   pub next : IsStretched gives (part_of precision row.left row.weight old.held) old.source new.held new.source
 
--- Why a symbol was not decoded: the point lies above all quantiles, or memory for the row in which it lies was refused, and nothing
--- was read; or a read answered the error.
+-- This is why a symbol was not decoded: the point lies above all quantiles, or memory for the row in which it lies was refused, and
+-- nothing was read; or a read answered the error.
 abbrev pub IsReadingFault : {Symbol S E : Type 0} → (Symbol → Type 0) → List (Row Symbol) → (S → Result (Option ℕ) E → S → Type 0)
     → (precision : ℕ) → CoderError DecoderFrontendError E → Held S → S → Type 0
 IsReadingFault MayRefuse rows gives precision (Frontend InvalidData) at left = IsAboveAll precision at.held × (left ≡ at.source)
@@ -85,7 +85,7 @@ IsReadingFault MayRefuse rows gives precision (Frontend OutOfMemory) at left =
     ((quantile : ℕ) × HoldsPoint precision quantile 1 at.held × RowMayBeRefused MayRefuse rows quantile) × (left ≡ at.source)
 IsReadingFault MayRefuse rows gives precision (Backend error) at left = gives at.source (Err error) left
 
--- fewer symbols than asked for were decoded, and the next one was not; or none was, as memory for as many was refused
+-- fewer than `count` symbols were decoded, and the next one was not; or none was, because memory for all of them was refused
 pub record ReadingStops {Symbol S E : Type 0} (Stands : Symbol → Symbol → Type 0) (MayRefuse : Symbol → Type 0) (rows : List (Row Symbol))
     (gives : S → Result (Option ℕ) E → S → Type 0) (precision count : ℕ) (error : CoderError DecoderFrontendError E) (old : Held S)
     (held : Interval) (left : S) : Type 0 where

@@ -10,7 +10,7 @@ use Rattle.constriction_coders.specs.Intervals.{Held, IsRead, IsReadingFault}
 use Rattle.constriction_coders.specs.Spans.{Span, IsNarrowed, IsNarrowingFault}
 
 module _ {Symbol I : Type 0} (steps : I → Option Symbol → I → Type 0) (entry : Symbol → Option (ℕ × ℕ)) (precision : ℕ) where
-  -- an iterator was read to its end, and what it gave was encoded, what it gave first at first
+  -- an iterator was read to its end, and what it gave was encoded in the same order
   abbrev pub NarrowsGiven : I → Span → Span → Type 0
   NarrowsGiven symbols old new = (given : List Symbol) × Drains steps symbols given × InTurn (IsNarrowed entry precision) given old new
 
@@ -26,7 +26,7 @@ module _ {Symbol I : Type 0} (steps : I → Option Symbol → I → Type 0) (ent
 module _ {Symbol S E : Type 0} (Stands : Symbol → Symbol → Type 0) (MayRefuse : Symbol → Type 0) (rows : List (Row Symbol))
     (gives : S → Result (Option ℕ) E → S → Type 0) (precision : ℕ) where
   -- A step of an iterator over decoded symbols, which has `left` answers yet to give, and `rest` after it: the next symbol; or an error in
-  -- the place of a symbol, which leaves what is held; or nothing, where no answer is left.
+  -- the place of a symbol, which leaves what is held; or nothing, if no answer is left.
   abbrev pub ReadsOn : (left : ℕ) → Held S → Option (Result Symbol (CoderError DecoderFrontendError E)) → (rest : ℕ) → Held S → Type 0
   ReadsOn left old None rest new = (left ≡ 0) × (rest ≡ 0) × (new ≡ old)
   ReadsOn left old (Some (Ok symbol)) rest new = (left ≡ rest + 1) × IsRead Stands rows gives precision symbol old new

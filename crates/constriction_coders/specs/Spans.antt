@@ -1,4 +1,4 @@
--- What a range encoder holds, what a symbol does to it, and the words that stand for it.
+-- What a range encoder holds, what a symbol does to it, and the words of a message.
 use Rattle.std.specs.Prelude.{◌≡◌, ◌≢◌, ℕ, ◌+◌, ◌-◌, ◌*◌, ◌^◌, ◌<◌, ◌≤◌, ◌⊎◌, List, [], ◌∷◌, ◌++◌, All, length, Option, Some, None}
 use Rattle.constriction.specs.Coding.{InTurn}
 use Rattle.constriction.specs.declared.CoderError.{CoderError}
@@ -6,7 +6,7 @@ use Rattle.constriction.specs.declared.CoderError.TheVariants.{Frontend, Backend
 use Rattle.constriction_coders.specs.Intervals.{unit_of}
 use Rattle.constriction_coders.specs.Numbers.{number_first, number_of}
 
--- The numbers that a message may be sent as: so many from `low` on, each of as many words as are written, and two more.
+-- The numbers that a message may be sent as: `size` numbers from `low` on, each of `written + 2` words.
 pub record Span : Type 0 where
   pub low : ℕ
   pub size : ℕ
@@ -23,17 +23,17 @@ whole = span 0 (2 ^ 64 - 1) 0
 abbrev pub span_of : (words : List ℕ) (lower range : ℕ) → Span
 span_of words lower range = span (number_of words * 2 ^ 64 + lower) range (length words)
 
--- the numbers that belong to the quantiles of an entry
+-- the numbers of the span that belong to the quantiles of an entry
 abbrev pub part_in : (precision left weight : ℕ) → Span → Span
 part_in precision left weight s = span (s.low + unit_of precision s.size * left) (unit_of precision s.size * weight) s.written
 
--- fewer than 2 ^ 32 numbers are given a word more
+-- a span of fewer than 2 ^ 32 numbers gets one word more
 abbrev pub IsWidened : Span → Span → Type 0
 IsWidened s new =
     ((2 ^ 32 ≤ s.size) × (new ≡ s))
     ⊎ ((s.size < 2 ^ 32) × (new ≡ span (s.low * 2 ^ 32) (s.size * 2 ^ 32) (s.written + 1)))
 
--- a symbol leaves the part of its entry
+-- a symbol leaves the part of its entry, with a word more if it is small
 pub record IsNarrowed {Symbol : Type 0} (entry : Symbol → Option (ℕ × ℕ)) (precision : ℕ) (symbol : Symbol) (old new : Span)
     : Type 0 where
   pub left : ℕ
@@ -41,13 +41,14 @@ pub record IsNarrowed {Symbol : Type 0} (entry : Symbol → Option (ℕ × ℕ))
   pub known : entry symbol ≡ Some (left, weight)
   pub next : IsWidened (part_in precision left weight old) new
 
--- what is so of each span of a message
+-- what holds of each span of a message
 pub record IsReached (s : Span) : Type 0 where
   pub wide : 2 ^ 32 ≤ s.size
+  pub fits : s.size < 2 ^ 64
   pub within : s.low + s.size < 2 ^ (32 * (s.written + 2))
   pub begun : s.size ≡ 2 ^ 64 - 1 → s ≡ whole
 
--- why a symbol was not encoded: it has no entry; or its part needs a word, and memory for that was refused
+-- this is why a symbol was not encoded: it has no entry, or its part needs a word and memory for that was refused
 abbrev pub IsNarrowingFault : {Symbol Fault E : Type 0} → (Symbol → Option (ℕ × ℕ)) → (precision : ℕ) → CoderError Fault E → Symbol
     → Span → Type 0
 IsNarrowingFault entry precision (Frontend fault) symbol s = entry symbol ≡ None
@@ -64,17 +65,17 @@ pub record NarrowingStops {Symbol Fault E : Type 0} (entry : Symbol → Option (
   pub led : InTurn (IsNarrowed entry precision) done old new
   pub why : IsNarrowingFault entry precision error symbol new
 
--- the number of the words, as many as the span's numbers have, is one of the span
+-- the first words, as many as a number of the span has, are a number of the span
 abbrev pub LiesIn : Span → List ℕ → Type 0
 LiesIn s words = (s.low ≤ number_first (s.written + 2) words) × (number_first (s.written + 2) words < s.low + s.size)
 
--- The words tell what leads to the span: their number is one of it. To no symbol any words lead.
+-- The words lead to the span: their number is in it. Any words lead to the span of no symbol.
 pub record LeadTo (s : Span) (words : List ℕ) : Type 0 where
   pub fit : All (λ w. w < 2 ^ 32) words
   pub lies : s ≢ whole → LiesIn s words
 
--- `point` is the least number that is in the span with a word of 0 after it. It is written without that word where all numbers that begin
--- with it are in the span, and otherwise with it.
+-- `point` is the least number that is in the span with a word of 0 after it. It is written without that word if all numbers that begin with
+-- it are in the span, and otherwise with it.
 pub record IsPointOf (s : Span) (words : List ℕ) : Type 0 where
   pub fit : All (λ w. w < 2 ^ 32) words
   pub point : ℕ
@@ -84,7 +85,7 @@ pub record IsPointOf (s : Span) (words : List ℕ) : Type 0 where
   pub is : (((point + 1) * 2 ^ 32 ≤ s.low + s.size) × (number_of words ≡ point) × (length words ≡ s.written + 1))
       ⊎ ((s.low + s.size < (point + 1) * 2 ^ 32) × (number_of words ≡ point * 2 ^ 32) × (length words ≡ s.written + 2))
 
--- the words of a message: none where it has no symbol
+-- these are the words of a message whose last span is s: none if it has no symbol
 abbrev pub IsSealed : Span → List ℕ → Type 0
 IsSealed s words = ((s ≡ whole) × (words ≡ [])) ⊎ ((s ≢ whole) × IsPointOf s words)
 

@@ -1,4 +1,4 @@
--- The words of symbols on a stack: what one program encodes, and another one decodes that has the words alone.
+-- The words of symbols on a stack: one program encodes them, and another decodes them from the words alone.
 use Rattle.std.specs.Prelude.{◌≡◌, ◌≢◌, ℕ, List, [], ◌∷◌, ◌++◌, length, Bool, IsTrue, Option}
 use Rattle.std.specs.List.{AllZip}
 use Rattle.constriction.specs.Coding.{StandsForEqual, InTurn}
@@ -6,7 +6,7 @@ use Rattle.constriction.specs.Rows.{Row}
 use Rattle.constriction_coders.specs.Compressed.{IsCompressed}
 use Rattle.constriction_coders.specs.Steps.{Content, content, IsEncoded, IsDecoded}
 
--- These are the words of these symbols, the first one on top: of a coder that holds the symbols, and held nothing before.
+-- These are the words of these symbols, the first one on top: the words of a coder that held nothing and then took the symbols.
 pub record IsStackOf {Symbol : Type 0} (entry : Symbol → Option (ℕ × ℕ)) (precision : ℕ) (symbols : List Symbol) (words : List ℕ)
     : Type 0 where
   pub full : Content
@@ -21,14 +21,14 @@ WordsOnce {Symbol} entry precision =
 
 module _ {Symbol : Type 0} (Stands : Symbol → Symbol → Type 0) (eq : Symbol → Symbol → Bool) (entry : Symbol → Option (ℕ × ℕ))
     (rows : List (Row Symbol)) (precision : ℕ) where
-  -- As many symbols as they have are decoded from a coder of the words: they stand for these, in order, and nothing is left.
+  -- From a coder of the words, as many symbols are decoded as were encoded. They stand for the encoded ones, in order, and nothing is left.
   abbrev pub WordsComeBack : Type 0
   WordsComeBack =
       (symbols answers : List Symbol) (words : List ℕ) (opened left : Content) → IsStackOf entry precision symbols words
       → IsCompressed opened words → InTurn (IsDecoded Stands rows precision) answers opened left → length answers ≡ length symbols
       → AllZip (StandsForEqual Stands eq) symbols answers × (left ≡ content 0 [])
 
-  -- so words have one list of so many symbols, where equal symbols count as one
+  -- two lists of as many symbols with the same words have equal symbols
   abbrev pub SymbolsOnce : Type 0
   SymbolsOnce =
       (symbols others : List Symbol) (words : List ℕ) → IsStackOf entry precision symbols words → IsStackOf entry precision others words

@@ -19,18 +19,18 @@ content s ws = record { state = s; words = ws }
 abbrev pub IsWhole : ℕ → List ℕ → Type 0
 IsWhole state words = state < 2 ^ 32 → words ≡ []
 
--- a coder may hold this: its state has 64 bits, and words under it only where it is no less than 2 ^ 32
+-- a coder may hold this: its state has 64 bits, and there are words under it only if it is at least 2 ^ 32
 pub record MayBeHeld (c : Content) : Type 0 where
   pub fits : c.state < 2 ^ 64
   pub whole : IsWhole c.state c.words
 
--- a state below 2 ^ 32 takes the word on top where there is one, and otherwise nothing changes, which gives `new`
+-- a state below 2 ^ 32 takes the word on top if there is one, and otherwise nothing changes; `new` is the result
 abbrev pub Refills : ℕ → List ℕ → Content → Type 0
 Refills state words new =
     (IsWhole state words × (new ≡ content state words))
     ⊎ ((state < 2 ^ 32) × (word : ℕ) × (word < 2 ^ 32) × (words ≡ new.words ++ word ∷ []) × (new.state ≡ state * 2 ^ 32 + word))
 
--- `full` has a symbol of this entry on top, and `rest` is what it has without it
+-- `full` has a symbol of this entry on top of `rest`
 pub record IsOnTop (precision left weight : ℕ) (full rest : Content) : Type 0 where
   pub from : left ≤ full.state % 2 ^ precision
   pub to : full.state % 2 ^ precision < left + weight
@@ -44,7 +44,7 @@ pub record IsEncoded {Symbol : Type 0} (entry : Symbol → Option (ℕ × ℕ)) 
   pub known : entry symbol ≡ Some (left, weight)
   pub top : IsOnTop precision left weight full rest
 
--- `full` has on top what these rows have for its quantile, the symbol stands for that of the row, and `rest` is what is under it
+-- `full` has on top of `rest` the row that these rows have for its quantile, and the symbol stands for that of the row
 pub record IsDecoded {Symbol : Type 0} (Stands : Symbol → Symbol → Type 0) (rows : List (Row Symbol)) (precision : ℕ) (symbol : Symbol)
     (full rest : Content) : Type 0 where
   pub row : Row Symbol
@@ -52,13 +52,13 @@ pub record IsDecoded {Symbol : Type 0} (Stands : Symbol → Symbol → Type 0) (
   pub stands : Stands row.symbol symbol
   pub top : IsOnTop precision row.left row.weight full rest
 
--- without the symbol that these rows have for the quantile of the state, the state is below 2 ^ 32, and there is a word that it takes
+-- without the symbol on top, which these rows have for its quantile, the state is below 2 ^ 32, and there is a word for it to take
 abbrev pub NeedsWord : {Symbol : Type 0} → List (Row Symbol) → (precision : ℕ) → Content → Type 0
 NeedsWord {Symbol} rows precision c =
     (row : Row Symbol) × IsRowOf rows (c.state % 2 ^ precision) row × (taken precision row.left row.weight c.state < 2 ^ 32)
     × (c.words ≢ [])
 
--- why a symbol was not encoded: it has no entry, or a write to a stack of these words answered the error
+-- this is why a symbol was not encoded: it has no entry, or a write to a stack of these words answered the error
 abbrev pub IsEncodingFault : {Symbol S Fault E : Type 0} → (S → List ℕ) → (Symbol → Option (ℕ × ℕ))
     → (S → ℕ → Result (Unit {0}) E → S → Type 0) → CoderError Fault E → Symbol → S → Type 0
 IsEncodingFault words_of entry gives (Frontend fault) symbol left = entry symbol ≡ None
@@ -76,8 +76,8 @@ pub record EncodingStops {Symbol S Fault E : Type 0} (words_of : S → List ℕ)
   pub led : InTurn (IsEncoded entry precision) (reverse done) (content state (words_of left)) old
   pub why : IsEncodingFault words_of entry gives error symbol left
 
--- why a symbol was not decoded: memory for it was refused, or a read of a stack of these words, of which the state needs one, answered
--- the error
+-- this is why a symbol was not decoded: memory for it was refused, as it may be; or the state needs a word, and a read of a stack of these
+-- words answered the error
 abbrev pub IsDecodingFault : {Symbol S Fault E : Type 0} → (S → List ℕ) → (Symbol → Type 0) → List (Row Symbol)
     → (S → Result (Option ℕ) E → S → Type 0) → (precision : ℕ) → CoderError Fault E → ℕ → S → Type 0
 IsDecodingFault words_of MayRefuse rows gives precision (Frontend fault) state left = RowMayBeRefused MayRefuse rows (state % 2 ^ precision)
@@ -85,7 +85,7 @@ IsDecodingFault {S = S} words_of MayRefuse rows gives precision (Backend error) 
     NeedsWord rows precision (content state (words_of left))
     × ((reached : S) × (words_of reached ≡ words_of left) × gives reached (Err error) left)
 
--- fewer symbols than asked for were decoded, and the next one was not; or none was, as memory for as many was refused
+-- fewer than `count` symbols were decoded, and the next one was not; or none was, because memory for all of them was refused
 pub record DecodingStops {Symbol S Fault E : Type 0} (words_of : S → List ℕ) (Stands : Symbol → Symbol → Type 0)
     (MayRefuse : Symbol → Type 0) (rows : List (Row Symbol)) (gives : S → Result (Option ℕ) E → S → Type 0) (precision count : ℕ)
     (error : CoderError Fault E) (old : Content) (state : ℕ) (left : S) : Type 0 where

@@ -1,4 +1,4 @@
--- Stored weights, and what reading and writing them does to a source and to a sink.
+-- Stored weights, and how they are read from a source and written to a sink.
 use Rattle.std.specs.Prelude.{◌≡◌, ℕ, ◌<◌, ◌≤◌, Bool, List, [], ◌∷◌, ◌++◌, length, Option, Result, Err}
 use Rattle.constriction.specs.Acceptance.{AreAccepted}
 use Rattle.constriction.specs.Rows.{Row, rows_of}
@@ -14,7 +14,7 @@ abbrev pub BeginsWeights : List ℕ → Type 0
 BeginsWeights [] = Unit {0}
 BeginsWeights (count ∷ weights) = length weights < count
 
--- words of stored weights, and none after them: their beginning, or all of them
+-- words that begin stored weights, or are all of them
 abbrev pub StaysInWeights : List ℕ → Type 0
 StaysInWeights [] = Unit {0}
 StaysInWeights (count ∷ weights) = length weights ≤ count
@@ -28,7 +28,7 @@ pub record EndsInWeights {S E : Type 0} (gives : S → Result (Option ℕ) E →
   pub read : Reads gives s words reached
   pub answered : gives reached answer t
 
--- Reads from s gave the words of the weights, which leads to t. Where s tells its words, they begin with these, and t tells the others.
+-- Reads from s gave the words of the weights, which leads to t. If s tells its upcoming words, they begin with these, and t tells the rest.
 pub record ReadsWeights {S E : Type 0} (gives : S → Result (Option ℕ) E → S → Type 0) (tells : S → List ℕ → Type 0) (s : S)
     (weights : List ℕ) (t : S) : Type 0 where
   pub read : Reads gives s (weights_as_words weights) t

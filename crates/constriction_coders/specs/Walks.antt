@@ -8,7 +8,7 @@ use Rattle.constriction.specs.Rows.{Row}
 use Rattle.constriction_coders.specs.Steps.{Content, content, IsEncoded, IsDecoded, IsEncodingFault, IsDecodingFault}
 
 module _ {Symbol I : Type 0} (steps : I → Option Symbol → I → Type 0) (entry : Symbol → Option (ℕ × ℕ)) where
-  -- an iterator was read to its end, and what it gave was encoded, what it gave first at first, which led from `old` to `full`
+  -- an iterator was read to its end, and what it gave was encoded in the same order, which led from `old` to `full`
   abbrev pub EncodesGiven : (precision : ℕ) → I → (old full : Content) → Type 0
   EncodesGiven precision symbols old full =
       (given : List Symbol) × Drains steps symbols given × InTurn (IsEncoded entry precision) (reverse given) full old
@@ -34,8 +34,8 @@ walk left state backend = record { left = left; state = state; backend = backend
 
 module _ {Symbol S Fault E : Type 0} (words_of : S → List ℕ) (Stands : Symbol → Symbol → Type 0) (MayRefuse : Symbol → Type 0)
     (gives : S → Result (Option ℕ) E → S → Type 0) (rows : List (Row Symbol)) (precision : ℕ) where
-  -- A step of it: the next symbol; or an error in the place of a symbol, which leaves the state and the words; or nothing, where no answer
-  -- is left.
+  -- A step of this iterator: the next symbol; or an error in the place of a symbol, which leaves the state and the words; or nothing, if no
+  -- answer is left.
   abbrev pub StepsOn : Walk S → Option (Result Symbol (CoderError Fault E)) → Walk S → Type 0
   StepsOn old None new = (old.left ≡ 0) × (new ≡ old)
   StepsOn old (Some (Ok symbol)) new =

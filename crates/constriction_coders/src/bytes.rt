@@ -19,7 +19,7 @@ pub enum BytesError {
 
 /// Adds the bytes of words, four each.
 ///
-/// Memory is asked for once at most. Where it is refused, the bytes stay.
+/// Memory is asked for at most once. If it is refused, the bytes stay.
 pub fn push_words(bytes: &mut Vec<u8>, words: &[u32]) -> Result<(), AllocError>
     ensures ok { OnOk result (bytes.new.items ≡ bytes.old.items ++ bytes_of_words words.now) }
     ensures err { OnErr result (bytes.new.items ≡ bytes.old.items) }
@@ -31,7 +31,7 @@ pub fn push_words(bytes: &mut Vec<u8>, words: &[u32]) -> Result<(), AllocError>
     Ok(())
 }
 
-/// The words of these bytes, four bytes each.
+/// The words of bytes, four bytes a word.
 ///
 /// Memory is asked for once.
 pub fn words_of(alloc: Global, bytes: &[u8]) -> Result<Vec<u32>, BytesError>

@@ -99,7 +99,7 @@ pub fn opened_again(coder: AnsCoder<Vec<u32>>) -> Option<AnsCoder<Vec<u32>>>
     compressed_comes_back(coder).ok()
 }
 
-/// The symbols that a walk gives, one after the other, are a run.
+/// The symbols that a walk gives one after another, as a run.
 pub fn by_a_walk<Backend, D, const PRECISION: usize>(
     alloc: Global,
     coder: &mut AnsCoder<Backend>,
@@ -126,7 +126,7 @@ where
     Ok(symbols)
 }
 
-/// What an iterator has left, where its states tell that, is encoded such that decoding gives it in order.
+/// Encodes what an iterator has left, if its states show that, so that decoding gives it in order.
 pub fn from_an_iterator<Backend, E, I, const PRECISION: usize>(
     coder: &mut AnsCoder<Backend>,
     symbols: I,

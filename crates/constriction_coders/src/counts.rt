@@ -1,4 +1,4 @@
-//! Weights from counts: how finely a model weighs symbols that were counted.
+//! Weights in proportion to counts.
 
 ghost use Rattle.std.specs.Prelude.{◌≡◌, ◌↔◌, ◌+◌, ◌-◌, ◌*◌, ◌/◌, ◌^◌, ◌<◌, ◌≤◌, ℕ, All, Err, IfOk, filter, length, nat_lt, slice_index, sum, take};
 ghost use Rattle.std.specs.Prelude.{if◌then◌else◌};
@@ -17,7 +17,7 @@ pub enum CountsError {
     /// More counts are above 0 than there are quantiles.
     #[error("More symbols occur than there are quantiles.")]
     TooManySymbols,
-    /// One count alone is above 0, at 32 bits: its weight would be `2^32`, which is no word.
+    /// Only one count is above 0, at 32 bits: its weight would be `2^32`, which is no word.
     #[error("The weight of the only symbol that occurs is no word.")]
     WeightIsNoWord,
     /// Memory for the weights was refused.
@@ -43,7 +43,7 @@ fn tally(counts: &[u64]) -> (u128, u64)
     (total, occurring)
 }
 
-/// The weight of a count, and what is left of its share.
+/// The weight of a count, and the remainder of its share.
 #[tactic(auto, using(crate::proofs::CountsLemmas::share_fits, crate::proofs::CountsLemmas::quotient_fits))]
 fn weight_of(count: u64, shared: u64, carried: u128, total: u128) -> (u32, u128)
     requires within { count ≤ total }
@@ -62,7 +62,7 @@ fn weight_of(count: u64, shared: u64, carried: u128, total: u128) -> (u32, u128)
     ((1 + share / total) as u32, share % total)
 }
 
-/// One quantile for each symbol that occurs, and the share of each in the others. What a division leaves is carried on to the next symbol.
+/// Gives each symbol that occurs one quantile and its share of the others. The remainder of a share is carried to the next symbol.
 fn shares_of(
     alloc: Global,
     counts: &[u64],
@@ -90,11 +90,11 @@ fn shares_of(
     Ok(weights)
 }
 
-/// Weights over `2^PRECISION` in proportion to counts, as many as there are counts: 0 where the count is 0, and otherwise at least 1.
+/// Weights over `2^PRECISION` in proportion to counts, one for each count. A weight is 0 if its count is 0, and otherwise at least 1.
 ///
-/// The weights that are not 0 are those of a model. A weight is less than 1 away from 1 and the symbol's share of the quantiles that are
-/// left once each symbol that occurs has one. Two passes over the counts, a division each, and memory is asked for once. The counts may
-/// have any sum.
+/// A model accepts the weights that are not 0. The weight of a symbol that occurs differs by less than 1 from 1 plus its share of the
+/// quantiles that are left when each symbol that occurs has one. The counts may have any sum. There are two passes over the counts, with
+/// a division for each count, and memory is asked for once.
 pub fn weights_of<const PRECISION: usize>(
     alloc: Global,
     counts: &[u64],

@@ -1,9 +1,8 @@
-//! Coders over any model, in the formats of the Rust crate's `DefaultAnsCoder` and `DefaultRangeDecoder`, and the weights of a model
-//! as words.
+//! Coders over any model, in the formats of the Rust crate's `DefaultAnsCoder`, `DefaultRangeEncoder` and `DefaultRangeDecoder`.
 //!
-//! [`stack::AnsCoder`] encodes and decodes over any stack of words; [`queue::RangeDecoder`] decodes over any source that is read from
-//! its beginning on. [`stored_weights`] reads and writes the weights of a model, [`counts`] makes weights of counts, [`bytes`] turns words into bytes and
-//! back, and [`laws`] says what comes back.
+//! [`stack::AnsCoder`] encodes and decodes over any stack of words. [`queue::RangeEncoder`] encodes into words in memory, and
+//! [`queue::RangeDecoder`] decodes over any source that is read from its beginning on. [`stored_weights`] reads and writes the weights of
+//! a model, [`counts`] makes weights of counts, [`bytes`] turns words into bytes and back, and [`laws`] says what comes back.
 #![tactic(auto)]
 
 pub mod bytes;

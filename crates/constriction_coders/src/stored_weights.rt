@@ -1,4 +1,4 @@
-//! Stored weights: how many weights there are, and then the weights, as words.
+//! Stored weights: the number of weights and then the weights, as words.
 
 ghost use Rattle.std.specs.Prelude.{◌≡◌, ◌≢◌, [], ◌∷◌, ◌++◌, ◌+◌, ◌*◌, ◌^◌, ◌<◌, ◌≤◌, ℕ, List, length, map, Some, None, Ok, Err, IfOk, OnOk, vec_capacity};
 ghost use Rattle.std.specs.List.{IsDistinct};
@@ -43,7 +43,7 @@ pub enum StoringError {
     OutOfMemory,
 }
 
-/// A decoder of given symbols by their stored weights.
+/// A decoder of given symbols that was read from stored weights.
 pub type StoredModel<Symbol, const PRECISION: usize> = NonContiguousCategoricalDecoderModel<
     Symbol,
     u32,
@@ -70,9 +70,9 @@ fn next_word<Source: ReadWords<u32, Queue>>(
     }
 }
 
-/// Takes in a weight that was read. A full list asks for room for as many weights as it has, and for four at least.
+/// Adds a weight that was read. A full list asks for room for as many weights as it has, and for at least four.
 fn push_weight(weights: &mut Vec<u32>, weight: u32) -> Result<(), AllocError>
-    // No room was asked for but for weights that were read, for as many again, and for four.
+    // There is room only for the weights that were read, as many again, and four.
     requires room { vec_capacity weights.old ≤ 2 * length weights.old.items + 4 }
     ensures items { OnOk result (weights.new.items ≡ weights.old.items ++ weight ∷ []) }
     ensures room { OnOk result (vec_capacity weights.new ≤ 2 * length weights.new.items + 4) }
@@ -84,8 +84,8 @@ fn push_weight(weights: &mut Vec<u32>, weight: u32) -> Result<(), AllocError>
     Ok(())
 }
 
-/// Reads stored weights, and no word after them. No memory is asked for but for weights that were read, for as many
-/// again, and for four, whatever their number is said to be.
+/// Reads stored weights, and no word after them. Memory is asked for only for the weights that were read, as many again,
+/// and four, whatever number of weights is announced.
 pub fn read_weights<Source: ReadWords<u32, Queue>>(
     alloc: Global,
     source: &mut Source,
@@ -115,7 +115,7 @@ pub fn read_weights<Source: ReadWords<u32, Queue>>(
     Ok(weights)
 }
 
-/// Writes weights, after their number.
+/// Writes the number of weights, and then the weights.
 pub fn write_weights<Sink: WriteWords<u32>>(
     weights: &[u32],
     sink: &mut Sink,
@@ -163,7 +163,7 @@ fn model_of<Symbol: Eq + Drop, const PRECISION: usize>(
     }
 }
 
-/// Reads the model of these symbols, one weight a symbol, and no word after them.
+/// Reads the stored weights of a model of these symbols, one for each symbol, and no word after them.
 pub fn read_model<Symbol: Eq + Drop, Source: ReadWords<u32, Queue>, const PRECISION: usize>(
     alloc: Global,
     symbols: Vec<Symbol>,
@@ -209,7 +209,7 @@ where
     Ok(weights)
 }
 
-/// Writes the weights of a model's rows, in order, after their number.
+/// Writes the number of a model's rows, and then their weights in order.
 pub fn write_model<M, Sink: WriteWords<u32>, const PRECISION: usize>(
     alloc: Global,
     model: M,

@@ -1,4 +1,4 @@
-//! Bits-back coding: symbols by way of latent ones, which what the coder holds chooses.
+//! Bits-back coding: symbols are coded by way of latent symbols. What the coder holds chooses the latent symbols.
 
 use crate::checks::{holds, same};
 use constriction::stream::model::DefaultUniformModel;
@@ -11,10 +11,10 @@ use std::process::Abort;
 /// The symbols.
 const SYMBOLS: [usize; 7] = [700, 3, 55, 4, 9, 1, 8];
 
-/// The words of the coder before the symbols, by the formulas.
+/// The words of the coder before the symbols, computed from the formulas.
 const BEFORE: [u32; 4] = [1_416_055_628, 129_192_842, 974_692_960, 1_507_089_192];
 
-/// And after them. The latent symbols were 48, 48, 24, 24, 12, 12 and 6.
+/// The words of the coder after the symbols. The latent symbols were 48, 48, 24, 24, 12, 12 and 6.
 const AFTER: [u32; 6] = [
     1_416_055_628,
     129_192_842,
@@ -55,7 +55,7 @@ fn before(rt: &impl Abort, alloc: Global) -> AnsCoder<Vec<u32>> {
     coder
 }
 
-/// Stops the test where the coder does not hold these words.
+/// Asserts that the coder holds these words.
 fn has(rt: &impl Abort, alloc: Global, coder: &AnsCoder<Vec<u32>>, words: &[u32]) {
     let copy = coder.get_compressed(alloc).expect(rt, "memory");
     holds(rt, &copy, words);
@@ -85,7 +85,8 @@ fn symbols_come_back_and_so_do_the_words(rt: HostRuntime) {
     has(&rt, alloc, &coder, &BEFORE);
 }
 
-/// The latent symbol is 48 for a symbol from 5 on. It chooses among 1,000 symbols, and a prior of 48 latent symbols has none of it.
+/// For a symbol from 5 on, the latent symbol is 48. It chooses a likelihood over 1,000 symbols, and a prior of 48 latent symbols
+/// does not have it.
 #[test]
 fn what_has_no_entry_is_refused_and_nothing_changes(rt: HostRuntime) {
     let alloc = rt.alloc();
@@ -101,7 +102,7 @@ fn what_has_no_entry_is_refused_and_nothing_changes(rt: HostRuntime) {
     has(&rt, alloc, &coder, &BEFORE);
 }
 
-/// The latent symbol by the prior is 96, which a posterior of 90 latent symbols does not have.
+/// The prior gives the latent symbol 96, which a posterior of 90 latent symbols does not have.
 #[test]
 fn a_latent_symbol_that_no_posterior_has_is_refused(rt: HostRuntime) {
     let alloc = rt.alloc();

@@ -1,4 +1,4 @@
-//! Copies of the words of a coder, and words that are refused.
+//! Copies of a coder's words, and words that are refused.
 
 use crate::checks::same;
 use constriction::CoderError;
@@ -6,7 +6,7 @@ use constriction::stream::model::DefaultUniformModel;
 use constriction_coders::stack::AnsCoder;
 use std::process::Abort;
 
-/// Stops the test where the copy is not the words that the coder turns into, or where they are not so many.
+/// Asserts that the copy equals the words that the coder turns into, and that there are `count` of them.
 fn is_copied(rt: &impl Abort, coder: AnsCoder<Vec<u32>>, copy: Vec<u32>, count: usize) {
     same(rt, coder.num_words(), count);
     same(rt, coder.is_empty(), count == 0);

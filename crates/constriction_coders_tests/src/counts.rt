@@ -11,7 +11,7 @@ use std::process::Abort;
 /// Counts whose sum has more than 64 bits.
 const MANY: u64 = u64::MAX;
 
-/// Stops the test where counts do not have these weights.
+/// Asserts that counts have these weights.
 fn are_weighed<const PRECISION: usize>(
     rt: &impl Abort,
     alloc: Global,
@@ -26,7 +26,7 @@ fn are_weighed<const PRECISION: usize>(
     }
 }
 
-/// Stops the test where counts do not have this fault.
+/// Asserts that counts are refused with this fault.
 fn are_refused<const PRECISION: usize>(
     rt: &impl Abort,
     alloc: Global,
@@ -42,7 +42,7 @@ fn are_refused<const PRECISION: usize>(
     );
 }
 
-/// The sums of weights are 1 for each symbol, and a share, rounded down.
+/// The sum of the weights up to a symbol is 1 for each symbol that occurs, and a share of the rest, rounded down.
 #[test]
 fn counts_have_weights(rt: HostRuntime) {
     let alloc = rt.alloc();

@@ -1,5 +1,5 @@
-//! What laws tell callers that make models of plain lists, and that encode numbers below `support_size`. None of these proofs has a
-//! written answer.
+//! What laws tell callers that make models of plain lists, and callers that encode numbers below `support_size`. None of these
+//! proofs has a written answer.
 
 ghost use Rattle.std.specs.Prelude.{◌≡◌, ◌<◌, ◌≤◌, Err, IfOk, IfSome, length, nat_eq};
 ghost use Rattle.constriction.specs.Acceptance.{AreAccepted, IsAccepted};
@@ -40,7 +40,7 @@ fn of_a_vec<const PRECISION: usize>(
     Model::<PRECISION>::from_nonzero_fixed_point_probabilities(alloc, weights, false)
 }
 
-/// That of the weights in a slice.
+/// The model of the weights in a slice.
 fn of_a_slice<const PRECISION: usize>(
     alloc: Global,
     weights: &[u32],
@@ -56,7 +56,7 @@ fn of_a_slice<const PRECISION: usize>(
     Model::<PRECISION>::from_nonzero_fixed_point_probabilities(alloc, given, false)
 }
 
-/// That of letters and weights.
+/// The model of letters and weights.
 fn of_letters(alloc: Global, letters: Vec<char>, weights: Vec<u32>) -> Result<Letters, ModelError>
     ensures accepted { IfOk result (λ _. AreAccepted nat_eq 32 24 letters.items weights.items) }
     ensures rows { IfOk result (λ model. decoder_model_rows model ≡ rows_of letters.items weights.items) }
@@ -71,7 +71,7 @@ fn of_letters(alloc: Global, letters: Vec<char>, weights: Vec<u32>) -> Result<Le
     Letters::from_symbols_and_nonzero_fixed_point_probabilities(alloc, letters, weights, false)
 }
 
-/// Where the row of a number below `support_size` begins.
+/// The left cumulative of a number, if it is below `support_size`.
 fn left_of<const PRECISION: usize>(model: &Model<PRECISION>, place: usize) -> Option<u32> {
     if place >= model.support_size() {
         return None;
@@ -83,7 +83,7 @@ fn left_of<const PRECISION: usize>(model: &Model<PRECISION>, place: usize) -> Op
     }
 }
 
-/// Encodes a number below `support_size`, which fails only where memory is refused.
+/// Encodes a number below `support_size`. This fails only if memory is refused.
 fn encode_below<const PRECISION: usize>(
     coder: &mut AnsCoder<Vec<u32>>,
     model: &Model<PRECISION>,
@@ -99,7 +99,7 @@ fn encode_below<const PRECISION: usize>(
     }
 }
 
-/// Encodes a number if it is below the range of a uniform model, which fails only where memory is refused.
+/// Encodes a number if it is below the range of a uniform model. This fails only if memory is refused.
 fn encode_in_range(
     coder: &mut AnsCoder<Vec<u32>>,
     model: &UniformModel<u32, 24>,
@@ -116,7 +116,7 @@ fn encode_in_range(
     }
 }
 
-/// Decodes a number, which is below `support_size`.
+/// Decodes a number. It is below `support_size`.
 fn decode_below<const PRECISION: usize>(
     coder: &mut AnsCoder<Vec<u32>>,
     model: &Model<PRECISION>,
@@ -130,7 +130,7 @@ fn decode_below<const PRECISION: usize>(
     }
 }
 
-/// Decodes a number, which is in the range.
+/// Decodes a number. It is in the range.
 fn decode_in_range(coder: &mut AnsCoder<Vec<u32>>, model: &UniformModel<u32, 24>) -> Option<usize>
     ensures { IfSome result (λ place. place < length (⟦<UniformModel<u32, 24> as EntropyModel<24>>⟧.rows model.now)) }
 {
@@ -141,12 +141,12 @@ fn decode_in_range(coder: &mut AnsCoder<Vec<u32>>, model: &UniformModel<u32, 24>
     }
 }
 
-/// Weights of which the last one is so.
+/// Four weights that end with `last`.
 fn three_and(alloc: Global, last: u32) -> Result<Vec<u32>, AllocError> {
     Ok(Vec::from_array(alloc, [1000, 2000, 96, last])?)
 }
 
-/// How many symbols a model has, or why there is none.
+/// How many symbols a model has, or the error if none was made.
 fn count_of(made: Result<Model<12>, ModelError>) -> Result<usize, ModelError> {
     match made {
         Ok(model) => Ok(model.support_size()),

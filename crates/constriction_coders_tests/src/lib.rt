@@ -1,7 +1,7 @@
-//! The tests of the coders, of weights and words, and of laws that their callers use.
+//! The tests of the coders, of stored weights, counts and bytes, and of laws that their callers use.
 //!
-//! A library that has tests of its own is proved twice, so none of them has any. Tests use the
-//! public interface alone.
+//! The libraries have no tests of their own, because a library with tests is proved twice. These tests use the public
+//! interface alone.
 #![tactic(auto)]
 
 #[cfg(test)]
@@ -20,6 +20,8 @@ mod messages_of_stack;
 mod positions;
 #[cfg(test)]
 mod range_coder;
+#[cfg(test)]
+mod range_positions;
 #[cfg(test)]
 mod stored_weights;
 #[cfg(test)]

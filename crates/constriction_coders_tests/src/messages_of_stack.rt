@@ -1,4 +1,4 @@
-//! Messages that one program encodes and another one decodes that has their words alone.
+//! Messages that one program encodes, and another program decodes from their words alone.
 
 use crate::checks::{holds, same};
 use constriction::stream::model::DefaultUniformModel;
@@ -7,7 +7,7 @@ use constriction_coders::laws::{
 };
 use constriction_coders::stack::AnsCoder;
 
-/// The words of seven symbols, by the formulas.
+/// The words of seven symbols are computed from the format's formulas.
 #[test]
 fn a_message_of_seven_symbols(rt: HostRuntime) {
     let alloc = rt.alloc();

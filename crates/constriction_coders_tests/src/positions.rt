@@ -1,4 +1,4 @@
-//! Places of a stack coder: noted while symbols are encoded, and sought.
+//! Places of a stack coder, noted while symbols are encoded and sought later.
 
 use crate::checks::same;
 use constriction::backends::Cursor;
@@ -11,7 +11,7 @@ use std::process::Abort;
 /// How many symbols are encoded.
 const MANY: usize = 20;
 
-/// After how many symbols a place is noted, and the place, by the formulas.
+/// After how many symbols a place is noted, and the place, computed from the formulas.
 const PLACES: [(usize, (usize, u64)); 4] = [
     (0, (0, 0)),
     (3, (0, 84_592_049_535)),
@@ -19,12 +19,12 @@ const PLACES: [(usize, (usize, u64)); 4] = [
     (19, (5, 57_892_654_500)),
 ];
 
-/// The symbol of a step.
+/// The symbol that a step encodes.
 fn symbol_of(step: usize) -> usize {
     (step % 1000 * 37 + 5) % 1000
 }
 
-/// The coder of all symbols. The places are those that it notes.
+/// The coder after all symbols. Asserts on the way that its places are those of the table.
 fn encoded(rt: &impl Abort, alloc: Global, model: &DefaultUniformModel) -> AnsCoder<Vec<u32>> {
     let mut coder = AnsCoder::new(alloc);
     for step in 0..MANY {
@@ -38,7 +38,7 @@ fn encoded(rt: &impl Abort, alloc: Global, model: &DefaultUniformModel) -> AnsCo
     coder
 }
 
-/// A stack goes back only, and drops what comes after.
+/// A stack only goes back, and drops what came later.
 #[test]
 fn a_stack_goes_back_to_its_places(rt: HostRuntime) {
     let model = DefaultUniformModel::new(1000);
@@ -53,7 +53,7 @@ fn a_stack_goes_back_to_its_places(rt: HostRuntime) {
     same(&rt, coder.is_empty(), true);
 }
 
-/// A place has to have as many words as there are, and none under a state below `2^32`.
+/// A place is refused if it has more words than there are, or words under a state below `2^32`.
 #[test]
 fn places_that_no_coder_has_are_refused(rt: HostRuntime) {
     let model = DefaultUniformModel::new(1000);
@@ -66,7 +66,7 @@ fn places_that_no_coder_has_are_refused(rt: HostRuntime) {
     }
 }
 
-/// A cursor over the words of the coder goes back and forth.
+/// A coder over a cursor goes back and forth.
 #[test]
 fn a_cursor_goes_to_its_places_back_and_forth(rt: HostRuntime) {
     let model = DefaultUniformModel::new(1000);

@@ -1,20 +1,20 @@
-//! Messages of the range coder: where a carry goes, what is at their ends, what leaves an encoder as it was, and words that are not
-//! those of a message. The words are those of the format's formulas.
+//! Messages of the range coder: carries, the end of a message, errors that leave an encoder as it was, and words that are no
+//! message. The expected words are computed from the format's formulas.
 
 use crate::checks::{holds, same};
 use constriction::backends::Cursor;
 use constriction::stream::model::{ContiguousCategoricalEntropyModel, DefaultUniformModel};
 use constriction::{CoderError, DefaultEncoderFrontendError};
 use constriction_coders::laws::{message_comes_back, message_from, message_of};
-use constriction_coders::queue::{RangeDecoder, DecoderFrontendError, RangeEncoder};
+use constriction_coders::queue::{DecoderFrontendError, RangeDecoder, RangeEncoder};
 use std::alloc::Global;
 use std::process::Abort;
 
-/// The symbols 0, 1 and 2, with a quarter, a half and a quarter of the quantiles.
+/// A model of the symbols 0, 1 and 2, with a quarter, a half and a quarter of the quantiles.
 type Quarters = ContiguousCategoricalEntropyModel<u32, Vec<u32>, 2>;
 
-/// How often the middle symbol is encoded, the symbol after these, where there is one, and the words. The middle symbols
-/// lead to words of all ones, and a last one or the end of the message carries into them.
+/// How often the middle symbol is encoded, the last symbol if there is another one, and the words. The middle symbols lead to
+/// words of all ones, and the last symbol or the end of the message carries into them.
 const MESSAGES: [(usize, Option<usize>, &[u32]); 8] = [
     (0, None, &[]),
     (0, Some(0), &[0]),
@@ -36,7 +36,7 @@ const MESSAGES: [(usize, Option<usize>, &[u32]); 8] = [
     ),
 ];
 
-/// So many middle symbols, and the one after these.
+/// `middle` times the middle symbol, and then the last symbol.
 fn symbols_of(rt: &impl Abort, alloc: Global, middle: usize, last: Option<usize>) -> Vec<usize> {
     let mut symbols = Vec::new(alloc);
     for _ in 0..middle {
@@ -48,7 +48,7 @@ fn symbols_of(rt: &impl Abort, alloc: Global, middle: usize, last: Option<usize>
     symbols
 }
 
-/// Encodes the symbols, and compares all that tells the words.
+/// Encodes the symbols, and checks all calls that say something of the words.
 fn encodes(rt: &impl Abort, alloc: Global, model: &Quarters, symbols: &[usize], words: &[u32]) {
     let mut coder = RangeEncoder::new(alloc);
     same(rt, coder.encode_symbols(symbols, model), Ok(()));
@@ -60,7 +60,7 @@ fn encodes(rt: &impl Abort, alloc: Global, model: &Quarters, symbols: &[usize], 
     holds(rt, &made, words);
 }
 
-/// Decodes the words, and the same ones with two words of ones after them.
+/// Decodes the words, and decodes them again with two words of all ones after them.
 fn decodes(rt: &impl Abort, alloc: Global, model: &Quarters, symbols: &[usize], words: &[u32]) {
     let mut more = words.to_vec(alloc).expect(rt, "memory");
     more.extend_from_slice(&[u32::MAX; 2]).expect(rt, "memory");
@@ -85,11 +85,11 @@ fn a_carry_goes_as_far_as_words_are_full(rt: HostRuntime) {
     }
 }
 
-/// The words of the ten numbers from 990 on, which are as likely as a thousand.
+/// The words of the ten numbers from 990 on, by a uniform model of 1,000 numbers.
 const LAST_TEN: [u32; 4] = [0xFDB0_D073, 0xB20E_D10D, 0x2470_C869, 0x265E_B9CD];
 
-/// An encoder of what iterators give takes no symbol that has no entry, and asks for none after it. It encodes on, and what it
-/// holds can be decoded before it is done.
+/// An encoder refuses a symbol without an entry, and asks the iterator for none after it. It can go on, and what it has encoded
+/// so far can be decoded meanwhile.
 #[test]
 fn an_impossible_symbol_leaves_the_encoder_as_it_was(rt: HostRuntime) {
     let alloc = rt.alloc();
@@ -120,8 +120,8 @@ fn an_impossible_symbol_leaves_the_encoder_as_it_was(rt: HostRuntime) {
     holds(&rt, &words, &LAST_TEN);
 }
 
-/// A walk gives as many symbols as it is asked for, and the others stay. At the end of the words the decoder says so, and with
-/// other words after them it does not.
+/// An iterator gives as many symbols as it is asked for, and the others stay. `maybe_exhausted` is true at the end of the words,
+/// and false if other words follow them.
 #[test]
 fn a_walk_decodes_as_many_symbols_as_are_asked_for(rt: HostRuntime) {
     let model = DefaultUniformModel::new(1000);
@@ -145,7 +145,7 @@ fn a_walk_decodes_as_many_symbols_as_are_asked_for(rt: HostRuntime) {
     same(&rt, coder.maybe_exhausted(), true);
 }
 
-/// Words that are cut, and words of which a bit is turned, and the ten symbols that are decoded from them.
+/// Words that were cut, or had a bit flipped, and the ten symbols that are decoded from them.
 const OTHER_MESSAGES: [(&[u32], [usize; 10]); 3] = [
     (&[], [0; 10]),
     (
@@ -158,7 +158,7 @@ const OTHER_MESSAGES: [(&[u32], [usize; 10]); 3] = [
     ),
 ];
 
-/// Words of a damaged message are decoded to other symbols. Only a point above all quantiles is invalid, which stays so.
+/// A damaged message is decoded to other symbols. Only a point above all quantiles is invalid, and it stays so.
 #[test]
 fn words_of_no_message_are_decoded_or_invalid(rt: HostRuntime) {
     let alloc = rt.alloc();
@@ -178,7 +178,7 @@ fn words_of_no_message_are_decoded_or_invalid(rt: HostRuntime) {
     }
 }
 
-/// A message by the calls that have its laws.
+/// Messages encoded and decoded by the calls of `laws`.
 #[test]
 fn a_message_comes_back(rt: HostRuntime) {
     let alloc = rt.alloc();

@@ -1,4 +1,4 @@
-//! A sentence that is coded by a model of texts, whose weights are stored as words.
+//! A sentence is coded by a model of texts. The weights of the model are stored as words.
 
 use crate::checks::same;
 use constriction::CoderError;
@@ -18,10 +18,10 @@ const TEXTS: [&str; 4] = ["the", "cat", "saw", "."];
 /// How many of the `2^24` quantiles each of the first three texts has. The last text has the rest.
 const WEIGHTS: [u32; 3] = [6_000_000, 4_000_000, 2_500_000];
 
-/// What is coded.
+/// The message.
 const MESSAGE: [&str; 6] = ["the", "cat", "saw", "the", "cat", "."];
 
-/// These texts, each in memory of its own.
+/// These texts, as `String`s.
 fn owned(rt: &impl Abort, alloc: Global, texts: &[&str]) -> Vec<String> {
     let mut strings = Vec::new(alloc);
     for text in texts {
@@ -44,7 +44,7 @@ fn stored(rt: &impl Abort, alloc: Global) -> Vec<u32> {
     words
 }
 
-/// The words that the message is encoded to by this model.
+/// The words of the message by this model.
 fn encoded(rt: &impl Abort, alloc: Global, model: &Texts) -> Vec<u32> {
     let encoder = to_generic_encoder_model(alloc, model).expect(rt, "the encoder");
     let message = owned(rt, alloc, &MESSAGE);
@@ -81,17 +81,17 @@ fn a_message_by_stored_weights(rt: HostRuntime) {
     same(&rt, coder.is_empty(), true);
 }
 
-/// How many weights the model of numbers has.
+/// How many symbols the model of numbers has.
 const MANY: u32 = 5000;
 
-/// The weight of its last number, which is what the others leave.
+/// The weight of its last number: what the others leave.
 const LAST: u32 = 4_279_716;
 
 /// A model of numbers.
 type Numbers = StoredModel<u32, 24>;
 
-/// The stored weights of the model of the numbers below 5,000. The weight of a number is one more than the number; the last
-/// number has all quantiles that are left.
+/// The stored weights of the model of the numbers below 5,000. The weight of a number is one more than the number, and the last
+/// number has all other quantiles.
 fn many_stored(rt: &impl Abort, alloc: Global) -> Vec<u32> {
     let made = Numbers::from_hashable_symbols_and_nonzero_fixed_point_probabilities(
         alloc,
@@ -105,7 +105,7 @@ fn many_stored(rt: &impl Abort, alloc: Global) -> Vec<u32> {
     words
 }
 
-/// Stops the test where these are not the rows of the numbers below 5,000.
+/// Asserts that a model has the rows of the numbers below 5,000.
 fn are_many_rows(rt: &impl Abort, model: &Numbers) {
     let mut number = 0u32;
     let mut below = 0u32;
@@ -123,7 +123,7 @@ fn are_many_rows(rt: &impl Abort, model: &Numbers) {
     same(rt, number, MANY);
 }
 
-/// With ample memory the model of numbers is read back with the same rows.
+/// With enough memory the model of numbers is read back with the same rows.
 #[test]
 fn five_thousand_rows_come_back(rt: HostRuntime) {
     let alloc = rt.alloc();
@@ -133,7 +133,7 @@ fn five_thousand_rows_come_back(rt: HostRuntime) {
     are_many_rows(&rt, &model);
 }
 
-/// Stops the test where a model of 10 and 20 is read from these words, or is refused for another reason.
+/// Asserts that no model of 10 and 20 is read from these words, for this reason.
 fn is_refused(rt: &impl Abort, alloc: Global, words: &[u32], fault: ReadingError) {
     let mut source = Cursor::new_at_write_beginning(words);
     let symbols = [10u32, 20].to_vec(alloc).expect(rt, "memory");

@@ -1,4 +1,4 @@
-//! How often the stack coder reads.
+//! How often the stack coder reads its stack.
 
 ghost use Rattle.std.specs.Prelude.{◌≡◌, refl, reverse};
 ghost use Rattle.constriction_backends.specs.Stack.{Pops, Pushes};
@@ -70,7 +70,7 @@ impl WordStack<u32> for Counted {
 /// How many symbols a message has.
 const MANY: usize = 40;
 
-/// The coder of the thirteen words of a message. Two of them were read.
+/// A coder over the thirteen words of a message. It has read two of them.
 fn opened(rt: &impl Abort, alloc: Global, model: &DefaultUniformModel) -> AnsCoder<Counted> {
     let mut coder = AnsCoder::new(alloc);
     same(rt, coder.encode_symbols(&[7; MANY], model), Ok(()));
@@ -82,15 +82,15 @@ fn opened(rt: &impl Abort, alloc: Global, model: &DefaultUniformModel) -> AnsCod
     coder
 }
 
-/// How often the stack of a coder was read until it had no more words.
+/// How often the stack of a coder was read. The coder has no more words.
 fn reads_to_the_end(rt: &impl Abort, coder: AnsCoder<Counted>) -> usize {
     let stack = coder.into_compressed().expect(rt, "memory");
     same(rt, stack.words.is_empty(), true);
     stack.reads
 }
 
-/// Each word is read once. The last three symbols leave a state below `2^32` and no words, and so take one read each that finds
-/// none.
+/// Each word is read once. The last three symbols leave a state below `2^32` and no words, so each takes one read that finds
+/// no word.
 #[test]
 fn a_symbol_takes_one_read_at_the_end_of_the_stack(rt: HostRuntime) {
     let model = DefaultUniformModel::new(1000);

@@ -1,12 +1,12 @@
-//! Symbols that iterators give to a coder and take from it.
+//! Symbols that a coder takes from an iterator, and symbols that it gives as an iterator.
 
 use crate::checks::same;
 use constriction::stream::model::DefaultUniformModel;
 use constriction::{CoderError, DefaultEncoderFrontendError};
 use constriction_coders::stack::AnsCoder;
 
-/// A range is encoded from its back on. As many symbols as are asked for are decoded, in the order of the range. The others
-/// stay.
+/// A range is encoded from its back. Then symbols are decoded in the order of the range, as many as are asked for, and the
+/// others stay.
 #[test]
 fn a_range_comes_back_in_order(rt: HostRuntime) {
     let alloc = rt.alloc();

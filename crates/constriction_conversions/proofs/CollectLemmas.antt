@@ -19,7 +19,7 @@ use Rattle.constriction_stored_rows.proofs.PairedLemmas.{paired-of_rows}
 use Rattle.constriction_stored_rows.proofs.ReadLemmas.{not-distinct, none-distinct, distinct-push, never-any}
 
 module _ {Symbol Word Weight Refusal T : Type 0} (steps : T → Option (Result (Symbol × Word × Weight) Refusal) → T → Type 0) (it : T) where
-  -- one row more of a walk
+  -- one more row of a walk
   pub walked-more : (xs : List (Symbol × Word × Weight)) (u v : T) (o : Result (Symbol × Word × Weight) Refusal)
       (x : Symbol × Word × Weight)
       → Yields steps it (map Ok xs) u → steps u (Some o) v → o ≡ Ok x → Yields steps it (map Ok (xs ++ x ∷ [])) v
@@ -29,7 +29,7 @@ module _ {Symbol Word Weight Refusal T : Type 0} (steps : T → Option (Result (
       (yields-more steps it (map Ok xs) u (Ok x) v w one)
 
   module _ (eq : Symbol → Symbol → Bool) (symm : (s t : Symbol) → eq s t ≡ eq t s) where
-    -- the entries are those of the rows that the walk gave so far, no two symbols of which are equal
+    -- the entries are the entries of the rows that the walk gave so far, and no two of their symbols are equal
     pub record IsCollected (u : T) (entries : List (Word × Symbol)) : Type 0 where
       pub taken : List (Symbol × Word × Weight)
       pub walked : Yields steps it (map Ok taken) u
@@ -74,7 +74,7 @@ module _ {Symbol Word Weight Refusal T : Type 0} (steps : T → Option (Result (
 -- ---- walks whose symbols are not compared
 
 module _ {Symbol Word Weight Refusal T : Type 0} (steps : T → Option (Result (Symbol × Word × Weight) Refusal) → T → Type 0) (it : T) where
-  -- one row more
+  -- one more row
   pub collected-uncompared : (u v : T) (entries next : List (Word × Symbol)) (o : Result (Symbol × Word × Weight) Refusal)
       (x : Symbol × Word × Weight) → IsCollected steps it (λ _ _. false) (λ _ _. refl) u entries → steps u (Some o) v → o ≡ Ok x
       → next ≡ entries ++ (x.1, x.0) ∷ [] → IsCollected steps it (λ _ _. false) (λ _ _. refl) v next
@@ -82,7 +82,7 @@ module _ {Symbol Word Weight Refusal T : Type 0} (steps : T → Option (Result (
       collected-step steps it (λ _ _. false) (λ _ _. refl) u v entries o x f step e entries
       (list_any (λ _. false) (map (λ y. y.1) entries)) refl refl next n (never-any (map (λ y. y.1) entries))
 
--- where there is room for what is left, and one item is taken and put at the end, there is room for what is left then
+-- if there is room for what is left, and one item is taken and put at the end, there is room for the rest
 pub room-left : {A : Type 0} (before after : List A) (x : A) (left next room : ℕ) → after ≡ before ++ x ∷ [] → length before + left ≤ room
     → next < left → length after + next ≤ room
 room-left before after x left next room is fits fewer = omega (arith, ap length is, length-append before (x ∷ []))
@@ -94,7 +94,7 @@ module _ {Symbol Word Weight Refusal T : Type 0} (Stands : Symbol → Symbol →
     (law : (t : T) (r : Option (Result (Symbol × Word × Weight) Refusal)) (u : T) → steps t r u
     → YieldsRow Stands MayRefuse whole base rows_left t r u)
     (rows : List (Row Symbol)) (it : T) (all : rows_left it ≡ rows) where
-  -- what a walk to the end gives, where it gives no refusal
+  -- what a walk to the end gives, if it gives no refusal
   pub walked-all : (xs : List (Symbol × Word × Weight)) → Drains steps it (map Ok xs)
       → StandForRows Stands (map (row_of whole base) xs) rows
   walked-all xs d =
@@ -105,7 +105,7 @@ module _ {Symbol Word Weight Refusal T : Type 0} (Stands : Symbol → Symbol →
     walked-symbols : (xs : List (Symbol × Word × Weight)) → map (λ x. x.0) xs ≡ symbols_of (map (row_of whole base) xs)
     walked-symbols xs = sym (map-map (λ r. r.symbol) (row_of whole base) xs)
 
-    -- the symbols of a walk differ where those of the rows do, and a clone is equal to its symbol
+    -- the symbols of a walk differ if the symbols of the rows do, and a clone is equal to its symbol
     pub walked-apart : IsEquivalence eq → ClonesAreEqual eq Stands → IsDistinct eq (symbols_of rows) → (entries : List (Word × Symbol))
         → WalkedGood steps it (λ xs. entries ≡ map (λ x. (x.1, x.0)) xs)
         → WalkedGood steps it (λ xs. (entries ≡ map (λ x. (x.1, x.0)) xs) × IsDistinct eq (map (λ x. x.0) xs))

@@ -20,7 +20,7 @@ use Rattle.constriction_model.specs.Rows.{Row, entry_of, symbols_of}
 use Rattle.constriction_conversions.specs.Walked.{WalkedGood}
 use Rattle.constriction_conversions.proofs.CollectLemmas.{walked-more}
 
--- an entry with quantiles, all of which lie below 2 ^ precision
+-- an entry with quantiles, all below 2 ^ precision
 abbrev pub EntryWithin : ℕ → ℕ × ℕ → Type 0
 EntryWithin precision e = (0 < e.1) × (e.0 + e.1 ≤ 2 ^ precision)
 
@@ -60,14 +60,14 @@ module _ {K : Type 0} (eq : K → K → Bool) (laws : IsEquivalence eq) where
       ap (λ xs. option_map (λ x. (x.left, x.weight)) (find (λ x. eq x.symbol s) xs)) (reverse-append rows (r ∷ []))
       ∙ map-cond (λ x. (x.left, x.weight)) (eq r.symbol s) r (find (λ x. eq x.symbol s) (reverse rows))
 
-  -- a symbol has an entry exactly if it is among the symbols
+  -- a symbol has an entry if and only if it is among the symbols
   pub has-entry : (rows : List (Row K)) (s : K) → is_some (entry_of eq rows s) ≡ is_member eq (symbols_of rows) s
   has-entry [] s = refl
   has-entry (r ∷ rows) s =
       ap is_some (entry_of-cons eq s r rows) ∙ some-cond (eq r.symbol s) (r.left, r.weight) (entry_of eq rows s)
       ∙ ap (λ b. b || is_some (entry_of eq rows s)) (laws.symm r.symbol s) ∙ ap (λ b. eq s r.symbol || b) (has-entry rows s)
 
-  -- an entry lies where rows do
+  -- if the rows lie below 2 ^ precision, each entry does
   pub entry-within : (precision : ℕ) (rows : List (Row K)) (s : K) → All (LiesWithin precision) rows
       → IfSome (entry_of eq rows s) (EntryWithin precision)
   entry-within precision [] s a = tt
@@ -114,7 +114,7 @@ module _ {K : Type 0} (eq : K → K → Bool) (laws : IsEquivalence eq) where
     tail-within precision e es s d true h p = rw (none-after {X = X} e.0 s es (IsDistinct-head eq e.0 (keys_of es) d) h) tt
     tail-within precision e es s d false h p = rw h at p
 
-    -- where each entry that is found lies below 2 ^ precision, all rows of the table do
+    -- if each entry that is found lies below 2 ^ precision, all rows of the table do
     pub table-rows_within : (precision : ℕ) (es : List (K × X)) → IsDistinct eq (keys_of es)
         → ((s : K) → IfSome (lookup (eq s) es) (λ x. EntryWithin precision (numbers x)))
         → All (LiesWithin precision) (rows_of_table numbers es)
@@ -125,7 +125,7 @@ module _ {K : Type 0} (eq : K → K → Bool) (laws : IsEquivalence eq) where
         (rows_of_table numbers es) here
         (table-rows_within precision es (IsDistinct-tail eq e.0 (keys_of es) d) (λ s. tail-within precision e es s d (eq s e.0) refl (h s)))
 
-    -- a table of the entries of rows has as many as the rows have distinct symbols
+    -- a table of the entries of rows has as many entries as the rows have distinct symbols
     pub table-count : (es : List (K × X)) (rows : List (Row K)) → IsDistinct eq (keys_of es)
         → ((s : K) → option_map numbers (lookup (eq s) es) ≡ entry_of eq rows s)
         → length (rows_of_table numbers es) ≡ distinct_count eq (symbols_of rows)
@@ -134,7 +134,7 @@ module _ {K : Type 0} (eq : K → K → Bool) (laws : IsEquivalence eq) where
         ∙ sym (length-map es (λ e. e.0)) ∙ length-from_keys laws (keys_of es) (symbols_of rows) d
         (λ q. sym (is_some-lookup (eq q) es) ∙ sym (some-map numbers (lookup (eq q) es)) ∙ ap is_some (h q) ∙ has-entry rows q)
 
-    -- what a table finds lies below 2 ^ precision, where it has the entries of such rows
+    -- what a table finds lies below 2 ^ precision, if it has the entries of rows that do
     pub found-within : (precision : ℕ) (rows : List (Row K)) (f : K → Option X) → All (LiesWithin precision) rows
         → ((s : K) → option_map numbers (f s) ≡ entry_of eq rows s) → (s : K) → IfSome (f s) (λ x. EntryWithin precision (numbers x))
     found-within precision rows f a h s =
@@ -146,7 +146,7 @@ module _ {K : Type 0} (eq : K → K → Bool) (laws : IsEquivalence eq) where
         some-back (Some x) p = p
         some-back None p = tt
 
-    -- one entry more
+    -- one more entry
     pub hashed-push : (rows : List (Row K)) (f g : K → Option X) (k : K) (x : X)
         → ((s : K) → option_map numbers (f s) ≡ entry_of eq rows s) → ((s : K) → g s ≡ cond (eq k s) (Some x) (f s))
         → (s : K) → option_map numbers (g s)
@@ -156,7 +156,7 @@ module _ {K : Type 0} (eq : K → K → Bool) (laws : IsEquivalence eq) where
         ∙ ap (λ p. cond (eq k s) (Some (numbers x)) p) (h s)
         ∙ sym (entry_of-push rows (record { symbol = k; left = (numbers x).0; weight = (numbers x).1 }) s)
 
-    -- whether a table finds a symbol is whether it is among those of the rows whose entries it has
+    -- a table that has the entries of rows finds a symbol if and only if one of these rows has it
     pub hashed-member : (rows : List (Row K)) (f : K → Option X) (k : K) (b : Bool)
         → ((s : K) → option_map numbers (f s) ≡ entry_of eq rows s) → is_some (f k) ≡ b → is_member eq (symbols_of rows) k ≡ b
     hashed-member rows f k b h e =
@@ -174,7 +174,7 @@ table-cloned IsClone numbers (e ∷ es) (f ∷ fs) h = (
   table-cloned IsClone numbers es fs h.1,
 )
 
--- rows that were made of others lie where these do
+-- rows that stand for rows below 2 ^ precision lie below it too
 pub within-made : {K : Type 0} (Stands : K → K → Type 0) (precision : ℕ) (made rows : List (Row K)) → StandForRows Stands made rows
     → All (LiesWithin precision) rows → All (LiesWithin precision) made
 within-made Stands precision [] rows h a = All-nil (LiesWithin precision)

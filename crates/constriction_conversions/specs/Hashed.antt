@@ -1,4 +1,4 @@
--- What a hash table of entries tells as rows.
+-- Hash tables of entries, as rows.
 use Rattle.std.specs.Prelude.{ℕ, List, map}
 use Rattle.constriction_model.specs.Rows.{Row}
 

@@ -1,4 +1,4 @@
-//! Models that are made from any model that can be walked through.
+//! Models made of any model that can be walked through.
 
 ghost use Rattle.std.specs.Prelude.{◌≡◌, ◌≤◌, map, IfOk, IfErr, ⊤};
 ghost use Rattle.std.specs.List.{IsDistinct};
@@ -22,7 +22,7 @@ use std::hash::Hash;
 
 pub mod distinct;
 
-/// The decoder over any symbols that is made of the model `M`, with entries of its own.
+/// The decoder over any symbols that is made of the model `M`. It owns its entries.
 pub type DecoderMadeOf<M, const PRECISION: usize> = NonContiguousCategoricalDecoderModel<
     <M as EntropyModel<PRECISION>>::Symbol,
     <M as EntropyModel<PRECISION>>::Probability,
@@ -35,7 +35,7 @@ pub type DecoderMadeOf<M, const PRECISION: usize> = NonContiguousCategoricalDeco
     PRECISION,
 >;
 
-/// The lookup model over any symbols that is made of the model `M`, with entries and a lookup table of its own.
+/// The lookup model over any symbols that is made of the model `M`. It owns its entries and its lookup table.
 pub type LookupMadeOf<M, const PRECISION: usize, const SLOT_BITS: usize> = LookupDecoderModel<
     DecoderMadeOf<M, PRECISION>,
     Vec<<M as EntropyModel<PRECISION>>::Probability>,
@@ -50,35 +50,35 @@ pub type EncoderMadeOf<M, const PRECISION: usize> = NonContiguousCategoricalEnco
     PRECISION,
 >;
 
-/// A model that is made from any model that can be walked through.
+/// A model that is made of any model that can be walked through.
 ///
-/// The trait takes that model `M`, so that its words and symbols are those of the result. It has to be in
-/// scope where `from_iterable_entropy_model` is called.
+/// That model `M` is a parameter of the trait, so that the result has its words and symbols. A call of
+/// `from_iterable_entropy_model` needs the trait in scope.
 pub trait FromIterableEntropyModel<
     M: IterableEntropyModel<PRECISION>,
     const PRECISION: usize,
 >: Sized {
-    // What the result tells of the model that it is made from.
+    // How the result relates to the model that it is made of.
     ghost tells: { M → Self → Type 0 };
 
-    // The models that are refused for another reason than memory. A type that refuses none says ⊥.
+    // The models that are refused for another reason than memory. For a type that refuses none, this is ⊥.
     ghost refuses: { M → Type 0 };
 
-    // What the call requires: for a lookup model that `PRECISION` is at most 63, and for a type that may compare symbols that the
-    // model's `symbols_differ` means their `eq`.
+    // What the call requires: for a lookup model, that `PRECISION` is at most 63; for a type that may compare symbols, that the answer of
+    // the model's `symbols_differ` holds for their `eq`.
     ghost can_make: { Type 0 };
 
-    /// The model of the same rows. `OutOfMemory` comes where memory for it, or for a clone of a symbol, is
-    /// refused, `InvalidTable` where the type says so.
+    /// The model of the same rows. `OutOfMemory` comes if memory for it, or for a clone of a symbol, is
+    /// refused, `InvalidTable` only for a model that the type `refuses`.
     fn from_iterable_entropy_model(alloc: Global, model: M) -> Result<Self, ModelError>
         requires { can_make }
         ensures ok { IfOk result (tells model) }
         ensures invalid { result ≡ Err ModelError.InvalidTable → refuses model };
 }
 
-/// It tells the rows of its source, with the symbols that the walk gave, no two of which are equal, and
-/// refuses a source whose walk gives two equal symbols. Where symbols are cloned and a clone is equal to its
-/// symbol, that is where two symbols of the source are equal.
+/// The result has the rows of its source, with the symbols that the walk gave, and no two of these are equal.
+/// A source is refused if its walk gives two equal symbols. If each clone is equal to its symbol, then two
+/// symbols of the source are equal.
 impl<M, const PRECISION: usize> FromIterableEntropyModel<M, PRECISION>
     for NonContiguousCategoricalDecoderModel<
         M::Symbol,
@@ -101,7 +101,8 @@ where
     }
 }
 
-/// It tells and refuses what a [`NonContiguousCategoricalDecoderModel`] does. `PRECISION` is at most 63.
+/// The result has the same rows, and the same sources are refused, as with a [`NonContiguousCategoricalDecoderModel`].
+/// `PRECISION` is at most 63.
 impl<M, const PRECISION: usize, const SLOT_BITS: usize> FromIterableEntropyModel<M, PRECISION>
     for SlottedNonContiguousLookupDecoderModel<
         M::Symbol,
@@ -127,8 +128,8 @@ where
     }
 }
 
-/// It has the entries of its source, of each symbol that the walk gave that of the last row, and refuses no
-/// source.
+/// The result has the entries of its source: for each symbol that the walk gave, the entry of its last row. No
+/// source is refused.
 impl<M, const PRECISION: usize> FromIterableEntropyModel<M, PRECISION>
     for NonContiguousCategoricalEncoderModel<M::Symbol, M::Probability, PRECISION>
 where
@@ -146,8 +147,7 @@ where
     }
 }
 
-/// The entries of a decoder of a model's rows, no two symbols of which are equal, where each is compared with all before
-/// it.
+/// The entries of a decoder with a model's rows, if no two symbols are equal. Each symbol is compared with all before it.
 #[inline]
 fn entries_compared<M, const PRECISION: usize>(
     alloc: Global,
@@ -166,7 +166,7 @@ where
     Ok(cdf)
 }
 
-/// The same. Symbols are compared only where the model does not know that they differ.
+/// The same. Symbols are compared only if the model does not know that they differ.
 #[inline]
 fn entries_of<M, const PRECISION: usize>(
     alloc: Global,
@@ -189,20 +189,20 @@ where
     }
 }
 
-/// The decoder model whose rows stand for those of a model that can be walked through, in the same order and with the same weights.
+/// The decoder model with the rows of any model that can be walked through, in the same order and with the same weights.
 ///
-/// Its symbols are those that the walk gave: clones, where the model owns its symbols. `InvalidTable` comes
-/// only where two symbols that a walk may give are equal. Where a clone is equal to its symbol, these are two equal symbols of the
-/// rows, and no model is made of rows with two equal symbols. `OutOfMemory` comes where memory for the entries, or for a
-/// clone of a symbol, is refused.
+/// Its symbols are the symbols that the walk gives, which are clones if the model owns its symbols. `InvalidTable` comes
+/// only if two symbols that a walk may give are equal. If each clone is equal to its symbol, then two symbols of the rows
+/// are equal, and no model is made of such rows. `OutOfMemory` comes if memory for the entries, or for a clone of a
+/// symbol, is refused.
 ///
-/// Where the model knows that its symbols differ, as each model of this library does, none are compared; where it does
-/// not, each is compared with those before it: `n * (n - 1) / 2` comparisons for `n` rows. One walk in both cases, and no
-/// symbol is cloned but by it.
+/// If the model knows that its symbols differ, as each model of this library does, none are compared. If it does not,
+/// each is compared with all before it: `n * (n - 1) / 2` comparisons for `n` rows. Both take one walk, and only the walk
+/// clones symbols.
 ///
-/// Of a model over any symbols it is asked that a clone is equal to its symbol. Where the type of the symbols does not say
-/// so, [`to_generic_decoder_model_by_comparison`] asks nothing; where a caller knows that symbols differ, and the model
-/// does not, [`to_generic_decoder_model_of_distinct`] compares none.
+/// For a model over any symbols, the call requires that a clone is equal to its symbol. If the symbols' type does not say
+/// so, take [`to_generic_decoder_model_by_comparison`], which requires nothing. If a caller knows that symbols differ, and
+/// the model does not, [`to_generic_decoder_model_of_distinct`] compares none.
 ///
 /// [`to_generic_decoder_model_of_distinct`]: crate::to_generic_decoder_model_of_distinct
 pub fn to_generic_decoder_model<M, const PRECISION: usize>(
@@ -222,8 +222,8 @@ where
     }
 }
 
-/// As [`to_generic_decoder_model`], of any model and any symbols: each symbol that the walk gave is compared with those
-/// before it, whatever the model knows of its own.
+/// As [`to_generic_decoder_model`], for any model and any symbols. Each symbol that the walk gives is compared with all
+/// before it, whatever the model knows of its symbols.
 pub fn to_generic_decoder_model_by_comparison<M, const PRECISION: usize>(
     alloc: Global,
     model: M,
@@ -240,15 +240,15 @@ where
     }
 }
 
-/// The lookup model whose rows stand for those of a model that can be walked through, in the same order and with the same weights.
+/// The lookup model with the rows of any model that can be walked through, in the same order and with the same weights.
 ///
-/// Its symbols are those that the walk gave: clones, where the model owns its symbols. `InvalidTable` comes
-/// only where two symbols that a walk may give are equal. Where a clone is equal to its symbol, these are two equal symbols of the
-/// rows, and no model is made of rows with two equal symbols. `OutOfMemory` comes where memory for the entries, for a
-/// clone of a symbol, or for the lookup table is refused.
+/// It requires the same as [`to_generic_decoder_model`], and a `PRECISION` of at most 63. Its symbols are the symbols
+/// that the walk gives, which are clones if the model owns its symbols. `InvalidTable` comes only if two symbols that a
+/// walk may give are equal. If each clone is equal to its symbol, then two symbols of the rows are equal, and no model is
+/// made of such rows. `OutOfMemory` comes if memory for the entries, for a clone of a symbol, or for the lookup table is
+/// refused.
 ///
-/// One walk, in which symbols are compared as [`to_generic_decoder_model`] does, of which it asks the same, and two passes
-/// over the rows.
+/// One walk, in which symbols are compared as [`to_generic_decoder_model`] does, and two passes over the rows.
 pub fn to_generic_lookup_decoder_model<M, const PRECISION: usize>(
     alloc: Global,
     model: M,
@@ -285,10 +285,10 @@ where
     }
 }
 
-/// The encoder model of the same entries as any model that can be walked through: of each symbol that the
-/// walk gave it has the last row.
+/// The encoder model with the entries of any model that can be walked through: for each symbol that the walk
+/// gives, the entry of its last row.
 ///
-/// The only refusal is `OutOfMemory`, where memory for the hash table, or for a clone of a symbol, is refused.
+/// The only error is `OutOfMemory`, if memory for the hash table, or for a clone of a symbol, is refused.
 ///
 /// One walk, and one hash a row.
 pub fn to_generic_encoder_model<M, const PRECISION: usize>(

@@ -12,7 +12,7 @@ use std::collections::HashMap;
 use std::fmt::Debug;
 use std::hash::Hash;
 
-/// What a hash table has for a symbol: where its row begins, and its weight.
+/// What a hash table has for a symbol: its left cumulative and its weight.
 #[derive(Debug)]
 pub struct Entry<Word: Copy, Positive: Copy> {
     pub left: Word,
@@ -31,8 +31,8 @@ impl<Word: Copy, Positive: Copy> Clone for Entry<Word, Positive> {
 
 impl<Word: Copy, Positive: Copy> Copy for Entry<Word, Positive> {}
 
-/// Puts a value at a symbol. `InvalidTable` comes exactly where there is one at an equal symbol, which is
-/// then lost: the hash table is of no use any more.
+/// Puts a value at a symbol. `InvalidTable` comes only if an equal symbol has a value. That value is then
+/// lost, and the hash table is of no further use.
 #[inline]
 fn insert_apart<Symbol: Hash + Eq + Drop, Value: Drop>(
     table: &mut HashMap<Symbol, Value>,
@@ -52,7 +52,7 @@ fn insert_apart<Symbol: Hash + Eq + Drop, Value: Drop>(
     Ok(())
 }
 
-/// The rows of symbols, no two of which are equal, as entries of a hash table.
+/// Rows with distinct symbols, as entries of a hash table.
 #[derive(Drop)]
 pub(crate) struct HashedRows<Symbol: Hash + Eq, Probability: WholeNumber> {
     pub(crate) table: HashMap<Symbol, Entry<Probability, Weight<Probability>>>,

@@ -21,8 +21,8 @@ use std::hash::Hash;
 
 /// A model of any symbols for encoders: it finds the entry of a symbol by its hash.
 ///
-/// It stores the entry of each symbol in a hash table. Its rows are these entries, in no order that
-/// means anything.
+/// It stores the entry of each symbol in a hash table. Its rows are these entries, in an order without
+/// meaning.
 #[derive(Drop)]
 #[derive_where(Debug; Symbol: Debug, Probability: Debug, Weight<Probability>: Debug)]
 pub struct NonContiguousCategoricalEncoderModel<
@@ -108,17 +108,16 @@ impl<
 > NonContiguousCategoricalEncoderModel<Symbol, Probability, PRECISION> {
     ghost use Rattle.constriction_conversions.specs.EncoderRows.{encoder_model_rows, AreHashedRowsOf};
 
-    /// The model of these symbols and weights, one weight a symbol. Where the last weight is inferred,
-    /// it is what the given ones leave of `2^PRECISION`, and there is one symbol more than given weights.
+    /// The model of these symbols and weights, one weight a symbol. If the last weight is inferred, it is
+    /// what the given weights leave of `2^PRECISION`, and there is one more symbol than given weights.
     ///
-    /// They are accepted exactly where the weights are all positive, the inferred one included, their
-    /// sum is `2^PRECISION`, each of them is a word, there is exactly one symbol for each weight, and no
-    /// two symbols are equal. `InvalidTable` comes where they are not accepted, whether both iterators
-    /// were read to their ends or only so far that no lists that begin so are accepted. `OutOfMemory`
-    /// comes where memory for the hash table is refused.
+    /// They are accepted if and only if all weights, with the inferred one, are positive, add up to
+    /// `2^PRECISION` and are words, there is exactly one symbol for each weight, and no two symbols are
+    /// equal. If they are not, `InvalidTable` comes after both iterators were read to their ends, or as soon
+    /// as no lists with this beginning are accepted. `OutOfMemory` comes if memory for the hash table is refused.
     ///
-    /// One pass over both, and one hash a symbol. Where the symbols' iterator announces how many there
-    /// are, memory is asked for before the first one and not again: the hash table has four allocations.
+    /// One pass over both, and one hash a symbol. If the symbols' iterator announces their number, memory is
+    /// requested before the first symbol and not again: the hash table has four allocations.
     pub fn from_symbols_and_nonzero_fixed_point_probabilities<
         S: IntoIterator<Item = Symbol>,
         P: IntoIterator<Item = Probability>,
@@ -164,13 +163,12 @@ impl<Symbol: Hash + Eq + Clone, Probability: WholeNumber, const PRECISION: usize
 
     ghost is_clone = { λ x y. StandForRows Symbol.is_clone (encoder_model_rows y) (encoder_model_rows x) };
 
-    /// A model of the same entries, for clones of the symbols, with a hash table of its own from the allocator of
-    /// this one's.
+    /// A copy of the model, with clones of the symbols. Its hash table comes from the allocator of this model's.
     ///
-    /// A copy of the hash table and a clone of each symbol. It is refused where memory for one of these is.
+    /// A copy of the hash table and a clone of each symbol. The call fails if memory for one of these is refused.
     fn clone(&self) -> Result<Self, AllocError> {
         let table = self.table.clone()?;
-        // A call on the clone tells that no two of its keys are equal, whatever is known of clones of them.
+        // The contract of this call says that no two keys of the clone are equal, whatever is known of clones.
         let _len = table.len();
         Ok(Self { table })
     }

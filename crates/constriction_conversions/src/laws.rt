@@ -1,5 +1,5 @@
-//! What follows of symbol tables and of models over any symbols, each law the contract of a function. Those of
-//! symbol tables hold of each model that meets the trait, those of the caller too.
+//! Laws of symbol tables and of models over any symbols. Each is the contract of a function. The laws of symbol
+//! tables hold for each type that implements the trait, a caller's own too.
 
 ghost use Rattle.std.specs.Prelude.{◌≡◌, ◌++◌, ℕ, List, length, map};
 ghost use Rattle.std.specs.Iterator.{Yields, Drains};
@@ -16,35 +16,33 @@ use constriction_categorical::{
 use constriction_model::{DecoderModel, EntropyModel};
 use constriction_numbers::{IndexWord, WholeNumber};
 
-/// Steps of a symbol table give the first of the rows that it has yet to give, in order and with clones of
-/// their symbols where the model owns these, and leave the others. Where memory for a clone of a symbol is
-/// refused, the refusal stands in the row's place.
+/// Steps of a symbol table give the first of the rows that are left, in order, and leave the others. If the
+/// model owns its symbols, the items have clones. If memory for a clone is refused, the row's item is the
+/// refusal.
 pub fn table_walks_rows<M: IterableEntropyModel<PRECISION>, const PRECISION: usize>()
     ensures { (t : M.SymbolTable) (items : _) (u : M.SymbolTable) → Yields M.SymbolTable.next_gives t items u
         → (rows : List (Row M.Symbol)) × (M.rows_left t ≡ rows ++ M.rows_left u)
         × AreRows M.stands_for M.may_refuse M.Probability.whole M.Probability.base items rows }
 {}
 
-/// A symbol table that is walked to its end gives all rows that were left, in order and each once:
-/// where it is fresh, those of its model. So a reader of symbol tables has from it the model's rows, and
-/// where no item is a refusal nothing else: the very rows where clones are the same values, and otherwise
-/// rows whose symbols are clones.
+/// A walk to the end of a symbol table gives all rows that were left, in order and each once. These are all
+/// rows of the model if the symbol table is fresh. Without a refusal among the items, a reader has rows with
+/// clones of the symbols, which are the model's very rows if clones are the same values.
 pub fn table_gives_all_rows<M: IterableEntropyModel<PRECISION>, const PRECISION: usize>()
     ensures { (t : M.SymbolTable) (items : _) → Drains M.SymbolTable.next_gives t items
         → AreRows M.stands_for M.may_refuse M.Probability.whole M.Probability.base items (M.rows_left t) }
 {}
 
-/// A symbol table that is walked to its end gives as many items as rows were left, refusals counted.
-/// Where a model tells the number of its symbols, as by `support_size`, a fresh symbol table of it has so
-/// many items.
+/// A walk to the end of a symbol table gives as many items as rows were left, refusals counted. So a fresh
+/// symbol table has as many items as the model has symbols, a number that `support_size` answers.
 pub fn table_length<M: IterableEntropyModel<PRECISION>, const PRECISION: usize>()
     ensures { (t : M.SymbolTable) (items : _) → Drains M.SymbolTable.next_gives t items → length items ≡ length (M.rows_left t) }
 {}
 
 /// The row of a quantile, for which [`DecoderModel::quantile_function`] answers, is in the model's symbol
-/// table, walked to its end: an item stands for it, or a refusal in its place, and no item that holds the
-/// quantile stands for another row. So a decoder may look quantiles up in a symbol table that was read before: where
-/// clones are the same values it finds the answer itself.
+/// table: in a walk to the end, an item or a refusal stands for the row, and no item that holds the quantile
+/// stands for another row. So a decoder may look quantiles up in a symbol table that was read before. If
+/// clones are the same values, it finds the answer itself.
 pub fn answers_are_in_table<M, const PRECISION: usize>()
 where
     M: DecoderModel<PRECISION> + IterableEntropyModel<PRECISION>,
@@ -53,11 +51,10 @@ where
         → IsInTable M.IterableEntropyModel.stands_for M.IterableEntropyModel.may_refuse M.Probability.whole M.Probability.base items q r }
 {}
 
-/// Where no two symbols of a model are equal, the symbols and the weights of its symbol table are accepted by the
-/// constructors from symbols and weights, without inference, and give its rows again. So a symbol table that is
-/// stored as its symbols and weights is read back by
-/// `from_symbols_and_nonzero_fixed_point_probabilities` of a decoder, which then answers `OutOfMemory` or a
-/// model of the same rows.
+/// If no two symbols of a model are equal, the constructors from symbols and weights, without inference, accept
+/// the symbols and the weights of its symbol table, and these give its rows again. So a symbol table can be
+/// stored as its symbols and weights. A decoder's `from_symbols_and_nonzero_fixed_point_probabilities` reads it
+/// back: it then answers a model of the same rows, or `OutOfMemory`.
 pub fn symbols_and_weights_rebuild<M, const PRECISION: usize>()
 where
     M: IterableEntropyModel<PRECISION>,
@@ -67,8 +64,8 @@ where
         × (rows_of (symbols_of (M.rows m)) (map (λ r. r.weight) (M.rows m)) ≡ M.rows m) }
 {}
 
-/// No two symbols of a decoder over any symbols are equal, however it was made. So a hashed encoder that is made from it has
-/// the entry of each of its rows, and [`pairs_are_quantiles`](constriction_model::laws::pairs_are_quantiles) speaks of both.
+/// No two symbols of a decoder over any symbols are equal, however it was made. So a hashed encoder that is made of it has
+/// the entry of each of its rows, and [`pairs_are_quantiles`](constriction_model::laws::pairs_are_quantiles) applies to both.
 pub fn non_contiguous_symbols_differ<Symbol, Probability, Cdf, const PRECISION: usize>()
 where
     Symbol: Eq,
@@ -78,7 +75,7 @@ where
         (⟦<NonContiguousCategoricalDecoderModel<Symbol, Probability, Cdf, PRECISION> as EntropyModel<PRECISION>>⟧.rows m)) }
 {}
 
-/// The same of a lookup model over any symbols.
+/// The same for a lookup model over any symbols.
 pub fn non_contiguous_lookup_symbols_differ<
     Symbol,
     Probability,
@@ -95,7 +92,7 @@ where
         (⟦<NonContiguousLookupDecoderModel<Symbol, Probability, Cdf, LookupTable, PRECISION> as EntropyModel<PRECISION>>⟧.rows m)) }
 {}
 
-/// And of one with whatever number of slots.
+/// The same for one with any number of slots.
 pub fn slotted_non_contiguous_lookup_symbols_differ<
     Symbol,
     Probability,

@@ -1,8 +1,7 @@
-//! Encoders that hash, and models that are made of other models.
+//! Encoders that hash, and models made of other models.
 //!
-//! The encoder of any symbols, which finds the entry of a symbol by its hash; and of any model that can be walked
-//! through the decoder, the lookup model and this encoder, as functions and by a trait. The laws of symbol tables say what a
-//! walk gives.
+//! The encoder of any symbols finds the entry of a symbol by its hash. Functions and a trait make the decoder, the
+//! lookup model and this encoder of any model that can be walked through. The laws of symbol tables say what a walk gives.
 #![tactic(auto)]
 
 mod convert;

@@ -1,4 +1,4 @@
-//! Storing the rows that a walk gives, for models that are made from other ones.
+//! Storing the rows that a walk gives, for models made of other models.
 
 ghost use Rattle.std.specs.Prelude.{◌≡◌, ℕ, IfOk, [], map, vec_capacity};
 ghost use Rattle.std.specs.HashMap.{get, IsUnique};
@@ -15,9 +15,9 @@ use std::alloc::{AllocError, Global};
 use std::collections::HashMap;
 use std::hash::Hash;
 
-/// The entries of the rows that a walk gives, no two symbols of which are equal.
+/// The entries of the rows that a walk gives, if no two symbols are equal.
 ///
-/// A row is judged before the next one is asked for.
+/// A row is judged before the next step of the walk.
 #[inline]
 pub fn entries_walked<Symbol, Word, Positive, Walk, const PRECISION: usize>(
     alloc: Global,
@@ -46,10 +46,10 @@ where
     Ok(cdf)
 }
 
-/// The entries of the rows that a walk gives, whose symbols are not compared.
+/// The entries of the rows that a walk gives. Symbols are not compared.
 ///
-/// The most that a walk announces is a promise, by the contract of `size_hint`: where there is room for so many, the loop
-/// does not test for room.
+/// The upper bound that a walk announces is a promise, by the contract of `size_hint`. If there is room for that many
+/// rows, the loop does not test for room.
 #[inline]
 pub fn entries_collected<Symbol, Word, Positive, Walk, const PRECISION: usize>(
     alloc: Global,
@@ -72,7 +72,7 @@ where
     }
 }
 
-/// The same, where there is room for all rows of the walk.
+/// The same, with room for all rows of the walk.
 #[inline(always)]
 fn entries_reserved<Symbol, Word, Positive, Walk>(
     mut entries: Vec<(Word, Symbol)>,
@@ -95,7 +95,7 @@ where
     Ok(entries)
 }
 
-/// The same, where there may be more rows than room.
+/// The same, if there may be more rows than room.
 #[inline(always)]
 fn entries_grown<Symbol, Word, Positive, Walk>(
     mut entries: Vec<(Word, Symbol)>,
@@ -118,7 +118,7 @@ where
     Ok(entries)
 }
 
-/// A hash table of the entries of the rows that a walk gives, of each symbol that of the last row.
+/// A hash table of the rows that a walk gives: for each symbol, the entry of its last row.
 #[inline]
 pub fn table_walked<Symbol, Word, Positive, Walk, const PRECISION: usize>(
     alloc: Global,

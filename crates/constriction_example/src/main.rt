@@ -1,4 +1,4 @@
-//! A message that a stack coder and a range coder encode and decode, by a model that is then asked itself.
+//! A stack coder and a range coder encode and decode a message, and then their model is asked itself.
 #![tactic(auto)]
 
 use constriction::backends::Cursor;

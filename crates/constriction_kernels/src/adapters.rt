@@ -22,7 +22,7 @@ pub extern "C" fn kernel_iterator_read(words: &[u32], repeats: u32) -> u64 {
     sum
 }
 
-/// Reads all words of an iterator that may fail, and does at a 0.
+/// Reads all words of an iterator that fails at a 0.
 #[unsafe(no_mangle)]
 pub extern "C" fn kernel_fallible_iterator_read(words: &[u32], repeats: u32) -> u64 {
     let mut sum = 0u64;

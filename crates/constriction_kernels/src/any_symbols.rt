@@ -92,7 +92,7 @@ pub extern "C" fn kernel_decoder_build_sorted(
     sum
 }
 
-/// The decoder of the symbols and weights that these give. No two of the symbols are equal, as the constructor asks it of iterators.
+/// The decoder of the symbols and weights that two iterators give. No two symbols are equal, as the constructor requires.
 #[inline(always)]
 fn of_iterators<'a>(
     alloc: Global,
@@ -115,7 +115,7 @@ fn of_distinct(alloc: Global, weights: &[u32], symbols: &[u32]) -> Result<Decode
     of_iterators(alloc, symbols.iter().copied(), weights.iter().copied())
 }
 
-/// Makes the decoder, each time anew, by the constructor of a caller who knows that no two symbols are equal.
+/// Makes the decoder, each time anew, by the constructor that requires that no two symbols are equal.
 #[unsafe(no_mangle)]
 pub extern "C" fn kernel_decoder_build_distinct(
     alloc: Global,

@@ -92,7 +92,7 @@ pub extern "C" fn kernel_reverse_stack_read(words: &[u32], repeats: u32) -> u64 
     sum
 }
 
-/// Writes all words to a `Vec`, each time a new one, so its growth is in it.
+/// Writes all words to a `Vec`, each time a new one, so the time includes its growth.
 #[unsafe(no_mangle)]
 pub extern "C" fn kernel_vec_write(alloc: Global, words: &[u32], repeats: u32) -> u64 {
     let mut sum = 0u64;

@@ -1,6 +1,6 @@
-//! The checksum of a kernel, and the kernel that makes nothing else.
+//! The checksum of a kernel, and a kernel that does nothing else.
 
-/// The checksum with one more number. Each needs the one before, so no compiler takes several at a time.
+/// The checksum with one more number. Each checksum needs the one before, so no compiler takes several numbers at a time.
 #[inline]
 pub(crate) fn mix(sum: u64, number: u64) -> u64 {
     sum.rotate_left(5) ^ number
@@ -14,7 +14,7 @@ pub(crate) fn row(symbol: usize, left: u64, weight: u64) -> u64 {
         .wrapping_add(weight.wrapping_mul(7))
 }
 
-/// The loop and the checksum alone, which are in each other kernel's time.
+/// Only the loop and the checksum, which are part of the time of each other kernel.
 #[unsafe(no_mangle)]
 pub extern "C" fn kernel_nothing(words: &[u32], repeats: u32) -> u64 {
     let mut sum = 0u64;

@@ -18,7 +18,7 @@ fn items_of(alloc: Global, symbols: &[u32]) -> Option<Vec<(usize, u32)>> {
     Some(items)
 }
 
-/// Writes the quantiles of all symbols to a `Vec`, each time a new one, so its growth is in it.
+/// Writes the quantiles of all symbols to a `Vec`, each time a new one, so the time includes its growth.
 #[unsafe(no_mangle)]
 pub extern "C" fn kernel_write_quantiles(
     alloc: Global,

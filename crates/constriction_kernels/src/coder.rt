@@ -8,7 +8,7 @@ use std::alloc::{AllocError, Global};
 
 type Lookup = DefaultContiguousLookupDecoderModel;
 
-/// Encodes all symbols, each time by a new coder, so the growth of its words is in it.
+/// Encodes all symbols, each time by a new coder, so the time includes the growth of its words.
 #[unsafe(no_mangle)]
 pub extern "C" fn kernel_coder_encode(
     alloc: Global,

@@ -12,7 +12,7 @@ use constriction::stream::model::{
 use constriction_words::WholeNumber;
 use std::alloc::Global;
 
-/// Over words as wide as a symbol.
+/// A model over words as wide as a symbol.
 type Wide = ContiguousCategoricalEntropyModel<u64, Vec<u64>, 24>;
 
 /// The decoder over any symbols of a contiguous model, whose symbols are known to differ.
@@ -28,7 +28,7 @@ fn decoder_of_distinct<Probability: WholeNumber, const PRECISION: usize>(
     to_generic_decoder_model_of_distinct(alloc, source)
 }
 
-/// Makes a decoder over any symbols, each time anew. Its source knows that symbols differ, and none are compared.
+/// Makes a decoder over any symbols, each time anew. The model that is converted says that its symbols differ, so none are compared.
 #[unsafe(no_mangle)]
 pub extern "C" fn kernel_to_decoder(alloc: Global, weights: &[u32], repeats: u32) -> u64 {
     let Ok(source) = contiguous_of(alloc, weights) else {
@@ -64,7 +64,7 @@ pub extern "C" fn kernel_to_decoder_of_distinct(
     sum
 }
 
-/// The same over words as wide as a symbol, so that an entry has no padding.
+/// As `kernel_to_decoder_of_distinct`, over words as wide as a symbol, so that an entry has no padding.
 #[unsafe(no_mangle)]
 pub extern "C" fn kernel_wide_to_decoder_of_distinct(
     alloc: Global,

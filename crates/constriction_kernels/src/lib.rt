@@ -1,9 +1,9 @@
 //! What the benchmark measures of this library, as functions that a Rust program calls.
 //!
-//! A kernel does a whole batch: it makes its model once, where it has one, goes `repeats` times over its
-//! input, and answers a checksum of all that it saw, or 1 where memory was refused or a model was not
-//! accepted. So a call from outside costs nothing beside what it measures. `bench/src/rust` has the same
-//! kernels over the Rust crate, and the benchmark compares the checksums.
+//! A kernel does a whole batch, so the cost of the call itself does not count. It makes its model once, if
+//! it has one, and goes `repeats` times over its input. It answers a checksum of all that it saw, or 1 if
+//! memory was refused or a model was not accepted. `bench/src/rust` has the same kernels over the Rust
+//! crate, and the benchmark compares the checksums.
 #![tactic(auto)]
 
 pub mod adapters;

@@ -18,7 +18,7 @@ type Lookup<const SLOT_BITS: usize> = SlottedContiguousLookupDecoderModel<
     SLOT_BITS,
 >;
 
-/// The same over any symbols.
+/// The model over any symbols, of 12 bits with `2^SLOT_BITS` slots.
 type LookupOfSymbols<const SLOT_BITS: usize> = SlottedNonContiguousLookupDecoderModel<
     u32,
     u16,

@@ -18,7 +18,7 @@ fn words_of(alloc: Global, model: &Contiguous, symbols: &[u32]) -> Option<Vec<u3
     coder.into_compressed().ok()
 }
 
-/// Encodes all symbols, each time by a new encoder, so the growth of its words is in it.
+/// Encodes all symbols, each time by a new encoder, so the time includes the growth of its words.
 #[unsafe(no_mangle)]
 pub extern "C" fn kernel_range_encode(
     alloc: Global,

@@ -7,7 +7,7 @@ use Rattle.constriction_model.specs.Rows.{Row, RowsTile, IsRowOf, rows_from}
 use Rattle.constriction_model.specs.CodingLemmas.{above}
 use Rattle.constriction_model.specs.PairLemmas.{row-further}
 
--- no row is one of none
+-- an empty list has no row
 no-row : {Symbol : Type 0} (xs : List (Row Symbol)) (q : ℕ) (r : Row Symbol) → xs ≡ [] → IsRowOf xs q r → ⊥
 no-row xs q r e is = omega (arith, is.among.1, ap length e)
 
@@ -32,7 +32,7 @@ later-row {Symbol = Symbol} l s ss w ws q zero r past h e from to =
 later-row l s ss w ws q (suc k) r past h e from to =
     record { among = (k, omega arith, e); from = from; to = to }
 
--- rows that begin at one place and end at one place, and answer alike
+-- rows with the same beginning and end that answer alike are the same
 same-rows : {Symbol : Type 0} (end l : ℕ) (ss ts : List Symbol) (ws vs : List ℕ) → length ss ≡ length ws → length ts ≡ length vs
     → All (λ w. 0 < w) ws → All (λ w. 0 < w) vs → l + sum ws ≡ end → l + sum vs ≡ end
     → ((q : ℕ) (r : Row Symbol) → l ≤ q → q < end → IsRowOf (rows_from l ss ws) q r → IsRowOf (rows_from l ts vs) q r)

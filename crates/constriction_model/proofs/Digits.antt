@@ -7,7 +7,7 @@ digits_in-zero : (f : ℕ) → digits_in f 0 ≡ 0
 digits_in-zero zero = refl
 digits_in-zero (suc f) = refl
 
--- any bound that is large enough gives one number
+-- all bounds that are large enough give the same number
 digits_in-same : (f g n : ℕ) → n ≤ f → n ≤ g → digits_in f n ≡ digits_in g n
 digits_in-same f g zero p q = digits_in-zero f ∙ sym (digits_in-zero g)
 digits_in-same zero g (suc n) p q = absurd (omega arith)
@@ -29,7 +29,7 @@ digits_step n h =
     let less : (n - 1) / 2 ≡ (n - n / 2) - 1 = omega arith in
     digits-half (n - 1) (omega arith) ∙ ap (λ k. 1 + digits k) less
 
--- up to one
+-- a number up to 1 has that many digits
 digits-small : (n : ℕ) → n ≤ 1 → digits n ≡ n
 digits-small zero h = digits-zero
 digits-small (suc n) h =
@@ -41,7 +41,7 @@ digits_most d zero h = omega (arith, digits-zero)
 digits_most zero (suc n) h = absurd (omega arith)
 digits_most (suc d) (suc n) h = omega (arith, digits-half (suc n) (omega arith), digits_most d (suc n / 2) (omega arith))
 
--- a list that a word can count has at most 64 digits
+-- one less than a number below 2 ^ 64 has at most 64 digits
 pub digits_word : (n : ℕ) → n < 2 ^ 64 → digits (n - 1) ≤ 64
 digits_word n h = digits_most 64 (n - 1) (omega arith)
 
@@ -56,17 +56,17 @@ pub digits_grow : (m n : ℕ) → m ≤ n → digits m ≤ digits n
 unfolding digits
 digits_grow m n h = omega (arith, digits_in-same m n m (omega arith) h, digits_in-more n m n h)
 
--- up to two, a number has as many digits as it says
+-- a number up to 2 has that many digits
 pub digits_few : (n : ℕ) → n ≤ 2 → digits n ≡ n
 digits_few zero h = digits-zero
 digits_few (suc n) h =
     omega (arith, digits-half (suc n) (omega arith), digits-small (suc n / 2) (omega arith))
 
--- one less than two rows, or than one, or than none
+-- one less than a number up to 2 has that many digits
 pub digits_two : (n : ℕ) → n ≤ 2 → digits (n - 1) ≡ n - 1
 digits_two n h = digits_few (n - 1) (omega arith)
 
--- one less than more than `2 ^ k` rows, and at most twice as many
+-- one less than a number above 2 ^ k, and at most twice that, has k + 1 digits
 pub digits_between : (k n : ℕ) → 2 ^ k < n → n ≤ 2 ^ suc k → digits (n - 1) ≡ suc k
 digits_between zero n more most =
     omega (arith, digits_step n (omega arith), digits_two (n - n / 2) (omega arith))
@@ -78,6 +78,6 @@ digits_between (suc k) n more most =
       digits_between k (n - n / 2) (omega arith) (omega arith),
     )
 
--- one less than some of so many rows
+-- one less than a part of n rows has no more digits than one less than n
 pub digits_some : (first m n : ℕ) → first + m ≤ n → digits (m - 1) ≤ digits (n - 1)
 digits_some first m n h = digits_grow (m - 1) (n - 1) (omega arith)

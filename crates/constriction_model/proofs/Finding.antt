@@ -30,7 +30,7 @@ holds_below q r true true e f t = ltb-true q (r.left + r.weight) f
 holds_below q r true false e f t = absurd (cc)
 holds_below q r false b e f t = absurd (cc)
 
--- the first row that holds a quantile, where a row of the list holds it
+-- a row that holds a quantile is the first one that holds it
 find_at : {S : Type 0} (left : ℕ) (symbols : List S) (weights : List ℕ) (q : ℕ) (r : Row S) (k : ℕ)
     → k < length (rows_from left symbols weights)
     → get_or (rows_from left symbols weights) k r ≡ r → r.left ≤ q → q < r.left + r.weight
@@ -99,7 +99,7 @@ pub find_iff : {S : Type 0} (bits precision : ℕ) (rows : List (Row S)) (q : �
     → (find (holds q) rows ≡ Some r) ↔ IsRowOf rows q r
 find_iff bits precision rows q r tile = (found_in q rows r, find_row bits precision rows q r tile)
 
--- one row holds a quantile that the weights reach
+-- a row is found for each quantile that the weights reach
 find_some : {S : Type 0} (left : ℕ) (symbols : List S) (weights : List ℕ) (q : ℕ) → length symbols ≡ length weights → left ≤ q
     → q < left + sum weights
     → IsSome (find (holds q) (rows_from left symbols weights))

@@ -5,7 +5,7 @@ use Rattle.std.specs.List.Sorted.{IsStrictlyIncreasing}
 use Rattle.constriction_model.specs.Searching.{IsNarrowed}
 use Rattle.constriction_model.specs.Probe.{IsSearchable, IsLastAtMost}
 
--- in a list that increases, whatever comes later is greater
+-- in a list that increases, each later element is greater
 pub later : (xs : List ℕ) (i j : ℕ) → IsStrictlyIncreasing xs → i < j → j < length xs → get_or xs i 0 < get_or xs j 0
 later xs i zero s h b = absurd (omega arith)
 later xs i (suc j) s h b = elim (cases_lt i j) [
@@ -29,7 +29,7 @@ module _ (xs : List ℕ) (q : ℕ) (s : IsSearchable xs q) where
         ];
       }
 
-  -- where the row after those that are too many begins above the quantile, its row is among the first ones: among as many as are left
+  -- if the row `size - left` rows after the first one begins above the quantile, its row is among the first `left` rows
   pub narrowed_first : (first size left : ℕ) → IsNarrowed xs q first size → left < size → size ≤ 2 * left
       → q < get_or xs (first + (size - left)) 0 → IsNarrowed xs q first left
   narrowed_first first size left n fewer half greater = record {

@@ -11,7 +11,7 @@ module _ {Symbol : Type 0} (rows : List (Row Symbol)) where
   pub all-between : (n : ℕ) → n ≡ length rows → rows_between 0 n rows ≡ rows
   all-between n e = take_all n rows (omega arith)
 
-  -- as many rows as indices
+  -- there are as many rows as indices
   pub length-between : (i j : ℕ) → j ≤ length rows → length (rows_between i j rows) ≡ j - i
   length-between i j h = omega (arith, length-drop i (take j rows), length-take-le j rows h)
 
@@ -23,7 +23,7 @@ module _ {Symbol : Type 0} (rows : List (Row Symbol)) where
       drop_more (take j rows) i r (omega arith)
       ∙ ap (λ x. x ∷ drop (i + 1) (take j rows)) (get_or-take j rows i r h ∙ e)
 
-  -- the last of them
+  -- the last of the rows that are left
   pub last-between : (i j : ℕ) (r : Row Symbol) → i < j → j ≤ length rows → get_or rows (j - 1) r ≡ r
       → rows_between i j rows ≡ rows_between i (j - 1) rows ++ r ∷ []
   last-between i j r h k e =
@@ -44,7 +44,7 @@ one-fewer-last before after x e = rw e (length-append after (x ∷ []))
 pub same-length : {A : Type 0} (xs ys : List A) → xs ≡ ys → length xs ≡ length ys
 same-length xs ys e = ap length e
 
--- none is left where the ends meet
+-- no row is left when the ends meet
 pub none-between : {Symbol : Type 0} (rows : List (Row Symbol)) (i j : ℕ) → i ≡ j
     → (rows_between i j rows ≡ []) × (rows_between i j rows ≡ [])
 none-between rows i j e =
@@ -55,10 +55,10 @@ none-between rows i j e =
 pub fewer-first : {A : Type 0} (before after : List A) (x : A) → before ≡ x ∷ after → length after < length before
 fewer-first before after x e = omega (arith, one-fewer before after x e)
 
--- so does one that gives the last one
+-- so does a step that gives the last row
 pub fewer-last : {A : Type 0} (before after : List A) (x : A) → before ≡ after ++ x ∷ [] → length after < length before
 fewer-last before after x e = omega (arith, one-fewer-last before after x e)
 
--- nor more of them
+-- equal lists have no more items than each other
 pub same-most : {A : Type 0} (xs ys : List A) → xs ≡ ys → length xs ≤ length ys
 same-most xs ys e = omega (arith, same-length xs ys e)

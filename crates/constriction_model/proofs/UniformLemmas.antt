@@ -1,4 +1,4 @@
--- The weights of a uniform model as words give them.
+-- The weights of a uniform model, as words compute them.
 use Rattle.std.proofs.Common.{◌≡◌, ℕ, ◌+◌, ◌-◌, ◌*◌, ◌/◌, ◌%◌, ◌^◌, ◌<◌, ◌≤◌, refl, ap, sym, ◌∙◌, arith}
 use Rattle.std.proofs.Math.Nat.{add-div_right, pow-le-pow_right}
 use Rattle.std.proofs.lemmas.Nat.{mul-le}
@@ -6,14 +6,14 @@ use Rattle.constriction_model.specs.UniformRowLemmas.{bin_of, rest_of}
 use Rattle.constriction_model.specs.UniformRowLemmas.{bin-positive, bins-fit}
 use Rattle.constriction_model.proofs.Differences.{difference-mod}
 
--- one quantile for each symbol, and the whole part of what is left over for each
+-- the weight is one quantile for each symbol, and an equal share of the rest, rounded down
 pub bin-divided : (precision last : ℕ) → last < 2 ^ precision
     → (2 ^ precision - 1 - last) / (last + 1) + 1 ≡ bin_of precision last
 bin-divided precision last h =
     let all : 2 ^ precision - 1 - last + (last + 1) ≡ 2 ^ precision = omega arith in
     sym (add-div_right (2 ^ precision - 1 - last) {k = last + 1} (omega arith)) ∙ ap (λ n. n / (last + 1)) all
 
--- where there are two symbols, each weight is a word
+-- if there are at least two symbols, each weight is a word
 pub bin-fits : (bits precision last : ℕ) → precision ≤ bits → 0 < last → last < 2 ^ precision
     → (bin_of precision last < 2 ^ bits) × (last * bin_of precision last < 2 ^ bits) × (rest_of precision last < 2 ^ bits)
 bin-fits bits precision last narrow some h =
@@ -34,7 +34,7 @@ bin-calculated precision last greatest one left range quotient h g o l r q =
     let divided : quotient ≡ (2 ^ precision - 1 - last) / (last + 1) = rw (q, less, more) refl in
     omega (arith, divided, bin-divided precision last h)
 
--- The weight of the last symbol: what is below 2 ^ bits and gives 2 ^ precision with the others, modulo 2 ^ bits.
+-- The weight of the last symbol is the number below 2 ^ bits that gives 2 ^ precision with the others, modulo 2 ^ bits.
 pub rest-wrapped : (bits precision last bin before total rest : ℕ) → precision ≤ bits → 0 < last → last < 2 ^ precision
     → bin ≡ bin_of precision last → before ≡ last * bin → total ≡ 2 ^ precision % 2 ^ bits
     → rest < 2 ^ bits → (rest + before) % 2 ^ bits ≡ total → rest ≡ rest_of precision last
@@ -46,7 +46,7 @@ rest-wrapped bits precision last bin before total rest narrow some h b e t small
     difference-mod (2 ^ bits) rest (rest_of precision last) (last * bin_of precision last) small fit.2 fit.1
     (ap (λ n. (rest + n) % 2 ^ bits) (sym taken) ∙ wrapped ∙ t ∙ ap (λ n. n % 2 ^ bits) (sym whole))
 
--- what the last symbol is, of a range that each symbol has a quantile in
+-- the last symbol of a range, in which each symbol has a quantile
 pub last-fits : (bits precision range last : ℕ) → precision ≤ bits → 2 ≤ range → range ≤ 2 ^ precision → last ≡ range - 1
     → (0 < last) × (last < 2 ^ precision) × (last < 2 ^ bits) × (last + 1 ≡ range)
 last-fits bits precision range last fits some within e =

@@ -10,18 +10,18 @@ pub record Tiles (precision : ℕ) (weights : List ℕ) : Type 0 where
   pub positive : All (λ w. 0 < w) weights
   pub total : sum weights ≡ 2 ^ precision
 
--- The weights, and after them the inferred one where the last one is inferred: what the others leave of 2 ^ precision.
--- Where they leave nothing or less, that is 0 here, and weights with a 0 among them never tile.
+-- The weights, and if the last one is inferred, after them what they leave of 2 ^ precision.
+-- If they leave nothing, or exceed it, this is 0, and weights with a 0 among them never tile.
 abbrev pub completed : ℕ → Bool → List ℕ → List ℕ
 completed precision infer weights = if infer then weights ++ (2 ^ precision - sum weights) ∷ [] else weights
 
--- completed weights that a model over words of so many bits accepts: they tile, and each of them is the value of a word
+-- completed weights that a model over words of `bits` bits accepts: they tile, and each of them is the number of a word
 pub record IsAccepted (bits precision : ℕ) (weights : List ℕ) : Type 0 where
   pub tiles : Tiles precision weights
   pub fit : All (λ w. w < 2 ^ bits) weights
 
--- symbols and completed weights that a model of any symbols accepts: it accepts the weights, there are exactly as many symbols, and no
--- two of these are equal
+-- symbols and completed weights that a model of any symbols accepts: the weights are accepted, there are exactly as many symbols, and no
+-- two symbols are equal
 pub record AreAccepted {Symbol : Type 0} (eq : Symbol → Symbol → Bool) (bits precision : ℕ) (symbols : List Symbol) (weights : List ℕ)
     : Type 0 where
   pub tile : IsAccepted bits precision weights
@@ -30,31 +30,31 @@ pub record AreAccepted {Symbol : Type 0} (eq : Symbol → Symbol → Bool) (bits
 
 -- ---- what was read, and what a constructor makes of it
 
--- whether an iterator was read to its end, or only so far
+-- whether an iterator was read to its end, or only up to some item
 pub data Reading : Type 0 where
   ToItsEnd : Reading
   SoFar : Reading
 
--- xs was read of the iterator
+-- xs was read from the iterator
 abbrev pub WasRead : {S A : Type 0} → (S → Option A → S → Type 0) → S → Reading → List A → Type 0
 WasRead steps it ToItsEnd xs = Drains steps it xs
 WasRead {S} steps it SoFar xs = (t : S) × Yields steps it xs t
 
--- xs was read of a value, by an iterator that it becomes
+-- xs was read from a value, by an iterator that it becomes
 pub record WasReadOf {J S A : Type 0} (becomes : J → S → Type 0) (steps : S → Option A → S → Type 0) (from : J) (reading : Reading)
     (xs : List A) : Type 0 where
   pub iterator : S
   pub became : becomes from iterator
   pub was_read : WasRead steps iterator reading xs
 
--- a list that the iterator may give after xs was read of it: xs where that was to its end, and otherwise each list that begins with xs
+-- a list that the iterator may give in all, after xs was read from it: xs if it was read to its end, else any list that begins with xs
 abbrev pub MayGive : {A : Type 0} → Reading → List A → List A → Type 0
 MayGive ToItsEnd xs all = all ≡ xs
 MayGive {A} SoFar xs all = (ys : List A) × (all ≡ xs ++ ys)
 
--- A model was made of weights that were read to their end: they are accepted, and it tells what `Tells` says of them. They are invalid
--- only where they are not accepted, whatever might follow what was read of them. Of the numbers that are read, `completes` makes those that
--- are judged and told.
+-- If there is a model, the weights were read to their end and are accepted, and `Tells` relates the model to them. The result is
+-- InvalidTable only if the iterator, after what was read from it, can give no accepted list. `completes` makes the judged weights of the
+-- numbers that are read.
 pub record IsMadeOfWeights {Word Model : Type 0} (Accepted : List ℕ → Type 0) (completes : List ℕ → List ℕ)
     (Read : Reading → List Word → Type 0) (whole : Word → ℕ) (Tells : Model → List ℕ → Type 0) (result : Result Model ModelError)
     : Type 0 where
@@ -63,7 +63,7 @@ pub record IsMadeOfWeights {Word Model : Type 0} (Accepted : List ℕ → Type 0
   pub invalid : result ≡ Err InvalidTable → (ws : List Word) × (reading : Reading) × Read reading ws
       × ((all : List Word) → MayGive reading ws all → ¬ (Accepted (completes (map whole all))))
 
--- the same of symbols and weights
+-- the same for symbols and weights
 pub record IsMadeOfBoth {Symbol Word Model : Type 0} (Accepted : List Symbol → List ℕ → Type 0) (completes : List ℕ → List ℕ)
     (ReadSymbols : Reading → List Symbol → Type 0) (Read : Reading → List Word → Type 0) (whole : Word → ℕ)
     (Tells : Model → List Symbol → List ℕ → Type 0) (result : Result Model ModelError) : Type 0 where
@@ -74,7 +74,7 @@ pub record IsMadeOfBoth {Symbol Word Model : Type 0} (Accepted : List Symbol →
       × ((all : List Symbol) (weights : List Word) → MayGive reading ss all → MayGive other ws weights
       → ¬ (Accepted all (completes (map whole weights))))
 
--- no two symbols of a list that an iterator gives are equal, whichever iterator the argument becomes
+-- whichever iterator the argument becomes, no two of the symbols that it gives are equal
 abbrev pub GivesDistinct : {J S Symbol : Type 0} → (J → S → Type 0) → (S → Option Symbol → S → Type 0)
     → (Symbol → Symbol → Bool) → J → Type 0
 GivesDistinct {S = S} {Symbol = Symbol} becomes steps eq from =

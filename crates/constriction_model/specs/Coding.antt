@@ -5,8 +5,7 @@ use Rattle.std.specs.Prelude.{◌≡◌, List, [], ◌∷◌, Bool, IsTrue}
 abbrev pub StandsForEqual : {Symbol : Type 0} → (Symbol → Symbol → Type 0) → (Symbol → Symbol → Bool) → Symbol → Symbol → Type 0
 StandsForEqual {Symbol} Stands eq symbol answer = (own : Symbol) × IsTrue (eq own symbol) × Stands own answer
 
--- Each symbol, in order, leads from what the coder holds to what the next one begins with: the first one from `first`, and the last one
--- to `last`.
+-- The symbols, coded in order, lead from the content `first` to the content `last`: each begins with what the one before it leaves.
 abbrev pub InTurn : {Symbol Content : Type 0} → (Symbol → Content → Content → Type 0) → List Symbol → Content → Content → Type 0
 InTurn Step [] first last = first ≡ last
 InTurn {Content = Content} Step (s ∷ ss) first last = (next : Content) × Step s first next × InTurn Step ss next last

@@ -1,5 +1,5 @@
--- What the proof of a coder needs of rows and entries: the row of an entry, its quantiles, that a quantile has one row, and that the
--- row of an entry's quantile has this entry. No public clause cites this module.
+-- Rows and entries, for the proofs of coders: the row of an entry, its quantiles, that a quantile has one row, and that the row of an
+-- entry's quantile has this entry. No public clause cites this module.
 use Rattle.std.proofs.Common.{◌≡◌, ℕ, suc, zero, ◌+◌, ◌-◌, ◌^◌, ◌<◌, ◌≤◌, Bool, true, false, List, [], ◌∷◌, length, get_or, reverse, Option, Some, None, refl, ap, sym, ◌∙◌, subst, arith}
 use Rattle.std.specs.Prelude.{All, Contains, find, sum, map, IfSome}
 use Rattle.std.specs.Option.{option_map}
@@ -25,7 +25,7 @@ found {X = X} p (y ∷ ys) x e = go (p y) refl (λ h. found p ys x h)
     go true t later = let same : y ≡ x = some-inj y x (rw t at e) in ((0, omega arith, same), ap p (sym same) ∙ t)
     go false t later = let rest = later (rw t at e) in ((suc rest.0.0, omega arith, rest.0.2), rest.1)
 
--- an element of the reversed list is one of the list
+-- an element of the reversed list is an element of the list
 pub unreversed : {X : Type 0} (xs : List X) (x : X) → Contains (reverse xs) x → Contains xs x
 unreversed xs x h =
     let within : h.0 < length xs = omega (arith, length-reverse xs) in
@@ -40,7 +40,7 @@ pub record HasEntry {Symbol : Type 0} (eq : Symbol → Symbol
   pub weight_is : row.weight ≡ weight
   pub same : eq row.symbol s ≡ true
 
--- an entry is that of a row, whose symbol is equal
+-- an entry is the entry of a row with an equal symbol
 pub entry-row : {Symbol : Type 0} (eq : Symbol → Symbol
     → Bool) (rows : List (Row Symbol)) (s : Symbol) (left weight : ℕ)
     → entry_of eq rows s ≡ Some (left, weight) → HasEntry eq rows s left weight
@@ -59,7 +59,7 @@ entry-row {Symbol = Symbol} eq rows s left weight e = go (find (λ r. eq r.symbo
           same = h.1;
         }
 
--- rows that begin at l lie at l and above
+-- each of the rows that begin at l begins at l or above
 pub above : {Symbol : Type 0} (l : ℕ) (ss : List Symbol) (ws : List ℕ) (i : ℕ) (d : Row Symbol)
     → i < length (rows_from l ss ws) → l ≤ (get_or (rows_from l ss ws) i d).left
 above l [] ws i d h = absurd (omega arith)
@@ -67,7 +67,7 @@ above l (s ∷ ss) [] i d h = absurd (omega arith)
 above l (s ∷ ss) (w ∷ ws) zero d h = omega arith
 above l (s ∷ ss) (w ∷ ws) (suc i) d h = let rest = above (l + w) ss ws i d (omega arith) in omega arith
 
--- two rows that hold one quantile are one row
+-- two rows that hold the same quantile are the same row
 same-row : {Symbol : Type 0} (l : ℕ) (ss : List Symbol) (ws : List ℕ) (q i j : ℕ) (r t : Row Symbol)
     → i < length (rows_from l ss ws) → j < length (rows_from l ss ws)
     → get_or (rows_from l ss ws) i r ≡ r → get_or (rows_from l ss ws) j t ≡ t
@@ -90,7 +90,7 @@ same-row {Symbol = Symbol} l (s ∷ ss) (w ∷ ws) q (suc i) zero r t hi hj ri t
 same-row l (s ∷ ss) (w ∷ ws) q (suc i) (suc j) r t hi hj ri tj rf rt tf tt' =
     same-row (l + w) ss ws q i j r t (omega arith) (omega arith) ri tj rf rt tf tt'
 
--- rows that begin at l and weigh no more than what is left up to t lie within t
+-- each of the rows that begin at l has quantiles, all below t, if the weights are not 0 and reach at most t
 within-from : {Symbol : Type 0} (t l : ℕ) (ss : List Symbol) (ws : List ℕ) (i : ℕ) (d : Row Symbol) → All (λ w. 0 < w) ws
     → l + sum ws ≤ t → i < length (rows_from l ss ws)
     → (0 < (get_or (rows_from l ss ws) i d).weight)
@@ -102,7 +102,7 @@ within-from t l (x ∷ ss) (w ∷ ws) zero d p s h =
 within-from t l (x ∷ ss) (w ∷ ws) (suc i) d p s h =
     within-from t (l + w) ss ws i d (λ k e m. p (suc k) e (omega arith)) (omega (arith, sum_by-cons (λ x. x) w ws)) (omega arith)
 
--- rows that tile have quantiles, all of which lie below 2 ^ precision
+-- each of the rows that tile has quantiles, all below 2 ^ precision
 pub rows-within : {Symbol : Type 0} (bits precision : ℕ) (rows : List (Row Symbol)) → RowsTile bits precision rows
     → All (LiesWithin precision) rows
 rows-within {Symbol = Symbol} bits precision rows tile =
@@ -110,13 +110,13 @@ rows-within {Symbol = Symbol} bits precision rows tile =
     λ i d h. within-from (2 ^ precision) 0 _ _ i d tile.accepted.tiles.positive (omega (arith, tile.accepted.tiles.total)) h in
     subst (λ (xs : List (Row Symbol)). All (LiesWithin precision) xs) (sym tile.in_order) all
 
--- so does the row of a quantile
+-- so has the row of a quantile
 pub row-within : {Symbol : Type 0} (bits precision : ℕ) (rows : List (Row Symbol)) (q : ℕ) (r : Row Symbol)
     → RowsTile bits precision rows → IsRowOf rows q r → LiesWithin precision r
 row-within bits precision rows q r tile h =
     All-contains (LiesWithin precision) rows r (rows-within bits precision rows tile) h.among
 
--- in rows that tile, a quantile has one row
+-- in rows that tile, a quantile has no two rows
 pub one-row : {Symbol : Type 0} (bits precision : ℕ) (rows : List (Row Symbol)) (q : ℕ) (r t : Row Symbol)
     → RowsTile bits precision rows → IsRowOf rows q r → IsRowOf rows q t → r ≡ t
 one-row {Symbol = Symbol} bits precision rows q r t tile a b =
@@ -166,7 +166,7 @@ entry-below precision eq rows s left weight offset e within less =
     let lies = All-contains (LiesWithin precision) rows has.row within has.among in
     omega (arith, has.left_is, has.weight_is, lies.1)
 
--- words that stand for an entry tell of quantiles, all of which lie below 2 ^ precision
+-- words that stand for an entry give a row that has quantiles, all below 2 ^ precision
 pub words-within : {Symbol Word Weight : Type 0} (precision : ℕ) (eq : Symbol → Symbol → Bool) (rows : List (Row Symbol)) (s : Symbol)
     (whole : Word → ℕ) (base : Weight → Word) (o : Option (Word × Weight)) → option_map (entry_in whole base) o ≡ entry_of eq rows s
     → All (LiesWithin precision) rows → IfSome o (λ x. LiesWithin precision (row_of whole base (s, x.0, x.1)))

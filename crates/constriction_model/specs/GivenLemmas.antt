@@ -1,7 +1,7 @@
--- What a constructor says of the list that its iterator gives, where its contract speaks of all that the iterator gave: a model is that of
--- this list, and where it was refused, the list is not good. No public clause cites this module.
--- That an iterator gives a list is std's `YieldsList`: by `gives-array` of an array, by `YieldsList-from_vec` of a Vec, by
--- `YieldsList-from_copied` over `YieldsList-from_slice` of a slice whose words are copied.
+-- Constructors whose iterator gives a known list: a model is the model of this list, and if the result is InvalidTable, the list is not
+-- accepted. No public clause cites this module.
+-- That an iterator gives a list is std's `YieldsList`. It comes from `gives-array` for an array, from `YieldsList-from_vec` for a Vec, and
+-- from `YieldsList-from_copied` over `YieldsList-from_slice` for a slice whose words are copied.
 use Rattle.std.proofs.Common.{◌≡◌, ℕ, List, [], ◌∷◌, ◌++◌, Option, None, Result, Ok, Err, length, map, take, drop, refl, ap, sym, subst, ◌∙◌, take-append-drop}
 use Rattle.std.specs.Prelude.{Bool, IfOk}
 use Rattle.std.specs.Iterator.{Drains}
@@ -27,37 +27,37 @@ gives-array {A} {n} {it} items e =
 -- ---- one iterator, which gives a list
 
 module _ {S A : Type 0} (steps : S → Option A → S → Type 0) (it : S) (list : List A) (gives : YieldsList steps (λ y. y) it list) where
-  -- what was read of it to its end is the list
+  -- what was read from it to its end is the list
   pub all-given : (xs : List A) → Drains steps it xs → xs ≡ list
   all-given xs d = sym (same-map xs) ∙ (YieldsList-end gives xs d.1.0 d.1.1 None d.0 refl d.1.2).0
 
-  -- whatever was read of it, it may give the list
+  -- whatever was read from it, it may give the list
   pub may-give : (reading : Reading) (xs : List A) → WasRead steps it reading xs → MayGive reading xs list
   may-give ToItsEnd xs d = sym (all-given xs d)
   may-give SoFar xs y =
       let front : xs ≡ take (length xs) list = sym (same-map xs) ∙ YieldsList-so_far gives xs y.0 y.1 in
       (drop (length xs) list, sym (take-append-drop (length xs) list) ∙ ap (λ ys. ys ++ drop (length xs) list) (sym front))
 
-  -- where no two symbols of the list are equal, no two are that it gave
+  -- if no two symbols of the list are equal, no two that it gave are
   pub distinct-given : (eq : A → A → Bool) → IsDistinct eq list → (xs : List A) → Drains steps it xs → IsDistinct eq xs
   distinct-given eq d xs drained = subst (IsDistinct eq) (sym (all-given xs drained)) d
 
--- ---- what a constructor answered, as its contract says it, where its arguments give these lists
+-- ---- what a constructor answers, by its contract, if its arguments give these lists
 
 module _ {J S A : Type 0} (becomes : J → S → Type 0) (steps : S → Option A → S → Type 0) (from : J) (list : List A)
     (gives : (it : S) → becomes from it → YieldsList steps (λ y. y) it list) where
-  -- what was read of a value to its end is the list
+  -- what was read from a value to its end is the list
   pub all-read : (xs : List A) → WasReadOf becomes steps from ToItsEnd xs → xs ≡ list
   all-read xs read = all-given steps read.iterator list (gives read.iterator read.became) xs read.was_read
 
-  -- whatever was read of it, it may give the list
+  -- whatever was read from it, it may give the list
   pub may-read : (reading : Reading) (xs : List A) → WasReadOf becomes steps from reading xs → MayGive reading xs list
   may-read reading xs read = may-give steps read.iterator list (gives read.iterator read.became) reading xs read.was_read
 
 module _ {J S Word Model : Type 0} (becomes : J → S → Type 0) (steps : S → Option Word → S → Type 0) (from : J) (list : List Word)
     (gives : (it : S) → becomes from it → YieldsList steps (λ y. y) it list)
     (completes : List ℕ → List ℕ) (whole : Word → ℕ) (Accepted : List ℕ → Type 0) (Tells : Model → List ℕ → Type 0) where
-  -- a model is that of the list, which is accepted
+  -- a model is the model of the list, which is accepted
   pub made-of-list : (r : Result Model ModelError)
       → IsMadeOfWeights Accepted completes (WasReadOf becomes steps from) whole Tells r
       → IfOk r (λ m. Accepted (completes (map whole list)) × Tells m (completes (map whole list)))
@@ -67,7 +67,7 @@ module _ {J S Word Model : Type 0} (becomes : J → S → Type 0) (steps : S →
       (all-read becomes steps from list gives given.0 given.1) (given.2, given.3)
   made-of-list (Err e) made = tt
 
-  -- where it is invalid, the list is not accepted
+  -- if the result is InvalidTable, the list is not accepted
   pub refused-list : (r : Result Model ModelError)
       → IsMadeOfWeights Accepted completes (WasReadOf becomes steps from) whole Tells r
       → r ≡ Err InvalidTable → ¬ (Accepted (completes (map whole list)))
@@ -81,7 +81,7 @@ module _ {J S K T Symbol Word Model : Type 0} (becomes : J → S → Type 0) (st
     (other_gives : (jt : T) → other_becomes other jt → YieldsList other_steps (λ y. y) jt others)
     (completes : List ℕ → List ℕ) (whole : Word → ℕ) (Accepted : List Symbol → List ℕ → Type 0)
     (Tells : Model → List Symbol → List ℕ → Type 0) where
-  -- the same of two lists
+  -- the same for two lists
   pub made-of-lists : (r : Result Model ModelError)
       → IsMadeOfBoth Accepted completes (WasReadOf becomes steps from) (WasReadOf other_becomes other_steps other) whole Tells r
       → IfOk r (λ m. Accepted list (completes (map whole others)) × Tells m list (completes (map whole others)))

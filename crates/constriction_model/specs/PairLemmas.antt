@@ -15,7 +15,7 @@ use Rattle.constriction_model.specs.CodingLemmas.{entry-row, entry-below, one-ro
 use Rattle.constriction_model.specs.Entries.{SameEntries}
 use Rattle.constriction_model.specs.Laws.{HasOneRow, IsQuantileAt, IsOneToOne}
 
--- a row among others is one among more
+-- the row of a quantile is its row among more rows too
 pub row-further : {Symbol : Type 0} (x : Row Symbol) (xs : List (Row Symbol)) (q : ℕ) (r : Row Symbol) → IsRowOf xs q r
     → IsRowOf (x ∷ xs) q r
 row-further x xs q r is = record { among = (suc is.among.0, omega (arith, is.among.1), is.among.2); from = is.from; to = is.to }
@@ -44,7 +44,7 @@ has-row {Symbol = Symbol} bits precision rows q tile below =
     let one = reached 0 ss ws q same (omega arith) (omega (arith, tile.accepted.tiles.total)) in
     (one.0, subst (λ (rs : List (Row Symbol)). IsRowOf rs q one.0) (sym tile.in_order) one.1)
 
--- so each quantile has one row, where all rows tile
+-- if the rows of each model tile, each quantile has one row
 pub one-row-each : {Symbol M : Type 0} (bits precision : ℕ) (rows : M → List (Row Symbol)) → ((m : M) → RowsTile bits precision (rows m))
     → (m : M) (q : ℕ) → q < 2 ^ precision → HasOneRow precision (rows m) q
 one-row-each bits precision rows tile m q below =
@@ -58,7 +58,7 @@ one-row-each bits precision rows tile m q below =
       alone = λ other found. one-row bits precision (rows m) q other one.0 (tile m) found one.1;
     }
 
--- a symbol that differs from those of all rows has no entry
+-- a symbol that differs from the symbols of all rows has no entry
 no-entry : {Symbol : Type 0} (eq : Symbol → Symbol → Bool) (s : Symbol) (rows : List (Row Symbol))
     → ((x y : Symbol) → eq x y ≡ eq y x) → AllByRecursion (λ y. eq s y ≡ false) (symbols_of rows)
     → entry_of eq rows s ≡ None
@@ -83,13 +83,13 @@ entry-at eq (x ∷ xs) (suc k) r itself symm distinct h e =
     entry-at eq xs k r itself symm (IsDistinct-tail eq x.symbol (symbols_of xs) distinct) (omega arith) e in
     entry_of-cons eq r.symbol x xs ∙ rw later refl
 
--- where no two symbols are equal, the symbol of a row has the entry of that row
+-- if no two symbols are equal, the symbol of a row has the entry of that row
 pub own-entry : {Symbol : Type 0} (eq : Symbol → Symbol → Bool) (rows : List (Row Symbol)) (r : Row Symbol)
     → ((x : Symbol) → eq x x ≡ true) → ((x y : Symbol) → eq x y ≡ eq y x) → IsDistinct eq (symbols_of rows)
     → Contains rows r → entry_of eq rows r.symbol ≡ Some (r.left, r.weight)
 own-entry eq rows r itself symm distinct among = entry-at eq rows among.0 r itself symm distinct among.1 among.2
 
--- equal symbols have one entry
+-- equal symbols have the same entry
 same-entry : {Symbol : Type 0} (eq : Symbol → Symbol → Bool) (s t : Symbol) (rows : List (Row Symbol))
     → ((x : Symbol) → eq x s ≡ eq x t) → entry_of eq rows s ≡ entry_of eq rows t
 same-entry eq s t [] alike = refl
@@ -100,7 +100,7 @@ same-entry eq s t (r ∷ rs) alike =
     ∙ ap (λ b. option_or (entry_of eq rs t) (cond b (Some (r.left, r.weight)) None)) (alike r.symbol)
     ∙ sym (entry_of-cons eq t r rs)
 
--- numbers that begin past a number differ from it
+-- a number differs from each number of a range that begins past it
 range-apart : (s a n : ℕ) → s < a → AllByRecursion (λ y. nat_eq s y ≡ false) (range_with_len a n)
 range-apart s a zero h = tt
 range-apart s a (suc n) h = (ne_eqb s a (λ e. omega arith), range-apart s (a + 1) n (omega arith))

@@ -1,16 +1,16 @@
--- Searching a list of cumulatives by questions that are counted, and which rows a model's probe tells.
+-- Searching a list of cumulatives by counted questions, and the rows that a model's probe covers.
 use Rattle.std.specs.Prelude.{◌≡◌, ◌↔◌, ℕ, suc, zero, ◌+◌, ◌-◌, ◌/◌, ◌<◌, ◌≤◌, List, length, map, take, drop, slice_index, slice_index_or}
 use Rattle.std.specs.List.Sorted.{IsStrictlyIncreasing}
 use Rattle.constriction_model.specs.Rows.{Row, IsRowOf}
 use Rattle.constriction_model.specs.declared.probe.Probe.{Ghosts}
 
--- how many binary digits n has, among the lowest `most`
+-- the number of binary digits of n, or `most` if that is less
 abbrev pub digits_in : ℕ → ℕ → ℕ
 digits_in zero n = 0
 digits_in (suc most) zero = 0
 digits_in (suc most) (suc n) = 1 + digits_in most (suc n / 2)
 
--- how many binary digits n has: none for 0, and for any other number one more than its half has
+-- the number of binary digits of n: 0 for 0, else one more than its half, rounded down, has
 unfoldable pub digits : ℕ → ℕ
 digits n = digits_in n n
 
@@ -26,14 +26,14 @@ pub record IsLastAtMost (cumulatives : List ℕ) (q i : ℕ) : Type 0 where
   pub at_most : slice_index cumulatives i ≤ q
   pub last : (j : ℕ) → i < j → j < length cumulatives → q < slice_index cumulatives j
 
--- the row of the quantile q stands at that index
+-- the row at index i is the row of the quantile q
 pub record IsRowIndexOf {Symbol : Type 0} (rows : List (Row Symbol)) (q i : ℕ) : Type 0 where
   pub in_bounds : i < length rows
   pub row : (r : Row Symbol) → IsRowOf rows q (slice_index_or rows i r)
 
--- A probe that was asked nothing yet tells the rows in question for the quantile q: those from `first` on, and no other row. It tells their
--- left cumulatives, in order, and the greatest index whose cumulative is at most q, plus `first`, is the index of the quantile's row. A
--- search of it asks no more than one of all rows.
+-- A probe for the quantile q that was asked nothing yet. It has the left cumulatives, in order, of rows from `first` on, and these are the
+-- rows in question and no others. The greatest index whose cumulative is at most q, plus `first`, is the index of the quantile's row. To
+-- search it takes no more questions than to search all rows.
 pub record IsProbeFor {Symbol P Word : Type 0} (g : Ghosts P Word) (rows : List (Row Symbol)) (InQuestion : Row Symbol → Type 0)
     (q first : ℕ) (probe : P) : Type 0 where
   pub exactly : (i : ℕ) (r : Row Symbol) → i < length rows

@@ -68,7 +68,7 @@ module _ {S : Type 0} (eq : S → S → Bool) (s : S) where
       ∙ option_map-or (λ x. (x.left, x.weight)) (find (λ x. eq x.symbol s) (reverse rs)) (cond (eq r.symbol s) (Some r) None)
       ∙ ap (option_or (entry_of eq rs s)) (found-one (λ x. (x.left, x.weight)) (eq r.symbol s) r)
 
--- symbols below and past those of contiguous rows have no entry
+-- numbers below and past the symbols of contiguous rows have no entry
 pub contiguous-past : (a l : ℕ) (ws : List ℕ) (s : ℕ) → ((s < a) ⊎ (a + length ws ≤ s))
     → entry_of nat_eq (rows_from l (range_with_len a (length ws)) ws) s ≡ None
 contiguous-past a l [] s h = refl

@@ -10,7 +10,7 @@ pub record Row (Symbol : Type 0) : Type 0 where
   pub left : ℕ
   pub weight : ℕ
 
--- the rows of symbols and weights, where the first row begins at `left` and each other one where the one before it ends
+-- the rows of symbols and weights: the first row begins at `left`, and each other row begins where the row before it ends
 abbrev pub rows_from : {Symbol : Type 0} → ℕ → List Symbol → List ℕ → List (Row Symbol)
 rows_from left (s ∷ ss) (w ∷ ws) = record { symbol = s; left = left; weight = w } ∷ rows_from (left + w) ss ws
 rows_from left [] ws = []
@@ -29,13 +29,13 @@ pub record RowsTile {Symbol : Type 0} (bits precision : ℕ) (rows : List (Row S
   pub accepted : IsAccepted bits precision (map (λ r. r.weight) rows)
   pub in_order : rows ≡ rows_of (map (λ r. r.symbol) rows) (map (λ r. r.weight) rows)
 
--- r is the row of the quantile q: the one of these rows that holds q
+-- r is the row of the quantile q: it is one of these rows, and holds q
 pub record IsRowOf {Symbol : Type 0} (rows : List (Row Symbol)) (q : ℕ) (r : Row Symbol) : Type 0 where
   pub among : Contains rows r
   pub from : r.left ≤ q
   pub to : q < r.left + r.weight
 
--- the entry of a symbol: left cumulative and weight of the last row whose symbol equals it, or none where there is no such row
+-- the entry of a symbol: left cumulative and weight of the last row whose symbol equals it, or None if there is no such row
 abbrev pub entry_of : {Symbol : Type 0} → (Symbol → Symbol → Bool) → List (Row Symbol) → Symbol → Option (ℕ × ℕ)
 entry_of eq rows s = option_map (λ r. (r.left, r.weight)) (find (λ r. eq r.symbol s) (reverse rows))
 
@@ -43,8 +43,8 @@ entry_of eq rows s = option_map (λ r. (r.left, r.weight)) (find (λ r. eq r.sym
 abbrev pub contiguous_rows : List ℕ → List (Row ℕ)
 contiguous_rows weights = rows_of (range_with_len 0 (length weights)) weights
 
--- the weights of a uniform model of n symbols: each is the whole part of 2 ^ precision / n, but for the last one, which is what the
--- others leave
+-- the weights of a uniform model of n symbols: each is 2 ^ precision / n, rounded down, except the last one, which is what the others
+-- leave
 abbrev pub uniform_weights : ℕ → ℕ → List ℕ
 uniform_weights precision n =
     replicate (n - 1) (2 ^ precision / n) ++ (2 ^ precision - (n - 1) * (2 ^ precision / n)) ∷ []

@@ -1,5 +1,5 @@
--- Rows and answers whose symbols stand for those of other rows, as clones do: they tile as these, and where clones are the same values they
--- are these; and what follows where clones are equal to what they are clones of. No public clause cites this module.
+-- Rows and answers whose symbols stand for the symbols of other rows, as clones do. They tile if those rows do, are those rows if clones
+-- are the same values, and have their entries if clones are equal to their originals. No public clause cites this module.
 use Rattle.std.specs.Prelude.{◌≡◌, ℕ, ◌+◌, Bool, false, List, [], ◌∷◌, ◌++◌, map}
 use Rattle.std.specs.Cmp.{IsEquivalence}
 use Rattle.std.specs.List.{AllZip, AllByRecursion, IsDistinct}
@@ -13,7 +13,7 @@ use Rattle.constriction_model.specs.Model.{row_of, StandsForRow, AnswersQuantile
 use Rattle.constriction_model.specs.RowLemmas.{entry_of-cons}
 use Rattle.constriction_model.specs.Rows.{Row, RowsTile, IsRowOf, rows_from, rows_of, entry_of, symbols_of}
 
--- ---- lists that begin a list with no two equal symbols
+-- ---- beginnings of a list with no two equal symbols
 
 all-begin : {K : Type 0} (P : K → Type 0) (xs ys : List K) → AllByRecursion P (xs ++ ys) → AllByRecursion P xs
 all-begin P [] ys a = tt
@@ -29,7 +29,7 @@ distinct-begin eq (x ∷ xs) ys d =
     IsDistinct-cons eq x xs (all-begin (λ y. eq x y ≡ false) xs ys (IsDistinct-head eq x (xs ++ ys) d))
     (distinct-begin eq xs ys (IsDistinct-tail eq x (xs ++ ys) d))
 
--- ---- what is the same of rows that were made of others
+-- ---- what rows share with the rows that they stand for
 
 module _ {Symbol : Type 0} (Stands : Symbol → Symbol → Type 0) where
   pub weights-made : (made rows : List (Row Symbol)) → StandForRows Stands made rows
@@ -72,7 +72,7 @@ module _ {Symbol : Type 0} (Stands : Symbol → Symbol → Type 0) where
       ap (λ z. z ∷ ms) (one-row-made l m (h.0.1 ∙ first))
       ∙ ap (λ zs. record { symbol = m.symbol; left = l; weight = m.weight } ∷ zs) later
 
-  -- they tile where these do
+  -- they tile if those do
   pub tile-made : (bits precision : ℕ) (made rows : List (Row Symbol)) → StandForRows Stands made rows → RowsTile bits precision rows
       → RowsTile bits precision made
   tile-made bits precision made rows h tile = record {
@@ -93,7 +93,7 @@ module _ {Symbol Word Weight : Type 0} (Stands : Symbol → Symbol → Type 0) (
   pub its-weight : whole (base x.2) ≡ r.weight
   its-weight = ap (λ (t : Row Symbol). t.weight) h.2
 
--- ---- where clones are the same values
+-- ---- if clones are the same values
 
 module _ {Symbol : Type 0} (Stands : Symbol → Symbol → Type 0) (same : ClonesAreSame Stands) where
   same-one : (m r : Row Symbol) → Stands r.symbol m.symbol → m.left ≡ r.left → m.weight ≡ r.weight → m ≡ r
@@ -119,9 +119,9 @@ module _ {Symbol : Type 0} (Stands : Symbol → Symbol → Type 0) (same : Clone
     exact-row rows q x h =
         subst (λ (s : Symbol). IsRowOf rows q (row_of whole base (s, x.1, x.2))) (sym (same h.0 x.0 h.1)) h.2
 
--- ---- where clones are equal to what they are clones of
+-- ---- if clones are equal to their originals
 
--- so they are where they are the same values
+-- clones that are the same values are equal to their originals
 pub same-equal : {Symbol : Type 0} (eq : Symbol → Symbol → Bool) → IsEquivalence eq → (Stands : Symbol → Symbol → Type 0)
     → ClonesAreSame Stands → ClonesAreEqual eq Stands
 same-equal eq laws Stands same = λ x y h. ap (λ z. eq x z) (same x y h) ∙ laws.refl x
@@ -138,7 +138,7 @@ module _ {Symbol : Type 0} (eq : Symbol → Symbol → Bool) (laws : IsEquivalen
   all-apart s t (u ∷ us) [] h z a = absurd z
   all-apart s t (u ∷ us) (y ∷ ys) h z a = (apart s t y u h z.0 a.0, all-apart s t us ys h z.1 a.1)
 
-  -- clones of symbols no two of which are equal are no two equal
+  -- if no two symbols are equal, no two of their clones are
   pub distinct-clones : (clones symbols : List Symbol) → AllZip (λ t s. Stands s t) clones symbols → IsDistinct eq symbols
       → IsDistinct eq clones
   distinct-clones [] symbols z d = distinct-none eq
@@ -151,14 +151,14 @@ module _ {Symbol : Type 0} (eq : Symbol → Symbol → Bool) (laws : IsEquivalen
       → IsDistinct eq (symbols_of made)
   distinct-made made rows h d = distinct-clones (symbols_of made) (symbols_of rows) (symbols-stand Stands made rows h) d
 
-  -- two clones of symbols of rows are equal only where two symbols of these are
+  -- two clones of the symbols of rows are equal only if two of the symbols are
   pub repeats-made : (rows : List (Row Symbol)) → ClonesRepeat eq Stands rows → ¬ (IsDistinct eq (symbols_of rows))
   repeats-made rows h = λ d.
       let begin : symbols_of rows ≡ symbols_of h.1 ++ symbols_of h.2 = ap symbols_of h.3 ∙ map-append (λ r. r.symbol) h.1 h.2 in
       h.5 (distinct-made h.0 h.1 h.4
       (distinct-begin eq (symbols_of h.1) (symbols_of h.2) (subst (IsDistinct eq) begin d)))
 
-  -- rows that were made of others have their entries
+  -- rows that stand for others have their entries
   pub entries-made : (made rows : List (Row Symbol)) → StandForRows Stands made rows → SameEntries eq made rows
   entries-made [] [] h = λ q. refl
   entries-made [] (r ∷ rs) h = absurd h
@@ -172,11 +172,11 @@ module _ {Symbol : Type 0} (eq : Symbol → Symbol → Bool) (laws : IsEquivalen
       ∙ ap (λ w. option_or (entry_of eq rs q) (cond (eq r.symbol q) (Some (r.left, w)) None)) h.0.2
       ∙ sym (entry_of-cons eq q r rs)
 
-  -- so has a symbol table that was made of their clones
+  -- so have rows that hold the entries of their clones
   pub entries-of : (rows others : List (Row Symbol)) → HoldsEntriesOf eq Stands rows others → SameEntries eq rows others
   entries-of rows others h = λ q. h.entries q ∙ entries-made h.made others h.stand q
 
--- ---- the symbols and weights of rows that tile, no two symbols of which are equal, are accepted, and give the rows again
+-- ---- if rows tile and no two of their symbols are equal, their symbols and weights are accepted, and give the rows again
 
 pub tiling-rebuilds : {Symbol : Type 0} (eq : Symbol → Symbol → Bool) (bits precision : ℕ) (rows : List (Row Symbol))
     → RowsTile bits precision rows → IsDistinct eq (symbols_of rows)

@@ -1,4 +1,4 @@
--- The rows of a uniform model: what the models' laws cite. No public clause cites this module.
+-- The rows of a uniform model, for the models' laws. No public clause cites this module.
 use Rattle.std.specs.Prelude.{◌≡◌, ℕ, ◌+◌, ◌-◌, ◌*◌, ◌/◌, ◌%◌, ◌^◌, ◌<◌, ◌≤◌, ◌⊎◌, Some, None, nat_eq}
 use Rattle.std.specs.Prelude.{List, [], ◌∷◌, ◌++◌, length, replicate, All, sum, take}
 use Rattle.std.proofs.Common.{get_or, refl, ap, sym, ◌∙◌, arith, subst, inl, inr}
@@ -17,7 +17,7 @@ use Rattle.constriction_model.specs.RowLemmas.{indices, length-rows_from, weight
 use Rattle.constriction_model.specs.RowLemmas.{rows_from-at, contiguous-at, contiguous-past}
 use Rattle.constriction_model.specs.Rows.{Row, contiguous_rows, uniform_weights, uniform_rows, RowsTile, IsRowOf, entry_of}
 
--- the weight of each symbol of a uniform model but the last one, and what those leave for it, where the last symbol is given
+-- in a uniform model whose last symbol is `last`, the weight of each other symbol, and the weight that they leave for the last one
 abbrev pub bin_of : ℕ → ℕ → ℕ
 bin_of precision last = 2 ^ precision / (last + 1)
 
@@ -58,7 +58,7 @@ weights-are precision last =
     let less : last + 1 - 1 ≡ last = omega arith in
     ap (λ k. with_last k (bin_of precision last) (2 ^ precision - k * bin_of precision last)) less
 
--- as many weights, and rows, as symbols
+-- there are as many weights, and rows, as symbols
 pub length-uniform_weights : (precision last : ℕ) → length (uniform_weights precision (last + 1)) ≡ last + 1
 length-uniform_weights precision last =
     ap length (weights-are precision last) ∙ length-with_last last (bin_of precision last) (rest_of precision last)
@@ -73,7 +73,7 @@ module _ (precision last : ℕ) (within : last < 2 ^ precision) where
   pub bin-positive : 0 < bin_of precision last
   bin-positive = le-div 1 (2 ^ precision) (last + 1) (omega arith) (omega arith)
 
-  -- all of them have no more quantiles than there are
+  -- all symbols together have no more than 2 ^ precision quantiles, at that weight
   pub bins-fit : last * bin_of precision last + bin_of precision last ≤ 2 ^ precision
   bins-fit = omega (arith, div-add-mod' (2 ^ precision) (last + 1))
 
@@ -148,7 +148,7 @@ module _ (precision last : ℕ) (within : last < 2 ^ precision) where
         sym (ap (entry_of nat_eq (contiguous_rows ws)) (sym e) ∙ contiguous-at 0 0 ws k here
         ∙ ap (λ n. Some (n, get_or ws k 0)) left ∙ ap (λ n. Some (l, n)) (weight-at k w at_k.1))
 
-    -- it is the row of a quantile where it is the quotient by the weight, or the last one and the quotient is no less
+    -- it is the row of a quantile if the symbol is the quotient by the weight, or is the last one and the quotient is no less
     pub uniform-row_of : (q b : ℕ) → q < 2 ^ precision → b ≡ bin_of precision last → (s < last → s ≡ q / b)
         → (s ≡ last → last ≤ q / b)
         → IsRowOf (uniform_rows precision (last + 1)) q (record { symbol = k; left = l; weight = w })
@@ -176,13 +176,13 @@ module _ (precision last : ℕ) (within : last < 2 ^ precision) where
           ];
         }
 
-  -- the same where the word of the symbol came first
+  -- the same with the equation of the symbol the other way round
   pub uniform-found : (k s l w : ℕ) → k ≡ s → l ≡ s * bin_of precision last → IsWeight precision last s w
       → (q b : ℕ) → q < 2 ^ precision → b ≡ bin_of precision last → (s < last → s ≡ q / b) → (s ≡ last → last ≤ q / b)
       → IsRowOf (uniform_rows precision (last + 1)) q (record { symbol = k; left = l; weight = w })
   uniform-found k s l w same = uniform-row_of k s l w (sym same)
 
-  -- what is no symbol has no entry
+  -- a number that is no symbol has no entry
   pub uniform-no_entry : (k : ℕ) → last < k → None ≡ entry_of nat_eq (uniform_rows precision (last + 1)) k
   uniform-no_entry k h =
       let ws : List ℕ = uniform_weights precision (last + 1) in

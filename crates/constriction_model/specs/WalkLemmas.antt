@@ -1,4 +1,4 @@
--- Walks through a symbol table: what the items are that its steps give. No public clause cites this module.
+-- Walks through a symbol table: the items that its steps give. No public clause cites this module.
 use Rattle.std.specs.Prelude.{◌≡◌, ℕ, ◌+◌, ◌-◌, ◌<◌, ◌≤◌, List, [], ◌∷◌, ◌++◌, length, map, Contains, Option, Some, None, Result, Ok, Err, IfOk}
 use Rattle.std.proofs.Common.{suc, zero, get_or, refl, ap, sym, subst, ◌∙◌, append-nil, arith}
 use Rattle.std.specs.Iterator.{Yields, Drains}
@@ -12,7 +12,7 @@ use Rattle.constriction_model.specs.StandLemmas.{its-symbol, its-left, its-weigh
 use Rattle.constriction_model.specs.UniformRowLemmas.{length-uniform_rows}
 use Rattle.constriction_model.specs.Laws.{AreRows, IsInTable}
 
--- where something relates two lists place by place, each element of one has a partner in the other
+-- if a relation holds of two lists place by place, each element of one has a partner in the other
 partner : {X Y : Type 0} (R : X → Y → Type 0) (xs : List X) (ys : List Y) (k : ℕ) (y : Y) → AllZip R xs ys
     → k < length ys → get_or ys k y ≡ y → (x : X) × Contains xs x × R x y
 partner R [] [] k y h l e = absurd (omega arith)
@@ -32,7 +32,7 @@ partner-back R (z ∷ zs) (y ∷ ys) (suc k) x h l e =
     let p = partner-back R zs ys k x h.1 (omega arith) e in
     (p.0, (suc p.1.0, omega (arith, p.1.1), p.1.2), p.2)
 
--- two answers of one row are one, where words of one number are one
+-- two answers with the same row are equal, if words with the same number are
 pub one-answer : {Symbol Word Weight : Type 0} (whole : Word → ℕ) (base : Weight → Word)
     → ((a b : Word) → whole a ≡ whole b → a ≡ b) → ((a b : Weight) → base a ≡ base b → a ≡ b)
     → (y x : Symbol × Word × Weight) → row_of whole base y ≡ row_of whole base x → y ≡ x
@@ -44,7 +44,7 @@ one-answer {Symbol = Symbol} whole base one_word one_weight y x e =
 
 module _ {Symbol Word Weight Refusal : Type 0} (Stands : Symbol → Symbol → Type 0) (MayRefuse : Symbol → Type 0) (whole : Word → ℕ)
     (base : Weight → Word) where
-  -- items none of which is a refusal
+  -- items without a refusal are rows that stand for these
   unrefused-rows : (items : List (Result (Symbol × Word × Weight) Refusal)) (rows : List (Row Symbol))
       → AllZip (StandsFor Stands MayRefuse whole base) items rows → (xs : List (Symbol × Word × Weight)) → items ≡ map Ok xs
       → StandForRows Stands (map (row_of whole base) xs) rows
@@ -77,7 +77,7 @@ module _ {Symbol Word Weight Refusal : Type 0} (Stands : Symbol → Symbol → T
   first-given rows_left t (Ok x) u h = (row_of whole base (h.0, x.1, x.2), h.2, ((h.0, h.1, refl), tt))
   first-given rows_left t (Err e) u h = (h.0, h.2, (tt, h.1))
 
-  -- where no row may be refused, no item is a refusal
+  -- if no row may be refused, no item is a refusal
   pub never-refused : ((s : Symbol) → MayRefuse s → ⊥) → (items : List (Result (Symbol × Word × Weight) Refusal))
       (rows : List (Row Symbol))
       → AllZip (StandsFor Stands MayRefuse whole base) items rows → (xs : List (Symbol × Word × Weight)) × (items ≡ map Ok xs)
@@ -88,7 +88,7 @@ module _ {Symbol Word Weight Refusal : Type 0} (Stands : Symbol → Symbol → T
       (x ∷ rest.0, ap (λ (zs : List (Result (Symbol × Word × Weight) Refusal)). Ok x ∷ zs) rest.1)
   never-refused never (Err e ∷ is) (r ∷ rs) h = absurd (never r.symbol h.0.1)
 
-  -- where clones are the same values, an item that stands for the row of an answer is the answer
+  -- if clones are the same values, an item that stands for the row of an answer is the answer
   is-answer : ClonesAreSame Stands → ((a b : Word) → whole a ≡ whole b → a ≡ b) → ((a b : Weight) → base a ≡ base b → a ≡ b)
       → (x : Symbol × Word × Weight) (r : Row Symbol) → row_of whole base x ≡ r → (item : Result (Symbol × Word × Weight) Refusal)
       → IfOk item (λ y. StandsForRow Stands whole base y r) → IfOk item (λ y. y ≡ x)
@@ -109,7 +109,7 @@ module _ {Symbol Word Weight Refusal : Type 0} (Stands : Symbol → Symbol → T
         let more = stand-for j xs u rest in
         (one.0 ∷ more.0, one.1 ∙ ap (λ zs. one.0 ∷ zs) more.1, (one.2, more.2))
 
-    -- steps in a row give the first of the rows that were left, and leave the others
+    -- steps in a row give the first rows of those left, and leave the others
     pub walks-rows : (t : T) (items : List (Result (Symbol × Word × Weight) Refusal)) (u : T) → Yields steps t items u
         → (rows : List (Row Symbol)) × (rows_left t ≡ rows ++ rows_left u) × AreRows Stands MayRefuse whole base items rows
     walks-rows t items u h =

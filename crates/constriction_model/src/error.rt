@@ -6,7 +6,7 @@ use thiserror::Error;
 /// Why there is no model.
 #[derive(Debug, Clone, Copy, PartialEq, Eq, Drop, Error)]
 pub enum ModelError {
-    /// The weights, and where there are any the symbols, are not accepted.
+    /// The weights are not accepted, or the symbols, if there are any.
     #[error("The weights, or the symbols, are not accepted.")]
     InvalidTable,
     /// Memory was refused.

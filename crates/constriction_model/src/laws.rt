@@ -1,5 +1,5 @@
-//! What follows from the contracts of models, each law the contract of a function. They hold of
-//! each model that meets the traits, those of the caller too.
+//! Laws that follow from the contracts of models. Each is the contract of a function, and holds for each
+//! type that implements the traits, a caller's own too.
 
 ghost use Rattle.std.specs.Prelude.{◌≡◌, ◌↔◌, ◌^◌, ◌<◌, ℕ, List, Some, length, find, nat_eq, IsSome};
 ghost use Rattle.std.specs.List.{IsDistinct};
@@ -10,21 +10,21 @@ ghost use Rattle.constriction_model.specs.Scanning.{holds};
 
 use crate::traits::{DecoderModel, EncoderModel, EntropyModel};
 
-/// A uniform model of `n` symbols has `n` rows, and so its fresh symbol table as many items.
+/// A uniform model of `n` symbols has `n` rows, so its fresh symbol table has `n` items.
 pub fn uniform_row_count()
     ensures { (precision n : ℕ) → 0 < n → length (uniform_rows precision n) ≡ n }
 {}
 
-/// Each quantile below `2^PRECISION` has one row of a decoder model, which lies below `2^PRECISION` too, so that
+/// Each quantile below `2^PRECISION` has one row in a decoder model. This row ends at `2^PRECISION` or before, so
 /// its weight is at most that. What [`DecoderModel::quantile_function`] answers stands for this row.
 pub fn quantiles_have_one_row<M: DecoderModel<PRECISION>, const PRECISION: usize>()
     ensures { (m : M) (q : ℕ) → q < 2 ^ PRECISION → HasOneRow PRECISION (M.rows m) q }
 {}
 
-/// Where no two symbols are equal, the symbols that have an entry, each with the offsets below its
-/// weight, and the quantiles below `2^PRECISION` correspond one to one: a coder that decodes a
-/// quantile to a symbol and an offset gets the quantile back when it encodes these, and the other
-/// way round. The encoder's entries are those of the decoder's rows.
+/// If no two symbols are equal, the quantiles below `2^PRECISION` correspond one to one to the pairs of a
+/// symbol that has an entry and an offset below its weight. A coder that decodes a quantile to a symbol
+/// and an offset gets the quantile back when it encodes these, and the other way round. The encoder has
+/// to have the entries of the decoder's rows.
 pub fn pairs_are_quantiles<D, E, const PRECISION: usize>()
 where
     D: DecoderModel<PRECISION>,
@@ -33,15 +33,14 @@ where
         → IsOneToOne E.symbol_eq (entry_of E.symbol_eq (E.rows e)) PRECISION (D.rows d) }
 {}
 
-/// No two symbols of a contiguous model are equal, whether it searches or looks up, and so of a uniform one.
+/// No two symbols of a contiguous model, searching or looking up, are equal, nor are two of a uniform model.
 pub fn contiguous_symbols_differ()
     ensures { (weights : List ℕ) → IsDistinct nat_eq (symbols_of (contiguous_rows weights)) }
 {}
 
 /// Two decoder models of the same symbols and the same `PRECISION` have the same row for each
-/// quantile, and so answer alike, exactly where they have the same list of rows. So a model can be
-/// exchanged for another one where their symbol tables are the same, and only there. The models may be over
-/// different words.
+/// quantile, and so answer alike, if and only if they have the same list of rows. So one model can replace
+/// another if and only if their symbol tables are the same. The models may be over different words.
 pub fn equal_answers<M, N, const PRECISION: usize>()
 where
     M: DecoderModel<PRECISION>,
@@ -50,13 +49,13 @@ where
         ↔ (M.rows m ≡ N.rows n) }
 {}
 
-/// The row that a scan finds for a quantile is the one that models answer.
+/// The row that a scan finds for a quantile is the row that models answer.
 pub fn the_row_found_is_the_row_of_the_quantile<Symbol>()
     ensures { (bits precision : ℕ) (rows : List (Row Symbol)) (q : ℕ) (row : Row Symbol) → RowsTile bits precision rows
         → (find (holds q) rows ≡ Some row) ↔ IsRowOf rows q row }
 {}
 
-/// There is one for each quantile in range.
+/// A scan finds a row for each quantile in range.
 pub fn each_quantile_in_range_has_a_row<Symbol>()
     ensures { (bits precision : ℕ) (rows : List (Row Symbol)) (q : ℕ) → RowsTile bits precision rows → q < 2 ^ precision
         → IsSome (find (holds q) rows) }

@@ -4,10 +4,9 @@ ghost use Rattle.std.specs.Prelude.{◌≡◌, ◌↔◌, ◌+◌, ◌<◌, ◌�
 
 /// A list of cumulatives that is asked about one of them at a time, and counts the questions.
 ///
-/// [`row_of_quantile`](crate::row_of_quantile) searches it. A caller's own list
-/// may be one.
+/// [`row_of_quantile`](crate::row_of_quantile) searches it. A caller's own list may be a probe.
 pub trait Probe {
-    /// What the cumulatives are compared with.
+    /// The type that the cumulatives are compared with.
     type Word: Copy;
 
     // The number of a word.

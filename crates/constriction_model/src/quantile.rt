@@ -5,13 +5,11 @@ ghost use Rattle.constriction_model.specs.Precision.{IsPrecision};
 
 use constriction_numbers::WholeNumber;
 
-/// Whether a word is a quantile: below `2^PRECISION`, which may be more than any word.
+/// Whether a word is a quantile: below `2^PRECISION`.
 ///
-/// This is the condition of
-/// [`quantile_function`](crate::DecoderModel::quantile_function), asked of a word
-/// from outside. At the full width of the word each word is a quantile; a caller whose `PRECISION`
-/// is that width learns the same without a test from the clause `range` of
-/// `BitArray::into_nonzero`.
+/// [`quantile_function`](crate::DecoderModel::quantile_function) requires this, and so a caller asks it
+/// of a word from outside. If `PRECISION` is the full width, each word is a quantile, and a caller's proof
+/// has this without a test from the clause `range` of `BitArray::into_nonzero`.
 #[inline]
 pub fn is_quantile<P: WholeNumber, const PRECISION: usize>(word: P) -> bool
     requires precision { IsPrecision P.BITS PRECISION }

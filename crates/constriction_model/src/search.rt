@@ -6,7 +6,7 @@ ghost use Rattle.constriction_model.specs.Probe.{digits, IsSearchable, IsLastAtM
 
 use crate::probe::Probe;
 
-/// Half of the rows from `first` on, of which there is more than one.
+/// Halves the rows from `first` on. There are at least two.
 #[inline(always)]
 #[tactic(auto, using(crate::proofs::Digits::digits_step))]
 fn half_of_more<R: Probe>(rows: &mut R, q: R::Word, first: usize, size: usize) -> (usize, usize)
@@ -29,7 +29,7 @@ fn half_of_more<R: Probe>(rows: &mut R, q: R::Word, first: usize, size: usize) -
     }
 }
 
-/// Half of the rows from `first` on, where there is more than one.
+/// Halves the rows from `first` on, if there are at least two.
 #[inline]
 fn halve<R: Probe>(rows: &mut R, q: R::Word, first: usize, size: usize) -> (usize, usize)
     requires searchable { IsSearchable (R.cumulatives rows.old) (R.number q) }
@@ -48,7 +48,7 @@ fn halve<R: Probe>(rows: &mut R, q: R::Word, first: usize, size: usize) -> (usiz
     half_of_more(rows, q, first, size)
 }
 
-/// A sixteenth of the rows from `first` on.
+/// Halves the rows from `first` on four times.
 #[inline(always)]
 fn halve_four_times<R: Probe>(rows: &mut R, q: R::Word, first: usize, size: usize) -> (usize, usize)
     requires searchable { IsSearchable (R.cumulatives rows.old) (R.number q) }
@@ -66,7 +66,7 @@ fn halve_four_times<R: Probe>(rows: &mut R, q: R::Word, first: usize, size: usiz
     halve(rows, q, eighth_first, eighth)
 }
 
-/// A sixteenth of the more than eight rows from `first` on: none of the four questions needs a test of what is left.
+/// Halves more than eight rows from `first` on four times. None of the four questions needs a test of how many rows are left.
 #[inline(always)]
 fn halve_many_four_times<R: Probe>(
     rows: &mut R,
@@ -91,7 +91,7 @@ fn halve_many_four_times<R: Probe>(
     half_of_more(rows, q, eighth_first, eighth)
 }
 
-/// A sixteenth of the rows from `first` on, out of line. A loop that has the questions in it is compiled to jumps that depend on
+/// Halves the rows from `first` on four times, out of line. A loop with the questions in it is compiled to jumps that depend on
 /// the answers, and not to moves, which are several times as fast on random quantiles.
 #[inline(never)]
 fn sixteenth<R: Probe>(rows: &mut R, q: R::Word, first: usize, size: usize) -> (usize, usize)
@@ -110,8 +110,8 @@ fn sixteenth<R: Probe>(rows: &mut R, q: R::Word, first: usize, size: usize) -> (
     halve_four_times(rows, q, first, size)
 }
 
-/// The greatest index whose cumulative is at most `q`, of at most two: the answer to one question, as a number. A choice
-/// between two rows is compiled to a jump, which the processor has to guess.
+/// The greatest index whose cumulative is at most `q`, in a list of at most two. It is the answer to one question, as a number: a choice
+/// between two rows is compiled to a jump, which the processor has to predict.
 #[inline(always)]
 #[tactic(auto, using(crate::proofs::Digits::digits_two))]
 fn row_of_two<R: Probe>(rows: &mut R, q: R::Word) -> usize
@@ -128,7 +128,7 @@ fn row_of_two<R: Probe>(rows: &mut R, q: R::Word) -> usize
     usize::from(rows.at_most(1, q))
 }
 
-/// Of the `size` rows from `first` on, the first of the `left` rows that are left after one question. Either answer leaves so many.
+/// The first of the `left` rows that one question leaves of the `size` rows from `first` on. Either answer leaves that many.
 #[inline(always)]
 fn first_left<R: Probe>(rows: &mut R, q: R::Word, first: usize, size: usize, left: usize) -> usize
     requires searchable { IsSearchable (R.cumulatives rows.old) (R.number q) }
@@ -194,10 +194,10 @@ fn row_of_sixteen<R: Probe>(rows: &mut R, q: R::Word, first: usize) -> usize
     row_of_eight(rows, q, half)
 }
 
-/// The greatest index whose cumulative is at most `q`, of at most 32.
+/// The greatest index whose cumulative is at most `q`, in a list of at most 32.
 ///
-/// The first question leaves a power of two, so each later one asks about the row that stands a fixed number of rows after the
-/// first one that is left. How many questions there are is chosen once, before the first: no test of what is left stands between.
+/// The first question leaves a power of two, so each later one asks about the row at a fixed distance from the first row left.
+/// The number of questions is chosen once, before the first one, and nothing is tested between them.
 #[inline(always)]
 fn row_of_thirty_two<R: Probe>(rows: &mut R, q: R::Word) -> usize
     requires searchable { IsSearchable (R.cumulatives rows.old) (R.number q) }
@@ -229,8 +229,8 @@ fn row_of_thirty_two<R: Probe>(rows: &mut R, q: R::Word) -> usize
 
 /// The greatest index whose cumulative is at most `q`.
 ///
-/// The search halves the rows that are left until one is left, so it asks as many questions as one less than
-/// the number of rows has binary digits, whatever `q` is.
+/// The search halves the rows until one is left. So it asks as many questions as one less than the number of
+/// rows has binary digits, for every `q`.
 #[tactic(auto, using(crate::proofs::Digits::digits_word, crate::proofs::Halving::narrowed_one, crate::proofs::Halving::narrowed_all))]
 #[inline(always)]
 pub fn row_of_quantile<R: Probe>(rows: &mut R, q: R::Word) -> usize
@@ -254,11 +254,11 @@ pub fn row_of_quantile<R: Probe>(rows: &mut R, q: R::Word) -> usize
     first
 }
 
-/// The index that [`row_of_quantile`] answers on a probe that is not asked afterwards, by as many questions.
+/// The index that [`row_of_quantile`] answers, by as many questions, for a probe that is not asked afterwards.
 ///
-/// A probe that is handed to the part of the search that is out of line stands in memory, and a caller's loop writes it there for
-/// each quantile. So one of at most `FEW` rows, 32 or fewer, has a search of its own, at fixed distances, and stays in registers.
-/// In a loop the questions about more than two rows are compiled to jumps there: out of a loop `FEW` may be 32.
+/// The out-of-line part of the search takes the probe in memory, so a caller's loop would write it there for each quantile. So a
+/// probe of at most `FEW` rows, 32 or fewer, is searched at fixed distances, and stays in registers. In a loop, the questions about
+/// more than two rows are then compiled to jumps; outside a loop `FEW` may be 32.
 #[inline(always)]
 pub fn row_in_probe<R: Probe + Drop, const FEW: usize>(rows: R, q: R::Word) -> usize
     requires searchable { IsSearchable (R.cumulatives rows) (R.number q) }

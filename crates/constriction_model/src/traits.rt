@@ -1,4 +1,4 @@
-//! The traits of models: what a model tells, and what it answers in each direction.
+//! The traits of models: their rows, and what they answer in each direction.
 
 ghost use Rattle.std.specs.Prelude.{◌≡◌, ◌^◌, ◌<◌, Bool, List, All, IfOk, IfErr, IfSome};
 ghost use Rattle.std.specs.Cmp.{IsEquivalence};
@@ -10,7 +10,7 @@ ghost use Rattle.constriction_model.specs.Precision.{IsPrecision};
 use constriction_numbers::WholeNumber;
 use std::alloc::AllocError;
 
-/// What weights are in the answers of a model over the words `P`: words that are not 0.
+/// The weights in the answers of a model over the words `P`: words other than 0.
 pub type Weight<P> = <P as WholeNumber>::NonZero;
 
 /// An entropy model in fixed-point arithmetic: a list of rows, each of which gives a symbol an
@@ -18,27 +18,26 @@ pub type Weight<P> = <P as WholeNumber>::NonZero;
 ///
 /// `PRECISION` is at least 1, and at most the width of the words that quantiles are.
 pub trait EntropyModel<const PRECISION: usize> {
-    /// What is coded.
+    /// The type that is coded.
     type Symbol;
 
-    /// The words that quantiles, left cumulatives and weights are. Every
-    /// `BitArray` will do.
+    /// The words of quantiles, left cumulatives and weights. Every `BitArray` will do.
     type Probability: WholeNumber;
 
-    // The rows of a model. Where several of the traits below hold of a type, all of them answer from these.
+    // The rows of a model. A type that has several of the traits below answers from the same rows in each.
     ghost rows: { Self → List (Row Self.Symbol) };
 
     // The precision is at least 1, and at most the width of the words.
     ghost precision_law: { (m : Self) → IsPrecision Self.Probability.BITS PRECISION };
 }
 
-/// A model that an encoder asks: it knows the entry of each symbol.
+/// A model for an encoder: it knows the entry of each symbol.
 pub trait EncoderModel<const PRECISION: usize>: EntropyModel<PRECISION> {
     // Whether two symbols are equal, by their type's own equality.
     ghost symbol_eq: { Self.Symbol → Self.Symbol → Bool };
 
-    /// The entry of a symbol: its left cumulative and its weight. `None` says that the model has
-    /// no such symbol, so that it cannot be encoded.
+    /// The entry of a symbol: its left cumulative and its weight. `None` means that the model has no
+    /// such symbol, so it cannot be encoded.
     fn left_cumulative_and_probability(
         &self,
         symbol: &Self::Symbol,
@@ -55,22 +54,21 @@ pub trait EncoderModel<const PRECISION: usize>: EntropyModel<PRECISION> {
     ghost within_law: { (m : Self) → All (LiesWithin PRECISION) (Self.rows m) };
 }
 
-/// A model that a decoder asks: it knows the row of each quantile.
+/// A model for a decoder: it knows the row of each quantile.
 pub trait DecoderModel<const PRECISION: usize>: EntropyModel<PRECISION> {
-    // That the second symbol may stand in an answer, where the first one stands in the row. Of a model that answers clones it is
-    // what the symbols' type says of a clone. Where an implementer says nothing, it makes none, and this is equality.
+    // An answer may have the second symbol for a row with the first one. In a model that answers clones, this is what the symbols' type
+    // says of a clone. By default it is equality.
     ghost stands_for: { Self.Symbol → Self.Symbol → Type 0 } = { λ s t. t ≡ s };
 
     // Memory for a row with this symbol may be refused. By default it never is.
     ghost may_refuse: { Self.Symbol → Type 0 } = { λ _. ⊥ };
 
     /// The row of a quantile: the symbol whose interval holds it, the left cumulative and the
-    /// weight. Where the model owns its symbols the answer has a clone, which is what the symbols' type says
-    /// of one: of a `String` one of the same text. It fails only where memory for this clone is refused.
+    /// weight. A model that owns its symbols answers a clone, as the symbols' type defines it: for a
+    /// `String`, one with the same text. The call fails only if memory for this clone is refused.
     ///
-    /// A coder that fails with a `CoderError` passes the refusal on
-    /// by `map_err(CoderError::Frontend)` or a `match`: a bare `?` makes it an error of the backend
-    /// where the backend's error is `AllocError` too.
+    /// A coder that fails with a `CoderError` passes the refusal on by `map_err(CoderError::Frontend)` or
+    /// a `match`. A bare `?` makes it an error of the backend if the backend's error is `AllocError` too.
     fn quantile_function(
         &self,
         quantile: Self::Probability,
@@ -83,6 +81,6 @@ pub trait DecoderModel<const PRECISION: usize>: EntropyModel<PRECISION> {
         ensures refused { IfErr result (λ _. RowMayBeRefused may_refuse (Self.rows self.now)
             (Self.Probability.whole quantile)) };
 
-    // The rows tile the quantiles, so that each quantile has exactly one row.
+    // The rows tile the quantiles, so each quantile has exactly one row.
     ghost tile_law: { (m : Self) → RowsTile Self.Probability.BITS PRECISION (Self.rows m) };
 }

@@ -1,4 +1,4 @@
-//! Models whose symbols all have the same weight, but for the last one.
+//! Uniform models: all symbols have the same weight, and the last one also has the remainder.
 
 ghost use Rattle.std.specs.Prelude.{◌≡◌, ◌+◌, ◌-◌, ◌*◌, ◌/◌, ◌^◌, ◌<◌, ◌≤◌, length, nat_eq, ⊤};
 ghost use Rattle.std.specs.Cmp.{nat_eq_equiv};
@@ -14,8 +14,8 @@ use std::alloc::AllocError;
 pub mod symbol_table;
 mod weights;
 
-/// A model of the symbols `0..range`, all of the same weight but for the last one: each has the whole
-/// part of `2^PRECISION / range`, and the last one what is left over too.
+/// A model of the symbols `0..range`. Each has the weight `2^PRECISION / range`, rounded down, and the
+/// last one also has the remainder.
 ///
 /// It holds three words and finds a row by one division.
 #[derive(Debug, Drop)]
@@ -62,7 +62,7 @@ impl<Probability: WholeNumber, const PRECISION: usize> UniformModel<Probability,
     /// The model of the symbols `0..range`. It takes no memory and always succeeds.
     ///
     /// `range` is at least 2, and at most `2^PRECISION` so that each symbol has a quantile. `PRECISION`
-    /// is at most 64 here, beside the width of the word. One division.
+    /// is at most 64, and at most the width of the word. One division.
     #[inline]
     pub fn new(range: usize) -> Self
         requires precision { IsPrecision Probability.BITS PRECISION }
@@ -89,7 +89,7 @@ impl<Probability: WholeNumber, const PRECISION: usize> UniformModel<Probability,
         self.last_symbol.to_number() + 1
     }
 
-    /// Where the row of a symbol begins, and its weight.
+    /// The left cumulative and the weight of a symbol.
     #[inline]
     fn row_words_of(&self, symbol: Probability) -> (Probability, Weight<Probability>)
         requires { Probability.whole symbol ≤ Probability.whole self.now.last_symbol }
@@ -123,8 +123,8 @@ impl<Probability: WholeNumber, const PRECISION: usize> EncoderModel<PRECISION>
     for UniformModel<Probability, PRECISION> {
     ghost symbol_eq = { nat_eq };
 
-    /// The entry of a symbol below the range, and `None` for every other number, be it as great as it
-    /// may: it is compared before it becomes a word. No division.
+    /// The entry of a symbol below the range, and `None` for every other number. The number may exceed
+    /// every word, since it is compared before it becomes one. No division.
     #[inline]
     fn left_cumulative_and_probability(
         &self,

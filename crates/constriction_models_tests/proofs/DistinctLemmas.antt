@@ -1,4 +1,4 @@
--- Symbols that differ, as a constructor or a conversion that compares none asks for them.
+-- Symbols that differ, as constructors and conversions that compare no symbols require.
 use Rattle.std.proofs.Common.{◌≡◌, ℕ, List, Bool, true}
 use Rattle.std.specs.Prelude.{nat_eq}
 use Rattle.std.specs.Array.Iter.{array_into_iter_items, array_steps}

@@ -1,7 +1,7 @@
--- A list of cumulatives that is computed: for a test alone.
+-- A computed list of cumulatives, for a test alone.
 use Rattle.std.specs.Prelude.{ℕ, ◌*◌, List, map}
 use Rattle.constriction.specs.RowLemmas.{indices}
 
--- the first even numbers, so many of them
+-- the first `size` even numbers
 unfoldable pub evens : ℕ → List ℕ
 evens size = map (λ i. 2 * i) (indices size)

@@ -1,4 +1,4 @@
-//! The names that stand for models over some words at some precision.
+//! The type aliases of models over fixed words at a fixed precision.
 
 use constriction::stream::model::{
     ContiguousCategoricalEntropyModel, ContiguousLookupDecoderModel,
@@ -20,7 +20,7 @@ type Default = Vec<(u32, char)>;
 /// The stored entries of a model of letters over 12 bits.
 type Small = Vec<(u16, char)>;
 
-/// The test is not built where a name stands for another type than the one that is written beside it.
+/// Compiles only if each alias is the type that is written beside it.
 #[test]
 fn names_are_over_their_words_at_their_precision() {
     let _: Option<&DefaultContiguousCategoricalEntropyModel> = None::<

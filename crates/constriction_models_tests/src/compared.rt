@@ -1,4 +1,4 @@
-//! How many questions a search asks, by the contracts of `quantile_probe` and `row_of_quantile` alone.
+//! How many questions a search asks. The contracts of `quantile_probe` and `row_of_quantile` say it.
 
 ghost use Rattle.std.specs.Prelude.{◌≡◌, ◌+◌, ◌-◌, ◌<◌, ◌≤◌, [], ◌∷◌, length};
 ghost use Rattle.constriction.specs.Probe.{digits, IsRowIndexOf};
@@ -16,7 +16,7 @@ use constriction_test_models::given::of_four;
 /// A lookup model with four slots of 16 quantiles each.
 type Tabled = SlottedContiguousLookupDecoderModel<u8, Vec<u8>, Vec<u8>, 6, 2>;
 
-/// The same of letters.
+/// The same over letters.
 type TabledLetters = SlottedNonContiguousLookupDecoderModel<
     char,
     u8,
@@ -26,8 +26,8 @@ type TabledLetters = SlottedNonContiguousLookupDecoderModel<
     2,
 >;
 
-/// The first of four rows in question for a quantile, how many rows after it the quantile's row stands, and how many questions
-/// the search asked.
+/// A search of all four rows: the index of the first one, how many rows after it the quantile's row stands, and how many
+/// questions were asked.
 fn by_a_search(model: &Weighted<6>, quantile: u8) -> (usize, usize, usize)
     requires four { ⟦<Weighted<6> as EntropyModel<6>>⟧.rows model.now ≡ contiguous_rows (3 ∷ 18 ∷ 1 ∷ 42 ∷ []) }
     requires in_range { quantile < 64 }
@@ -39,7 +39,7 @@ fn by_a_search(model: &Weighted<6>, quantile: u8) -> (usize, usize, usize)
     (first, index, rows.asked())
 }
 
-/// The same of those of four rows that meet the quantile's slot.
+/// The same for a search of the rows that meet the quantile's slot.
 fn by_a_lookup_table(model: &Tabled, quantile: u8) -> (usize, usize, usize)
     requires four { ⟦<Tabled as EntropyModel<6>>⟧.rows model.now ≡ contiguous_rows (3 ∷ 18 ∷ 1 ∷ 42 ∷ []) }
     requires in_range { quantile < 64 }
@@ -51,7 +51,7 @@ fn by_a_lookup_table(model: &Tabled, quantile: u8) -> (usize, usize, usize)
     (first, index, rows.asked())
 }
 
-/// The same of any number of letters.
+/// The same for a search of any number of rows of letters.
 fn among_letters(model: &Decoder<6>, quantile: u8) -> (usize, usize, usize)
     requires { quantile < 64 }
     ensures row { IsRowIndexOf (⟦<Decoder<6> as EntropyModel<6>>⟧.rows model.now) quantile (result.0 + result.1) }
@@ -62,7 +62,7 @@ fn among_letters(model: &Decoder<6>, quantile: u8) -> (usize, usize, usize)
     (first, index, rows.asked())
 }
 
-/// And of those of any number of letters that meet the quantile's slot.
+/// The same for a search of the rows of letters that meet the quantile's slot.
 fn among_letters_of_a_slot(model: &TabledLetters, quantile: u8) -> (usize, usize, usize)
     requires { quantile < 64 }
     ensures row { IsRowIndexOf (⟦<TabledLetters as EntropyModel<6>>⟧.rows model.now) quantile (result.0 + result.1) }
@@ -73,7 +73,8 @@ fn among_letters_of_a_slot(model: &TabledLetters, quantile: u8) -> (usize, usize
     (first, index, rows.asked())
 }
 
-/// A search of four rows asks two questions. Two of them meet the slot of 5, three that of 20, and one that of 40.
+/// A search of four rows asks two questions. Two rows meet the slot of the quantile 5, three the slot of 20, and one the
+/// slot of 40.
 #[test]
 fn a_search_asks_of_all_rows_and_beside_a_lookup_table_of_those_of_a_slot(rt: HostRuntime) {
     let model = of_four(rt.alloc(), [3, 18, 1, 42]).expect(&rt, "accepted");
@@ -87,7 +88,7 @@ fn a_search_asks_of_all_rows_and_beside_a_lookup_table_of_those_of_a_slot(rt: Ho
     same(&rt, by_a_lookup_table(&tabled, 40), (3, 0, 0));
 }
 
-/// The same of letters.
+/// The same over letters.
 #[test]
 fn a_search_of_letters_asks_of_all_rows_and_beside_a_lookup_table_of_those_of_a_slot(
     rt: HostRuntime,

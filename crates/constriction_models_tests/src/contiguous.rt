@@ -1,4 +1,4 @@
-//! The contiguous model and the uniform one, beyond what they answer.
+//! Contiguous and uniform models, beyond their answers.
 
 ghost use Rattle.std.specs.Prelude.{◌^◌, ◌<◌};
 
@@ -57,8 +57,8 @@ fn why_there_is_no_model_is_said_in_a_sentence(rt: HostRuntime) {
     }
 }
 
-/// Memory for as many words as the longest accepted list needs is enough to refuse 2^60 weights. If it were asked for all announced
-/// weights, it would be refused.
+/// The constructor asks for no more memory than the longest accepted list needs, so 2^60 weights are refused as invalid. Memory
+/// for all announced weights would be refused.
 #[test]
 fn an_announced_length_takes_no_memory_that_an_accepted_list_would_not(rt: HostRuntime) {
     let many = iter::repeat_n(1u64, 1 << 60);
@@ -66,7 +66,7 @@ fn an_announced_length_takes_no_memory_that_an_accepted_list_would_not(rt: HostR
     same(&rt, made.err(), Some(ModelError::InvalidTable));
 }
 
-/// The words of a contiguous model say where each row begins, and then the total.
+/// The words of a contiguous model are the left cumulatives, and then the total.
 #[test]
 fn a_model_shows_its_words(rt: HostRuntime) {
     let model = small(&rt, rt.alloc());

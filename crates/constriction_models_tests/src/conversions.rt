@@ -1,4 +1,4 @@
-//! Models that are made from models that can be walked through.
+//! Conversions of models with a symbol table.
 
 use constriction::stream::model::{
     FromIterableEntropyModel, IterableEntropyModel, ModelError,
@@ -8,14 +8,14 @@ use constriction_test_models::conversions::Decoder;
 use std::alloc::Global;
 use std::hash::Hash;
 
-/// An encoder's model of such symbols.
+/// An encoder model over any symbols.
 pub type Encoder<Symbol, const PRECISION: usize> = NonContiguousCategoricalEncoderModel<
     Symbol,
     u8,
     PRECISION,
 >;
 
-/// Why the functions make no decoder's and no encoder's model of a model, and then why the methods make none.
+/// The errors of the functions that make a decoder and an encoder model of a model, and then those of the methods.
 pub fn refusals<M, const PRECISION: usize>(alloc: Global, source: M) -> [Option<ModelError>; 4]
 where
     M: IterableEntropyModel<PRECISION, Probability = u8> + Copy,

@@ -1,4 +1,4 @@
-//! Lookup models over 24 bits of `u32`, of up to 4,096 rows, answer as the models that search.
+//! Lookup models over 24 bits of `u32`, of up to 4,096 rows, answer as searching models do.
 
 ghost use Rattle.std.specs.Prelude.{◌<◌, ◌^◌};
 
@@ -10,7 +10,7 @@ use constriction_test_models::plain_rows::row;
 use std::alloc::{AllocError, Global};
 use std::process::Abort;
 
-/// Stops the test where the two answer a quantile differently.
+/// Asserts that the two give the same answer to a quantile.
 fn answer_alike<M, N>(rt: &impl Abort, searching: &M, looking: &N, quantile: u32)
 where
     M: DecoderModel<24, Symbol = usize, Probability = u32>,
@@ -22,12 +22,12 @@ where
     same_at(rt, quantile, found, expected);
 }
 
-/// The number after this one in a list of pseudorandom numbers.
+/// The next number of a pseudorandom sequence.
 fn next(number: u32) -> u32 {
     number.wrapping_mul(1_664_525).wrapping_add(1_013_904_223)
 }
 
-/// Stops the test where the two answer one of 4,096 quantiles differently.
+/// Asserts that the two give the same answers to 4,096 quantiles.
 fn all_alike<M, N>(rt: &impl Abort, searching: &M, looking: &N)
 where
     M: DecoderModel<24, Symbol = usize, Probability = u32>,
@@ -40,7 +40,7 @@ where
     }
 }
 
-/// The weights of so many rows, without the last one. None is greater than `most`.
+/// The weights of `rows` rows, without the last one. None is greater than `most`.
 fn weights(alloc: Global, rows: u32, most: u32) -> Result<Vec<u32>, AllocError> {
     let mut weights = Vec::new(alloc);
     let mut number = 2024u32;
@@ -51,8 +51,8 @@ fn weights(alloc: Global, rows: u32, most: u32) -> Result<Vec<u32>, AllocError> 
     Ok(weights)
 }
 
-/// Stops the test where a lookup model with so many slots, over numbers or over any symbols, answers otherwise than the
-/// searching one.
+/// Asserts that a lookup model with `2^SLOT_BITS` slots, over numbers and over any symbols, answers as the searching model
+/// does.
 fn looks_up<const SLOT_BITS: usize>(
     rt: &impl Abort,
     alloc: Global,
@@ -65,7 +65,7 @@ fn looks_up<const SLOT_BITS: usize>(
     all_alike(rt, searching, &made.expect(rt, "a lookup model"));
 }
 
-/// How many rows there are, and how great a weight is at most.
+/// How many rows there are, and the greatest weight that they may have.
 const CASES: [(u32, u32); 5] = [
     (1, 1),
     (2, 16_777_215),

@@ -1,5 +1,5 @@
-//! Models of each kind, asked in both directions: each symbol and each quantile of it, each quantile and its symbol, and a walk
-//! through all rows.
+//! Models of each kind, asked in both directions: each quantile of each symbol, the symbol of each quantile, and a walk through
+//! all rows.
 
 use crate::checks::same;
 use crate::model_checks::small;

@@ -1,4 +1,4 @@
-//! Models over any symbols that are made without comparing each symbol with all before it.
+//! Constructors and conversions that do not compare each symbol with all before it.
 
 ghost use Rattle.std.specs.Prelude.{◌<◌, nat_eq};
 ghost use Rattle.std.specs.List.{IsDistinct};
@@ -21,7 +21,7 @@ use std::alloc::Global;
 use std::iter;
 use std::process::Abort;
 
-/// A symbol whose comparison, order and hash are derived.
+/// A symbol that derives equality, order and hash.
 #[derive(Clone, Copy, Debug, PartialEq, Eq, PartialOrd, Ord, Hash)]
 enum Move {
     Left,
@@ -37,7 +37,7 @@ type Numbers = NonContiguousCategoricalDecoderModel<usize, u8, Vec<(u8, usize)>,
 
 type NumberLookup = NonContiguousLookupDecoderModel<usize, u8, Vec<(u8, usize)>, Vec<u8>, 6>;
 
-/// Stops the test where no model was made, or where its row of the quantile 31 is not that of the second move.
+/// Asserts that a model was made, and that the quantile 31 has the row of the second move.
 fn has_moves(rt: &impl Abort, made: Result<Moves, ModelError>) {
     let model = made.expect(rt, "a model");
     let found = plain(model.quantile_function(31));
@@ -63,12 +63,12 @@ fn an_enum_is_hashed_and_ordered(rt: HostRuntime) {
     has_moves(&rt, sorted);
 }
 
-/// A text in memory of its own. It stops the test where memory is refused.
+/// A text as a `String`. The test fails if memory is refused.
 fn owned(rt: &impl Abort, alloc: Global, text: &str) -> String {
     String::from_str(alloc, text).expect(rt, "memory")
 }
 
-/// Stops the test where no model was made, or where the row of the quantile has another text.
+/// Asserts that a model was made, and that the row of the quantile has this text.
 fn has_text(rt: &impl Abort, made: Result<Texts, ModelError>, quantile: u8, text: &str)
     requires { quantile < 64 }
 {
@@ -77,7 +77,7 @@ fn has_text(rt: &impl Abort, made: Result<Texts, ModelError>, quantile: u8, text
     same_at(rt, quantile, found.as_str(), text);
 }
 
-/// The model of two texts in order, or by one hash of each.
+/// The model of two texts, by the constructor for sorted symbols or by the one that hashes.
 fn texts(
     rt: &impl Abort,
     alloc: Global,
@@ -105,7 +105,7 @@ fn texts_are_hashed_and_ordered(rt: HostRuntime) {
     same(&rt, repeat, Some(ModelError::InvalidTable));
 }
 
-/// The model of four numbers of which the caller knows that they differ.
+/// The model of four numbers that the caller knows to differ.
 #[tactic(auto, using(crate::proofs::DistinctLemmas::array_gives_distinct))]
 fn of_distinct(alloc: Global, symbols: [usize; 4], weights: [u8; 4]) -> Result<Numbers, ModelError>
     requires { IsDistinct nat_eq symbols }
@@ -115,7 +115,7 @@ fn of_distinct(alloc: Global, symbols: [usize; 4], weights: [u8; 4]) -> Result<N
     )
 }
 
-/// Stops the test where no lookup model was made, or where the row of the quantile 21 has another number.
+/// Asserts that a lookup model was made, and that the row of the quantile 21 has this number.
 fn looks_up(rt: &impl Abort, made: Result<NumberLookup, ModelError>, number: usize) {
     let model = made.expect(rt, "a model");
     same(rt, plain(model.quantile_function(21)), Ok((number, 21, 1)));
@@ -135,21 +135,21 @@ fn numbers_differ(model: &Small)
     contiguous_symbols_differ();
 }
 
-/// The lookup model of the rows of a contiguous one.
+/// The lookup model over any symbols with the rows of a contiguous model.
 #[tactic(auto, using(crate::proofs::DistinctLemmas::same_are_equal))]
 fn of_contiguous(alloc: Global, model: &Small) -> Result<NumberLookup, ModelError> {
     numbers_differ(model);
     to_generic_lookup_decoder_model_of_distinct(alloc, model)
 }
 
-/// No two letters of a decoder's model are equal, however it was made.
+/// No two letters of a decoder model are equal, however it was made.
 fn letters_differ(model: &Decoder<6>)
     ensures { IsDistinct nat_eq (symbols_of (⟦<Decoder<6> as EntropyModel<6>>⟧.rows model.now)) }
 {
     non_contiguous_symbols_differ::<char, u8, Vec<(u8, char)>, 6>();
 }
 
-/// The decoder's model of the rows of another one, whose symbols and weights would be accepted.
+/// A decoder model with the rows of another one. Symbols and weights of a decoder model are always accepted.
 #[tactic(auto, using(crate::proofs::DistinctLemmas::same_are_equal))]
 fn again(alloc: Global, model: &Decoder<6>) -> Result<Decoder<6>, ModelError> {
     letters_differ(model);
@@ -157,7 +157,7 @@ fn again(alloc: Global, model: &Decoder<6>) -> Result<Decoder<6>, ModelError> {
     to_generic_decoder_model_of_distinct(alloc, model)
 }
 
-/// The decoder's model of letters, made by their hashes.
+/// The decoder model of letters, by the constructor that hashes.
 fn hashed(alloc: Global) -> Result<Decoder<6>, ModelError> {
     Decoder::from_hashable_symbols_and_nonzero_fixed_point_probabilities(
         alloc, SYMBOLS, WEIGHTS, false,
@@ -171,7 +171,7 @@ fn models_whose_symbols_differ_are_converted_without_comparing(rt: HostRuntime) 
     has_row(&rt, &again(rt.alloc(), &model).expect(&rt, "a model"));
 }
 
-/// Why there is no decoder's model of 2^60 numbers, each of which is compared with all before it or has a hash.
+/// The errors of decoder models of 2^60 numbers, by the constructors that compare and that hash.
 fn refused_decoders(alloc: Global) -> [Option<ModelError>; 2] {
     let compared = Numbers::from_symbols_and_nonzero_fixed_point_probabilities(
         alloc,
@@ -188,7 +188,7 @@ fn refused_decoders(alloc: Global) -> [Option<ModelError>; 2] {
     [compared.err(), hashed.err()]
 }
 
-/// Why there is no encoder's model of them.
+/// The error of their encoder model.
 fn refused_encoder(alloc: Global) -> Option<ModelError> {
     let made = Encoder::<usize, 6>::from_symbols_and_nonzero_fixed_point_probabilities(
         alloc,
@@ -199,8 +199,8 @@ fn refused_encoder(alloc: Global) -> Option<ModelError> {
     made.err()
 }
 
-/// Memory for as many entries as the longest accepted list needs is enough to refuse 2^60 symbols. If it were asked for all
-/// announced symbols, it would be refused.
+/// The constructors ask for no more memory than the longest accepted list needs, so 2^60 symbols are refused as invalid. Memory
+/// for all announced symbols would be refused.
 #[test]
 fn an_announced_number_of_symbols_takes_no_memory_that_accepted_ones_would_not(rt: HostRuntime) {
     let invalid = Some(ModelError::InvalidTable);

@@ -1,4 +1,4 @@
-//! Callers that are generic in the model or in its words, and compute with them.
+//! Callers that are generic in the model or in its words, and compute with these words.
 
 ghost use Rattle.std.specs.Prelude.{◌≡◌, ◌+◌, ◌%◌, ◌^◌, ◌<◌, ◌≤◌, IfOk};
 ghost use Rattle.constriction.specs.Rows.{Row, IsRowOf};
@@ -11,7 +11,7 @@ use constriction::stream::model::{
 use constriction_words::{BitArray, NonZeroBitArray};
 use std::alloc::AllocError;
 
-/// Where the row of a quantile ends, modulo `2^BITS`, by any decoder over these words.
+/// The end of the row of a quantile, modulo `2^BITS`, by any decoder over these words.
 pub fn end_of_row<Word: BitArray, D, const PRECISION: usize>(
     model: &D,
     quantile: Word,
@@ -46,7 +46,7 @@ where
     }
 }
 
-/// The weight of a symbol as a word, by any encoder over these words: 0 where it has none.
+/// The weight of a symbol as a word, by any encoder over these words, or 0 if the symbol has none.
 pub fn weight_or_0<Word: BitArray, E, const PRECISION: usize>(model: &E, symbol: &E::Symbol) -> Word
 where
     E: EncoderModel<PRECISION, Probability = Word>,
@@ -57,7 +57,7 @@ where
     }
 }
 
-/// The quantile after the first one of the row of a quantile, modulo `2^BITS`, by a contiguous model over any words.
+/// The quantile after the first one of the row that holds a quantile, modulo `2^BITS`, by a contiguous model over any words.
 pub fn after_the_first<Word: BitArray, const PRECISION: usize>(
     model: &ContiguousCategoricalEntropyModel<Word, Vec<Word>, PRECISION>,
     quantile: Word,
@@ -70,7 +70,7 @@ pub fn after_the_first<Word: BitArray, const PRECISION: usize>(
     }
 }
 
-/// The last quantile of the row of a quantile, by any decoder over `u16`.
+/// The last quantile of the row that holds a quantile, by any decoder over `u16`.
 fn last_of_row<M: DecoderModel<12, Probability = u16>>(
     model: &M,
     quantile: u16,

@@ -14,7 +14,7 @@ use constriction_test_models::own_model::three;
 use constriction_test_models::symbol_types::letters;
 use constriction_test_models::widths::model_of;
 
-/// What a caller who knows the trait alone learns.
+/// What a caller learns from the trait alone.
 fn differ<M: IterableEntropyModel<PRECISION>, const PRECISION: usize>(model: &M) -> bool
 where
     M::Symbol: Eq,

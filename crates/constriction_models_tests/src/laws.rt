@@ -1,5 +1,5 @@
-//! What a caller has from the laws of models: over the contiguous model, and over a model of the caller with a symbol table
-//! of its own.
+//! What the laws of models give a caller, over the contiguous model, and over a model of the caller's own with its own symbol
+//! table.
 
 ghost use Rattle.std.specs.Prelude.{◌≡◌, ◌↔◌, ◌<◌, ◌≤◌, ◌^◌, ◌-◌, ℕ, [], ◌∷◌, length, map, drop, IfOk};
 ghost use Rattle.std.specs.Iterator.{at_most};
@@ -24,7 +24,7 @@ use constriction_test_models::symbol_types::{LetterDecoder, letters};
 use constriction_words::{BitArray, WholeNumber};
 use std::alloc::{AllocError, Global};
 
-/// Decodes a quantile to a symbol and an offset, and encodes these to the quantile that they came from.
+/// Decodes a quantile to a symbol and an offset, and encodes these to the same quantile.
 fn back(model: &Weighted<6>, quantile: u8) -> u8
     requires { quantile < 64 }
     ensures { result ≡ quantile }
@@ -42,7 +42,7 @@ fn back(model: &Weighted<6>, quantile: u8) -> u8
     }
 }
 
-/// How many items the symbol table of a model has: as many as the model has rows.
+/// How many items the symbol table of a model has. They are as many as the rows.
 fn count<M, const PRECISION: usize>(model: M) -> usize
 where
     M: IterableEntropyModel<PRECISION>,
@@ -54,8 +54,8 @@ where
     model.symbol_table().count()
 }
 
-/// How many items the symbol table of letters has, and how many letters the model has: as many, also where the clone of one is
-/// refused.
+/// How many items the symbol table of letters has, and how many letters the model has. The two are equal even if a letter fails
+/// to clone.
 fn items_and_letters(model: &LetterDecoder) -> (usize, usize)
     ensures { result.0 ≡ result.1 }
 {
@@ -63,7 +63,7 @@ fn items_and_letters(model: &LetterDecoder) -> (usize, usize)
     (count(model), letters)
 }
 
-/// The rows of a model, as its symbol table gives them.
+/// The rows that the symbol table of a model gives.
 fn read_rows<M, const PRECISION: usize>(
     alloc: Global,
     model: M,
@@ -82,7 +82,7 @@ where
     Ok(rows)
 }
 
-/// What [`read_rows`] gives of a model.
+/// What [`read_rows`] returns.
 type Rows<M, const PRECISION: usize> = Vec<
     (
         <M as EntropyModel<PRECISION>>::Symbol,
@@ -91,7 +91,7 @@ type Rows<M, const PRECISION: usize> = Vec<
     ),
 >;
 
-/// The rows of two models that answer alike, each read from its own symbol table: they are the same.
+/// The rows of two models that answer alike, each read from its own symbol table. They are the same.
 fn read_both<M, N, const PRECISION: usize>(
     alloc: Global,
     model: M,
@@ -117,7 +117,7 @@ where
     }
 }
 
-/// A model of the caller that names a letter twice: `a` has the quantiles below 32, and those from 32 on.
+/// A model of the caller's own with two rows of one letter: `a` has the quantiles below 32, and again those from 32 on.
 #[derive(Clone, Copy)]
 struct Twice;
 
@@ -144,7 +144,7 @@ impl DecoderModel<6> for Twice {
     ghost tile_law = { λ _. Prim.search rules };
 }
 
-/// The walk through its rows.
+/// Its symbol table.
 #[derive(Drop)]
 struct TwiceSymbolTable {
     next: u8,
@@ -203,7 +203,7 @@ fn quantiles_come_back_from_symbols_and_offsets(rt: HostRuntime) {
     }
 }
 
-/// The rows that are read of the model, and of a reference to it.
+/// The rows read from the model, and from a reference to it.
 fn read_letters(alloc: Global) -> Result<(Rows<Twice, 6>, Rows<&'static Twice, 6>), AllocError> {
     read_both(alloc, Twice, &Twice)
 }
@@ -224,7 +224,7 @@ fn a_symbol_table_of_the_caller_is_read(rt: HostRuntime) {
     same(&rt, others.as_slice(), expected.as_slice());
 }
 
-/// The encoder's model that is made of it has one symbol, and the entry of the later row.
+/// The encoder model made of it has one symbol, with the entry of the later row.
 #[test]
 fn an_encoder_has_the_later_one_of_two_rows(rt: HostRuntime) {
     let made = Encoder::<6>::from_iterable_entropy_model(rt.alloc(), Twice);

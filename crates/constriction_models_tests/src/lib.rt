@@ -1,8 +1,8 @@
-//! The tests of entropy models, of the counted search and of lookup models: callers that know contracts alone, types and
+//! The tests of entropy models, of the counted search and of lookup models: callers that rely on contracts alone, types and
 //! models of a caller's own, how many questions a search asks, how large lookup tables are, refused memory, and time.
 //!
-//! A library that has tests of its own is proved twice, so none of them has any. Tests use the
-//! public interface alone.
+//! The libraries have no tests of their own, because a library with tests is proved twice. These tests use the public
+//! interface alone.
 #![tactic(auto)]
 
 #[cfg(test)]
@@ -24,6 +24,8 @@ mod distinct_symbols;
 #[cfg(test)]
 mod generic_callers;
 #[cfg(test)]
+mod known_to_differ;
+#[cfg(test)]
 mod laws;
 #[cfg(test)]
 mod lookup_any_symbols;
@@ -41,8 +43,6 @@ mod search;
 mod slot_bits;
 #[cfg(test)]
 mod symbol_types;
-#[cfg(test)]
-mod known_to_differ;
 #[cfg(test)]
 mod uncloned_symbols;
 #[cfg(test)]

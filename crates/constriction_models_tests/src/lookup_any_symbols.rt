@@ -1,4 +1,4 @@
-//! The lookup model of any symbols: it is made of a model of the caller, and shown.
+//! Lookup models over any symbols: made of a model of the caller's own, and shown.
 
 ghost use Rattle.std.specs.Prelude.{◌≤◌};
 
@@ -16,7 +16,7 @@ use constriction_test_models::lookup_any_symbols::{Lookup, lookup};
 use constriction_test_models::own_model::three;
 use std::alloc::Global;
 
-/// Why the function makes no lookup model of this model, and why the method makes none.
+/// The errors of the function and of the method that make a lookup model of this model.
 pub fn refusals<M, const PRECISION: usize>(alloc: Global, source: M) -> [Option<ModelError>; 2]
 where
     M: IterableEntropyModel<PRECISION, Probability = u8> + Copy,
@@ -47,7 +47,7 @@ fn two_rows_of_one_letter_make_no_lookup_model(rt: HostRuntime) {
     same(&rt, refused, [Some(ModelError::InvalidTable), invalid]);
 }
 
-/// It has four slots of two quantiles each.
+/// The lookup model has four slots of two quantiles each.
 #[test]
 fn a_lookup_model_of_four_slots_is_made_of_a_model_of_the_caller(rt: HostRuntime) {
     let model = three('p', 'q', 'r');
@@ -64,7 +64,7 @@ fn a_lookup_model_shows_its_stored_entries_and_its_lookup_table(rt: HostRuntime)
     shows(&rt, rt.alloc(), &model, "[0, 1, 0, 1, 2]");
 }
 
-/// Lookup models of numbers and of any symbols say that their symbols differ.
+/// Lookup models over numbers and over any symbols answer that their symbols differ.
 #[test]
 fn lookup_models_know_that_their_symbols_differ(rt: HostRuntime) {
     let searching = weighted::<1>(rt.alloc(), &[1, 1], false).expect(&rt, "accepted");

@@ -1,4 +1,4 @@
-//! A model that several tests ask, and what they do with an answer.
+//! A model that several tests share, and a check of an answer.
 
 use crate::checks::same;
 use constriction::stream::model::DecoderModel;
@@ -12,7 +12,7 @@ pub fn small(rt: &impl Abort, alloc: Global) -> Small {
     weighted(alloc, &WEIGHTS, false).expect(rt, "accepted")
 }
 
-/// Stops the test where the model of letters has another row of 21.
+/// Asserts that the model of letters answers the quantile 21 with the row of `c`.
 pub fn has_row(rt: &impl Abort, model: &Decoder<6>) {
     same(rt, plain(model.quantile_function(21)), Ok(('c', 21, 1)));
 }

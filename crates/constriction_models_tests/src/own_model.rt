@@ -1,5 +1,5 @@
-//! A model of the caller, which stands in `constriction_test_models`: what it answers for a symbol, and what the caller knows
-//! of the models that are made from it.
+//! The model of a caller's own in `constriction_test_models`: its answers to symbols, and what the caller knows of models that
+//! are made from it.
 
 ghost use Rattle.std.specs.Prelude.{◌≡◌, ◌∷◌, [], IfOk, IsErr, nat_eq};
 ghost use Rattle.std.specs.List.{IsDistinct};
@@ -18,8 +18,8 @@ use constriction_test_models::own_model::{Triple, three};
 use std::alloc::Global;
 use std::process::Abort;
 
-/// The decoder's model of three letters. It has exactly their rows. It is not made where the first letter and the third one are
-/// the same.
+/// The decoder model of three letters. It has exactly their rows, and is not made if the first letter and the third are the
+/// same.
 fn decoder_of(alloc: Global, model: &Triple) -> Result<Decoder<char, 3>, ModelError>
     ensures ok { IfOk result (λ d. ⟦<Decoder<char, 3> as EntropyModel<3>>⟧.rows d
         ≡ rows_of (model.now.first ∷ model.now.second ∷ model.now.third ∷ []) (2 ∷ 5 ∷ 1 ∷ [])) }
@@ -28,14 +28,15 @@ fn decoder_of(alloc: Global, model: &Triple) -> Result<Decoder<char, 3>, ModelEr
     to_generic_decoder_model(alloc, model)
 }
 
-/// No two letters of a decoder's model are equal.
+/// No two letters of a decoder model are equal.
 fn letters_differ(model: &Decoder<char, 3>)
     ensures { IsDistinct nat_eq (symbols_of (⟦<Decoder<char, 3> as EntropyModel<3>>⟧.rows model.now)) }
 {
     non_contiguous_symbols_differ::<char, u8, Vec<(u8, char)>, 3>();
 }
 
-/// The decoder's model of three letters that are known to differ, since a decoder's model that compared them was made first.
+/// The decoder model of three letters, made without comparing them. They are known to differ, because a decoder model that
+/// compares them is made first.
 #[tactic(auto, using(crate::proofs::DistinctLemmas::same_are_equal))]
 fn decoder_of_distinct(alloc: Global, model: &Triple) -> Result<Decoder<char, 3>, ModelError> {
     match decoder_of(alloc, model) {
@@ -52,7 +53,7 @@ const ENTRIES: [(char, Option<(u8, u8)>); 3] = [
     ('r', None),
 ];
 
-/// Stops the test where the caller's model, or the encoder that is made of it, has other entries.
+/// Asserts that the caller's model, and the encoder made of it, have these entries.
 fn have_entries(rt: &impl Abort, model: &Triple, made: &Encoder<3>) {
     for each in &ENTRIES {
         let (symbol, expected) = *each;

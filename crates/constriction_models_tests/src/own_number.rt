@@ -1,4 +1,4 @@
-//! A word of the caller's own that is a whole number and nothing more, as the words of a model.
+//! A model over a word type of the caller's own that implements `WholeNumber` and not `BitArray`.
 
 ghost use Rattle.std.specs.Prelude.{◌<◌};
 ghost use Rattle.std.proofs.Common.{ap};
@@ -12,7 +12,7 @@ use constriction_words::WholeNumber;
 use std::alloc::AllocError;
 use std::process::Abort;
 
-/// A share of 256.
+/// A share, in parts of 256.
 #[derive(Clone, Copy)]
 pub struct Share(u8);
 
@@ -113,10 +113,10 @@ impl WholeNumber for Share {
 /// A model over shares.
 type Shares = ContiguousCategoricalEntropyModel<Share, Vec<Share>, 6>;
 
-/// A row, in numbers.
+/// A row of numbers: symbol, left cumulative and weight.
 type Row = (usize, u8, u8);
 
-/// The row of an answer.
+/// The row that was answered.
 fn row(answer: Result<(usize, Share, SomeShare), AllocError>) -> Option<Row> {
     match answer {
         Ok((symbol, left, weight)) => Some((symbol, left.0, weight.share.0)),
@@ -124,7 +124,7 @@ fn row(answer: Result<(usize, Share, SomeShare), AllocError>) -> Option<Row> {
     }
 }
 
-/// The entry of a symbol as a row, in numbers.
+/// The entry of a symbol, as a row of numbers.
 fn entry(model: &Shares, symbol: usize) -> Option<Row> {
     match model.left_cumulative_and_probability(&symbol) {
         Some((left, weight)) => Some((symbol, left.0, weight.share.0)),
@@ -132,7 +132,7 @@ fn entry(model: &Shares, symbol: usize) -> Option<Row> {
     }
 }
 
-/// Stops the test where this is not the row.
+/// Asserts that the row that was found is the expected one.
 fn is_row(rt: &impl Abort, found: Option<Row>, expected: Option<Row>) {
     same(rt, found, expected);
 }

@@ -1,5 +1,4 @@
-//! A model of the caller that stores its rows, and a lookup table beside it: how often a look-up reads where a row begins, and
-//! how it asks the model.
+//! A model of the caller's own with a lookup table: how often a look-up reads where a row begins, and what it asks of the model.
 
 ghost use Rattle.std.specs.Prelude.{◌<◌, ◌^◌};
 
@@ -29,15 +28,15 @@ impl CdfEntry<(u16, Watched)> for Counted {
     }
 }
 
-/// What a model was asked: how often for the row of a quantile, and the number of the words that stood after the slots of a
-/// lookup table when it was asked for a row beside these.
+/// What a model was asked: how often for the row of a quantile, and how many words after the slots of its lookup table it was
+/// handed with a question for a row.
 #[derive(Drop)]
 struct Asked {
     searches: Cell<usize>,
     beside: Cell<usize>,
 }
 
-/// A model that notes what it is asked. Its entries count how often they are read.
+/// A model that records what it is asked. Its entries count how often they are read.
 #[derive(Drop)]
 struct Noting<'c, Model> {
     model: Model,
@@ -117,7 +116,7 @@ where
     }
 }
 
-/// The number of a quantile's symbol.
+/// The number of the symbol at a quantile.
 fn number_at<M: DecoderModel<12, Symbol = Watched, Probability = u16>>(
     model: &M,
     quantile: u16,
@@ -142,9 +141,9 @@ type Tabled<'c, const SLOT_BITS: usize> = LookupDecoderModel<
 /// A quantile, the number of its row, and how often a look-up reads where a row begins.
 type Case = (u16, u32, usize);
 
-/// Stops the test where a lookup model of sixteen rows, with so many slots, answers a quantile otherwise, or reads more or less
-/// often. It is made by two passes over the rows, the first of which leaves out the first row. Of the model it asks rows beside
-/// the words after its slots, which are one a row and one more, and no search.
+/// Asserts that a lookup model of sixteen rows, with `2^SLOT_BITS` slots, answers these quantiles, and reads as often as stated.
+/// Making it takes two passes over the rows, and the first pass leaves out the first row. A look-up hands the model the words
+/// after the slots, one for each row and one more, and never asks it to search.
 fn looks_up<const SLOT_BITS: usize>(rt: &impl Abort, alloc: Global, cases: &[Case]) {
     let tally = tally(alloc).expect(rt, "memory");
     let asked = Asked {

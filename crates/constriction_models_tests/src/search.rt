@@ -1,4 +1,4 @@
-//! The counted search over a probe of the caller, and in a model of 4,194,304 rows.
+//! The counted search of a probe of the caller's own, and of a model of 4,194,304 rows.
 
 ghost use Rattle.std.specs.Prelude.{◌≤◌, ◌<◌, ◌^◌, ◌+◌};
 ghost use Rattle.constriction_models_tests.specs.Evens.{evens};
@@ -16,7 +16,7 @@ use constriction_words::{NonZeroBitArray, WholeNumber};
 use std::cell::Cell;
 use std::iter;
 
-/// A probe of the caller, whose cumulatives are computed: the even numbers from 0 on. The count of its questions outlives it.
+/// A probe of the caller's own that computes its cumulatives, the even numbers from 0 on. The count of its questions outlives it.
 #[derive(Drop)]
 struct Evens<'c> {
     size: usize,
@@ -64,7 +64,7 @@ fn a_probe_of_the_caller_is_searched(rt: HostRuntime) {
     same(&rt, [rows.asked(), questions.get()], [10, 10]);
 }
 
-/// The index that is found in a probe of so many even numbers, which is not asked afterwards, and how often it was asked.
+/// The index that `row_in_probe` finds among `size` even numbers, and how many questions it asked.
 #[tactic(auto, using(crate::proofs::EvenLemmas::length_evens))]
 fn searched<const FEW: usize>(size: usize, q: u16) -> (usize, usize)
     requires some { 0 < size }
@@ -80,7 +80,7 @@ fn searched<const FEW: usize>(size: usize, q: u16) -> (usize, usize)
     (row_in_probe::<_, FEW>(rows, q), questions.get())
 }
 
-/// How many even numbers a probe has, the word that is searched for, the index that is found, and by how many questions.
+/// How many even numbers a probe has, the word that is searched for, the index that is found, and how many questions that takes.
 const SEARCHES: [(usize, u16, usize, usize); 10] = [
     (1, 9, 0, 0),
     (2, 1, 0, 1),
@@ -129,8 +129,8 @@ fn a_probe_of_stored_entries_counts_its_questions(rt: HostRuntime) {
 
 type Wide = DefaultContiguousCategoricalEntropyModel;
 
-/// Whether the row of a quantile, the last one of four from `left` on, has this symbol, and whether the counted search finds
-/// it by at most 22 questions.
+/// Whether the last of the four quantiles from `left` on has the row of this symbol, and the counted search finds that row by at
+/// most 22 questions.
 fn is_found(model: &Wide, symbol: usize, left: u32) -> bool
     requires { left + 3 < 2 ^ 24 }
 {
@@ -140,8 +140,8 @@ fn is_found(model: &Wide, symbol: usize, left: u32) -> bool
     answer == Some((symbol, left, 4)) && found == symbol && rows.asked() <= 22
 }
 
-/// The last quantile of each of 4,194,304 rows is looked up. A search of the probe finds its row by at most 22 questions. That a
-/// look-up goes this way no clause says: if it went over the rows, these look-ups would not end within a minute.
+/// The last quantile of each of 4,194,304 rows is looked up. A search of the probe finds its row by at most 22 questions. No
+/// clause says that a look-up searches too. If it went over the rows, these look-ups would not end within a minute.
 #[test]
 fn a_look_up_does_not_go_over_all_rows(rt: HostRuntime) {
     let fours = iter::repeat_n(4u32, 4_194_304);
@@ -153,7 +153,7 @@ fn a_look_up_does_not_go_over_all_rows(rt: HostRuntime) {
     }
 }
 
-/// The same of the decoder over any symbols that has these rows.
+/// The same for the decoder over any symbols with these rows.
 #[test]
 fn a_look_up_of_any_symbols_does_not_go_over_all_rows(rt: HostRuntime) {
     let fours = iter::repeat_n(4u32, 4_194_304);
@@ -168,7 +168,7 @@ fn a_look_up_of_any_symbols_does_not_go_over_all_rows(rt: HostRuntime) {
     }
 }
 
-/// The encoder over the entries of 1,048,576 rows. If a look-up went over these, as many look-ups would not end within a minute.
+/// The encoder has 1,048,576 entries. If a look-up went over these, 1,048,576 look-ups would not end within a minute.
 #[test]
 fn a_look_up_of_an_encoder_does_not_go_over_all_symbols(rt: HostRuntime) {
     let sixteens = iter::repeat_n(16u32, 1_048_576);

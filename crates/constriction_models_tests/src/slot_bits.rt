@@ -1,4 +1,4 @@
-//! How many words a lookup table has, and the stored entries that a model lends.
+//! How many words a lookup table has, and which stored entries a model lends.
 
 ghost use Rattle.std.specs.Prelude.{◌<◌, ◌≤◌, length};
 
@@ -11,7 +11,7 @@ use constriction_words::WholeNumber;
 use std::alloc::Global;
 use std::process::Abort;
 
-/// The row at an index of a model that stores its rows, and how many stored entries it lends.
+/// The row at an index of a model that stores its rows, and how many stored entries the model lends.
 fn stored<M>(model: &M, index: usize) -> Option<(usize, u16, u16, usize)>
 where
     M: AnswersRows<12> + EntropyModel<12, Symbol = usize, Probability = u16>,
@@ -36,7 +36,7 @@ fn a_model_that_stores_its_rows_lends_them(rt: HostRuntime) {
     same(&rt, stored(&model, 3), Some((3, 3, 1, 5)));
 }
 
-/// A lookup model whose words are `u8`, with so many slots.
+/// A lookup model over `u8` with `2^SLOT_BITS` slots.
 type Slotted<const PRECISION: usize, const SLOT_BITS: usize> = SlottedContiguousLookupDecoderModel<
     u8,
     Vec<u8>,
@@ -45,7 +45,7 @@ type Slotted<const PRECISION: usize, const SLOT_BITS: usize> = SlottedContiguous
     SLOT_BITS,
 >;
 
-/// Stops the test where the text that shows the lookup model of two weights does not have these words.
+/// Asserts that the text by which `Debug` shows the lookup model of two weights contains these words.
 fn has_words<const PRECISION: usize, const SLOT_BITS: usize>(
     rt: &impl Abort,
     alloc: Global,
@@ -61,8 +61,8 @@ fn has_words<const PRECISION: usize, const SLOT_BITS: usize>(
     shows(rt, alloc, &made.expect(rt, "accepted"), words);
 }
 
-/// A lookup table has one word for each slot where the slots are as many as the quantiles, and two where they are fewer. The
-/// words of the contiguous model are shown before it.
+/// A lookup table has one word a slot if there is a slot for each quantile, and two if there are fewer slots. The text shows the
+/// words of the contiguous model before it.
 #[test]
 fn a_lookup_table_has_as_many_words_as_its_slots_need(rt: HostRuntime) {
     has_words::<1, 8>(&rt, rt.alloc(), [1, 1], "[0, 1, 2]");

@@ -1,4 +1,4 @@
-//! Models of symbols whose type says itself which symbols are equal, or which may be cloned.
+//! Models of symbols with an equality of their own, and of symbols that may fail to clone.
 
 ghost use Rattle.std.specs.Prelude.{◌%◌, ◌==◌, ◌<◌};
 ghost use Rattle.std.specs.Cmp.Rules.{comparing, hashing};
@@ -19,7 +19,7 @@ use std::alloc::{AllocError, Global};
 use std::hash::{Hash, Hasher};
 use std::process::Abort;
 
-/// A tag. Two tags are equal where their numbers have the same last digit.
+/// A tag. Two tags are equal if their numbers have the same last digit.
 #[derive(Clone, Copy)]
 struct Tag(u32);
 
@@ -53,7 +53,7 @@ type TagLookup = Lookup<Tag, 6>;
 
 type TagEncoder = Encoder<Tag, 6>;
 
-/// The row of an answer, with the number of its tag.
+/// The row that was answered, with the number of its tag.
 fn tag_row(answer: Result<(Tag, u8, Weight<u8>), AllocError>) -> Option<(u32, u8, u8)> {
     match plain(answer) {
         Ok((tag, left, weight)) => Some((tag.0, left, weight)),
@@ -61,10 +61,10 @@ fn tag_row(answer: Result<(Tag, u8, Weight<u8>), AllocError>) -> Option<(u32, u8
     }
 }
 
-/// The rows of the quantiles 31 and 32, over tags.
+/// The rows of the quantiles 31 and 32, with the numbers of their tags.
 type TagRows = [Option<(u32, u8, u8)>; 2];
 
-/// The rows of the decoder's model of two tags, 32 quantiles each.
+/// The rows of a decoder model of two tags with 32 quantiles each.
 fn decoded(alloc: Global, [first, second]: [u32; 2]) -> Result<TagRows, ModelError> {
     let tags = [Tag(first), Tag(second)];
     let weights = [32, 32];
@@ -79,7 +79,7 @@ fn decoded(alloc: Global, [first, second]: [u32; 2]) -> Result<TagRows, ModelErr
     }
 }
 
-/// Why there is no lookup model of the same tags.
+/// The error of a lookup model of the same tags, if it has one.
 fn lookup_refusal(alloc: Global, [first, second]: [u32; 2]) -> Option<ModelError> {
     let tags = [Tag(first), Tag(second)];
     let weights = [32, 32];
@@ -89,7 +89,7 @@ fn lookup_refusal(alloc: Global, [first, second]: [u32; 2]) -> Option<ModelError
     made.err()
 }
 
-/// The entry of a tag in the encoder's model of the same tags.
+/// The entry of a tag in the encoder model of the same tags.
 fn encoded(
     alloc: Global,
     [first, second]: [u32; 2],
@@ -105,7 +105,7 @@ fn encoded(
     }
 }
 
-/// The rows of the tags 12 and 3, as they were given.
+/// The rows of the tags 12 and 3.
 const TAG_ROWS: TagRows = [Some((12, 0, 32)), Some((3, 32, 32))];
 
 #[test]
@@ -126,7 +126,7 @@ fn tags_of_one_last_digit_are_refused(rt: HostRuntime) {
     same(&rt, encoded(rt.alloc(), [12, 2], 2), Err(invalid));
 }
 
-/// The row of an answer, with the character of its letter.
+/// The row that was answered, with the character of its letter.
 fn letter_row(answer: Result<(Letter, u8, Weight<u8>), AllocError>) -> Result<Row, AllocError> {
     match plain(answer) {
         Ok((letter, left, weight)) => Ok((letter.0, left, weight)),
@@ -134,7 +134,7 @@ fn letter_row(answer: Result<(Letter, u8, Weight<u8>), AllocError>) -> Result<Ro
     }
 }
 
-/// Whether a step is from the back, and what it gives: a row, or the refusal in the place of one.
+/// Whether a step is taken from the back, and what it gives: a row, or an error in its place.
 type Step = (bool, Option<Result<Row, AllocError>>);
 
 const STEPS: [[Step; 5]; 2] = [
@@ -154,7 +154,7 @@ const STEPS: [[Step; 5]; 2] = [
     ],
 ];
 
-/// Stops the test where a walk through the symbol table does not give what these steps say.
+/// Asserts that a walk through the symbol table takes these steps.
 fn walks(
     rt: &impl Abort,
     symbol_table: NonContiguousSymbolTable<'_, Letter, u8, 6>,
@@ -176,7 +176,7 @@ fn walks(
     }
 }
 
-/// What is answered for the first letter, and for the second one.
+/// The answers to a quantile of the first letter, and to one of the second letter.
 const ANSWERS: [Result<Row, AllocError>; 2] = [Ok(('a', 0, 16)), Err(AllocError)];
 
 #[test]
@@ -190,7 +190,7 @@ fn a_refused_clone_stands_in_the_place_of_its_row(rt: HostRuntime) {
     walks(&rt, model.symbol_table(), back);
 }
 
-/// The lookup model takes the letters from the searching one and clones none.
+/// The lookup model is made by moving the letters of the searching model, so no letter is cloned.
 #[test]
 fn a_refused_clone_stands_in_the_place_of_the_row_that_is_looked_up(rt: HostRuntime) {
     let model = letters(rt.alloc()).expect(&rt, "accepted");
@@ -202,7 +202,7 @@ fn a_refused_clone_stands_in_the_place_of_the_row_that_is_looked_up(rt: HostRunt
     same(&rt, model.clone().err(), Some(AllocError));
 }
 
-/// Stops the test if one of these is not `OutOfMemory`.
+/// Asserts that each of these is `OutOfMemory`.
 fn are_refused(rt: &impl Abort, refusals: &[Option<ModelError>]) {
     for refusal in refusals {
         same(rt, refusal, &Some(ModelError::OutOfMemory));

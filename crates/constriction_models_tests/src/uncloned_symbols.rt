@@ -1,4 +1,4 @@
-//! Models of symbols that cannot be cloned, and of symbols of which the last one refuses its clone.
+//! Models of symbols that cannot be cloned, and of letters whose last one fails to clone.
 
 ghost use Rattle.std.specs.Prelude.{◌<◌};
 
@@ -15,7 +15,7 @@ use constriction_test_models::lookup_any_symbols::Lookup;
 use constriction_test_models::symbol_types::Letter;
 use std::process::Abort;
 
-/// A seal, which cannot be cloned.
+/// A symbol without `Clone`.
 #[derive(Debug, PartialEq, Eq, PartialOrd, Ord, Hash, Drop)]
 struct Seal(u32);
 
@@ -23,7 +23,7 @@ type SealDecoder = Decoder<Seal, 6>;
 
 type SealLookup = Lookup<Seal, 6>;
 
-/// Three seals, which have 16, 16 and 32 quantiles.
+/// The weights of three seals.
 const WEIGHTS: [u8; 3] = [16, 16, 32];
 
 fn seals() -> [Seal; 3] {
@@ -38,7 +38,7 @@ fn found(model: &SealDecoder, quantile: u8) -> usize
     row_of_quantile(&mut rows, quantile)
 }
 
-/// Stops the test where no model was made, or where it has other rows than those of the seals.
+/// Asserts that a model was made, and that it has the rows of the seals.
 fn has_seals(rt: &impl Abort, made: Result<SealDecoder, ModelError>) {
     let model = made.expect(rt, "accepted");
     same(
@@ -121,12 +121,12 @@ fn symbols_without_a_clone_are_encoded(rt: HostRuntime) {
     );
 }
 
-/// Letters, of which the last one refuses its clone.
+/// Letters. A clone of the last one fails.
 fn letters() -> [Letter; 3] {
     [Letter('a'), Letter('c'), Letter('r')]
 }
 
-/// Stops the test where no model was made, or where it does not have three rows.
+/// Asserts that a model was made, and that it has three rows.
 fn has_three(rt: &impl Abort, made: Result<Decoder<Letter, 6>, ModelError>) {
     same(rt, made.map(|model| model.support_size()), Ok(3));
 }
@@ -165,7 +165,7 @@ fn no_constructor_clones_the_last_symbol(rt: HostRuntime) {
     );
 }
 
-/// A walk through a contiguous model clones nothing, and one through a decoder clones each symbol.
+/// A walk through a decoder model clones each symbol, and one through a contiguous model clones nothing.
 #[test]
 fn a_conversion_refuses_for_the_clones_of_its_walk(rt: HostRuntime) {
     let alloc = rt.alloc();

@@ -21,8 +21,8 @@ const WEIGHTS: [u16; 15] = [
     1, 1, 1, 1, 1, 11, 300, 300, 300, 300, 300, 300, 300, 300, 300,
 ];
 
-/// The model of the numbers from 0 to 15, which are in order. The first five have a quantile each, the sixth
-/// has those up to 15, and the seventh those from 16 to 315.
+/// The model of the numbers from 0 to 15, in order. The first five have one quantile each, the sixth has the quantiles up
+/// to 15, and the seventh has those from 16 to 315.
 pub fn sixteen(rt: &impl Abort, alloc: Global, tally: &Tally) -> Decoder {
     let symbols = symbols(alloc, tally, 15, 15).expect(rt, "memory");
     let made = Decoder::from_sorted_symbols_and_nonzero_fixed_point_probabilities(
@@ -31,7 +31,7 @@ pub fn sixteen(rt: &impl Abort, alloc: Global, tally: &Tally) -> Decoder {
     made.expect(rt, "accepted")
 }
 
-/// Stops the test where a call cloned, compared or hashed symbols more or less often than that.
+/// Asserts how often a call cloned, compared and hashed symbols.
 fn counts(rt: &impl Abort, tally: &Tally, call: &str, expected: [usize; 3]) {
     let found = [
         tally.cloned.replace(0),
@@ -72,7 +72,7 @@ fn a_lookup_model_clones_a_symbol_once_for_each_row_that_it_gives(rt: HostRuntim
     counts(&rt, &tally, "clone", [16, 0, 0]);
 }
 
-/// The encoder's model of the numbers from 0 to 4,999.
+/// The encoder model of the numbers from 0 to 4,999.
 fn five_thousand(rt: &impl Abort, alloc: Global, tally: &Tally) -> Encoder {
     let symbols = symbols(alloc, tally, 4999, 4999).expect(rt, "memory");
     let made = Encoder::from_symbols_and_nonzero_fixed_point_probabilities(
@@ -92,7 +92,8 @@ fn are_looked_up(rt: &impl Abort, model: &Encoder, symbols: &[Watched]) {
     }
 }
 
-/// One hash of each tells 5,000 symbols apart, and one hash finds the entry of a symbol, by at most two comparisons on average.
+/// The constructor hashes each of 5,000 symbols once, with few comparisons. A look-up hashes once, and compares at most twice on
+/// average.
 #[test]
 fn an_entry_is_found_among_5_000_without_comparing_all(rt: HostRuntime) {
     let tally = tally(rt.alloc()).expect(&rt, "memory");

@@ -1,5 +1,5 @@
-//! Lookup models with many rows: the questions of a search among the rows that meet a slot, and weights that are refused
-//! before there is a lookup table.
+//! Lookup models with many rows in a slot: how many questions a search of these asks. Weights are refused before there is a
+//! lookup table.
 
 ghost use Rattle.std.specs.Prelude.{◌<◌, ◌^◌};
 
@@ -13,7 +13,7 @@ use constriction_test_models::plain_rows::row;
 use std::alloc::Global;
 use std::iter;
 
-/// A lookup model with 256 slots, since their number is not given.
+/// A lookup model with 256 slots, the default.
 type Lookup<const PRECISION: usize> = ContiguousLookupDecoderModel<
     usize,
     Vec<usize>,
@@ -21,7 +21,7 @@ type Lookup<const PRECISION: usize> = ContiguousLookupDecoderModel<
     PRECISION,
 >;
 
-/// The same over words that are `u16`.
+/// The same over `u16`.
 type Narrow<const PRECISION: usize> = ContiguousLookupDecoderModel<
     u16,
     Vec<u16>,
@@ -29,8 +29,8 @@ type Narrow<const PRECISION: usize> = ContiguousLookupDecoderModel<
     PRECISION,
 >;
 
-/// The index of the row that a search finds among those that meet the quantile's slot, how many these are, and how often
-/// it asked.
+/// A search of the rows that meet the quantile's slot: the index of the row that it finds, how many rows it searches, and how
+/// many questions it asks.
 fn searched(model: &Narrow<12>, quantile: u16) -> (usize, usize, usize)
     requires { quantile < 2 ^ 12 }
 {
@@ -40,7 +40,7 @@ fn searched(model: &Narrow<12>, quantile: u16) -> (usize, usize, usize)
     (first.wrapping_add(index), size, rows.asked())
 }
 
-/// Quantiles of five weights, the indices of their rows, how many rows meet their slots of 16 quantiles, and how many
+/// For a model of five weights: a quantile, the index of its row, how many rows meet its slot of 16 quantiles, and how many
 /// questions a search of these asks.
 const CASES: [(u16, usize, usize, usize); 4] = [
     (3, 3, 5, 3),
@@ -66,10 +66,10 @@ fn a_slot_is_searched_where_more_rows_than_one_meet_it(rt: HostRuntime) {
     }
 }
 
-/// A lookup model of bytes, at their full width.
+/// A lookup model over `u8`, at the full width.
 type Bytes = ContiguousLookupDecoderModel<u8, Vec<u8>, Vec<u8>, 8>;
 
-/// The index of the row of a quantile, and how often a search of its slot asked.
+/// The index of the row of a quantile, and how many questions a search of its slot asks.
 fn searched_byte(model: &Bytes, quantile: u8) -> (usize, usize) {
     let (first, mut rows) = model.quantile_probe(quantile);
     let index = row_of_quantile(&mut rows, quantile);
@@ -97,7 +97,7 @@ fn each_quantile_of_16_bits_may_have_a_row_of_its_own(rt: HostRuntime) {
     }
 }
 
-/// Whether a quantile has a row of its own, and a search of its slot finds it by at most 22 questions.
+/// Whether a quantile has a row of its own, and a search of its slot finds this row by at most 22 questions.
 fn is_found(model: &Lookup<40>, quantile: usize) -> bool
     requires { quantile < 2 ^ 40 }
 {
@@ -109,9 +109,9 @@ fn is_found(model: &Lookup<40>, quantile: usize) -> bool
         && rows.asked() <= 22
 }
 
-/// The model has 4,194,303 rows of weight 1 in the first slot, and one row of all quantiles that are left. A search of
-/// the probe finds each of the rows of weight 1 by at most 22 questions. That a look-up goes this way no clause says: if it went
-/// over the rows, these 4,194,303 look-ups would not end within a minute.
+/// The model has 4,194,303 rows of weight 1 in the first slot, and one row with all other quantiles. A search of the probe finds
+/// each row of weight 1 by at most 22 questions. No clause says that a look-up searches too. If it went over the rows, these
+/// 4,194,303 look-ups would not end within a minute.
 #[test]
 fn a_slot_that_4_194_304_rows_meet_is_searched(rt: HostRuntime) {
     let ones = iter::repeat_n(1usize, 4_194_303);
@@ -122,7 +122,7 @@ fn a_slot_that_4_194_304_rows_meet_is_searched(rt: HostRuntime) {
     }
 }
 
-/// The same of the lookup model over any symbols that has these rows.
+/// The same for the lookup model over any symbols with these rows.
 #[test]
 fn a_slot_of_any_symbols_that_4_194_304_rows_meet_is_searched(rt: HostRuntime) {
     let ones = iter::repeat_n(1usize, 4_194_303);
@@ -143,13 +143,13 @@ fn a_slot_of_any_symbols_that_4_194_304_rows_meet_is_searched(rt: HostRuntime) {
 /// A lookup model with a slot for each of 2^60 quantiles. No machine has memory for its lookup table.
 type Vast = SlottedContiguousLookupDecoderModel<usize, Vec<usize>, Vec<usize>, 60, 60>;
 
-/// Why two weights are refused.
+/// The error of two weights.
 fn refused_for(alloc: Global, weights: [usize; 2], infer_last: bool) -> Option<ModelError> {
     Vast::from_nonzero_fixed_point_probabilities(alloc, weights, infer_last).err()
 }
 
-/// Where weights are accepted, memory for the lookup table is refused. Where the second weight is more than there are
-/// quantiles, the weights are refused, and that memory is not asked for.
+/// If weights are accepted, memory for the lookup table is refused. If the second weight is too large, the weights are refused
+/// before that memory is asked for.
 #[test]
 fn weights_are_refused_before_a_lookup_table_grows(rt: HostRuntime) {
     let accepted = refused_for(rt.alloc(), [1, (1 << 60) - 1], false);

@@ -5,7 +5,7 @@ use Rattle.std.proofs.lemmas.Nat.{pow_pos, pow-add, div-mul-add}
 less-one : (k m d : ℕ) → m ≡ k + 1 → 0 < d → m * d - 1 ≡ k * d + (d - 1)
 less-one k m d e up = rw e (omega arith)
 
--- the greatest word of b bits, shifted down to p bits, is the greatest one of p bits
+-- the greatest word of b bits, shifted right to p bits, is the greatest word of p bits
 pub shift-greatest : (b p top r : ℕ) → p ≤ b → top ≡ 2 ^ b - 1 → r ≡ top / 2 ^ (b - p) → r + 1 ≡ 2 ^ p
 shift-greatest b p top r le top-is r-is =
     let split : 2 ^ b ≡ 2 ^ p * 2 ^ (b - p) = (let e : b ≡ p + (b - p) = omega arith in ap (λ k. 2 ^ k) e) ∙ pow-add 2 p (b - p) in

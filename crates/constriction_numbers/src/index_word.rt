@@ -4,18 +4,18 @@ ghost use Rattle.std.specs.Prelude.{◌≡◌, ◌<◌, ◌^◌, min};
 
 use crate::whole_number::WholeNumber;
 
-/// A word that is meant as an index. The constructors of lookup models ask for one, but that of a table beside a caller's own model.
+/// A word that is read as an index. All constructors of lookup models ask for one, except `with_table`.
 ///
-/// A lookup table holds row indices as words, and a look-up begins with the number of a quantile. Each of both lies below `2^63`, and
-/// a look-up itself calls `to_number` and `from_number` of [`WholeNumber`]. The unsigned integers of std are index words, and for a
-/// type of a caller's own an empty `impl` will do.
+/// A lookup table holds row indices as words, and a look-up begins with the number of a quantile. Both are below `2^63`, so a look-up
+/// itself needs only `to_number` and `from_number` of [`WholeNumber`]. The unsigned integers of std are index words, and a caller's own
+/// type needs only an empty `impl`.
 pub trait IndexWord: WholeNumber {
-    /// The number of the word, or `usize::MAX` where it is no `usize`.
+    /// The number of the word, or `usize::MAX` if that is less.
     #[inline]
     fn to_index(self) -> usize
         ensures { result ≡ min (Self.whole self) usize.MAX }
     {
-        // that the number is below 2^BITS says no law, but this difference
+        // No law says that the number is below `2^BITS`; the contract of this difference does.
         let _is_a_word = self.wrapping_minus(Self::least());
         if Self::BITS > 64 && Self::greatest_of_bits(64).is_below(self) {
             return usize::MAX;
@@ -23,7 +23,7 @@ pub trait IndexWord: WholeNumber {
         self.to_number()
     }
 
-    /// The word of an index, of which the caller knows that it is below `2^BITS`.
+    /// The word of an index below `2^BITS`.
     #[inline]
     fn from_index(i: usize) -> Self
         requires { i < 2 ^ Self.BITS }

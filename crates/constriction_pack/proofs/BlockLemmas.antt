@@ -55,7 +55,7 @@ row_entry ws r h =
     zero-plus : (n : ℕ) → 0 + n ≡ n
     zero-plus n = omega arith
 
--- symbols that were decoded one after the other have been encoded
+-- symbols that are decoded one after another are encoded so
 pub encoded_as_decoded : (ws : List ℕ) (precision : ℕ) (symbols : List ℕ) (full rest : Content)
     → InTurn (IsDecoded (λ s t. t ≡ s) (contiguous_rows ws) precision) symbols full rest
     → InTurn (IsEncoded (entry_of nat_eq (contiguous_rows ws)) precision) symbols full rest
@@ -73,7 +73,7 @@ encoded_as_decoded ws precision (s ∷ ss) full rest h =
       encoded_as_decoded ws precision ss h.0 rest h.2,
     )
 
--- what was decoded until nothing was left is a stack
+-- words from which symbols are decoded until nothing is left are the words of these symbols
 pub stack_from_decoded : (rows looked : List (Row ℕ)) (ws symbols words : List ℕ) (opened left : Content) → rows ≡ contiguous_rows ws
     → looked ≡ rows → IsCompressed opened words
     → InTurn (IsDecoded (λ s t. t ≡ s) looked 16) symbols opened left → left.state ≡ 0 → left.words ≡ []

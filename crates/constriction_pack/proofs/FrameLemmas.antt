@@ -1,12 +1,12 @@
--- Frames: their words are known from their bytes, also where others follow.
-use Rattle.std.proofs.Common.{◌≡◌, ℕ, ◌+◌, ◌*◌, ◌/◌, ◌%◌, ◌<◌, List, [], ◌∷◌, ◌++◌, length, take, drop, refl, ap, sym, ◌∙◌, arith}
+-- Frames: their bytes fix their words, also if other bytes follow.
+use Rattle.std.proofs.Common.{◌≡◌, ℕ, ◌+◌, ◌-◌, ◌*◌, ◌/◌, ◌%◌, ◌<◌, ◌≤◌, List, [], ◌∷◌, ◌++◌, length, get_or, take, drop, refl, ap, sym, ◌∙◌, arith}
 use Rattle.std.specs.Int.{from_le_bytes, to_le_bytes, w32, w64}
-use Rattle.std.proofs.lemmas.List.{length-append, take_at, drop_at}
+use Rattle.std.proofs.lemmas.List.{length-append, length-drop, take_all, take_at, drop_at}
 use Rattle.constriction_coders.specs.Bytes.{bytes_of_words}
 use Rattle.constriction_coders.specs.BytesLemmas.{bytes_once, length-bytes_of_words, word_back}
 use Rattle.constriction_pack.specs.Frames.{counted_bytes, frame_of, hash_after, hash_after_frame}
 
--- lists that go on to be equal are equal where they are as long
+-- if two lists are equal, so are their beginnings of one length
 pub same_front : (xs ys vs ws : List ℕ) → xs ++ vs ≡ ys ++ ws → length xs ≡ length ys → (xs ≡ ys) × (vs ≡ ws)
 same_front xs ys vs ws e n = (
   sym (take_at xs vs (length xs) refl) ∙ ap (λ zs. take (length xs) zs) e ∙ take_at ys ws (length xs) (sym n),
@@ -53,6 +53,44 @@ unfolding counted_bytes
 counted a b c d words bytes p q r s n e =
     let one : bytes_of_words (length words ∷ []) ≡ a ∷ b ∷ c ∷ d ∷ [] = word_back a b c d (length words) p q r s n in
     ap (λ ys. a ∷ b ∷ c ∷ d ∷ ys) (sym e) ∙ ap (λ xs. xs ++ bytes_of_words words) (sym one)
+
+-- four bytes, and what follows them
+pub first_four : (xs : List ℕ) → 4 ≤ length xs → xs ≡ get_or xs 0 0 ∷ get_or xs 1 0 ∷ get_or xs 2 0 ∷ get_or xs 3 0 ∷ drop 4 xs
+first_four (a ∷ b ∷ c ∷ d ∷ xs) h = refl
+first_four (a ∷ b ∷ c ∷ []) h = absurd (omega arith)
+first_four (a ∷ b ∷ []) h = absurd (omega arith)
+first_four (a ∷ []) h = absurd (omega arith)
+first_four [] h = absurd (omega arith)
+
+-- the number that is read first
+abbrev pub number_in : List ℕ → ℕ
+number_in xs = from_le_bytes w32 (get_or xs 0 0 ∷ get_or xs 1 0 ∷ get_or xs 2 0 ∷ get_or xs 3 0 ∷ [])
+
+-- what follows it
+abbrev pub behind : List ℕ → List ℕ
+behind xs = take (length xs - 4) (drop 4 xs)
+
+behind-all : (xs : List ℕ) → behind xs ≡ drop 4 xs
+behind-all xs = take_all (length xs - 4) (drop 4 xs) (omega (arith, length-drop 4 xs))
+
+-- words that were read behind their number
+pub counted_in : (xs words : List ℕ) → 4 ≤ length xs → ((i : ℕ) → i < 4 → get_or xs i 0 < 256) → length words ≡ number_in xs
+    → bytes_of_words words ≡ behind xs → xs ≡ counted_bytes words
+counted_in xs words long bytes number rest =
+    first_four xs long
+    ∙ counted (get_or xs 0 0) (get_or xs 1 0) (get_or xs 2 0) (get_or xs 3 0) words (drop 4 xs) (bytes 0 (omega arith))
+    (bytes 1 (omega arith)) (bytes 2 (omega arith)) (bytes 3 (omega arith)) number (rest ∙ behind-all xs)
+
+-- words behind their number: their bytes are whole words, and the words have this number
+pub behind-whole : (xs words : List ℕ) → xs ≡ counted_bytes words → length (behind xs) % 4 ≡ 0
+behind-whole xs words e = omega (arith, ap length (behind-all xs), length-drop 4 xs, ap length e, length-counted_bytes words)
+
+pub number_in-counted : (xs words read : List ℕ) → xs ≡ counted_bytes words → bytes_of_words read ≡ behind xs → length read ≡ number_in xs
+unfolding counted_bytes
+number_in-counted xs words read e h =
+    let same : read ≡ words = bytes_once read words (h ∙ behind-all xs ∙ ap (λ ys. drop 4 ys) e) in
+    let n : ℕ = length words in
+    rw e (ap length same ∙ sym (number-value n (n % 256) (n / 256 % 256) (n / 65536 % 256) (n / 16777216) refl refl refl refl))
 
 pub counted_once : (ms bs : List ℕ) → counted_bytes ms ≡ counted_bytes bs → ms ≡ bs
 unfolding counted_bytes

@@ -1,4 +1,5 @@
 pub mod BlockLemmas
 pub mod FrameLemmas
+pub mod ReadLemmas
 pub mod StreamLemmas
 pub mod WeightLemmas

@@ -1,60 +1,39 @@
 -- Packed files, frame by frame.
-use Rattle.std.proofs.Common.{◌≡◌, ◌⊎◌, ℕ, ◌≤◌, List, [], ◌∷◌, ◌++◌, Option, Some, None, length, refl, ap, sym, ◌∙◌, subst, append_assoc, append-nil, arith, inl, inr}
+use Rattle.std.proofs.Common.{◌≡◌, ◌⊎◌, ℕ, ◌<◌, ◌≤◌, List, [], ◌∷◌, ◌++◌, Option, Some, length, refl, ap, sym, ◌∙◌, subst, append_assoc, append-nil, arith, inl, inr}
 use Rattle.std.specs.Prelude.{codes}
 use Rattle.std.specs.List.{concat}
 use Rattle.std.specs.Io.KnownBytes.{Consumes, IsAtEnd}
-use Rattle.std.proofs.lemmas.List.Folds.{concat-append}
 use Rattle.constriction_pack.specs.Blocks.{IsBlock, most_words}
 use Rattle.constriction_pack.specs.Frames.{first_hash, frame_of, hash_after_frame}
 use Rattle.constriction_pack.specs.Packed.{AreFramed, IsFramed, IsPacked}
 use Rattle.constriction_pack.proofs.BlockLemmas.{block_words, one_block}
 use Rattle.constriction_pack.proofs.FrameLemmas.{frame_once}
+use Rattle.constriction_pack.proofs.ReadLemmas.{gave, read_to_end}
 
--- ---- known bytes
+-- ---- the beginning of a packed file
 
--- what a reader of known bytes gave
-pub gave : (a b : Option (List ℕ)) (xs bs : List ℕ) → a ≡ Some xs → Consumes a b bs → (ys : List ℕ) × (b ≡ Some ys) × (xs ≡ bs ++ ys)
-gave a b xs bs e h = go b (subst (λ (o : Option (List ℕ)). Consumes o b bs) e h)
-  where
-    go : (o : Option (List ℕ)) → Consumes (Some xs) o bs → (ys : List ℕ) × (o ≡ Some ys) × (xs ≡ bs ++ ys)
-    go None k = absurd k
-    go (Some ys) k = (ys, refl, k)
+-- bytes, and what a packed file of them begins with: frames follow, after others with the hash `before`
+pub record Begun (before : ℕ) (bytes packed : List ℕ) : Type 0 where
+  pub on : (blocks : List (List ℕ)) (frames : List ℕ) → AreFramed before blocks frames
+      → IsPacked (bytes ++ concat blocks) (packed ++ frames)
 
-pub none_left : (b : Option (List ℕ)) (ys : List ℕ) → b ≡ Some ys → IsAtEnd b → ys ≡ []
-none_left b ys e h = subst (λ (o : Option (List ℕ)). IsAtEnd o) e h
-
--- ---- frames so far, and those that follow
-
--- frames of blocks that can be followed by others
-pub record GoesOn (before : ℕ) (blocks : List (List ℕ)) (frames : List ℕ) : Type 0 where
-  pub on : (later : List (List ℕ)) (rest : List ℕ) → AreFramed before later rest → AreFramed first_hash (blocks ++ later) (frames ++ rest)
-
-pub goes_from_start : GoesOn first_hash [] []
-goes_from_start = record { on = λ later rest framed. framed }
-
-pub goes_further : (before after : ℕ) (blocks : List (List ℕ)) (block frames frame : List ℕ) → GoesOn before blocks frames
-    → IsFramed before block frame after → GoesOn after (blocks ++ block ∷ []) (frames ++ frame)
-goes_further before after blocks block frames frame g f = record {
-  on = λ later rest framed.
-      rw (append_assoc blocks (block ∷ []) later, append_assoc frames frame rest)
-      (g.on (block ∷ later) (frame ++ rest) (frame, rest, after, f, refl, framed));
+-- one block more
+pub begun_further : (before after : ℕ) (bytes packed block frame : List ℕ) → Begun before bytes packed → IsFramed before block frame after
+    → Begun after (bytes ++ block) (packed ++ frame)
+begun_further before after bytes packed block frame b f = record {
+  on = λ blocks frames framed.
+      rw (append_assoc bytes block (concat blocks), append_assoc packed frame frames)
+      (b.on (block ∷ blocks) (frame ++ frames) (frame, frames, after, f, refl, framed));
 }
 
-pub goes_to_end : (before : ℕ) (blocks : List (List ℕ)) (frames : List ℕ) → GoesOn before blocks frames
-    → IsPacked (concat blocks) (codes "cpk1" ++ (frames ++ frame_of before []))
-goes_to_end before blocks frames g = record {
-  blocks = blocks ++ [];
-  whole = ap concat (append-nil blocks);
-  frames = frames ++ frame_of before [];
-  framed = g.on [] (frame_of before []) refl;
-  laid_out = refl;
-}
-
--- the bytes of one block more
-pub concat_more : (blocks : List (List ℕ)) (block : List ℕ) → concat (blocks ++ block ∷ []) ≡ concat blocks ++ block
-concat_more blocks block = concat-append blocks (block ∷ []) ∙ ap (λ xs. concat blocks ++ xs) (append-nil block)
+pub begun_ends : (before : ℕ) (bytes packed : List ℕ) → Begun before bytes packed → IsPacked (bytes ++ []) (packed ++ frame_of before [])
+begun_ends before bytes packed b = b.on [] (frame_of before []) refl
 
 -- ---- the first frame
+
+no_more : (xs ys : List ℕ) → xs ++ ys ≡ [] → xs ≡ []
+no_more [] ys e = refl
+no_more (x ∷ xs) ys e = cc
 
 -- the words of the first frame, and what follows it
 pub record Head (before : ℕ) (blocks : List (List ℕ)) (bytes : List ℕ) : Type 0 where
@@ -87,61 +66,147 @@ head before (block ∷ blocks) bytes h =
 pub not_empty : (block words : List ℕ) → IsBlock block words → words ≡ [] → ⊥
 not_empty block words h e = let some = (block_words block words h).0 in omega (arith, some, ap length e)
 
--- where frames were left, a block's frame was the first of them
-pub next_frames : (before after : ℕ) (blocks : List (List ℕ)) (block frame rest : List ℕ) (a b : Option (List ℕ))
-    → AreFramed before blocks rest → a ≡ Some rest → IsFramed before block frame after → Consumes a b frame
-    → (others : List (List ℕ)) × (left : List ℕ) × AreFramed after others left × (b ≡ Some left)
-next_frames before after blocks block frame rest a b framed known f read = go first.kind
+-- known bytes, and then those that were lost, are the frames of blocks that make up the bytes, after others with the hash `before`
+pub record Left (before : ℕ) (bytes : List ℕ) (known : Option (List ℕ)) (lost : List ℕ) : Type 0 where
+  pub blocks : List (List ℕ)
+  pub whole : concat blocks ≡ bytes
+  pub frames : List ℕ
+  pub framed : AreFramed before blocks (frames ++ lost)
+  pub are : known ≡ Some frames
+
+-- the same where nothing was lost, to and fro
+pub all_left : (before : ℕ) (blocks : List (List ℕ)) (frames : List ℕ) (known : Option (List ℕ)) → AreFramed before blocks frames
+    → known ≡ Some frames → Left before (concat blocks) known []
+all_left before blocks frames known framed are = record {
+  blocks = blocks;
+  whole = refl;
+  frames = frames;
+  framed = subst (λ xs. AreFramed before blocks xs) (sym (append-nil frames)) framed;
+  are = are;
+}
+
+pub all_known : (before : ℕ) (bytes : List ℕ) (known : Option (List ℕ)) (l : Left before bytes known [])
+    → AreFramed before l.blocks l.frames
+all_known before bytes known l = subst (λ xs. AreFramed before l.blocks xs) (append-nil l.frames) l.framed
+
+-- the first of them was read: it was the last frame and nothing is left, or it was that of a block
+pub first_read : (before : ℕ) (words frame bytes : List ℕ) (a b : Option (List ℕ)) (lost : List ℕ) → Left before bytes a lost
+    → frame ≡ frame_of before words → Consumes a b frame → ((words ≡ []) × (b ≡ Some []))
+    ⊎ ((block more : List ℕ) × IsBlock block words × (block ++ more ≡ bytes) × Left (hash_after_frame before words) more b lost)
+first_read before words frame bytes a b lost l is read = go first.kind
   where
-    first : Head before blocks rest
-    first = head before blocks rest framed
+    first : Head before l.blocks (l.frames ++ lost)
+    first = head before l.blocks (l.frames ++ lost) l.framed
 
-    given : (ys : List ℕ) × (b ≡ Some ys) × (rest ≡ frame ++ ys)
-    given = gave a b rest frame known read
+    given : (ys : List ℕ) × (b ≡ Some ys) × (l.frames ≡ frame ++ ys)
+    given = gave a b l.frames frame l.are read
 
-    same : (f.words ≡ first.words) × (given.0 ≡ first.rest)
+    same : (words ≡ first.words) × (given.0 ++ lost ≡ first.rest)
     same =
-        frame_once before f.words first.words given.0 first.rest
-        (ap (λ xs. xs ++ given.0) (sym f.frame_is) ∙ sym given.2 ∙ first.split)
+        frame_once before words first.words (given.0 ++ lost) first.rest
+        (ap (λ xs. xs ++ (given.0 ++ lost)) (sym is) ∙ sym (append_assoc frame given.0 lost) ∙ ap (λ xs. xs ++ lost) (sym given.2)
+        ∙ first.split)
 
-    go : ((blocks ≡ []) × (first.words ≡ []) × (first.rest ≡ []))
-        ⊎ ((one : List ℕ) × (others : List (List ℕ)) × (blocks ≡ one ∷ others) × IsBlock one first.words
-        × AreFramed (hash_after_frame before first.words) others first.rest)
-        → (others : List (List ℕ)) × (left : List ℕ) × AreFramed after others left × (b ≡ Some left)
-    go (inl x) = absurd (not_empty block f.words f.is_block (same.0 ∙ x.1))
+    go : ((l.blocks ≡ []) × (first.words ≡ []) × (first.rest ≡ []))
+        ⊎ ((one : List ℕ) × (others : List (List ℕ)) × (l.blocks ≡ one ∷ others) × IsBlock one first.words
+        × AreFramed (hash_after_frame before first.words) others first.rest) → ((words ≡ []) × (b ≡ Some []))
+        ⊎ ((block more : List ℕ) × IsBlock block words × (block ++ more ≡ bytes) × Left (hash_after_frame before words) more b lost)
+    go (inl x) =
+        let none : given.0 ≡ [] = no_more given.0 lost (same.1 ∙ x.2) in inl (same.0 ∙ x.1, given.1 ∙ ap Some none)
     go (inr x) =
-        let after_is : hash_after_frame before first.words ≡ after = ap (λ ws. hash_after_frame before ws) (sym same.0) ∙ sym f.after_is in
-        (x.1, first.rest, subst (λ n. AreFramed n x.1 first.rest) after_is x.4, given.1 ∙ ap Some same.1)
+        inr (
+          x.0,
+          concat x.1,
+          subst (λ ws. IsBlock x.0 ws) (sym same.0) x.3,
+          sym (ap concat x.2) ∙ l.whole,
+          record {
+            blocks = x.1;
+            whole = refl;
+            frames = given.0;
+            framed =
+                subst (λ xs. AreFramed (hash_after_frame before words) x.1 xs) (sym same.1)
+                (subst (λ ws. AreFramed (hash_after_frame before ws) x.1 first.rest) (sym same.0) x.4);
+            are = given.1;
+          },
+        )
 
--- frames are those of one list of blocks
-framed_once : (before : ℕ) (blocks others : List (List ℕ)) (bytes : List ℕ) → AreFramed before blocks bytes → AreFramed before others bytes
-    → concat blocks ≡ concat others
-framed_once before [] [] bytes p q = refl
-framed_once before [] (b ∷ bs) bytes p q =
+-- so without words nothing is left, and words are those of a block
+pub nothing_left : (before : ℕ) (words frame bytes : List ℕ) (a b : Option (List ℕ)) (lost : List ℕ) → Left before bytes a lost
+    → frame ≡ frame_of before words → Consumes a b frame → length words ≡ 0 → b ≡ Some []
+nothing_left before words frame bytes a b lost l is read none =
+    elim (first_read before words frame bytes a b lost l is read) as (λ _. b ≡ Some []) [
+      | inl x ↦ x.1
+      | inr x ↦ let some = (block_words x.0 words x.2).0 in absurd (omega arith)
+    ]
+
+pub block_there : (before : ℕ) (words frame bytes : List ℕ) (a b : Option (List ℕ)) (lost : List ℕ) → Left before bytes a lost
+    → frame ≡ frame_of before words → Consumes a b frame → 0 < length words → (block : List ℕ) × IsBlock block words
+block_there before words frame bytes a b lost l is read some =
+    elim (first_read before words frame bytes a b lost l is read) as (λ _. (block : List ℕ) × IsBlock block words) [
+      | inl x ↦ absurd (omega (arith, some, ap length x.0))
+      | inr x ↦ (x.0, x.2)
+    ]
+
+-- one block less
+pub left_further : (before after : ℕ) (block frame bytes : List ℕ) (a b : Option (List ℕ)) (lost : List ℕ) → Left before bytes a lost
+    → IsFramed before block frame after → Consumes a b frame → (more : List ℕ) × (block ++ more ≡ bytes) × Left after more b lost
+left_further before after block frame bytes a b lost l f read =
+    elim (first_read before f.words frame bytes a b lost l f.frame_is read)
+    as (λ _. (more : List ℕ) × (block ++ more ≡ bytes) × Left after more b lost) [
+      | inl x ↦ absurd (not_empty block f.words f.is_block x.0)
+      | inr x ↦ (
+        x.1,
+        ap (λ xs. xs ++ x.1) (one_block block x.0 f.words f.is_block x.2) ∙ x.3,
+        subst (λ n. Left n x.1 b lost) (sym f.after_is) x.4,
+      )
+    ]
+
+-- frames are those of one list of blocks, and go no further
+framed_once : (before : ℕ) (blocks others : List (List ℕ)) (bytes more : List ℕ) → AreFramed before blocks bytes
+    → AreFramed before others (bytes ++ more) → (concat blocks ≡ concat others) × (more ≡ [])
+framed_once before [] [] bytes more p q =
+    let same = frame_once before [] [] more [] (ap (λ xs. xs ++ more) (sym p) ∙ q ∙ sym (append-nil (frame_of before []))) in
+    (refl, same.1)
+framed_once before [] (b ∷ bs) bytes more p q =
     let f : IsFramed before b q.0 q.2 = q.3 in
-    let same = frame_once before [] f.words [] q.1
-    (append-nil (frame_of before []) ∙ sym p ∙ q.4 ∙ ap (λ xs. xs ++ q.1) f.frame_is) in
+    let same = frame_once before [] f.words more q.1
+    (ap (λ xs. xs ++ more) (sym p) ∙ q.4 ∙ ap (λ xs. xs ++ q.1) f.frame_is) in
     absurd (not_empty b f.words f.is_block (sym same.0))
-framed_once before (b ∷ bs) [] bytes p q =
+framed_once before (b ∷ bs) [] bytes more p q =
     let f : IsFramed before b p.0 p.2 = p.3 in
-    let same = frame_once before [] f.words [] p.1
-    (append-nil (frame_of before []) ∙ sym q ∙ p.4 ∙ ap (λ xs. xs ++ p.1) f.frame_is) in
+    let same = frame_once before [] f.words [] (p.1 ++ more)
+    (append-nil (frame_of before []) ∙ sym q ∙ ap (λ xs. xs ++ more) (p.4 ∙ ap (λ xs. xs ++ p.1) f.frame_is)
+    ∙ append_assoc (frame_of before f.words) p.1 more) in
     absurd (not_empty b f.words f.is_block (sym same.0))
-framed_once before (b ∷ bs) (d ∷ ds) bytes p q =
+framed_once before (b ∷ bs) (d ∷ ds) bytes more p q =
     let f : IsFramed before b p.0 p.2 = p.3 in
     let g : IsFramed before d q.0 q.2 = q.3 in
-    let same = frame_once before f.words g.words p.1 q.1
-    (ap (λ xs. xs ++ p.1) (sym f.frame_is) ∙ sym p.4 ∙ q.4 ∙ ap (λ xs. xs ++ q.1) g.frame_is) in
+    let same = frame_once before f.words g.words (p.1 ++ more) q.1
+    (sym (append_assoc (frame_of before f.words) p.1 more) ∙ ap (λ xs. xs ++ more) (ap (λ xs. xs ++ p.1) (sym f.frame_is) ∙ sym p.4) ∙ q.4
+    ∙ ap (λ xs. xs ++ q.1) g.frame_is) in
     let block : b ≡ d = one_block b d f.words f.is_block (rw (same.0) g.is_block) in
     let after : p.2 ≡ q.2 = f.after_is ∙ ap (λ ws. hash_after_frame before ws) same.0 ∙ sym g.after_is in
-    let rest : AreFramed p.2 ds p.1 = rw (after, same.1) q.5 in
-    let others : concat bs ≡ concat ds = framed_once p.2 bs ds p.1 p.5 rest in
-    ap (λ x. x ++ concat bs) block ∙ ap (λ xs. d ++ xs) others
+    let rest : AreFramed p.2 ds (p.1 ++ more) = rw (after, same.1) q.5 in
+    let others = framed_once p.2 bs ds p.1 more p.5 rest in
+    (ap (λ x. x ++ concat bs) block ∙ ap (λ xs. d ++ xs) others.0, others.1)
 
--- a packed file has one content
+-- a packed file has one content, and goes no further
+one_file : (bytes others packed more : List ℕ) → IsPacked bytes packed → IsPacked others (packed ++ more)
+    → (bytes ≡ others) × (more ≡ [])
+one_file bytes others packed more p q =
+    let both : codes "cpk1" ++ (p.frames ++ more) ≡ codes "cpk1" ++ q.frames = ap (λ xs. xs ++ more) (sym p.laid_out) ∙ q.laid_out in
+    let frames : p.frames ++ more ≡ q.frames = cc in
+    let again : AreFramed first_hash q.blocks (p.frames ++ more) = rw frames q.framed in
+    let same = framed_once first_hash p.blocks q.blocks p.frames more p.framed again in
+    (sym p.whole ∙ same.0 ∙ q.whole, same.1)
+
 pub one_content : (bytes others packed : List ℕ) → IsPacked bytes packed → IsPacked others packed → bytes ≡ others
 one_content bytes others packed p q =
-    let both : codes "cpk1" ++ p.frames ≡ codes "cpk1" ++ q.frames = sym p.laid_out ∙ q.laid_out in
-    let frames : p.frames ≡ q.frames = cc in
-    let again : AreFramed first_hash q.blocks p.frames = rw frames q.framed in
-    sym p.whole ∙ framed_once first_hash p.blocks q.blocks p.frames p.framed again ∙ q.whole
+    (one_file bytes others packed [] p (subst (λ xs. IsPacked others xs) (sym (append-nil packed)) q)).0
+
+-- where a packed file was read to the end, it was whole
+pub nothing_lost : (a b : Option (List ℕ)) (bytes packed lost others read : List ℕ) → a ≡ Some packed → Consumes a b read → IsAtEnd b
+    → IsPacked others read → IsPacked bytes (packed ++ lost) → lost ≡ []
+nothing_lost a b bytes packed lost others read known gone end file whole =
+    let same : IsPacked others packed = subst (λ xs. IsPacked others xs) (read_to_end a b packed read known gone end) file in
+    (one_file others bytes packed lost same whole).1

@@ -7,7 +7,7 @@ use Rattle.std.specs.Prelude.{All, ◌↔◌, cond, filter, nat_lt}
 use Rattle.constriction.specs.Acceptance.{IsAccepted}
 use Rattle.constriction_coders.specs.Counts.{occurring}
 
--- each symbol occurs whose count is not 0
+-- if no count is 0, each symbol occurs
 pub all_occur : (counts : List ℕ) → ((i : ℕ) → i < length counts → 0 < get_or counts i 0) → occurring counts ≡ length counts
 all_occur [] h = refl
 all_occur (n ∷ ns) h =

@@ -17,6 +17,6 @@ pub record IsBlock (bytes words : List ℕ) : Type 0 where
   pub stack : IsStackOf (entry_of nat_eq (contiguous_rows weights)) 16 bytes coded
   pub laid_out : words ≡ length bytes ∷ (weights_as_words weights ++ coded)
 
--- the most words of a block: the numbers of bytes and of weights, 256 weights, one word for each byte and two for the state
+-- the greatest number of words of a block: the numbers of bytes and of weights, 256 weights, one word for each byte and two for the state
 abbrev pub most_words : ℕ
 most_words = 1048836

@@ -3,7 +3,7 @@ use Rattle.std.specs.Prelude.{ℕ, ◌*◌, ◌%◌, ◌^◌, List, [], ◌∷�
 use Rattle.std.specs.Int.{to_le_bytes, w64}
 use Rattle.constriction_coders.specs.Bytes.{bytes_of_words}
 
--- the 64-bit FNV-1a hash of bytes, where it was `hash` before them
+-- the 64-bit FNV-1a hash after bytes, if it was `hash` before them
 abbrev pub hash_after : ℕ → List ℕ → ℕ
 hash_after hash [] = hash
 hash_after hash (byte ∷ bytes) = hash_after (bit_xor hash byte * 1099511628211 % 2 ^ 64) bytes
@@ -12,7 +12,7 @@ hash_after hash (byte ∷ bytes) = hash_after (bit_xor hash byte * 1099511628211
 abbrev pub first_hash : ℕ
 first_hash = 14695981039346656037
 
--- the bytes of words, after those of their number
+-- the bytes of the number of words, and then of the words
 unfoldable pub counted_bytes : List ℕ → List ℕ
 counted_bytes words = bytes_of_words (length words ∷ words)
 

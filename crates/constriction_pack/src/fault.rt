@@ -6,10 +6,10 @@ ghost use Rattle.constriction_pack.specs.Faults.{status_of};
 use std::alloc::{AllocError, AllocFailed};
 use thiserror::Error;
 
-/// What stops packing and unpacking. What was written before stands.
+/// What stops packing and unpacking. What was written before stays.
 #[derive(Debug, Clone, Copy, PartialEq, Eq, Drop, Error)]
 pub enum PackError {
-    /// The reader answered an error, an interruption too.
+    /// The reader answered an error, which may be an interruption.
     #[error("The input could not be read.")]
     Read,
     /// The writer answered an error, or took no byte.

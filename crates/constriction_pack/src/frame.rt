@@ -1,6 +1,6 @@
 //! Words behind their number and before a checksum.
 
-ghost use Rattle.std.specs.Prelude.{◌≡◌, ◌<◌, ◌^◌, ℕ, List, IfOk, length};
+ghost use Rattle.std.specs.Prelude.{◌≡◌, ◌<◌, ◌^◌, ℕ, List, IfErr, IfOk, length};
 ghost use Rattle.constriction_pack.specs.Frames.{frame_of, hash_after, hash_after_frame};
 
 use crate::fault::PackError;
@@ -41,7 +41,11 @@ pub(crate) fn words_in(
     alloc: Global,
     before: u64,
     frame: &[u8],
-) -> Result<(Vec<u32>, u64), PackError> {
+) -> Result<(Vec<u32>, u64), PackError>
+    ensures frame { IfOk result (λ answer. frame.now ≡ frame_of before answer.0.items) }
+    ensures after { IfOk result (λ answer. answer.1 ≡ hash_after_frame before answer.0.items) }
+    ensures accepted { (words : List ℕ) → frame.now ≡ frame_of before words → IfErr result (λ fault. fault ≡ PackError.OutOfMemory) }
+{
     if frame.len() < 8 {
         return Err(PackError::Damaged);
     }

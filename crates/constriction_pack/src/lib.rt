@@ -1,7 +1,7 @@
 //! Whole files packed by a stack coder, and unpacked again.
 //!
-//! [`pack`] and [`unpack`] go from any reader to any writer, block by block; [`pack_block`] and [`unpack_block`] turn the bytes of one block
-//! into words and back.
+//! [`pack`] and [`unpack`] go from any reader to any writer, block by block. [`pack_block`] and [`unpack_block`] turn the bytes of one
+//! block into words and back. [`laws`] says what comes back.
 //!
 //! A packed file is the four letters `cpk1`, a frame for each block, and a last frame with no words. All numbers are words of 32 bits, the
 //! lowest byte first.
@@ -11,8 +11,8 @@
 //! 2. The words of a block are the number of its bytes, from 1 to 1,048,576; the number of its weights, at most 256; the weights of the
 //!    bytes 0, 1, .., which add up to 65,536 and are not 0; and the words of the stack coder at `PRECISION` 16, which held nothing before
 //!    and has the block's first byte on top.
-//! 3. [`pack`] puts 1,048,576 bytes into each block but the last one, and weighs a byte by one more than how often it occurs there, up to
-//!    the greatest one that does. [`unpack`] takes any blocks and any weights.
+//! 3. [`pack`] puts 1,048,576 bytes into each block but the last one. It weighs each byte, up to the greatest one of the block, by one more
+//!    than how often it occurs there. [`unpack`] takes any blocks and any weights.
 #![tactic(auto)]
 
 mod block;

@@ -98,6 +98,10 @@ pub(crate) fn read_end<R: Read>(reader: &mut R, input: &mut Vec<u8>) -> Result<(
 /// Reads a frame. Of its words no more are read than a block has at most.
 pub(crate) fn read_frame<R: Read>(reader: &mut R, frame: &mut Vec<u8>) -> Result<(), PackError>
     ensures ok { OnOk result (Consumes (R.remaining reader.old) (R.remaining reader.new) frame.new.items) }
+    ensures whole { (before : ℕ) (words rest : List ℕ) → length words ≤ most_words
+        → R.remaining reader.old ≡ Some (frame_of before words ++ rest) → OnOk result (frame.new.items ≡ frame_of before words) }
+    ensures accepted { (before : ℕ) (words rest : List ℕ) → length words ≤ most_words
+        → R.remaining reader.old ≡ Some (frame_of before words ++ rest) → IfErr result (λ fault. ¬ (IsRefusal fault)) }
 {
     frame.clear();
     read_up_to(reader, 4, frame)?;

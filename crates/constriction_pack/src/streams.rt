@@ -1,6 +1,6 @@
 //! Packing and unpacking from a reader to a writer, block by block.
 
-ghost use Rattle.std.specs.Prelude.{◌≡◌, ◌++◌, ℕ, List, Some, IfErr, IfOk, MatchOption, OnOk, [], length, ◌<◌, ◌≤◌, ◌^◌};
+ghost use Rattle.std.specs.Prelude.{◌≡◌, ◌++◌, ℕ, List, None, Ok, Some, IfErr, MatchResult, OnOk, [], length, ◌<◌, ◌≤◌, ◌^◌};
 ghost use Rattle.std.specs.Io.KnownBytes.{Appends, Consumes, IsAtEnd, Keeps};
 ghost use Rattle.constriction_pack.specs.Faults.{IsRefusal};
 ghost use Rattle.constriction_pack.specs.Frames.{first_hash, frame_of};
@@ -27,7 +27,7 @@ fn write_whole<W: Write>(writer: &mut W, bytes: &[u8]) -> Result<(), PackError>
     }
 }
 
-/// Packs the next block, after frames with this hash, and answers the hash after it; or none where the last frame was written.
+/// Packs the next block, after frames with this hash, and answers the hash after it, or `None` if it wrote the last frame.
 fn pack_next<R: Read, W: Write>(
     alloc: Global,
     reader: &mut R,
@@ -35,6 +35,11 @@ fn pack_next<R: Read, W: Write>(
     buffer: &mut Vec<u8>,
     before: u64,
 ) -> Result<Option<u64>, PackError>
+    ensures more { (after : ℕ) → result ≡ Ok (Some after) → (block frame : List ℕ) × IsFramed before block frame after
+        × Consumes (R.remaining reader.old) (R.remaining reader.new) block
+        × Appends (W.contents writer.old) (W.contents writer.new) frame }
+    ensures end { result ≡ Ok None → Consumes (R.remaining reader.old) (R.remaining reader.new) []
+        × IsAtEnd (R.remaining reader.new) × Appends (W.contents writer.old) (W.contents writer.new) (frame_of before []) }
     ensures faults { IfErr result (λ fault. ¬ (IsRefusal fault)) }
 {
     buffer.clear();
@@ -54,12 +59,14 @@ fn pack_next<R: Read, W: Write>(
 ///
 /// The writer is not flushed: give one that holds nothing back. A block has 1,048,576 bytes but for the last one, and memory is asked for
 /// one block at a time, whatever there is to read. No fault is a refusal: the input was not read (which also stands for more than
-/// `2^64 - 1` blocks), the output was not written, or memory was refused. What was written before stands, and `unpack` refuses it as cut.
+/// `2^64 - 1` blocks), the output was not written, or memory was refused. What was written before stands, and [`unpack`] refuses it.
 pub fn pack<R: Read, W: Write>(
     alloc: Global,
     reader: &mut R,
     writer: &mut W,
 ) -> Result<(), PackError>
+    ensures ok { OnOk result ((bytes packed : List ℕ) × Consumes (R.remaining reader.old) (R.remaining reader.new) bytes
+        × IsAtEnd (R.remaining reader.new) × Appends (W.contents writer.old) (W.contents writer.new) packed × IsPacked bytes packed) }
     ensures faults { IfErr result (λ fault. ¬ (IsRefusal fault)) }
 {
     write_whole(writer, MAGIC)?;
@@ -74,14 +81,23 @@ pub fn pack<R: Read, W: Write>(
     Err(PackError::Read)
 }
 
-/// Unpacks the next frame, after frames with this hash, and answers the hash after it; or none where it was the last one.
+/// Unpacks the next frame, after frames with this hash, and answers the hash after it, or `None` if it was the last one.
 fn unpack_next<R: Read, W: Write>(
     alloc: Global,
     reader: &mut R,
     writer: &mut W,
     buffer: &mut Vec<u8>,
     before: u64,
-) -> Result<Option<u64>, PackError> {
+) -> Result<Option<u64>, PackError>
+    ensures more { (after : ℕ) → result ≡ Ok (Some after) → (block frame : List ℕ) × IsFramed before block frame after
+        × Consumes (R.remaining reader.old) (R.remaining reader.new) frame
+        × Appends (W.contents writer.old) (W.contents writer.new) block }
+    ensures end { result ≡ Ok None → Consumes (R.remaining reader.old) (R.remaining reader.new) (frame_of before [])
+        × IsAtEnd (R.remaining reader.new) × Appends (W.contents writer.old) (W.contents writer.new) [] }
+    ensures accepted { (blocks : List (List ℕ)) (frames : List ℕ) → AreFramed before blocks frames
+        → R.remaining reader.old ≡ Some frames → IfErr result (λ fault. ¬ (IsRefusal fault)) }
+    ensures kept { IfErr result (λ fault. IsRefusal fault → W.contents writer.new ≡ W.contents writer.old) }
+{
     read_frame(reader, buffer)?;
     let (words, after) = words_in(alloc, before, buffer)?;
     if words.is_empty() {
@@ -93,16 +109,24 @@ fn unpack_next<R: Read, W: Write>(
     Ok(Some(after))
 }
 
-/// Unpacks what [`pack`] wrote, to the reader's end.
+/// Unpacks a packed file, to the reader's end.
 ///
-/// The writer is not flushed. A block is written once its checksum is right and all of it is decoded, so that what stands after any fault
-/// is a beginning of the bytes. `NotPacked`, `Cut` and `Damaged` say how the input is no packed file. Memory is asked for one block at a
-/// time, and for what was read and decoded, however much there is said to be. No clause says this of whole files; tests show it.
+/// The writer is not flushed. Only what is no packed file is refused, as `NotPacked`, `Cut` or `Damaged`. A block is written once its
+/// checksum is right and all of it is decoded: if the end of a packed file was lost, what stands after a refusal is a beginning of the
+/// bytes. Memory is asked for one block at a time, and for what was read and decoded, however much there is said to be.
 pub fn unpack<R: Read, W: Write>(
     alloc: Global,
     reader: &mut R,
     writer: &mut W,
-) -> Result<(), PackError> {
+) -> Result<(), PackError>
+    ensures ok { OnOk result ((bytes packed : List ℕ) × Consumes (R.remaining reader.old) (R.remaining reader.new) packed
+        × IsAtEnd (R.remaining reader.new) × Appends (W.contents writer.old) (W.contents writer.new) bytes × IsPacked bytes packed) }
+    ensures accepted { (bytes packed : List ℕ) → R.remaining reader.old ≡ Some packed → IsPacked bytes packed
+        → IfErr result (λ fault. ¬ (IsRefusal fault)) }
+    ensures cut { (bytes packed lost : List ℕ) → R.remaining reader.old ≡ Some packed → IsPacked bytes (packed ++ lost)
+        → MatchResult result (λ _. lost ≡ []) (λ fault. IsRefusal fault → (written rest : List ℕ)
+        × Appends (W.contents writer.old) (W.contents writer.new) written × (written ++ rest ≡ bytes)) }
+{
     let mut buffer = Vec::new(alloc);
     read_magic(reader, &mut buffer)?;
     let mut before = FIRST_HASH;

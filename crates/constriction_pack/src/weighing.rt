@@ -6,7 +6,7 @@ ghost use Rattle.constriction.specs.Acceptance.{IsAccepted};
 use constriction_coders::counts::{CountsError, weights_of};
 use std::alloc::{AllocError, Global};
 
-/// One more than the greatest byte, or 0 where there is none.
+/// One more than the greatest byte, or 0 if there are no bytes.
 fn places_for(bytes: &[u8]) -> usize
     ensures few { result ≤ 256 }
     ensures above { All (λ b. b < result) bytes.now }
@@ -17,7 +17,7 @@ fn places_for(bytes: &[u8]) -> usize
     }
 }
 
-/// One more than how often each byte occurs, up to the greatest one that does, so that each of these bytes has a weight.
+/// One more than how often each byte occurs, up to the greatest one that occurs. So each of these bytes has a weight.
 fn counts_of(alloc: Global, bytes: &[u8]) -> Result<Vec<u64>, AllocError>
     ensures few { IfOk result (λ counts. length counts.items ≤ 256) }
     ensures above { IfOk result (λ counts. All (λ b. b < length counts.items) bytes.now) }

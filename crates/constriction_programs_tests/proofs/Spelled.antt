@@ -1,4 +1,4 @@
--- What some lines spell, and what answers them.
+-- What some lines spell, and their answers.
 use Rattle.std.proofs.Common.{suc, zero, refl, ◌≡◌, ℕ, ◌<◌, ◌≤◌, ◌^◌, List, [], ◌∷◌, ◌++◌, length, get_or, Option, Some, None, Result, Ok, Err, ap, sym, subst, ◌∙◌, append-nil, arith, codes, inl, inr}
 use Rattle.std.specs.Prelude.{IsNone}
 use Rattle.std.specs.Option.{option_map, IfSome, IfNone}
@@ -13,7 +13,7 @@ use Rattle.constriction_text.specs.Runs.{limit, HasRead}
 use Rattle.constriction_text.specs.Text.{IsAnswer, IsTextOf}
 use Rattle.constriction_text.proofs.Exactly.{spells_none}
 
--- nothing was parsed where a line spells nothing
+-- if a line spells nothing, nothing was parsed
 pub parsed_none : {E : Type 0} (line : List ℕ) (r : Result (Option Command) E) → read_line line ≡ None
     → IfOk r (λ found. IfSome found (λ command. Spells line (view command))) → IfOk r IsNone
 parsed_none line (Ok None) none found = refl
@@ -32,7 +32,7 @@ pub many_digits_none : read_line (codes "table u8/6 000000000000000000064") ≡ 
 unfolding read_line read_words read_format read_numbers read_number read_request
 many_digits_none = refl
 
--- what was parsed is what the line spells, where it spells no other request
+-- if a line spells one request alone, this request was parsed
 pub parsed : {E : Type 0} (line : List ℕ) (asked : Request) (r : Result (Option Command) E) → Spells line asked
     → ((one other : Request) → Spells line one → Spells line other → one ≡ other)
     → IfOk r (λ found. IfSome found (λ command. Spells line (view command)))
@@ -42,14 +42,14 @@ parsed line asked (Ok None) spelled alone found none = absurd (none asked spelle
 parsed line asked (Ok (Some command)) spelled alone found none = ap Some (alone (view command) asked found spelled)
 parsed line asked (Err e) spelled alone found none = tt
 
--- what was answered is the answer to the line, where it has no other one
+-- if a line has one answer alone, this was answered
 pub answered : {T E : Type 0} (bytes : T → List ℕ) (line text : List ℕ) (r : Result T E) → IsAnswer line text
     → ((one other : List ℕ) → IsAnswer line one → IsAnswer line other → one ≡ other)
     → IfOk r (λ made. IsAnswer line (bytes made)) → IfOk r (λ made. bytes made ≡ text)
 answered bytes line text (Ok made) is alone h = alone (bytes made) text h is
 answered bytes line text (Err e) is alone h = tt
 
--- what was written at the end of an input is its text, where it has no other one
+-- if an input has one text alone, this is written at its end
 pub written : {T E : Type 0} (input rest old new text : List ℕ) (r : Result T E) → IsTextOf input text
     → ((whole one other : List ℕ) → IsTextOf whole one → IsTextOf whole other → one ≡ other)
     → OnOk r (HasRead (Some input) (Some rest) (λ read. IsAtEnd (Some rest) × (length read ≤ limit)

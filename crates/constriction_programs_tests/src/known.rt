@@ -1,5 +1,5 @@
-//! What the contracts of the grammar, of answers and of texts tell their callers. No body that answers otherwise meets these
-//! contracts.
+//! What contracts tell callers that parse lines, answer them, or run over whole inputs. A body that answers otherwise does not
+//! meet these contracts.
 
 ghost use Rattle.std.specs.Prelude.{◌≡◌, ◌++◌, ℕ, List, IfOk, IsNone, OnOk, Some, codes, string_bytes};
 ghost use Rattle.std.specs.Option.{option_map};
@@ -14,35 +14,35 @@ use constriction_text::{Command, Format, RunFault, answer, parse, run};
 use std::alloc::{AllocError, Global};
 use std::process::Abort;
 
-/// What a line of one letter asks for.
+/// A line of one letter is no request.
 fn of_a_letter(alloc: Global) -> Result<Option<Command>, AllocError>
     ensures { IfOk result IsNone }
 {
     parse(alloc, b"x")
 }
 
-/// What a line with two ranges asks for.
+/// A line with two ranges is no request.
 fn of_two_ranges(alloc: Global) -> Result<Option<Command>, AllocError>
     ensures { IfOk result IsNone }
 {
     parse(alloc, b"uniform u8/6 2 3")
 }
 
-/// What a line with two spaces asks for.
+/// A line with two spaces in a row is no request.
 fn of_two_spaces(alloc: Global) -> Result<Option<Command>, AllocError>
     ensures { IfOk result IsNone }
 {
     parse(alloc, b"table  u8/6 64")
 }
 
-/// What a line with a number of 21 digits asks for.
+/// A line with a number of 21 digits is no request.
 fn of_many_digits(alloc: Global) -> Result<Option<Command>, AllocError>
     ensures { IfOk result IsNone }
 {
     parse(alloc, b"table u8/6 000000000000000000064")
 }
 
-/// What a line that spells a request asks for: that request, as it spells no other one.
+/// A line that spells a request is this request, since it spells no other one.
 fn of_a_range(alloc: Global) -> Result<Option<Command>, AllocError>
     ensures { IfOk result (λ found. option_map view found ≡ Some (uniform Format.U8Precision8 3)) }
 {
@@ -74,7 +74,7 @@ fn answer_to_few_weights(alloc: Global) -> Result<String, AllocError>
     answer(alloc, b"table u8/6 63")
 }
 
-/// The text of an input of two letters.
+/// The only text of an input of two letters.
 fn text_of_letters()
     ensures { (text : List ℕ) → IsTextOf (codes "x\ny") text → text ≡ codes "bad line\nbad line\n" }
 {
@@ -90,7 +90,7 @@ fn run_over_letters(alloc: Global, written: &mut Vec<u8>) -> Result<(), RunFault
     run(alloc, &mut input, written)
 }
 
-/// Stops the test where a line is a request and is expected to be none, or the other way round.
+/// Asserts whether a line is a request.
 fn asks(rt: &impl Abort, found: Result<Option<Command>, AllocError>, is_request: bool) {
     match found {
         Ok(command) => same(rt, command.is_some(), is_request),
@@ -108,7 +108,7 @@ fn contracts_leave_one_request(rt: HostRuntime) {
     asks(&rt, of_a_range(alloc), true);
 }
 
-/// Stops the test where an answer is not this text.
+/// Asserts that an answer is this text.
 fn says(rt: &impl Abort, answer: Result<String, AllocError>, text: &str) {
     match answer {
         Ok(found) => same(rt, found.as_str(), text),

@@ -1,9 +1,9 @@
-//! The tests of what the programs call: of lines, whole inputs and packed files.
+//! The tests of what the programs call: lines, whole inputs and packed files.
 //!
-//! What lines are answered is compared by the input and the output of `constriction_rows` and `constriction_coder`.
+//! The answers to lines are tested by the input and output of `constriction_rows` and `constriction_coder`.
 //!
-//! A library that has tests of its own is proved twice, so none of them has any. Tests use the
-//! public interface alone.
+//! The libraries have no tests of their own, because a library with tests is proved twice. These tests use the public
+//! interface alone.
 #![tactic(auto)]
 
 #[cfg(test)]

@@ -1,4 +1,4 @@
-//! Packed files: their bytes, that they come back, and that damaged ones are refused.
+//! Packed files: their bytes, unpacking, and damaged files that are refused.
 
 use crate::checks::{holds, prints, same};
 use crate::runs::{SlowReader, SlowWriter};
@@ -7,7 +7,7 @@ use constriction_pack::{BLOCK_BYTES, PackError, pack, pack_block, unpack, unpack
 use std::alloc::Global;
 use std::process::Abort;
 
-/// Bytes, and what they are packed to. A program wrote these from the description of the format alone.
+/// Bytes, and the packed files of them. These come from a program written from the description of the format alone.
 const FILES: [(&[u8], &[u8]); 3] = [
     (b"", b"cpk1\x00\x00\x00\x00\xf5\x13\xce\x9d\x7f\x76\x25\x4d"),
     (
@@ -22,24 +22,24 @@ const FILES: [(&[u8], &[u8]); 3] = [
     ),
 ];
 
-/// The words of a block of the last of these bytes.
+/// The words of the block in the last of these files.
 const BLOCK: [u32; 6] = [9, 3, 32_767, 16_384, 16_385, 33_816_208];
 
-/// What packing bytes answers, and writes.
+/// What `pack` answers, and what it writes.
 fn packed(alloc: Global, mut bytes: &[u8]) -> (Result<(), PackError>, Vec<u8>) {
     let mut packed = Vec::new(alloc);
     let result = pack(alloc, &mut bytes, &mut packed);
     (result, packed)
 }
 
-/// What unpacking bytes answers, and writes.
+/// What `unpack` answers, and what it writes.
 fn unpacked(alloc: Global, mut bytes: &[u8]) -> (Result<(), PackError>, Vec<u8>) {
     let mut unpacked = Vec::new(alloc);
     let result = unpack(alloc, &mut bytes, &mut unpacked);
     (result, unpacked)
 }
 
-/// Stops the test where bytes are not unpacked to these.
+/// Asserts that a file is unpacked to these bytes.
 fn comes_back(rt: &impl Abort, alloc: Global, file: &[u8], bytes: &[u8]) {
     let (result, again) = unpacked(alloc, file);
     same(rt, result, Ok(()));
@@ -57,7 +57,7 @@ fn files_are_packed_as_described(rt: HostRuntime) {
     }
 }
 
-/// One byte more than a block has, of all kinds, is two blocks.
+/// One byte more than a block holds makes two blocks.
 #[test]
 fn two_blocks_come_back(rt: HostRuntime) {
     let mut bytes = Vec::new(rt.alloc());
@@ -69,14 +69,14 @@ fn two_blocks_come_back(rt: HostRuntime) {
     comes_back(&rt, rt.alloc(), &found, &bytes);
 }
 
-/// Stops the test where bytes are not refused so. What was written is a beginning of the bytes that were packed.
+/// Asserts that a file is refused with this fault, and what was written before: a beginning of the bytes that were packed.
 fn is_refused(rt: &impl Abort, alloc: Global, file: &[u8], fault: PackError, written: &[u8]) {
     let (result, again) = unpacked(alloc, file);
     same(rt, result, Err(fault));
     holds(rt, &again, written);
 }
 
-/// Each cut is refused, and each flipped bit.
+/// A file is refused if it is cut anywhere, or if any bit is flipped.
 #[test]
 fn damaged_files_are_refused(rt: HostRuntime) {
     let alloc = rt.alloc();
@@ -105,8 +105,8 @@ fn damaged_files_are_refused(rt: HostRuntime) {
     is_refused(&rt, alloc, b"cpk1\xff\xff\xff\xff", PackError::Damaged, &[]);
 }
 
-/// Words that are those of no block: no numbers, no bytes, too many of them, too many weights, weights that end or do not add up, a last
-/// word 0, bytes too few, and one too many.
+/// Words that are no block: too few numbers, no bytes, too many bytes, too many weights, weights that are cut or do not add up, a
+/// last word 0, too few bytes, and a byte too many.
 const WRONG_BLOCKS: [&[u32]; 9] = [
     &[9],
     &[0, 1, 65_536],
@@ -133,7 +133,7 @@ fn wrong_blocks_are_refused(rt: HostRuntime) {
     holds(&rt, &again, b"there and back");
 }
 
-/// A reader that fails is not asked again, and what was written before stands.
+/// A reader that fails is not asked again, and what was written before stays.
 #[test]
 fn readers_and_writers_fail(rt: HostRuntime) {
     let alloc = rt.alloc();

@@ -1,4 +1,4 @@
-//! Runs over whole inputs, and over readers and writers that give or take little, fail, or end.
+//! Runs over whole inputs, and over readers and writers that take or give one byte at a time, fail, or end.
 
 use crate::checks::{holds, prints, same};
 use constriction_text::{RunFault, run};
@@ -6,10 +6,10 @@ use std::alloc::Global;
 use std::io::{self, Read, Write};
 use std::process::Abort;
 
-/// The most bytes of an input.
+/// The greatest number of bytes that an input may have.
 const LIMIT: usize = 1_048_576;
 
-/// Gives one byte a turn, and fails once, after so many turns. Whoever asks it again is given the rest.
+/// Gives one byte a call, and fails once, after `turns` calls. If it is asked again, it gives the rest.
 #[derive(Drop)]
 pub(crate) struct SlowReader<'a> {
     pub(crate) rest: &'a [u8],
@@ -35,7 +35,7 @@ impl Read for SlowReader<'_> {
     }
 }
 
-/// Takes one byte a turn, and fails after so many turns.
+/// Takes one byte a call, and fails after `turns` calls.
 #[derive(Drop)]
 pub(crate) struct SlowWriter {
     pub(crate) taken: Vec<u8>,
@@ -62,7 +62,7 @@ impl Write for SlowWriter {
     }
 }
 
-/// Gives all that is asked for, and counts the turns.
+/// Gives all that is asked for, and counts the calls.
 #[derive(Drop)]
 struct CountingReader<'a> {
     rest: &'a [u8],
@@ -76,7 +76,7 @@ impl Read for CountingReader<'_> {
     }
 }
 
-/// Takes all that it is given, and counts the turns.
+/// Takes all that it is given, and counts the calls.
 #[derive(Drop)]
 struct CountingWriter {
     bytes: usize,
@@ -95,7 +95,7 @@ impl Write for CountingWriter {
     }
 }
 
-/// Inputs that end in no line, in an empty one, and in one that is not ended, and what is answered to them.
+/// An empty input, one that ends in an empty line, and one whose last line is not ended, with their answers.
 const CASES: [(&str, &str); 3] = [
     ("", ""),
     ("\n\n", "bad line\nbad line\n"),
@@ -105,12 +105,12 @@ const CASES: [(&str, &str); 3] = [
     ),
 ];
 
-/// What a run over an input answers, and writes to a `Vec`.
+/// Runs over an input, and writes to a `Vec`.
 fn run_at_once(alloc: Global, mut input: &[u8], written: &mut Vec<u8>) -> Result<(), RunFault> {
     run(alloc, &mut input, written)
 }
 
-/// The same where the input is read byte by byte.
+/// The same, if the input is read byte by byte.
 fn run_slowly(
     alloc: Global,
     reader: &mut SlowReader,
@@ -119,7 +119,7 @@ fn run_slowly(
     run(alloc, reader, written)
 }
 
-/// An input that is read byte by byte is answered by this text.
+/// Asserts that an input that is read byte by byte has this answer.
 fn is_answered_slowly(rt: &impl Abort, alloc: Global, input: &str, text: &str) {
     let mut reader = SlowReader {
         rest: input.as_bytes(),
@@ -139,7 +139,7 @@ fn an_input_is_read_byte_by_byte(rt: HostRuntime) {
     }
 }
 
-/// It is not asked again, though it would give the rest.
+/// The reader is not asked again, though it would give the rest.
 #[test]
 fn a_reader_that_fails_leaves_nothing_written(rt: HostRuntime) {
     let mut reader = SlowReader {
@@ -155,7 +155,7 @@ fn a_reader_that_fails_leaves_nothing_written(rt: HostRuntime) {
     );
 }
 
-/// What a run over two bad lines answers, and writes to a slow writer.
+/// Runs over two bad lines, and writes to a slow writer.
 fn run_to_slow(alloc: Global, writer: &mut SlowWriter) -> Result<(), RunFault> {
     let mut reader = b"a\nb".as_slice();
     run(alloc, &mut reader, writer)
@@ -175,7 +175,7 @@ fn a_writer_that_fails_has_a_beginning(rt: HostRuntime) {
     holds(&rt, &writer.taken, b"bad line\nbad");
 }
 
-/// What a run over an input answers, and how much room it leaves.
+/// What a run over an input answers, and how many bytes of `room` it leaves.
 pub fn run_into(
     alloc: Global,
     mut input: &[u8],
@@ -193,7 +193,7 @@ fn a_writer_that_takes_no_byte_has_a_beginning(rt: HostRuntime) {
     same(&rt, room.as_slice(), b"bad line\nbad".as_slice());
 }
 
-/// So many empty lines.
+/// `count` empty lines.
 fn empty_lines(rt: &impl Abort, alloc: Global, count: usize) -> Vec<u8> {
     let Ok(lines) = vec![in alloc; b'\n'; count] else {
         panic!(rt; "memory was refused");
@@ -201,7 +201,7 @@ fn empty_lines(rt: &impl Abort, alloc: Global, count: usize) -> Vec<u8> {
     lines
 }
 
-/// Stops the test where a line of the text is not this one.
+/// Asserts that each line of a text is this one.
 fn are_lines(rt: &impl Abort, text: &[u8], expected: &[u8; 9]) {
     for line in text.chunks(9) {
         same(rt, line, expected.as_slice());
@@ -243,7 +243,7 @@ fn faults_have_their_status(rt: HostRuntime) {
     );
 }
 
-/// What a run over an input answers, in how many turns it reads, how many bytes it writes, and in how many turns.
+/// What a run over an input answers, in how many calls it reads, how many bytes it writes, and in how many calls.
 fn run_counted(alloc: Global, input: &[u8]) -> (Result<(), RunFault>, usize, usize, usize) {
     let mut reader = CountingReader {
         rest: input,
@@ -254,8 +254,8 @@ fn run_counted(alloc: Global, input: &[u8]) -> (Result<(), RunFault>, usize, usi
     (result, reader.turns, writer.bytes, writer.turns)
 }
 
-/// 20,000 lines are two pieces of 8,192 bytes, what is left, and the end. Their answers, 9 bytes each, are two pieces of 65,538 bytes and
-/// what is left.
+/// 20,000 lines are read as two pieces of 8,192 bytes, the rest, and the end. Their answers, 9 bytes each, are written as two pieces of
+/// 65,538 bytes and the rest.
 #[test]
 fn an_input_is_read_and_answered_in_large_pieces(rt: HostRuntime) {
     let input = empty_lines(&rt, rt.alloc(), 20_000);

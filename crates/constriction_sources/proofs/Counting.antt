@@ -8,7 +8,7 @@ abbrev HasItems : {W E : Type 0} → ℕ → List (Result (Option W) E) → Type
 HasItems {W} {E} n answers = (k : ℕ) (r : Result (Option W) E) → slice_get answers k ≡ Some r → (r ≡ Ok None) ↔ (n ≤ k)
 
 module _ {W E : Type 0} (m n : ℕ) (rest : List (Result (Option W) E)) (others : HasItems n rest) where
-  -- an item stands before the others
+  -- an item in front of other answers
   item_before : (r : Result (Option W) E) → r ≢ Ok None → m ≡ n + 1 → HasItems m (r ∷ rest)
   item_before r item count zero a e =
       let same : r ≡ a = cc in
@@ -17,7 +17,7 @@ module _ {W E : Type 0} (m n : ℕ) (rest : List (Result (Option W) E)) (others 
       let other : (a ≡ Ok None) ↔ (n ≤ i) = others i a e in
       (λ none. let late : n ≤ i = other.0 none in omega arith, λ late. other.1 (omega arith))
 
-  -- the end stands before others, which are ends too
+  -- an end in front of other ends
   end_before : m ≡ 0 → n ≡ 0 → HasItems {W = W} {E = E} m (Ok None ∷ rest)
   end_before before after zero a e =
       let same : a ≡ Ok None = cc in
@@ -26,7 +26,7 @@ module _ {W E : Type 0} (m n : ℕ) (rest : List (Result (Option W) E)) (others 
       let other : (a ≡ Ok None) ↔ (n ≤ i) = others i a e in
       (λ none. omega arith, λ late. other.1 (omega arith))
 
-  -- one answer before others, where m items were left before it and n after it
+  -- one answer in front of others, with m items left before it and n after it
   answer_before : (r : Result (Option W) E) → CountsRead m r n → HasItems m (r ∷ rest)
   answer_before (Ok None) count = end_before count.0 count.1
   answer_before (Ok (Some w)) count = item_before (Ok (Some w)) (λ e. cc) count

@@ -4,7 +4,7 @@ use Rattle.constriction_sources.specs.Sink.{CountsWrite, TakesItems, Writes, Ext
 
 module _ {S W E : Type 0} (gives : S → W → Result (Unit {0}) E → S → Type 0) (places : S → ℕ)
     (law : (s : S) (w : W) (r : Result (Unit {0}) E) (t : S) → gives s w r t → CountsWrite (places s) r (places t)) where
-  -- writes that all succeeded took a free place each
+  -- writes that all succeeded each took a free place
   pub writes_counted : (s : S) (ws : List W) (t : S) → Writes gives s ws t → places s ≡ length ws + places t
   writes_counted s [] t e =
       let same : places s ≡ places t = ap places e in
@@ -16,7 +16,7 @@ module _ {S W E : Type 0} (gives : S → W → Result (Unit {0}) E → S → Typ
       let goal : places s ≡ suc (length ws) + places t = omega arith in
       goal
 
-  -- so writing from an iterator is refused exactly where it has more items than there are free places
+  -- so writing from an iterator is refused if and only if it has more items than there are free places
   pub extending_counted : {I : Type 0} (next : I → Option W → I → Type 0) (s : S) (items : I) (r : Result (Unit {0}) E) (t : S)
       → ExtendsBy gives next s items r t
       → TakesItems next items r (λ ws. places s ≡ length ws + places t) (λ ws _ _. (places s ≡ length ws) × (places t ≡ 0))

@@ -1,4 +1,4 @@
--- What a sink tells after the words of an iterator whose items are known: a caller's proof may cite it. No public clause cites this
+-- The written words of a sink that took the known items of an iterator. A caller's proof may cite this. No public clause cites this
 -- module.
 use Rattle.std.specs.Prelude.{◌≡◌, List, ◌++◌, Option, None, Result, Ok}
 use Rattle.std.proofs.Common.{◌∙◌, refl, subst, sym}
@@ -8,7 +8,7 @@ use Rattle.std.proofs.lemmas.List.{map-id}
 use Rattle.constriction_sources.specs.Sink.{WritesAppend, ExtendsBy}
 use Rattle.constriction_sources.specs.SinkLaws.{writes_append_all}
 
--- where the items were all written, they come after the words that were written before
+-- if all items were written, they come after the words that were written before
 pub extended_by_all : {S W E I : Type 0} (gives : S → W → Result (Unit {0}) E → S → Type 0) (tells : S → List W → Type 0)
     (next : I → Option W → I → Type 0)
     → ((s : S) (w : W) (r : Result (Unit {0}) E) (t : S) → gives s w r t → (ws : List W) → tells s ws → WritesAppend tells ws w r t)

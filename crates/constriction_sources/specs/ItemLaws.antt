@@ -1,4 +1,4 @@
--- The steps of sources over iterators meet the laws of sources: the impls cite these, and a caller's own may. No public clause cites
+-- The steps of sources over iterators meet the laws of sources. The impls cite these, and a caller's own may. No public clause cites
 -- this module.
 use Rattle.std.specs.Prelude.{◌≡◌, ℕ, suc, zero, ◌+◌, List, [], ◌∷◌, length, Bool, true, false, Option, Some, None, Result, Ok, Err, MatchBool, MatchOption, All}
 use Rattle.std.specs.Iterator.{AlwaysYields, Count, size, count_unless}
@@ -12,7 +12,7 @@ module _ {I S A : Type 0} (steps : I → Option A → I → Type 0) (done : S �
   abbrev pub Fused : S → Option A → S → Type 0
   Fused s o t = MatchBool (done s) (o ≡ None) (steps (source s) o (source t)) × MatchOption o (done t ≡ true) (λ _. done t ≡ false)
 
-  -- the words that come, where the iterator's contract fixes them
+  -- the upcoming words, if the iterator's contract fixes them
   abbrev pub Tells : S → List A → Type 0
   Tells = AlwaysYields Fused (λ w. w)
 
@@ -32,7 +32,7 @@ module _ {I S A : Type 0} (steps : I → Option A → I → Type 0) (done : S �
   known-read s (Some w) t h [] g = absurd (g w t h)
   known-read s (Some w) t h (y ∷ ys) g = let k = g.1 w t h in (ys, ap (λ x. x ∷ ys) (sym k.0), k.1)
 
-  -- a read answers from the told words
+  -- a read answers the upcoming words in order
   pub word-upcoming : {E : Type 0} (s : S) (r : Result (Option A) E) (t : S) → GivesWord Fused s r t
       → (words : List A) → Tells s words → ReadsUpcoming Tells words r t
   word-upcoming s (Ok o) t h words g = known-read s o t h words g
@@ -41,7 +41,7 @@ module _ {I S A : Type 0} (steps : I → Option A → I → Type 0) (done : S �
   not-ended : (s : S) (o : Option A) (t : S) → done s ≡ false → Fused s o t → steps (source s) o (source t)
   not-ended s o t d h = subst (λ (b : Bool). MatchBool b (o ≡ None) (steps (source s) o (source t))) d h.0
 
-  -- what an iterator tells is told by the source over it
+  -- the words that an iterator's contract fixes are the upcoming words of the source over it
   pub tells-new : (s : S) (words : List A) → done s ≡ false → AlwaysYields steps (λ w. w) (source s) words → Tells s words
   tells-new s [] d g = λ x t h. g x (source t) (not-ended s (Some x) t d h)
   tells-new s (w ∷ ws) d g = (
@@ -49,14 +49,14 @@ module _ {I S A : Type 0} (steps : I → Option A → I → Type 0) (done : S �
     (λ x t h. let k = g.1 x (source t) (not-ended s (Some x) t d h) in (k.0, tells-new t ws h.1 k.1)),
   )
 
-  -- nothing is told after the end
+  -- no words are to come after the end
   pub none-upcoming : (t : S) → done t ≡ true → (words : List A) → Tells t words → words ≡ []
   none-upcoming t d [] g = refl
   none-upcoming t d (w ∷ ws) g =
       let none : Option A = None in
       absurd (g.0 t (subst (λ (b : Bool). MatchBool b (none ≡ None) (steps (source t) none (source t))) (sym d) refl, d))
 
-  -- no word comes after the end
+  -- a read after the end answers None
   word-end : {E : Type 0} (s : S) (r : Result (Option A) E) (t : S) → done s ≡ true → GivesWord Fused s r t
       → (r ≡ Ok None) × (done t ≡ true)
   word-end s (Ok o) t d h = let k = after-end s o t d h in (ap Ok k.0, k.1)
@@ -91,14 +91,14 @@ module _ {I S A : Type 0} (steps : I → Option A → I → Type 0) (done : S �
         let is : left t ≡ n = (count-of n t later).0 in
         (omega (arith, is), subst (λ k. CountsDown Fused left tells k t) (sym is) later)
 
-    -- a read of words takes an item, where the count is right
+    -- a read of words takes an item, if the count is exact
     pub word-counted : {E : Type 0} (s : S) (r : Result (Option A) E) (t : S) → CountsDown Fused left tells (left s) s
         → GivesWord Fused s r t → CountsRead (left s) r (left t) × CountsDown Fused left tells (left t) t
     word-counted s (Ok None) t c h = count-item (left s) s None t c h
     word-counted s (Ok (Some w)) t c h = count-item (left s) s (Some w) t c h
     word-counted s (Err e) t c h = absurd h
 
-    -- so many words are told
+    -- the upcoming words are as many as the count says
     pub upcoming-counted : (s : S) → CountsDown Fused left tells (left s) s → (words : List W) → tells s words → left s ≡ length words
     upcoming-counted s c = (count-of (left s) s c).1
 
@@ -107,7 +107,7 @@ pub none-left : {I S : Type 0} (done : S → Bool) (source : S → I) (remaining
     → size (count_unless (done t) (remaining (source t))) ≡ 0
 none-left done source remaining t d = ap (λ (b : Bool). size (count_unless b (remaining (source t)))) d
 
--- the same of words and errors
+-- the same for words and errors
 module _ {I S W E : Type 0} (steps : I → Option (Result W E) → I → Type 0) (done : S → Bool) (source : S → I) where
   item-end : (s : S) (r : Result (Option W) E) (t : S) → done s ≡ true → Fused steps done source s (item_of r) t
       → (r ≡ Ok None) × (done t ≡ true)

@@ -1,5 +1,5 @@
 -- Sources over iterators: which item a read gives, and whether the items are counted. `steps s o t` says that the iterator s may give o
--- and be t then.
+-- and become t.
 use Rattle.std.specs.Prelude.{◌≡◌, ℕ, suc, zero, List, length, Option, Some, None, Result, Ok, Err, All, MatchResult}
 use Rattle.constriction_sources.specs.Source.{GivesAnswers}
 
@@ -14,17 +14,17 @@ abbrev pub GivesWord : {S W E : Type 0} → (S → Option W → S → Type 0) �
 GivesWord steps s r t = MatchResult r (λ o. steps s o t) (λ _. ⊥)
 
 module _ {S A W : Type 0} (steps : S → Option A → S → Type 0) (left : S → ℕ) (tells : S → List W → Type 0) where
-  -- the number of items that are left is n, and as many words as that are told, if any are
+  -- n items are left, and each list of words that is told has n words
   abbrev pub IsCount : ℕ → S → Type 0
   IsCount n s = (left s ≡ n) × ((words : List W) → tells s words → n ≡ length words)
 
-  -- the iterator gives n items, whatever it gives, and then none; at each point the number of those that are left is right
+  -- the iterator gives exactly n items, whichever they are, and the count of items left is right at each step
   abbrev pub CountsDown : ℕ → S → Type 0
   CountsDown zero s = IsCount zero s × ((x : A) (t : S) → ¬ (steps s (Some x) t))
   CountsDown (suc n) s =
       IsCount (suc n) s × ((t : S) → ¬ (steps s None t)) × ((x : A) (t : S) → steps s (Some x) t → CountsDown n t)
 
--- once reads from s have answered that there are no more words, so does each later one
+-- once a read has answered that there are no more words, each later read does
 abbrev pub EndIsForGood : {S W E : Type 0} → (S → Result (Option W) E → S → Type 0) → Type 0
 EndIsForGood {S} {W} {E} gives =
     (s t u : S) (later : List (Result (Option W) E)) → gives s (Ok None) t → GivesAnswers gives t later u

@@ -1,5 +1,5 @@
--- The count of a source over an iterator of known length is surely right: a caller's proof may cite it, for `is_exact`. No public clause
--- cites this module.
+-- The count of a source over an iterator of known length is exact. A caller's proof may cite this for `is_exact`. No public clause cites
+-- this module.
 use Rattle.std.specs.Prelude.{◌≡◌, ◌<◌, ◌-◌, ℕ, zero, suc, ◌+◌, List, [], ◌∷◌, length, Bool, true, false, cond, Option, Some, None, MatchBool}
 use Rattle.std.specs.Iterator.{AlwaysYields, Count, at_most, size, count_unless}
 use Rattle.std.specs.Iterator.Adapters.{fuse_source, fuse_done, fuse_steps, copied_source, copied_steps}
@@ -14,7 +14,7 @@ use Rattle.std.proofs.Common.{sym, ◌∙◌, ap, refl, arith}
 use denote.Ref.{Bor}
 use Rattle.constriction_sources.specs.Items.{CountsDown}
 
--- what `is_exact` says of a source over this iterator, which steps by `steps` and has at most `remaining` items
+-- what `is_exact` says of a source over an iterator that steps by `steps` and has at most `remaining` items
 module _ {I A W : Type 0} (steps : I → Option A → I → Type 0) (remaining : I → Count) (tells : Fuse I → List W → Type 0) where
   abbrev pub left_in : Fuse I → ℕ
   left_in s = size (count_unless (fuse_done s) (remaining (fuse_source s)))
@@ -22,7 +22,7 @@ module _ {I A W : Type 0} (steps : I → Option A → I → Type 0) (remaining :
   abbrev pub IsExact : Fuse I → Type 0
   IsExact s = CountsDown (fuse_steps steps) left_in tells (left_in s) s
 
--- an iterator that has `many` items: it ends where that is 0, and an item takes one away
+-- an iterator that has `many` items left: it ends only at 0, and each item lowers the number by 1
 module _ {I A : Type 0} (steps : I → Option A → I → Type 0) (many : I → ℕ)
     (stops : (i j : I) → steps i None j → many i ≡ 0)
     (goes : (i : I) (x : A) (j : I) → steps i (Some x) j → many i ≡ many j + 1) where
@@ -36,7 +36,7 @@ module _ {I A : Type 0} (steps : I → Option A → I → Type 0) (many : I → 
   none_by true i j h = refl
   none_by false i j h = stops i j h
 
-  -- nothing is left where the end comes
+  -- no item is left at the end
   none_left : (s t : Fuse I) → fuse_steps steps s None t → left s ≡ 0
   none_left s t h = none_by (fuse_done s) (fuse_source s) (fuse_source t) h.0
 
@@ -45,7 +45,7 @@ module _ {I A : Type 0} (steps : I → Option A → I → Type 0) (many : I → 
   one_by true after i x j h e = absurd (let none = h in cc)
   one_by false after i x j h e = goes i x j h ∙ ap (λ (b : Bool). cond b 0 (many j) + 1) (sym e)
 
-  -- an item takes one away
+  -- each item lowers the number by 1
   one_less : (s : Fuse I) (x : A) (t : Fuse I) → fuse_steps steps s (Some x) t → left s ≡ left t + 1
   one_less s x t h = one_by (fuse_done s) (fuse_done t) (fuse_source s) x (fuse_source t) h.0 h.1
 
@@ -62,11 +62,11 @@ module _ {I A : Type 0} (steps : I → Option A → I → Type 0) (many : I → 
       λ x t h. counts_down n t (let less = one_less s x t h in omega arith),
     )
 
-  -- the count of a source over words and errors is right
+  -- the count of a source over words and errors is exact
   pub items-exact : (W : Type 0) (s : Fuse I) → IsExact {W = W} steps counted (λ _ _. ⊥) s
   items-exact W s = counts_down {W = W} (λ _ _. ⊥) (λ t words known. absurd known) (left s) s refl
 
-  -- so it is of a source over words, where the iterator always gives an answer
+  -- so is the count of a source over words, if the iterator always gives an answer
   module _ (answers : (i : I) → (o : Option A) × (j : I) × steps i o j) where
     abbrev made : I → Bool → Fuse I
     made i done = record { iter = i; done = done }

@@ -3,16 +3,16 @@
 use Rattle.std.specs.Prelude.{◌≡◌, ℕ, ◌+◌, List, [], ◌∷◌, ◌++◌, Option, Some, Result, Ok, Err, MatchResult}
 use Rattle.std.specs.Iterator.{Drains, YieldsThen}
 
--- A write where the words ws were written before: the word comes after them, or was refused and they stay.
+-- A write after the words ws appends its word to them, or is refused and keeps them.
 abbrev pub WritesAppend : {S W E : Type 0} → (S → List W → Type 0) → List W → W → Result (Unit {0}) E → S → Type 0
 WritesAppend tells ws w r t = MatchResult r (λ _. tells t (ws ++ w ∷ [])) (λ _. tells t ws)
 
--- A write where m places were free before it and n are free after it: one less, or none was free and none is.
+-- A write with m free places before it and n after it takes one place, or is refused because there is none.
 abbrev pub CountsWrite : {E : Type 0} → ℕ → Result (Unit {0}) E → ℕ → Type 0
 CountsWrite m r n = MatchResult r (λ _. m ≡ n + 1) (λ _. (m ≡ 0) × (n ≡ 0))
 
--- The items of an iterator were taken: all of them, and OfAll is true of them; or those before one that was refused, and OfThose is true
--- of those, of that one and of the error.
+-- The items of an iterator were taken. Either all of them were, and OfAll holds of them; or one was refused, and OfThose holds of the
+-- items before it, of that item and of the error.
 abbrev pub TakesItems : {I W E : Type 0} → (I → Option W → I → Type 0) → I → Result (Unit {0}) E → (List W → Type 0)
     → (List W → W → E → Type 0) → Type 0
 TakesItems {I} {W} next items r OfAll OfThose =
@@ -21,7 +21,7 @@ TakesItems {I} {W} next items r OfAll OfThose =
     (λ e. (ws : List W) × (w : W) × (rest : I) × YieldsThen next items ws (Some w) rest × OfThose ws w e)
 
 module _ {S W E : Type 0} (gives : S → W → Result (Unit {0}) E → S → Type 0) where
-  -- writes in order from s, each of which succeeded, lead to t
+  -- successful writes, in order, lead from s to t
   abbrev pub Writes : S → List W → S → Type 0
   Writes s [] t = s ≡ t
   Writes s (w ∷ ws) t = (j : S) × gives s w (Ok tt) j × Writes j ws t

@@ -1,4 +1,4 @@
--- Reads in a row that each answered a word, and what they leave of the told words: a caller's proof may cite these. No public clause
+-- Reads in a row that each answered a word, and the upcoming words that they leave. A caller's proof may cite these. No public clause
 -- cites this module.
 use Rattle.std.specs.Prelude.{◌≡◌, List, [], ◌∷◌, ◌++◌, Option, Some, Result, Ok}
 use Rattle.std.proofs.Common.{refl, ap, sym, ◌∙◌, subst}
@@ -11,7 +11,7 @@ module _ {S W E : Type 0} (gives : S → Result (Option W) E → S → Type 0) w
   reads_more s [] j w t e h = (t, subst (λ (x : S). gives x (Ok (Some w)) t) (sym e) h, refl)
   reads_more s (x ∷ xs) j w t p h = (p.0, p.1, reads_more p.0 xs j w t p.2 h)
 
-  -- what was read are the first of the told words, and the others are left
+  -- the words that were read are the first upcoming words, and the others are left
   pub reads_upcoming_all : (tells : S → List W → Type 0)
       → ((s : S) (r : Result (Option W) E) (t : S) → gives s r t → (ws : List W) → tells s ws → ReadsUpcoming tells ws r t)
       → (s : S) (ws : List W) (t : S) → Reads gives s ws t → (words : List W) → tells s words

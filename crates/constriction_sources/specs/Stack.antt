@@ -6,7 +6,7 @@ use Rattle.std.specs.Prelude.{MatchResult, MatchOption, IsOk, OnErr}
 abbrev pub Pops : {W E : Type 0} → List W → Result (Option W) E → List W → Type 0
 Pops old r new = MatchResult r (λ o. MatchOption o ((old ≡ []) × (new ≡ [])) (λ w. old ≡ new ++ w ∷ [])) (λ _. ⊥)
 
--- a read answers the last word and drops it, or None on the empty list; or it fails where there is a word, and leaves the list
+-- a read answers the last word and drops it, or None on the empty list; or it fails on a list that is not empty, and leaves the list
 abbrev pub PopsOrFails : {W E : Type 0} → List W → Result (Option W) E → List W → Type 0
 PopsOrFails old r new =
     MatchResult r
@@ -17,15 +17,15 @@ PopsOrFails old r new =
 abbrev pub Pushes : {W E : Type 0} → List W → W → Result (Unit {0}) E → List W → Type 0
 Pushes old w r new = MatchResult r (λ _. new ≡ old ++ w ∷ []) (λ _. new ≡ old)
 
--- a read pops a word, and the capacity stays, which is never below `least`
+-- a read pops a word and keeps the capacity, which is at least `least`
 pub record PopsFrom {S W E : Type 0} (words : S → List W) (capacity : S → ℕ) (least : ℕ)
     (old : S) (r : Result (Option W) E) (new : S) : Type 0 where
   pub pops : Pops (words old) r (words new)
   pub keeps : capacity new ≡ capacity old
   pub at_least : least ≤ capacity old
 
--- A write pushes the word. With capacity left it succeeds, and the capacity stays. It is refused only where none is left, and then the
--- capacity stays as well. The capacity, which is never below `least`, does not fall.
+-- A write pushes the word. With capacity left it succeeds and keeps the capacity. It is refused only with no capacity left, and keeps the
+-- capacity then too. The capacity never falls, and is at least `least`.
 pub record PushesTo {S W E : Type 0} (words : S → List W) (capacity : S → ℕ) (least : ℕ)
     (old : S) (w : W) (r : Result (Unit {0}) E) (new : S) : Type 0 where
   pub pushes : Pushes (words old) w r (words new)
@@ -35,11 +35,11 @@ pub record PushesTo {S W E : Type 0} (words : S → List W) (capacity : S → �
   pub grows : capacity old ≤ capacity new
   pub at_least : least ≤ capacity old
 
--- A stack whose writes, reads and words are these reads what was written to it.
+-- A stack with these writes, reads and words reads back what was written to it.
 pub record ReadsWhatWasWritten {S W R E : Type 0} (writes : S → W → Result (Unit {0}) E → S → Type 0)
     (reads : S → Result (Option W) R → S → Type 0) (words_of : S → List W) : Type 0 where
-  -- a word whose write succeeded stands after those before it
+  -- a write that succeeds puts its word after the others
   pub written : (old new : S) (w : W) → writes old w (Ok tt) new → words_of new ≡ words_of old ++ w ∷ []
-  -- From any state with this word after others, the word is read, and the others are left; or the read fails, and all are left.
+  -- In any state with this word after others, a read answers the word and leaves the others, or fails and leaves all.
   pub read : (later new : S) (w : W) (r : Result (Option W) R) (words : List W) → words_of later ≡ words ++ w ∷ [] → reads later r new
       → MatchResult r (λ o. (o ≡ Some w) × (words_of new ≡ words)) (λ _. words_of new ≡ words ++ w ∷ [])

@@ -1,4 +1,4 @@
--- The steps of a stack meet the laws of sources and sinks: the impls cite these, and a caller's own may. No public clause cites this
+-- The steps of a stack meet the laws of sources and sinks. The impls cite these, and a caller's own may. No public clause cites this
 -- module.
 use Rattle.std.specs.Prelude.{◌≡◌, ◌≢◌, ◌↔◌, List, [], ◌∷◌, ◌++◌, ⊤, reverse, length, Option, Some, None, Result, Ok, Err, IfErr}
 use Rattle.std.specs.Prelude.{Bool, true, false, IsTrue}
@@ -18,7 +18,7 @@ module _ {S W : Type 0} (items : S → List W) {E : Type 0} where
       (reverse (items t), e ∙ (ap reverse h ∙ reverse-append (items t) (w ∷ [])), λ _. reverse (items t))
   Pops-upcoming s (Err x) t h words e = absurd h
 
-  -- the words of a stack are those that were written
+  -- the words of a stack are the written words
   pub Pushes-append : (s : S) (w : W) (r : Result (Unit {0}) E) (t : S) → Pushes (items s) w r (items t)
       → (words : List W) → words ≡ items s → WritesAppend (λ u ws. ws ≡ items u) words w r t
   Pushes-append s w (Ok x) t h words e = ap (λ ws. ws ++ w ∷ []) e ∙ sym h
@@ -31,12 +31,12 @@ module _ {S W : Type 0} (items : S → List W) {E : Type 0} where
   Pops-counted s (Ok (Some w)) t exact h = (ap length h ∙ length-append (items t) (w ∷ []), exact)
   Pops-counted s (Err x) t exact h = absurd h
 
--- the words that a stack tells are as many as it holds
+-- the upcoming words of a stack are as many as it holds
 pub tells_all : {S W : Type 0} (items : S → List W) (s : S) → ⊤ → (words : List W) → words ≡ reverse (items s)
     → length (items s) ≡ length words
 tells_all items s exact words e = sym (ap length e ∙ length-reverse (items s))
 
--- where each error says that memory was refused, a refusal is for that
+-- if every error says that memory was refused, each refusal does
 pub any_error : {E : Type 0} (r : Result (Unit {0}) E) → IfErr r (λ _. ⊤)
 any_error (Ok x) = tt
 any_error (Err e) = tt
@@ -49,12 +49,12 @@ tells_end items false h = λ words known none.
     let empty : items ≡ [] = sym (reverse-reverse items) ∙ ap reverse (sym known ∙ none) in
     absurd (let wrong = h.1 empty in cc)
 
--- a stack that always has room has it whatever it says
+-- a stack that always has room may answer either to `maybe_full`
 pub always_room : (full : Bool) → OnFalse full ⊤
 always_room true = tt
 always_room false = tt
 
--- what a stack tells before and after a step is what the step does to its words, where it tells these and no others
+-- if a stack tells its words and no others, a step does to its words what it does to the lists that the stack tells
 module _ {S W E : Type 0} (tells : S → List W → Type 0) (words_of : S → List W) (old : List W) where
   pub known_pushes : ((s : S) (words : List W) → tells s words → words ≡ words_of s) → (w : W) (r : Result (Unit {0}) E) (t : S)
       → WritesAppend tells old w r t → Pushes old w r (words_of t)

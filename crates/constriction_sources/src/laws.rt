@@ -1,4 +1,4 @@
-//! What follows from the contracts of sources and sinks, each law the contract of a function.
+//! Laws that follow from the contracts of sources and sinks. Each is the contract of a function.
 
 ghost use Rattle.std.specs.Prelude.{◌≡◌, ◌+◌, ◌≤◌, ◌↔◌, ℕ, [], ◌∷◌, ◌++◌, List, length, slice_get, Option, Some, None, Result, Ok, Err, IfOk, IsOk};
 ghost use Rattle.std.specs.Iterator.{IsFinite};
@@ -24,15 +24,14 @@ pub fn pushed_is_popped<Word, WriteError, ReadError>()
         → (r ≡ Ok (Some w)) × (new ≡ old) }
 {}
 
-/// A word that was written to a stack stands on top of its old words. From whatever state has it there,
-/// the word is read next, and then the stack has the old words again; or the read fails, and the word is
-/// still on top of them.
+/// A word that was written to a stack is on top of its old words. In each state with the word there, a read
+/// answers the word and leaves the old words, or fails and leaves the word on top of them.
 pub fn written_is_read<Word, Backend: WordStack<Word>>()
     ensures { ReadsWhatWasWritten Backend.write_gives Backend.read_gives Backend.words_of }
 {}
 
-/// Writes a word to a stack and reads it back. The word is read, and the stack is left with its old
-/// words, also where the write is refused; where the read fails, the word is still on top of them.
+/// Writes a word to a stack and reads it back. The stack has its old words again, also if the write is
+/// refused. If the read fails, the word is still on top of them.
 pub fn push_then_pop<Word, Backend: WordStack<Word>>(
     backend: &mut Backend,
     word: Word,
@@ -55,16 +54,15 @@ pub fn push_then_pop<Word, Backend: WordStack<Word>>(
     }
 }
 
-/// A position of a stack that was taken earlier, while its words were `taken`, is sought back exactly
-/// where the stack is no shorter now, and what was written since is dropped: where the words of then
-/// still stand, they are what is left.
+/// A seek goes to an earlier position of a stack, at which its words were `taken`. It succeeds if and only
+/// if the stack is no shorter now. If the stack still begins with those words, they are what is left.
 pub fn seek_back<Word>()
     ensures { (taken old new : List Word) (r : Result (Unit {0}) (Unit {0})) → Rewinds old (length taken) r new
         → (IsOk r ↔ (length taken ≤ length old)) × ((later : List Word) → old ≡ taken ++ later → new ≡ taken) }
 {}
 
-/// Writes the words of an iterator in order to a sink that counts its free places: they are refused
-/// exactly where there are more of them than places, and otherwise take a place each.
+/// Writes the words of an iterator in order to a sink that counts its free places. Each written word takes
+/// a place, and a word is refused only when no place is left.
 pub fn extending_counts<Word, Sink: BoundedWriteWords<Word>, Words: Iterator<Item = Word>>(
     sink: &mut Sink,
     words: Words,
@@ -81,15 +79,15 @@ pub fn extending_counts<Word, Sink: BoundedWriteWords<Word>, Words: Iterator<Ite
     sink.extend_from_iter(words)
 }
 
-/// Where an iterator's words were all written, they come after those that were written before; and
-/// where one was refused, those before it do.
+/// After `extend_from_iter` the written words are the old ones and then the iterator's words, up to the first
+/// refused one.
 pub fn extending_tells<Word, Sink: WriteWords<Word>, Words: Iterator<Item = Word>>()
     ensures { (s : Sink) (items : Words) (r : Result (Unit {0}) Sink.WriteError) (t : Sink) (old : List Word)
         → ExtendsBy Sink.write_gives Words.next_gives s items r t → Sink.tells_written s old
         → TakesItems Words.next_gives items r (λ ws. Sink.tells_written t (old ++ ws)) (λ ws _ _. Sink.tells_written t (old ++ ws)) }
 {}
 
-/// Where the count of a source is right, its reads give so many items, and then answer `Ok(None)`.
+/// If the count of a source is exact, its reads give that many items, and then answer `Ok(None)`.
 pub fn remaining_counts<Word, S: Semantics, Source: BoundedReadWords<Word, S>>()
     ensures { (s : Source) (answers : List (Result (Option Word) Source.ReadError)) (t : Source) → Source.is_exact s
         → GivesAnswers Source.read_gives s answers t → (k : ℕ) (r : Result (Option Word) Source.ReadError)

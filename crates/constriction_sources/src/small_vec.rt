@@ -1,6 +1,6 @@
 //! `SmallVec` as a stack: a write pushes, and a read pops.
 //!
-//! The first `N` words stand in the value itself, so memory is asked for only beyond them.
+//! The first `N` words are stored inline, so only further words need memory.
 
 ghost use Rattle.std.specs.Prelude.{◌≡◌, ◌↔◌, [], ⊤, false, reverse, length, IsTrue};
 ghost use Rattle.constriction_sources.specs.Stack.{PopsFrom, PushesTo};

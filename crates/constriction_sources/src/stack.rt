@@ -1,4 +1,4 @@
-//! Stacks: backends that give back, the last one first, what was written to them.
+//! Stacks: backends that read what was written to them, the last word first.
 
 ghost use Rattle.std.specs.Prelude.{◌≡◌, List, refl, reverse};
 
@@ -9,28 +9,28 @@ use smallvec::SmallVec;
 use std::alloc::Allocator;
 use std::default::MadeWith;
 
-/// A sink that is a source as well, which reads what was written to it: the last word first.
+/// A sink that is also a source, and reads the last written word first.
 ///
-/// It has laws alone. Its words are known, so that a contract may name them: an invariant may tie them
-/// to what a coder holds beside them. It may be written and read in every state, so that a coder over
-/// any such stack goes from writing to reading and back, and asks for no condition.
+/// The trait adds laws and no calls. The words are known, so a contract can name them, and an invariant
+/// can tie them to what else a coder holds. A stack may be written and read in every state, so a coder over
+/// it changes between writing and reading without a condition.
 pub trait WordStack<Word>: WriteWords<Word> + ReadWords<Word, Stack> {
     // The words, the one on top last.
     ghost words_of: { Self → List Word };
 
-    // It tells them,
+    // They are the written words,
     ghost tells_words: { (s : Self) → Self.tells_written s (words_of s) };
 
     // and no others.
     ghost tells_no_others: { (s : Self) (words : List Word) → Self.tells_written s words → words ≡ words_of s };
 
-    // They are to come, the one on top first,
+    // They are the upcoming words, the one on top first,
     ghost words_come: { (s : Self) → Self.tells_upcoming s (reverse (words_of s)) };
 
     // and no others.
     ghost no_others_come: { (s : Self) (words : List Word) → Self.tells_upcoming s words → words ≡ reverse (words_of s) };
 
-    // It may be written in every state,
+    // A stack may be written in every state,
     ghost always_writable: { (s : Self) → Self.can_write s };
 
     // and read in every state.

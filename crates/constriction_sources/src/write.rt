@@ -9,10 +9,10 @@ use std::fmt::Debug;
 
 /// A sink of words.
 ///
-/// An implementer says which answers a write may give (`write_gives`), and may tell the words that
-/// were written (`tells_written`): then a write that succeeds appends its word to them, and a
-/// refused one leaves them. It may also say in which states it has room (`has_room`): a write then
-/// fails only if memory is refused (`lacks_memory`).
+/// An implementer says which answers a write may give (`write_gives`). It may name the written words
+/// (`tells_written`): a write that succeeds then appends its word to them, and a refused one keeps them.
+/// It may also say in which states it has room (`has_room`): a write then fails only if memory is refused
+/// (`lacks_memory`).
 pub trait WriteWords<Word> {
     /// Why a write may be refused.
     type WriteError: Debug;
@@ -20,7 +20,7 @@ pub trait WriteWords<Word> {
     // A write of the word to the first state may give this answer and leave the second one.
     ghost write_gives: { Self → Word → Result (Unit {0}) Self.WriteError → Self → Type 0 };
 
-    // The words that were written, the first one first. A sink that tells no list relates to none.
+    // The written words, the first one first. A sink that tells no list relates to none.
     ghost tells_written: { Self → List Word → Type 0 } = { λ _ _. ⊥ };
 
     // The sink takes one more word, unless memory for it is refused.
@@ -56,14 +56,14 @@ pub trait WriteWords<Word> {
         Ok(())
     }
 
-    /// Whether the sink may be full. `false` says that there is room; `true` says nothing.
+    /// Whether the sink may be full. `false` means that there is room; `true` means nothing.
     fn maybe_full(&self) -> bool
         ensures { OnFalse result (has_room self.now) }
     {
         true
     }
 
-    // A write goes to the end of the told list.
+    // A write appends to the written words.
     ghost writes_append: { (s : Self) (w : Word) (r : Result (Unit {0}) Self.WriteError) (t : Self)
         → write_gives s w r t → (words : List Word) → tells_written s words → WritesAppend tells_written words w r t };
 
@@ -74,8 +74,8 @@ pub trait WriteWords<Word> {
 
 /// A sink that knows how many words it still takes.
 ///
-/// A write succeeds exactly where a place is free, and takes it. So `extend_from_iter` is refused
-/// exactly where there are more words than free places.
+/// A write succeeds if and only if a place is free, and takes it. So `extend_from_iter` is refused if and
+/// only if there are more words than free places.
 pub trait BoundedWriteWords<Word>: WriteWords<Word> {
     // How many places are free.
     ghost free_places: { Self → ℕ };
@@ -84,17 +84,17 @@ pub trait BoundedWriteWords<Word>: WriteWords<Word> {
     fn space_left(&self) -> usize
         ensures { result ≡ free_places self.now };
 
-    /// Whether the sink takes no more word.
+    /// Whether no place is free.
     fn is_full(&self) -> bool
         ensures { IsTrue result ↔ (free_places self.now ≡ 0) }
     {
         self.space_left() == 0
     }
 
-    // A write takes a free place, and is refused exactly where there is none.
+    // A write takes a free place, and is refused if and only if there is none.
     ghost counts_writes: { (s : Self) (w : Word) (r : Result (Unit {0}) Self.WriteError) (t : Self) → Self.write_gives s w r t
         → CountsWrite (free_places s) r (free_places t) };
 
-    // Where there surely is room, a place is free.
+    // A sink with room has a free place.
     ghost room_counts: { (s : Self) → Self.has_room s → 0 < free_places s };
 }

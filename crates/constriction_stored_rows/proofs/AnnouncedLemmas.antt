@@ -1,10 +1,10 @@
--- How many rows are asked for at once.
+-- How many rows memory is requested for at once.
 use Rattle.std.proofs.Common.{arith, ◌≡◌, ◌≤◌, ◌^◌, ◌*◌, ◌%◌, min, ℕ}
 use Rattle.std.proofs.Math.Nat.{min-le_left, min-le_right}
 use Rattle.std.proofs.Math.Pow.{pow_mono}
 use Rattle.std.proofs.lemmas.Nat.{one_shl}
 
--- at most as many as 1 that is moved up, in a word of 64 bits, by no more places than the precision has
+-- 1 shifted left, in a word of 64 bits, by at most `precision` places, is at most 2 ^ precision
 pub few_announced : (precision announced places asked : ℕ) → places ≡ min precision 62
     → asked ≡ min announced ((1 * 2 ^ places) % 2 ^ 64) → asked ≤ 2 ^ precision
 few_announced precision announced places asked p a =

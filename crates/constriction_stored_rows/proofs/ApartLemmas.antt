@@ -1,4 +1,4 @@
--- Entries that were read without comparing symbols, where no two symbols turn out to be equal, or where two do.
+-- Entries that were read without comparing symbols, if no two symbols turn out to be equal, and if two do.
 use Rattle.std.specs.Prelude.{◌≡◌, ℕ, Bool, false, List, [], ◌∷◌, map}
 use Rattle.std.proofs.Common.{refl, subst, ◌∙◌}
 use Rattle.std.specs.List.{AllByRecursion, IsDistinct}
@@ -8,7 +8,7 @@ use Rattle.constriction_model.specs.Rows.{rows_of}
 use Rattle.constriction_stored_rows.proofs.MadeLemmas.{BothBad}
 use Rattle.constriction_stored_rows.proofs.PairedLemmas.{accepted-symbols}
 
--- where symbols are not compared, no two are equal
+-- if symbols are not compared, no two are equal
 all-uncompared : {Symbol : Type 0} (ts : List Symbol) → AllByRecursion (λ t. false ≡ false) ts
 all-uncompared [] = tt
 all-uncompared (t ∷ ts) = (refl, all-uncompared ts)
@@ -21,7 +21,7 @@ uncompared-distinct (s ∷ ss) = (all-uncompared ss, uncompared-distinct ss)
 module _ {Word Symbol : Type 0} (eq : Symbol → Symbol → Bool) (whole : Word → ℕ) (bits precision : ℕ) (entries : List (Word × Symbol))
     (ss : List Symbol) (ws : List ℕ) (a : AreAccepted (λ _ _. false) bits precision ss ws)
     (h : HoldsRows whole entries (rows_of ss ws)) where
-  -- the symbols of the entries are those that were read
+  -- the symbols of the entries are the symbols that were read
   pub read-symbols : map (λ x. x.1) entries ≡ ss
   read-symbols = h.0 ∙ accepted-symbols (λ _ _. false) bits precision ss ws a
 
@@ -31,13 +31,13 @@ module _ {Word Symbol : Type 0} (eq : Symbol → Symbol → Bool) (whole : Word 
 
 -- ---- what was refused
 
--- what is accepted where symbols are compared is accepted where they are not
+-- what is accepted if symbols are compared is accepted if they are not
 pub accepted-uncompared : {Symbol : Type 0} (eq : Symbol → Symbol → Bool) (bits precision : ℕ) (ss : List Symbol) (ws : List ℕ)
     → AreAccepted eq bits precision ss ws → AreAccepted (λ _ _. false) bits precision ss ws
 accepted-uncompared eq bits precision ss ws a = record { tile = a.tile; as_many = a.as_many; distinct = uncompared-distinct ss }
 
 module _ {A B : Type 0} (Read : Reading → List A → Type 0) (OtherRead : Reading → List B → Type 0) (Good : List A → List B → Type 0) where
-  -- where what was read is not good, it is not what is good too
+  -- if what was read is not good, it is not better than good
   pub bad-narrower : (Better : List A → List B → Type 0) → ((xs : List A) (ys : List B) → Better xs ys → Good xs ys)
       → BothBad Read OtherRead Good → BothBad Read OtherRead Better
   bad-narrower Better better (xs, ys, reading, other, read, other_read, never) =

@@ -40,7 +40,7 @@ module _ (bits precision : ℕ) (cdf : List ℕ) (t : IsCdf bits precision cdf) 
       → IsRowAt bits precision (lefts_in cdf) i (get_or (weights_of precision (lefts_in cdf)) i 0)
   cdf-row i h = stored-row bits precision (lefts_in cdf) i t.stored (omega (arith, cdf-long))
 
-  -- after a row stands where it ends, modulo 2 ^ bits
+  -- the word after a row's is the end of the row, modulo 2 ^ bits
   pub cdf-next : (i : ℕ) → precision ≤ bits → i + 1 < length cdf
       → get_or cdf (i + 1) 0
       ≡ (get_or (weights_of precision (lefts_in cdf)) i 0 + get_or (lefts_in cdf) i 0) % 2 ^ bits
@@ -68,7 +68,7 @@ module _ (bits precision : ℕ) (cdf : List ℕ) (t : IsCdf bits precision cdf) 
             ∙ ap (λ n. n % 2 ^ bits) (sym all)
       ]
 
--- the weight of a row is the difference of its two ends, modulo 2 ^ bits
+-- the weight of a row is its end minus its beginning, modulo 2 ^ bits
 pub cdf-weight : (bits precision : ℕ) (cdf : List ℕ) (i left next weight : ℕ) → IsCdf bits precision cdf
     → precision ≤ bits → i + 1 < length cdf
     → get_or cdf i 0 ≡ left → get_or cdf (i + 1) 0 ≡ next → weight < 2 ^ bits → (weight + left) % 2 ^ bits ≡ next
@@ -82,7 +82,7 @@ cdf-weight bits precision cdf i left next weight t narrow h l n small e =
     (e ∙ sym n ∙ cdf-next bits precision cdf t i narrow h
     ∙ ap (λ k. (get_or (weights_of precision (lefts_in cdf)) i 0 + k) % 2 ^ bits) here)
 
--- as many rows as words but the last
+-- there are as many rows as words, less one
 pub cdf-rows : (bits precision : ℕ) (cdf : List ℕ) → IsCdf bits precision cdf
     → length (contiguous_rows (weights_of precision (lefts_in cdf))) + 1 ≡ length cdf
 cdf-rows bits precision cdf t =

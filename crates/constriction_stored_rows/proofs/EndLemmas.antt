@@ -1,4 +1,4 @@
--- Where rows end, as words, and that the difference to where they begin is their weight.
+-- The ends of rows, as words. A row's weight is its end minus its left cumulative.
 use Rattle.std.proofs.Common.{◌≡◌, ℕ, ◌+◌, ◌-◌, ◌%◌, ◌^◌, ◌<◌, ◌≤◌, List, [], ◌∷◌, length, get_or, map, ap, sym, refl, ◌∙◌, arith, inl, inr}
 use Rattle.std.proofs.Math.Nat.{mod-eq_of_lt, mod-lt, pow-le-pow_right}
 use Rattle.std.proofs.lemmas.Bool.{cases_lt}
@@ -9,16 +9,16 @@ use Rattle.constriction_stored_rows.specs.Stored.{IsStored, AreEndWords, end_at,
 use Rattle.constriction_stored_rows.specs.StoredLemmas.{stored-row, read-whole}
 
 module _ (bits precision : ℕ) (lefts : List ℕ) where
-  -- the next row begins there
+  -- a row ends where the next row begins
   pub end-next : (i : ℕ) → i + 1 < length lefts → end_at bits precision lefts i ≡ get_or lefts (i + 1) 0
   end-next i h = get_or_default lefts (i + 1) (total_of bits precision) 0 h
 
-  -- there is no next row
+  -- the last row ends at the total
   pub end-last : (i : ℕ) → length lefts ≤ i + 1 → end_at bits precision lefts i ≡ total_of bits precision
   end-last i h = get_or_past lefts (i + 1) (total_of bits precision) h
 
   module _ (t : IsStored bits precision lefts) (narrow : precision ≤ bits) where
-    -- a row ends there, modulo 2 ^ bits
+    -- a row ends at its left cumulative plus its weight, modulo 2 ^ bits
     pub row-ends : (i : ℕ) → i < length lefts
         → end_at bits precision lefts i ≡ (get_or (weights_of precision lefts) i 0 + get_or lefts i 0) % 2 ^ bits
     row-ends i h =
@@ -48,7 +48,7 @@ module _ (bits precision : ℕ) (lefts : List ℕ) where
         difference-mod (2 ^ bits) weight (get_or (weights_of precision lefts) i 0) left small row.fits low
         (e ∙ is ∙ row-ends i h ∙ ap (λ k. (get_or (weights_of precision lefts) i 0 + k) % 2 ^ bits) here)
 
-  -- with the total after them, a row ends where the next number says
+  -- with the total after the left cumulatives, the next number is the end of a row
   pub end-in : (i : ℕ) → i < length lefts → get_or (with_total bits precision lefts) (i + 1) 0 ≡ end_at bits precision lefts i
   end-in i h = elim (cases_lt (i + 1) (length lefts)) [
     | inl more ↦ get_or_append_left lefts (total_of bits precision ∷ []) 0 (i + 1) more ∙ sym (end-next i more)
@@ -58,7 +58,7 @@ module _ (bits precision : ℕ) (lefts : List ℕ) where
         ∙ ap (λ n. get_or (total_of bits precision ∷ []) n 0) first ∙ sym (end-last i none)
   ]
 
-  -- so do words
+  -- so is the next word
   module _ {Word : Type 0} (whole : Word → ℕ) (cdf : List Word) (e : map whole cdf ≡ with_total bits precision lefts) where
     pub among-long : length cdf ≡ length lefts + 1
     among-long = sym (length-map cdf whole) ∙ ap length e ∙ length-append lefts (total_of bits precision ∷ [])
@@ -67,13 +67,13 @@ module _ (bits precision : ℕ) (lefts : List ℕ) where
     among-end i x h is =
         sym (read-whole whole cdf (i + 1) x (omega (arith, among-long)) is) ∙ ap (λ ns. get_or ns (i + 1) 0) e ∙ end-in i h
 
--- what is read of the words that stand beside, where rows end
+-- the ends of rows, by the two end words
 module _ {Word : Type 0} (whole : Word → ℕ) (bits precision : ℕ) (lefts : List ℕ) (end_words : List Word)
     (b : AreEndWords bits precision lefts (map whole end_words)) where
   pub end_words-two : length end_words ≡ 2
   end_words-two = sym (length-map end_words whole) ∙ b.two
 
-  -- of more, what is left of the next row's left cumulative
+  -- with more than two rows, the next left cumulative minus the second end word
   pub end_words-next : (i r : ℕ) (x : Word) → 2 < length lefts → i + 1 < length lefts → x ≡ get_or end_words 1 x → r < 2 ^ bits
       → (r + whole x) % 2 ^ bits ≡ get_or lefts (i + 1) 0 → r ≡ end_at bits precision lefts i
   end_words-next i r x many h is small e =
@@ -81,7 +81,7 @@ module _ {Word : Type 0} (whole : Word → ℕ) (bits precision : ℕ) (lefts : 
       let same : r + whole x ≡ r = omega (arith, zero) in
       sym (mod-eq_of_lt small) ∙ ap (λ n. n % 2 ^ bits) (sym same) ∙ e ∙ sym (end-next bits precision lefts i h)
 
-  -- and of the last row's own
+  -- and the last row's own left cumulative minus the first end word
   pub end_words-last : (i r : ℕ) (x : Word) → 2 < length lefts → i + 1 ≡ length lefts → x ≡ get_or end_words 0 x → r < 2 ^ bits
       → (r + whole x) % 2 ^ bits ≡ get_or lefts i 0 → r ≡ end_at bits precision lefts i
   end_words-last i r x many h is small e =

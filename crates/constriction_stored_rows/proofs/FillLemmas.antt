@@ -44,7 +44,7 @@ module _ {W : Type 0} (whole : W → ℕ) (bits precision : ℕ) where
     below = r.below;
   }
 
-  -- weights that a model accepts are positive, and leave no less than nothing
+  -- accepted weights are positive, and add up to at most 2 ^ precision
   accepted-positive : (infer : Bool) (xs : List ℕ) → IsAccepted bits precision (completed precision infer xs) → All (λ w. 0 < w) xs
   accepted-positive false xs a = a.tiles.positive
   accepted-positive true xs a = λ k d h.
@@ -127,7 +127,7 @@ module _ {W : Type 0} (whole : W → ℕ) (bits precision : ℕ) where
     below = tt;
   }
 
-  -- weights that leave nothing, where one more is inferred, whatever follows
+  -- weights that leave nothing for the inferred one, whatever follows
   pub bad-full-more : (ws more : List W) → 2 ^ precision ≤ sum (map whole ws)
       → ¬ (IsAccepted bits precision (completed precision true (map whole (ws ++ more))))
   bad-full-more ws more much a =
@@ -138,7 +138,7 @@ module _ {W : Type 0} (whole : W → ℕ) (bits precision : ℕ) where
       All-contains (λ x. 0 < x) _ _ a.tiles.positive (Contains-push xs (2 ^ precision - sum xs)) in
       omega arith
 
-  -- a weight after those that leave nothing
+  -- a weight after weights that leave nothing
   pub bad-after : (infer : Bool) (ws more : List W) (w : W) → 2 ^ precision ≤ sum (map whole ws)
       → ¬ (IsAccepted bits precision (completed precision infer (map whole ((ws ++ w ∷ []) ++ more))))
   bad-after infer ws more w much = bad-more infer ws more w (zero-or-more (whole w) (sum (map whole ws)) much)
@@ -161,7 +161,7 @@ module _ {W : Type 0} (whole : W → ℕ) (bits precision : ℕ) where
         rw given (bad-full-more (ws ++ w ∷ []) more (omega (arith, all, total, full.1)))
   ]
 
-  -- no weight that is inferred after these
+  -- no weight can be inferred after these
   pub bad-none_inferred : (infer : Bool) (ws cdf : List W) (left : W) (room : ℕ) → IsFilled whole bits precision ws cdf (Some left)
       → whole left + room + 1 ≡ 2 ^ precision → IsNoneInferred bits room infer
       → ¬ (IsAccepted bits precision (completed precision infer (map whole ws)))
@@ -172,7 +172,7 @@ module _ {W : Type 0} (whole : W → ℕ) (bits precision : ℕ) where
         rw inferred (bad-wide ws cdf left f (omega (arith, all, wide.1)))
   ]
 
--- a weight and the word one below it, which wraps to the greatest word where the weight is 0
+-- a weight and the word one below it, which wraps to the greatest word if the weight is 0
 pub wrapped : (n last w : ℕ) → (last + 1) % n ≡ w → last < n → ((w ≡ 0) × (last + 1 ≡ n)) ⊎ ((w ≡ last + 1) × (w < n))
 wrapped n last w is range = elim (cases_lt (last + 1) n) [
   | inl less ↦
@@ -205,7 +205,7 @@ pub ended : {W : Type 0} (whole : W → ℕ) (lefts filled cdf : List W) (total 
 ended whole lefts filled cdf total is numbers f t e l =
     ap (map whole) t ∙ map-append whole filled (total ∷ []) ∙ rw (f, e, l) refl
 
--- one more call
+-- one more item
 pub yields-more : {S A : Type 0} (steps : S → Option A → S → Type 0) (s : S) (xs : List A) (t : S) (x : A) (u : S)
     → Yields steps s xs t → steps t (Some x) u → Yields steps s (xs ++ x ∷ []) u
 yields-more steps s [] t x u e h = (u, (let P : _ → Type 0 = λ v. steps v (Some x) u in subst P (sym e) h), refl)
@@ -223,7 +223,7 @@ begun-none steps it whole bits precision cdf left room empty least all = record 
 
 module _ {S W : Type 0} (steps : S → Option W → S → Type 0) (it : S) (whole : W → ℕ) (bits precision : ℕ) (cdf : List W) (s : S)
     (left : W) (room : ℕ) (t : IsCdfBegun steps it whole bits precision cdf s left room) where
-  -- one row more
+  -- one more row
   pub begun-more : (cdf' : List W) (s' : S) (w next : W) (room' : ℕ) → cdf' ≡ cdf ++ left ∷ [] → steps s (Some w) s'
       → 2 ^ precision ≤ 2 ^ bits → (0 < whole w) × (whole w ≤ room) → whole next ≡ whole left + whole w → room' ≡ room - whole w
       → IsCdfBegun steps it whole bits precision cdf' s' next room'
@@ -302,7 +302,7 @@ module _ {S W : Type 0} (steps : S → Option W → S → Type 0) (it : S) (whol
     bad-none_inferred whole bits precision infer t.weights cdf left room t.filled t.rest why,
   )
 
--- what a good answer ensures ensures what follows from it
+-- what follows from a fact of an `Ok` holds of it too
 pub if_ok-more : {T E : Type 0} {P Q : T → Type 0} (r : Result T E) → IfOk r P → ((v : T) → P v → Q v) → IfOk r Q
 if_ok-more (Ok v) p more = more v p
 if_ok-more (Err e) p more = tt

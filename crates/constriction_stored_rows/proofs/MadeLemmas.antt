@@ -9,7 +9,7 @@ pub made-unrefused : {A E : Type 0} (x : A) (e : E) → Ok x ≡ Err e → ⊥
 made-unrefused x e is = cc
 
 module _ {J S A : Type 0} (becomes : J → S → Type 0) (steps : S → Option A → S → Type 0) (from : J) (Good : List A → Type 0) where
-  -- what was read of a value is not good, whatever might follow it
+  -- what was read from a value is not good, whatever might follow it
   pub bad-read : (it : S) × becomes from it × GaveBad steps it Good
       → (xs : List A) × (reading : Reading) × WasReadOf becomes steps from reading xs
       × ((all : List A) → MayGive reading xs all → ¬ (Good all))
@@ -31,7 +31,7 @@ module _ {J S A : Type 0} (becomes : J → S → Type 0) (steps : S → Option A
   bad-given (xs, SoFar, read, never) =
       (read.iterator, read.became, inr (xs, read.was_read.0, read.was_read.1, λ ys. never (xs ++ ys) (ys, refl)))
 
--- what was read of two values is not good, whatever might follow it
+-- what was read from two values is not good, whatever might follow it
 abbrev pub BothBad : {A B : Type 0} → (Reading → List A → Type 0) → (Reading → List B → Type 0) → (List A → List B → Type 0) → Type 0
 BothBad {A} {B} Read OtherRead Good =
     (xs : List A) × (ys : List B) × (reading other : Reading) × Read reading xs × OtherRead other ys
@@ -39,7 +39,7 @@ BothBad {A} {B} Read OtherRead Good =
 
 module _ {J S A K T B : Type 0} (becomes : J → S → Type 0) (steps : S → Option A → S → Type 0) (from : J)
     (other_becomes : K → T → Type 0) (other_steps : T → Option B → T → Type 0) (other : K) (Good : List A → List B → Type 0) where
-  -- what a constructor says of two iterators it says of the values that became them
+  -- what a constructor says of two iterators it says of the values that they were made of
   pub bad-both : (it : S) × becomes from it × (jt : T) × other_becomes other jt × GaveBothBad steps it other_steps jt Good
       → BothBad (WasReadOf becomes steps from) (WasReadOf other_becomes other_steps other) Good
   bad-both (it, here, jt, there, (xs, ys, reading, other_reading, was, other_was, never)) = (

@@ -23,7 +23,7 @@ sorted-from_neighbours o [] all = tt
 sorted-from_neighbours o (x ∷ xs) all = sorted_from_all_adjacent o (x ∷ xs) x (λ k h. all k x h)
 
 module _ {Word Symbol : Type 0} (cmp : Symbol → Symbol → Ordering) (entries : List (Word × Symbol)) where
-  -- of the first n symbols each is less than the next one
+  -- each of the first n symbols is less than the next one
   abbrev pub InOrderBelow : ℕ → Type 0
   InOrderBelow n = (k : ℕ) (d : Symbol) → k + 1 < n → k + 1 < length (map (λ x. x.1) entries)
       → cmp (get_or (map (λ x. x.1) entries) k d) (get_or (map (λ x. x.1) entries) (k + 1) d) ≡ Less
@@ -37,7 +37,7 @@ module _ {Word Symbol : Type 0} (cmp : Symbol → Symbol → Ordering) (entries 
   order-none k d below there = absurd (omega arith)
 
   module _ (n : ℕ) (x y : Word × Symbol) (some : 1 ≤ n) (within : n < length entries) where
-    -- one neighbour more
+    -- one more neighbour
     pub order-more : InOrderBelow n → is_lt (cmp (get_or entries (n - 1) x).1 (get_or entries n y).1) ≡ true → InOrderBelow (n + 1)
     order-more so_far less k d below there = elim (cases_lt (k + 1) n) [
       | inl before ↦ so_far k d before there

@@ -21,13 +21,13 @@ use Rattle.constriction_stored_rows.proofs.TileLemmas.{tiles-probed}
 
 module _ {Symbol Word : Type 0} (whole : Word → ℕ) (bits precision : ℕ) (entries : List (Word × Symbol))
     (t : IsStored bits precision (map (λ x. whole x.0) entries)) where
-  -- as many rows as entries
+  -- there are as many rows as entries
   pub paired-many : length (rows_paired whole precision entries) ≡ length entries
   paired-many =
       symbol-rows_many bits precision (map (λ x. x.1) entries) (map (λ x. whole x.0) entries) t (paired-long whole bits precision entries t)
       ∙ length-map entries (λ x. whole x.0)
 
-  -- what was lent are the entries
+  -- the lent entries are the entries
   module _ (lent : List (Word × Symbol)) (e : lent ≡ entries) where
     pub lent-lefts : map (λ x. whole x.0) lent ≡ map (λ r. r.left) (rows_paired whole precision entries)
     lent-lefts =
@@ -56,7 +56,7 @@ module _ {Symbol Word : Type 0} (whole : Word → ℕ) (bits precision : ℕ) (e
       symbol-is_at bits precision (map (λ x. x.1) entries) (map (λ x. whole x.0) entries) t (paired-long whole bits precision entries t)
       i l w s (omega (arith, h, length-map entries (λ y. whole y.0))) (symbol-here i s x h is se) le we
 
-  -- no two symbols of the rows are equal where no two of the entries are
+  -- if no two symbols of the entries are equal, no two symbols of the rows are
   pub paired-symbols_differ : (eq : Symbol → Symbol → Bool) → IsDistinct eq (map (λ x. x.1) entries)
       → IsDistinct eq (symbols_of (rows_paired whole precision entries))
   paired-symbols_differ eq d =
@@ -89,7 +89,7 @@ module _ {Symbol Word : Type 0} (whole : Word → ℕ) (bits precision : ℕ) (e
       last-between (rows_paired whole precision entries) i j _ h (omega (arith, paired-many))
       (paired-at (j - 1) l w x.1 x (omega arith) is refl le we)
 
--- entries that hold rows which tile
+-- entries that hold rows that tile
 pub paired-of_rows : {Symbol Word : Type 0} (whole : Word → ℕ) (bits precision : ℕ) (rows : List (Row Symbol))
     (entries : List (Word × Symbol)) → RowsTile bits precision rows → HoldsRows whole entries rows
     → IsStored bits precision (map (λ x. whole x.0) entries) × (rows_paired whole precision entries ≡ rows)
@@ -97,7 +97,7 @@ paired-of_rows whole bits precision rows entries t h =
     let cdf = stored-of_rows bits precision rows t in
     (rw h.1 cdf.0, rw (h.0, h.1) cdf.1)
 
--- one row more is held by one entry more
+-- one more row is held by one more entry
 pub held-more : {Word Symbol : Type 0} (whole : Word → ℕ) (entries : List (Word × Symbol)) (rows : List (Row Symbol)) (r : Row Symbol)
     (left : Word)
     → HoldsRows whole entries rows → whole left ≡ r.left → HoldsRows whole (entries ++ (left, r.symbol) ∷ []) (rows ++ r ∷ [])
@@ -158,7 +158,7 @@ module _ {Symbol Word : Type 0} (whole : Word → ℕ) (IsClone : Symbol → Sym
       (cloned-from 0 (map (λ x. x.1) cloned) (map (λ x. x.1) entries) (weights_of precision (map (λ x. whole x.0) entries))
       (cloned-symbols entries cloned h))
 
--- entries that were lent are entries, all their rows are left at first, and there are so many
+-- of lent entries, all rows are left at first, as many as the entries
 pub paired-lent : {Symbol Word : Type 0} (whole : Word → ℕ) (bits precision : ℕ) (entries lent : List (Word × Symbol))
     → IsStored bits precision (map (λ x. whole x.0) entries) → lent ≡ entries
     → IsStored bits precision (map (λ x. whole x.0) lent)

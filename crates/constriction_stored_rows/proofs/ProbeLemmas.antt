@@ -23,14 +23,14 @@ module _ (bits precision : ℕ) (lefts : List ℕ) (t : IsStored bits precision 
     begins = omega (arith, stored-first bits precision lefts t);
   }
 
--- a probe of all rows, whose symbols are any
+-- a probe of all rows, with any symbols
 module _ {Symbol : Type 0} (bits precision : ℕ) (ss : List Symbol) (lefts : List ℕ) (t : IsStored bits precision lefts)
     (long : length ss ≡ length lefts) where
   pub symbol-lefts : map (λ r. r.left) (rows_of ss (weights_of precision lefts)) ≡ lefts
   symbol-lefts =
       lefts-rows_from 0 ss (weights_of precision lefts) (symbols-many bits precision ss lefts t long) ∙ sym t.in_order
 
-  -- it tells them
+  -- it covers them
   pub symbol-tells : TellsRows (rows_of ss (weights_of precision lefts)) (λ _. ⊤) 0 lefts
   symbol-tells =
       let many = symbol-rows_many bits precision ss lefts t long in
@@ -40,7 +40,7 @@ module _ {Symbol : Type 0} (bits precision : ℕ) (ss : List Symbol) (lefts : Li
         in_order = sym (rw symbol-lefts (take-length lefts));
       }
 
-  -- the greatest index whose cumulative is at most a quantile is that of its row
+  -- the greatest index whose cumulative is at most a quantile is the index of its row
   pub symbol-found : (q i : ℕ) → q < 2 ^ precision → IsLastAtMost lefts q i → IsRowIndexOf (rows_of ss (weights_of precision lefts)) q i
   symbol-found q i below f = record {
     in_bounds = omega (arith, f.in_bounds, symbol-rows_many bits precision ss lefts t long);
@@ -50,7 +50,7 @@ module _ {Symbol : Type 0} (bits precision : ℕ) (ss : List Symbol) (lefts : Li
         (λ h. f.last (i + 1) (omega arith) h) below);
   }
 
--- the same of a contiguous model
+-- the same for a contiguous model
 pub stored-lefts : (bits precision : ℕ) (lefts : List ℕ) → IsStored bits precision lefts
     → map (λ r. r.left) (contiguous_rows (weights_of precision lefts)) ≡ lefts
 stored-lefts bits precision lefts t =

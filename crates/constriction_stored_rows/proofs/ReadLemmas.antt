@@ -19,7 +19,7 @@ holds-mid : {K : Type 0} (P : K → Type 0) (xs ys : List K) (y : K) → AllByRe
 holds-mid P [] ys y a = a.0
 holds-mid P (x ∷ xs) ys y a = holds-mid P xs ys y a.1
 
--- a list in which a symbol is equal to one before it
+-- in a list, a symbol that is equal to one before it makes two equal symbols
 pub not-distinct : {K : Type 0} (eq : K → K → Bool) → ((x y : K) → eq x y ≡ eq y x) → (xs ys : List K) (y : K)
     → list_any (eq y) xs ≡ true → ¬ (IsDistinct eq (xs ++ y ∷ ys))
 not-distinct eq symm [] ys y e d = search (rules, tests)
@@ -32,7 +32,7 @@ pub none-distinct : {K : Type 0} (eq : K → K → Bool) → IsDistinct eq []
 unfolding IsDistinct
 none-distinct eq = tt
 
--- ---- a list with one symbol more, which is equal to none before it
+-- ---- a list with one more symbol, which is equal to none before it
 
 all-push : {K : Type 0} (P : K → Type 0) (xs : List K) (y : K) → AllByRecursion P xs → P y → AllByRecursion P (xs ++ y ∷ [])
 all-push P [] y a p = (p, tt)
@@ -51,12 +51,12 @@ distinct-push eq symm (x ∷ xs) y d absent = elim (cases_Bool (eq y x)) [
       (distinct-push eq symm xs y (IsDistinct-tail eq x xs d) rest)
 ]
 
--- where symbols are not compared, none is equal to another
+-- if symbols are not compared, none is equal to another
 pub never-any : {K : Type 0} (xs : List K) → list_any (λ _. false) xs ≡ false
 never-any [] = refl
 never-any (x ∷ xs) = never-any xs
 
--- ---- one row more
+-- ---- one more row
 
 pub rows_from-push : {S : Type 0} (l : ℕ) (ss : List S) (ws : List ℕ) (s : S) (w : ℕ) → length ss ≡ length ws
     → rows_from l (ss ++ s ∷ []) (ws ++ w ∷ []) ≡ rows_from l ss ws ++ record { symbol = s; left = l + sum ws; weight = w } ∷ []
@@ -69,7 +69,7 @@ rows_from-push l (t ∷ ss) (v ∷ ws) s w e =
     (rows_from-push (l + v) ss ws s w (omega arith)
     ∙ ap (λ n. rows_from (l + v) ss ws ++ record { symbol = s; left = n; weight = w } ∷ []) more)
 
--- as many weights as symbols, or one more where it is inferred
+-- completed weights are at least as many as the given ones
 pub length-completed : (precision : ℕ) (infer : Bool) (ws : List ℕ) → length ws ≤ length (completed precision infer ws)
 length-completed precision false ws = omega arith
 length-completed precision true ws = omega (arith, length_push ws (2 ^ precision - sum ws))
@@ -96,7 +96,7 @@ module _ {S T Symbol W Stored : Type 0} (steps : S → Option Symbol → S → T
   }
 
   module _ (stored : Stored) (u : S) (v : T) (left : W) (room : ℕ) (r : Read stored u v left room) where
-    -- the symbols of the rows are those that were read
+    -- the symbols of the rows are the symbols that were read
     pub read-symbols : symbols_of (rows_of r.symbols (map whole r.weights)) ≡ r.symbols
     read-symbols = symbols-rows_from 0 r.symbols (map whole r.weights) (r.as_many ∙ sym (length-map r.weights whole))
 
@@ -104,7 +104,7 @@ module _ {S T Symbol W Stored : Type 0} (steps : S → Option Symbol → S → T
         → list_any (eq s) r.symbols ≡ b
     apart-read s b h = ap (list_any (eq s)) (sym read-symbols) ∙ h
 
-    -- one row more
+    -- one more row
     pub rows-push : (s : Symbol) (w n : ℕ) → n ≡ whole left
         → rows_of r.symbols (map whole r.weights) ++ record { symbol = s; left = n; weight = w } ∷ []
         ≡ rows_of (r.symbols ++ s ∷ []) (map whole r.weights ++ w ∷ [])
@@ -219,7 +219,7 @@ module _ {S T Symbol W Stored : Type 0} (steps : S → Option Symbol → S → T
             not-distinct eq symm r.symbols a.0 s (apart-read s true found) (subst (IsDistinct eq) is good.distinct),
       )
 
-      -- one weight more than fills the quantiles
+      -- a weight after weights that fill the quantiles
       pub bad-weight_after : (v' v'' : T) (w w' : W) → wsteps v (Some w) v' → wsteps v' (Some w') v'' → room < whole w → Bad
       bad-weight_after v' v'' w w' sw sw' less =
           let total : sum (map whole (r.weights ++ w ∷ [])) ≡ sum (map whole r.weights) + whole w =
@@ -235,7 +235,7 @@ module _ {S T Symbol W Stored : Type 0} (steps : S → Option Symbol → S → T
                 (subst (λ xs. IsAccepted bits precision (completed precision infer (map whole xs))) b.1 good.tile),
           )
 
-      -- weights that are not accepted, after their end
+      -- weights that are not accepted, at their end
       bad-weights : (v' : T) → wsteps v None v' → ¬ (IsAccepted bits precision (completed precision infer (map whole r.weights))) → Bad
       bad-weights v' sw never = (
         r.symbols,
@@ -247,12 +247,12 @@ module _ {S T Symbol W Stored : Type 0} (steps : S → Option Symbol → S → T
         λ all others a b good. never (subst (λ xs. IsAccepted bits precision (completed precision infer (map whole xs))) b good.tile),
       )
 
-      -- no weight that is inferred
+      -- no weight can be inferred
       pub bad-inferred : (v' : T) → wsteps v None v' → IsNoneInferred bits room infer → Bad
       bad-inferred v' sw why =
           bad-weights v' sw (bad-none_inferred whole bits precision infer r.weights r.cdf left room r.filled r.rest why)
 
-    -- one symbol more than weights
+    -- one more symbol than weights
     pub bad-many : (u' u'' : S) (v' v'' : T) (w : W) (s s' : Symbol) → wsteps v (Some w) v' → wsteps v' None v'' → steps u (Some s) u'
         → steps u' (Some s') u'' → Bad false
     bad-many u' u'' v' v'' w s s' sw sw' ss ss' = (
@@ -270,7 +270,7 @@ module _ {S T Symbol W Stored : Type 0} (steps : S → Option Symbol → S → T
           omega (arith, long, few, good.as_many, r.as_many),
     )
 
-    -- the same where the last weight is inferred: no symbol for it, and one more
+    -- the same with an inferred last weight: no symbol for it, or one more symbol
     bad-few_last : (u' : S) (v' : T) → wsteps v None v' → steps u None u' → Bad true
     bad-few_last u' v' sw ss = (
       r.symbols,
@@ -311,7 +311,7 @@ module _ {S T Symbol W Stored : Type 0} (steps : S → Option Symbol → S → T
           omega (arith, more, long, good.as_many, r.as_many),
     )
 
-    -- the last row, of a given weight or of the inferred one
+    -- the last row, with a given weight or with the inferred weight
     pub good-last : (stored' : Stored) (u' u'' : S) (v' v'' : T) (w : W) → wsteps v (Some w) v' → wsteps v' None v''
         → TookRow steps eq holds u stored (whole left) (whole w) u' stored' → steps u' None u'' → FillsAll bits (whole w) room false
         → IsReadWell steps wsteps eq holds whole bits precision false it jt stored'

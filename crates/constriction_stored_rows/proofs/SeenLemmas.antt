@@ -1,4 +1,4 @@
--- A set of symbols that were seen so far, by which two equal symbols are found.
+-- A set of the symbols seen so far, which finds two equal symbols.
 use Rattle.std.specs.Prelude.{◌≡◌, ℕ, ◌+◌, ◌<◌, ◌≤◌, ◌||◌, Bool, true, false, cond, List, [], ◌∷◌, ◌++◌, length, map, take, drop}
 use Rattle.std.proofs.Common.{suc, get_or, refl, ap, sym, subst, ◌∙◌, arith, take-append-drop, drop-cons}
 use Rattle.std.specs.Cmp.{IsEquivalence}
@@ -37,7 +37,7 @@ module _ {Word Symbol Key : Type 0} (eq : Symbol → Symbol → Bool) (laws : Is
     absent : (b : Bool) → has k ≡ b → list_any (eq e.1) (map (λ x. x.1) (take n entries)) ≡ b
     absent b h = ap (λ s. list_any (eq s) (map (λ x. x.1) (take n entries))) (sym is) ∙ sym (seen.holds k) ∙ h
 
-    -- one symbol more, which is equal to none before it
+    -- one more symbol, which is equal to none before it
     pub seen-more : (next : Key → Bool) → has k ≡ false → ((q : Key) → next q ≡ cond (eq (now k) (now q)) true (has q))
         → AreSeen next (n + 1)
     seen-more next apart updates = record {

@@ -11,7 +11,7 @@ use Rattle.constriction_stored_rows.specs.StoredLemmas.{read-whole}
 use Rattle.constriction_stored_rows.specs.SlotTable.{words_a_slot, HasWords, HasSlots, IsFirstWord}
 use Rattle.constriction_model.proofs.Halving.{later}
 
--- slots
+-- a slot ends one width after it begins
 slot-more : (j w : ℕ) → (j + 1) * w ≡ j * w + w
 slot-more j w = rw add-one (omega arith)
 
@@ -34,7 +34,7 @@ pub slot-within : (precision slot_bits j : ℕ) → j < slot_count precision slo
 slot-within precision slot_bits j h =
     rw (← slots-all precision slot_bits) (slot-end j (slot_count precision slot_bits) (slot_width precision slot_bits) h)
 
--- the last slot ends there
+-- the last slot ends at 2 ^ precision
 last-slot : (precision slot_bits : ℕ)
     → (slot_count precision slot_bits - 1 + 1 ≡ slot_count precision slot_bits)
     × ((slot_count precision slot_bits - 1) * slot_width precision slot_bits + slot_width precision slot_bits ≡ 2 ^ precision)
@@ -61,7 +61,7 @@ words-most precision slot_bits =
     let most : words_a_slot w * n ≤ w * n = mul-le-mul_right n (let g : words_a_slot w ≤ w = omega arith in g) in
     rw (← slots-all precision slot_bits) (rw (mul_comm w n) at most)
 
--- the last word of the last slot is the last one
+-- the last word of the last slot is the last word of all
 last-word : (u last count : ℕ) → 0 < u → last + 1 ≡ count → u * last + (u - 1) + 1 ≡ u * count
 last-word u last count some e =
     let all : (last + 1) * u ≡ last * u + u = slot-more last u in
@@ -69,7 +69,7 @@ last-word u last count some e =
     let right : u * count ≡ (last + 1) * u = mul_comm u count ∙ ap (λ n. n * u) (sym e) in
     omega (arith, all, left, right)
 
--- a whole part, by its bounds
+-- a quotient, rounded down, by its bounds
 pub whole-part : (w n j : ℕ) → 0 < w → (n / w ≤ j) ↔ (n < j * w + w)
 whole-part w n j some =
     let more = slot-more j w in
@@ -78,7 +78,7 @@ whole-part w n j some =
       (λ h. let less = bound.1 (omega (arith, more)) in omega (arith, less)),
     )
 
--- the first word for a left cumulative where a slot has two: the whole parts of two quotients by the width, one of them rounded up
+-- the first word for a left cumulative, if a slot has two words: the quotient by the width, rounded down, plus the same rounded up
 module _ (w left : ℕ) (some : 0 < w) where
   up-least : left / w ≤ (left + (w - 1)) / w
   up-least =
@@ -106,7 +106,7 @@ module _ (w left : ℕ) (some : 0 < w) where
         );
   }
 
--- the same where it has one
+-- the same if a slot has one word
 pub first-alone : (left : ℕ) → IsFirstWord 1 left left
 first-alone left = record {
   first = λ j. ((λ h. omega arith), (λ h. omega arith));
@@ -144,14 +144,14 @@ word-order w a b x y some f g h = elim (word-cases w y some) [
       rw odd.1 from)
 ]
 
--- the first word of the next row is no earlier one
+-- the first word of the next row is no earlier
 pub next-word : (w : ℕ) (lefts : List ℕ) (row next x y : ℕ) → 0 < w → IsStrictlyIncreasing lefts → row + 1 ≡ next
     → next < length lefts
     → IsFirstWord w (get_or lefts row 0) x → IsFirstWord w (get_or lefts next 0) y → x ≤ y
 next-word w lefts row next x y some up e b from to =
     word-order w (get_or lefts row 0) (get_or lefts next 0) x y some from to (omega (arith, later lefts row next up (omega arith) b))
 
--- the first word of the row of an entry, whose left cumulative is this number
+-- the first word of an entry's row, by the number of its left cumulative
 pub entry-word : {Entry : Type 0} (cumulative : Entry → ℕ) (w : ℕ) (entries : List Entry) (i : ℕ) (entry : Entry) (number word : ℕ)
     → i < length entries → entry ≡ get_or entries i entry → number ≡ cumulative entry
     → IsFirstWord w number word → IsFirstWord w (get_or (map cumulative entries) i 0) word
@@ -184,7 +184,7 @@ last-before xs q i up h low above = record {
   ];
 }
 
--- a row fills the words from its own first one to that of the next row
+-- a row fills the words from its first word up to the first word of the next row
 module _ (w : ℕ) (lefts table : List ℕ) (row n : ℕ) (up : IsStrictlyIncreasing lefts) (in_bounds : row < length lefts)
     (t : HasWords w lefts table)
     (from : IsFirstWord w (get_or lefts row 0) (length table))
@@ -229,7 +229,7 @@ map-replicate : {A B : Type 0} (f : A → B) (n : ℕ) (x : A) → map f (replic
 map-replicate f zero x = refl
 map-replicate f (suc n) x = ap (λ xs. f x ∷ xs) (map-replicate f n x)
 
--- one word more of a row
+-- one more word of a row
 pub filled-next : {W : Type 0} (items filled : List W) (row : W) (from to : ℕ) → from ≤ to
     → filled ≡ items ++ replicate (to - from) row → filled ++ row ∷ [] ≡ items ++ replicate (to + 1 - from) row
 filled-next items filled row from to h is =
@@ -275,7 +275,7 @@ module _ {W : Type 0} (whole : W → ℕ) (w : ℕ) (some : 0 < w) (lefts : List
       let order : length items ≤ n = next-word w lefts (whole row) next (length items) n some up e b from to in
       (filled-more (λ h. (n, rw e to, omega (arith, same-long))), filled-long order)
 
-  -- it was the last one, and all words are there
+  -- it was the last row, and all words are there
   pub all-filled : (precision slot_bits : ℕ) → w ≡ slot_width precision slot_bits
       → n ≡ words_a_slot w * slot_count precision slot_bits
       → whole row + 1 ≡ length lefts → get_or lefts (whole row) 0 < 2 ^ precision
@@ -293,7 +293,7 @@ module _ {W : Type 0} (whole : W → ℕ) (w : ℕ) (some : 0 < w) (lefts : List
         words = filled-more (λ h. absurd (omega arith));
       }
 
--- the slot of a quantile
+-- the slot of a quantile is one of the slots
 pub slot-below : (precision slot_bits q : ℕ) → q < 2 ^ precision
     → q / slot_width precision slot_bits < slot_count precision slot_bits
 slot-below precision slot_bits q h =

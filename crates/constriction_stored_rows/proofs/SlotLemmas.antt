@@ -30,7 +30,7 @@ slot-to precision slot_bits q =
     let below = lt-div-mul-add {a = q} {b = slot_width precision slot_bits} (pow_pos (precision - slot_bits)) in
     omega (arith, below)
 
--- where one row meets the slot of a quantile, it is the quantile's
+-- if one row alone meets the slot of a quantile, it is the quantile's row
 pub slot_only : (precision slot_bits q : ℕ) (lefts : List ℕ) (first last : ℕ) → first ≡ last
     → IsSlot lefts (slot_width precision slot_bits) (q / slot_width precision slot_bits) first last → IsLastAtMost lefts q first
 slot_only precision slot_bits q lefts first last same s = record {
@@ -56,7 +56,7 @@ module _ (width count : ℕ) (lefts table : List ℕ) (slot : ℕ) (s : HasSlots
           to = rw same_last at ((rw one at (s.words.last slot)) (omega (arith, alone-within)));
         }
 
-  -- and of one that has two
+  -- and of a slot that has two
   module _ (two : words_a_slot width ≡ 2) where
     pub pair-within : 2 * slot + 1 < length table
     pair-within =
@@ -84,7 +84,7 @@ pub part-whole : {W : Type 0} (whole : W → ℕ) (xs : List W) (first count : �
     → map whole (take count (drop first xs)) ≡ take count (drop first (map whole xs))
 part-whole whole xs first count = sym (take-map whole count (drop first xs)) ∙ ap (take count) (sym (drop-map whole first xs))
 
--- as many rows as stand from the first that meets the slot to the last
+-- how many rows there are from the first one that meets the slot to the last one
 pub slot-long : (lefts : List ℕ) (width slot first last : ℕ) → IsSlot lefts width slot first last
     → length (take (last + 1 - first) (drop first lefts)) ≡ last - first + 1
 slot-long lefts width slot first last s =
@@ -208,7 +208,7 @@ module _ {S : Type 0} (bits precision slot_bits : ℕ) (rows : List (Row S)) (t 
               record { quantile = j * width; in_slot = (omega arith, omega arith); in_row = (omega (arith, tile.left), high) })
         ]
 
-    -- exactly the rows that meet the slot are told
+    -- the list covers the rows that meet the slot, and no others
     pub slot-tells : j < slot_count precision slot_bits → TellsRows rows (MeetsSlot (slot_width precision slot_bits) j) first known
     slot-tells jb = record {
       exactly = λ i d h.

@@ -35,7 +35,7 @@ tested-met width slot r wide some e =
     ]
 
 module _ {S : Type 0} (bits precision slot_bits : ℕ) (rows : List (Row S)) (t : RowsTile bits precision rows) where
-  -- what is told of the rows in which a quantile of the slot lies, is told of those that the test finds
+  -- a list that covers the rows that meet a slot covers the rows that the test finds
   pub tells-tested : (j first : ℕ) (known : List ℕ) → TellsRows rows (MeetsSlot (slot_width precision slot_bits) j) first known
       → TellsRows rows (λ r. meets_slot (slot_width precision slot_bits) j r ≡ true) first known
   tells-tested j first known tells =

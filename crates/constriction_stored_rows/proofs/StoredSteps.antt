@@ -8,7 +8,7 @@ use Rattle.constriction_stored_rows.specs.Stored.{rows_stored}
 use Rattle.constriction_model.proofs.StepLemmas.{all-between, first-between, last-between, length-between}
 use Rattle.constriction_stored_rows.proofs.CdfLemmas.{cdf-long, cdf-rows}
 
--- the same of the rows of a stored cdf
+-- the rows of a stored cdf that are left
 module _ (bits precision : ℕ) (cdf : List ℕ) (t : IsCdf bits precision cdf) where
   pub length-stored : (i j : ℕ) → j < length cdf → length (rows_stored precision cdf i j) ≡ j - i
   length-stored i j h =

@@ -46,7 +46,7 @@ module _ {S : Type 0} (bits precision : ℕ) (rows : List (Row S)) (t : RowsTile
         last = λ g. row.last (omega (arith, tiles-many));
       })
 
-  -- the row of a quantile stands where the greatest left cumulative that is at most the quantile does
+  -- the row of a quantile is at the index of the greatest left cumulative that is at most the quantile
   pub tiles-found : (q i : ℕ) → q < 2 ^ precision → IsLastAtMost (map (λ r. r.left) rows) q i → IsRowIndexOf rows q i
   tiles-found q i below f =
       rw ((stored-of_rows bits precision rows t).1) at
@@ -64,7 +64,7 @@ module _ {S : Type 0} (bits precision : ℕ) (rows : List (Row S)) (t : RowsTile
     (λ q i below f. let same : 0 + i ≡ i = omega arith in rw same (tiles-found q i below f)),
   )
 
-  -- what a cdf of slots is made from
+  -- the left cumulatives that a table of slots is made from
   pub tiles-lefts : (lefts : List ℕ) → lefts ≡ map (λ r. r.left) rows
       → IsSearchable lefts 0 × ((i : ℕ) → i < length lefts → get_or lefts i 0 < 2 ^ precision)
   tiles-lefts lefts e = rw e (
@@ -72,7 +72,7 @@ module _ {S : Type 0} (bits precision : ℕ) (rows : List (Row S)) (t : RowsTile
     (λ i h. let row = stored-row bits precision (map (λ r. r.left) rows) i tiles-stored h in omega (arith, row.positive, row.within)),
   )
 
--- the same of a stored cdf: what was lent of it are its left cumulatives
+-- the same for a stored cdf that lends its left cumulatives
 module _ (bits precision : ℕ) (cdf lefts : List ℕ) (t : IsCdf bits precision cdf) (e : lefts ≡ lefts_in cdf) where
   pub cdf-lefts : lefts ≡ map (λ r. r.left) (contiguous_rows (weights_of precision (lefts_in cdf)))
   cdf-lefts = e ∙ sym (stored-lefts bits precision (lefts_in cdf) t.stored)

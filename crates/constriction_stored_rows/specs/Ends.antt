@@ -1,4 +1,4 @@
--- How a list of weights ends, and the cdf that it fills. Of public clauses those of this crate alone cite this module.
+-- How a list of weights ends, and the cdf that it fills. Only public clauses of this crate cite this module.
 use Rattle.std.specs.Prelude.{◌≡◌, ℕ, ◌+◌, ◌%◌, ◌^◌, ◌<◌, ◌⊎◌, Bool, true, false, List, [], ◌∷◌, ◌++◌, map, Option, Some}
 use Rattle.std.specs.Iterator.{Yields}
 use Rattle.constriction_model.specs.Acceptance.{completed, IsAccepted}
@@ -13,7 +13,7 @@ pub record FillsAll (bits weight room : ℕ) (infer : Bool) : Type 0 where
   pub fits : weight < 2 ^ bits
   pub is : weight ≡ room + 1
 
--- it does not: it is 0 or too much, or it leaves no quantiles to the one that is inferred
+-- a given weight does not end a list: it is 0 or too much, or it leaves no quantiles for the inferred weight
 abbrev pub IsNoLast : ℕ → ℕ → Bool → Type 0
 IsNoLast weight room infer = (weight ≡ 0) ⊎ (room + 1 < weight) ⊎ ((infer ≡ true) × (room < weight))
 
@@ -34,7 +34,7 @@ module _ {S W : Type 0} (steps : S → Option W → S → Type 0) (it : S) (whol
     pub filled : IsFilled whole bits precision weights cdf (Some left)
     pub rest : whole left + room + 1 ≡ 2 ^ precision
 
-  -- the iterator gave accepted weights, whose cdf this is
+  -- the iterator gave accepted weights, and this is their cdf
   abbrev pub IsCdfOf : Bool → List W → Type 0
   IsCdfOf infer cdf = GaveGood steps it (λ ws. IsAccepted bits precision (completed precision infer (map whole ws))
       × (map whole cdf ≡ lefts_from 0 (completed precision infer (map whole ws)) ++ (2 ^ precision % 2 ^ bits) ∷ []))

@@ -5,19 +5,19 @@ use Rattle.std.specs.Option.{option_map}
 use Rattle.constriction_model.specs.Rows.{Row, symbols_of, entry_of}
 use Rattle.constriction_stored_rows.specs.Stored.{lefts_from}
 
--- where the next row would begin: none where all quantiles are filled
+-- where the next row would begin, or 2 ^ precision if all quantiles are filled
 abbrev pub end_of : {Word : Type 0} → (Word → ℕ) → ℕ → Option Word → ℕ
 end_of whole precision (Some next) = whole next
 end_of whole precision None = 2 ^ precision
 
--- the quantiles of a row that begins at `left` end there
+-- a row of this weight that begins at `left` ends at `end`
 pub record IsRowEnd {Word : Type 0} (whole : Word → ℕ) (bits precision : ℕ) (left weight : Word) (end : Option Word) : Type 0 where
   pub positive : 0 < whole weight
   pub fits : whole weight < 2 ^ bits
   pub is : end_of whole precision end ≡ whole left + whole weight
   pub below : IfSome end (λ next. whole next < 2 ^ precision)
 
--- the cdf holds where the rows of these weights begin, and the next one would begin at `end`
+-- the cdf has the left cumulatives of these weights, and the next row would begin at `end`
 pub record IsFilled {Word : Type 0} (whole : Word → ℕ) (bits precision : ℕ) (weights : List Word) (cdf : List Word)
     (end : Option Word) : Type 0 where
   pub positive : All (λ w. 0 < w) (map whole weights)
@@ -31,11 +31,11 @@ abbrev pub HoldsRows : {Word Symbol : Type 0} → (Word → ℕ) → List (Word 
 HoldsRows whole entries rows =
     (map (λ x. x.1) entries ≡ symbols_of rows) × (map (λ x. whole x.0) entries ≡ map (λ r. r.left) rows)
 
--- to these entries the others are clones: one for each, in order, with the same word and a clone of the symbol
+-- the entries `cloned` are clones of the others: one for each, in order, with the same word and a clone of the symbol
 abbrev pub AreEntriesCloned : {Word Symbol : Type 0} → (Symbol → Symbol → Type 0) → List (Word × Symbol) → List (Word × Symbol) → Type 0
 AreEntriesCloned IsClone entries cloned = AllZip (λ e c. IsClone e.1 c.1 × (c.0 ≡ e.0)) entries cloned
 
--- a map finds for each symbol its entry in these rows, and nothing where it has none
+-- a map finds for each symbol its entry in these rows, or None if it has none
 abbrev pub HoldsEntries : {Symbol Entry : Type 0} → (Symbol → Symbol → Bool) → (Entry → ℕ × ℕ) → (Symbol → Option Entry) → List (Row Symbol)
     → Type 0
 HoldsEntries {Symbol} eq numbers found rows = (s : Symbol) → option_map numbers (found s) ≡ entry_of eq rows s

@@ -1,4 +1,4 @@
--- What the readers of this crate say that iterators gave them. No public clause cites this module.
+-- What iterators gave to the readers of this crate. No public clause cites this module.
 use Rattle.std.specs.Prelude.{◌⊎◌, List, ◌++◌, Option}
 use Rattle.std.specs.Iterator.{Drains, Yields}
 use Rattle.constriction_model.specs.Acceptance.{Reading, WasRead, MayGive}
@@ -8,7 +8,7 @@ module _ {S A : Type 0} (steps : S → Option A → S → Type 0) (it : S) (Good
   abbrev pub GaveGood : Type 0
   GaveGood = (xs : List A) × Drains steps it xs × Good xs
 
-  -- what the iterator gave is not good: all of it, or each list that begins with what was read of it
+  -- what the iterator gave is not good: all of it, or each list that begins with what was read from it
   abbrev pub GaveBad : Type 0
   GaveBad =
       ((xs : List A) × Drains steps it xs × ¬ (Good xs))
@@ -20,7 +20,7 @@ module _ {S T A B : Type 0} (steps : S → Option A → S → Type 0) (it : S) (
   abbrev pub GaveBothGood : Type 0
   GaveBothGood = (xs : List A) × (ys : List B) × Drains steps it xs × Drains other_steps other ys × Good xs ys
 
-  -- what two iterators gave is not good, whatever they would give after what was read of them
+  -- what two iterators gave is not good, whatever they would give after what was read from them
   abbrev pub GaveBothBad : Type 0
   GaveBothBad = (xs : List A) × (ys : List B) × (read other_read : Reading)
       × WasRead steps it read xs × WasRead other_steps other other_read ys

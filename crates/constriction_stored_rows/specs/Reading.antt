@@ -9,7 +9,7 @@ use Rattle.constriction_stored_rows.specs.Given.{GaveBothGood, GaveBothBad}
 
 module _ {S Symbol Stored : Type 0} (steps : S → Option Symbol → S → Type 0) (eq : Symbol → Symbol → Bool)
     (holds : Stored → List (Row Symbol) → Type 0) where
-  -- a symbol came, and its row is stored after the others, none of which has an equal symbol
+  -- a symbol came, no stored row has an equal symbol, and the symbol's row is stored after the others
   pub record TookRow (u : S) (stored : Stored) (left weight : ℕ) (u' : S) (stored' : Stored) : Type 0 where
     pub symbol : Symbol
     pub came : steps u (Some symbol) u'
@@ -17,7 +17,7 @@ module _ {S Symbol Stored : Type 0} (steps : S → Option Symbol → S → Type 
         → holds stored' (rows ++ record { symbol = symbol; left = left; weight = weight } ∷ [])
     pub apart : (rows : List (Row Symbol)) → holds stored rows → list_any (eq symbol) (symbols_of rows) ≡ false
 
-  -- no symbol came, or one that is equal to that of a stored row
+  -- no symbol came, or one that is equal to the symbol of a stored row
   abbrev pub RefusedRow : S → Stored → S → Type 0
   RefusedRow u stored u' =
       steps u None u'
@@ -26,7 +26,7 @@ module _ {S Symbol Stored : Type 0} (steps : S → Option Symbol → S → Type 
 
 module _ {S T Symbol W Stored : Type 0} (steps : S → Option Symbol → S → Type 0) (wsteps : T → Option W → T → Type 0)
     (eq : Symbol → Symbol → Bool) (holds : Stored → List (Row Symbol) → Type 0) (whole : W → ℕ) (bits precision : ℕ) where
-  -- what was read of both iterators and stored so far: the rows of as many symbols as weights, which leave `room` quantiles after the one
+  -- what was read from both iterators and stored so far: the rows of as many symbols as weights, which leave `room` quantiles after the one
   -- at `left`
   pub record IsRead (it : S) (jt : T) (stored : Stored) (u : S) (v : T) (left : W) (room : ℕ) : Type 0 where
     pub symbols : List Symbol
@@ -51,7 +51,7 @@ module _ {S T Symbol W Stored : Type 0} (steps : S → Option Symbol → S → T
   IsReadBadly infer it jt = GaveBothBad steps it wsteps jt (λ ss ws.
       AreAccepted eq bits precision ss (completed precision infer (map whole ws)))
 
-  -- what the weights give next, a weight or their end, ends a good list after whatever was read before, or one that is not accepted
+  -- after all that was read before, the next weight, or the end of the weights, ends accepted lists, or lists that are not accepted
   abbrev pub EndsWell : Bool → Stored → S → W → ℕ → Option W → T → Stored → Type 0
   EndsWell infer stored u left room next v' stored' =
       (it : S) (jt v : T) → IsRead it jt stored u v left room → wsteps v next v' → IsReadWell infer it jt stored'

@@ -1,22 +1,22 @@
--- How models store their rows: by the left cumulatives, and, where symbols do not stand beside these, the total after them. No public
--- clause cites this module, but the words for the rows of these models, and ghost fields of models and of symbol tables, do.
+-- How models store their rows: as left cumulatives, with a symbol beside each or with the total after them. No public clause cites this
+-- module. The definitions of the rows of these models do, and ghost fields of models and of symbol tables.
 use Rattle.std.specs.Prelude.{◌≡◌, ℕ, ◌+◌, ◌-◌, ◌%◌, ◌^◌, ◌<◌, ◌≤◌, List, [], ◌∷◌, ◌++◌, length, map, take, slice_index, slice_index_or}
 use Rattle.constriction_model.specs.Acceptance.{IsAccepted}
 use Rattle.constriction_model.specs.Rows.{Row, contiguous_rows, rows_of}
 use Rattle.constriction_model.specs.Tables.{rows_between}
 
--- where the rows of these weights begin, the first at `left`
+-- the left cumulatives of these weights, from `left` on
 abbrev pub lefts_from : ℕ → List ℕ → List ℕ
 lefts_from left [] = []
 lefts_from left (w ∷ ws) = left ∷ lefts_from (left + w) ws
 
--- the weights of rows that begin there, the last of which ends at `total`
+-- the weights of rows that have these left cumulatives and end at `total`
 abbrev pub gaps : ℕ → List ℕ → List ℕ
 gaps total [] = []
 gaps total (l ∷ []) = (total - l) ∷ []
 gaps total (l ∷ (m ∷ ls)) = (m - l) ∷ gaps total (m ∷ ls)
 
--- the weights of rows that begin there and tile
+-- the weights of rows with these left cumulatives, which tile
 abbrev pub weights_of : ℕ → List ℕ → List ℕ
 weights_of precision lefts = gaps (2 ^ precision) lefts
 
@@ -29,26 +29,25 @@ pub record IsStored (bits precision : ℕ) (lefts : List ℕ) : Type 0 where
 abbrev pub lefts_in : List ℕ → List ℕ
 lefts_in cdf = take (length cdf - 1) cdf
 
--- a cdf over words of so many bits: the left cumulatives of accepted weights, and after them the total, which wraps to 0 where it is
--- no word
+-- a cdf over words of `bits` bits: the left cumulatives of accepted weights, and after them the total, which wraps to 0 if it is no word
 pub record IsCdf (bits precision : ℕ) (cdf : List ℕ) : Type 0 where
   pub stored : IsStored bits precision (lefts_in cdf)
   pub ends : cdf ≡ lefts_in cdf ++ (2 ^ precision % 2 ^ bits) ∷ []
 
--- the total over words of so many bits, which wraps to 0 where it is no word
+-- the total over words of `bits` bits, which wraps to 0 if it is no word
 abbrev pub total_of : (bits precision : ℕ) → ℕ
 total_of bits precision = 2 ^ precision % 2 ^ bits
 
--- where the row at an index ends, over such words: where the next one begins, or at the total
+-- the end of the row at an index, over such words: the next left cumulative, or the total
 abbrev pub end_at : (bits precision : ℕ) → List ℕ → ℕ → ℕ
 end_at bits precision lefts i = slice_index_or lefts (i + 1) (total_of bits precision)
 
--- where the first of these rows ends, and where the last one does
+-- the ends of the first and of the last row
 abbrev pub ends_of : (bits precision : ℕ) → List ℕ → List ℕ
 ends_of bits precision lefts = end_at bits precision lefts 0 ∷ total_of bits precision ∷ []
 
--- two numbers that stand beside these, so that where a row ends is read and not chosen: of two rows or fewer where the first one ends
--- and where the last one does; of more, what leads from the total to where the last one begins, modulo the words, and 0
+-- two numbers beside the left cumulatives, by which the end of a row is computed without a choice: with one or two rows, the ends of the
+-- first and of the last row; with more, the last left cumulative minus the total, modulo 2 ^ bits, and 0
 pub record AreEndWords (bits precision : ℕ) (lefts end_words : List ℕ) : Type 0 where
   pub two : length end_words ≡ 2
   pub ends : length lefts ≤ 2 → end_words ≡ ends_of bits precision lefts

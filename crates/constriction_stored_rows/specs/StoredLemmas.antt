@@ -13,7 +13,7 @@ length-gaps t [] = refl
 length-gaps t (l ∷ []) = refl
 length-gaps t (l ∷ (m ∷ ls)) = ap suc (length-gaps t (m ∷ ls))
 
--- where a row begins: at the sum of the weights before it
+-- a left cumulative is the sum of the weights before it
 pub lefts_from-at : (l : ℕ) (ws : List ℕ) (i : ℕ) → i < length ws → get_or (lefts_from l ws) i 0 ≡ l + sum (take i ws)
 lefts_from-at l [] i h = absurd (omega arith)
 lefts_from-at l (w ∷ ws) zero h = omega arith
@@ -21,7 +21,7 @@ lefts_from-at l (w ∷ ws) (suc i) h =
     let rest : i < length ws = omega arith in
     lefts_from-at (l + w) ws i rest ∙ omega (arith, sum_by-cons (λ x. x) w (take i ws))
 
--- weights are got back from where their rows begin
+-- the left cumulatives give the weights back
 pub gaps-lefts_from : (t l : ℕ) (ws : List ℕ) → l + sum ws ≡ t → gaps t (lefts_from l ws) ≡ ws
 gaps-lefts_from t l [] e = refl
 gaps-lefts_from t l (w ∷ []) e = ap (λ x. x ∷ []) (omega arith)
@@ -83,7 +83,7 @@ pub read-whole : {W : Type 0} (whole : W → ℕ) (xs : List W) (i : ℕ) (x : W
     → get_or (map whole xs) i 0 ≡ whole x
 read-whole whole xs i x h e = get_or-map whole xs i x 0 h ∙ ap whole (sym e)
 
--- the list of where the rows of accepted weights begin
+-- the left cumulatives of accepted weights are a stored list, and give the weights back
 pub stored-of : (bits precision : ℕ) (lefts ws : List ℕ) → lefts ≡ lefts_from 0 ws → IsAccepted bits precision ws
     → IsStored bits precision lefts × (weights_of precision lefts ≡ ws)
 stored-of bits precision lefts ws e a =
@@ -99,7 +99,7 @@ lefts-rows_from l [] (w ∷ ws) e = absurd (omega arith)
 lefts-rows_from l (s ∷ ss) [] e = refl
 lefts-rows_from l (s ∷ ss) (w ∷ ws) e = ap (λ xs. l ∷ xs) (lefts-rows_from (l + w) ss ws (omega arith))
 
--- the rows that tile are those of their symbols and of what their left cumulatives stand for
+-- rows that tile are the rows of their symbols and of the weights that their left cumulatives give
 pub stored-of_rows : {S : Type 0} (bits precision : ℕ) (rows : List (Row S)) → RowsTile bits precision rows
     → IsStored bits precision (map (λ r. r.left) rows)
     × (rows_from 0 (map (λ r. r.symbol) rows) (weights_of precision (map (λ r. r.left) rows)) ≡ rows)

@@ -1,4 +1,4 @@
--- The rows of a stored list: what the models' laws cite. No public clause cites this module.
+-- The rows of a stored list, for the models' laws. No public clause cites this module.
 use Rattle.std.specs.Prelude.{◌≡◌, ℕ, ◌+◌, ◌^◌, ◌<◌, ◌≤◌, List, length, All, sum, take, Some, None, nat_eq}
 use Rattle.std.proofs.Common.{get_or, ap, sym, ◌∙◌, arith, subst, inr}
 use Rattle.std.proofs.lemmas.List.FromFn.{length-range_with_len, get_or-range_with_len}
@@ -11,7 +11,7 @@ use Rattle.constriction_stored_rows.specs.SymbolRowLemmas.{symbol-row_at, symbol
 pub length-rows : (ws : List ℕ) → length (contiguous_rows ws) ≡ length ws
 length-rows ws = length-rows_from 0 (indices (length ws)) ws (length-range_with_len 0 (length ws))
 
--- as many rows as left cumulatives
+-- there are as many rows as left cumulatives
 pub rows-many : (precision : ℕ) (lefts : List ℕ) → length (contiguous_rows (weights_of precision lefts)) ≡ length lefts
 rows-many precision lefts = omega (arith, length-rows (weights_of precision lefts), length-gaps (2 ^ precision) lefts)
 
@@ -46,7 +46,7 @@ module _ (bits precision : ℕ) (lefts : List ℕ) (t : IsStored bits precision 
   pub stored-tiles : RowsTile bits precision (contiguous_rows (weights_of precision lefts))
   stored-tiles = symbol-rows_tile bits precision symbols lefts t symbols-long
 
-  -- the entry of a symbol, and of what is none
+  -- the entry of a symbol, and None for a number that is no symbol
   pub stored-entry : (i l w : ℕ) → i < length lefts → l ≡ get_or lefts i 0 → w ≡ get_or (weights_of precision lefts) i 0
       → Some (l, w) ≡ entry_of nat_eq (contiguous_rows (weights_of precision lefts)) i
   stored-entry i l w h le we =

@@ -1,4 +1,4 @@
--- The rows of symbols and of a stored list: what the models' laws cite. No public clause cites this module.
+-- The rows of symbols and of a stored list, for the models' laws. No public clause cites this module.
 use Rattle.std.specs.Prelude.{◌≡◌, ℕ, ◌+◌, ◌-◌, ◌^◌, ◌<◌, ◌≤◌, List, length, map, sum, take}
 use Rattle.std.proofs.Common.{get_or, refl, ap, sym, ◌∙◌, arith, inl, inr}
 use Rattle.std.proofs.lemmas.Bool.{cases_lt}
@@ -11,7 +11,7 @@ use Rattle.constriction_stored_rows.specs.Stored.{rows_paired}
 
 module _ {Symbol : Type 0} (bits precision : ℕ) (ss : List Symbol) (lefts : List ℕ) (t : IsStored bits precision lefts)
     (long : length ss ≡ length lefts) where
-  -- as many symbols as weights
+  -- there are as many symbols as weights
   pub symbols-many : length ss ≡ length (weights_of precision lefts)
   symbols-many = long ∙ sym (length-gaps (2 ^ precision) lefts)
 
@@ -36,7 +36,7 @@ module _ {Symbol : Type 0} (bits precision : ℕ) (ss : List Symbol) (lefts : Li
       let symbols = symbols-rows_from 0 ss ws symbols-many in
       record { accepted = rw weights t.accepted; in_order = rw (weights, symbols) refl }
 
-  -- the row with these three parts stands at the index
+  -- the row with these three parts is at the index
   pub symbol-is_at : (i l w : ℕ) (s : Symbol) → i < length lefts → s ≡ get_or ss i s → l ≡ get_or lefts i 0
       → w ≡ get_or (weights_of precision lefts) i 0
       → get_or (rows_of ss (weights_of precision lefts)) i (record { symbol = s; left = l; weight = w })
@@ -59,7 +59,7 @@ module _ {Symbol : Type 0} (bits precision : ℕ) (ss : List Symbol) (lefts : Li
         ];
       }
 
--- the same of entries that have a left cumulative and a symbol each
+-- the same for entries, which have a left cumulative and a symbol each
 module _ {Symbol Word : Type 0} (whole : Word → ℕ) (bits precision : ℕ) (entries : List (Word × Symbol))
     (t : IsStored bits precision (map (λ x. whole x.0) entries)) where
   pub paired-long : length (map (λ x. x.1) entries) ≡ length (map (λ x. whole x.0) entries)

@@ -1,4 +1,4 @@
-//! What is stored of a row, and a probe of stored rows.
+//! The stored entries of rows, and a probe of them.
 
 ghost use Rattle.std.specs.Prelude.{◌≡◌, ℕ, map};
 
@@ -6,9 +6,9 @@ use constriction_model::Probe;
 use constriction_numbers::WholeNumber;
 use std::marker::PhantomData;
 
-/// How the entries of a stored cdf tell their cumulatives.
+/// How the cumulative of a stored entry is read.
 pub trait CdfEntry<Entry> {
-    /// The words that cumulatives are.
+    /// The words of cumulatives.
     type Word: WholeNumber;
 
     // The cumulative of an entry.
@@ -49,7 +49,7 @@ impl<P: WholeNumber, Symbol> CdfEntry<(P, Symbol)> for CumulativeAndSymbol {
     }
 }
 
-/// A probe of some consecutive rows of a model, lent from where the model stores them.
+/// A probe of consecutive rows of a model, over a loan of the stored entries.
 #[derive(Drop)]
 pub struct CdfProbe<'c, Entry, Kind: CdfEntry<Entry>> {
     entries: &'c [Entry],
@@ -58,7 +58,7 @@ pub struct CdfProbe<'c, Entry, Kind: CdfEntry<Entry>> {
 }
 
 impl<'c, Entry, Kind: CdfEntry<Entry>> CdfProbe<'c, Entry, Kind> {
-    /// A probe of these entries that was asked nothing yet.
+    /// A probe of these entries, which was asked nothing yet.
     #[inline]
     pub fn new(entries: &'c [Entry]) -> Self
         ensures cumulatives { ⟦<Self as Probe>⟧.cumulatives result ≡ map Kind.cumulative entries.now }

@@ -1,6 +1,6 @@
-//! Where rows end that are stored as entries of a left cumulative and a symbol each, one a row.
+//! The ends of rows that are stored as one entry of a left cumulative and a symbol for each row.
 //!
-//! Of each row but the last one the next entry tells it. No entry tells the total, at which the last row ends.
+//! A row ends where the next entry begins. The last row ends at the total, which no entry has.
 
 ghost use Rattle.std.specs.Prelude.{◌≡◌, ◌+◌, ◌++◌, ◌<◌, ◌≤◌, length, map, slice_index, slice_index_or, IfOk, IfErr, IfSome, IfNone};
 ghost use Rattle.constriction_model.specs.Model.{row_of, LiesWithin};
@@ -14,9 +14,9 @@ use constriction_model::Weight;
 use constriction_numbers::WholeNumber;
 use std::alloc::AllocError;
 
-/// Two words that stand beside the entries, by which where a row ends is read and not chosen. Of two rows or fewer they
-/// are where the first one ends and where the last one does. Of more the second is 0, and the first is what has to be
-/// taken, modulo the words, from where the last row begins to come to the total.
+/// Two words beside the entries, by which the end of a row is computed without a choice. With one or two rows they are
+/// the ends of the first and the last row. With more rows the second word is 0, and the first is the last left
+/// cumulative minus the total, modulo `2^BITS`.
 #[inline]
 pub fn end_words_of<P: WholeNumber, Symbol, const PRECISION: usize>(
     entries: &[(P, Symbol)],
@@ -36,8 +36,8 @@ pub fn end_words_of<P: WholeNumber, Symbol, const PRECISION: usize>(
     [entries[rows - 1].0.wrapping_minus(total), P::least()]
 }
 
-/// Where the row at `index` ends. Of two rows or fewer the ends stand beside the entries. Of more, the next entry is
-/// read, or of the last row its own, and what stands beside is taken from it, which is 0 but for the last row.
+/// Where the row at `index` ends. With one or two rows this is an end word. With more rows it is the left cumulative of
+/// the next row minus the second end word, or the last row's own left cumulative minus the first end word.
 #[inline(always)]
 fn end_by_words<P: WholeNumber, Symbol, const PRECISION: usize>(
     entries: &[(P, Symbol)],
@@ -55,8 +55,8 @@ fn end_by_words<P: WholeNumber, Symbol, const PRECISION: usize>(
     entries[index + next].0.wrapping_minus(end_words[next])
 }
 
-/// The same where nothing stands beside the entries: where the next one begins, or the total. It is out of line, since
-/// its callers ask it of a last row alone, or never, and a loop is shorter without it.
+/// The same without end words: where the next row begins, or the total. It is out of line, since its callers call it
+/// for a last row alone, or never, and a loop is shorter without it.
 #[inline(never)]
 fn end_of<P: WholeNumber, Symbol, const PRECISION: usize>(
     entries: &[(P, Symbol)],
@@ -73,8 +73,8 @@ fn end_of<P: WholeNumber, Symbol, const PRECISION: usize>(
     P::wrapping_pow2(PRECISION)
 }
 
-/// Where the row at `from` ends, in a walk that goes up to `to`, or `None` at its end. While more than one row is left
-/// there is a next entry, so that a loop makes one test for a row, and asks for the total at its end alone.
+/// Where the row at `from` ends, in a walk up to `to`, or `None` at the end of the walk. While more than one row is left
+/// there is a next entry, so a loop makes one test for a row, and needs the total at its end alone.
 #[inline(always)]
 pub fn end_before<P: WholeNumber, Symbol, const PRECISION: usize>(
     entries: &[(P, Symbol)],
@@ -99,7 +99,7 @@ pub fn end_before<P: WholeNumber, Symbol, const PRECISION: usize>(
     Some(end_of::<P, Symbol, PRECISION>(entries, from))
 }
 
-/// Where the row at `index` ends, where the left cumulatives, with the total after them, may stand beside the entries.
+/// Where the row at `index` ends. `cdf` has the left cumulatives and the total, or nothing.
 #[inline(always)]
 fn end_among<P: WholeNumber, Symbol, const PRECISION: usize>(
     entries: &[(P, Symbol)],
@@ -118,7 +118,7 @@ fn end_among<P: WholeNumber, Symbol, const PRECISION: usize>(
     cdf[index + 1]
 }
 
-/// Where the row at `index` begins, and its weight: the difference to where it ends.
+/// The left cumulative of the row at `index`, and its weight, which is the difference to `end`.
 #[inline]
 pub fn row_up_to<P: WholeNumber, Symbol, const PRECISION: usize>(
     entries: &[(P, Symbol)],
@@ -137,8 +137,8 @@ pub fn row_up_to<P: WholeNumber, Symbol, const PRECISION: usize>(
     (left, end.wrapping_minus(left).to_weight())
 }
 
-/// Where the row at `index` begins, and its weight. Which row is the last one is asked by a jump: a walk backwards
-/// guesses it wrong once.
+/// The left cumulative and the weight of the row at `index`. A jump tests whether the row is the last one, which a walk
+/// backwards mispredicts once.
 #[inline]
 pub fn paired_row_at<P: WholeNumber, Symbol, const PRECISION: usize>(
     entries: &[(P, Symbol)],
@@ -158,7 +158,7 @@ pub fn paired_row_at<P: WholeNumber, Symbol, const PRECISION: usize>(
     row_up_to::<P, Symbol, PRECISION>(entries, P::wrapping_pow2(PRECISION), index)
 }
 
-/// The row at `index`, where that row ends is known, and a clone of its symbol.
+/// The row at `index`, which ends at `end`, with a clone of its symbol.
 #[inline]
 fn cloned_row_up_to<P: WholeNumber, Symbol: Clone, const PRECISION: usize>(
     entries: &[(P, Symbol)],
@@ -183,7 +183,7 @@ fn cloned_row_up_to<P: WholeNumber, Symbol: Clone, const PRECISION: usize>(
     }
 }
 
-/// The row at `index`, and a clone of its symbol. The words of [`end_words_of`] stand beside the entries.
+/// The row at `index`, with a clone of its symbol. `end_words` are the words of [`end_words_of`].
 #[inline]
 pub fn cloned_row_at<P: WholeNumber, Symbol: Clone, const PRECISION: usize>(
     entries: &[(P, Symbol)],
@@ -205,8 +205,8 @@ pub fn cloned_row_at<P: WholeNumber, Symbol: Clone, const PRECISION: usize>(
     cloned_row_up_to::<P, Symbol, PRECISION>(entries, end, index)
 }
 
-/// The row at `index`, and a clone of its symbol. Where anything stands in `cdf`, it is the left cumulatives with the
-/// total after them, so that no row is asked whether it is the last one.
+/// The row at `index`, with a clone of its symbol. `cdf` has nothing, or the left cumulatives and the total, and then no
+/// row is tested for being the last one.
 #[inline]
 pub fn cloned_row_among<P: WholeNumber, Symbol: Clone, const PRECISION: usize>(
     entries: &[(P, Symbol)],
@@ -229,7 +229,7 @@ pub fn cloned_row_among<P: WholeNumber, Symbol: Clone, const PRECISION: usize>(
     cloned_row_up_to::<P, Symbol, PRECISION>(entries, end, index)
 }
 
-/// The words, and after them where each row begins and the total. It fails only if memory is refused.
+/// The words, and after them the left cumulatives and the total. This fails only if memory is refused.
 pub fn with_ends<Entry, Kind: CdfEntry<Entry>, const PRECISION: usize>(
     words: Vec<Kind::Word>,
     entries: &[Entry],

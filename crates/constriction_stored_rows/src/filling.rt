@@ -9,7 +9,7 @@ use constriction_model::ModelError;
 use constriction_numbers::WholeNumber;
 use std::alloc::{AllocError, Global};
 
-/// Makes room for one item more.
+/// Makes room for one more item.
 #[cold]
 #[inline(never)]
 fn make_room<T: Drop>(items: &mut Vec<T>) -> Result<(), AllocError>
@@ -19,11 +19,11 @@ fn make_room<T: Drop>(items: &mut Vec<T>) -> Result<(), AllocError>
     items.reserve(1)
 }
 
-/// A list and one item more.
+/// The list with one more item.
 ///
-/// A full list is borrowed by `make_room` under another name. So a loop that fills the list keeps its pointer, length
-/// and capacity in registers. If `make_room` took the list and answered it, the loop would clear memory for that answer
-/// at each item.
+/// `make_room` borrows a full list under another name, so a loop that fills the list keeps its pointer, length and
+/// capacity in registers. If `make_room` took the list and returned it, the loop would clear memory for that result at
+/// each item.
 #[inline(always)]
 pub fn with_item<T: Drop>(mut items: Vec<T>, item: T) -> Result<Vec<T>, AllocError>
     ensures { IfOk result (λ v. v.items ≡ items.items ++ item ∷ []) }
@@ -37,11 +37,11 @@ pub fn with_item<T: Drop>(mut items: Vec<T>, item: T) -> Result<Vec<T>, AllocErr
     Ok(items)
 }
 
-/// Whether a row of this weight leaves no quantiles, where `room` is the number of quantiles after the first one
-/// of the row, and `one` the word 1.
+/// Whether a row of this weight leaves no quantiles. `room` is the number of quantiles after the first one of the
+/// row, and `one` is the word 1.
 ///
-/// One comparison tells weights that leave some from all others: 0, one that fills the quantiles, and one that is
-/// too much.
+/// One comparison separates the weights that leave some quantiles from all others: 0, the weight that fills the
+/// quantiles, and weights that exceed them.
 #[inline(always)]
 pub(crate) fn leaves_none<P: WholeNumber>(weight: P, one: P, room: P) -> bool
     requires one { P.whole one ≡ 1 }
@@ -53,8 +53,8 @@ pub(crate) fn leaves_none<P: WholeNumber>(weight: P, one: P, room: P) -> bool
     room.is_at_most(last)
 }
 
-/// Whether the row of this weight is the last one: a given weight has to fill the quantiles, and no further one is
-/// inferred.
+/// Whether the row of this weight is the last one: it is if the given weight fills the quantiles, and no further one
+/// is inferred.
 #[inline]
 pub(crate) fn is_given_last<P: WholeNumber>(weight: P, one: P, room: P, infer_last: bool) -> bool
     requires one { P.whole one ≡ 1 }
@@ -72,7 +72,7 @@ pub(crate) fn is_given_last<P: WholeNumber>(weight: P, one: P, room: P, infer_la
     last.is_at_most(room)
 }
 
-/// Whether the row that takes all quantiles left is the last one: its weight is inferred, and it is a word.
+/// Whether the row that takes all quantiles left is the last one: it is if its weight is inferred, and is a word.
 #[inline]
 pub(crate) fn is_inferred_last<P: WholeNumber>(room: P, infer_last: bool) -> bool
     requires { P.whole room < 2 ^ P.BITS }
@@ -85,8 +85,7 @@ pub(crate) fn is_inferred_last<P: WholeNumber>(room: P, infer_last: bool) -> boo
     false
 }
 
-/// How many rows to ask memory for at once, where so many are announced: no more than any list that is
-/// accepted has.
+/// How many of the announced rows to request memory for at once: no more than an accepted list can have.
 #[inline]
 #[tactic(auto, using(crate::proofs::AnnouncedLemmas::few_announced))]
 pub fn rows_announced<const PRECISION: usize>(announced: usize) -> usize
@@ -96,8 +95,8 @@ pub fn rows_announced<const PRECISION: usize>(announced: usize) -> usize
     announced.min(1usize << PRECISION.min(62))
 }
 
-/// How many entries to ask memory for at once, where so many rows are announced: one for each of them, and one
-/// for the total.
+/// How many entries to request memory for at once: one for each announced row, up to the most that an accepted
+/// list can have, and one for the total.
 #[inline]
 pub fn entries_announced<const PRECISION: usize>(announced: usize) -> usize
     ensures accepted { result ≤ 2 ^ PRECISION + 1 }
@@ -116,8 +115,8 @@ pub fn copy_of<W: Copy>(alloc: Global, words: &[W]) -> Result<Vec<W>, AllocError
     Ok(copy)
 }
 
-/// How many words to ask memory for at once: one for each weight that is announced, one for the
-/// inferred one, and one for the total.
+/// How many words to request memory for at once: one for each announced weight, one for the inferred
+/// weight, and one for the total.
 #[inline]
 fn words_needed<const PRECISION: usize>(announced: usize, infer_last: bool) -> usize
     ensures { result ≤ 2 ^ PRECISION + 1 }
@@ -152,7 +151,7 @@ fn is_end_of_given<P: WholeNumber, I: Iterator<Item = P>>(
     rest.next().is_none()
 }
 
-/// The cdf and after it the total, where all quantiles are filled.
+/// The cdf with the total after it, if all quantiles are filled.
 #[inline(always)]
 fn finish<P: WholeNumber, const PRECISION: usize>(
     cdf: Vec<P>,
@@ -169,7 +168,7 @@ fn finish<P: WholeNumber, const PRECISION: usize>(
     Ok(with_item(cdf, P::wrapping_pow2(PRECISION))?)
 }
 
-/// The cdf, the row of the inferred weight and the total, where that weight is a word.
+/// The cdf with the row of the inferred weight and the total after it, if that weight is a word.
 #[inline(always)]
 fn finish_inferred<P: WholeNumber, const PRECISION: usize>(
     cdf: Vec<P>,
@@ -197,7 +196,7 @@ fn fill<P: WholeNumber, I: Iterator<Item = P>, const PRECISION: usize>(
     requires positive { 0 < PRECISION }
     requires fits { PRECISION ≤ P.BITS }
     requires empty { cdf.items ≡ [] }
-    // No more room than accepted weights need was asked for.
+    // The cdf has no more room than accepted weights need.
     requires room { vec_capacity cdf ≤ 2 ^ PRECISION + 1 }
     requires goes { I.can_next rest.old }
     requires ends { IsFinite (I.remaining rest.old) }
@@ -227,7 +226,7 @@ fn fill<P: WholeNumber, I: Iterator<Item = P>, const PRECISION: usize>(
     finish_inferred::<P, PRECISION>(cdf, left, is_inferred_last(room, infer_last))
 }
 
-/// The cdf of these weights, the last of which may be inferred.
+/// The cdf of these weights. The last weight may be inferred.
 pub fn cdf_of<P: WholeNumber, I: IntoIterator<Item = P>, const PRECISION: usize>(
     alloc: Global,
     weights: I,

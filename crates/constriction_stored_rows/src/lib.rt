@@ -1,8 +1,8 @@
-//! How models that are given by weights store their rows: reading weights and symbols, telling whether they are
-//! accepted, a probe of what is stored, the row at an index, and which rows meet a slot.
+//! How models of given weights store their rows: reading and judging weights and symbols, probes of the stored rows,
+//! the row at an index, and the rows that meet a slot.
 //!
-//! What is stored is a plain list: a cdf, which is the left cumulatives with the total after them, or pairs of a left
-//! cumulative and a symbol, one a row. The models of the crate above keep it, and their ghost fields cite the
+//! Rows are stored as a plain list: a cdf, which is the left cumulatives and after them the total, or one pair of a left
+//! cumulative and a symbol for each row. The models of the crate above hold the list, and their ghost fields cite the
 //! definitions here.
 #![tactic(auto)]
 

@@ -1,4 +1,4 @@
-//! Entries of a left cumulative and a symbol each.
+//! Entries, which are pairs of a left cumulative and a symbol.
 
 ghost use Rattle.std.specs.Prelude.{◌≡◌, map, IfOk};
 ghost use Rattle.std.specs.List.{list_any};
@@ -22,7 +22,7 @@ pub fn has_symbol<Word, Symbol: Eq>(entries: &[(Word, Symbol)], symbol: &Symbol)
     false
 }
 
-/// These entries, each with a clone of its symbol.
+/// A copy of the entries, each with a clone of its symbol.
 pub fn entries_cloned<Word: Copy, Symbol: Clone>(
     alloc: Global,
     entries: &[(Word, Symbol)],

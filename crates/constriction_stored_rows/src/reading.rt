@@ -12,15 +12,15 @@ use crate::filling::{is_given_last, is_inferred_last, leaves_none};
 use constriction_model::ModelError;
 use constriction_numbers::WholeNumber;
 
-/// What rows are stored in, one after another, with no two equal symbols.
+/// A store of rows, which takes one row after another, and no two with equal symbols.
 pub trait TakesRows<Symbol, Word: WholeNumber> {
-    // Whether two symbols are equal. Of what compares none it is never so.
+    // Whether two symbols are equal. For a store that compares none, no two are.
     ghost symbol_eq: { Symbol → Symbol → Bool };
 
-    // That these rows are stored, and no others.
+    // These rows are stored, and no others.
     ghost holds: { Self → List (Row Symbol) → Type 0 };
 
-    /// Stores one row more. `InvalidTable` comes exactly where a row with an equal symbol is stored.
+    /// Stores one more row, unless a stored row has an equal symbol. `InvalidTable` comes only if one has.
     fn take_row(&mut self, symbol: Symbol, left: Word, weight: Word) -> Result<(), ModelError>
         requires positive { 0 < Word.whole weight }
         ensures held { IsOk result → (rows : List (Row Symbol)) → holds self.old rows
@@ -56,7 +56,7 @@ fn take_next<
     stored.take_row(symbol, left, weight)
 }
 
-/// Stores the row of a given weight that leaves no quantiles, which has to fill them and to be the last one.
+/// Stores the row of a given weight that leaves no quantiles. The weight has to fill them and to be the last one.
 #[inline(always)]
 fn take_given_last<
     P: WholeNumber,
@@ -100,7 +100,7 @@ fn take_given_last<
     Ok(())
 }
 
-/// Stores the row of the inferred weight, which is all that the given ones leave.
+/// Stores the row of the inferred weight, which is all that the given weights leave.
 #[inline(always)]
 fn take_inferred_last<
     P: WholeNumber,
@@ -186,10 +186,9 @@ fn take_all<
     )
 }
 
-/// The rows of these symbols and weights, the last of which may be inferred, stored in what holds no
-/// row before.
+/// Stores the rows of these symbols and weights in an empty store. The last weight may be inferred.
 ///
-/// A weight is judged before its symbol is read, and the symbol before the next weight is.
+/// A weight is judged before its symbol is read, and the symbol before the next weight is read.
 pub fn rows_read<
     P: WholeNumber,
     Symbol: Drop,

@@ -30,7 +30,7 @@ fn width_of_slots<const PRECISION: usize, const SLOT_BITS: usize>() -> usize
     1usize << PRECISION.saturating_sub(SLOT_BITS)
 }
 
-/// How many words of the lookup table tell of slots: two a slot, or one where a slot holds one quantile.
+/// How many words the slots have in the lookup table: two a slot, or one a slot if it holds one quantile.
 #[inline]
 pub fn words_of_table<const PRECISION: usize, const SLOT_BITS: usize>() -> usize
     requires { PRECISION ≤ 63 }
@@ -55,8 +55,8 @@ fn first_word<W: WholeNumber, const PRECISION: usize, const SLOT_BITS: usize>(le
     left / width + (left + (width - 1)) / width
 }
 
-/// The lookup table, filled up with a row to so many words, for which it has room. No word is tested for room, and nothing of
-/// the table leaves the processor's registers, as it does around a call that may ask for memory.
+/// The lookup table, filled up with `row` to `words` words, for which it has room. No word is tested for room, and the table
+/// stays in registers, which it would leave around a call that may request memory.
 #[inline(always)]
 fn fill<W: Copy>(mut table: Vec<W>, words: usize, row: W) -> Vec<W>
     requires room { words ≤ vec_capacity table }
@@ -70,10 +70,10 @@ fn fill<W: Copy>(mut table: Vec<W>, words: usize, row: W) -> Vec<W>
     table
 }
 
-/// The lookup table of the rows that meet each slot: of each slot the first and the last one, which are one row
-/// where a slot holds one quantile.
+/// The lookup table of the rows that meet each slot: the first and the last row of each slot, or one row if a slot
+/// holds one quantile.
 ///
-/// One pass over the rows, each of which fills the words up to where the next one begins, and one
+/// One pass over the rows, each of which fills the words up to the first word of the next one, and one
 /// allocation, with room for `more` words after them.
 fn slots_of<Entry, Kind: CdfEntry<Entry>, const PRECISION: usize, const SLOT_BITS: usize>(
     alloc: Global,
@@ -101,8 +101,8 @@ fn slots_of<Entry, Kind: CdfEntry<Entry>, const PRECISION: usize, const SLOT_BIT
     Ok(fill(table, words, row))
 }
 
-/// The lookup table of the rows that meet each slot, and after it, where that is asked for, where each row begins and the
-/// total, so that who looks up a row has these words side by side. A model of one quantile never has them.
+/// The lookup table of the rows that meet each slot. If `has_ends`, the left cumulatives and the total follow, so that a
+/// look-up finds these words side by side. They never follow in a model of one quantile.
 pub fn table_of_slots<Entry, Kind: CdfEntry<Entry>, const PRECISION: usize, const SLOT_BITS: usize>(
     alloc: Global,
     entries: &[Entry],
@@ -194,8 +194,8 @@ pub fn slot_probe<'c, Entry, Kind: CdfEntry<Entry>, const PRECISION: usize, cons
     (first, probe_of(entries, first, last))
 }
 
-/// One where a row begins above a quantile, and 0 where it begins at it or below. The sum of two of these
-/// has no jump in it, which the processor would have to guess.
+/// 1 if the row begins after the quantile, else 0. The sum of two of these has no jump, which the processor
+/// would have to predict.
 #[inline(always)]
 fn above<Entry, Kind: CdfEntry<Entry>>(entries: &[Entry], row: usize, quantile: Kind::Word) -> usize
     requires { row < length entries.now }
@@ -209,9 +209,9 @@ fn above<Entry, Kind: CdfEntry<Entry>>(entries: &[Entry], row: usize, quantile: 
     }
 }
 
-/// The last row that begins at a quantile or below it, where at most three rows meet its slot: the last of these, less
-/// one for each of the last and the middle one that begins above the quantile. Where fewer meet it, the first row takes
-/// the place of what is missing, and it never begins above.
+/// The last row that begins at a quantile or below it, if at most three rows meet its slot. Its index is the last
+/// of these, less 1 if the last row begins after the quantile, and less 1 if the middle row does. If fewer rows meet the
+/// slot, the first row takes the place of a missing one, and it never begins after the quantile.
 #[inline(always)]
 fn row_of_up_to_three<Entry, Kind: CdfEntry<Entry>, const PRECISION: usize, const SLOT_BITS: usize>(
     entries: &[Entry],
@@ -231,14 +231,15 @@ fn row_of_up_to_three<Entry, Kind: CdfEntry<Entry>, const PRECISION: usize, cons
         + above::<Entry, Kind>(entries, middle, quantile))
 }
 
-/// The last row that begins at a quantile or below it, among the rows that meet its slot: the row of the slot where
-/// that holds one quantile, else by two comparisons without a jump where at most three rows meet the slot, and by a
-/// search where more do.
+/// The last row that begins at a quantile or below it, among the rows that meet its slot. If the slot holds one
+/// quantile, it is the slot's row. Else, in a model of many rows, two comparisons without a jump find it among up to
+/// three rows, and a search among more.
 ///
-/// Of a model of few rows, one row alone meets nearly all slots, and is found by no comparison. That is a jump, which is
-/// guessed right for 15 of 16 quantiles at least, if these are spread evenly. All else of such a model is out of line: a
-/// loop then has one body for models of few rows and one for others, and chooses between them once. A model of one or
-/// two rows is one of few rows, whatever its slots are: two comparisons would be more than a search of it makes.
+/// In a model of few rows, most slots are met by one row alone, which is found without a comparison. The test for this is
+/// a jump, which is predicted right for at least 15 of 16 quantiles if these are spread evenly. All other
+/// look-ups of such a model search out of line, so a loop has one body for models of few rows and one for others, and
+/// chooses between them once. A model of one or two rows always counts as one of few rows, since two comparisons are
+/// more than its search makes.
 #[inline(always)]
 pub fn row_in_slot<Entry, Kind: CdfEntry<Entry>, const PRECISION: usize, const SLOT_BITS: usize>(
     entries: &[Entry],
@@ -270,8 +271,8 @@ pub fn row_in_slot<Entry, Kind: CdfEntry<Entry>, const PRECISION: usize, const S
     row_among::<Entry, Kind, PRECISION, SLOT_BITS>(entries, first, last, quantile)
 }
 
-/// The same by a search, where the first and the last row of the slot are known. It is out of line, so that a
-/// look-up that needs none is as short as it can be.
+/// The same by a search between the first and the last row of the slot. It is out of line, so that a look-up
+/// without a search is as short as it can be.
 #[inline(never)]
 fn row_among<Entry, Kind: CdfEntry<Entry>, const PRECISION: usize, const SLOT_BITS: usize>(
     entries: &[Entry],

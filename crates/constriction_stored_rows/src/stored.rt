@@ -8,7 +8,7 @@ ghost use Rattle.constriction_stored_rows.specs.Stored.{IsCdf, lefts_in, weights
 use constriction_model::Weight;
 use constriction_numbers::WholeNumber;
 
-/// Where the row at `index` begins, and its weight: the difference to where the next one begins.
+/// The left cumulative of the row at `index`, and its weight, which is the difference to the next word of the cdf.
 #[inline]
 pub fn row_at<P: WholeNumber, const PRECISION: usize>(cdf: &[P], index: usize) -> (P, Weight<P>)
     requires fits { PRECISION ≤ P.BITS }

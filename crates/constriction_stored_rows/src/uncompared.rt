@@ -32,8 +32,8 @@ impl<Word: WholeNumber, Symbol: Drop> TakesRows<Symbol, Word> for Uncompared<Wor
     ghost symmetry_law = { λ s t. refl };
 }
 
-/// The entries of these symbols and weights, the last of which may be inferred. Symbols and weights are
-/// accepted as by a constructor, but that equal symbols are too.
+/// The entries of these symbols and weights. The last weight may be inferred. Symbols and weights are
+/// accepted as by a constructor, and equal symbols are accepted too.
 pub fn entries_read<
     P: WholeNumber,
     Symbol: Drop,

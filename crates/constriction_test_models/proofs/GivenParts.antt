@@ -1,4 +1,4 @@
--- The parts of what a constructor's contract says of the model that it made.
+-- What a constructor's contract says of the model that it made, in parts.
 use Rattle.std.proofs.Common.{Result, Ok, Err}
 use Rattle.std.specs.Prelude.{IfOk}
 

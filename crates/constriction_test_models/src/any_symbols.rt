@@ -9,7 +9,7 @@ use constriction::stream::model::{
 use constriction_words::NonZeroBitArray;
 use std::alloc::{AllocError, Global};
 
-/// A decoder's model of letters.
+/// A decoder model over letters.
 pub type Decoder<const PRECISION: usize> = NonContiguousCategoricalDecoderModel<
     char,
     u8,
@@ -17,14 +17,14 @@ pub type Decoder<const PRECISION: usize> = NonContiguousCategoricalDecoderModel<
     PRECISION,
 >;
 
-/// An encoder's model of letters.
+/// An encoder model over letters.
 pub type Encoder<const PRECISION: usize> = NonContiguousCategoricalEncoderModel<
     char,
     u8,
     PRECISION,
 >;
 
-/// A row, as tests write it down.
+/// A row as tests write it: symbol, left cumulative and weight.
 pub type Row = (char, u8, u8);
 
 pub const SYMBOLS: [char; 4] = ['a', 'x', 'c', 'y'];
@@ -33,7 +33,7 @@ pub const WEIGHTS: [u8; 4] = [3, 18, 1, 42];
 
 pub const ROWS: [Row; 4] = [('a', 0, 3), ('x', 3, 18), ('c', 21, 1), ('y', 22, 42)];
 
-/// The decoder's model of these letters and weights.
+/// The decoder model of these letters and weights.
 pub fn decoder<const PRECISION: usize>(
     alloc: Global,
     symbols: &[char],
@@ -51,7 +51,7 @@ pub fn decoder<const PRECISION: usize>(
     )
 }
 
-/// The encoder's model of these letters and weights.
+/// The encoder model of these letters and weights.
 pub fn encoder<const PRECISION: usize>(
     alloc: Global,
     symbols: &[char],
@@ -69,7 +69,7 @@ pub fn encoder<const PRECISION: usize>(
     )
 }
 
-/// The row of an answer, with its weight as a plain word.
+/// The row that was answered, with its weight as a plain word.
 pub fn plain<Symbol: Drop>(
     answer: Result<(Symbol, u8, Weight<u8>), AllocError>,
 ) -> Result<(Symbol, u8, u8), AllocError> {
@@ -77,7 +77,7 @@ pub fn plain<Symbol: Drop>(
     Ok((symbol, left, weight.get()))
 }
 
-/// The entry of an answer, with its weight as a plain word.
+/// The entry that was answered, with its weight as a plain word.
 pub fn plain_entry(answer: Option<(u8, Weight<u8>)>) -> Option<(u8, u8)> {
     let (left, weight) = answer?;
     Some((left, weight.get()))

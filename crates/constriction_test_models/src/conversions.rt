@@ -1,8 +1,8 @@
-//! Models that are made from models that can be walked through.
+//! The decoder model over any symbols, with words of `u8`.
 
 use constriction::stream::model::NonContiguousCategoricalDecoderModel;
 
-/// A decoder's model of such symbols.
+/// A decoder model over any symbols.
 pub type Decoder<Symbol, const PRECISION: usize> = NonContiguousCategoricalDecoderModel<
     Symbol,
     u8,

@@ -1,5 +1,5 @@
-//! Whether models answer alike in both directions, and callers who walk through the quantiles of a symbol: the contract of an
-//! entry says that each of them may be asked.
+//! Whether models answer alike in both directions, and callers that look up each quantile of a symbol. The contract of an entry
+//! says that they may.
 
 ghost use Rattle.std.specs.Prelude.{◌+◌, ◌^◌, ◌<◌, ◌≤◌, ℕ, IfSome};
 
@@ -7,7 +7,7 @@ use constriction::stream::model::{DecoderModel, EncoderModel, IterableEntropyMod
 use constriction_words::NonZeroBitArray;
 use std::alloc::AllocError;
 
-/// The quantiles of a symbol, from the first one to the one past the last one: each of them is a quantile of the model.
+/// The first quantile of a symbol, and how many it has. All of these are quantiles of the model.
 pub fn interval_of<M, const PRECISION: usize>(
     model: &M,
     symbol: &M::Symbol,
@@ -20,7 +20,7 @@ where
     model.left_cumulative_and_probability(symbol)
 }
 
-/// Whether each of a symbol's quantiles, so many from `left` on, has the symbol's row.
+/// Whether each of the `weight` quantiles from `left` on has the row of this symbol.
 fn have_its_row<D>(model: &D, symbol: &D::Symbol, left: u8, weight: u8) -> Result<bool, AllocError>
 where
     D: DecoderModel<6, Probability = u8>,
@@ -36,7 +36,7 @@ where
     Ok(true)
 }
 
-/// Whether the row of a quantile is the entry of its symbol.
+/// Whether the row of a quantile and the entry of its symbol have the same left cumulative and weight.
 fn is_entry<E, D>(encoder: &E, decoder: &D, quantile: u8) -> Result<bool, AllocError>
 where
     E: EncoderModel<6, Probability = u8>,
@@ -51,9 +51,9 @@ where
     })
 }
 
-/// Whether two models answer alike in both directions. In the order of these symbols, each begins where the weights before it
-/// end, and each of its quantiles has its row; there are no quantiles after the last one; and the row of each quantile is the
-/// entry of its symbol.
+/// Whether two models answer alike in both directions. Each of these symbols, in their order, has to begin where the one before
+/// it ends, and to have the row of each of its quantiles. The last one has to end at 64. The row of each quantile has to agree
+/// with the entry of its symbol.
 pub fn agree<E, D>(encoder: &E, decoder: &D, symbols: &[E::Symbol]) -> Result<bool, AllocError>
 where
     E: EncoderModel<6, Probability = u8>,
@@ -78,8 +78,8 @@ where
     Ok(end == 64)
 }
 
-/// Whether a walk through the rows of a model gives these symbols, in their order and no others; the left cumulative of each is
-/// the sum of the weights before it, and all weights are the number of the quantiles.
+/// Whether a walk through the rows of a model gives exactly these symbols, in their order. The left cumulative of each has to be
+/// the sum of the weights before it, and the weights have to add up to the number of quantiles.
 pub fn has_rows_of<M>(model: M, symbols: &[M::Symbol]) -> Result<bool, AllocError>
 where
     M: IterableEntropyModel<6, Probability = u8>,

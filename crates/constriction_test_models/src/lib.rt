@@ -1,4 +1,4 @@
-//! The models that tests of several crates ask, with their rows and what is asked of them.
+//! Models that the tests of several crates share, with their rows, and calls that ask them.
 #![tactic(auto)]
 
 pub mod any_symbols;

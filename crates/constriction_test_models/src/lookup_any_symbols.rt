@@ -5,7 +5,7 @@ ghost use Rattle.std.specs.Prelude.{◌<◌, ◌≤◌};
 use constriction::stream::model::{ModelError, NonContiguousLookupDecoderModel};
 use std::alloc::Global;
 
-/// A lookup model of such symbols.
+/// A lookup model over these symbols.
 pub type Lookup<Symbol, const PRECISION: usize> = NonContiguousLookupDecoderModel<
     Symbol,
     u8,

@@ -1,4 +1,4 @@
-//! A model of the caller: its rows, what it answers for a symbol and for a quantile, and the walk through its rows.
+//! A model of the caller's own: its rows, its answers to a symbol and to a quantile, and its symbol table.
 
 ghost use Rattle.std.specs.Prelude.{◌≡◌, ◌<◌, ◌-◌, ◌∷◌, [], drop, nat_eq};
 ghost use Rattle.std.specs.Iterator.{at_most};
@@ -14,8 +14,7 @@ use constriction::stream::model::{
 use constriction_words::{BitArray, WholeNumber};
 use std::alloc::AllocError;
 
-/// A model of three letters, which may be the same: the first has the quantiles 0 and 1, the second 2 to
-/// 6, the third 7.
+/// A model of three letters, which need not differ. The first has the quantiles 0 and 1, the second 2 to 6, the third 7.
 #[derive(Drop)]
 pub struct Triple {
     first: char,
@@ -33,7 +32,7 @@ impl EntropyModel<3> for Triple {
     ghost precision_law = { λ _. record { positive = lit< tt; fits = lit≤ tt } };
 }
 
-/// The entry of a letter is that of its last row.
+/// A letter has the entry of its last row.
 impl EncoderModel<3> for Triple {
     ghost symbol_eq = { nat_eq };
 
@@ -55,7 +54,7 @@ impl EncoderModel<3> for Triple {
     ghost within_law = { λ m. Prim.search rules };
 }
 
-/// The row of a quantile, by where rows begin.
+/// The quantile is compared with where the rows begin.
 impl DecoderModel<3> for Triple {
     ghost stands_for = { λ s t. t ≡ s };
 
@@ -89,7 +88,7 @@ pub fn three(first: char, second: char, third: char) -> Triple {
     }
 }
 
-/// The walk through the rows of such a model, from the one at `next` on.
+/// The symbol table of a `Triple`. Its rows from the index `next` on are left.
 #[derive(Drop)]
 pub struct TripleSymbolTable<'m> {
     model: &'m Triple,

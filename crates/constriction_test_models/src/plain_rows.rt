@@ -1,4 +1,4 @@
-//! The rows that walks and look-ups give, with weights as plain words.
+//! The rows that symbol tables and look-ups give, with weights as plain words.
 
 ghost use Rattle.std.specs.Prelude.{◌<◌, ◌≤◌};
 
@@ -6,7 +6,7 @@ use constriction::stream::model::{DecoderModel, Weight, is_quantile};
 use constriction_words::WholeNumber;
 use std::alloc::AllocError;
 
-/// What a step of a walk gives.
+/// What a step of a symbol table gives.
 pub type Step<Word> = Option<Result<(usize, Word, Weight<Word>), AllocError>>;
 
 /// The row of a step, with its weight as a plain word.
@@ -17,7 +17,7 @@ pub fn row<Word: WholeNumber>(step: Step<Word>) -> Option<(usize, Word, Word)> {
     }
 }
 
-/// What a model answers for a word, where it is a quantile.
+/// The row that a model answers to a word, if the word is a quantile.
 pub fn look_up<M, const PRECISION: usize>(model: &M, quantile: u8) -> Option<(usize, u8, u8)>
 where
     M: DecoderModel<PRECISION, Symbol = usize, Probability = u8>,

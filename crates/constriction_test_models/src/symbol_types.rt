@@ -1,4 +1,4 @@
-//! Models of symbols whose type says itself what is equal, or which values may be cloned.
+//! A symbol type that refuses to clone one of its values, and a model over it.
 
 ghost use Rattle.std.specs.Prelude.{◌≡◌, ◌==◌, ◌<◌};
 
@@ -6,7 +6,7 @@ use crate::conversions::Decoder;
 use constriction::stream::model::ModelError;
 use std::alloc::{AllocError, Global};
 
-/// A letter, of which memory for a clone is refused where it is `r`.
+/// A letter. A clone of `r` fails, as if memory were refused.
 #[derive(Debug, PartialEq, Eq, Hash, Drop)]
 pub struct Letter(pub char);
 

@@ -1,4 +1,4 @@
-//! Symbols that are watched: how often they are compared, hashed and cloned, and how many there are.
+//! Symbols that count how often they are compared, hashed and cloned, and how many of them there are.
 
 ghost use Rattle.std.specs.Prelude.{◌≡◌, ◌==◌};
 ghost use Rattle.std.specs.Cmp.{partial_order_from_own_ties};
@@ -14,21 +14,21 @@ use std::hash::{Hash, Hasher};
 use std::iter;
 use std::rc::Rc;
 
-/// How often something was done to the symbols that share it.
+/// What was done to the symbols that share these counts, and how often.
 #[derive(Drop)]
 pub struct Counts {
-    /// How often two of them were compared, by `==` or for their order.
+    /// How often two symbols were compared, by `==` or for their order.
     pub compared: Cell<usize>,
     pub hashed: Cell<usize>,
     pub cloned: Cell<usize>,
-    /// How often it was asked where the row of one begins, of a model that counts this.
+    /// How often the left cumulative of a symbol's row was read, in a model that counts this.
     pub read: Cell<usize>,
 }
 
-/// Each symbol that shares the counts owns them, so that the number of their owners tells how many symbols there are.
+/// Each symbol owns the counts too, so the number of owners says how many symbols there are.
 pub type Tally = Rc<Counts>;
 
-/// Counts of nothing, which no symbol owns.
+/// Counts that are all 0, and that no symbol owns yet.
 pub fn tally(alloc: Global) -> Result<Tally, AllocError> {
     let counts = Counts {
         compared: Cell::new(0),
@@ -42,18 +42,18 @@ pub fn tally(alloc: Global) -> Result<Tally, AllocError> {
     }
 }
 
-/// Counts once more.
+/// Raises the count by one.
 pub fn count(counter: &Cell<usize>) {
     counter.set(counter.get().wrapping_add(1));
 }
 
-/// How often symbols were compared and one was cloned, and how many there are.
+/// How often symbols were compared, how often one was cloned, and how many symbols there are.
 pub fn tallied(tally: &Tally) -> (usize, usize, usize) {
     let alive = Rc::strong_count(tally).wrapping_sub(1);
     (tally.compared.get(), tally.cloned.get(), alive)
 }
 
-/// A symbol that counts what is done to it. Memory for a clone is refused where its number is the greatest `u32`.
+/// A symbol that counts what is done to it. A clone fails, as if memory were refused, if its number is `u32::MAX`.
 #[derive(Drop)]
 pub struct Watched {
     pub number: u32,
@@ -126,7 +126,7 @@ impl Clone for Watched {
     }
 }
 
-/// The symbols of so many numbers from 0 on, and a symbol of the number `last` after them.
+/// Symbols of the numbers `0..count`, and after them a symbol of the number `last`.
 pub fn symbols(
     alloc: Global,
     tally: &Tally,

@@ -1,4 +1,4 @@
-//! Contiguous models of given weights, over each width of words.
+//! Contiguous models of given weights, over words of each width.
 
 ghost use Rattle.std.specs.Prelude.{◌<◌, ◌≤◌};
 
@@ -6,14 +6,14 @@ use constriction::stream::model::{ContiguousCategoricalEntropyModel, ModelError}
 use constriction_words::WholeNumber;
 use std::alloc::Global;
 
-/// A model over words, of which only the word and the precision are named.
+/// A contiguous model over any words at any precision.
 pub type Model<Word, const PRECISION: usize> = ContiguousCategoricalEntropyModel<
     Word,
     Vec<Word>,
     PRECISION,
 >;
 
-/// The model of weights in a slice.
+/// The model of the weights in a slice.
 pub fn model_of<Word: WholeNumber, const PRECISION: usize>(
     alloc: Global,
     weights: &[Word],

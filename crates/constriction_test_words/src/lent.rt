@@ -1,5 +1,5 @@
-//! What a caller in another crate learns of the words that a cursor lends, and of its own words
-//! that a cursor wrote.
+//! What a caller in another crate knows of the words that a cursor lends, and of its own words after
+//! a cursor wrote them.
 
 ghost use Rattle.std.specs.Prelude.{◌≡◌, ◌<◌, length, slice_set};
 ghost use Rattle.constriction_backends.specs.Cursor.{buf_of, pos_of};
@@ -7,7 +7,7 @@ ghost use Rattle.constriction_backends.specs.Cursor.{buf_of, pos_of};
 use constriction_backends::{Cursor, ReadWords, SafeBuf, SafeBufMut, WriteWords};
 use constriction_words::{Pos, Queue, Seek};
 
-/// Sets the first word through the loan of all words.
+/// Sets the first word through a borrow of all words.
 pub fn set_first<Word: Copy, Buf: SafeBufMut<Word>>(cursor: &mut Cursor<Word, Buf>, word: Word)
     requires { 0 < length (Buf.words_of (buf_of cursor.old)) }
     ensures buf { buf_of cursor.new ≡ Buf.with_words (buf_of cursor.old) (slice_set (Buf.words_of (buf_of cursor.old)) 0 word) }
@@ -17,7 +17,7 @@ pub fn set_first<Word: Copy, Buf: SafeBufMut<Word>>(cursor: &mut Cursor<Word, Bu
     words[0] = word;
 }
 
-/// Sets the first word through the loan of the words before the position.
+/// Sets the first word through a borrow of the words before the position.
 #[tactic(auto, using(constriction_buffers::specs::BufferLaws::set_front))]
 pub fn set_written<Word: Copy, Buf: SafeBufMut<Word>>(cursor: &mut Cursor<Word, Buf>, word: Word)
     requires { 0 < pos_of cursor.old }
@@ -28,7 +28,7 @@ pub fn set_written<Word: Copy, Buf: SafeBufMut<Word>>(cursor: &mut Cursor<Word, 
     words[0] = word;
 }
 
-/// Sets the word at the position through the loan of the words from it on.
+/// Sets the word at the position through a borrow of the words from there on.
 #[tactic(auto, using(constriction_buffers::specs::BufferLaws::set_back))]
 pub fn set_unwritten<Word: Copy, Buf: SafeBufMut<Word>>(cursor: &mut Cursor<Word, Buf>, word: Word)
     requires { pos_of cursor.old < length (Buf.words_of (buf_of cursor.old)) }
@@ -40,7 +40,7 @@ pub fn set_unwritten<Word: Copy, Buf: SafeBufMut<Word>>(cursor: &mut Cursor<Word
     words[0] = word;
 }
 
-/// A slice of the caller's own, written through a cursor over it.
+/// Sets a word of the caller's own slice through a cursor over it.
 pub fn set_slice(words: &mut [u8], pos: usize, word: u8)
     requires { pos < length words.old }
     ensures { words.new ≡ slice_set words.old pos word }
@@ -50,7 +50,7 @@ pub fn set_slice(words: &mut [u8], pos: usize, word: u8)
     let _ = cursor.write(word);
 }
 
-/// The words that a cursor lends, written through another cursor.
+/// Sets the word at the position of a cursor through another cursor, over the words that it lends.
 pub fn set_through_another<Buf: SafeBufMut<u8>>(cursor: &mut Cursor<u8, Buf>, word: u8)
     requires { pos_of cursor.old < length (Buf.words_of (buf_of cursor.old)) }
     ensures buf { buf_of cursor.new ≡ Buf.with_words (buf_of cursor.old)
@@ -61,8 +61,8 @@ pub fn set_through_another<Buf: SafeBufMut<u8>>(cursor: &mut Cursor<u8, Buf>, wo
     set_slice(cursor.buf_mut(), pos, word);
 }
 
-/// The same in one function. The loan is named once more at the end, so that the other cursor
-/// borrows it and does not take it.
+/// The same in one function. It uses `words` once more at the end, so the other cursor reborrows
+/// the slice and does not move it.
 pub fn set_over_a_loan<Buf: SafeBufMut<u8>>(cursor: &mut Cursor<u8, Buf>, word: u8)
     requires { pos_of cursor.old < length (Buf.words_of (buf_of cursor.old)) }
     ensures buf { buf_of cursor.new ≡ Buf.with_words (buf_of cursor.old)
@@ -77,7 +77,7 @@ pub fn set_over_a_loan<Buf: SafeBufMut<u8>>(cursor: &mut Cursor<u8, Buf>, word: 
     let _ = words;
 }
 
-/// The words that a cursor lends are as they were after reads by such a cursor.
+/// Reads through such a cursor leave the words that were lent as they were.
 pub fn read_over_a_loan<Buf: SafeBufMut<u8>>(cursor: &mut Cursor<u8, Buf>) -> Option<u8>
     ensures buf { buf_of cursor.new ≡ buf_of cursor.old }
     ensures pos { pos_of cursor.new ≡ pos_of cursor.old }
@@ -92,7 +92,7 @@ pub fn read_over_a_loan<Buf: SafeBufMut<u8>>(cursor: &mut Cursor<u8, Buf>) -> Op
     }
 }
 
-/// Whatever is done to a view, the cursor stays at its position and has as many words.
+/// A view that writes leaves the cursor its position and the number of its words.
 pub fn move_a_view<Buf: SafeBufMut<u8>>(cursor: &mut Cursor<u8, Buf>)
     ensures pos { pos_of cursor.new ≡ pos_of cursor.old }
     ensures len { length (Buf.words_of (buf_of cursor.new)) ≡ length (Buf.words_of (buf_of cursor.old)) }
@@ -101,7 +101,7 @@ pub fn move_a_view<Buf: SafeBufMut<u8>>(cursor: &mut Cursor<u8, Buf>)
     let _ = view.write(8);
 }
 
-/// A slice of the caller's own is as it was after reads.
+/// Reads through a cursor leave the caller's own slice as it was.
 pub fn read_a_slice(words: &mut [u8]) -> Option<u8>
     ensures { words.new ≡ words.old }
 {
@@ -112,7 +112,7 @@ pub fn read_a_slice(words: &mut [u8]) -> Option<u8>
     }
 }
 
-/// A coder over a buffer of any kind, and one over a `Vec`, which repeats the bound of its cursor.
+/// A coder over any buffer. The next one is over a `Vec`, and repeats the bound of its cursor.
 #[derive(Drop)]
 pub struct Coder<Buf: SafeBuf<u8>> {
     pub words: Cursor<u8, Buf>,

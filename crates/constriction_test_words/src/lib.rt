@@ -1,7 +1,7 @@
-//! What a caller in another crate writes: a word type of its own, and loans of the words that a cursor holds.
+//! What a caller in another crate writes: a word type of its own, and functions that borrow the words of a cursor.
 //!
-//! They are proved here once, and asked in the crates of tests of words and of backends, which are
-//! proved with and without their tests.
+//! They stand here so that they are proved once. The crates of tests that use them are proved twice, with and without
+//! their tests.
 #![tactic(auto)]
 
 pub mod lent;

@@ -1,6 +1,6 @@
-//! A caller's own word: a 16-bit sample, which is a type of its own over `u16`.
+//! A caller's own word type: a sample of 16 bits, over `u16`.
 //!
-//! The files stand in the order in which the traits build on one another: `operators`, `number`,
+//! The traits build on one another, so the files are best read in this order: `operators`, `number`,
 //! `checked`, `integer`, then `nonzero`, `whole_number` and `word`.
 
 mod checked;
@@ -15,7 +15,7 @@ pub use crate::own_word::nonzero::NonZeroSample;
 use std::fmt;
 use std::fmt::{Display, Formatter, Write};
 
-/// A sample of 16 bits, whose number is from 0 to 65535.
+/// A sample of 16 bits: a number from 0 to 65535.
 #[derive(Clone, Copy, Debug, Default, PartialEq, Eq, PartialOrd, Ord, Hash)]
 pub struct Sample(pub u16);
 

@@ -59,13 +59,13 @@ narrowed_positive : (bits number : ℕ) (fits : Bool) → 0 < cond fits number 0
 narrowed_positive bits number true h = refl
 narrowed_positive bits number false h = absurd (omega arith)
 
--- a number below a smaller power is a word's
+-- a number below 2 ^ precision is a word, so narrowing keeps it
 pub narrowed_same : (bits precision number : ℕ) → precision ≤ bits → number < 2 ^ precision → narrowed_to bits number ≡ number
 narrowed_same bits precision number le below =
     let more : 2 ^ precision ≤ 2 ^ bits = pow-le-pow_right {n = 2} (omega arith) le in
     ap (λ b. cond b number 0) (lt-ltb number (2 ^ bits) (omega arith))
 
--- narrowed weights of which none is 0 are the weights
+-- if no narrowed weight is 0, the narrowed weights are the weights
 all_positive : (bits : ℕ) (weights : List ℕ) → All (λ w. 0 < w) (map (narrowed_to bits) weights)
     → map (narrowed_to bits) weights ≡ weights
 all_positive bits [] h = refl
@@ -86,7 +86,7 @@ not_true : (b : Bool) → (b ≡ true → ⊥) → b ≡ false
 not_true true h = absurd (h refl)
 not_true false h = refl
 
--- words that stand for numbers
+-- numbers that fit have words with these numbers
 words_for : {Word : Type 0} (whole : Word → ℕ) (word_of : ℕ → Word) (bits : ℕ)
     → ((n : ℕ) → n < 2 ^ bits → whole (word_of n) ≡ n)
     → (numbers : List ℕ) → All (λ n. n < 2 ^ bits) numbers → map whole (map word_of numbers) ≡ numbers
@@ -115,7 +115,7 @@ module _ {S Word : Type 0} (steps : S → Option Word → S → Type 0) (it : S)
       → map whole xs ≡ map (narrowed_to bits) weights
   given_all xs gives d = (YieldsList-end gives xs d.1.0 d.1.1 None d.0 refl d.1.2).0
 
-  -- good ones are accepted weights
+  -- if the iterator gave good numbers, the weights are accepted
   pub made_of : (rows : List ℕ → Type 0)
       → GaveGood steps it (λ xs. IsAccepted bits precision (completed precision infer (map whole xs))
       × rows (completed precision infer (map whole xs)))
@@ -129,7 +129,7 @@ module _ {S Word : Type 0} (steps : S → Option Word → S → Type 0) (it : S)
       let whole_weights : P weights = subst P (all_positive bits weights positive) narrow in
       (are_accepted-from bits precision (completed precision infer weights) whole_weights.0, whole_weights.1)
 
-  -- bad ones are not accepted
+  -- if the iterator gave bad numbers, the weights are not accepted
   pub refused_of : (word_of : ℕ → Word) → ((n : ℕ) → n < 2 ^ bits → whole (word_of n) ≡ n)
       → GaveBad steps it (λ xs. IsAccepted bits precision (completed precision infer (map whole xs)))
       → YieldsList steps whole it (map (narrowed_to bits) weights)
@@ -152,7 +152,7 @@ module _ {S Word : Type 0} (steps : S → Option Word → S → Type 0) (it : S)
             some.3 (map word_of (drop n weights)) (subst Good (sym whole_list) accepted)
       ])
 
--- ---- what was made of such an iterator, of which only what it came from is known
+-- ---- what was made of an iterator, if it is only known where the iterator came from
 
 module _ {S Word : Type 0} (steps : S → Option Word → S → Type 0) (came : S → Type 0) (whole : Word → ℕ)
     (bits precision : ℕ) (infer : Bool) (weights : List ℕ) where
@@ -187,7 +187,7 @@ module _ {S Word : Type 0} (steps : S → Option Word → S → Type 0) (came : 
       (YieldsList-at (gives.alone h.0 h.1) gives.narrowed)
   found_refused (Err error) word_of law h gives = tt
 
--- each of two facts of what was found
+-- two facts about what was found are each true of it
 pub first_found : {Model Error : Type 0} (result : Result (Option Model) Error) (P : Type 0) (Q : Model → Type 0)
     → IfOk result (λ found. IfSome found (λ model. P × Q model)) → IfOk result (λ found. IfSome found (λ _. P))
 first_found (Ok (Some model)) P Q h = h.0

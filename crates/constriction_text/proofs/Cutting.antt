@@ -4,14 +4,14 @@ use Rattle.std.specs.List.{slice_split}
 use Rattle.std.proofs.lemmas.List.Splits.{length-slice_split}
 use Rattle.constriction_text.specs.Text.{lines_of, without_last_empty}
 
--- a part before others is a line
+-- a part that others follow is a line
 before_others : (line : List ℕ) (parts : List (List ℕ)) → 0 < length parts
     → without_last_empty (line ∷ parts) ≡ line ∷ without_last_empty parts
 before_others line [] some = absurd (omega arith)
 before_others [] (next ∷ parts) some = refl
 before_others (byte ∷ bytes) (next ∷ parts) some = refl
 
--- the first line and the others, where a byte 10 stands
+-- if there is a byte 10, the first line ends there, and the others are those of what follows
 pub lines_of-cut : (bytes line rest : List ℕ) → slice_split (λ b. eqb b 10) bytes ≡ line ∷ slice_split (λ b. eqb b 10) rest
     → lines_of bytes ≡ line ∷ lines_of rest
 lines_of-cut bytes line rest e =
@@ -22,7 +22,7 @@ last_line : (line : List ℕ) → 0 < length line → without_last_empty (line �
 last_line [] some = absurd (omega arith)
 last_line (byte ∷ bytes) some = refl
 
--- where none stands, the bytes are a line
+-- if there is none, the bytes are one line
 pub lines_of-last : (bytes line : List ℕ) → slice_split (λ b. eqb b 10) bytes ≡ line ∷ [] → 0 < length line
     → lines_of bytes ≡ line ∷ []
 lines_of-last bytes line e some = ap without_last_empty e ∙ last_line line some

@@ -25,7 +25,7 @@ none_is_none x e = cc
 pub some_inj : {A : Type 0} (x y : A) → Some x ≡ Some y → x ≡ y
 some_inj x y e = cc
 
--- a search that found something: here, or further down
+-- a search that found something found it here or further down
 found_where : {X C : Type 0} (passes : Bool) (x found : X) (rest : Option X) → cond passes (Some x) rest ≡ Some found
     → (passes ≡ true → x ≡ found → C) → (rest ≡ Some found → C) → C
 found_where true x found rest e here later = here refl (some_inj x found e)
@@ -122,7 +122,7 @@ request_read (quantile format q ws) = refl
 request_read (symbol format s ws) = refl
 request_read (uniform format n) = refl
 
--- a word that is no keyword
+-- a word that is no keyword makes no request
 pub no_request : (word : List ℕ) (format : Format) (numbers : Option (List ℕ)) → bytes_eq word (codes "table") ≡ false
     → bytes_eq word (codes "infer") ≡ false
     → bytes_eq word (codes "quantile") ≡ false
@@ -136,7 +136,7 @@ no_request word format (Some (n ∷ [])) no_table no_infer no_quantile no_symbol
 no_request word format (Some (n ∷ m ∷ ns)) no_table no_infer no_quantile no_symbol no_uniform =
     rw (no_table, no_infer, no_quantile, no_symbol) refl
 
--- the request for a uniform model, from one number alone
+-- the keyword `uniform` makes a request of a single number, and of no other numbers
 uniform_request : (format : Format) (numbers : Option (List ℕ))
     → (numbers >>= read_request (codes "uniform") format) ≡ option_map (uniform format) (numbers >>= only_number)
 unfolding read_request
@@ -145,7 +145,7 @@ uniform_request format (Some []) = refl
 uniform_request format (Some (n ∷ [])) = refl
 uniform_request format (Some (n ∷ m ∷ ns)) = refl
 
--- the keyword of that request
+-- so does a word that is this keyword
 pub uniform_read : (word : List ℕ) (format : Format) (numbers : Option (List ℕ)) (range : Option ℕ)
     → bytes_eq word (codes "uniform") ≡ true → range ≡ (numbers >>= only_number)
     → option_map (uniform format) range ≡ (numbers >>= read_request word format)
@@ -184,7 +184,7 @@ has_space (b ∷ bs) = eqb b 32 || has_space bs
 has_space-onto : (b : ℕ) (bs : List ℕ) (h : (b ≡ 32) → ⊥) → has_space bs ≡ false → has_space (b ∷ bs) ≡ false
 has_space-onto b bs h e = rw (ne_eqb b 32 h, e)
 
--- a word with no space, at the end and before one
+-- a word without a space is one part at the end of a line, and the first part before a space
 split_last : (word : List ℕ) → has_space word ≡ false → slice_split (λ b. eqb b 32) word ≡ word ∷ []
 split_last [] e = refl
 split_last (b ∷ bs) e =
@@ -202,7 +202,7 @@ abbrev NoSpaces : List (List ℕ) → Type 0
 NoSpaces [] = Unit {0}
 NoSpaces (word ∷ words) = (has_space word ≡ false) × NoSpaces words
 
--- words are found again where they were joined
+-- words that are joined by spaces are the parts between the spaces
 split_joined : (word : List ℕ) (words : List (List ℕ)) → has_space word ≡ false → NoSpaces words
     → slice_split (λ b. eqb b 32) (join_with_byte 32 (word ∷ words)) ≡ word ∷ words
 split_joined word [] e h = split_last word e
@@ -291,11 +291,11 @@ line_read line request spelled =
     (format_no_space (format_of request), numbers_no_space h.0 (numbers_of request) h.1) in
     ap read_words words ∙ words_read request h.0 h.1
 
--- where reading finds nothing, the line spells nothing
+-- if reading finds nothing, the line spells no request
 pub spells_none : (line : List ℕ) → read_line line ≡ None → (request : Request) → ¬ (Spells line request)
 spells_none line none request spelled = none_is_none request (sym none ∙ line_read line request spelled)
 
--- what a parser found, in either case
+-- if a parser finds what `read_line` finds, the line spells it
 pub line_found : {E : Type 0} (line : List ℕ) (r : Result (Option Command) E)
     → IfOk r (λ found. option_map view found ≡ read_line line)
     → IfOk r (λ found. IfSome found (λ command. Spells line (view command)))

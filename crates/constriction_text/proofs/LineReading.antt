@@ -21,13 +21,13 @@ more_words : (line key text word : List ℕ) (words : List (List ℕ))
 unfolding read_line read_words
 more_words line key text word words parts others = rw (parts, others)
 
--- neither does one whose second word names no format
+-- a line whose second word names no format asks for nothing
 pub no_format : (line key text word : List ℕ) (words : List (List ℕ))
     → slice_split (λ byte. byte == 32) line ≡ key ∷ slice_split (λ byte. byte == 32) text
     → slice_split (λ byte. byte == 32) text ≡ word ∷ words → None ≡ read_format word → None ≡ read_line line
 no_format line key text word words parts others none = rw (more_words line key text word words parts others, sym none)
 
--- and one with a format asks for what the words after it do
+-- a line whose second word names a format asks for what its keyword makes of the words after it
 pub with_format : {E : Type 0} (line key text word : List ℕ) (words : List (List ℕ)) (format : Format)
     (read : Result (Option Command) E) → slice_split (λ byte. byte == 32) line ≡ key ∷ slice_split (λ byte. byte == 32) text
     → slice_split (λ byte. byte == 32) text ≡ word ∷ words

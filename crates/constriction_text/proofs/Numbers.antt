@@ -21,7 +21,7 @@ value_grows_by n i [] h = absurd (omega arith)
 value_grows_by n zero (d ∷ ds) h = value_grows (n * 10 + digit_value d) ds
 value_grows_by n (suc i) (d ∷ ds) h = value_grows_by n i ds (omega arith)
 
--- a word of a greater value is no number
+-- a word whose value is 2 ^ 64 or more is no number
 pub read_number-large : (word : List ℕ) → 2 ^ 64 ≤ digits_value 10 word → read_number word ≡ None
 unfolding read_number
 read_number-large word h = rw (le-ltb (digits_value 10 word) (2 ^ 64) h)
@@ -31,7 +31,7 @@ pub read_number-some : (word : List ℕ) → all_ascii_digits word ≡ true → 
 unfolding read_number
 read_number-some word digits some few small = grind arith
 
--- numbers before those that were read
+-- the numbers in front, and then those that were read
 abbrev pub after : List ℕ → Option (List ℕ) → Option (List ℕ)
 after front read = read >>= λ numbers. Some (front ++ numbers)
 
@@ -39,7 +39,7 @@ pub after_nothing : (read : Option (List ℕ)) → after [] read ≡ read
 after_nothing None = refl
 after_nothing (Some numbers) = refl
 
--- a word that is no number
+-- if the next word is no number, the words have no numbers
 pub numbers_none : (word : List ℕ) (words parts : List (List ℕ)) (front : List ℕ) (all : Option (List ℕ))
     → parts ≡ word ∷ words → None ≡ read_number word → after front (read_numbers parts) ≡ all → None ≡ all
 unfolding read_numbers
@@ -50,7 +50,7 @@ after_one : (front more : List ℕ) (number : ℕ) (read : Option (List ℕ)) �
 after_one front more number None e = refl
 after_one front more number (Some numbers) e = ap (λ l. Some (l ++ numbers)) e ∙ ap Some (append_assoc front (number ∷ []) numbers)
 
--- a word that is one
+-- if the next word is a number, it joins the numbers in front
 pub numbers_some : (word : List ℕ) (words parts : List (List ℕ)) (number : ℕ) (front more : List ℕ) (all : Option (List ℕ))
     → parts ≡ word ∷ words → Some number ≡ read_number word → more ≡ front ++ number ∷ []
     → after front (read_numbers parts) ≡ all → after more (read_numbers words) ≡ all
@@ -59,12 +59,12 @@ numbers_some word words parts number front more all e some pushed before =
     let step : after front (Some number >>= λ n. read_numbers words >>= λ ns. Some (n ∷ ns)) ≡ all = rw (e, sym some) at before in
     after_one front more number (read_numbers words) pushed ∙ step
 
--- all words were read
+-- if no word is left, the numbers in front are all
 pub numbers_end : (front : List ℕ) (all : Option (List ℕ)) → after front (read_numbers []) ≡ all → Some front ≡ all
 unfolding read_numbers
 numbers_end front all before = ap Some (sym (append-nil front)) ∙ before
 
--- all digits were read
+-- if no digit is left, the value so far is the number of the word
 pub read_number-end : (word : List ℕ) (i n : ℕ) → length word ≤ i → all_ascii_digits (drop i word) ≡ all_ascii_digits word
     → digits_value_after 10 n (drop i word) ≡ digits_value 10 word → 0 < length word → length word ≤ 20 → n < 2 ^ 64
     → Some n ≡ read_number word
@@ -88,7 +88,7 @@ of_two word next words = read_two (read_number word) (read_number next) (read_nu
     read_two (Some n) (Some m) None = refl
     read_two (Some n) (Some m) (Some ns) = refl
 
--- what follows a separator has a word at least
+-- words with a separator are not one number
 pub only_of_more : (word more : List ℕ) (parts : List (List ℕ)) → parts ≡ word ∷ slice_split (λ byte. eqb byte 32) more
     → None ≡ (read_numbers parts >>= only_number)
 only_of_more word more parts e =

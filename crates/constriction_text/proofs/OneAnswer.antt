@@ -1,4 +1,4 @@
--- What `answer_of`, `answer_to` and `answers_of` give is what answers a request, a line and lines, and nothing else is.
+-- `answer_of`, `answer_to` and `answers_of` give the only answer to a request, a line and lines.
 use Rattle.std.proofs.Common.{refl, subst, ◌≡◌, ℕ, Bool, true, false, cond, List, [], ◌∷◌, ◌++◌, Option, Some, None, ap, sym, ◌∙◌, codes, inl, inr}
 use Rattle.std.specs.List.{AllZip, concat}
 use Rattle.constriction_model.specs.Acceptance.{completed}
@@ -67,7 +67,7 @@ is_reply : (line : List ℕ) (asked : Option Request) → read_line line ≡ ask
 is_reply line (Some request) e = inl (request, line_spelled line request e, answered request)
 is_reply line None e = inr (spells_none line e, refl)
 
--- what was found is what a line asks for
+-- the answer to the request that a line spells is the answer to the line
 pub answer_found : (line : List ℕ) (request : Request) → Spells line request → answer_of request ≡ answer_to line
 unfolding answer_to
 answer_found line request spelled = sym (ap reply_to (line_read line request spelled))
@@ -84,7 +84,7 @@ pub is_answer : (line : List ℕ) → IsAnswer line (answer_to line)
 unfolding answer_to
 is_answer line = is_reply line (read_line line) refl
 
--- an answer that was added to an empty text
+-- an answer that is added to an empty text is the whole text
 pub is_answer_alone : (line before text : List ℕ) → before ≡ [] → text ≡ before ++ answer_to line → IsAnswer line text
 is_answer_alone line before text none added =
     subst (IsAnswer line) (sym (added ∙ ap (λ b. b ++ answer_to line) none)) (is_answer line)

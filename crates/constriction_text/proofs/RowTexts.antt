@@ -13,7 +13,7 @@ pub quantile_line : (bits precision : ℕ) (rows : List (Row ℕ)) (q : ℕ) (r 
     → row_text r ≡ quantile_text precision rows q
 quantile_line bits precision rows q r below tile is = rw (lt-ltb q (2 ^ precision) below, find_row bits precision rows q r tile is) refl
 
--- the row of a quantile, where its numbers are known by other names
+-- a row with equal numbers is the row of the quantile too
 pub same_row : (rows : List (Row ℕ)) (q q' s l l' w w' : ℕ)
     → IsRowOf rows q' (record { symbol = s; left = l'; weight = w' }) → q' ≡ q → l ≡ l' → w ≡ w'
     → IsRowOf rows q (record { symbol = s; left = l; weight = w })

@@ -18,7 +18,7 @@ no_position : (n i : ℕ) (b : Bool) → nat_lt i n ≡ b → None ≡ cond b (S
 no_position n i true t e = absurd (cc)
 no_position n i false t e = ltb-false i n t
 
--- where a separator stands, the first part ends, and the others are those of what follows
+-- the first part ends at the first separator, and the other parts are those of what follows
 pub cut_at : (p : ℕ → Bool) (bytes : List ℕ) (at : ℕ) → Some at ≡ position p bytes
     → slice_split p bytes ≡ take at bytes ∷ slice_split p (take (length bytes - (at + 1)) (drop (at + 1) bytes))
 cut_at p bytes at e =
@@ -28,7 +28,7 @@ cut_at p bytes at e =
     slice_split_first p bytes 0 found.1 ∙ ap (λ i. take i bytes ∷ slice_split p (drop (i + 1) bytes)) (sym found.0)
     ∙ ap (λ r. take at bytes ∷ slice_split p r) (sym rest)
 
--- where none stands, there is one part
+-- without a separator there is one part
 pub cut_nowhere : (p : ℕ → Bool) (bytes : List ℕ) → None ≡ position p bytes → slice_split p bytes ≡ bytes ∷ []
 cut_nowhere p bytes e =
     let past = no_position (length bytes) (position_or_len p bytes) (nat_lt (position_or_len p bytes) (length bytes)) refl e in

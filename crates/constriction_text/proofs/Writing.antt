@@ -17,14 +17,14 @@ use Rattle.constriction_text.specs.Runs.{WritesBeginning, WritesAnswersBefore}
 pub rest_of : (at : ℕ) (bytes : List ℕ) → take (length bytes - at) (drop at bytes) ≡ drop at bytes
 rest_of at bytes = take_all (length bytes - at) (drop at bytes) (omega (arith, length-drop at bytes))
 
--- a turn that took some bytes
+-- after a turn that took some bytes, a longer beginning was written
 pub written_more : (a b c : Option (List ℕ)) (at count : ℕ) (bytes : List ℕ) → Appends a b (take at bytes)
     → Appends b c (take count (take (length bytes - at) (drop at bytes))) → Appends a c (take (at + count) bytes)
 written_more a b c at count bytes before turn =
     subst (Appends a c) (ap (λ r. take at bytes ++ take count r) (rest_of at bytes)
     ∙ sym (take-add at count bytes)) (Appends-trans a b c _ _ before turn)
 
--- a turn that took none
+-- after a turn that took no bytes, a beginning was written
 pub stopped_at : (a b c : Option (List ℕ)) (at : ℕ) (bytes : List ℕ) → Appends a b (take at bytes) → Keeps b c
     → WritesBeginning a c bytes
 stopped_at a b c at bytes before kept =
@@ -88,7 +88,7 @@ answered-written a b c input rest text left so_far turn = record {
   wrote = Appends-trans a b c so_far.written turn.0 so_far.wrote turn.2;
 }
 
--- all of the text was written, and a line was left
+-- if all of the text was written and a line is left, the answers to the lines before it were written
 pub answered-before : (a b c : Option (List ℕ)) (line input rest after text : List ℕ) → Answered a b input rest text
     → lines_of rest ≡ line ∷ lines_of after → Appends b c text → WritesAnswersBefore a c input
 answered-before a b c line input rest after text so_far cut turn = (
@@ -105,7 +105,7 @@ no-lines : (rest : List ℕ) → length rest ≡ 0 → lines_of rest ≡ []
 no-lines [] none = refl
 no-lines (byte ∷ bytes) none = absurd (omega arith)
 
--- and no line was left
+-- if all of the text was written and no line is left, all answers were written
 pub answered-all : (a b c : Option (List ℕ)) (input rest text : List ℕ) → Answered a b input rest text → Appends b c text
     → length rest ≡ 0 → (whole : List ℕ) × IsTextOf input whole × Appends a c whole
 answered-all a b c input rest text so_far turn none =
@@ -116,7 +116,7 @@ answered-all a b c input rest text so_far turn none =
       subst (Appends a c) (so_far.answers ∙ ap answers_of lines) (Appends-trans a b c so_far.written text so_far.wrote turn),
     )
 
--- a beginning of the text was written
+-- if a beginning of the text was written, a beginning of all answers was written
 pub answered-stopped : (a b c : Option (List ℕ)) (input rest text : List ℕ) → Answered a b input rest text
     → WritesBeginning b c text → (written rest : List ℕ) × IsTextOf input (written ++ rest) × Appends a c written
 answered-stopped a b c input rest text so_far turn =
@@ -134,7 +134,7 @@ answered-stopped a b c input rest text so_far turn =
       Appends-trans a b c so_far.written turn.0 so_far.wrote turn.3,
     )
 
--- a fault that was handed on
+-- a fault that was handed on is the same fault
 pub same-fault : {T F : Type 0} (x y : F) → ◌≡◌ {A = Result T F} (Err x) (Err y) → x ≡ y
 same-fault x y e = cc
 

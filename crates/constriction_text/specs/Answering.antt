@@ -1,4 +1,4 @@
--- What answers a request, a line and an input, as functions. No public clause cites this module.
+-- The texts that answer a request, a line and an input, as functions. No public clause cites this module.
 use Rattle.std.specs.Prelude.{ℕ, ◌^◌, Bool, true, ◌&&◌, ◌==◌, nat_lt, List, codes, sum, Option, Some, None, if◌then◌else◌}
 use Rattle.std.specs.List.{flat_map, list_all}
 use Rattle.constriction_model.specs.Acceptance.{completed}
@@ -7,12 +7,12 @@ use Rattle.constriction_text.specs.Grammar.{Request, table, infer, quantile, sym
 use Rattle.constriction_text.specs.Reading.{read_line}
 use Rattle.constriction_text.specs.Text.{lines_of, rows_text, quantile_text, symbol_text, uniform_text}
 
--- whether weights are accepted at words of so many bits: each is positive and a word, and their sum is 2 ^ precision
+-- whether weights are accepted over words of `bits` bits: each is positive and a word, and their sum is 2 ^ precision
 abbrev pub are_accepted : ℕ → ℕ → List ℕ → Bool
 are_accepted bits precision weights =
     list_all (λ weight. nat_lt 0 weight && nat_lt weight (2 ^ bits)) weights && sum weights == 2 ^ precision
 
--- the text of the rows of a model of these weights, where they are accepted
+-- the text of the rows of a model of these weights if they are accepted, and otherwise that they are invalid
 abbrev pub text_of_model : ℕ → ℕ → List ℕ → (List (Row ℕ) → List ℕ) → List ℕ
 text_of_model bits precision weights text =
     if are_accepted bits precision weights then text (contiguous_rows weights) else codes "invalid\n"
@@ -27,7 +27,7 @@ answer_of (quantile format q weights) =
 answer_of (symbol format s weights) = text_of_model (bits_of format) (precision_of format) weights (λ rows. symbol_text rows s)
 answer_of (uniform format n) = uniform_text (precision_of format) n
 
--- the answer to what a line asks for
+-- the answer to a line that spells this request, or none
 abbrev pub reply_to : Option Request → List ℕ
 reply_to (Some request) = answer_of request
 reply_to None = codes "bad line\n"

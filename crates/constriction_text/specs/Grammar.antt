@@ -25,8 +25,8 @@ precision_of U8Precision6 = 6
 precision_of U8Precision8 = 8
 precision_of U16Precision12 = 12
 
--- What a line asks for: all rows of weights, all rows where the last weight is inferred, the row of a quantile, the row of a symbol, or
--- all rows of a uniform model of so many symbols.
+-- What a line asks for: all rows of weights, all rows if the last weight is inferred, the row of a quantile, the row of a symbol, or
+-- all rows of a uniform model with a given number of symbols.
 pub data Request : Type 0 where
   table : Format → List ℕ → Request
   infer : Format → List ℕ → Request
@@ -42,7 +42,7 @@ format_of (quantile format q weights) = format
 format_of (symbol format s weights) = format
 format_of (uniform format n) = format
 
--- the request that a command is, without where its numbers lie in memory
+-- the request of a command: the same with lists in the place of a `Vec`
 abbrev pub view : Command → Request
 view (command.Table format weights) = table format weights.items
 view (command.Infer format weights) = infer format weights.items

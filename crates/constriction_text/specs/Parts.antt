@@ -1,8 +1,8 @@
--- What is left of bytes that were cut once, and of the numbers of a line. No public clause cites this module.
+-- The parts of what follows a separator, and the first numbers of a line. No public clause cites this module.
 use Rattle.std.specs.Prelude.{ℕ, List, [], ◌∷◌, Option, Some, None, ◌==◌}
 use Rattle.std.specs.List.{slice_split}
 
--- the parts of what follows a separator, where one stands
+-- the parts of what follows a separator; none without a separator
 abbrev pub parts_of : ℕ → Option (List ℕ) → List (List ℕ)
 parts_of separator None = []
 parts_of separator (Some bytes) = slice_split (λ byte. byte == separator) bytes

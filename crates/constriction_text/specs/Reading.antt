@@ -10,7 +10,7 @@ use Rattle.constriction_text.specs.Grammar.{Request, table, infer, quantile, sym
 use Rattle.constriction_text.specs.Grammar.{format_word}
 
 infixl 10 ◌>>=◌
--- the next step, where the one before found something
+-- the next step, if the one before found something
 abbrev pub ◌>>=◌ : {A B : Type 0} → Option A → (A → Option B) → Option B
 found >>= next = option_and_then next found
 
@@ -36,7 +36,7 @@ read_number word =
     if nat_lt (digits_value 10 word) (2 ^ 64) && all_ascii_digits word && nat_lt 0 (length word) && nat_le (length word) 20
     then Some (digits_value 10 word) else None
 
--- the numbers of words that all spell one
+-- the numbers of words, if each spells one
 unfoldable pub read_numbers : List (List ℕ) → Option (List ℕ)
 read_numbers [] = Some []
 read_numbers (word ∷ words) = do
@@ -52,12 +52,12 @@ formats = U8Precision6 ∷ U8Precision8 ∷ U16Precision12 ∷ []
 unfoldable pub read_format : List ℕ → Option Format
 read_format word = find (λ format. bytes_eq word (format_word format)) formats
 
--- the request that a format and one number alone can belong to
+-- the requests that a format, a first number and no others can belong to
 abbrev pub requests_of_one : Format → ℕ → List ℕ → List Request
 requests_of_one format number [] = uniform format number ∷ []
 requests_of_one format number (other ∷ others) = []
 
--- the requests that a format and a first number, with any others after it, can belong to
+-- the requests of at least one number that a format and numbers can belong to
 abbrev pub requests_of_some : Format → List ℕ → List Request
 requests_of_some format [] = []
 requests_of_some format (first ∷ others) = quantile format first others ∷ symbol format first others ∷ requests_of_one format first others
@@ -66,7 +66,7 @@ requests_of_some format (first ∷ others) = quantile format first others ∷ sy
 abbrev pub requests_of : Format → List ℕ → List Request
 requests_of format numbers = table format numbers ∷ infer format numbers ∷ requests_of_some format numbers
 
--- the one that a word is the keyword of
+-- the request among them whose keyword is the word
 unfoldable pub read_request : List ℕ → Format → List ℕ → Option Request
 read_request word format numbers = find (λ request. bytes_eq word (keyword request)) (requests_of format numbers)
 

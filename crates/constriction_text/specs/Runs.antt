@@ -1,11 +1,11 @@
--- What a run over a reader and a writer leaves.
+-- What a run reads and writes.
 use Rattle.std.specs.Prelude.{ℕ, ◌≡◌, List, ◌∷◌, ◌++◌, Option}
 use Rattle.std.specs.Io.KnownBytes.{Appends, Consumes}
 use Rattle.constriction_text.specs.declared.fault.RunFault.{RunFault}
 use Rattle.constriction_text.specs.declared.fault.RunFault.TheVariants.{Read, Write, TooLong, OutOfMemory}
 use Rattle.constriction_text.specs.Text.{AreAnswers, lines_of}
 
--- the most bytes of an input
+-- the greatest number of bytes of an input
 abbrev pub limit : ℕ
 limit = 1048576
 
@@ -24,7 +24,7 @@ HasRead old new P = (input : List ℕ) × Consumes old new input × P input
 abbrev pub WritesBeginning : Option (List ℕ) → Option (List ℕ) → List ℕ → Type 0
 WritesBeginning old new text = (written rest : List ℕ) × (written ++ rest ≡ text) × Appends old new written
 
--- the answers to the lines before one of an input were written, each whole, and nothing else
+-- the answers to the lines of an input before one of them were written, each whole, and nothing else
 abbrev pub WritesAnswersBefore : Option (List ℕ) → Option (List ℕ) → List ℕ → Type 0
 WritesAnswersBefore old new input =
     (before after : List (List ℕ)) × (line text : List ℕ) × (before ++ line ∷ after ≡ lines_of input)

@@ -9,14 +9,14 @@ use Rattle.constriction_model.specs.Scanning.{holds}
 use Rattle.constriction_text.specs.declared.line.Format.{Format}
 use Rattle.constriction_text.specs.Grammar.{Request, table, infer, quantile, symbol, uniform, bits_of, precision_of, Spells}
 
--- parts, of which a last empty one is dropped
+-- the parts without the last one if that is empty
 abbrev pub without_last_empty : List (List ℕ) → List (List ℕ)
 without_last_empty [] = []
 without_last_empty ([] ∷ []) = []
 without_last_empty ((byte ∷ bytes) ∷ []) = (byte ∷ bytes) ∷ []
 without_last_empty (part ∷ (next ∷ parts)) = part ∷ without_last_empty (next ∷ parts)
 
--- the lines of an input: its parts between the bytes 10, but for a last empty one
+-- the lines of an input: its parts between the bytes 10, without the last one if that is empty
 abbrev pub lines_of : List ℕ → List (List ℕ)
 lines_of input = without_last_empty (slice_split (λ byte. byte == 10) input)
 
@@ -28,24 +28,24 @@ row_text row = decimal row.symbol ++ codes " " ++ decimal row.left ++ codes " " 
 abbrev pub rows_text : List (Row ℕ) → List ℕ
 rows_text rows = flat_map row_text rows
 
--- the line of the row that holds a quantile: of rows that tile one is found for each quantile below 2 ^ precision, by the law
+-- the line of the row that holds a quantile below 2 ^ precision; if the rows tile, there is one, by the law
 -- `each_quantile_in_range_has_a_row`
 abbrev pub quantile_text : ℕ → List (Row ℕ) → ℕ → List ℕ
 quantile_text precision rows q =
     if nat_lt q (2 ^ precision) then option_map_or row_text (find (holds q) rows) [] else codes "range\n"
 
--- the line of a symbol's row, where it has an entry
+-- the line of a symbol's entry, if it has one
 abbrev pub symbol_text : List (Row ℕ) → ℕ → List ℕ
 symbol_text rows s =
     option_map_or (λ entry. row_text (record { symbol = s; left = entry.0; weight = entry.1 }))
     (entry_of nat_eq rows s) (codes "none\n")
 
--- the lines of a uniform model of n symbols, of which there are at least two, and no more than quantiles
+-- the lines of a uniform model of n symbols, if n is at least 2 and at most the number of quantiles
 abbrev pub uniform_text : ℕ → ℕ → List ℕ
 uniform_text precision n =
     if nat_le 2 n && nat_le n (2 ^ precision) then rows_text (uniform_rows precision n) else codes "range\n"
 
--- the text is that of the rows of a model of these weights, where one accepts them, and else says that they are invalid
+-- the text is that of the rows of these weights if they are accepted, and otherwise says that they are invalid
 abbrev pub IsTextOfModel : Format → List ℕ → (List (Row ℕ) → List ℕ) → List ℕ → Type 0
 IsTextOfModel format weights text_of_rows text =
     (IsAccepted (bits_of format) (precision_of format) weights × (text ≡ text_of_rows (contiguous_rows weights)))

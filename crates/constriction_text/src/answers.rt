@@ -13,7 +13,7 @@ use constriction_categorical::ContiguousCategoricalEntropyModel;
 use constriction_model::UniformModel;
 use std::alloc::{AllocError, Global};
 
-/// Adds the lines of all rows of weights, or that they are not accepted.
+/// Adds the lines of all rows of weights, or says that the weights are not accepted.
 fn push_table_of<M: LineModel<PRECISION>, const PRECISION: usize>(
     alloc: Global,
     text: &mut String,
@@ -31,7 +31,7 @@ fn push_table_of<M: LineModel<PRECISION>, const PRECISION: usize>(
     }
 }
 
-/// Adds the line of a quantile's row, or that the quantile is out of range.
+/// Adds the line of a quantile's row, or says that the quantile is out of range.
 fn push_quantile<M: LineModel<PRECISION>, const PRECISION: usize>(
     text: &mut String,
     model: &M,
@@ -48,7 +48,7 @@ fn push_quantile<M: LineModel<PRECISION>, const PRECISION: usize>(
     push_row(text, symbol, left, weight)
 }
 
-/// Adds the line of a quantile's row among those of weights, or what is wrong.
+/// Adds the line of a quantile's row among the rows of weights, or says what is wrong.
 fn push_quantile_of<M: LineModel<PRECISION>, const PRECISION: usize>(
     alloc: Global,
     text: &mut String,
@@ -67,7 +67,7 @@ fn push_quantile_of<M: LineModel<PRECISION>, const PRECISION: usize>(
     }
 }
 
-/// Adds the line of a symbol's row, or that the symbol has none.
+/// Adds the line of a symbol's row, or says that the symbol has none.
 fn push_symbol<M: LineModel<PRECISION>, const PRECISION: usize>(
     text: &mut String,
     model: &M,
@@ -83,7 +83,7 @@ fn push_symbol<M: LineModel<PRECISION>, const PRECISION: usize>(
     }
 }
 
-/// Adds the line of a symbol's row among those of weights, or what is wrong.
+/// Adds the line of a symbol's row among the rows of weights, or says what is wrong.
 fn push_symbol_of<M: LineModel<PRECISION>, const PRECISION: usize>(
     alloc: Global,
     text: &mut String,
@@ -101,7 +101,7 @@ fn push_symbol_of<M: LineModel<PRECISION>, const PRECISION: usize>(
     }
 }
 
-/// Adds the lines of all rows of a uniform model, or that there is none of so many symbols.
+/// Adds the lines of all rows of a uniform model, or says that no uniform model has this many symbols.
 fn push_uniform<U: UniformRows<PRECISION>, const PRECISION: usize>(
     text: &mut String,
     range: u64,
@@ -154,7 +154,7 @@ fn push_at<M: LineModel<PRECISION>, U: UniformRows<PRECISION>, const PRECISION: 
     }
 }
 
-/// The models of weights over words of a format.
+/// The model of weights over `Word` and `PRECISION`.
 type Weighted<Word, const PRECISION: usize> = ContiguousCategoricalEntropyModel<
     Word,
     Vec<Word>,

@@ -8,7 +8,7 @@ use thiserror::Error;
 /// What stops a run before the whole text is written.
 #[derive(Debug, Clone, Copy, PartialEq, Eq, Drop, Error)]
 pub enum RunFault {
-    /// The reader answered an error, an interruption too. Nothing was written.
+    /// The reader answered an error, which may be an interruption. Nothing was written.
     #[error("The input could not be read.")]
     Read,
     /// The writer answered an error, or took no byte. A beginning of the text was written.
@@ -17,8 +17,8 @@ pub enum RunFault {
     /// The input is longer than 1,048,576 bytes. Nothing was written.
     #[error("The input is too long.")]
     TooLong,
-    /// Memory was refused. Where that was for the answer to a line, the answers to the lines before it were written, each of them whole;
-    /// otherwise nothing was.
+    /// Memory was refused. If it was asked for to answer a line, the answers to the lines before it were written, each whole;
+    /// otherwise nothing was written.
     #[error("Memory was refused.")]
     OutOfMemory,
 }

@@ -1,7 +1,7 @@
-//! Whole texts that ask for the rows of models.
+//! Texts whose lines ask for the rows of models.
 //!
-//! [`run`] reads an input to its end and writes the answer to each of its lines; [`parse`] is the grammar of a
-//! line, [`answer`] the answer to one.
+//! [`run`] reads an input to its end and writes the answer to each of its lines. [`parse`] reads what a line
+//! asks for, and [`answer`] answers one.
 #![tactic(auto)]
 
 mod answers;

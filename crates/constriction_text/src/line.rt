@@ -30,7 +30,7 @@ pub enum Command {
         format: Format,
         weights: Vec<u64>,
     },
-    /// `infer FORMAT W..`: all rows of the weights and one more, which is what they leave.
+    /// `infer FORMAT W..`: all rows of the weights and of one more weight, the remainder.
     Infer {
         format: Format,
         weights: Vec<u64>,
@@ -69,14 +69,14 @@ impl Command {
     }
 }
 
-/// Where the first separator stands.
+/// The index of the first separator.
 fn find_separator(bytes: &[u8], separator: u8) -> Option<usize>
     ensures { result ≡ position (λ byte. byte == separator) bytes.now }
 {
     bytes.iter().position(|byte| *byte == separator)
 }
 
-/// What stands before the first separator, and what follows it; all of the bytes where none stands.
+/// The bytes before the first separator, and those after it. Without a separator, all of the bytes.
 pub fn cut(bytes: &[u8], separator: u8) -> (&[u8], Option<&[u8]>)
     ensures parts { slice_split (λ byte. byte == separator) bytes.now
         ≡ result.0.now ∷ parts_of separator (option_copied result.1) }
@@ -148,7 +148,7 @@ fn parse_numbers(alloc: Global, text: Option<&[u8]>) -> Result<Option<Vec<u64>>,
     Ok(Some(numbers))
 }
 
-/// The first number of the rest of a line, and the others, if there is one and each word spells one.
+/// The first number of the rest of a line, and the others, if there is a first one and each word spells a number.
 #[tactic(auto, unfolding(crate::specs::Reading::read_numbers))]
 fn parse_first_and_others(
     alloc: Global,
@@ -170,7 +170,7 @@ fn parse_first_and_others(
     }
 }
 
-/// The number of the rest of a line, if one stands there alone.
+/// The number that the rest of a line spells, if that is a single number.
 #[tactic(auto, unfolding(crate::specs::Reading::read_numbers))]
 fn parse_only_number(text: Option<&[u8]>) -> Option<u64>
     ensures { result ≡ option_and_then only_number (read_numbers (parts_of 32 (option_copied text.entry))) }
@@ -211,7 +211,7 @@ fn parse_command(
     parse_other_command(alloc, keyword, format, text)
 }
 
-/// The same of a keyword that is neither `table` nor `infer`.
+/// As `parse_command`, for a keyword that is neither `table` nor `infer`.
 #[tactic(auto, unfolding(crate::specs::Reading::read_request))]
 fn parse_other_command(
     alloc: Global,
@@ -253,7 +253,7 @@ fn parse_other_command(
     Ok(None)
 }
 
-/// What a line asks for, as a function of the line.
+/// What a line asks for, as `read_line` reads it.
 fn parse_line(alloc: Global, line: &[u8]) -> Result<Option<Command>, AllocError>
     ensures { IfOk result (λ found. option_map view found ≡ read_line line.now) }
 {
@@ -268,16 +268,16 @@ fn parse_line(alloc: Global, line: &[u8]) -> Result<Option<Command>, AllocError>
     }
 }
 
-/// What a line asks for: `None` where it asks for nothing.
+/// What a line asks for, or `None` if it spells no request.
 ///
 /// The line is given without the byte 10 that ends it. A single space stands between two words, and
 /// a number is one to twenty decimal digits with a value below `2^64`; zeros may lead it. The words
 /// are read once, from left to right, and only the numbers take memory.
 pub fn parse(alloc: Global, line: &[u8]) -> Result<Option<Command>, AllocError>
-    // What is found is spelled so.
+    // The line spells what is found.
     ensures found { IfOk result (λ found. IfSome found (λ command. Spells line.now (view command))) }
 
-    // Nothing is found only where nothing is spelled.
+    // Nothing is found only if the line spells no request.
     ensures none { IfOk result (λ found. IfNone found ((request : Request) → ¬ (Spells line.now request))) }
 {
     parse_line(alloc, line)

@@ -1,6 +1,6 @@
 //! The models that answer lines: the words of a format, the models of weights over them, and the lines of a model's rows.
 //!
-//! What a text has of words are numbers, so the traits here speak of numbers alone: a proof over them carries no laws of words.
+//! A text shows words as numbers, so the traits here are about numbers only: a proof over them carries no laws of words.
 
 ghost use Rattle.std.specs.Prelude.{◌≡◌, ◌^◌, ◌<◌, ◌≤◌, ◌++◌, ◌∷◌, ℕ, List, [], true, false, nat_eq};
 ghost use Rattle.std.specs.Prelude.{IfOk, IfSome, IfNone, OnOk, map, string_bytes};
@@ -21,12 +21,12 @@ use constriction_numbers::WholeNumber;
 use std::alloc::{AllocError, Global};
 use std::fmt::Write;
 
-/// A word that the probabilities of a format are: numbers become words, and words numbers.
+/// The word of a format's probabilities: numbers become words, and words become numbers.
 pub(crate) trait FormatWord: WholeNumber {
     // The word of a number.
     ghost word_of: { ℕ → Self };
 
-    /// The word of a number, and 0 where no word has the number.
+    /// The word of a number, or 0 if no word has the number.
     fn narrowed(number: u64) -> Self
         ensures { Self.whole result ≡ narrowed_to Self.BITS number };
 
@@ -38,7 +38,7 @@ pub(crate) trait FormatWord: WholeNumber {
     ghost word_of_law: { (n : ℕ) → n < 2 ^ Self.BITS → Self.whole (word_of n) ≡ n };
 }
 
-/// A word as narrowing alone sees it. Each [`FormatWord`] is one: a proof over it carries no other laws.
+/// A word with nothing but its narrowing. Each [`FormatWord`] is one. A proof over this trait carries no other laws.
 pub(crate) trait NumberWord: Copy {
     // The number of a word.
     ghost whole: { Self → ℕ };
@@ -49,7 +49,7 @@ pub(crate) trait NumberWord: Copy {
     // The word of a number.
     ghost word_of: { ℕ → Self };
 
-    /// The word of a number, and 0 where no word has the number.
+    /// The word of a number, or 0 if no word has the number.
     fn of_number(number: u64) -> Self
         ensures { whole result ≡ narrowed_to BITS number };
 
@@ -98,8 +98,8 @@ impl FormatWord for u16 {
     ghost word_of_law = { λ n h. refl };
 }
 
-/// A model whose symbol table gives numbers, which is all that a text has of rows: a proof over it
-/// carries no laws of words. Each model of the symbols 0, 1, .. over the words of a format is one.
+/// A model whose symbol table gives numbers, as a text shows rows: a proof over it carries no laws
+/// of words. Each model of the symbols 0, 1, .. over the words of a format is one.
 pub(crate) trait NumberRows<const PRECISION: usize> {
     /// The walk through the rows.
     type Table: Drop;
@@ -110,7 +110,7 @@ pub(crate) trait NumberRows<const PRECISION: usize> {
     // The rows that a symbol table has yet to give.
     ghost left: { Self.Table → List (Row ℕ) };
 
-    // That rows can be walked through, and that a symbol table may be asked for the next one.
+    // That the rows can be walked through, and that a symbol table may be asked for the next row.
     ghost has_table: { Type 0 };
 
     ghost can_go_on: { Self.Table → Type 0 };
@@ -194,8 +194,8 @@ pub(crate) fn push_rows<M: NumberRows<PRECISION>, const PRECISION: usize>(
     Ok(())
 }
 
-/// A model of the weights of a line. Whatever its words are, it speaks of numbers alone, which is
-/// all that a text has: a proof over it carries no laws of words.
+/// A model of the weights of a line, in numbers, whatever its words are: a proof over it carries no
+/// laws of words.
 pub(crate) trait LineModel<const PRECISION: usize>: Drop {
     /// The words that its weights are.
     type Word: NumberWord;
@@ -203,7 +203,7 @@ pub(crate) trait LineModel<const PRECISION: usize>: Drop {
     // Its rows.
     ghost line_rows: { Self → List (Row ℕ) };
 
-    /// The model of words, the last one inferred or not, if they are accepted.
+    /// The model of the words as weights, with the last weight inferred if `infer`, if they are accepted.
     fn from_words<I: IntoIterator<Item = Self::Word>>(
         alloc: Global,
         words: I,
@@ -229,7 +229,7 @@ pub(crate) trait LineModel<const PRECISION: usize>: Drop {
         ensures { OnOk result (string_bytes text.new ≡ string_bytes text.old
             ++ rows_text (line_rows self.now)) };
 
-    /// The left cumulative and the weight of a symbol, where it has a row.
+    /// The left cumulative and the weight of a symbol, if it has a row.
     fn entry(&self, symbol: usize) -> Option<(u64, u64)>
         ensures { result ≡ entry_of nat_eq (line_rows self.now) symbol };
 
@@ -243,8 +243,8 @@ pub(crate) trait LineModel<const PRECISION: usize>: Drop {
     ghost tile_law: { (m : Self) → RowsTile Self.Word.BITS PRECISION (line_rows m) };
 }
 
-/// The model of weights, the last one inferred or not, if they are accepted. A weight that is no
-/// word is taken for 0, which no model accepts, so the weights are read once and not copied.
+/// The model of weights, with the last weight inferred if `infer`, if they are accepted. A weight that
+/// is no word is read as 0, which no model accepts, so the weights are read once and not copied.
 pub(crate) fn model_of<M: LineModel<PRECISION>, const PRECISION: usize>(
     alloc: Global,
     weights: &[u64],
@@ -300,7 +300,7 @@ impl<Word: FormatWord, const PRECISION: usize> LineModel<PRECISION>
     ghost tile_law = { λ m. stored-tiles _ _ _ m.stored.stored };
 }
 
-/// A uniform model. What a text asks of it are the rows alone.
+/// A uniform model, of which a text needs only the rows.
 pub(crate) trait UniformRows<const PRECISION: usize>: NumberRows<PRECISION> {
     // How many bits its words have.
     ghost BITS: { ℕ };

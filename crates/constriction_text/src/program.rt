@@ -20,11 +20,11 @@ const LIMIT: usize = 1_048_576;
 /// The most bytes that one turn of the reader takes.
 const CHUNK: usize = 8192;
 
-/// How many bytes of answers are many.
+/// Collected answers are written once they have this many bytes.
 const MANY: usize = 65_536;
 
-/// One turn of the reader, of at most `room` bytes, which are put at the end of the input. It answers
-/// how many there were.
+/// Reads once, at most `room` bytes, and puts them at the end of the input. Answers how many bytes
+/// came.
 fn read_turn<R: Read>(
     reader: &mut R,
     room: usize,
@@ -52,9 +52,10 @@ fn read_turn<R: Read>(
     }
 }
 
-/// Reads to the end, and at most one byte past the limit of 1,048,576.
+/// Reads to the end, or to one byte past the limit of 1,048,576 bytes.
 ///
-/// `TooLong` comes where there are more. No turn of the reader follows one that answered an error.
+/// It fails with `TooLong` if there are more bytes than the limit. After an error the reader is not called
+/// again.
 pub fn read_input<R: Read>(alloc: Global, reader: &mut R) -> Result<Vec<u8>, RunFault>
     ensures ok { IfOk result (λ input. (length input.items ≤ limit) × IsAtEnd (R.remaining reader.new)
         × Consumes (R.remaining reader.old) (R.remaining reader.new) input.items) }
@@ -75,9 +76,10 @@ pub fn read_input<R: Read>(alloc: Global, reader: &mut R) -> Result<Vec<u8>, Run
     Err(RunFault::TooLong)
 }
 
-/// Writes all of the bytes, in as many turns as the writer needs.
+/// Writes all of the bytes, in as many calls as the writer needs.
 ///
-/// An error is `Write`, where the writer answered an error or took no byte, and a beginning was written then.
+/// It fails with `Write` if the writer answers an error or takes no byte; a beginning of the bytes was then
+/// written.
 pub fn write_whole<W: Write>(writer: &mut W, bytes: &[u8]) -> Result<(), RunFault>
     ensures ok { OnOk result (Appends (W.contents writer.old) (W.contents writer.new) bytes.now) }
     ensures err { OnErr result (WritesBeginning (W.contents writer.old) (W.contents writer.new) bytes.now) }
@@ -110,8 +112,8 @@ pub fn first_line(bytes: &[u8]) -> (&[u8], &[u8])
     }
 }
 
-/// Collects the answer to a line. It is made whole in a text of its own, whose memory is used again,
-/// so that a refusal of memory leaves what was collected before.
+/// Collects the answer to a line. The answer is first made whole in `one`, whose memory is used again,
+/// so if memory is refused, what was collected before stays.
 fn collect_answer(
     alloc: Global,
     line: &[u8],
@@ -126,7 +128,7 @@ fn collect_answer(
     text.push_str(one.as_str())
 }
 
-/// Writes collected answers, and keeps none of them, where there are many bytes of them.
+/// If there are many bytes of collected answers, writes and then drops them.
 fn write_many<W: Write>(writer: &mut W, text: &mut String) -> Result<(), RunFault>
     ensures ok { OnOk result (WritesFront (W.contents writer.old) (W.contents writer.new)
         (string_bytes text.old) (string_bytes text.new)) }
@@ -141,7 +143,7 @@ fn write_many<W: Write>(writer: &mut W, text: &mut String) -> Result<(), RunFaul
     Ok(())
 }
 
-/// Writes the answers that were collected before memory was refused, and answers the fault.
+/// Writes the answers that were collected before memory was refused, and answers the fault of the run.
 fn write_last<W: Write>(writer: &mut W, answers: &[u8]) -> RunFault
     ensures out_of_memory { result ≡ RunFault.OutOfMemory →
         Appends (W.contents writer.old) (W.contents writer.new) answers.now }
@@ -155,9 +157,9 @@ fn write_last<W: Write>(writer: &mut W, answers: &[u8]) -> RunFault
     }
 }
 
-/// Writes the answers to the lines of an input, each made whole before a byte of it is written.
+/// Writes the answers to the lines of an input. Each is made whole before a byte of it is written.
 ///
-/// They are collected, and written once there are many bytes of them, and at the end.
+/// Answers are collected, and written whenever there are many bytes of them, and at the end.
 fn write_answers<W: Write>(alloc: Global, input: &[u8], writer: &mut W) -> Result<(), RunFault>
     ensures ok { OnOk result ((text : List ℕ) × IsTextOf input.now text
         × Appends (W.contents writer.old) (W.contents writer.new) text) }
@@ -184,11 +186,11 @@ fn write_answers<W: Write>(alloc: Global, input: &[u8], writer: &mut W) -> Resul
 
 /// Reads an input to its end, and writes the answers to its lines.
 ///
-/// The writer is not flushed: give one that holds nothing back. An input is at most 1,048,576
-/// bytes, and of a longer one no more than one byte past them is read. No turn of the reader or the
-/// writer follows one that answered an error.
+/// The writer is not flushed: give one that holds nothing back. An input has at most 1,048,576
+/// bytes; of a longer one, at most one byte more is read. After the reader or the writer answered an
+/// error, neither is called again.
 pub fn run<R: Read, W: Write>(alloc: Global, reader: &mut R, writer: &mut W) -> Result<(), RunFault>
-    // What is written is the text of what was read, which is all that the reader had.
+    // All that the reader had was read, and its text was written.
     ensures ok { OnOk result (HasRead (R.remaining reader.old) (R.remaining reader.new) (λ input.
         IsAtEnd (R.remaining reader.new) × (length input ≤ limit)
         × ((text : List ℕ) × IsTextOf input text × Appends (W.contents writer.old) (W.contents writer.new) text))) }
@@ -196,22 +198,22 @@ pub fn run<R: Read, W: Write>(alloc: Global, reader: &mut R, writer: &mut W) -> 
     ensures too_long { result ≡ Err RunFault.TooLong →
         HasRead (R.remaining reader.old) (R.remaining reader.new) (λ input. limit < length input) }
 
-    // Nothing is written before the input was read to its end.
+    // Nothing is written before the input is read to its end.
     ensures nothing_written { IfErr result (λ fault. (fault ≡ RunFault.Read) ⊎ (fault ≡ RunFault.TooLong) →
         Keeps (W.contents writer.old) (W.contents writer.new)) }
 
-    // The answers to the lines before one, each whole, of all that the reader had; or nothing.
+    // Nothing was written; or all that the reader had was read, and the answers to the lines before one were written, each whole.
     ensures out_of_memory { result ≡ Err RunFault.OutOfMemory → Keeps (W.contents writer.old) (W.contents writer.new)
         ⊎ HasRead (R.remaining reader.old) (R.remaining reader.new) (λ input.
         IsAtEnd (R.remaining reader.new) × (length input ≤ limit)
         × WritesAnswersBefore (W.contents writer.old) (W.contents writer.new) input) }
 
-    // A beginning of the text of all that the reader had.
+    // All that the reader had was read, and a beginning of its text was written.
     ensures write { result ≡ Err RunFault.Write → HasRead (R.remaining reader.old) (R.remaining reader.new) (λ input.
         IsAtEnd (R.remaining reader.new) × (length input ≤ limit)
         × ((written rest : List ℕ) × IsTextOf input (written ++ rest) × Appends (W.contents writer.old) (W.contents writer.new) written)) }
 
-    // No turn takes more than one byte past the limit.
+    // At most one byte past the limit is read.
     ensures taken { HasRead (R.remaining reader.old) (R.remaining reader.new) (λ input. length input ≤ limit + 1) }
 {
     let input = read_input(alloc, reader)?;

@@ -1,4 +1,4 @@
--- Models that are made of other things.
+-- Models that are made of other models.
 use Rattle.std.proofs.Common.{◌≡◌, Bool, List, Result, Ok, Err}
 use Rattle.std.specs.Prelude.{IfOk}
 use Rattle.std.specs.Cmp.{IsEquivalence}
@@ -12,7 +12,7 @@ pub whatever-ok : {A E P : Type 0} (r : Result A E) → P → IfOk r (λ _. P)
 whatever-ok (Ok x) p = p
 whatever-ok (Err e) p = tt
 
--- a hashed encoder whose symbols are clones has the entries of these symbols' rows
+-- a hashed encoder with clones of the symbols of rows has the entries of these rows
 pub entries-of-made : {Symbol Model Error : Type 0} (eq : Symbol → Symbol → Bool) → IsEquivalence eq
     → (IsClone : Symbol → Symbol → Type 0) → ClonesAreEqual eq IsClone → (rows : Model → List (Row Symbol)) (others : List (Row Symbol))
     (r : Result Model Error) → IfOk r (λ e. HoldsEntriesOf eq IsClone (rows e) others)

@@ -1,4 +1,4 @@
--- What a chain leaves of rows that were read from a table, whose symbols stand for those of its model.
+-- A chain converts rows that were read from a symbol table. Their symbols stand for those of the model.
 use Rattle.std.proofs.Common.{◌≡◌, ℕ, Bool, false, List, [], ◌∷◌, Result, Ok, Err, refl, ap, subst, sym, ◌∙◌}
 use Rattle.std.specs.Prelude.{IfOk}
 use Rattle.constriction.specs.Model.{StandForRows}
@@ -14,7 +14,7 @@ stand-themselves : {Symbol : Type 0} (rows : List (Row Symbol)) → StandForRows
 stand-themselves [] = tt
 stand-themselves (r ∷ rs) = ((refl, refl, refl), stand-themselves rs)
 
--- what steps leave of rows, they leave of these where they are not walked
+-- rows that steps leave of a form's rows are rows that they leave of a walk that gives the symbols themselves
 pub leaves-of-itself : {Symbol : Type 0} (IsClone : Symbol → Symbol → Type 0) (steps : List ChainStep) (rows made : List (Row Symbol))
     → ChainLeaves IsClone steps rows made
     → (walked : List (Row Symbol)) × StandForRows (λ s t. t ≡ s) walked rows × ChainLeaves IsClone steps walked made
@@ -24,7 +24,7 @@ module _ {Symbol : Type 0} (Stands IsClone : Symbol → Symbol → Type 0) (read
     (stand : StandForRows Stands read rows) (scan : List (Row Symbol) → List (Reply Symbol ℕ ℕ)) (steps : List ChainStep)
     {Given Error : Type 0} (is_lookup : Given → Bool) (rows_of : Given → List (Row Symbol))
     (replies : Given → List (Reply Symbol ℕ ℕ)) where
-  -- what the steps leave of the rows that were read, they leave of a walk of the model's
+  -- rows that the steps leave of what was read are rows that they leave of a walk through the model's rows
   pub answers-of-table : (r : Result Given Error)
       → IfOk r (λ x. AnswersAfter (λ s t. t ≡ s) IsClone scan steps false read (is_lookup x) (rows_of x) (replies x))
       → IfOk r (λ x. AnswersAfter Stands IsClone scan steps false rows (is_lookup x) (rows_of x) (replies x))

@@ -20,12 +20,12 @@ pub type FormAndReplies<Symbol, Probability, const PRECISION: usize> = (
 );
 
 /// Converts a decoder by any steps, and answers queries by the form that they leave and by an encoder of the
-/// same entries. The form has the kind that the steps say and the rows that they leave. The replies stand for those of a
-/// scan of its rows, as a clone stands for its symbol. Where a clone is the same value as its symbol, the rows are those
-/// from before, and the replies are exactly those of a scan of them.
+/// same entries. The form has the kind and the rows that the steps leave. The replies stand for those of a scan of
+/// its rows, as a clone stands for its symbol. If each clone is its symbol, the rows are those of before, and the
+/// replies are exactly those of a scan of them.
 ///
 /// A clone has to be equal to its symbol, by the symbols' own equality and by the encoder's. The only refusal
-/// is `OutOfMemory`. The form is then given up. `PRECISION` is at most 63.
+/// is `OutOfMemory`. The form is then dropped. `PRECISION` is at most 63.
 pub fn answer_by_form<Symbol: Eq + Clone + Drop, Probability: IndexWord, E, const PRECISION: usize>(
     alloc: Global,
     form: DecoderForm<Symbol, Probability, PRECISION>,

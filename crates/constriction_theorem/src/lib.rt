@@ -1,15 +1,16 @@
-//! The theorem: what the models of one row list reply, whichever way they were made, and what a cursor and its
-//! reversal do.
+//! The theorem: the models of one row list reply alike, however they were made, and a cursor and its reversal
+//! answer alike.
 //!
-//! The first half is said from lists on. [`answer_from_symbols_and_weights`] and [`answer_from_weights`] take
-//! them, accept them exactly where they tile, make the models, convert one by any steps and ask each the same
-//! queries: the replies are those that a scan of the rows of the lists gives. [`answer_from_range_u8`] and its
-//! like do so for the dividing model, [`answer_by_model`] and [`answer_by_symbol_table`] for a model of the caller's own,
-//! and [`answer_by_form`] for a decoder that stands already. These make lookup tables, so that `PRECISION` is at most 63 in them:
-//! [`answer_from_weights_by_search`] and [`answer_beside_encoder`] make none, and take any. The second half is [`run_cursor_and_reversal`].
+//! The first half begins with lists. [`answer_from_symbols_and_weights`] and [`answer_from_weights`] accept
+//! lists exactly if they tile, make the models, convert one by any steps, and ask each the same queries. The
+//! replies are those that a scan of the rows of the lists gives. [`answer_from_range_u8`] and its like do this
+//! for the dividing model, [`answer_by_model`] and [`answer_by_symbol_table`] for any model that can be walked
+//! through, and [`answer_by_form`] for a decoder that exists already. These functions may make lookup tables,
+//! so their `PRECISION` is at most 63. [`answer_from_weights_by_search`] and [`answer_beside_encoder`] make none,
+//! and take any `PRECISION`. The second half is [`run_cursor_and_reversal`].
 //!
-//! Replies do not tell which model gave them. So each of these calls hands out the form that the steps left,
-//! and says of its kind and its rows that they are those which the steps leave.
+//! Replies alone do not show which model gave them. So each function that converts a form also answers the form
+//! that the steps left, and its clauses say which kind and which rows that form has.
 #![tactic(auto)]
 
 mod forms;

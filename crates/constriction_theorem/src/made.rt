@@ -1,4 +1,4 @@
-//! Models that are made of lists and of other models, each by one call, in the terms of the laws.
+//! Models that are made of lists and of other models, each by one call, with contracts over lists and rows.
 
 ghost use Rattle.std.specs.Prelude.{◌≡◌, ◌<◌, ◌≤◌, map, nat_eq, IfOk, IfErr};
 ghost use Rattle.std.specs.List.{IsDistinct};
@@ -21,7 +21,7 @@ use std::alloc::Global;
 use std::hash::Hash;
 use std::vec::IntoIter;
 
-/// The decoder over any symbols that searches.
+/// The searching decoder over any symbols.
 pub(crate) type Searching<Symbol, Probability, const PRECISION: usize> =
     NonContiguousCategoricalDecoderModel<
         Symbol,
@@ -30,14 +30,14 @@ pub(crate) type Searching<Symbol, Probability, const PRECISION: usize> =
         PRECISION,
     >;
 
-/// The model of the symbols 0, 1, .. that searches.
+/// The searching model of the symbols 0, 1, ...
 pub(crate) type Contiguous<Probability, const PRECISION: usize> = ContiguousCategoricalEntropyModel<
     Probability,
     Vec<Probability>,
     PRECISION,
 >;
 
-/// The searching decoder of two lists, as its constructor tells it of the iterators that they become.
+/// The searching decoder of two lists. The clause is the constructor's, about the iterators that the lists become.
 fn searching_of_lists<Symbol: Eq + Drop, Probability: WholeNumber, const PRECISION: usize>(
     alloc: Global,
     symbols: Vec<Symbol>,
@@ -78,7 +78,7 @@ pub(crate) fn searching_from<Symbol: Eq + Drop, Probability: WholeNumber, const 
     searching_of_lists(alloc, symbols, weights, infer_last_probability)
 }
 
-/// The model of the symbols 0, 1, .. of a list, as its constructor tells it of the iterator that this becomes.
+/// The model of a list of weights. The clause is the constructor's, about the iterator that the list becomes.
 fn contiguous_of_list<Probability: WholeNumber, const PRECISION: usize>(
     alloc: Global,
     weights: Vec<Probability>,
@@ -93,7 +93,7 @@ fn contiguous_of_list<Probability: WholeNumber, const PRECISION: usize>(
     Contiguous::from_nonzero_fixed_point_probabilities(alloc, weights, infer_last_probability)
 }
 
-/// The model of the symbols 0, 1, .. of a list of weights.
+/// The model of a list of weights.
 pub(crate) fn contiguous_from<Probability: WholeNumber, const PRECISION: usize>(
     alloc: Global,
     weights: Vec<Probability>,
@@ -123,7 +123,7 @@ where
     to_generic_encoder_model::<M, PRECISION>(alloc, model)
 }
 
-/// The hashed encoder of a searching decoder's rows, whose symbols are cloned.
+/// The hashed encoder of a searching decoder's rows, with clones of their symbols.
 pub(crate) fn hashed_of<
     Symbol: Hash + Eq + Clone + Drop,
     Probability: WholeNumber,
@@ -139,7 +139,7 @@ pub(crate) fn hashed_of<
     encoder_of(alloc, model)
 }
 
-/// The searching decoder and the hashed encoder of a model's rows, no two symbols of which are equal.
+/// The searching decoder and the hashed encoder of a model's rows. No two symbols of the rows are equal.
 pub(crate) fn both_of<M, const PRECISION: usize>(
     alloc: Global,
     model: M,
@@ -158,7 +158,7 @@ where
     Ok((decoder, encoder))
 }
 
-/// The searching decoder and the hashed encoder over any symbols of the rows of a model of the symbols 0, 1, ...
+/// The searching decoder and the hashed encoder of the rows of a model of the symbols 0, 1, ...
 pub(crate) fn both_of_contiguous<Probability: WholeNumber, const PRECISION: usize>(
     alloc: Global,
     model: &Contiguous<Probability, PRECISION>,

@@ -1,4 +1,4 @@
-//! Any model whose rows can be walked through, and what it and the form that is made of it reply.
+//! Any model that can be walked through, and what it and the form that is made of it reply.
 
 ghost use Rattle.std.specs.Prelude.{◌≡◌, ◌≤◌, map, false, IfOk, IfErr};
 ghost use Rattle.std.specs.List.{IsDistinct};
@@ -18,12 +18,12 @@ use std::alloc::Global;
 use std::hash::Hash;
 
 /// Makes the searching decoder and the hashed encoder of the rows of any model that can be walked through,
-/// converts the decoder by any steps, and answers queries by the form that they leave and by the encoder. Where
-/// the symbols of the walk and clones of symbols are the same values, the replies are those that a scan of the
-/// model's rows gives.
+/// converts the decoder by any steps, and answers queries by the form that they leave and by the encoder. If
+/// the walk gives the symbols of the rows themselves, and each clone is its symbol, the replies are those that a
+/// scan of the model's rows gives.
 ///
 /// No two symbols of the rows are equal. The only refusal is `OutOfMemory`. The form has the kind that the
-/// steps say. `PRECISION` is at most 63.
+/// steps leave. `PRECISION` is at most 63.
 pub fn answer_by_symbol_table<M, const PRECISION: usize>(
     alloc: Global,
     model: M,
@@ -53,7 +53,7 @@ where
     )
 }
 
-/// What a model replied, the form that a chain of conversions made of it, and what that replied.
+/// What a model replied, the form that a chain of conversions made of it, and what the form replied.
 #[derive(Drop)]
 pub struct AnswersOfModel<Symbol, Word: WholeNumber, Form> {
     /// The model's own replies.
@@ -64,11 +64,11 @@ pub struct AnswersOfModel<Symbol, Word: WholeNumber, Form> {
     pub converted: Vec<Reply<Symbol, Word>>,
 }
 
-/// Answers queries by a decoder whose rows can be walked through, one of the caller's own too, and by the hashed encoder that is
-/// made of it. Where the symbols of its answers are the same values, the replies are those that a scan of its rows gives.
+/// Answers queries by any decoder that can be walked through, and by the hashed encoder that is made of it. If the decoder
+/// answers the symbols of its rows themselves, the replies are those that a scan of its rows gives.
 ///
-/// The only refusal is `OutOfMemory`. No lookup table of slots is made, so that it stands over any word at any `PRECISION`: of a model
-/// that searches, divides or looks up, and of the encoder that hashes.
+/// The only refusal is `OutOfMemory`. The call makes no lookup table, so it takes any word and any `PRECISION`. The decoder
+/// may search, divide or look up.
 pub fn answer_beside_encoder<M, const PRECISION: usize>(
     alloc: Global,
     model: M,
@@ -88,10 +88,10 @@ where
     Ok(replies)
 }
 
-/// Answers queries by a decoder whose rows can be walked through, one of the caller's own too, and by the form
-/// that the steps make of it as in [`answer_by_symbol_table`], both with the hashed encoder that is made of it. Where
-/// the symbols of its answers and clones of symbols are the same values, the replies of both are those that a
-/// scan of the model's rows gives. It knows of the model the laws of its traits and nothing else.
+/// Answers queries by any decoder that can be walked through, and by the form that the steps make of it as in
+/// [`answer_by_symbol_table`], both beside the hashed encoder that is made of it. If the model answers the symbols
+/// of its rows themselves, and each clone is its symbol, the replies of both are those that a scan of the model's
+/// rows gives. The model may be the caller's own: the proof needs only the laws of its traits.
 ///
 /// No two symbols of the rows are equal. The only refusal is `OutOfMemory`. `PRECISION` is at most 63;
 /// [`answer_beside_encoder`] takes any.

@@ -1,7 +1,7 @@
 //! A range of symbols of equal weight, and what the dividing model replies.
 //!
-//! A law over any word would hold a model of three such words in itself, whose size nothing bounds. So there is one for
-//! each of `u8`, `u16`, `u32`, `u64` and `usize`.
+//! There is one function for each of `u8`, `u16`, `u32`, `u64` and `usize`. A generic one would hold a model of three
+//! words as a local, and nothing bounds the size of a generic word.
 
 ghost use Rattle.std.specs.Prelude.{◌≡◌, ◌^◌, ◌<◌, ◌≤◌, IfOk, IfErr};
 ghost use Rattle.constriction.specs.Precision.{IsPrecision};
@@ -15,9 +15,9 @@ use constriction_client::{ChainStep, DecoderForm, Query, answer_queries};
 use constriction_words::WholeNumber;
 use std::alloc::Global;
 
-/// Makes the dividing model of so many symbols over words of `u8`, converts the decoder over any symbols that is made
-/// of its rows by any steps, and answers queries by the model in both directions, and by the form beside the hashed
-/// encoder: the replies of each are those that a scan of the uniform rows gives.
+/// Makes the dividing model of `range` symbols over `u8`, makes the searching decoder of its rows, and converts that
+/// decoder by any steps. Answers queries by the model as decoder and encoder, and by the form beside the hashed encoder.
+/// The replies of each are those that a scan of the uniform rows gives.
 ///
 /// `range` is at least 2 and at most `2^PRECISION`. The only refusal is `OutOfMemory`.
 pub fn answer_from_range_u8<const PRECISION: usize>(
@@ -43,7 +43,7 @@ pub fn answer_from_range_u8<const PRECISION: usize>(
     })
 }
 
-/// The same over words of `u16`.
+/// As [`answer_from_range_u8`], over `u16`.
 pub fn answer_from_range_u16<const PRECISION: usize>(
     alloc: Global,
     range: usize,
@@ -67,7 +67,7 @@ pub fn answer_from_range_u16<const PRECISION: usize>(
     })
 }
 
-/// As [`answer_from_range_u8`], over words of `u32`.
+/// As [`answer_from_range_u8`], over `u32`.
 pub fn answer_from_range_u32<const PRECISION: usize>(
     alloc: Global,
     range: usize,
@@ -91,7 +91,7 @@ pub fn answer_from_range_u32<const PRECISION: usize>(
     })
 }
 
-/// The same over words of `u64`. `PRECISION` is at most 63.
+/// As [`answer_from_range_u8`], over `u64`. `PRECISION` is at most 63.
 pub fn answer_from_range_u64<const PRECISION: usize>(
     alloc: Global,
     range: usize,
@@ -116,7 +116,7 @@ pub fn answer_from_range_u64<const PRECISION: usize>(
     })
 }
 
-/// The same over words of `usize`. `PRECISION` is at most 63.
+/// As [`answer_from_range_u8`], over `usize`. `PRECISION` is at most 63.
 pub fn answer_from_range_usize<const PRECISION: usize>(
     alloc: Global,
     range: usize,

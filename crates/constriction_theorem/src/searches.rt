@@ -1,4 +1,4 @@
-//! Weights alone, and what models without a lookup table reply, over any word.
+//! Weights, and what models without a lookup table reply, over any word.
 
 ghost use Rattle.std.specs.Prelude.{◌≡◌, map, nat_eq, IfOk, IfErr};
 ghost use Rattle.constriction.specs.Acceptance.{completed, IsAccepted};
@@ -15,7 +15,7 @@ use constriction_client::Query;
 use constriction_words::WholeNumber;
 use std::alloc::Global;
 
-/// What the models of one list of weights that have no lookup tables replied to the same queries.
+/// What the models without a lookup table, made of one list of weights, replied to the same queries.
 #[derive(Drop)]
 pub struct AnswersBySearch<Word: WholeNumber, Decoder> {
     /// The model of the symbols 0, 1, .. that searches all rows.
@@ -47,10 +47,10 @@ fn asked_by_search<Probability: WholeNumber, const PRECISION: usize>(
     })
 }
 
-/// As [`answer_from_weights`](crate::answer_from_weights), by models that have no lookup tables and over any word.
+/// As [`answer_from_weights`](crate::answer_from_weights), by models without lookup tables and over any word.
 ///
-/// It makes the model of the symbols 0, 1, .. and the decoder over any symbols that is made of its rows, both of which search,
-/// and answers the same queries by each beside the former and beside the hashed encoder.
+/// It makes two models that search, the model of the symbols 0, 1, .. and the decoder over any symbols of its rows. It
+/// answers the same queries by each, beside the first model and beside the hashed encoder.
 pub fn answer_from_weights_by_search<Probability: WholeNumber, const PRECISION: usize>(
     alloc: Global,
     weights: Vec<Probability>,

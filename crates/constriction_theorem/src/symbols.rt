@@ -19,13 +19,12 @@ use std::alloc::Global;
 use std::hash::Hash;
 
 /// Makes the searching decoder of symbols and weights and the hashed encoder of the same rows, converts the
-/// decoder by any steps, and answers queries by the form that they leave and by the encoder. Where clones of
-/// symbols are the same values, the replies are those that a scan of the rows of the symbols and the weights
-/// gives; where they are equal to their symbols and not the same, as of a `String`, those of a scan of these rows
-/// with clones of the symbols.
+/// decoder by any steps, and answers queries by the form that they leave and by the encoder. If each clone is its
+/// symbol, the replies are those that a scan of the rows of the symbols and the weights gives. If a clone is only
+/// equal to its symbol, as of a `String`, they are those of a scan of these rows with clones of the symbols.
 ///
-/// `InvalidTable` comes only where the symbols and the weights, the inferred one among them, are not accepted,
-/// `OutOfMemory` where memory is refused. The form has the kind that the steps say. `PRECISION` is at most 63.
+/// `InvalidTable` comes only if the symbols and the weights, with the inferred one, are not accepted,
+/// `OutOfMemory` if memory is refused. The form has the kind that the steps leave. `PRECISION` is at most 63.
 pub fn answer_from_symbols_and_weights<
     Symbol: Hash + Eq + Clone + Drop,
     Probability: IndexWord,

@@ -1,4 +1,4 @@
-//! Weights alone, and what the models of the symbols 0, 1, .. reply.
+//! Weights, and what the models of the symbols 0, 1, .. reply.
 
 ghost use Rattle.std.specs.Prelude.{◌≡◌, ◌≤◌, fold, map, nat_eq, false, IfOk, IfErr};
 ghost use Rattle.constriction.specs.Acceptance.{completed, IsAccepted};
@@ -87,7 +87,7 @@ fn form_after<Probability: IndexWord, const PRECISION: usize>(
     convert_chain(alloc, DecoderForm::Search(decoder), steps)
 }
 
-/// The form that the steps leave of a model's rows, and the hashed encoder of these.
+/// The form that the steps leave of a model's rows, and the hashed encoder of the same rows.
 fn converted_from<Probability: IndexWord, const PRECISION: usize>(
     alloc: Global,
     model: &Contiguous<Probability, PRECISION>,
@@ -128,7 +128,7 @@ fn asked_by_slots<Probability: IndexWord, const PRECISION: usize, const SLOT_BIT
     Ok(replies)
 }
 
-/// The replies of the model that searches, of the one with a lookup table and of a form of the same rows.
+/// The replies of the model that searches, of the model with a lookup table, and of a form of the same rows.
 fn asked_by_each<Probability: IndexWord, const PRECISION: usize, const SLOT_BITS: usize>(
     alloc: Global,
     model: &Contiguous<Probability, PRECISION>,
@@ -183,14 +183,14 @@ fn answers_of<Probability: IndexWord, const PRECISION: usize, const SLOT_BITS: u
     })
 }
 
-/// Makes the models of a list of weights, one that searches and one with a lookup table of `2^min(PRECISION, SLOT_BITS)` slots,
-/// converts the decoder over any symbols that is made of their rows by any steps, and answers the same queries by each of
-/// these beside the model that searches and beside the hashed encoder: the replies of each are those that a scan of the
-/// rows of the weights gives.
+/// Makes three models of a list of weights: one that searches, one with a lookup table of `2^min(PRECISION, SLOT_BITS)`
+/// slots, and a decoder over any symbols, which it converts by any steps. It answers the same queries by each, beside the
+/// model that searches and beside the hashed encoder. The replies of each are those that a scan of the rows of the
+/// weights gives.
 ///
-/// `InvalidTable` comes only where the weights, the inferred one among them, are not accepted, `OutOfMemory`
-/// where memory is refused: the lookup table takes two words a slot, or one where a slot holds one quantile. `PRECISION` is at
-/// most 63; [`answer_from_weights_by_search`](crate::answer_from_weights_by_search) makes no lookup tables, and takes any.
+/// `InvalidTable` comes only if the weights, with the inferred one, are not accepted, `OutOfMemory` if memory is refused.
+/// The lookup table takes two words a slot, or one if a slot is one quantile. `PRECISION` is at most 63;
+/// [`answer_from_weights_by_search`](crate::answer_from_weights_by_search) makes no lookup tables, and takes any.
 pub fn answer_from_weights<Probability: IndexWord, const PRECISION: usize, const SLOT_BITS: usize>(
     alloc: Global,
     weights: Vec<Probability>,

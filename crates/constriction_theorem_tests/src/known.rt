@@ -1,5 +1,5 @@
-//! What contracts alone tell a caller of the client, and of a form that stands already: words, items and replies. No body that
-//! answers otherwise meets these contracts, even where it is refused at a written proof.
+//! What contracts alone tell a caller of the client, and a caller that already has a form: words, items and replies. A body that
+//! answers otherwise does not meet these contracts, even if the check refuses it at a written proof.
 
 ghost use Rattle.std.specs.Prelude.{◌≡◌, ◌++◌, [], ◌∷◌, Some, IfOk, IfSome, OnOk, IsTrue, map, nat_eq, true};
 ghost use Rattle.constriction.specs.Entries.{SameEntries};
@@ -27,7 +27,7 @@ use constriction_words::{CoderError, WholeNumber};
 use std::alloc::{AllocError, Global};
 use std::process::Abort;
 
-/// Whether an item of the second symbol was written, where 3, 18, 1 and 42 are the weights of 0, 1, 2 and 3.
+/// Whether an item of the second symbol was written. The weights of 0, 1, 2 and 3 are 3, 18, 1 and 42.
 fn written(model: &Weighted<6>, sink: &mut Vec<u8>) -> bool
     requires { ⟦<Weighted<6> as EntropyModel<6>>⟧.rows model.now ≡ contiguous_rows (3 ∷ 18 ∷ 1 ∷ 42 ∷ []) }
     ensures { IsTrue result → sink.new.items ≡ sink.old.items ++ 5 ∷ [] }
@@ -35,7 +35,7 @@ fn written(model: &Weighted<6>, sink: &mut Vec<u8>) -> bool
     write_quantiles(model, &[(1, 2)], sink).is_ok()
 }
 
-/// What comes back of an item.
+/// The item that comes back.
 fn back(
     alloc: Global,
     model: &Weighted<6>,
@@ -84,7 +84,7 @@ fn replies(alloc: Global, model: &Weighted<6>) -> Result<Vec<Reply<usize, u8>>, 
     answer_queries(alloc, model, model, &queries)
 }
 
-/// The form that two conversions leave, and its replies to two queries beside the hashed encoder of the same entries.
+/// The form that two conversions leave, and its replies to two queries, with the hashed encoder of the same entries.
 fn replies_after(
     alloc: Global,
     form: DecoderForm<char, u8, 6>,
@@ -115,14 +115,14 @@ fn at_1(alloc: Global) -> Result<Cursor<u8, Vec<u8>>, AllocError>
     }
 }
 
-/// The same turned round.
+/// The same cursor, reversed.
 fn at_1_turned(alloc: Global) -> Result<Reverse<Cursor<u8, Vec<u8>>>, AllocError>
     ensures { IfOk result (λ c. state_of c.0 ≡ record { before = 30 ∷ 20 ∷ []; after = 10 ∷ [] }) }
 {
     Ok(at_1(alloc)?.into_reversed())
 }
 
-/// The replies of such a cursor.
+/// The replies of this cursor to a list of calls.
 fn calls(
     alloc: Global,
     cursor: &mut Cursor<u8, Vec<u8>>,
@@ -138,7 +138,7 @@ fn calls(
     )
 }
 
-/// The replies of the same cursor after it was turned round.
+/// The replies of the same cursor after it was reversed.
 fn turned_calls(
     alloc: Global,
     cursor: &mut Reverse<Cursor<u8, Vec<u8>>>,
@@ -154,7 +154,7 @@ fn turned_calls(
     )
 }
 
-/// Stops the test where the model does not write the item, does not give it back, or does not reply.
+/// Asserts that the model writes the item, gives it back, and replies.
 fn leaves_one_result(rt: &impl Abort, alloc: Global, model: &Weighted<6>)
     requires { ⟦<Weighted<6> as EntropyModel<6>>⟧.rows model.now ≡ contiguous_rows (3 ∷ 18 ∷ 1 ∷ 42 ∷ []) }
 {

@@ -1,5 +1,5 @@
-//! What contracts alone tell a caller who knows the rows of a model: a row, an entry, and the ends of a symbol table. No body
-//! that answers otherwise meets these contracts, even where it is refused at a written proof.
+//! What contracts alone tell a caller that knows the rows of a model: a row, an entry, and the ends of a symbol table. A body
+//! that answers otherwise does not meet these contracts, even if the check refuses it at a written proof.
 
 ghost use Rattle.std.specs.Prelude.{◌≡◌, ◌+◌, [], ◌∷◌, Some, None, Ok, Err, IfOk, IsErr, true, false, map, nat_eq};
 ghost use Rattle.constriction.specs.Acceptance.{AreAccepted};
@@ -36,7 +36,7 @@ fn row_of_20(model: &Weighted<6>) -> Result<(usize, u8, u8), AllocError>
     }
 }
 
-/// The same of a lookup model.
+/// The same for a lookup model.
 fn looked_up(model: &Lookup) -> Result<(usize, u8, u8), AllocError>
     requires { ⟦<Lookup as EntropyModel<6>>⟧.rows model.now ≡ contiguous_rows (3 ∷ 18 ∷ 1 ∷ 42 ∷ []) }
     ensures { result ≡ Ok (1, 3, 18) }
@@ -58,7 +58,7 @@ fn looked_up_in_a_view(model: &Lookup) -> Result<(usize, u8, u8), AllocError>
     }
 }
 
-/// The same of a decoder of letters, `x` of which has the second row.
+/// The same for a decoder of letters. The letter of the second row is `x`.
 fn letter_of_20(model: &Decoder) -> Result<(char, u8, u8), AllocError>
     requires { ⟦<Decoder as EntropyModel<6>>⟧.rows model.now
         ≡ rows_of (97 ∷ 120 ∷ 99 ∷ 121 ∷ []) (3 ∷ 18 ∷ 1 ∷ 42 ∷ []) }
@@ -70,7 +70,7 @@ fn letter_of_20(model: &Decoder) -> Result<(char, u8, u8), AllocError>
     }
 }
 
-/// The same of a lookup model of letters.
+/// The same for a lookup model of letters.
 fn letter_looked_up(model: &Tabled) -> Result<(char, u8, u8), AllocError>
     requires { ⟦<Tabled as EntropyModel<6>>⟧.rows model.now
         ≡ rows_of (97 ∷ 120 ∷ 99 ∷ 121 ∷ []) (3 ∷ 18 ∷ 1 ∷ 42 ∷ []) }
@@ -91,7 +91,7 @@ fn letter_looked_up_in_a_clone(model: &Tabled) -> Result<(char, u8, u8), AllocEr
     letter_looked_up(&model.clone()?)
 }
 
-/// How many symbols a contiguous model has, and a decoder of letters.
+/// How many symbols a contiguous model has, and how many a decoder of letters.
 fn sizes(model: &Weighted<6>, letters: &Decoder) -> (usize, usize)
     requires rows { ⟦<Weighted<6> as EntropyModel<6>>⟧.rows model.now ≡ contiguous_rows (3 ∷ 18 ∷ 1 ∷ 42 ∷ []) }
     requires letters { ⟦<Decoder as EntropyModel<6>>⟧.rows letters.now
@@ -148,7 +148,7 @@ fn last_entry() -> Option<(u16, u16)>
     Some((left, weight.get()))
 }
 
-/// The entry of a number that is 65,536 more than that symbol: there is none.
+/// The entry of the number that is 65,536 more than that symbol. It has none.
 fn entry_of_65_540() -> Option<(u16, u16)>
     ensures { result ≡ None }
 {
@@ -173,7 +173,7 @@ fn ends(model: &Weighted<6>) -> (Option<usize>, Option<usize>, usize)
     (first, last, walk.len())
 }
 
-/// The same of a uniform model of five symbols.
+/// The same for a uniform model of five symbols.
 fn uniform_ends() -> (Option<usize>, Option<usize>, usize)
     ensures { result ≡ (Some 0, Some 4, 3) }
 {
@@ -189,7 +189,7 @@ fn uniform_ends() -> (Option<usize>, Option<usize>, usize)
     (first, last, walk.len())
 }
 
-/// The same of a decoder of letters.
+/// The same for a decoder of letters.
 fn letters_at_the_ends(model: &Decoder) -> (Option<char>, Option<char>, usize)
     requires { ⟦<Decoder as EntropyModel<6>>⟧.rows model.now
         ≡ rows_of (97 ∷ 120 ∷ 99 ∷ 121 ∷ []) (3 ∷ 18 ∷ 1 ∷ 42 ∷ []) }
@@ -207,7 +207,7 @@ fn letters_at_the_ends(model: &Decoder) -> (Option<char>, Option<char>, usize)
     (first, last, walk.len())
 }
 
-/// Which row the probe of the quantile 20 begins with, and which one the counted search finds from there on.
+/// The index of the row that the probe of the quantile 20 begins with, and how far after it the counted search finds the row.
 fn index_of_20(model: &Weighted<6>) -> (usize, usize)
     ensures { IsRowIndexOf (⟦<Weighted<6> as EntropyModel<6>>⟧.rows model.now) 20 (result.0 + result.1) }
 {
@@ -215,7 +215,7 @@ fn index_of_20(model: &Weighted<6>) -> (usize, usize)
     (first, row_of_quantile(&mut rows, 20))
 }
 
-/// Which row that probe begins with, and how many rows it tells: all four.
+/// The index of the row that the probe begins with, and how many rows it has: all four.
 fn rows_in_question(model: &Weighted<6>) -> (usize, usize)
     requires { ⟦<Weighted<6> as EntropyModel<6>>⟧.rows model.now ≡ contiguous_rows (3 ∷ 18 ∷ 1 ∷ 42 ∷ []) }
     ensures { result ≡ (0, 4) }
@@ -224,7 +224,7 @@ fn rows_in_question(model: &Weighted<6>) -> (usize, usize)
     (first, rows.len())
 }
 
-/// The same by the search among the rows that meet a slot.
+/// The same for a search of the rows that meet a slot.
 fn index_looked_up(model: &Tabled) -> (usize, usize)
     ensures { IsRowIndexOf (⟦<Tabled as EntropyModel<6>>⟧.rows model.now) 20 (result.0 + result.1) }
 {
@@ -246,7 +246,7 @@ fn last_quantile() -> u8
     u8::greatest_of_bits(6)
 }
 
-/// The decoder of four letters. If it is made, its rows are those of the letters and their weights, and these are accepted.
+/// The decoder of four letters. If it is made, it has the rows of the letters and their weights, and these are accepted.
 /// `InvalidTable` comes only if they are not.
 pub fn decoder_of(
     alloc: Global,
@@ -262,7 +262,7 @@ pub fn decoder_of(
     Decoder::from_symbols_and_nonzero_fixed_point_probabilities(alloc, symbols, weights, false)
 }
 
-/// The same of a lookup model over letters.
+/// The same for a lookup model of letters.
 fn lookup_of(alloc: Global, symbols: [char; 4], weights: [u8; 4]) -> Result<Tabled, ModelError>
     ensures rows { IfOk result (λ m. ⟦<Tabled as EntropyModel<6>>⟧.rows m
         ≡ rows_of symbols (map ⟦<u8 as WholeNumber>⟧.whole weights)) }
@@ -272,21 +272,21 @@ fn lookup_of(alloc: Global, symbols: [char; 4], weights: [u8; 4]) -> Result<Tabl
     Tabled::from_symbols_and_nonzero_fixed_point_probabilities(alloc, symbols, weights, false)
 }
 
-/// The decoder of letters of which the first one comes again after another one: it is not made.
+/// A decoder of letters whose first one comes a second time. It is not made.
 fn of_a_repeat(alloc: Global) -> Result<Decoder, ModelError>
     ensures { IsErr result }
 {
     decoder_of(alloc, ['a', 'x', 'a', 'y'], [3, 18, 1, 42])
 }
 
-/// The model of weights of which 256 more than 64 is the sum, so that a sum in bytes is 64: it is not made.
+/// A model of weights that add up to 256 + 64, which is 64 in a wrapping `u8`. It is not made.
 fn of_a_wrapped_total(alloc: Global) -> Result<Weighted<6>, ModelError>
     ensures { IsErr result }
 {
     of_four(alloc, [100, 100, 100, 20])
 }
 
-/// Stops the test where the contiguous model answers otherwise than its rows leave.
+/// Asserts that the contiguous model answers by its rows.
 fn leaves_one_answer(rt: &impl Abort, model: &Weighted<6>)
     requires { ⟦<Weighted<6> as EntropyModel<6>>⟧.rows model.now ≡ contiguous_rows (3 ∷ 18 ∷ 1 ∷ 42 ∷ []) }
 {
@@ -322,7 +322,7 @@ fn contracts_leave_one_answer_of_a_uniform_model(rt: HostRuntime) {
     same(&rt, last_quantile(), 63);
 }
 
-/// Stops the test where the encoder that is made of a decoder of letters, or its clone, has another entry of `x`.
+/// Asserts that the encoder made of a decoder of letters, and its clone, have the entry of `x`.
 fn leaves_one_entry(rt: &impl Abort, alloc: Global, model: &Decoder)
     requires { ⟦<Decoder as EntropyModel<6>>⟧.rows model.now
         ≡ rows_of (97 ∷ 120 ∷ 99 ∷ 121 ∷ []) (3 ∷ 18 ∷ 1 ∷ 42 ∷ []) }

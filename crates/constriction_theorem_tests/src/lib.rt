@@ -1,7 +1,7 @@
-//! The tests of the laws of the theorem, and callers whose results follow from contracts alone.
+//! The tests of the theorem's calls, and callers whose results follow from contracts alone.
 //!
-//! A library that has tests of its own is proved twice, so none of them has any. Tests use the
-//! public interface alone.
+//! The libraries have no tests of their own, because a library with tests is proved twice. These tests use the public
+//! interface alone.
 #![tactic(auto)]
 
 #[cfg(test)]

@@ -1,4 +1,4 @@
-//! The laws that begin with lists, with a range or with a model: what is replied, and which form is left.
+//! The theorem's calls that begin with lists, with a range or with a model: which replies they give, and which form is left.
 
 ghost use Rattle.std.specs.Prelude.{◌≢◌};
 
@@ -19,10 +19,10 @@ use constriction_words::BitArray;
 use std::alloc::Global;
 use std::process::Abort;
 
-/// A chain that leaves the form with a lookup table.
+/// A chain that leaves a lookup form.
 const STEPS: [ChainStep; 2] = [ChainStep::ToLookup, ChainStep::Rebuild];
 
-/// A chain that leaves it with a lookup table again.
+/// A longer chain that leaves a lookup form.
 const AGAIN: [ChainStep; 4] = [
     ChainStep::ToLookup,
     ChainStep::Rebuild,
@@ -30,7 +30,7 @@ const AGAIN: [ChainStep; 4] = [
     ChainStep::ToLookup,
 ];
 
-/// Stops the test where a form has no lookup table.
+/// Asserts that a form has a lookup table.
 fn has_lookup_table<S, T>(rt: &impl Abort, form: &SearchOrLookup<S, T>) {
     let looks_up = match form {
         SearchOrLookup::Search(_) => false,
@@ -39,14 +39,14 @@ fn has_lookup_table<S, T>(rt: &impl Abort, form: &SearchOrLookup<S, T>) {
     same(rt, looks_up, true);
 }
 
-/// The reply that is a row.
+/// A reply that is a row.
 fn row<Symbol>(symbol: Symbol, left: u8, weight: u8) -> Reply<Symbol, u8>
     requires { weight ≢ 0 }
 {
     Reply::Row(symbol, left, weight.into_nonzero_unchecked())
 }
 
-/// The reply that is an entry.
+/// A reply that is an entry.
 fn entry<Symbol>(left: u8, weight: u8) -> Reply<Symbol, u8>
     requires { weight ≢ 0 }
 {
@@ -62,7 +62,7 @@ const LETTERS: [Query<char, u8>; 5] = [
     Query::OfSymbol('z'),
 ];
 
-/// The replies of the worked letters to these.
+/// The replies to these by the rows of a, x, c, y with the weights 3, 18, 1, 42.
 fn replies_of_letters() -> [Reply<char, u8>; 5] {
     [
         row('x', 3, 18),
@@ -73,7 +73,7 @@ fn replies_of_letters() -> [Reply<char, u8>; 5] {
     ]
 }
 
-/// Asks what is made of the letters and of some weights.
+/// Asks the models that are made of the letters and of these weights.
 fn of_letters(
     rt: &impl Abort,
     alloc: Global,
@@ -102,7 +102,7 @@ const NUMBERS: [Query<usize, u8>; 5] = [
     Query::OfSymbol(4),
 ];
 
-/// The replies of the rows of the weights 3, 18, 1 and 42 to these.
+/// The replies to these by the rows of the weights 3, 18, 1 and 42.
 fn replies_of_numbers() -> [Reply<usize, u8>; 5] {
     [
         row(0, 0, 3),
@@ -113,7 +113,7 @@ fn replies_of_numbers() -> [Reply<usize, u8>; 5] {
     ]
 }
 
-/// Asks what is made of some weights and of the inferred one.
+/// Asks the models that are made of these weights and the inferred one.
 fn of_weights(
     alloc: Global,
     weights: &[u8],
@@ -122,7 +122,7 @@ fn of_weights(
     answer_from_weights::<_, 6, 2>(alloc, weights, true, &STEPS, &NUMBERS)
 }
 
-/// Stops the test where a decoder and one of the encoders reply otherwise.
+/// Asserts the replies of a decoder with each of the two encoders.
 fn are_of_numbers(rt: &impl Abort, found: &RepliesByEncoder<u8>) {
     let expected = replies_of_numbers();
     holds(rt, &found.contiguous, &expected);
@@ -140,7 +140,7 @@ fn each_model_of_weights_replies(rt: HostRuntime) {
     same(&rt, refused, Some(ModelError::InvalidTable));
 }
 
-/// Asks a model of four numbers and what is made of it.
+/// Asks a model of four numbers, and the models that are made of it.
 fn of_model(
     alloc: Global,
     model: &Weighted<6>,
@@ -190,7 +190,7 @@ fn a_range_of_wider_words_replies(rt: HostRuntime) {
     holds(&rt, &answers.expect(&rt, "replies").by_model, &[expected]);
 }
 
-/// The words that coders use at the precision that they use, with 4,096 slots.
+/// The words and the precision of the default coders, with 4,096 slots.
 #[test]
 fn each_model_of_default_words_replies(rt: HostRuntime) {
     let weights = [1, 16_000_000].to_vec(rt.alloc()).expect(&rt, "memory");

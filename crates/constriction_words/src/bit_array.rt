@@ -1,4 +1,4 @@
-//! The traits of words: what a word is, and the laws that an implementer of one meets.
+//! The traits of words, and the laws that a word type meets.
 
 ghost use Rattle.std.specs.Prelude.{◌≡◌, ◌≢◌, ◌↔◌, ◌+◌, ◌*◌, ◌/◌, ◌%◌, ◌^◌, ◌-◌, ◌<◌, ◌≤◌, ℕ, ℤ, pos, IsNone, IsTrue, IfSome};
 ghost use Rattle.std.specs.Int.{FitsUnsignedBits};
@@ -11,20 +11,20 @@ use std::default::Default;
 use std::fmt::{Debug, Display};
 use std::hash::Hash;
 
-/// A word that is not 0: the type that answers hold weights in.
+/// A word other than 0. Answers hold weights in this type.
 pub trait NonZeroBitArray: Copy + Display + Debug + Eq + Hash {
-    /// The words that may be 0.
+    /// The words, with 0.
     type Base: FixedWidth + Copy + Ord + Display + Debug + Hash;
 
     // The word that is held.
     ghost base: { Self → Self.Base };
 
-    /// The word where it is not 0.
+    /// The word, or `None` if it is 0.
     fn new(n: Self::Base) -> Option<Self>
         ensures none { IsNone result ↔ (Self.Base.value n ≡ pos 0) }
         ensures some { IfSome result (λ x. base x ≡ n) };
 
-    /// The word, of which the caller knows that it is not 0.
+    /// The word, which is not 0.
     fn new_unchecked(n: Self::Base) -> Self
         requires { Self.Base.value n ≢ pos 0 }
         ensures { base result ≡ n };
@@ -36,22 +36,21 @@ pub trait NonZeroBitArray: Copy + Display + Debug + Eq + Hash {
 
     ghost nonzero_law: { (x : Self) → Self.Base.value (base x) ≢ pos 0 };
 
-    // Two that hold one word are one.
+    // Values that hold the same word are equal.
     ghost same_law: { (a b : Self) → base a ≡ base b → a ≡ b };
 
-    // Equality is that of the words that are held.
+    // `==` compares the words that are held.
     ghost eq_law: { (a b : Self) → IsTrue (Self.eq a b) ↔ (base a ≡ base b) };
 }
 
 /// A word: an unsigned integer of a fixed number of bits.
 ///
-/// The law of words: a word stands for a whole number from 0 to `2^BITS - 1`, and two words of one
-/// number are one word. Equality and order are those of the numbers. Sums, differences, products,
-/// quotients, remainders and shifts to the right give the exact number and may be used where that
-/// is a word; shifts to the left and the wrapping calls are modulo `2^BITS`.
+/// A word stands for a whole number from 0 to `2^BITS - 1`, and words with the same number are equal.
+/// `==` and `<` compare the numbers. Sums, differences and products are exact, and require that the
+/// result is a word. Quotients and remainders require a divisor above 0, shifts fewer than `BITS`
+/// places. Left shifts and the wrapping calls are modulo `2^BITS`.
 ///
-/// It is implemented for `u8`, `u16`, `u32`, `u64`, `usize` (64 bits) and `u128`. A type of the
-/// caller's own may implement it too.
+/// `u8`, `u16`, `u32`, `u64`, `usize` (64 bits) and `u128` are words. A caller's own type may be one too.
 pub trait BitArray: WholeNumber<NonZero: NonZeroBitArray<Base = Self>>
     + PrimInt
     + Default
@@ -60,13 +59,13 @@ pub trait BitArray: WholeNumber<NonZero: NonZeroBitArray<Base = Self>>
     + Debug
     + Eq
     + Hash {
-    /// The word where it is not 0.
+    /// The word as a weight, or `None` if it is 0.
     fn into_nonzero(self) -> Option<Self::NonZero>
         ensures none { IsNone result ↔ (Self.whole self ≡ 0) }
         ensures some { IfSome result (λ x. Self.NonZero.base x ≡ self) }
         ensures range { Self.whole self < 2 ^ Self.BITS };
 
-    /// The word, of which the caller knows that it is not 0.
+    /// The word, which is not 0, as a weight.
     fn into_nonzero_unchecked(self) -> Self::NonZero
         requires { Self.whole self ≢ 0 }
         ensures { Self.NonZero.base result ≡ self };
@@ -87,22 +86,22 @@ pub trait BitArray: WholeNumber<NonZero: NonZeroBitArray<Base = Self>>
     // The number of a word is its value.
     ghost value_law: { (x : Self) → Self.value x ≡ pos (Self.whole x) };
 
-    // Words have the whole numbers below `2^BITS`, and no other number.
+    // A number fits a word if and only if it is a whole number below `2^BITS`.
     ghost fits_law: { (z : ℤ) → Self.fits z ↔ FitsUnsignedBits Self.BITS z };
 
     ghost width_law: { (Self.BITS ≡ bit_len Self.width) × (Self.BITS ≤ 128) };
 
-    // What a word that is not 0 holds is the word that it is as a weight.
+    // A weight holds the same word for both traits.
     ghost base_law: { (x : Self.NonZero) → Self.NonZero.base x ≡ Self.base x };
 
-    // Comparisons are those of the numbers.
+    // `==`, `<` and `<=` compare the numbers.
     ghost eq_law: { (a b : Self) → IsTrue (Self.eq a b) ↔ (Self.whole a ≡ Self.whole b) };
 
     ghost lt_law: { (a b : Self) → IsTrue (partial_lt Self.partial_cmp a b) ↔ (Self.whole a < Self.whole b) };
 
     ghost le_law: { (a b : Self) → IsTrue (partial_le Self.partial_cmp a b) ↔ (Self.whole a ≤ Self.whole b) };
 
-    // The words 0, 1 and the greatest one, and the default word.
+    // The numbers of `zero`, `one`, the greatest word and the default word.
     ghost zero_law: { Self.whole Self.zero ≡ 0 };
 
     ghost one_law: { Self.whole Self.one ≡ 1 };
@@ -111,8 +110,8 @@ pub trait BitArray: WholeNumber<NonZero: NonZeroBitArray<Base = Self>>
 
     ghost default_law: { (x : Self) → Self.is_default x → Self.whole x ≡ 0 };
 
-    // Each operation may be used where the exact number fits, and gives that number. Two laws each, since a proof search takes a law
-    // for what it concludes.
+    // For each operation, when it may be used and which number it gives. These are two laws, since the proof search picks a law by its
+    // conclusion.
     ghost can_add_law: { (a b : Self) → Self.whole a + Self.whole b < 2 ^ Self.BITS → Self.can_add a b };
 
     ghost add_law: { (a b r : Self) → Self.add_gives a b r → Self.whole r ≡ Self.whole a + Self.whole b };

@@ -1,4 +1,4 @@
-//! What a coder fails with: an error of its own, or one of its backend.
+//! Errors of coders: a coder's own, or an error of its backend.
 
 ghost use Rattle.std.specs.Prelude.{◌≡◌, codes, Some};
 ghost use Rattle.constriction_words.specs.declared.coder_error.CoderError.TheVariants.{Frontend, Backend};
@@ -10,15 +10,15 @@ use std::fmt;
 /// An error of the coder itself, or of the backend that holds its words.
 #[derive(Debug, Clone, PartialEq, Eq, Drop)]
 pub enum CoderError<FrontendError, BackendError> {
-    /// What was to be coded, or the compressed data, is at fault.
+    /// The symbol or the compressed data is at fault.
     Frontend(FrontendError),
     /// A read or a write of the backend failed.
     Backend(BackendError),
 }
 
 impl<FrontendError, BackendError> CoderError<FrontendError, BackendError> {
-    /// Applies `f` to an error of the coder, and passes one of the backend through. `f` needs to be
-    /// callable on the error of the coder alone, if there is one.
+    /// Applies `f` to a frontend error, and passes a backend error through. `f` has to be callable on
+    /// the frontend error alone, if there is one.
     pub fn map_frontend<NewFrontendError, F: Fn(FrontendError) -> NewFrontendError + Drop>(
         self,
         f: F,
@@ -32,8 +32,8 @@ impl<FrontendError, BackendError> CoderError<FrontendError, BackendError> {
         }
     }
 
-    /// Applies `f` to an error of the backend, and passes one of the coder through. `f` needs to be
-    /// callable on the error of the backend alone, if there is one.
+    /// Applies `f` to a backend error, and passes a frontend error through. `f` has to be callable on
+    /// the backend error alone, if there is one.
     pub fn map_backend<NewBackendError, F: Fn(BackendError) -> NewBackendError + Drop>(
         self,
         f: F,
@@ -70,7 +70,7 @@ impl<FrontendError: fmt::Display, BackendError: fmt::Display> fmt::Display
 
 impl<FrontendError: Error, BackendError: Error> Error for CoderError<FrontendError, BackendError> {}
 
-/// What an encoder fails with.
+/// The frontend error of an encoder.
 #[derive(Debug, Clone, PartialEq, Eq, Drop)]
 pub enum DefaultEncoderFrontendError {
     /// The symbol has no entry in the model, so it cannot be encoded.
@@ -92,7 +92,7 @@ impl fmt::Display for DefaultEncoderFrontendError {
 
 impl Error for DefaultEncoderFrontendError {}
 
-/// A floating point number that has to be a number is none.
+/// A floating-point value that has to be a number is NaN.
 #[derive(Debug, Clone, Copy, PartialEq, Eq)]
 pub struct NanError;
 

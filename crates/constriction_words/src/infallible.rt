@@ -5,7 +5,7 @@ ghost use Rattle.std.specs.Prelude.{◌≡◌, IfOk, Ok};
 use crate::coder_error::CoderError;
 use std::convert::Infallible;
 
-/// A result that has a value in every case, since its error has none.
+/// A result that is always `Ok`, since its error type has no value.
 pub trait UnwrapInfallible<T> {
     // The result has this value.
     ghost unwraps: { Self → T → Type 0 };

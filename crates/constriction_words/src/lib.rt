@@ -1,7 +1,7 @@
 //! Words of a fixed width, the order in which words are read back, and the errors of coders.
 //!
-//! Everything above stands on these: a probability and a unit of compressed data are both a word,
-//! and a coder fails either by itself or because the backend that holds its words did.
+//! A probability and a unit of compressed data are both words. A coder fails by itself, or because the
+//! backend that holds its words failed.
 #![tactic(auto)]
 
 mod bit_array;

@@ -1,4 +1,4 @@
-//! What a backend that is read and written fails with.
+//! The error of a backend that is both read and written.
 
 ghost use Rattle.std.specs.Prelude.{◌≡◌, IfOk};
 ghost use Rattle.constriction_words.specs.ReadWriteError.{read_write_error_text};
@@ -16,7 +16,7 @@ pub enum ReadWriteError<ReadError, WriteError> {
     Write(WriteError),
 }
 
-/// It says whether a read or a write failed, and then what the error says. The Rust crate prints none.
+/// Prints whether a read or a write failed, and then the error. The Rust crate has no `Display` here.
 impl<ReadError: fmt::Display, WriteError: fmt::Display> fmt::Display
     for ReadWriteError<ReadError, WriteError> {
     ghost output = { read_write_error_text ReadError.output WriteError.output };

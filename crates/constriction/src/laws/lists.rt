@@ -1,4 +1,4 @@
-//! Models that are made of plain lists.
+//! Models made of plain lists.
 
 ghost use Rattle.std.specs.Prelude.{◌≡◌, Err, IfOk, map};
 ghost use Rattle.constriction.specs.PlainLists.{GivesList};
@@ -8,10 +8,10 @@ ghost use Rattle.constriction_model.specs.declared.error.ModelError.TheVariants.
 
 use constriction_model::EntropyModel;
 
-/// Where a constructor is given a plain list of weights, as a `Vec`, an array or the copied items of a slice, these decide what it
-/// answers: a model has their rows and they are accepted, and `InvalidTable` comes only where they are not.
+/// If a constructor is given a plain list of weights, such as a `Vec`, an array or the copied items of a slice, the list decides the
+/// answer. A model comes only if the weights are accepted, and has their rows; `InvalidTable` comes only if they are not accepted.
 ///
-/// `from` is what the constructor is given, and `weights` its items.
+/// `from` is what the constructor is given, and `weights` are its items.
 pub fn listed_weights_decide<M, I, const PRECISION: usize>(
     from: &I,
     weights: &[M::Probability],
@@ -32,7 +32,7 @@ where
         (completed PRECISION infer_last_probability (map M.Probability.whole weights.now))) }
 {}
 
-/// The same where it is given a list of symbols and one of weights.
+/// The same for a list of symbols and a list of weights.
 pub fn listed_symbols_and_weights_decide<M, S, P, const PRECISION: usize>(
     symbols_from: &S,
     symbols: &[M::Symbol],

@@ -3,7 +3,7 @@
 ghost use Rattle.std.specs.Prelude.{◌≡◌, ◌≢◌, ◌<◌, ◌≤◌, ℕ, List, None, length, nat_eq, slice_index_or};
 ghost use Rattle.constriction_model.specs.Rows.{Row, contiguous_rows, entry_of};
 
-/// The symbols of a contiguous model, whether it searches or looks up, and of a uniform one are the numbers below its
+/// The symbols of a contiguous model, searching or looking up, and of a uniform model are the numbers below its
 /// `support_size`: each of these has an entry, no other number has one, and the symbol of each row is its index.
 /// So a coder never answers `ImpossibleSymbol` for one of these numbers, and decodes no other number.
 pub fn contiguous_symbols_have_entries()

@@ -1,4 +1,4 @@
-//! Making a cursor.
+//! Constructors of cursors.
 
 ghost use Rattle.std.specs.Prelude.{◌≡◌, ◌≤◌, ◌↔◌, length, IfOk, IsOk};
 ghost use Rattle.constriction_backends.specs.Cursor.{buf_of, pos_of, parts_of};
@@ -34,8 +34,7 @@ impl<Word, Buf: SafeBuf<Word>> Cursor<Word, Buf> {
         }
     }
 
-    /// A cursor after the first `pos` words. It is refused, and the buffer is dropped, where there
-    /// are fewer words than that.
+    /// A cursor after the first `pos` words. If there are fewer words, this fails and drops the buffer.
     #[inline]
     pub fn new_at_pos(buf: Buf, pos: usize) -> Result<Self, ()>
     where
@@ -77,8 +76,8 @@ impl<Word, Buf: SafeBufMut<Word>> Cursor<Word, Buf> {
 }
 
 impl<Word: Copy, Buf: SafeBuf<Word>> Cursor<Word, Buf> {
-    /// A cursor at the same position over a copy of the words, which it makes in one pass. It fails
-    /// only where memory is refused.
+    /// A cursor at the same position over a copy of the words, made in one pass. This fails only if
+    /// memory is refused.
     pub fn cloned(&self, alloc: Global) -> Result<Cursor<Word, Vec<Word>>, AllocError>
         ensures { IfOk result (λ cursor. ((buf_of cursor).items ≡ Buf.words_of (buf_of self.now))
             × (pos_of cursor ≡ pos_of self.now)) }

@@ -1,4 +1,4 @@
-//! The buffer and the position of a cursor: looked at, taken apart, lent for writing, and moved.
+//! The parts of a cursor: its words, buffer and position, views of them, and seeks.
 
 ghost use Rattle.std.specs.Prelude.{◌≡◌, ◌++◌};
 ghost use Rattle.std.specs.Borrow.{Lends, follows, sem, Array};
@@ -11,7 +11,7 @@ use constriction_words::{Pos, PosSeek, Seek};
 use std::marker::PhantomData;
 
 impl<Word, Buf: SafeBuf<Word>> Cursor<Word, Buf> {
-    /// A cursor at the same position that borrows the words. Its moves leave this one where it is.
+    /// A cursor at the same position that borrows the words. Its moves leave this cursor in place.
     #[inline]
     pub fn as_view(&self) -> Cursor<Word, &[Word]>
         ensures buf { (buf_of result).now ≡ Buf.words_of (buf_of self.now) }
@@ -65,8 +65,8 @@ impl<Word, Buf: SafeBuf<Word>> Cursor<Word, Buf> {
 impl<Word, Buf: SafeBufMut<Word>> Cursor<Word, Buf> {
     ghost use Rattle.constriction_backends.specs.contracts.cursor.Cursor.{the_row};
 
-    /// Lends all words for writing. What stands in them at the end of the loan are the words of the
-    /// buffer then, and the position is as it was.
+    /// Lends all words for writing. The buffer keeps what the slice holds at the end of the loan, and the
+    /// position stays.
     #[inline]
     pub fn buf_mut(&mut self) -> &mut [Word]
         ensures* writes_back { sem 𝓛 (Lends (the_row Word.row Buf.row Buf.SafeBuf) (Array Word.row 0) self.entry result
@@ -76,8 +76,7 @@ impl<Word, Buf: SafeBufMut<Word>> Cursor<Word, Buf> {
         self.buf.words_mut()
     }
 
-    /// Lends the words before the position for writing. Those from the position on stay, and so does
-    /// the position.
+    /// Lends the words before the position for writing. The other words and the position stay.
     #[inline]
     pub fn written_mut(&mut self) -> &mut [Word]
         ensures* writes_back { sem 𝓛 (Lends (the_row Word.row Buf.row Buf.SafeBuf) (Array Word.row 0) self.entry result
@@ -88,8 +87,7 @@ impl<Word, Buf: SafeBufMut<Word>> Cursor<Word, Buf> {
         part_mut(&mut self.buf, 0, pos)
     }
 
-    /// Lends the words from the position on for writing. Those before it stay, and so does the
-    /// position.
+    /// Lends the words from the position on for writing. The other words and the position stay.
     #[inline]
     pub fn unwritten_mut(&mut self) -> &mut [Word]
         ensures* writes_back { sem 𝓛 (Lends (the_row Word.row Buf.row Buf.SafeBuf) (Array Word.row 0) self.entry result
@@ -101,12 +99,12 @@ impl<Word, Buf: SafeBufMut<Word>> Cursor<Word, Buf> {
         part_mut(&mut self.buf, pos, len)
     }
 
-    /// A cursor at the same position that borrows the words for writing. What it wrote stands in the
-    /// words at the end of the loan, and its moves leave this one where it is.
+    /// A cursor at the same position that borrows the words for writing. At the end of the loan the buffer
+    /// has what was written. Moves of the borrowing cursor leave this one in place.
     ///
-    /// A caller's proof learns the position and the number of the words that are left, and no words.
-    /// One that needs them makes the cursor over a local that holds the loan of
-    /// [`buf_mut`](Self::buf_mut), and names that local once more when it is done.
+    /// A caller's proof then knows the position and the number of words, but not the words. A proof that
+    /// needs them makes the cursor over a local that holds the loan of [`buf_mut`](Self::buf_mut), and
+    /// names that local once more at the end.
     #[inline]
     pub fn as_mut_view(&mut self) -> Cursor<Word, &mut [Word]>
         ensures* writes_back { sem 𝓛 (follows (the_row Word.row Buf.row Buf.SafeBuf) (Array Word.row 0)

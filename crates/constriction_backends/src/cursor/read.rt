@@ -1,4 +1,4 @@
-//! A cursor as a source: read backwards as a stack, and forwards as a queue, and how many words it has that way.
+//! A cursor as a source, which is read backwards as a stack and forwards as a queue, and counts its words in that direction.
 
 ghost use Rattle.std.specs.Prelude.{◌≡◌, ◌↔◌, [], length, reverse, IsTrue};
 ghost use Rattle.std.proofs.Common.{ap, sym, ◌∙◌};

@@ -1,4 +1,4 @@
-//! A cursor as a sink, whose write overwrites the word at the position, and as a stack, which reads back what was written.
+//! A cursor as a sink, which overwrites the word at the position, and as a stack, which reads back what was written.
 
 ghost use Rattle.std.specs.Prelude.{◌≡◌, ◌<◌, refl, true, length};
 ghost use Rattle.std.proofs.Common.{sym};

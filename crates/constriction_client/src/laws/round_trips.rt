@@ -27,8 +27,8 @@ use std::alloc::{AllocError, Global};
 use std::convert::Infallible;
 use std::hash::Hash;
 
-/// Why items did not come back from a cursor: the fault of an item, memory that was refused when
-/// they were read, or a quantile that found no place.
+/// Why items did not come back from a cursor: an item has no quantile, memory was refused when the
+/// items were read, or a quantile found no place.
 pub type CursorError = CoderError<QuantileFault, ReadWriteError<AllocError, BoundedWriteError>>;
 
 /// A decoder model of some rows, and the encoder model of their entries.
@@ -37,7 +37,7 @@ pub type DecoderAndEncoder<Symbol, Probability, const PRECISION: usize> = (
     NonContiguousCategoricalEncoderModel<Symbol, Probability, PRECISION>,
 );
 
-/// Reads so many words, which are quantiles, and answers their pairs.
+/// Reads `count` words, which are quantiles, and answers their pairs.
 fn read_back<S: Semantics, D, R, const PRECISION: usize>(
     alloc: Global,
     decoder: &D,
@@ -64,11 +64,11 @@ where
     }
 }
 
-/// Writes items to a stack in memory by the encoder and reads them back by the decoder, the last
-/// one first. The encoder's entries are those of the decoder's rows. What comes back has symbols that are
-/// equal to those of the items, or where the decoder owns its symbols clones of such ones.
+/// Writes items to a stack in memory by the encoder, and reads them back by the decoder, the last
+/// one first. The encoder has the entries of the decoder's rows. The items come back with equal symbols, or,
+/// if the decoder owns its symbols, with clones of equal symbols.
 ///
-/// It fails with the fault of the first item that has no quantile, or where memory is refused.
+/// It fails with the fault of the first item that has no quantile, or if memory is refused.
 pub fn there_and_back_of_two<D, E, const PRECISION: usize>(
     alloc: Global,
     decoder: &D,
@@ -111,13 +111,12 @@ where
     there_and_back_of_two(alloc, model, model, items)
 }
 
-/// The decoder model of the rows of any model that can be walked through, and the hashed encoder model
-/// of its entries. Where that model owns its symbols, both have clones of them, which have to be equal to
-/// them. They agree, so that what the one writes the other reads: they are the two models that
-/// [`there_and_back_of_two`] and [`there_and_back_in_a_cursor`] take.
+/// Makes the decoder model of a model's rows, and the hashed encoder model of its entries. If the model
+/// owns its symbols, both have clones of them, which have to be equal to them. The two agree, as
+/// [`there_and_back_of_two`] and [`there_and_back_in_a_cursor`] require.
 ///
-/// `InvalidTable` comes only where two symbols of the rows are equal, `OutOfMemory` where memory is
-/// refused. The model is walked through twice.
+/// `InvalidTable` comes only if two symbols of the rows are equal, `OutOfMemory` if memory is refused.
+/// The model is walked through twice.
 pub fn decoder_and_encoder<M, const PRECISION: usize>(
     alloc: Global,
     model: M,
@@ -136,7 +135,7 @@ where
     Ok((decoder, encoder))
 }
 
-/// Writes items to a cursor, and goes back to where it stood.
+/// Writes items to a cursor, and seeks back to the position before them.
 fn write_and_go_back<E, Buf, const PRECISION: usize>(
     encoder: &E,
     items: &[(E::Symbol, E::Probability)],
@@ -166,14 +165,13 @@ where
     }
 }
 
-/// Writes items to a cursor by the encoder, from where it stands, goes back there, and reads them
-/// as a queue by the decoder: they come back in their order. The encoder's entries are those of the
-/// decoder's rows.
+/// Writes items to a cursor by the encoder, seeks back to where they begin, and reads them as a queue
+/// by the decoder. They come back in their order. The encoder has the entries of the decoder's rows.
 ///
-/// `Frontend` is answered at the first item that has no quantile, `Write` at the first one whose
-/// quantile finds no place, and `Read` where memory is refused. The words of the items before it
-/// stay, and the cursor stands after them; where memory is refused those of all items do. No word
-/// of the buffer changes but those.
+/// It fails with `Frontend` at the first item that has no quantile, with `Write` at the first one
+/// whose quantile finds no place, and with `Read` if memory is refused. After `Frontend` or `Write`
+/// the words of the items before stay, and the cursor stands after them. After `Read` the words of
+/// all items stay, and nothing is known of the position. No other word of the buffer changes.
 pub fn there_and_back_in_a_cursor<D, E, Buf, const PRECISION: usize>(
     alloc: Global,
     decoder: &D,

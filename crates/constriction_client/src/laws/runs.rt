@@ -1,4 +1,4 @@
-//! What runs of calls on a cursor and on its reversal say of each other.
+//! Runs of calls on a cursor and on its reversal are alike.
 
 ghost use Rattle.std.specs.Prelude.{◌≡◌, List, IfOk, OnErr};
 ghost use Rattle.constriction_backends.specs.Cursor.{buf_of, state_of};
@@ -11,11 +11,11 @@ use constriction_backends::{Cursor, Reverse, SafeBufMut};
 use std::alloc::{AllocError, Global};
 
 /// Runs the same calls on a cursor and on one that was turned round, and answers the replies of
-/// both. Where the one is the reversal of the other, as after `into_reversed` of a cursor in the same
-/// state, the replies are the same, and each is left as the reversal of the other.
+/// both. If one is the reversal of the other, as after `into_reversed` of a cursor in the same
+/// state, the replies are the same, and each ends in the reversal of the other's state.
 ///
-/// Memory is asked for twice, for the replies of both, before the first call: where it is refused,
-/// nothing was run on either.
+/// Memory for the replies of both is asked for before the first call. If it is refused, no call was
+/// made on either.
 pub fn run_cursor_and_reversal<Word: Copy + Drop, Buf: SafeBufMut<Word>, Turned: SafeBufMut<Word>>(
     alloc: Global,
     cursor: &mut Cursor<Word, Buf>,
@@ -41,8 +41,8 @@ pub fn run_cursor_and_reversal<Word: Copy + Drop, Buf: SafeBufMut<Word>, Turned:
 }
 
 /// A run of calls in a state and a run of the same calls in its reversal have the same replies, and
-/// leave a state and its reversal. So it is of what [`run_cursor`](crate::run_cursor) and
-/// [`run_reversed`](crate::run_reversed) say of each other.
+/// end in a state and its reversal. So [`run_cursor`](crate::run_cursor) and
+/// [`run_reversed`](crate::run_reversed) are alike.
 pub fn runs_are_alike<Word>()
     ensures { (calls : List (CursorCall Word)) (s t turned left : State Word) (replies others : List (CursorReply Word))
         → turned ≡ reversal s → Runs s calls replies t → Runs (reversal turned) calls others (reversal left)

@@ -1,4 +1,4 @@
-//! What callers of a stack coder learn from the contracts alone: of words that another program has, and of bits-back coding.
+//! Callers of a stack coder, proved from the contracts alone: words of another program, and bits-back coding.
 
 ghost use Rattle.std.specs.Prelude.{◌+◌, ◌%◌, ◌≡◌, Err, IfOk, IfSome, List, length};
 ghost use Rattle.std.specs.List.{AllZip};
@@ -17,7 +17,7 @@ use std::alloc::Global;
 /// Why no symbols were decoded.
 #[derive(Debug, PartialEq, Eq, Drop)]
 pub enum WordsError {
-    /// The words are not those of so many symbols.
+    /// The words are not those of `count` symbols.
     OtherWords,
     /// Memory for the symbols was refused.
     OutOfMemory,
@@ -41,7 +41,7 @@ where
     coder.into_compressed().ok()
 }
 
-/// So many symbols of these words. Where they are the words of as many, these come back, and the words are not refused.
+/// Decodes `count` symbols from words. If these are the words of `count` symbols, the symbols come back, and the words are not refused.
 pub fn symbols_of_words<M, const PRECISION: usize>(
     alloc: Global,
     model: &M,
@@ -76,7 +76,7 @@ where
 /// Numbers below a range.
 type Numbers = UniformModel<u32, 24>;
 
-/// The model of latent numbers that a number chooses: whatever it is, three have the same weight.
+/// The model of latent numbers that a number chooses. It is the same for all: three numbers of the same weight.
 fn posterior(_symbol: &usize) -> Numbers
     ensures { ⟦<Numbers as EntropyModel<24>>⟧.rows result ≡ uniform_rows 24 3 }
 {

@@ -4,22 +4,23 @@ ghost use Rattle.std.specs.Prelude.{◌≡◌, ◌≢◌, ◌++◌, ◌^◌, ◌
 ghost use Rattle.std.specs.List.{AllZip};
 ghost use Rattle.constriction_coders.specs.Published.{published_entries, published_words};
 ghost use Rattle.constriction_coders.specs.RangeLaws.{DecoderFollows, EndsThere, LeavesWhole, LiesBefore, MessageOnce, NeverAboveAll, RangeSymbolComesBack, RangeSymbolsComeBack, SealedWordsTell};
+ghost use Rattle.constriction_coders.specs.RangePositions.{RangePlaceComesBack};
 ghost use Rattle.constriction_coders.specs.Spans.{IsMessageOf};
 ghost use Rattle.constriction.specs.Coding.{StandsForEqual};
 ghost use Rattle.constriction.specs.Model.{ClonesAreEqual};
 ghost use Rattle.constriction.specs.Rows.{entry_of};
 
 use crate::laws::MessageError;
-use crate::queue::{RangeDecoder, DecoderFrontendError, RangeEncoder};
+use crate::queue::{DecoderFrontendError, RangeDecoder, RangeEncoder};
 use constriction::backends::{Cursor, ReadWords};
 use constriction::stream::model::{DecoderModel, EncoderModel};
 use constriction::{CoderError, DefaultEncoderFrontendError, Queue};
 use std::alloc::{AllocError, Global};
 use std::convert::Infallible;
 
-/// What encodes and decodes by these two models, whatever models the symbols before and after it have: a symbol comes back where
-/// the decoder is at the span before it and the number of the words is in the span after it. Then the decoder is at the span
-/// after it, and the number is in the span before it.
+/// A symbol that is encoded by one model and decoded by the other comes back, whatever models the symbols before and after it have, if
+/// the decoder is at the span before it and the number of the words is in the span after it. Then the decoder is at the span after it.
+/// A number in the span after it is in the span before it.
 pub fn range_symbol_comes_back<D, E, Source, const PRECISION: usize>(decoder: &D, encoder: &E)
 where
     D: DecoderModel<PRECISION, Probability = u32>,
@@ -32,9 +33,9 @@ where
     ensures leaves { LeavesWhole (entry_of E.symbol_eq (E.rows encoder.now)) PRECISION }
 {}
 
-/// What encodes and decodes by these two models: from any source that tells the words of a message, what is decoded stands for what
-/// was encoded, in order; the decoder is at the span of as many symbols; the words are never invalid before all symbols are
-/// decoded; and then the decoder may be at the end.
+/// From any source that tells the words of a message, and from any span of the message on, what is decoded stands for what was encoded,
+/// in order, and the decoder is at the span of as many symbols. The words are never invalid before all symbols are decoded. Then the
+/// decoder may be at the end.
 pub fn range_symbols_come_back<D, E, Source, const PRECISION: usize>(decoder: &D, encoder: &E)
 where
     D: DecoderModel<PRECISION, Probability = u32>,
@@ -51,12 +52,21 @@ where
         Source.read_gives Source.tells_upcoming PRECISION }
 {}
 
+/// If a place was noted and symbols were encoded since, a decoder over the words of the message, whatever words come after them, goes to
+/// the place and is at the span that was noted, although a carry may have changed words since.
+pub fn range_place_comes_back<E, Source, const PRECISION: usize>(encoder: &E)
+where
+    E: EncoderModel<PRECISION, Probability = u32>,
+    Source: ReadWords<u32, Queue>,
+    ensures { RangePlaceComesBack (entry_of E.symbol_eq (E.rows encoder.now)) PRECISION Source.tells_upcoming }
+{}
+
 /// The words of an encoder are words of its message, whatever words come after them.
 pub fn sealed_words_tell()
     ensures { SealedWordsTell }
 {}
 
-/// What encodes by this model: symbols have one message, whoever encoded them.
+/// Symbols have one message, whoever encoded them.
 pub fn one_message<E, const PRECISION: usize>(encoder: &E)
 where
     E: EncoderModel<PRECISION, Probability = u32>,
@@ -70,7 +80,7 @@ pub fn published_message()
 
 /// The words of these symbols.
 ///
-/// A symbol with no entry is not encoded. Any other error is that memory was refused.
+/// A symbol with no entry is not encoded. Otherwise it fails only if memory is refused.
 pub fn message_of<E, const PRECISION: usize>(
     alloc: Global,
     encoder: &E,
@@ -93,8 +103,8 @@ where
     }
 }
 
-/// Decodes a message from a source: where it tells the words of as many symbols, and whatever words after them, these come back in
-/// order, and the words are not invalid.
+/// Decodes a message of `count` symbols from a source. If the source tells the words of that many symbols, and any words after them, the
+/// symbols come back in order, and the words are not invalid.
 pub fn message_from<D, E, Source, const PRECISION: usize>(
     alloc: Global,
     source: Source,
@@ -130,8 +140,8 @@ where
 
 /// Encodes the symbols and decodes as many: they come back in order.
 ///
-/// What comes back stands for equal symbols: where the decoder owns its symbols it is a clone, and where a clone equals its symbol it is
-/// equal to what was encoded. A symbol with no entry is not encoded. Any other fault is that memory was refused.
+/// What comes back stands for equal symbols. If the decoder owns its symbols, it is a clone; if a clone equals its symbol, it is equal to
+/// what was encoded. A symbol with no entry is not encoded. Otherwise it fails only if memory is refused.
 pub fn message_comes_back<D, E, const PRECISION: usize>(
     alloc: Global,
     decoder: &D,

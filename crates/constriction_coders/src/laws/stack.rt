@@ -20,7 +20,7 @@ use constriction::stream::model::{DecoderModel, EncoderModel};
 use constriction::{CoderError, DefaultEncoderFrontendError};
 use std::alloc::{AllocError, Global};
 
-/// What encodes and decodes by these two models: each symbol comes back.
+/// Each symbol that is encoded by one model and decoded by the other comes back.
 pub fn symbol_comes_back<D, E, const PRECISION: usize>(decoder: &D, encoder: &E)
 where
     D: DecoderModel<PRECISION, Probability = u32>,
@@ -29,7 +29,7 @@ where
     ensures { SymbolComesBack D.stands_for E.symbol_eq (entry_of E.symbol_eq (E.rows encoder.now)) (D.rows decoder.now) PRECISION }
 {}
 
-/// So does each run of symbols.
+/// Each run of symbols that is encoded by one model and decoded by the other comes back.
 pub fn symbols_come_back<D, E, const PRECISION: usize>(decoder: &D, encoder: &E)
 where
     D: DecoderModel<PRECISION, Probability = u32>,
@@ -38,28 +38,27 @@ where
     ensures { SymbolsComeBack D.stands_for E.symbol_eq (entry_of E.symbol_eq (E.rows encoder.now)) (D.rows decoder.now) PRECISION }
 {}
 
-/// What encodes by this model: what a coder holds after a symbol follows from what it held before, so that the words of a message are
-/// the same whoever encoded it.
+/// What a coder holds after a symbol follows from what it held before, so the words of a message are the same whoever encoded it.
 pub fn encoded_once<E, const PRECISION: usize>(encoder: &E)
 where
     E: EncoderModel<PRECISION, Probability = u32>,
     ensures { EncodedOnce (entry_of E.symbol_eq (E.rows encoder.now)) PRECISION }
 {}
 
-/// What a coder holds: a state of 64 bits, which is below `2^32` only over no words. Other laws ask it of each content.
+/// A coder holds a state of 64 bits, which is below `2^32` only if there is no word under it. Other laws require this of each content.
 pub fn may_be_held<Backend: WordStack<u32>>(coder: &AnsCoder<Backend>)
     ensures { MayBeHeld (content coder.now.state (Backend.words_of coder.now.words)) }
 {
     let _state = coder.state;
 }
 
-/// Words are those of one coder: they tell its state and the words under it.
+/// Words are those of at most one coder: its state and the words under it follow from them.
 pub fn compressed_once()
     ensures { (a b : Content) (all : List ℕ) → IsCompressed a all → IsCompressed b all → a ≡ b }
 {}
 
-/// What encodes by this model: symbols have one list of words, whoever encoded them, and it does not end in 0, so that
-/// [`from_compressed`](AnsCoder::from_compressed) accepts it.
+/// Symbols have one list of words, whoever encoded them. It does not end in 0, so [`from_compressed`](AnsCoder::from_compressed) accepts
+/// it.
 pub fn words_once<E, const PRECISION: usize>(encoder: &E)
 where
     E: EncoderModel<PRECISION, Probability = u32>,
@@ -69,8 +68,8 @@ where
     encoded_once::<E, PRECISION>(encoder);
 }
 
-/// What encodes and decodes by these two models: from the words of symbols, whoever encoded them, as many are decoded that stand for
-/// these, in order, and then the coder holds nothing. So words have one list of so many symbols.
+/// From the words of symbols, whoever encoded them, as many symbols are decoded. They stand for the encoded ones, in order, and then the
+/// coder holds nothing. So words have one list of a given number of symbols.
 pub fn words_come_back<D, E, const PRECISION: usize>(decoder: &D, encoder: &E)
 where
     D: DecoderModel<PRECISION, Probability = u32>,
@@ -82,8 +81,8 @@ where
     symbols_come_back::<D, E, PRECISION>(decoder, encoder);
 }
 
-/// What decodes and encodes by these two models, where the symbols of the rows differ and clones equal their symbols: a symbol that
-/// was decoded has an entry, and where it is encoded again, what the coder holds is as it was.
+/// If the symbols of the rows differ and clones equal their symbols, a symbol that was decoded has an entry. If it is encoded again, the
+/// coder holds what it held before.
 pub fn decoded_goes_back<D, E, const PRECISION: usize>(decoder: &D, encoder: &E)
 where
     D: DecoderModel<PRECISION, Probability = u32>,
@@ -96,8 +95,8 @@ where
     encoded_once::<E, PRECISION>(encoder);
 }
 
-/// What encodes by this model: a coder that is sought to a place from before some symbols, whose words are still there, holds what it
-/// held then, and so decodes from there.
+/// If a coder is sought to a place from before some symbols, and the words from then are still there, it holds what it held then. So it
+/// decodes from there.
 pub fn place_comes_back<E, const PRECISION: usize>(encoder: &E)
 where
     E: EncoderModel<PRECISION, Probability = u32>,
@@ -106,8 +105,8 @@ where
 
 /// Encodes the symbols and decodes as many again: they come back in reverse, with the state and the words as before.
 ///
-/// What comes back stands for equal symbols: where the decoder owns its symbols it is a clone, and where a clone equals its symbol it is
-/// equal to what was encoded.
+/// What comes back stands for equal symbols. If the decoder owns its symbols, it is a clone; if a clone equals its symbol, it is equal to
+/// what was encoded.
 pub fn there_and_back<Backend, D, E, const PRECISION: usize>(
     alloc: Global,
     coder: &mut AnsCoder<Backend>,
@@ -155,8 +154,8 @@ where
 
 /// Decodes a symbol and encodes it again: the coder holds what it held.
 ///
-/// The symbol has an entry, so that a fault is that of a read or of a write, or memory for the symbol was refused. Where the write
-/// fails, the symbol stays decoded.
+/// The symbol has an entry, so this fails only if a read or a write fails, or if memory for the symbol is refused. If the write fails,
+/// the symbol stays decoded.
 pub fn back_and_there<Backend, D, E, const PRECISION: usize>(
     coder: &mut AnsCoder<Backend>,
     decoder: &D,
@@ -194,8 +193,8 @@ where
     }
 }
 
-/// What [`encode`](crate::stack::bits_back::encode) and [`decode`](crate::stack::bits_back::decode) do by models that fit together: the
-/// symbol comes back, and the coder holds what it held before.
+/// If the models fit together, a symbol that [`encode`](crate::stack::bits_back::encode) encoded and
+/// [`decode`](crate::stack::bits_back::decode) decoded comes back, and the coder holds what it held before.
 pub fn bits_come_back<
     Symbol,
     Latent,
@@ -219,9 +218,9 @@ pub fn bits_come_back<
         (λ m. entry_of LikelihoodModel.symbol_eq (LikelihoodModel.rows m)) }
 {}
 
-/// The words of a coder, and the coder of these words: it has the state and the words of the first.
+/// Turns a coder into words, and these into a coder, which has the state and the words of the first one.
 ///
-/// Between them stand the words of a compressed message. A refusal is that of a write or of a read.
+/// It fails only if a write or a read fails.
 pub fn compressed_comes_back<Backend: WordStack<u32> + Drop>(
     coder: AnsCoder<Backend>,
 ) -> Result<
@@ -248,9 +247,9 @@ pub fn compressed_comes_back<Backend: WordStack<u32> + Drop>(
     }
 }
 
-/// The coder of some words, and its words: they are these again.
+/// Turns words into a coder, and this into words, which are the first ones.
 ///
-/// Between them stands a coder. Words that end in 0 are refused, and any other refusal is that of a read or of a write.
+/// Words that end in 0 are refused. Otherwise it fails only if a read or a write fails.
 pub fn coder_comes_back<Backend: WordStack<u32> + Drop>(
     words: Backend,
 ) -> Result<Backend, ReadWriteError<CoderError<Backend, Backend::ReadError>, Backend::WriteError>>

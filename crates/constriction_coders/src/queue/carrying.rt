@@ -55,7 +55,7 @@ pub(crate) fn ends_in_zero(lower: u64, range: u64) -> bool
     lower.wrapping_add(u32::MAX as u64) >> 32 == lower.wrapping_add(range) >> 32
 }
 
-/// The words with that of a point after them, and a word of 0 where one is to follow. There is room for both.
+/// The words with that of a point after them, and a word of 0 after that if `zero`. There is room for both.
 fn with_point(words: Vec<u32>, point: u32, zero: bool) -> Vec<u32>
     requires { length words.items + 2 ≤ vec_capacity words }
     ensures short { zero ≡ false → result.items ≡ words.items ++ point ∷ [] }

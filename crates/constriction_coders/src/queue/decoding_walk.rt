@@ -6,7 +6,7 @@ ghost use Rattle.std.specs.Iterator.SizeHint.{IsExactHint};
 ghost use Rattle.constriction_coders.specs.Intervals.{held_of};
 ghost use Rattle.constriction_coders.specs.RangeWalks.{ReadsOn};
 
-use crate::queue::range_decoder::{RangeDecoder, DecoderFrontendError};
+use crate::queue::range_decoder::{DecoderFrontendError, RangeDecoder};
 use constriction::backends::ReadWords;
 use constriction::stream::model::DecoderModel;
 use constriction::{CoderError, Queue};
@@ -97,7 +97,7 @@ where
 {}
 
 impl<Source: ReadWords<u32, Queue>> RangeDecoder<Source> {
-    /// The next symbols, so many of them, the one that was encoded first first. Nothing is decoded before the first is asked for.
+    /// A walk through the next `count` symbols, the one that was encoded first first. It decodes nothing before it is asked.
     pub fn decode_iid_symbols<'c, 'm, D, const PRECISION: usize>(
         &'c mut self,
         count: usize,

@@ -14,7 +14,7 @@ pub(crate) fn unit_of<const PRECISION: usize>(range: u64) -> u64
     range >> PRECISION
 }
 
-/// The quantile to which the point belongs, where it belongs to one.
+/// The quantile to which the point belongs, if it belongs to one.
 #[inline]
 pub(crate) fn quantile_at<const PRECISION: usize>(unit: u64, offset: u64) -> Option<u32>
     requires fits { PRECISION ≤ 32 }

@@ -18,7 +18,7 @@ use thiserror::Error;
 /// Why nothing was decoded.
 #[derive(Debug, PartialEq, Eq, Drop, Error)]
 pub enum DecoderFrontendError {
-    /// The point belongs to no quantile, so that these are no words of a range encoder for such models.
+    /// The point belongs to no quantile, so these are not the words of a range encoder for such models.
     #[error("The compressed data is invalid.")]
     InvalidData,
     /// Memory for the symbol was refused.
@@ -28,9 +28,9 @@ pub enum DecoderFrontendError {
 
 /// A range decoder over words of 32 bits, in the format of the Rust crate's `DefaultRangeDecoder`.
 ///
-/// It holds how many numbers its interval has, and how far the point lies above the lower end of it. What comes of a
-/// symbol depends on these alone, and not on where the interval lies, so that nothing ever wraps. The interval has at
-/// least `2^32` numbers, and the point lies in it, or just above the greatest one of all, at the start.
+/// It holds how many numbers its interval has, and how far the point lies above its lower end. Decoding depends only on
+/// these, and not on where the interval lies, so nothing ever wraps. The interval has at least `2^32` numbers. The point
+/// lies in it or, at the start, possibly just above it.
 #[derive(Drop)]
 pub struct RangeDecoder<Source: ReadWords<u32, Queue>> {
     pub(crate) range: u64,
@@ -40,7 +40,7 @@ pub struct RangeDecoder<Source: ReadWords<u32, Queue>> {
     ghost inside: { offset ≤ range },
 }
 
-/// The next word, or 0 where there is none.
+/// The next word, or 0 if there is none.
 #[inline]
 fn next_or_zero<Source: ReadWords<u32, Queue>>(
     source: &mut Source,
@@ -86,8 +86,8 @@ impl<Source: ReadWords<u32, Queue> + Drop> RangeDecoder<Source> {
 }
 
 impl<Source: ReadWords<u32, Queue>> RangeDecoder<Source> {
-    /// Whether all symbols may be decoded. `false` says that the decoder is not at the end of its message, where nothing comes after the
-    /// words of this; `true` says nothing.
+    /// Whether all symbols may have been decoded. If nothing comes after the words of the message, `false` says that the decoder is not at
+    /// its end. `true` may come before the end.
     pub fn maybe_exhausted(&self) -> bool
         ensures near { IsTrue result → MayBeAtEnd (interval self.now.range self.now.offset) }
         ensures left { OnFalse result (MayBeAtEnd (interval self.now.range self.now.offset)
@@ -96,11 +96,11 @@ impl<Source: ReadWords<u32, Queue>> RangeDecoder<Source> {
         (self.range == u64::MAX || self.offset < (1 << 33) - 1) && self.words.maybe_exhausted()
     }
 
-    /// Decodes the next symbol. Where all were decoded, a symbol is decoded all the same, or the data is invalid.
+    /// Decodes the next symbol. If all were decoded, it still decodes a symbol, or the data is invalid.
     ///
-    /// `InvalidData` comes only where the point lies above all quantiles, `OutOfMemory` only where the model may refuse the row
-    /// in which it lies, and the backend's error only where a read answered that. An error leaves what is held, and only a read
-    /// that failed may change the source.
+    /// It fails with `InvalidData` only if the point lies above all quantiles, with `OutOfMemory` only if the model may refuse the
+    /// row in which it lies, and with the backend's error only if a read answered that. An error leaves what is held, and only a
+    /// read that failed may change the source.
     pub fn decode_symbol<D, const PRECISION: usize>(
         &mut self,
         model: &D,
@@ -154,9 +154,9 @@ impl<Source: ReadWords<u32, Queue>> RangeDecoder<Source> {
         }
     }
 
-    /// Decodes so many symbols, the one that was encoded first first.
+    /// Decodes `count` symbols, the one that was encoded first first.
     ///
-    /// Memory for all of them is asked for at once, before the first one is decoded. Where the number comes from outside, walk by
+    /// Memory for all of them is asked for at once, before the first one is decoded. If `count` comes from outside, use
     /// [`decode_iid_symbols`](Self::decode_iid_symbols), which asks for none.
     pub fn decode_symbols<D, const PRECISION: usize>(
         &mut self,

@@ -19,17 +19,17 @@ use std::marker::Model;
 
 /// A range encoder over words of 32 bits, in the format of the Rust crate's `DefaultRangeEncoder`.
 ///
-/// It holds a span of numbers, of which each symbol leaves a part. At last any number of the span is the message. The least
-/// one is the words with `lower` after them, and there are `range` of them. A carry goes into the words that are written
-/// already, so that none is held back. A symbol costs two multiplications, and at most one word is written; where the lower
-/// end of its part carries, words of all ones are cleared up to one that is not.
+/// It holds a span of numbers, and each symbol leaves a part of it. At the end any number of the span stands for the message.
+/// The least one is the words with `lower` after them, and there are `range` of them. A carry goes into the words that are
+/// written already, so no word is held back. A symbol costs two multiplications, and at most one word is written. If the lower
+/// end of its part carries, words of all ones are cleared, up to one that is not.
 ///
 /// Clauses see the span.
 #[derive(Drop)]
 pub struct RangeEncoder {
-    words: Vec<u32>,
-    lower: u64,
-    range: u64,
+    pub(crate) words: Vec<u32>,
+    pub(crate) lower: u64,
+    pub(crate) range: u64,
 }
 
 impl Model for RangeEncoder {
@@ -87,8 +87,8 @@ impl RangeEncoder {
 
     /// Encodes a symbol.
     ///
-    /// `ImpossibleSymbol` comes only where the model has no entry for it, and `AllocError` only where a word is to be written. An error
-    /// leaves the encoder as it was.
+    /// It fails with `ImpossibleSymbol` only if the model has no entry for the symbol, and with `AllocError` only if a word is to be
+    /// written. An error leaves the encoder as it was.
     pub fn encode_symbol<E, const PRECISION: usize>(
         &mut self,
         symbol: &E::Symbol,
@@ -148,7 +148,7 @@ impl RangeEncoder {
 
     /// A copy of the words that [`into_compressed`](Self::into_compressed) gives. The encoder stays as it is.
     ///
-    /// Memory for them is asked for once, where there are any. An error is that it was refused.
+    /// Memory for them is asked for once, if there are any. It fails only if that is refused.
     pub fn get_compressed(&self, alloc: Global) -> Result<Vec<u32>, AllocError>
         ensures ok { IfOk result (λ words. IsSealed self.now words.items) }
         ensures memory { OnErr result (self.now ≢ whole) }
@@ -174,9 +174,9 @@ impl RangeEncoder {
         }
     }
 
-    /// The words of the message: none where no symbol is encoded, and otherwise one or two more than were written.
+    /// The words of the message: none if no symbol is encoded, and otherwise one or two more than were written.
     ///
-    /// They are decoded alike whatever words come after them. An error is that memory for these words was refused, and the encoder is
+    /// They are decoded alike whatever words come after them. It fails only if memory for these words is refused; the encoder is then
     /// dropped.
     pub fn into_compressed(self) -> Result<Vec<u32>, AllocError>
         ensures ok { IfOk result (λ words. IsSealed self words.items) }

@@ -15,7 +15,7 @@ use std::alloc::AllocError;
 
 /// A coder with a state of 64 bits over a stack of words of 32 bits, in the format of the Rust crate's `DefaultAnsCoder`.
 ///
-/// Where the state is below `2^32` there is no word under it. A symbol costs a division to encode and a multiplication to decode,
+/// If the state is below `2^32`, there is no word under it. A symbol costs a division to encode and a multiplication to decode,
 /// and at most one word is written or read.
 #[derive(Drop)]
 pub struct AnsCoder<Backend: WordStack<u32>> {
@@ -24,7 +24,7 @@ pub struct AnsCoder<Backend: WordStack<u32>> {
     ghost whole: { state < 2 ^ 32 → Backend.words_of words ≡ [] },
 }
 
-/// The state once it has room for a symbol of this weight: it loses a word where it has none.
+/// The state with room for a symbol of this weight. If it has no room, its low word is first moved to the stack.
 #[inline]
 fn with_room<Backend: WordStack<u32>, const PRECISION: usize>(
     words: &mut Backend,
@@ -52,7 +52,7 @@ fn with_room<Backend: WordStack<u32>, const PRECISION: usize>(
     }
 }
 
-/// The state that takes a word where it is below `2^32` and there is one.
+/// The state, which takes a word if it is below `2^32` and there is one.
 #[inline]
 fn refilled<Backend: WordStack<u32>>(
     words: &mut Backend,
@@ -107,7 +107,7 @@ impl<Backend: WordStack<u32>> AnsCoder<Backend> {
         }
     }
 
-    /// Takes the symbol of this entry, which holds the quantile of the state, from the top.
+    /// Takes the symbol of this entry from the top. The entry holds the quantile of the state.
     #[inline]
     pub(crate) fn take_entry<const PRECISION: usize>(
         &mut self,
@@ -140,8 +140,8 @@ impl<Backend: WordStack<u32>> AnsCoder<Backend> {
 
     /// Encodes a symbol.
     ///
-    /// `ImpossibleSymbol` comes only where the model has no entry for it, and the backend's error only where a write answered that.
-    /// An error leaves the state and the words.
+    /// It fails with `ImpossibleSymbol` only if the model has no entry for the symbol, and with the backend's error only if a write
+    /// answered that. An error leaves the state and the words.
     pub fn encode_symbol<E, const PRECISION: usize>(
         &mut self,
         symbol: &E::Symbol,
@@ -169,10 +169,10 @@ impl<Backend: WordStack<u32>> AnsCoder<Backend> {
         }
     }
 
-    /// Decodes the symbol that was encoded last. Where nothing was, a symbol is decoded all the same.
+    /// Decodes the symbol that was encoded last. If nothing was encoded, it still decodes a symbol.
     ///
-    /// Memory is refused only where the model may refuse the row of the state's quantile, and the backend's error comes only where
-    /// the state needs a word, and a read answered that. An error leaves the state and the words.
+    /// Memory is refused only if the model may refuse the row of the state's quantile. The backend's error comes only if the state
+    /// needs a word and a read answered that error. An error leaves the state and the words.
     pub fn decode_symbol<D, const PRECISION: usize>(
         &mut self,
         model: &D,

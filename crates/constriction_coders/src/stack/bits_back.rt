@@ -1,10 +1,10 @@
-//! Bits-back coding: a symbol is encoded by way of a latent symbol, which what the coder holds chooses.
+//! Bits-back coding: a symbol is encoded by way of a latent symbol, which is decoded from what the coder holds.
 //!
 //! 1. A latent symbol is decoded by the posterior, the model that the symbol chooses.
 //! 2. The symbol is encoded by the likelihood, the model that the latent symbol chooses.
 //! 3. The latent symbol is encoded by its prior.
 //!
-//! Decoding undoes these steps, the last one first, so that step 1 costs nothing: what it took from the coder comes back.
+//! Decoding undoes these steps, the last one first. So step 1 costs nothing: what it took from the coder comes back.
 
 ghost use Rattle.std.specs.Prelude.{◌≡◌, ◌+◌, ◌%◌, ◌^◌, ◌<◌, ◌≤◌, None, Some, Err, IfOk, IfSome, OnOk, OnErr, length, vec_capacity};
 ghost use Rattle.std.specs.Fn.{FnReturnsAt};
@@ -96,7 +96,7 @@ fn put<const PRECISION: usize>(coder: &mut AnsCoder<Vec<u32>>, entry: Entry)
     may_be_held(coder);
 }
 
-/// Takes a symbol from the top and puts two others there; or memory for their words is refused, and the coder stays as it was.
+/// Takes a symbol from the top and puts two others there. If memory for their words is refused, the coder stays as it was.
 fn exchange<const PRECISION: usize>(
     coder: &mut AnsCoder<Vec<u32>>,
     drawn: Entry,
@@ -132,8 +132,8 @@ fn exchange<const PRECISION: usize>(
 
 /// Encodes a symbol by a latent one, which is decoded from what the coder holds.
 ///
-/// `ImpossibleSymbol` comes where the latent symbol has no entry in its prior, or the symbol has none by the likelihood. The other
-/// error is that memory was refused: for a clone of the latent symbol, or for two words. An error leaves the state and the words.
+/// It fails with `ImpossibleSymbol` if the latent symbol has no entry in its prior, or the symbol has none in the likelihood. It also
+/// fails if memory is refused, for a clone of the latent symbol or for two words. An error leaves the state and the words.
 pub fn encode<
     Symbol,
     Latent: Drop,
@@ -184,10 +184,10 @@ pub fn encode<
     }
 }
 
-/// Decodes a symbol that [`encode`] encoded by a latent one, which goes back to what the coder holds.
+/// Decodes a symbol that [`encode`] encoded by a latent one, and puts the latent one back on the coder.
 ///
-/// `ImpossibleSymbol` comes where the posterior of the symbol has no entry for the latent one: then no such symbol was encoded. The other
-/// error is that memory was refused: for a clone of either symbol, or for a word. An error leaves the state and the words.
+/// It fails with `ImpossibleSymbol` if the posterior of the symbol has no entry for the latent one; then no such symbol was encoded. It
+/// also fails if memory is refused, for a clone of either symbol or for a word. An error leaves the state and the words.
 pub fn decode<
     Symbol: Drop,
     Latent: Drop,

@@ -1,4 +1,4 @@
-//! What a coder holds as words alone, and the coder of such words.
+//! A coder as words alone, and the coder of such words.
 
 ghost use Rattle.std.specs.Prelude.{◌≡◌, ◌≢◌, ◌↔◌, ◌<◌, ◌≤◌, ◌^◌, ◌++◌, ◌∷◌, [], List, ℕ, Some, Ok, Err, IfOk, IsTrue, length, vec_capacity};
 ghost use Rattle.constriction_coders.specs.Compressed.{IsCompressed, IsClosed, ClosingStops, IsOpened, OpeningStops};
@@ -11,7 +11,7 @@ use constriction::backends::laws::{pop, push};
 use std::alloc::{AllocError, Global};
 
 impl AnsCoder<Vec<u32>> {
-    /// A coder with nothing in it. No memory is asked for.
+    /// A coder that holds nothing. No memory is asked for.
     pub fn new(alloc: Global) -> Self
         ensures state { result.state ≡ 0 }
         ensures words { result.words.items ≡ [] }
@@ -54,7 +54,7 @@ impl<Backend: WordStack<u32>> AnsCoder<Backend> {
 impl<Backend: WordStack<u32> + Drop> AnsCoder<Backend> {
     /// The words with those of the state on top, from which [`from_compressed`](Self::from_compressed) makes the coder again.
     ///
-    /// Two words at most are written. An error is that of a write, and the words are let go.
+    /// At most two words are written. An error is that of a write, and the words are then dropped.
     pub fn into_compressed(self) -> Result<Backend, Backend::WriteError>
         ensures ok { IfOk result (λ words. IsCompressed (content self.state (Backend.words_of self.words)) (Backend.words_of words)) }
         ensures end { IfOk result (λ words. (others : List ℕ) → Backend.words_of words ≢ others ++ 0 ∷ []) }
@@ -81,8 +81,8 @@ impl<Backend: WordStack<u32> + Drop> AnsCoder<Backend> {
 
     /// The coder of such words.
     ///
-    /// At most two words are read, the last one first. Words that end in 0 are those of no coder: they are handed back without
-    /// that 0. Any other words are accepted, and no words are the coder that holds nothing.
+    /// At most two words are read, the last one first. Words that end in 0 belong to no coder: they are handed back without
+    /// that 0. All other words are accepted. No words at all make a coder that holds nothing.
     pub fn from_compressed(words: Backend) -> Result<Self, CoderError<Backend, Backend::ReadError>>
         ensures ok { IfOk result (λ coder. IsCompressed (content coder.state (Backend.words_of coder.words)) (Backend.words_of words)) }
         ensures read { IfOk result (λ coder. IsOpened Backend.read_gives words coder.state coder.words) }
@@ -121,7 +121,7 @@ impl AnsCoder<Vec<u32>> {
 
     /// A copy of the words with those of the state on top. The coder stays as it is.
     ///
-    /// Memory for them is asked for once. An error is that it was refused.
+    /// Memory for the copy is asked for once. It fails only if that is refused.
     pub fn get_compressed(&self, alloc: Global) -> Result<Vec<u32>, AllocError>
         ensures ok { IfOk result (λ all. IsCompressed (content self.now.state self.now.words.items) all.items) }
         ensures end { IfOk result (λ all. (others : List ℕ) → all.items ≢ others ++ 0 ∷ []) }

@@ -14,8 +14,8 @@ use std::iter::FusedIterator;
 
 /// Symbols of a coder, each of which is decoded when it is asked for.
 ///
-/// It gives as many answers as were asked for and then `None`. An error stands in the place of a symbol and counts as an answer: it
-/// leaves the state and the words, and the next answer tries again. What was not asked for stays in the coder.
+/// It gives as many answers as were asked for and then `None`. An error stands in the place of a symbol and counts as an answer. It
+/// leaves the state and the words, and the next answer tries again. Symbols that are not asked for stay in the coder.
 #[derive(Drop)]
 pub struct DecodeIidSymbols<
     'c,
@@ -92,7 +92,7 @@ where
 {}
 
 impl<Backend: WordStack<u32>> AnsCoder<Backend> {
-    /// The next symbols, so many of them, the one that was encoded last first. Nothing is decoded before the first is asked for.
+    /// A walk through the next `count` symbols, the one that was encoded last first. It decodes nothing before it is asked.
     pub fn decode_iid_symbols<'c, 'm, D, const PRECISION: usize>(
         &'c mut self,
         count: usize,

@@ -1,4 +1,4 @@
-//! Where a coder stands: the position of the words under its state, and the state.
+//! The place of a coder: the position of the words under its state, and the state.
 
 ghost use Rattle.std.specs.Prelude.{◌≡◌, ◌↔◌, ◌^◌, ◌<◌, ◌≤◌, IsTrue};
 ghost use Rattle.constriction_backends.specs.Cursor.{buf_of};
@@ -9,7 +9,7 @@ use crate::stack::ans_coder::AnsCoder;
 use constriction::backends::{Cursor, SafeBuf, SafeBufMut, WordStack};
 use constriction::{Pos, PosSeek, Seek};
 
-/// Whether a coder may stand there: words are under the state only where it is no less than `2^32`.
+/// Whether a coder may be at this place: there are words under the state only if it is at least `2^32`.
 #[inline]
 fn is_place(words: usize, state: u64) -> bool
     ensures { IsTrue result ↔ ((0 < words) → 2 ^ 32 ≤ state) }
@@ -30,8 +30,8 @@ impl<Backend: WordStack<u32> + Pos> Pos for AnsCoder<Backend> {
     }
 }
 
-/// Goes back to a place that was noted: what was encoded since is dropped, for good. A place with more words than there are is
-/// refused, and so is one with words under a state below `2^32`.
+/// Goes back to a place that was noted, and drops what was encoded since. A place with more words than there are is refused, and so
+/// is one with words under a state below `2^32`.
 impl Seek for AnsCoder<Vec<u32>> {
     ghost seek_gives = { λ old place r new. SeeksPlace old.words.items (content old.state old.words.items) place r
         (content new.state new.words.items) };
@@ -48,8 +48,8 @@ impl Seek for AnsCoder<Vec<u32>> {
     }
 }
 
-/// Goes to a place that was noted, back or forth, as long as the words from then are still there. A place past the words is refused,
-/// and so is one with words under a state below `2^32`.
+/// Goes to a place that was noted, back or forth, as long as the words from then are still there. A place past the buffer's words is
+/// refused, and so is one with words under a state below `2^32`.
 impl<Buf: SafeBufMut<u32>> Seek for AnsCoder<Cursor<u32, Buf>> {
     ghost seek_gives = { λ old place r new. SeeksPlace (Buf.words_of (buf_of old.words))
         (content old.state (⟦<Cursor<u32, Buf> as WordStack<u32>>⟧.words_of old.words)) place r

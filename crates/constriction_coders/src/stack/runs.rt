@@ -59,9 +59,9 @@ impl<Backend: WordStack<u32>> AnsCoder<Backend> {
         Ok(())
     }
 
-    /// Decodes so many symbols, the one that was encoded last first.
+    /// Decodes `count` symbols, the one that was encoded last first.
     ///
-    /// Memory for all of them is asked for at once, before the first one is decoded. Where the number comes from outside, walk by
+    /// Memory for all of them is asked for at once, before the first one is decoded. If `count` comes from outside, use
     /// [`decode_iid_symbols`](Self::decode_iid_symbols), which asks for none.
     pub fn decode_symbols<D, const PRECISION: usize>(
         &mut self,

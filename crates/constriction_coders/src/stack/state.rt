@@ -1,9 +1,9 @@
-//! The state of the coder: a number of 64 bits, on which a symbol is put and from which it is taken.
+//! The state of the coder: a number of 64 bits. A symbol is put on top of it, and taken from it.
 
 ghost use Rattle.std.specs.Prelude.{◌≡◌, ◌↔◌, ◌+◌, ◌-◌, ◌*◌, ◌%◌, ◌^◌, ◌<◌, ◌≤◌, IsTrue};
 ghost use Rattle.constriction_coders.specs.States.{put, taken};
 
-/// The quantile of the state: it tells which symbol is on top.
+/// The quantile of the state, which says which symbol is on top.
 #[inline]
 #[tactic(auto, using(crate::proofs::States::one_shifted, crate::proofs::States::mod_fits))]
 pub(crate) fn quantile_of<const PRECISION: usize>(state: u64) -> u32
@@ -13,7 +13,7 @@ pub(crate) fn quantile_of<const PRECISION: usize>(state: u64) -> u32
     (state % (1u64 << PRECISION)) as u32
 }
 
-/// Whether the state is too great to take a symbol of this weight, so that a word has to leave it first.
+/// Whether the state is too great to take a symbol of this weight before a word leaves it.
 #[inline]
 #[tactic(auto, using(crate::proofs::States::full_is, crate::proofs::States::not_full_is))]
 pub(crate) fn is_full_for<const PRECISION: usize>(state: u64, weight: u32) -> bool
@@ -37,7 +37,7 @@ pub(crate) fn with_entry<const PRECISION: usize>(state: u64, left: u32, weight: 
     ((state / weight) << PRECISION) + (left as u64 + state % weight)
 }
 
-/// The state without the symbol on top, whose entry this is.
+/// The state without the symbol of this entry, which is on top.
 #[inline]
 pub(crate) fn without_entry<const PRECISION: usize>(state: u64, left: u32, weight: u32) -> u64
     requires fits { PRECISION ≤ 32 }

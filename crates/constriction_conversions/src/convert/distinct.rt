@@ -1,4 +1,4 @@
-//! Models that are made, without comparing symbols, from models whose symbols are known to differ.
+//! Models made of other models without comparing symbols, which are known to differ.
 
 ghost use Rattle.std.specs.Prelude.{◌≡◌, ◌≤◌, map, IfOk, IfErr};
 ghost use Rattle.std.specs.List.{IsDistinct};
@@ -14,7 +14,7 @@ use constriction_model::ModelError;
 use constriction_numbers::IndexWord;
 use std::alloc::Global;
 
-/// The entries of a decoder of a model's rows, the symbols of which differ.
+/// The entries of a decoder with a model's rows. No two of the model's symbols are equal.
 #[inline]
 pub(crate) fn entries_of_distinct<M, const PRECISION: usize>(
     alloc: Global,
@@ -35,15 +35,15 @@ where
     Ok(cdf)
 }
 
-/// The decoder model of the same rows as a model that can be walked through and no two symbols of which are
-/// equal, as the functions of [`laws`](crate::laws) say of each contiguous or uniform model and of each
-/// decoder over any symbols. Where the walk clones symbols, a clone has to be equal to its symbol.
+/// The decoder model with the rows of a model that can be walked through and has no two equal symbols. The
+/// functions of [`laws`](crate::laws) say so of each contiguous or uniform model, and of each decoder over any
+/// symbols. If the walk clones symbols, a clone has to be equal to its symbol.
 ///
-/// Its symbols are those that the walk gave. The only refusal is `OutOfMemory`, where memory for the entries,
+/// Its symbols are the symbols that the walk gives. The only error is `OutOfMemory`, if memory for the entries,
 /// or for a clone of a symbol, is refused.
 ///
-/// One walk, and one allocation where the walk announces how many rows there are. No symbols are compared, and none
-/// is cloned but by the walk.
+/// One walk, and one allocation if the walk announces the number of rows. No symbols are compared, and only the
+/// walk clones them.
 pub fn to_generic_decoder_model_of_distinct<M, const PRECISION: usize>(
     alloc: Global,
     model: M,
@@ -62,11 +62,11 @@ where
     }
 }
 
-/// The lookup model of the same rows as a model that can be walked through and no two symbols of which are
-/// equal. It asks what [`to_generic_decoder_model_of_distinct`] does, and `PRECISION` is at most 63.
+/// The lookup model with the rows of a model that can be walked through and has no two equal symbols. It
+/// requires the same as [`to_generic_decoder_model_of_distinct`], and a `PRECISION` of at most 63.
 ///
-/// The only refusal is `OutOfMemory`, where memory for the entries, for a clone of a symbol, or for the lookup table
-/// is refused.
+/// The only error is `OutOfMemory`, if memory for the entries, for a clone of a symbol, or for the lookup table is
+/// refused.
 ///
 /// One walk, and two passes over the rows. No symbols are compared.
 pub fn to_generic_lookup_decoder_model_of_distinct<M, const PRECISION: usize>(

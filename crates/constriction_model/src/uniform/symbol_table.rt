@@ -14,12 +14,12 @@ use std::alloc::AllocError;
 use std::fmt::Debug;
 use std::iter::FusedIterator;
 
-/// The rows of a [`UniformModel`] that are left, walked through from either end.
+/// The remaining rows of a [`UniformModel`], from either end.
 ///
-/// Each row is given once, whichever end it is taken from, and either end answers `None` exactly
-/// where none is left. Every item is `Ok`: the walk takes no memory. A step costs a product.
+/// Each row is given once, from one end or the other. Both ends answer `None` if and only if no row is
+/// left. Every item is `Ok`, since the walk takes no memory. A step costs one product.
 ///
-/// The weights stand in it as words that are not 0, so that a step tests none.
+/// The weights are stored as words other than 0, so no step tests them.
 #[derive(Drop)]
 #[derive_where(Debug; Probability: Debug, Weight<Probability>: Debug)]
 pub struct UniformSymbolTable<Probability: WholeNumber, const PRECISION: usize> {
@@ -52,7 +52,7 @@ impl<Probability: WholeNumber, const PRECISION: usize> UniformSymbolTable<Probab
         }
     }
 
-    /// Where the row of a symbol begins, and its weight.
+    /// The left cumulative and the weight of a symbol.
     #[inline]
     fn row_words_of(&self, symbol: Probability) -> (Probability, Weight<Probability>)
         requires { Probability.whole symbol ≤ Probability.whole self.now.model.last_symbol }

@@ -5,11 +5,11 @@ ghost use Rattle.constriction_model.specs.UniformRowLemmas.{bin_of, rest_of};
 
 use constriction_numbers::WholeNumber;
 
-/// The weight of each symbol but the last one: the whole part of `2^PRECISION` divided by how many
-/// symbols there are, where the last symbol is given.
+/// The weight of each symbol but the last one: `2^PRECISION` divided by the number of symbols, rounded
+/// down.
 ///
-/// At the full width `2^PRECISION` is no word. So each symbol is given one quantile, and what is left
-/// is divided.
+/// At the full width `2^PRECISION` is no word. So each symbol gets one quantile first, and the rest is
+/// divided.
 #[inline]
 pub(crate) fn probability_per_bin<Word: WholeNumber, const PRECISION: usize>(
     last_symbol: Word,
@@ -47,7 +47,7 @@ pub(crate) fn last_probability<Word: WholeNumber, const PRECISION: usize>(
     Word::wrapping_pow2(PRECISION).wrapping_minus(last_symbol.times(bin))
 }
 
-/// The symbol of a quantile: the quotient by the weight, or the last symbol where that is less.
+/// The symbol of a quantile: the quotient by the weight, or the last symbol if that is less.
 #[inline]
 pub(crate) fn symbol_of<Word: WholeNumber>(quantile: Word, bin: Word, last_symbol: Word) -> Word
     requires { 0 < Word.whole bin }

@@ -8,7 +8,7 @@ use std::marker::PhantomData;
 
 /// A sink that hands each word to a callback, which may refuse it.
 ///
-/// The callback is kept, in the state in which its calls left it.
+/// The callback keeps its state from call to call.
 #[derive(Drop)]
 pub struct FallibleCallbackWriteWords<Word, E, C: FnMut(Word) -> Result<(), E>> {
     write_callback: C,
@@ -16,7 +16,7 @@ pub struct FallibleCallbackWriteWords<Word, E, C: FnMut(Word) -> Result<(), E>> 
 }
 
 impl<Word, E, C: FnMut(Word) -> Result<(), E>> FallibleCallbackWriteWords<Word, E, C> {
-    /// A sink over the callback, which may be called on every word, in each state that its calls
+    /// A sink over the callback, which has to be callable on every word, in each state that its calls
     /// lead to.
     #[inline]
     pub fn new(write_callback: C) -> Self

@@ -1,4 +1,4 @@
-//! Sinks over callbacks that take each word.
+//! Sinks over callbacks that take every word.
 
 ghost use Rattle.std.specs.Prelude.{◌≡◌, MatchResult};
 
@@ -6,9 +6,9 @@ use crate::write::WriteWords;
 use std::convert::Infallible;
 use std::marker::PhantomData;
 
-/// A sink that hands each word to a callback, which takes it.
+/// A sink that hands each word to a callback, which never refuses one.
 ///
-/// The callback is kept, in the state in which its calls left it.
+/// The callback keeps its state from call to call.
 #[derive(Drop)]
 pub struct InfallibleCallbackWriteWords<Word, C: FnMut(Word)> {
     write_callback: C,
@@ -16,7 +16,7 @@ pub struct InfallibleCallbackWriteWords<Word, C: FnMut(Word)> {
 }
 
 impl<Word, C: FnMut(Word)> InfallibleCallbackWriteWords<Word, C> {
-    /// A sink over the callback, which may be called on every word, in each state that its calls
+    /// A sink over the callback, which has to be callable on every word, in each state that its calls
     /// lead to.
     #[inline]
     pub fn new(write_callback: C) -> Self

@@ -11,18 +11,18 @@ use crate::read::{BoundedReadWords, ReadWords};
 use constriction_words::Semantics;
 use std::fmt::Debug;
 
-/// A source over an iterator whose items are words, and errors in the place of words.
+/// A source over an iterator whose items are words or errors.
 ///
-/// A read takes the next item, whatever the order of reading is: it answers the word or the error,
-/// and reading may go on after an error. After the first end the iterator is not asked again, and
-/// each read answers `Ok(None)`.
+/// A read takes the next item, in either order of reading. It answers the word or the error, and reading
+/// may go on after an error. After the first end the iterator is not asked again, and each read answers
+/// `Ok(None)`.
 #[derive(Debug, Drop)]
 pub struct FallibleIteratorReadWords<Iter: Iterator> {
     inner: FusedWords<Iter>,
 }
 
 impl<Iter: Iterator> FallibleIteratorReadWords<Iter> {
-    /// A source over what the value iterates over. A source of other items than results is refused here, where it is made.
+    /// A source over the items of `iter`. Items other than results do not compile here.
     #[inline]
     pub fn new<I, Word, ReadError>(iter: I) -> Self
     where

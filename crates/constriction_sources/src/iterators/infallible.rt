@@ -13,15 +13,15 @@ use std::convert::Infallible;
 
 /// A source over an iterator whose items are words.
 ///
-/// A read takes the next item, whatever the order of reading is. After the first end the iterator is
-/// not asked again, and each read answers `Ok(None)`.
+/// A read takes the next item, in either order of reading. After the first end the iterator is not asked
+/// again, and each read answers `Ok(None)`.
 #[derive(Debug, Drop)]
 pub struct InfallibleIteratorReadWords<Iter: Iterator> {
     inner: FusedWords<Iter>,
 }
 
 impl<Iter: Iterator> InfallibleIteratorReadWords<Iter> {
-    /// A source over what the value iterates over.
+    /// A source over the items of `iter`.
     #[inline]
     pub fn new<I: IntoIterator<IntoIter = Iter>>(iter: I) -> Self
         ensures source { I.into_iter_gives iter (fuse_source result.inner) }

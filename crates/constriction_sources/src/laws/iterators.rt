@@ -7,13 +7,13 @@ use crate::read::ReadWords;
 use constriction_words::Semantics;
 use std::fmt::Debug;
 
-/// A source over an iterator of words that has answered `Ok(None)` answers so for good, whatever the
-/// iterator would say.
+/// After a source over an iterator of words has answered `Ok(None)`, each later read does, whatever the
+/// iterator would give.
 pub fn word_end_is_for_good<Word, S: Semantics, Iter: Iterator<Item = Word>>()
     ensures { EndIsForGood ⟦<InfallibleIteratorReadWords<Iter> as ReadWords<Word, S>>⟧.read_gives }
 {}
 
-/// The same of a source over an iterator of words and errors.
+/// The same for a source over an iterator of words and errors.
 pub fn item_end_is_for_good<
     Word,
     ReadError: Debug,

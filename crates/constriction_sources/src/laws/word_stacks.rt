@@ -1,10 +1,10 @@
-//! What a stack does to its words.
+//! What a write and a read do to the words of a stack.
 
 ghost use Rattle.constriction_sources.specs.Stack.{Pushes, PopsOrFails};
 
 use crate::stack::WordStack;
 
-/// Puts a word on top, or is refused and leaves the words.
+/// Puts a word on top, or is refused and keeps the words.
 #[inline]
 pub fn push<Word, Backend: WordStack<Word>>(
     backend: &mut Backend,
@@ -16,7 +16,7 @@ pub fn push<Word, Backend: WordStack<Word>>(
     backend.write(word)
 }
 
-/// Takes the word on top where there is one; or fails where there is one, and leaves the words.
+/// Takes the word on top, or answers `Ok(None)` if there is none. It fails only if there is one, and then keeps the words.
 #[inline]
 pub fn pop<Word, Backend: WordStack<Word>>(
     backend: &mut Backend,

@@ -1,4 +1,4 @@
-//! Operations on samples that answer `None` or stop at a bound where the exact number is no sample.
+//! Operations on samples that answer `None`, or stop at a bound, if the exact result is no sample.
 
 ghost use Rattle.std.specs.Prelude.{◌≢◌, ◌/◌, ◌+ℤ◌, ◌-ℤ◌, ◌*ℤ◌, ◌-◌, pos};
 ghost use Rattle.std.specs.Int.{FitsUnsignedBits};

@@ -1,4 +1,4 @@
-//! Samples as numbers: the value of one, 0 and 1, the bounds, and numerals.
+//! Samples as numbers: their value, 0 and 1, the bounds, and numerals.
 
 ghost use Rattle.std.specs.Prelude.{◌≢◌, ◌-◌, ◌^◌, pos, unsigned_abs, Some, ⊤};
 ghost use Rattle.std.specs.Int.{w16, FitsUnsignedBits};

@@ -1,4 +1,4 @@
-//! The operators of samples: each is that of the number inside.
+//! The operators of samples. Each applies the operator of the number inside.
 
 ghost use Rattle.std.specs.Prelude.{◌≡◌, ◌+◌, ◌-◌, ◌*◌, ◌/◌, ◌%◌, ◌^◌, ◌<◌, ◌≤◌, bit_and, bit_or, bit_xor};
 ghost use Rattle.std.specs.Int.{w16, bit_not};

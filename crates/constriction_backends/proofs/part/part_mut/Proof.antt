@@ -47,7 +47,7 @@ use Rattle.constriction_backends.specs.contracts.part.part_mut.Key.{name as #sel
 use Rattle.constriction_backends.proofs.part.part_mut.Statement.{statement}
 use Rattle.constriction_backends.proofs.part.part_mut.Code as code
 
--- where the product fits a word, the count is zero or the size fits too
+-- if the product fits a word, the count is zero or the size fits too
 uncapped : (i k : ℕ) → i * k < 2 ^ 64 → i * capped k ≡ i * k
 uncapped zero k h = zero-mul (capped k) ∙ sym (zero-mul k)
 uncapped (suc i) k h = let step = suc-mul i k in ap (λ (j : ℕ). suc i * j) (capped_is k (omega arith))

@@ -11,7 +11,7 @@ use Rattle.constriction_backends.specs.ExtendingLaws.{extended_by_all}
 use Rattle.constriction_backends.specs.Sink.{ExtendsBy, WritesAppend}
 use Rattle.constriction_backends_tests.proofs.cursors.extended.Goals as goal
 
--- where the sink took all words, it tells them after the old ones
+-- if the sink took all words, it tells them after the old ones
 in-order : {S W E I : Type 0} (gives : S → W → Result (Unit {0}) E → S → Type 0) (tells : S → List W → Type 0)
     (next : I → Option W → I → Type 0)
     → ((s : S) (w : W) (r : Result (Unit {0}) E) (t : S) → gives s w r t → (ws : List W) → tells s ws → WritesAppend tells ws w r t)

@@ -2,7 +2,7 @@ use Rattle.std.proofs.Common.{◌≡◌, ◌≤◌, length, vec_capacity}
 use Rattle.constriction_client.proofs.WordReading.{HasRead}
 use Rattle.constriction_client.proofs.quantiles.read_symbols.Given as goal
 
--- the words so far were read, and each gave a pair; where these have room, the capacity is that of before
+-- the words so far were read, and each gave a pair; if the pairs fit the first capacity, the capacity is still that
 abbrev pub invariant-loop-done : goal.invariant-loop-done
 invariant-loop-done g l = record {
   goes_on : g.R.ReadWords.can_read l.source;

@@ -3,7 +3,7 @@ use Rattle.std.specs.Prelude.{All, sum}
 use Rattle.constriction_coders.specs.Counts.{occurring}
 use Rattle.constriction_coders.proofs.counts.shares_of.Given as goal
 
--- the weights so far have what the counts so far are due, but for what is carried on
+-- the weights so far have what is due to the counts so far, except for what is carried
 abbrev pub invariant-loop-count : goal.invariant-loop-count
 invariant-loop-count l = record {
   as_many : length l.weights.items ≡ l.count-index;

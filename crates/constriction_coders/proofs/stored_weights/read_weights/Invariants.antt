@@ -2,7 +2,7 @@ use Rattle.std.proofs.Common.{◌≡◌, ◌+◌, ◌*◌, ◌≤◌, ◌∷◌,
 use Rattle.constriction_backends.specs.Source.{Reads}
 use Rattle.constriction_coders.proofs.stored_weights.read_weights.Given as goal
 
--- the number of weights and the weights so far were read, and no room was asked for but for these and as many again
+-- the number of weights and the weights so far were read, and there is room only for these, as many again, and four
 abbrev pub invariant-loop-done : goal.invariant-loop-done
 invariant-loop-done g l = record {
   goes_on : g.Source.ReadWords.can_read l.source;

@@ -1,4 +1,4 @@
--- What is left is counted exactly, and each word that is read is one less.
+-- The source knows exactly how many words are left, and each read leaves one less.
 use Rattle.constriction_kernels.proofs.backends.drain.Given as goal
 
 abbrev pub invariant-words : goal.invariant-words

@@ -25,7 +25,7 @@ module _ {Model : Type 0} (precision : ℕ) (rows : Model → List (Row ℕ)) (m
   no-entry : None ≡ entry_of nat_eq (rows m) r.symbol → ⊥
   no-entry e = let f = its-entry in cc
 
-  -- two entries that are one begin at one place
+  -- equal entries begin at the same quantile
   same-left : (a b : ℕ) → Some (a, b) ≡ entry_of nat_eq (rows m) r.symbol → a ≡ r.left
   same-left a b e =
       let f = its-entry in

@@ -1,4 +1,4 @@
--- Where the first and the third symbol are the same, the symbols are not distinct.
+-- If the first and the third symbol are the same, the symbols are not distinct.
 use Rattle.std.proofs.Common.{◌≡◌, List, [], ◌∷◌, sym, subst, ◌∙◌, refl, eq-eqb, lit<, true≢false}
 use Rattle.std.specs.Prelude.{ℕ, Result, IfOk, IsErr, Ok, Err, nat_eq, false}
 use Rattle.std.specs.List.{IsDistinct}

@@ -4,7 +4,7 @@ use Rattle.constriction_sources.specs.Stack.{PopsOrFails}
 use Rattle.constriction_sources.specs.StackLaws.{known_pushes, known_pops}
 use Rattle.constriction_sources.proofs.laws.written_is_read.Goals as goal
 
--- the word on top is popped, and what was under it is left; or the pop fails, and all is left
+-- a pop answers the word on top and leaves the others, or fails and leaves all
 pops-last : {W E : Type 0} (words : List W) (w : W) (later : List W) (r : Result (Option W) E) (new : List W) → later ≡ words ++ w ∷ []
     → PopsOrFails later r new → MatchResult r (λ o. (o ≡ Some w) × (new ≡ words)) (λ _. new ≡ words ++ w ∷ [])
 pops-last words w later (Ok None) new is h = absurd (omega (arith, ap length (sym is ∙ h.0), length_push words w))

@@ -1,4 +1,4 @@
--- After the words stands where each row so far begins.
+-- The left cumulatives of the rows so far follow the words.
 use Rattle.std.specs.Prelude.{◌≡◌, ◌++◌, map, take}
 use Rattle.constriction_stored_rows.proofs.ends.with_ends.Given as goal
 

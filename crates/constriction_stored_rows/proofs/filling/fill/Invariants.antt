@@ -1,4 +1,4 @@
--- What was read fills the cdf, and the next row and the quantiles after its first one are what is left.
+-- What was read fills the cdf, and what is left are the next row's first quantile and `room` more.
 use Rattle.std.specs.Iterator.{IsFinite}
 use Rattle.constriction_stored_rows.specs.Ends.{IsCdfBegun}
 use Rattle.constriction_stored_rows.proofs.filling.fill.Given as goal

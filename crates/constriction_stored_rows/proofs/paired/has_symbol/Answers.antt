@@ -3,7 +3,7 @@ use Rattle.std.proofs.lemmas.List.{at_drop_more, at_drop_all}
 use Rattle.std.specs.List.{list_any}
 use Rattle.constriction_stored_rows.proofs.paired.has_symbol.Goals as goal
 
--- whether one of the entries from an index on has such a symbol, where the one at the index does or does not
+-- whether an entry from an index on has such a symbol, if the entry at the index has one, and if it has not
 module _ {Word Symbol : Type 0} (test : Symbol → Bool) (entries : List (Word × Symbol)) (i : ℕ) (e : Word × Symbol) where
   here-or_later : i < length entries → e ≡ get_or entries i e
       → list_any test (map (λ x. x.1) (drop i entries)) ≡ (test e.1 || list_any test (map (λ x. x.1) (drop (i + 1) entries)))

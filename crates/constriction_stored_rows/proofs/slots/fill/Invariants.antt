@@ -1,4 +1,4 @@
--- The table is the one that was given, with the row after it up to the word that is next.
+-- The table is the given one, followed by the row up to the next word.
 use Rattle.std.specs.Prelude.{◌≡◌, ◌++◌, ◌-◌, ◌≤◌, replicate, vec_capacity, vec_len}
 use Rattle.constriction_stored_rows.proofs.slots.fill.Given as goal
 

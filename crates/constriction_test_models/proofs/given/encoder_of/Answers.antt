@@ -6,7 +6,7 @@ use Rattle.constriction.specs.Rows.{Row}
 use Rattle.constriction.specs.StandLemmas.{entries-of, same-equal}
 use Rattle.constriction_test_models.proofs.given.encoder_of.Goals as goal
 
--- where clones are the same values, what has the entries of clones has those of the rows
+-- if clones are the same values, what has the entries of the clones has the entries of the rows
 their-entries : {A E : Type 0} (rows : A → List (Row ℕ)) (others : List (Row ℕ)) (r : Result A E)
     → IfOk r (λ e. HoldsEntriesOf nat_eq (λ s t. t ≡ s) (rows e) others) → IfOk r (λ e. SameEntries nat_eq (rows e) others)
 their-entries rows others (Ok e) h =

@@ -1,4 +1,4 @@
--- The first row and the last one are in question, and no more rows than the model has are told.
+-- The first row and the last one are in question, and the probe has no more rows than the model.
 use Rattle.std.proofs.Common.{◌≡◌, ℕ, ap, refl, arith, length}
 use Rattle.constriction.specs.Rows.{Row}
 use Rattle.constriction_theorem_tests.proofs.known_models.rows_in_question.Goals as goal

@@ -1,4 +1,4 @@
--- What was taken so far was written.
+-- The items taken so far were written.
 use Rattle.constriction_sources.specs.Sink.{Writes}
 use Rattle.constriction_sources.proofs.write.WriteWords.extend_from_iter.Given as goal
 

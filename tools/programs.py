@@ -1,0 +1,108 @@
+"""Programs that stand beside the crates: those of Rattle, which run by `rt try`, and those over the Rust crate, which cargo builds."""
+import hashlib
+import json
+import os
+import pathlib
+import re
+import shutil
+import subprocess
+import sys
+import tempfile
+
+from sources import TOP, files_below, read
+
+TARGET = f"{TOP}/bench/target"
+# The commands that the tools run, and where they come from.
+COMMANDS = {
+    "rt": "install the kit of Rattle, whose command it is, and have it on the PATH",
+    "cargo": "install Rust, by https://rustup.rs or the system's package cargo",
+    "objcopy": "install the system's package binutils",
+}
+
+
+def say(text):
+    print(f"{os.path.basename(sys.argv[0])}: {text}", file=sys.stderr, flush=True)
+
+
+def stop(why, said="", status=3):
+    """Ends the tool with a reason, after the last of what a command said."""
+    print(said[-3000:], end="", file=sys.stderr)
+    say(why)
+    sys.exit(status)
+
+
+def need(*commands):
+    for it in commands:
+        if not shutil.which(it):
+            stop(f"{it} is missing: {COMMANDS[it]}")
+
+
+def tried(program, name, uses, inputs, *flags):
+    """Runs the program in the files NAME.rt.txt of a folder on each input: checked as it runs, and not proved.
+
+    It is the crate `name` of a copy of the repository. Returns what it printed on each input, what rt said in all, and rt's status.
+    """
+    need("rt")
+    with tempfile.TemporaryDirectory(prefix=f"{name}-") as folder:
+        for part in (f"crates/{crate}/{part}" for crate in os.listdir(f"{TOP}/crates") for part in ("src", "specs", "proofs")):
+            if os.path.isdir(f"{TOP}/{part}"):
+                shutil.copytree(f"{TOP}/{part}", f"{folder}/{part}")
+        files = {"HANDLES": read("HANDLES"), "crates.txt": f"{read('crates.txt')}{name}: {uses}\n"}
+        files |= {f"inputs/{it}": text for it, text in inputs.items()}
+        files |= {f"crates/{name}/src/{os.path.basename(it).removesuffix('.txt')}": read(it) for it in files_below(program, ".rt.txt")}
+        for it, text in files.items():
+            path = pathlib.Path(folder, it)
+            path.parent.mkdir(parents=True, exist_ok=True)
+            path.write_text(text, encoding="utf-8")
+        words = ["rt", "try", *flags, "--cases", f"{folder}/inputs"]
+        ran = subprocess.run(words, cwd=f"{folder}/crates/{name}", stdin=subprocess.DEVNULL, capture_output=True, text=True)
+    parts = re.split(r"^== (.*)\n", ran.stdout, flags=re.M)
+    return dict(zip(parts[1::2], parts[2::2])), ran.stderr, ran.returncode
+
+
+# The Rust crate constriction 0.5.0: in a folder, or the registry's where this is None
+
+
+def check_crate(folder):
+    """Stops where a folder is not the crate's."""
+    manifest = pathlib.Path(folder or TOP, "Cargo.toml")
+    text = manifest.read_text(encoding="utf-8") if manifest.is_file() else ""
+    if folder and not all(re.search(line, text, re.M) for line in (r'^name *= *"constriction"', r'^version *= *"0\.5\.0"')):
+        stop(f"{folder} has no Cargo.toml of the crate constriction 0.5.0: give --crate the folder of its sources")
+
+
+def packages(*words):
+    """Returns each package that cargo finds for a manifest, by its name, with its folder and whether it came from a registry."""
+    ran = subprocess.run(["cargo", "metadata", "--format-version", "1", *words], capture_output=True, text=True)
+    found = json.loads(ran.stdout)["packages"] if ran.returncode == 0 else []
+    return {it["name"]: (os.path.dirname(it["manifest_path"]), it["source"] is not None) for it in found}
+
+
+def patches(folder):
+    """Returns cargo's words for the crate in a folder, and for what it depends on by its own paths."""
+    found = packages("--offline", "--manifest-path", f"{folder}/Cargo.toml")
+    own = {name: path for name, (path, is_fetched) in found.items() if name in ("num-traits", "smallvec") and not is_fetched}
+    paths = {"constriction": os.path.abspath(folder), **own}
+    return [word for name, path in paths.items() for word in ("--config", f"patch.crates-io.{name}.path={json.dumps(path)}")]
+
+
+def checksums(folder):
+    """Returns the first 16 digits of the sha256 of each source of the crate."""
+    folder = folder or packages("--manifest-path", f"{TOP}/bench/cases/Cargo.toml").get("constriction", ("",))[0]
+    if not folder:
+        stop("cargo does not say where the crate constriction 0.5.0 is: give the folder of its sources, by --crate FOLDER")
+    paths = sorted(pathlib.Path(folder, "src").rglob("*.rs"), key=str)
+    return {str(it.relative_to(folder)): hashlib.sha256(it.read_bytes()).hexdigest()[:16] for it in paths}
+
+
+def built(package, program, folder, env=None):
+    """Builds a package of bench/ over the crate, which is fetched only if cargo does not have it, and returns the path of its program."""
+    need("cargo")
+    check_crate(folder)
+    words = ["cargo", "build", "--release", "--manifest-path", f"{TOP}/bench/{package}/Cargo.toml", "--target-dir", TARGET]
+    words += patches(folder) if folder else []
+    for more in (["--offline"], []):
+        ran = subprocess.run([*words, *more], stdout=subprocess.PIPE, stderr=subprocess.STDOUT, text=True, env=env)
+        if ran.returncode == 0:
+            return f"{TARGET}/release/{program}"
+    stop("the program over the Rust crate was not built; --crate FOLDER takes the crate's sources from a folder", ran.stdout)
