@@ -1,6 +1,6 @@
 //! Filling the quantiles below `2^PRECISION` with rows, one after another.
 
-ghost use Rattle.std.specs.Prelude.{◌≡◌, ◌+◌, ◌^◌, ◌<◌, ◌≤◌, ◌⊎◌, [], ◌∷◌, ◌++◌, Some, None, IfOk, IsTrue, true, false};
+ghost use Rattle.std.specs.Prelude.{◌≡◌, ◌+◌, ◌^◌, ◌<◌, ◌≤◌, ◌⊎◌, [], ◌∷◌, ◌++◌, Some, None, IfOk, IsTrue, true, false, min};
 ghost use Rattle.std.specs.Vec.{vec_len, vec_capacity};
 ghost use Rattle.std.specs.Iterator.{IsFinite, IsFiniteIterable};
 ghost use Rattle.constriction_stored_rows.specs.Ends.{FillsAll, IsNoLast, IsNoneInferred, AndTotal, IsCdfOf, IsNoCdf};
@@ -85,10 +85,11 @@ pub(crate) fn is_inferred_last<P: WholeNumber>(room: P, infer_last: bool) -> boo
     false
 }
 
-/// How many of the announced rows to request memory for at once: no more than an accepted list can have.
+/// How many of the announced rows to request memory for at once: all, but no more than an accepted list can have.
 #[inline]
-#[tactic(auto, using(crate::proofs::AnnouncedLemmas::few_announced))]
+#[tactic(auto, using(crate::proofs::AnnouncedLemmas::few_announced, crate::proofs::AnnouncedLemmas::all_announced))]
 pub fn rows_announced<const PRECISION: usize>(announced: usize) -> usize
+    ensures all { announced ≤ 2 ^ min PRECISION 62 → result ≡ announced }
     ensures accepted { result ≤ 2 ^ PRECISION }
     ensures announced { result ≤ announced }
 {
@@ -99,6 +100,7 @@ pub fn rows_announced<const PRECISION: usize>(announced: usize) -> usize
 /// list can have, and one for the total.
 #[inline]
 pub fn entries_announced<const PRECISION: usize>(announced: usize) -> usize
+    ensures all { announced ≤ 2 ^ min PRECISION 62 → result ≡ announced + 1 }
     ensures accepted { result ≤ 2 ^ PRECISION + 1 }
     ensures announced { result ≤ announced + 1 }
 {
