@@ -28,7 +28,8 @@ where
 fn models_of_the_library_know_that_their_symbols_differ(rt: HostRuntime) {
     let numbers = model_of::<u8, 6>(rt.alloc(), &WEIGHTS, false).expect(&rt, "accepted");
     same(&rt, differ(&&numbers), true);
-    same(&rt, differ(&UniformModel::<u8, 6>::new(4)), true);
+    let uniform = UniformModel::<u8, 6>::new(4);
+    same(&rt, [differ(&uniform), differ(&&uniform)], [true; 2]);
     let chars = decoder::<6>(rt.alloc(), &SYMBOLS, &WEIGHTS, false).expect(&rt, "accepted");
     same(&rt, differ(&&chars), true);
     let made = to_generic_decoder_model(rt.alloc(), &chars).expect(&rt, "memory");
