@@ -74,7 +74,7 @@ pub record Left (before : ℕ) (bytes : List ℕ) (known : Option (List ℕ)) (l
   pub framed : AreFramed before blocks (frames ++ lost)
   pub are : known ≡ Some frames
 
--- the same where nothing was lost, to and fro
+-- where nothing was lost: from known frames, and back to them
 pub all_left : (before : ℕ) (blocks : List (List ℕ)) (frames : List ℕ) (known : Option (List ℕ)) → AreFramed before blocks frames
     → known ≡ Some frames → Left before (concat blocks) known []
 all_left before blocks frames known framed are = record {
