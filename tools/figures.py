@@ -6,11 +6,11 @@ import textwrap
 from sources import TOP, read
 
 # What the two sides of a kernel do, by its name in bench/src/kernels.rs, in a word for tables.
-SIDES = {"same": "the same", "repeats": "repeats refused here", "slots": "256 slots here", "search": "a search there"}
+SIDES = {"same": "the same", "repeats": "repeats refused here", "slots": "fewer slots here", "search": "a search there"}
 # The parts that docs/SPEED.md and the plots tell apart: a heading, and what its kernels compare.
 PARTS = (
     ("The same work on both sides", ("same",)),
-    ("Other work here, by a rule: repeats are refused, or there are 256 slots", ("repeats", "slots")),
+    ("Other work here, by a rule: repeats are refused, or a table has fewer slots", ("repeats", "slots")),
     ("A lookup table, which the Rust crate lacks, beside its search", ("search",)),
 )
 # The loop that each kernel has too, which is no row of its own.
@@ -30,6 +30,7 @@ SUBJECTS = (
     ("a model made, without a hash", ".*made"),
     ("a conversion, without a hash", "to_"),
     ("a symbol, by the client or a coder", "write_quantiles|read_symbols|.*coder"),
+    ("a byte, packed or unpacked", ".*pack_block"),
     ("a word, by a source or a sink", ""),
 )
 
@@ -144,7 +145,7 @@ def summary(saved):
     makes = {it["name"] for it in saved["memory"]}
     same, repeats, slots, search = ([*part_of(saved, (side,))] for side in SIDES)
     worst, repeated = max(same, key=ratio), max(repeats, key=ratio)
-    slot = max((it for it in slots if it["name"] not in makes), key=ratio)
+    slot = max((it for it in slots if it["name"].endswith("quantile_function")), key=ratio)
     found, made = (sorted((it for it in search if (it["name"] in makes) == is_made), key=ratio) for is_made in (False, True))
     usual = sorted(ratio(it) for it in saved["kernels"] if it["sides"] == "same" and it["name"] != LOOP and is_measured(it))
     few = sum(round(it, 2) <= 1.1 for it in usual)

@@ -1,8 +1,8 @@
 //! The kernels over this repository's libraries.
 //!
 //! Of Rattle's functions a slice is a pointer and a length, and an allocator is nothing. What each requires is
-//! asked of its caller here: quantiles lie below `2^PRECISION`, and a uniform model has 2 to `2^24` symbols, and
-//! no two symbols of a table are equal.
+//! asked of its caller here: quantiles lie below `2^PRECISION`, a uniform model has 2 to `2^24` symbols, no two
+//! symbols of a table are equal, and a block has 1 to `2^20` bytes.
 
 /// A safe function for each export, over slices.
 macro_rules! exports {
@@ -60,6 +60,8 @@ exports! {
     coder_lookup_decode = kernel_coder_lookup_decode(weights: [u32], words: [u32]);
     range_encode = kernel_range_encode(weights: [u32], symbols: [u32]);
     range_decode = kernel_range_decode(weights: [u32], symbols: [u32]);
+    pack_block = kernel_pack_block(bytes: [u8]);
+    unpack_block = kernel_unpack_block(bytes: [u8]);
     cursor_queue_read = kernel_cursor_queue_read(words: [u32]);
     cursor_stack_read = kernel_cursor_stack_read(words: [u32]);
     reverse_stack_read = kernel_reverse_stack_read(words: [u32]);

@@ -49,6 +49,9 @@ impl Random {
 /// How many quantiles, symbols or words a kernel goes over.
 pub const MANY: usize = 1 << 16;
 
+/// How many bytes a block has that is packed.
+pub const BLOCK: usize = 1 << 20;
+
 /// A table of so many rows over 24 bits of `u32`, and what is asked of it.
 pub struct Table {
     pub rows: usize,
@@ -89,6 +92,21 @@ impl Inputs {
         let indices = keep((0..MANY).map(|_| self.random.below(rows as u64) as u32).collect());
         let asked = keep(indices.iter().map(|&index| symbols[index as usize]).collect());
         Table { rows, weights, symbols, indices, asked }
+    }
+
+    /// The bytes of a block: letters, spaces and ends of lines, of which few are frequent, as in a text.
+    pub fn text(&mut self) -> &'static [u8] {
+        let letters = b" etaoinshrdlucmfwypvbgk,.\nxjqz";
+        let mut letter = || {
+            let end = 1 + self.random.below(letters.len() as u64);
+            letters[self.random.below(end) as usize]
+        };
+        keep((0..BLOCK).map(|_| letter()).collect())
+    }
+
+    /// The bytes of a block, each as likely.
+    pub fn random_bytes(&mut self) -> &'static [u8] {
+        keep((0..BLOCK).map(|_| self.random.number() as u8).collect())
     }
 
     pub fn small_table(&mut self, rows: usize) -> SmallTable {

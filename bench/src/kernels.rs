@@ -1,5 +1,5 @@
 //! The kernels of both sides, paired over the same inputs.
-use crate::inputs::{Inputs, SmallTable, Table, MANY};
+use crate::inputs::{Inputs, SmallTable, Table, BLOCK, MANY};
 use crate::{here, rust};
 use std::hint::black_box;
 
@@ -13,7 +13,7 @@ pub enum Sides {
     Same,
     /// Both make a model. The one here looks for symbols that repeat, and refuses them.
     Repeats,
-    /// Both have a lookup table: here one of 256 slots, there one with a slot for each quantile.
+    /// Both have a lookup table: here one of fewer slots, there one with a slot for each quantile.
     Slots,
     /// A lookup table here. The Rust crate has none over such words, so its searching model is measured.
     Search,
@@ -224,6 +224,11 @@ pub fn usual() -> Vec<Kernel> {
     kernels.push(kernel!("fallible iterator read", "u32", 0, MANY, fallible_iterator_read(words)));
     kernels.push(kernel!("callback write", "u32", 0, MANY, callback_write(words)));
     kernels.push(kernel!("fallible callback write", "u32", 0, MANY, fallible_callback_write(words)));
+    let (text, random) = (inputs.text(), inputs.random_bytes());
+    kernels.push(kernel!("pack_block of text", "u32/16", rows_of(text), BLOCK, pack_block(text)));
+    kernels.push(kernel!("pack_block of random bytes", "u32/16", rows_of(random), BLOCK, pack_block(random)));
+    kernels.push(kernel!("unpack_block of text", "u32/16", rows_of(text), BLOCK, unpack_block(text)).with(Sides::Slots));
+    kernels.push(kernel!("unpack_block of random bytes", "u32/16", rows_of(random), BLOCK, unpack_block(random)).with(Sides::Slots));
     kernels
 }
 
@@ -256,6 +261,11 @@ pub fn growing() -> Vec<Kernel> {
 
 fn words_below_256(words: &'static [u32]) -> &'static [u32] {
     words.iter().map(|word| word % 256).collect::<Vec<u32>>().leak()
+}
+
+/// How many rows the model of these bytes has.
+fn rows_of(bytes: &[u8]) -> usize {
+    bytes.iter().max().map_or(0, |most| usize::from(*most) + 1)
 }
 
 fn uniform_quantile(inputs: &Inputs, rows: usize) -> Kernel {

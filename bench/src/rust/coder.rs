@@ -1,35 +1,53 @@
 //! The worked stack coder, written out over the Rust crate's models.
 use super::mix;
+use constriction::NonZeroBitArray;
 use constriction::stream::model::{DecoderModel, DefaultContiguousCategoricalEntropyModel, EncoderModel};
 
 type Contiguous = DefaultContiguousCategoricalEntropyModel;
 
 /// A state over a stack of words.
-struct StackCoder {
+pub(super) struct StackCoder {
     state: u64,
     words: Vec<u32>,
 }
 
 impl StackCoder {
+    pub(super) fn new() -> Self {
+        StackCoder { state: 0, words: Vec::new() }
+    }
+
+    pub(super) fn is_empty(&self) -> bool {
+        self.state == 0 && self.words.is_empty()
+    }
+
     /// Puts a symbol on the state, which loses a word first where it has no room.
     #[inline(always)]
-    fn encode_symbol<M: EncoderModel<24, Symbol = usize, Probability = u32>>(&mut self, symbol: usize, model: &M) -> Result<(), ()> {
+    pub(super) fn encode_symbol<const PRECISION: usize, M>(&mut self, symbol: usize, model: &M) -> Result<(), ()>
+    where
+        M: EncoderModel<PRECISION, Symbol = usize, Probability = u32>,
+    {
         let (left, weight) = model.left_cumulative_and_probability(symbol).ok_or(())?;
         let weight = u64::from(weight.get());
-        if self.state >> 40 >= weight {
+        if self.state >> (64 - PRECISION) >= weight {
             self.words.push(self.state as u32);
             self.state >>= 32;
         }
-        self.state = ((self.state / weight) << 24) | (u64::from(left) + self.state % weight);
+        self.state = ((self.state / weight) << PRECISION) | (u64::from(left) + self.state % weight);
         Ok(())
     }
 
     /// Takes the symbol on top of the state, which takes a word where it has become small.
     #[inline(always)]
-    fn decode_symbol<M: DecoderModel<24, Symbol = usize, Probability = u32>>(&mut self, model: &M) -> usize {
-        let quantile = (self.state % (1 << 24)) as u32;
-        let (symbol, left, weight) = model.quantile_function(quantile);
-        self.state = (self.state >> 24) * u64::from(weight.get()) + u64::from(quantile - left);
+    pub(super) fn decode_symbol<const PRECISION: usize, M>(&mut self, model: &M) -> usize
+    where
+        M: DecoderModel<PRECISION, Symbol = usize>,
+        M::Probability: TryFrom<u64> + Into<u64>,
+    {
+        let quantile = self.state % (1 << PRECISION);
+        let Ok(word) = M::Probability::try_from(quantile) else { unreachable!() };
+        let (symbol, left, weight) = model.quantile_function(word);
+        let (left, weight): (u64, u64) = (left.into(), weight.get().into());
+        self.state = (self.state >> PRECISION) * weight + (quantile - left);
         if self.state < 1 << 32 {
             if let Some(word) = self.words.pop() {
                 self.state = (self.state << 32) | u64::from(word);
@@ -39,7 +57,7 @@ impl StackCoder {
     }
 
     /// The words with those of the state on top.
-    fn into_compressed(mut self) -> Vec<u32> {
+    pub(super) fn into_compressed(mut self) -> Vec<u32> {
         while self.state != 0 {
             self.words.push(self.state as u32);
             self.state >>= 32;
@@ -48,7 +66,7 @@ impl StackCoder {
     }
 
     /// The coder of such words, unless they end in 0.
-    fn from_compressed(mut words: Vec<u32>) -> Option<Self> {
+    pub(super) fn from_compressed(mut words: Vec<u32>) -> Option<Self> {
         let state = match words.pop() {
             None => 0,
             Some(0) => return None,
@@ -66,7 +84,7 @@ pub fn coder_encode(weights: &[u32], symbols: &[u32], repeats: u32) -> u64 {
     let Ok(model) = Contiguous::from_nonzero_fixed_point_probabilities(weights.iter().copied(), false) else { return 1 };
     let mut sum = 0;
     for _ in 0..repeats {
-        let mut coder = StackCoder { state: 0, words: Vec::new() };
+        let mut coder = StackCoder::new();
         for symbol in symbols {
             if coder.encode_symbol(*symbol as usize, &model).is_err() {
                 return 1;

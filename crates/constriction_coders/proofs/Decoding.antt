@@ -6,7 +6,7 @@ use Rattle.std.proofs.lemmas.Bool.{cases_lt}
 use Rattle.std.proofs.lemmas.List.{get_or-drop, drop-drop, take_all}
 use Rattle.std.proofs.lemmas.Nat.{mul-le, le-div, div_below}
 use Rattle.constriction.specs.Coding.{InTurn, StandsForEqual}
-use Rattle.constriction.specs.CodingLemmas.{entry-back}
+use Rattle.constriction.specs.CodingLemmas.{entry-back, rows-within}
 use Rattle.constriction.specs.Rows.{Row, RowsTile, IsRowOf, entry_of}
 use Rattle.constriction_backends.specs.Source.{ReadsUpcoming}
 use Rattle.constriction_coders.specs.Intervals.{Interval, interval, part_of, word_or_zero, HoldsPoint, IsAboveAll, IsStretched, IsStart, Held, held_of, IsRead}
@@ -103,11 +103,12 @@ module _ {Symbol S E : Type 0} (Stands : Symbol → Symbol → Type 0) (eq : Sym
     (tile : RowsTile bits precision rows) (alike : (s : Symbol) → entry s ≡ entry_of eq rows s)
     (law : (s : S) (r : Result (Option ℕ) E) (t : S) → gives s r t → (ws : List ℕ) → tells s ws → ReadsUpcoming tells ws r t) where
   fits : (symbol : Symbol) (left weight : ℕ) → entry symbol ≡ Some (left, weight) → left + weight ≤ 2 ^ precision
-  fits = fits-entry eq entry rows bits precision tile alike
+  fits symbol left weight known =
+      fits-entry eq rows precision (rows-within bits precision rows tile) symbol left weight (sym (alike symbol) ∙ known)
 
   module _ (words : List ℕ) (fit : All (λ w. w < 2 ^ 32) words) where
     lies-in : (symbols : List Symbol) (s last : Span) → InTurn (IsNarrowed entry precision) symbols s last → LiesIn last words → LiesIn s words
-    lies-in = lies-run eq entry rows bits precision tile alike words fit
+    lies-in = lies-run entry precision fits words fit
 
     -- ---- a symbol
 
@@ -200,40 +201,40 @@ module _ {Symbol S E : Type 0} (Stands : Symbol → Symbol → Type 0) (eq : Sym
   range-symbol-back symbol answer old new words now later fit e lies here d =
       (symbol-back words fit symbol old new now e lies here answer later d, is-at-next words fit symbol old new now e lies here answer later d)
 
-  -- ---- a message from its beginning
+  -- ---- a message, from a span of it on
 
   module _ (positive : 0 < precision) where
-    back : (symbols answers : List Symbol) (words : List ℕ) (now : Held S)
-        → IsDecodedFrom Stands eq entry rows gives tells precision symbols answers words now
+    back : (first : Span) (symbols answers : List Symbol) (words : List ℕ) (now : Held S)
+        → IsDecodedFrom Stands eq entry rows gives tells precision first symbols answers words now
         → AllZip (StandsForEqual Stands eq) (take (length answers) symbols) answers
-        × ((mid : Span) × InTurn (IsNarrowed entry precision) (take (length answers) symbols) whole mid × IsAt tells mid words now)
+        × ((mid : Span) × InTurn (IsNarrowed entry precision) (take (length answers) symbols) first mid × IsAt tells mid words now)
         × (length answers < length symbols → IsAboveAll precision now.held → ⊥)
-    back [] [] words now h = (
+    back first [] [] words now h = (
       tt,
-      (whole, refl, subst (λ (x : Held S). IsAt tells whole words x) h.decoded h.begun),
+      (first, refl, subst (λ (x : Held S). IsAt tells first words x) h.decoded h.begun),
       λ fewer. absurd (omega (arith, fewer)),
     )
-    back [] (a ∷ ts) words now h = absurd (omega (arith, h.as_many))
-    back (x ∷ xs) answers words now h =
-        run words h.message.fit (x ∷ xs) answers whole h.last h.start now h.encoded
-        (h.message.lies (some-symbol eq entry rows bits precision tile alike positive x xs h.last h.encoded))
+    back first [] (a ∷ ts) words now h = absurd (omega (arith, h.as_many))
+    back first (x ∷ xs) answers words now h =
+        run words h.message.fit (x ∷ xs) answers first h.last h.start now h.encoded
+        (h.message.lies (some-symbol entry precision fits positive x xs first h.last h.reached.fits h.encoded))
         h.begun h.decoded h.as_many
 
     pub range-symbols-back : RangeSymbolsComeBack Stands eq entry rows gives tells precision
-    range-symbols-back symbols answers words now h = (back symbols answers words now h).0
+    range-symbols-back first symbols answers words now h = (back first symbols answers words now h).0
 
     pub decoder-follows : DecoderFollows Stands eq entry rows gives tells precision
-    decoder-follows symbols answers words now h = (back symbols answers words now h).1
+    decoder-follows first symbols answers words now h = (back first symbols answers words now h).1
 
     pub never-above : NeverAboveAll Stands eq entry rows gives tells precision
-    never-above symbols answers words now h fewer = (back symbols answers words now h).2 fewer
+    never-above first symbols answers words now h fewer = (back first symbols answers words now h).2 fewer
 
     pub ends : EndsThere Stands eq entry rows gives tells precision
-    ends symbols answers words more now message h many =
-        let there = decoder-follows symbols answers (words ++ more) now h in
+    ends first last symbols answers words more now led sealed h many =
+        let there = decoder-follows first symbols answers (words ++ more) now h in
         let all : take (length answers) symbols ≡ symbols = take_all (length answers) symbols (omega (arith, many)) in
-        let same : there.0 ≡ message.0 =
-        run-once entry precision symbols whole there.0 message.0
-        (subst (λ (ss : List Symbol). InTurn (IsNarrowed entry precision) ss whole there.0) all there.1) message.1 in
-        let at_last : IsAt tells message.0 (words ++ more) now = subst (λ (s : Span). IsAt tells s (words ++ more) now) same there.2 in
-        ends-there message.0 words more now.held h.message.fit message.2 at_last.held
+        let same : there.0 ≡ last =
+        run-once entry precision symbols first there.0 last
+        (subst (λ (ss : List Symbol). InTurn (IsNarrowed entry precision) ss first there.0) all there.1) led in
+        let at_last : IsAt tells last (words ++ more) now = subst (λ (s : Span). IsAt tells s (words ++ more) now) same there.2 in
+        ends-there last words more now.held h.message.fit sealed at_last.held

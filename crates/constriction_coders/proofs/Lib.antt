@@ -16,6 +16,7 @@ pub mod Once
 pub mod Pairs
 pub mod Placing
 pub mod PublishedWords
+pub mod RangePlacing
 pub mod RangeWalking
 pub mod Sealing
 pub mod Spanning

@@ -10,19 +10,20 @@ use Rattle.constriction_coders.specs.Intervals.{Interval, Held, IsRead, ReadingS
 use Rattle.constriction_coders.specs.declared.queue.range_decoder.DecoderFrontendError.{DecoderFrontendError}
 use Rattle.constriction_coders.specs.declared.queue.range_decoder.DecoderFrontendError.TheVariants.{InvalidData}
 use Rattle.constriction_coders.specs.RangeLaws.{IsAt, RangeSymbolsComeBack, NeverAboveAll}
-use Rattle.constriction_coders.specs.Spans.{Span, whole, IsNarrowed, LeadTo}
+use Rattle.constriction_coders.specs.Spans.{Span, IsNarrowed, IsReached, LeadTo}
 
 module _ {Symbol S E : Type 0} (Stands : Symbol → Symbol → Type 0) (eq : Symbol → Symbol → Bool) (entry : Symbol → Option (ℕ × ℕ))
     (rows : List (Row Symbol)) (gives : S → Result (Option ℕ) E → S → Type 0) (tells : S → List ℕ → Type 0) (precision : ℕ)
     (start : Held S) (count : ℕ) where
   pub came-back : RangeSymbolsComeBack Stands eq entry rows gives tells precision → (answers : List Symbol) (now : Held S)
       → InTurn (IsRead Stands rows gives precision) answers start now → length answers ≡ count
-      → (symbols : List Symbol) (words : List ℕ) (last : Span) → length symbols ≡ count
-      → InTurn (IsNarrowed entry precision) symbols whole last → LeadTo last words → IsAt tells whole words start
+      → (symbols : List Symbol) (words : List ℕ) (first last : Span) → IsReached first → length symbols ≡ count
+      → InTurn (IsNarrowed entry precision) symbols first last → LeadTo last words → IsAt tells first words start
       → AllZip (StandsForEqual Stands eq) symbols answers
-  came-back back answers now decoded many symbols words last long encoded message begun =
+  came-back back answers now decoded many symbols words first last reached long encoded message begun =
       subst (λ (ss : List Symbol). AllZip (StandsForEqual Stands eq) ss answers) (take_all (length answers) symbols (omega (arith, many, long)))
-      (back symbols answers words now (record {
+      (back first symbols answers words now (record {
+        reached = reached;
         last = last;
         encoded = encoded;
         message = message;
@@ -35,14 +36,15 @@ module _ {Symbol S E : Type 0} (Stands : Symbol → Symbol → Type 0) (eq : Sym
   pub not-invalid : NeverAboveAll Stands eq entry rows gives tells precision → (MayRefuse : Symbol → Type 0)
       → (error : CoderError DecoderFrontendError E) (held : Interval) (left : S)
       → ReadingStops Stands MayRefuse rows gives precision count error start held left → error ≡ Frontend InvalidData
-      → (symbols : List Symbol) (words : List ℕ) (last : Span) → length symbols ≡ count
-      → InTurn (IsNarrowed entry precision) symbols whole last → LeadTo last words → IsAt tells whole words start → ⊥
-  not-invalid valid MayRefuse error held left stops is symbols words last long encoded message begun =
+      → (symbols : List Symbol) (words : List ℕ) (first last : Span) → IsReached first → length symbols ≡ count
+      → InTurn (IsNarrowed entry precision) symbols first last → LeadTo last words → IsAt tells first words start → ⊥
+  not-invalid valid MayRefuse error held left stops is symbols words first last reached long encoded message begun =
       let invalid = subst (λ (e : CoderError DecoderFrontendError E). ReadingStops Stands MayRefuse rows gives precision count e start held left)
       is stops in
       elim invalid.why [
         | inl fewer ↦
-            valid symbols invalid.done words (record { held = held; source = invalid.reached }) (record {
+            valid first symbols invalid.done words (record { held = held; source = invalid.reached }) (record {
+              reached = reached;
               last = last;
               encoded = encoded;
               message = message;

@@ -69,7 +69,7 @@ module _ (precision left weight : ℕ) (words raised : List ℕ) (lower range un
 -- ---- what holds of a span holds of the one that a symbol leaves
 
 module _ (precision left weight : ℕ) (positive : 0 < precision) (few : precision ≤ 32) (some : 0 < weight)
-    (fits : left + weight ≤ 2 ^ precision) (old : Span) (bound : old.size < 2 ^ 64) (reached : IsReached old) where
+    (fits : left + weight ≤ 2 ^ precision) (old : Span) (reached : IsReached old) where
   part-some : 0 < old.size / 2 ^ precision * weight
   part-some =
       let small : 2 ^ precision ≤ 2 ^ 32 = pow_mono {i = precision} {j = 32} few in
@@ -78,7 +78,7 @@ module _ (precision left weight : ℕ) (positive : 0 < precision) (few : precisi
       omega (arith, mul-le 1 1 (old.size / 2 ^ precision) weight unit some)
 
   less : old.size / 2 ^ precision * weight < 2 ^ 64 - 1
-  less = part-less precision old.size (old.size / 2 ^ precision) left weight positive (unit-within old.size precision) bound fits
+  less = part-less precision old.size (old.size / 2 ^ precision) left weight positive (unit-within old.size precision) reached.fits fits
 
   within : old.size / 2 ^ precision * left + old.size / 2 ^ precision * weight ≤ old.size
   within = part-within precision old.size (old.size / 2 ^ precision) left weight (unit-within old.size precision) fits
@@ -87,12 +87,14 @@ module _ (precision left weight : ℕ) (positive : 0 < precision) (few : precisi
   part-reached new (inl same) =
       subst IsReached (sym same.1) (record {
         wide = same.0;
+        fits = omega (arith, less);
         within = omega (arith, within, reached.within);
         begun = λ all. absurd (omega (arith, all, less));
       })
   part-reached new (inr wider) =
       subst IsReached (sym wider.1) (record {
         wide = omega (arith, part-some);
+        fits = omega (arith, wider.0);
         within = omega (arith, within, reached.within, two-more (old.written));
         begun = λ all. absurd (omega (arith, all));
       })

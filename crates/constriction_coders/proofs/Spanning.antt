@@ -1,12 +1,13 @@
 -- The number of the words of a message is in each of its spans, and a message with a symbol leaves the span of none.
-use Rattle.std.proofs.Common.{◌≡◌, ℕ, ◌+◌, ◌-◌, ◌*◌, ◌/◌, ◌^◌, ◌<◌, ◌≤◌, Bool, List, [], ◌∷◌, get_or, Option, Some, ap, sym, ◌∙◌, subst, arith, inl, inr}
+use Rattle.std.proofs.Common.{◌≡◌, ℕ, ◌+◌, ◌-◌, ◌*◌, ◌/◌, ◌^◌, ◌<◌, ◌≤◌, Bool, List, [], ◌∷◌, get_or, Option, Some, refl, ap, sym, ◌∙◌, subst, arith, inl, inr}
 use Rattle.std.specs.Prelude.{All}
 use Rattle.constriction.specs.Coding.{InTurn}
-use Rattle.constriction.specs.CodingLemmas.{entry-within, rows-within}
-use Rattle.constriction.specs.Rows.{Row, RowsTile, entry_of}
+use Rattle.constriction.specs.CodingLemmas.{entry-within}
+use Rattle.constriction.specs.Model.{LiesWithin}
+use Rattle.constriction.specs.Rows.{Row, entry_of}
 use Rattle.constriction_coders.specs.Numbers.{number_first}
 use Rattle.constriction_coders.specs.RangeLaws.{LeavesWhole, LiesBefore}
-use Rattle.constriction_coders.specs.Spans.{Span, span, whole, part_in, IsWidened, IsNarrowed, LiesIn}
+use Rattle.constriction_coders.specs.Spans.{Span, span, whole, part_in, IsWidened, IsNarrowed, IsReached, LiesIn}
 use Rattle.constriction_coders.proofs.Narrowing.{part-within, part-less, unit-within}
 use Rattle.constriction_coders.proofs.NumberLemmas.{word-fits, first-more}
 
@@ -30,15 +31,18 @@ module _ (words : List ℕ) (fit : All (λ w. w < 2 ^ 32) words) where
       let within = part-within precision s.size (s.size / 2 ^ precision) left weight (unit-within s.size precision) fits in
       (omega (arith, part.0), omega (arith, part.1, within))
 
-module _ {Symbol : Type 0} (eq : Symbol → Symbol → Bool) (entry : Symbol → Option (ℕ × ℕ)) (rows : List (Row Symbol)) (bits precision : ℕ)
-    (tile : RowsTile bits precision rows) (alike : (s : Symbol) → entry s ≡ entry_of eq rows s) where
-  pub fits-entry : (symbol : Symbol) (left weight : ℕ) → entry symbol ≡ Some (left, weight) → left + weight ≤ 2 ^ precision
-  fits-entry symbol left weight known =
-      entry-within precision eq rows symbol (left, weight) (sym known ∙ alike symbol) (rows-within bits precision rows tile)
+-- the quantiles of an entry are below 2 ^ precision
+pub fits-entry : {Symbol : Type 0} (eq : Symbol → Symbol → Bool) (rows : List (Row Symbol)) (precision : ℕ)
+    → All (LiesWithin precision) rows → (symbol : Symbol) (left weight : ℕ) → entry_of eq rows symbol ≡ Some (left, weight)
+    → left + weight ≤ 2 ^ precision
+fits-entry eq rows precision within symbol left weight known =
+    entry-within precision eq rows symbol (left, weight) (sym known) within
 
+module _ {Symbol : Type 0} (entry : Symbol → Option (ℕ × ℕ)) (precision : ℕ)
+    (fits : (symbol : Symbol) (left weight : ℕ) → entry symbol ≡ Some (left, weight) → left + weight ≤ 2 ^ precision) where
   pub lies-back : LiesBefore entry precision
   lies-back symbol old new words fit e lies =
-      lies-before words fit precision e.left e.weight old new (fits-entry symbol e.left e.weight e.known) e.next lies
+      lies-before words fit precision e.left e.weight old new (fits symbol e.left e.weight e.known) e.next lies
 
   pub lies-run : (words : List ℕ) → All (λ w. w < 2 ^ 32) words → (symbols : List Symbol) (s last : Span)
       → InTurn (IsNarrowed entry precision) symbols s last → LiesIn last words → LiesIn s words
@@ -52,7 +56,7 @@ module _ {Symbol : Type 0} (eq : Symbol → Symbol → Bool) (entry : Symbol →
         go : IsWidened (part_in precision e.left e.weight s) new → new.size < 2 ^ 64 - 1
         go (inl same) =
             let less = part-less precision s.size (s.size / 2 ^ precision) e.left e.weight positive (unit-within s.size precision) bound
-            (fits-entry symbol e.left e.weight e.known) in
+            (fits symbol e.left e.weight e.known) in
             omega (arith, less, ap (λ (x : Span). x.size) same.1)
         go (inr wider) = omega (arith, wider.0, ap (λ (x : Span). x.size) wider.1)
 
@@ -62,7 +66,12 @@ module _ {Symbol : Type 0} (eq : Symbol → Symbol → Bool) (entry : Symbol →
     size-run (x ∷ xs) s last less e = size-run xs e.0 last (leaves-whole x s e.0 e.1 (omega (arith, less))) e.2
 
     -- symbols do not lead to the span of none
-    pub some-symbol : (x : Symbol) (xs : List Symbol) (last : Span) → InTurn (IsNarrowed entry precision) (x ∷ xs) whole last → last ≡ whole → ⊥
-    some-symbol x xs last e all =
-        let less = size-run xs e.0 last (leaves-whole x whole e.0 e.1 (omega arith)) e.2 in
-        omega (arith, less, ap (λ (s : Span). s.size) all)
+    pub some-symbol : (x : Symbol) (xs : List Symbol) (s last : Span) → s.size < 2 ^ 64 → InTurn (IsNarrowed entry precision) (x ∷ xs) s last
+        → last ≡ whole → ⊥
+    some-symbol x xs s last bound e all =
+        let less = size-run xs e.0 last (leaves-whole x s e.0 e.1 bound) e.2 in
+        omega (arith, less, ap (λ (t : Span). t.size) all)
+
+-- the span of no symbol is one of a message
+pub whole-reached : IsReached whole
+whole-reached = record { wide = omega arith; fits = omega arith; within = omega arith; begun = λ _. refl }

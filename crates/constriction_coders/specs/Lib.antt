@@ -11,6 +11,7 @@ pub mod Numbers
 pub mod Positions
 pub mod Published
 pub mod RangeLaws
+pub mod RangePositions
 pub mod RangeWalks
 pub mod Spans
 pub mod StackMessages

@@ -5,7 +5,7 @@ use Rattle.constriction.specs.Coding.{StandsForEqual, InTurn}
 use Rattle.constriction.specs.Rows.{Row}
 use Rattle.constriction_coders.specs.Intervals.{Held, interval, IsRead, IsAboveAll, MayBeAtEnd}
 use Rattle.constriction_coders.specs.Numbers.{number_first}
-use Rattle.constriction_coders.specs.Spans.{Span, whole, IsNarrowed, LiesIn, LeadTo, IsSealed, IsMessageOf}
+use Rattle.constriction_coders.specs.Spans.{Span, IsNarrowed, IsReached, LiesIn, LeadTo, IsSealed, IsMessageOf}
 
 -- A decoder is at a span: it holds how many numbers that has, and how far the number of the words, as many as the span's numbers have,
 -- lies above the least one. The words after these are still to come.
@@ -43,36 +43,38 @@ module _ {Symbol S E : Type 0} (Stands : Symbol → Symbol → Type 0) (eq : Sym
       → IsNarrowed entry precision symbol old new → LiesIn new words → IsAt tells old words now
       → IsRead Stands rows gives precision answer now later → StandsForEqual Stands eq symbol answer × IsAt tells new words later
 
-  -- Symbols were encoded, and a decoder of their words decoded no more symbols than there are.
-  pub record IsDecodedFrom (symbols answers : List Symbol) (words : List ℕ) (now : Held S) : Type 0 where
+  -- Symbols were encoded from a span on, and a decoder of their words that was at this span decoded no more symbols than there are.
+  pub record IsDecodedFrom (first : Span) (symbols answers : List Symbol) (words : List ℕ) (now : Held S) : Type 0 where
+    pub reached : IsReached first
     pub last : Span
-    pub encoded : InTurn (IsNarrowed entry precision) symbols whole last
+    pub encoded : InTurn (IsNarrowed entry precision) symbols first last
     pub message : LeadTo last words
     pub start : Held S
-    pub begun : IsAt tells whole words start
+    pub begun : IsAt tells first words start
     pub decoded : InTurn (IsRead Stands rows gives precision) answers start now
     pub as_many : length answers ≤ length symbols
 
   -- it is at the span of as many symbols as it decoded
   abbrev pub DecoderFollows : Type 0
   DecoderFollows =
-      (symbols answers : List Symbol) (words : List ℕ) (now : Held S) → IsDecodedFrom symbols answers words now
-      → (s : Span) × InTurn (IsNarrowed entry precision) (take (length answers) symbols) whole s × IsAt tells s words now
+      (first : Span) (symbols answers : List Symbol) (words : List ℕ) (now : Held S) → IsDecodedFrom first symbols answers words now
+      → (s : Span) × InTurn (IsNarrowed entry precision) (take (length answers) symbols) first s × IsAt tells s words now
 
   -- what was decoded stands for equal symbols
   abbrev pub RangeSymbolsComeBack : Type 0
   RangeSymbolsComeBack =
-      (symbols answers : List Symbol) (words : List ℕ) (now : Held S) → IsDecodedFrom symbols answers words now
+      (first : Span) (symbols answers : List Symbol) (words : List ℕ) (now : Held S) → IsDecodedFrom first symbols answers words now
       → AllZip (StandsForEqual Stands eq) (take (length answers) symbols) answers
 
   -- if a symbol is left, the point is in its part: the words are never invalid
   abbrev pub NeverAboveAll : Type 0
   NeverAboveAll =
-      (symbols answers : List Symbol) (words : List ℕ) (now : Held S) → IsDecodedFrom symbols answers words now
+      (first : Span) (symbols answers : List Symbol) (words : List ℕ) (now : Held S) → IsDecodedFrom first symbols answers words now
       → length answers < length symbols → ¬ (IsAboveAll precision now.held)
 
   -- if no symbol is left, and the words are those of the message with others after them, the decoder may be at the end
   abbrev pub EndsThere : Type 0
   EndsThere =
-      (symbols answers : List Symbol) (words more : List ℕ) (now : Held S) → IsMessageOf entry precision symbols words
-      → IsDecodedFrom symbols answers (words ++ more) now → length answers ≡ length symbols → MayBeAtEnd now.held
+      (first last : Span) (symbols answers : List Symbol) (words more : List ℕ) (now : Held S)
+      → InTurn (IsNarrowed entry precision) symbols first last → IsSealed last words
+      → IsDecodedFrom first symbols answers (words ++ more) now → length answers ≡ length symbols → MayBeAtEnd now.held

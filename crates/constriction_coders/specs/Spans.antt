@@ -44,6 +44,7 @@ pub record IsNarrowed {Symbol : Type 0} (entry : Symbol → Option (ℕ × ℕ))
 -- what holds of each span of a message
 pub record IsReached (s : Span) : Type 0 where
   pub wide : 2 ^ 32 ≤ s.size
+  pub fits : s.size < 2 ^ 64
   pub within : s.low + s.size < 2 ^ (32 * (s.written + 2))
   pub begun : s.size ≡ 2 ^ 64 - 1 → s ≡ whole
 

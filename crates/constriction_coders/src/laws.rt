@@ -7,7 +7,7 @@ mod stack;
 
 pub use self::queue::{
     message_comes_back, message_from, message_of, one_message, published_message,
-    range_symbol_comes_back, range_symbols_come_back, sealed_words_tell,
+    range_place_comes_back, range_symbol_comes_back, range_symbols_come_back, sealed_words_tell,
 };
 pub use self::stack::{
     back_and_there, bits_come_back, coder_comes_back, compressed_comes_back, compressed_once,

@@ -5,10 +5,12 @@ mod decoding_walk;
 mod encoded_words;
 mod encoding_walk;
 mod interval;
+mod positions;
 mod range_decoder;
 mod range_encoder;
 
 pub use self::decoding_walk::DecodeIidSymbols;
 pub use self::encoded_words::EncodedWords;
+pub use self::positions::RangeCoderState;
 pub use self::range_decoder::{DecoderFrontendError, RangeDecoder};
 pub use self::range_encoder::RangeEncoder;

@@ -21,6 +21,8 @@ mod positions;
 #[cfg(test)]
 mod range_coder;
 #[cfg(test)]
+mod range_positions;
+#[cfg(test)]
 mod stored_weights;
 #[cfg(test)]
 mod turns;

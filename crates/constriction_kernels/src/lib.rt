@@ -15,6 +15,7 @@ pub mod coder;
 pub mod contiguous;
 pub mod conversions;
 pub mod lookups;
+pub mod packing;
 pub mod range_coder;
 pub mod searches;
 pub mod uniform;

@@ -5,9 +5,11 @@ ghost use Rattle.std.specs.List.{AllZip};
 ghost use Rattle.constriction.specs.Coding.{StandsForEqual};
 
 use crate::laws::{
-    message_comes_back, message_from, message_of, range_symbol_comes_back, range_symbols_come_back,
+    message_comes_back, message_from, message_of, range_place_comes_back, range_symbol_comes_back,
+    range_symbols_come_back, sealed_words_tell,
 };
 use crate::queue::{EncodedWords, RangeDecoder, RangeEncoder};
+use constriction::Pos;
 use constriction::backends::Cursor;
 use constriction::stream::model::{DecoderModel, EncoderModel};
 use std::alloc::Global;
@@ -71,6 +73,48 @@ where
     }
     let mut decoder = coder.decoder();
     match decoder.decode_symbols::<M, PRECISION>(alloc, symbols.len(), model) {
+        Ok(answers) => Some(answers),
+        Err(_) => None,
+    }
+}
+
+/// The second part of a message, decoded from the place that was noted before it.
+pub fn from_a_place<M, const PRECISION: usize>(
+    alloc: Global,
+    model: &M,
+    first: &[M::Symbol],
+    second: &[M::Symbol],
+) -> Option<Vec<M::Symbol>>
+where
+    M: EncoderModel<PRECISION, Probability = u32> + DecoderModel<PRECISION, Probability = u32>,
+    M::Symbol: Drop,
+    ensures { IfSome result (λ answers. AllZip (StandsForEqual M.stands_for M.symbol_eq) second.now answers.items) }
+{
+    range_place_comes_back::<M, Cursor<u32, Vec<u32>>, PRECISION>(model);
+    range_symbols_come_back::<M, M, Cursor<u32, Vec<u32>>, PRECISION>(model, model);
+    sealed_words_tell();
+    let mut coder = RangeEncoder::new(alloc);
+    match coder.encode_symbols::<M, PRECISION>(first, model) {
+        Ok(()) => {}
+        Err(_) => return None,
+    }
+    let place = coder.pos();
+    match coder.encode_symbols::<M, PRECISION>(second, model) {
+        Ok(()) => {}
+        Err(_) => return None,
+    }
+    let Ok(words) = coder.into_compressed() else {
+        return None;
+    };
+    let Ok(mut decoder) = RangeDecoder::from_compressed(Cursor::new_at_write_beginning(words))
+    else {
+        return None;
+    };
+    match decoder.seek(place) {
+        Ok(()) => {}
+        Err(()) => unreachable!(),
+    }
+    match decoder.decode_symbols::<M, PRECISION>(alloc, second.len(), model) {
         Ok(answers) => Some(answers),
         Err(_) => None,
     }

@@ -4,6 +4,7 @@ ghost use Rattle.std.specs.Prelude.{◌≡◌, ◌≢◌, ◌++◌, ◌^◌, ◌
 ghost use Rattle.std.specs.List.{AllZip};
 ghost use Rattle.constriction_coders.specs.Published.{published_entries, published_words};
 ghost use Rattle.constriction_coders.specs.RangeLaws.{DecoderFollows, EndsThere, LeavesWhole, LiesBefore, MessageOnce, NeverAboveAll, RangeSymbolComesBack, RangeSymbolsComeBack, SealedWordsTell};
+ghost use Rattle.constriction_coders.specs.RangePositions.{RangePlaceComesBack};
 ghost use Rattle.constriction_coders.specs.Spans.{IsMessageOf};
 ghost use Rattle.constriction.specs.Coding.{StandsForEqual};
 ghost use Rattle.constriction.specs.Model.{ClonesAreEqual};
@@ -32,8 +33,9 @@ where
     ensures leaves { LeavesWhole (entry_of E.symbol_eq (E.rows encoder.now)) PRECISION }
 {}
 
-/// From any source that tells the words of a message, what is decoded stands for what was encoded, in order, and the decoder is at the
-/// span of as many symbols. The words are never invalid before all symbols are decoded. Then the decoder may be at the end.
+/// From any source that tells the words of a message, and from any span of the message on, what is decoded stands for what was encoded,
+/// in order, and the decoder is at the span of as many symbols. The words are never invalid before all symbols are decoded. Then the
+/// decoder may be at the end.
 pub fn range_symbols_come_back<D, E, Source, const PRECISION: usize>(decoder: &D, encoder: &E)
 where
     D: DecoderModel<PRECISION, Probability = u32>,
@@ -48,6 +50,15 @@ where
         Source.read_gives Source.tells_upcoming PRECISION }
     ensures ends { EndsThere D.stands_for E.symbol_eq (entry_of E.symbol_eq (E.rows encoder.now)) (D.rows decoder.now)
         Source.read_gives Source.tells_upcoming PRECISION }
+{}
+
+/// If a place was noted and symbols were encoded since, a decoder over the words of the message, whatever words come after them, goes to
+/// the place and is at the span that was noted, although a carry may have changed words since.
+pub fn range_place_comes_back<E, Source, const PRECISION: usize>(encoder: &E)
+where
+    E: EncoderModel<PRECISION, Probability = u32>,
+    Source: ReadWords<u32, Queue>,
+    ensures { RangePlaceComesBack (entry_of E.symbol_eq (E.rows encoder.now)) PRECISION Source.tells_upcoming }
 {}
 
 /// The words of an encoder are words of its message, whatever words come after them.

@@ -27,9 +27,9 @@ use std::marker::Model;
 /// Clauses see the span.
 #[derive(Drop)]
 pub struct RangeEncoder {
-    words: Vec<u32>,
-    lower: u64,
-    range: u64,
+    pub(crate) words: Vec<u32>,
+    pub(crate) lower: u64,
+    pub(crate) range: u64,
 }
 
 impl Model for RangeEncoder {

@@ -4,6 +4,7 @@ use Rattle.constriction.specs.Rows.{entry_of}
 use Rattle.constriction_coders.specs.Intervals.{held_of}
 use Rattle.constriction_coders.specs.Spans.{Span, IsNarrowed}
 use Rattle.constriction_coders.proofs.Messages.{came-back}
+use Rattle.constriction_coders.proofs.Spanning.{whole-reached}
 use Rattle.constriction_coders.proofs.callers.queue.while_encoding.Goals as goal
 
 pub returns-in-Ok-decode_symbols : goal.returns-in-Ok-decode_symbols
@@ -12,7 +13,7 @@ returns-in-Ok-decode_symbols g c =
     let words = c.decoder-decoder.ensures.0 in
     came-back _ _ _ _ _ _ g.row.PRECISION (held_of start.range start.offset start.words) _ c.range_symbols_come_back.ensures.back
     c.in-Ok-decode_symbols.answers.items _ c.in-Ok-decode_symbols.ensures.ok c.in-Ok-decode_symbols.ensures.count
-    c.args.symbols.now words _ refl
+    c.args.symbols.now words _ _ whole-reached refl
     (subst (λ (s : Span). InTurn (IsNarrowed (entry_of g.M.EncoderModel.symbol_eq (g.M.EntropyModel.rows c.args.model.now)) g.row.PRECISION)
     c.args.symbols.now s c.encode_symbols.new.self) c.new-coder.ensures c.in-Ok.ensures.ok)
     c.decoder-decoder.ensures.1 c.decoder-decoder.ensures.2

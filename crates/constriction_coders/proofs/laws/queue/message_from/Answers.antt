@@ -2,9 +2,11 @@ use Rattle.std.proofs.Common.{◌≡◌, ◌++◌}
 use Rattle.constriction.specs.Rows.{entry_of}
 use Rattle.constriction.specs.declared.CoderError.TheVariants.{Frontend}
 use Rattle.constriction_coders.specs.Intervals.{interval, held_of}
+use Rattle.constriction_coders.specs.Spans.{whole}
 use Rattle.constriction_coders.specs.declared.queue.range_decoder.DecoderFrontendError.TheVariants.{InvalidData}
 use Rattle.constriction_coders.proofs.Messages.{came-back, not-invalid}
 use Rattle.constriction_coders.proofs.Sealing.{sealed-tell}
+use Rattle.constriction_coders.proofs.Spanning.{whole-reached}
 use Rattle.constriction_coders.proofs.laws.queue.message_from.Goals as goal
 
 pub returns-in-Ok-decode_symbols-clause-back : goal.returns-in-Ok-decode_symbols-clause-back
@@ -14,7 +16,7 @@ returns-in-Ok-decode_symbols-clause-back g c = λ symbols words more long messag
     g.Source.ReadWords.read_gives g.Source.ReadWords.tells_upcoming g.row.PRECISION
     (held_of c.in-Ok.opened.range c.in-Ok.opened.offset c.in-Ok.opened.words) c.args.count
     c.range_symbols_come_back.ensures.back c.in-Ok-decode_symbols.answers.items _ c.in-Ok-decode_symbols.ensures.ok
-    c.in-Ok-decode_symbols.ensures.count symbols (words ++ more) message.0 long message.1
+    c.in-Ok-decode_symbols.ensures.count symbols (words ++ more) whole message.0 whole-reached long message.1
     (sealed-tell message.0 words more message.2 fit) (c.in-Ok.ensures.begins (words ++ more) known)
 
 pub returns-clause-valid : goal.returns-clause-valid
@@ -26,5 +28,5 @@ returns-clause-valid g c = λ is symbols words more long message fit known.
     (held_of c.in-Ok.opened.range c.in-Ok.opened.offset c.in-Ok.opened.words) c.args.count
     c.range_symbols_come_back.ensures.valid g.D.DecoderModel.may_refuse c.in-Err-decode_symbols.error
     (interval c.decode_symbols.new.self.range c.decode_symbols.new.self.offset) c.decode_symbols.new.self.words
-    c.in-Err-decode_symbols.ensures.err same symbols (words ++ more) message.0 long message.1
+    c.in-Err-decode_symbols.ensures.err same symbols (words ++ more) whole message.0 whole-reached long message.1
     (sealed-tell message.0 words more message.2 fit) (c.in-Ok.ensures.begins (words ++ more) known)

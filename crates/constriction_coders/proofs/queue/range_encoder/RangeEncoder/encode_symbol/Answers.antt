@@ -10,7 +10,7 @@ invariant_of-self g c =
     let fits : c.in-Some.left + c.get.result ≤ 2 ^ g.row.PRECISION =
     subst (λ w. c.in-Some.left + w ≤ 2 ^ g.row.PRECISION) (sym c.get.ensures.value) c.in-Some.ensures.within.1 in
     part-reached g.row.PRECISION c.in-Some.left c.get.result precision.positive precision.fits c.get.ensures.nonzero fits
-    (span_of words c.self.inside.lower c.self.inside.range) (omega arith) c.self.invariant _
+    (span_of words c.self.inside.lower c.self.inside.range) c.self.invariant _
     (widened-wide g.row.PRECISION c.in-Some.left c.get.result words c.raised-self-inside.new.words.items c.self.inside.lower
     c.self.inside.range c.unit_of-unit.result c.raised-self-inside.result _ c.unit_of-unit.ensures.value
     c.raised-self-inside.ensures.value refl c.raised-self-inside.ensures.length c.if-range.true)
@@ -25,7 +25,7 @@ invariant_of-self-2 g c =
     let low = rw same at c.raised-lower.ensures.value in
     let long = rw same at c.raised-lower.ensures.length in
     part-reached g.row.PRECISION c.in-Some.left c.get.result precision.positive precision.fits c.get.ensures.nonzero fits
-    (span_of words c.self.inside.lower c.self.inside.range) (omega arith) c.self.invariant _
+    (span_of words c.self.inside.lower c.self.inside.range) c.self.invariant _
     (widened-small g.row.PRECISION c.in-Some.left c.get.result words c.raised-lower.new.words.items c.self.inside.lower
     c.self.inside.range c.unit_of-unit.result c.raised-lower.result (c.unit_of-unit.result * c.get.result) c.unit_of-unit.ensures.value
     low refl long c.widened-self-inside.new.words.items c.widened-self-inside.result
