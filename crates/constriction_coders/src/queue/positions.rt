@@ -1,6 +1,6 @@
 //! Where a range coder stands: how many words are written, and the lower end and the size of its span.
 
-ghost use Rattle.std.specs.Prelude.{◌≡◌, ◌+◌, ◌-◌, ◌%◌, ◌^◌, ◌<◌, ◌≤◌, length};
+ghost use Rattle.std.specs.Prelude.{◌≡◌, ◌≤◌, length};
 ghost use Rattle.constriction_backends.specs.Cursor.{buf_of};
 ghost use Rattle.constriction_coders.specs.Intervals.{held_of};
 ghost use Rattle.constriction_coders.specs.RangePositions.{coder_state, distance_at, place_of, SeeksSpan};

@@ -1,8 +1,6 @@
 //! `u64` as a whole number.
 
-ghost use Rattle.std.specs.Prelude.{ℕ};
 ghost use Rattle.std.specs.Int.NonZero.{non_zero_u64_get};
-ghost use Rattle.std.proofs.Common.{refl};
 ghost use Rattle.constriction_numbers.specs.Word.{same-above-0};
 
 use crate::index_word::IndexWord;
