@@ -1,10 +1,10 @@
 -- Blocks: their bytes have entries and are below 256, their words are few, and they have one content.
-use Rattle.std.proofs.Common.{◌≡◌, ◌≢◌, ℕ, ◌+◌, ◌/◌, ◌%◌, ◌^◌, ◌<◌, ◌≤◌, List, [], ◌∷◌, ◌++◌, Option, Some, None, length, get_or, take, refl, ap, sym, ◌∙◌, subst, arith, inl, inr, nat_eq}
+use Rattle.std.proofs.Common.{◌≡◌, ◌≢◌, ℕ, ◌+◌, ◌-◌, ◌/◌, ◌%◌, ◌^◌, ◌<◌, ◌≤◌, List, [], ◌∷◌, ◌++◌, Option, Some, None, length, get_or, take, drop, refl, ap, sym, ◌∙◌, subst, arith, inl, inr, nat_eq}
 use Rattle.std.specs.Prelude.{All, Contains, IsTrue, sum}
 use Rattle.std.specs.List.{AllZip, range_with_len}
 use Rattle.std.proofs.lemmas.Cmp.{nat_eq_equiv}
 use Rattle.std.proofs.lemmas.Bool.{eqb-true}
-use Rattle.std.proofs.lemmas.List.{length-append, length_push}
+use Rattle.std.proofs.lemmas.List.{length-append, length-drop, length_push, take_all}
 use Rattle.std.proofs.lemmas.List.Elements.{All-weaker, same_from_all_zip}
 use Rattle.std.proofs.lemmas.List.FromFn.{get_or-range_with_len, length-range_with_len}
 use Rattle.constriction.specs.Coding.{InTurn}
@@ -142,6 +142,17 @@ same_parts n m ws vs cs ds e =
     let count : length ws ≡ length vs = cc in
     let tail : ws ++ cs ≡ vs ++ ds = cc in
     let parts = same_front ws vs cs ds tail count in record { count = first; weights = parts.0; coded = parts.1 }
+
+-- a block's words, read part by part
+pub block_parts : (bytes words ws cs : List ℕ) (h : IsBlock bytes words) → take (length words - 2) (drop 2 words) ≡ ws ++ cs
+    → length ws ≡ get_or words 1 0 → SameParts (length bytes) (get_or words 0 0) h.weights ws h.coded cs
+block_parts bytes words ws cs h e long =
+    let all : take (length words - 2) (drop 2 words) ≡ drop 2 words =
+    take_all (length words - 2) (drop 2 words) (omega (arith, length-drop 2 words)) in
+    let tail : h.weights ++ h.coded ≡ ws ++ cs = sym (ap (λ xs. drop 2 xs) h.laid_out) ∙ sym all ∙ e in
+    let count : length h.weights ≡ length ws = sym (ap (λ xs. get_or xs 1 0) h.laid_out) ∙ sym long in
+    let parts = same_front h.weights ws h.coded cs tail count in
+    record { count = sym (ap (λ xs. get_or xs 0 0) h.laid_out); weights = parts.0; coded = parts.1 }
 
 -- ---- one content
 

@@ -17,6 +17,11 @@ pub record Begun (before : ℕ) (bytes packed : List ℕ) : Type 0 where
   pub on : (blocks : List (List ℕ)) (frames : List ℕ) → AreFramed before blocks frames
       → IsPacked (bytes ++ concat blocks) (packed ++ frames)
 
+pub begun : Begun first_hash [] (codes "cpk1")
+begun = record {
+  on = λ blocks frames framed. record { blocks = blocks; whole = refl; frames = frames; framed = framed; laid_out = refl };
+}
+
 -- one block more
 pub begun_further : (before after : ℕ) (bytes packed block frame : List ℕ) → Begun before bytes packed → IsFramed before block frame after
     → Begun after (bytes ++ block) (packed ++ frame)
@@ -74,7 +79,7 @@ pub record Left (before : ℕ) (bytes : List ℕ) (known : Option (List ℕ)) (l
   pub framed : AreFramed before blocks (frames ++ lost)
   pub are : known ≡ Some frames
 
--- the same where nothing was lost, to and fro
+-- where nothing was lost: from known frames, and back to them
 pub all_left : (before : ℕ) (blocks : List (List ℕ)) (frames : List ℕ) (known : Option (List ℕ)) → AreFramed before blocks frames
     → known ≡ Some frames → Left before (concat blocks) known []
 all_left before blocks frames known framed are = record {
@@ -88,6 +93,20 @@ all_left before blocks frames known framed are = record {
 pub all_known : (before : ℕ) (bytes : List ℕ) (known : Option (List ℕ)) (l : Left before bytes known [])
     → AreFramed before l.blocks l.frames
 all_known before bytes known l = subst (λ xs. AreFramed before l.blocks xs) (append-nil l.frames) l.framed
+
+-- of a packed file, after the letters
+pub left_first : (a b : Option (List ℕ)) (bytes packed lost : List ℕ) → a ≡ Some packed → IsPacked bytes (packed ++ lost)
+    → Consumes a b (codes "cpk1") → Left first_hash bytes b lost
+left_first a b bytes packed lost known file read =
+    let given = gave a b packed (codes "cpk1") known read in
+    let both : codes "cpk1" ++ file.frames ≡ codes "cpk1" ++ (given.0 ++ lost) = sym file.laid_out ∙ ap (λ xs. xs ++ lost) given.2 in
+    let same : file.frames ≡ given.0 ++ lost = cc in record {
+      blocks = file.blocks;
+      whole = file.whole;
+      frames = given.0;
+      framed = subst (λ xs. AreFramed first_hash file.blocks xs) same file.framed;
+      are = given.1;
+    }
 
 -- the first of them was read: it was the last frame and nothing is left, or it was that of a block
 pub first_read : (before : ℕ) (words frame bytes : List ℕ) (a b : Option (List ℕ)) (lost : List ℕ) → Left before bytes a lost

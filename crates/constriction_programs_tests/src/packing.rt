@@ -2,7 +2,7 @@
 
 use crate::checks::{holds, prints, same};
 use crate::runs::{SlowReader, SlowWriter};
-use constriction_pack::laws::block_comes_back;
+use constriction_pack::laws::{block_comes_back, file_comes_back};
 use constriction_pack::{BLOCK_BYTES, PackError, pack, pack_block, unpack, unpack_block};
 use std::alloc::Global;
 use std::process::Abort;
@@ -55,6 +55,8 @@ fn files_are_packed_as_described(rt: HostRuntime) {
         holds(&rt, &found, expected);
         comes_back(&rt, rt.alloc(), expected, bytes);
     }
+    let again = file_comes_back(rt.alloc(), b"there and back").expect(&rt, "memory");
+    holds(&rt, &again, b"there and back");
 }
 
 /// One byte more than a block holds makes two blocks.

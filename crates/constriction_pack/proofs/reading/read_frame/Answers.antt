@@ -51,14 +51,18 @@ returns-then-len-length-clause-accepted g c = λ before words rest few known _.
     let late = ends_after before words rest c.read_up_to-2.new.input.items _ _ known all (c.in_ok-read_up_to-2.ensures.end short) in
     omega (arith, late, short, number, c.from_le_bytes-number.ensures)
 
-pub returns-clause-whole : goal.returns-clause-whole
-returns-clause-whole g c = λ before words rest few known.
+pub returns : goal.returns
+returns g c =
     let ok = c.in_ok-read_up_to.ensures.ok in
     let more = c.in_ok-read_up_to-2.ensures.ok in
     let read = first_read _ _ c.clear.new.self.items ok.0 c.read_up_to.new.input.items c.as_slice.result.now c.clear.ensures.items ok.1 ok.2
     c.as_slice.ensures.value in
-    let number = number_read before words rest c.as_slice.result.now _ _ known read c.in-len4.len_at_least in
     let all = more_read _ _ _ c.as_slice.result.now more.0 c.read_up_to-2.new.input.items c.read_up_to.new.input.items read more.1 more.2
-    c.as_slice.ensures.value in
-    frame_read before words rest c.read_up_to-2.new.input.items _ _ known all
-    (omega (arith, c.len.ensures, c.if-len-length.false, c.in_ok-read_up_to-2.ensures.most, number, c.from_le_bytes-number.ensures))
+    c.as_slice.ensures.value in record {
+      ok = all;
+      whole = λ before words rest few known.
+          let number = number_read before words rest c.as_slice.result.now _ _ known read c.in-len4.len_at_least in
+          frame_read before words rest c.read_up_to-2.new.input.items _ _ known all
+          (omega (arith, c.len.ensures, c.if-len-length.false, c.in_ok-read_up_to-2.ensures.most, number, c.from_le_bytes-number.ensures));
+      accepted = λ before words rest few known. tt;
+    }

@@ -1,11 +1,22 @@
-use Rattle.std.proofs.Common.{◌≡◌, ◌++◌, ℕ, List, Option, [], append-nil, append_assoc, ◌∙◌, ap, subst, sym, Ok, rules}
+use Rattle.std.proofs.Common.{◌≡◌, ◌++◌, ℕ, List, Option, [], append-nil, append_assoc, ◌∙◌, ap, codes, refl, subst, sym, Ok, rules}
 use Rattle.std.specs.Io.KnownBytes.{Appends}
-use Rattle.std.proofs.KnownBytes.{Appends-trans, Consumes-trans}
+use Rattle.std.proofs.KnownBytes.{Appends-nil, Appends-trans, Consumes-trans}
 use Rattle.constriction_pack.specs.Faults.{IsRefusal}
 use Rattle.constriction_pack.specs.Frames.{frame_of}
 use Rattle.constriction_pack.specs.Packed.{IsPacked}
-use Rattle.constriction_pack.proofs.StreamLemmas.{all_known, begun_ends, begun_further, left_further, nothing_lost}
+use Rattle.constriction_pack.proofs.StreamLemmas.{all_known, begun, begun_ends, begun_further, left_first, left_further, nothing_lost}
 use Rattle.constriction_pack.proofs.streams.unpack.Goals as goal
+
+pub blocks-2-init : goal.blocks-2-init
+blocks-2-init g c =
+    let read = c.in_ok-read_magic.ensures.ok in record {
+      bytes = [];
+      packed = codes "cpk1";
+      begun = begun;
+      read = read;
+      written = Appends-nil _;
+      left = λ all file lost known is. (all, refl, left_first _ _ all file lost known is read);
+    }
 
 pub returns-in_err-after-clause-accepted : goal.returns-in_err-after-clause-accepted
 returns-in_err-after-clause-accepted g c = λ bytes packed known file.
@@ -21,7 +32,8 @@ returns-in_err-after-clause-cut g c = λ bytes packed lost known file.
     let left = so_far.left bytes packed lost known file in
     let start = g.W.Write.contents c.args.writer.now in
     let now = g.W.Write.contents c.unpack_next.new.writer in
-    let stands : IsRefusal c.in_err-after.field-0.0 → (written rest : List ℕ) × Appends start now written × (written ++ rest ≡ bytes) = λ refusal. (
+    let stands : IsRefusal c.in_err-after.field-0.0
+    → (written rest : List ℕ) × Appends start now written × (written ++ rest ≡ bytes) = λ refusal. (
       so_far.bytes,
       left.0,
       subst (λ (o : Option (List ℕ)). Appends start o so_far.bytes) (sym (c.in_err-after.ensures.kept refusal)) so_far.written,
