@@ -1,9 +1,9 @@
 //! Packing and unpacking from a reader to a writer, block by block.
 
-ghost use Rattle.std.specs.Prelude.{◌≡◌, ◌++◌, ℕ, List, None, Ok, Some, IfErr, MatchResult, OnOk, [], length, ◌<◌, ◌≤◌, ◌^◌};
-ghost use Rattle.std.specs.Io.KnownBytes.{Appends, Consumes, IsAtEnd, Keeps};
+ghost use Rattle.std.specs.Prelude.{◌≡◌, ◌++◌, ℕ, List, None, Ok, Some, IfErr, MatchResult, OnOk, []};
+ghost use Rattle.std.specs.Io.KnownBytes.{Appends, Consumes, IsAtEnd};
 ghost use Rattle.constriction_pack.specs.Faults.{IsRefusal};
-ghost use Rattle.constriction_pack.specs.Frames.{first_hash, frame_of};
+ghost use Rattle.constriction_pack.specs.Frames.{frame_of};
 ghost use Rattle.constriction_pack.specs.Packed.{AreFramed, IsFramed, IsPacked};
 
 use crate::block::{BLOCK_BYTES, pack_block, unpack_block};

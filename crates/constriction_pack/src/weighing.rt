@@ -1,6 +1,6 @@
 //! The weights of bytes that are packed together.
 
-ghost use Rattle.std.specs.Prelude.{◌≡◌, ◌+◌, ◌<◌, ◌≤◌, ◌^◌, All, IfOk, length, sum};
+ghost use Rattle.std.specs.Prelude.{◌<◌, ◌≤◌, All, IfOk, length};
 ghost use Rattle.constriction.specs.Acceptance.{IsAccepted};
 
 use constriction_coders::counts::{CountsError, weights_of};
