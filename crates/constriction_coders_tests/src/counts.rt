@@ -9,7 +9,7 @@ use std::alloc::Global;
 use std::process::Abort;
 
 /// Counts whose sum has more than 64 bits.
-const MANY: u64 = u64::MAX;
+const GREATEST: u64 = u64::MAX;
 
 /// Asserts that counts have these weights.
 fn are_weighed<const PRECISION: usize>(
@@ -49,7 +49,12 @@ fn counts_have_weights(rt: HostRuntime) {
     are_weighed::<0>(&rt, alloc, &[0, 5], &[0, 1]);
     are_weighed::<3>(&rt, alloc, &[3, 0, 1], &[5, 0, 3]);
     are_weighed::<8>(&rt, alloc, &[3, 0, 1], &[191, 0, 65]);
-    are_weighed::<12>(&rt, alloc, &[MANY, MANY, 1, 0, 5], &[2046, 2047, 1, 0, 2]);
+    are_weighed::<12>(
+        &rt,
+        alloc,
+        &[GREATEST, GREATEST, 1, 0, 5],
+        &[2046, 2047, 1, 0, 2],
+    );
     are_weighed::<31>(&rt, alloc, &[7], &[1 << 31]);
     let quintillion = 1_000_000_000_000_000_000;
     let weights = [4_294_967_288, 1, 1, 6];

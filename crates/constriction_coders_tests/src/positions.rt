@@ -9,7 +9,7 @@ use std::alloc::Global;
 use std::process::Abort;
 
 /// How many symbols are encoded.
-const MANY: usize = 20;
+const SYMBOLS: usize = 20;
 
 /// After how many symbols a place is noted, and the place, computed from the formulas.
 const PLACES: [(usize, (usize, u64)); 4] = [
@@ -27,7 +27,7 @@ fn symbol_of(step: usize) -> usize {
 /// The coder after all symbols. Asserts on the way that its places are those of the table.
 fn encoded(rt: &impl Abort, alloc: Global, model: &DefaultUniformModel) -> AnsCoder<Vec<u32>> {
     let mut coder = AnsCoder::new(alloc);
-    for step in 0..MANY {
+    for step in 0..SYMBOLS {
         for (steps, place) in &PLACES {
             if *steps == step {
                 same(rt, coder.pos(), *place);

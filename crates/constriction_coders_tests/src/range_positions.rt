@@ -12,7 +12,7 @@ use std::process::Abort;
 type Quarters = ContiguousCategoricalEntropyModel<u32, Vec<u32>, 2>;
 
 /// How many symbols are encoded: the middle one, but for two places where a carry clears the words of ones before it.
-const MANY: usize = 300;
+const SYMBOLS: usize = 300;
 
 /// The words of these, by the formulas.
 const WORDS: [u32; 10] = [
@@ -80,7 +80,7 @@ fn seeks(rt: &impl Abort, model: &Quarters, words: &[u32]) {
     for turn in [4, 1, 6, 2, 3, 0, 5] {
         let (steps, row) = PLACES[turn];
         same(rt, coder.seek(place_of(row)), Ok(()));
-        for step in steps..MANY {
+        for step in steps..SYMBOLS {
             same(rt, coder.decode_symbol(model), Ok(symbol_of(step)));
         }
     }

@@ -82,7 +82,7 @@ fn a_message_by_stored_weights(rt: HostRuntime) {
 }
 
 /// How many symbols the model of numbers has.
-const MANY: u32 = 5000;
+const SYMBOLS: u32 = 5000;
 
 /// The weight of its last number: what the others leave.
 const LAST: u32 = 4_279_716;
@@ -95,8 +95,8 @@ type Numbers = StoredModel<u32, 24>;
 fn many_stored(rt: &impl Abort, alloc: Global) -> Vec<u32> {
     let made = Numbers::from_hashable_symbols_and_nonzero_fixed_point_probabilities(
         alloc,
-        0..MANY,
-        1..MANY,
+        0..SYMBOLS,
+        1..SYMBOLS,
         true,
     );
     let mut words = Vec::new(alloc);
@@ -111,7 +111,7 @@ fn are_many_rows(rt: &impl Abort, model: &Numbers) {
     let mut below = 0u32;
     for row in model.symbol_table() {
         let (symbol, left, weight) = row.expect(rt, "a row");
-        let expected = if number == MANY - 1 {
+        let expected = if number == SYMBOLS - 1 {
             LAST
         } else {
             number.wrapping_add(1)
@@ -120,7 +120,7 @@ fn are_many_rows(rt: &impl Abort, model: &Numbers) {
         number = number.wrapping_add(1);
         below = below.wrapping_add(expected);
     }
-    same(rt, number, MANY);
+    same(rt, number, SYMBOLS);
 }
 
 /// With enough memory the model of numbers is read back with the same rows.
@@ -128,7 +128,7 @@ fn are_many_rows(rt: &impl Abort, model: &Numbers) {
 fn five_thousand_rows_come_back(rt: HostRuntime) {
     let alloc = rt.alloc();
     let mut source = Cursor::new_at_write_beginning(many_stored(&rt, alloc));
-    let numbers = (0..MANY).collect(alloc).expect(&rt, "memory");
+    let numbers = (0..SYMBOLS).collect(alloc).expect(&rt, "memory");
     let model = read_model::<u32, _, 24>(alloc, numbers, &mut source).expect(&rt, "the model");
     are_many_rows(&rt, &model);
 }

@@ -21,7 +21,7 @@ const LIMIT: usize = 1_048_576;
 const CHUNK: usize = 8192;
 
 /// Collected answers are written once they have this many bytes.
-const MANY: usize = 65_536;
+const FLUSH_AT: usize = 65_536;
 
 /// Reads once, at most `room` bytes, and puts them at the end of the input. Answers how many bytes
 /// came.
@@ -136,7 +136,7 @@ fn write_many<W: Write>(writer: &mut W, text: &mut String) -> Result<(), RunFaul
         (string_bytes text.old)) }
     ensures fault { OnErr result (result ≡ Err RunFault.Write) }
 {
-    if text.len() >= MANY {
+    if text.len() >= FLUSH_AT {
         write_whole(writer, text.as_bytes())?;
         text.clear();
     }
