@@ -1,6 +1,7 @@
 """The sources as a reader sees them: definitions of specs/, and items of src/ with their clauses, without bodies and proofs."""
 import os
 import re
+import sys
 
 TOP = os.path.dirname(os.path.dirname(os.path.realpath(__file__)))
 WORD = r"[^\W\d][\w'-]*"
@@ -15,6 +16,13 @@ CLAUSE = re.compile(r" *(requires|ensures)\*? ?(\w*)")
 def read(path):
     with open(f"{TOP}/{path}", encoding="utf-8") as it:
         return it.read()
+
+
+def usage(text, words):
+    """Prints how a tool is called. Returns its exit status: 0 if the words ask for that, and else 2, since they are a wrong call."""
+    is_asked = words in (["-h"], ["--help"])
+    print(text, end="", file=sys.stdout if is_asked else sys.stderr)
+    return 0 if is_asked else 2
 
 
 def files_below(folder, ending):
