@@ -3,6 +3,7 @@ import json
 import re
 import textwrap
 
+from programs import stop
 from sources import TOP, read
 
 # What the two sides of a kernel do, by its name in bench/src/kernels.rs, in a word for tables.
@@ -169,8 +170,12 @@ def sources_table(saved):
 
 
 def saved_in(file):
-    with open(file, encoding="utf-8") as it:
-        return json.load(it)
+    """Returns saved figures. Stops if there are none."""
+    try:
+        with open(file, encoding="utf-8") as it:
+            return json.load(it)
+    except (OSError, ValueError) as why:
+        stop(f"{file} has no figures: {why}")
 
 
 def write_tables(saved):
