@@ -12,6 +12,10 @@ import tempfile
 from sources import TOP, files_below, read
 
 TARGET = f"{TOP}/bench/target"
+# The crate that the benchmark measures, which is not in crates.txt: its name, where its files stand, and what it uses.
+KERNELS = "constriction_kernels"
+OF_KERNELS = "bench/kernels"
+KERNELS_USE = "constriction constriction_client constriction_words constriction_coders constriction_pack"
 # The commands that the tools run, and where they come from.
 COMMANDS = {
     "rt": "install the kit of Rattle, whose command it is, and have it on the PATH",
@@ -37,23 +41,35 @@ def need(*commands):
             stop(f"{it} is missing: {COMMANDS[it]}")
 
 
+def crate_in(folder):
+    """Returns the files of a crate by their paths. Here they end in .txt, since `rt ci` refuses files of a crate that crates.txt lacks."""
+    paths = {it: it.removeprefix(f"{folder}/").removesuffix(".txt") for it in files_below(folder, ".txt")}
+    return {path if path.endswith(".antt") else f"src/{path}": read(it) for it, path in paths.items()}
+
+
+def write_files(folder, files):
+    for it, text in files.items():
+        path = pathlib.Path(folder, it)
+        path.parent.mkdir(parents=True, exist_ok=True)
+        path.write_text(text, encoding="utf-8")
+
+
 def tried(program, name, uses, inputs, *flags):
     """Runs the program in the files NAME.rt.txt of a folder on each input: checked as it runs, and not proved.
 
-    It is the crate `name` of a copy of the repository. Returns what it printed on each input, what rt said in all, and rt's status.
+    It is the crate `name` of a copy of the repository, where it may use the benchmark's kernels too. Returns what it printed on each
+    input, what rt said in all, and rt's status.
     """
     need("rt")
     with tempfile.TemporaryDirectory(prefix=f"{name}-") as folder:
         for part in (f"crates/{crate}/{part}" for crate in os.listdir(f"{TOP}/crates") for part in ("src", "specs", "proofs")):
             if os.path.isdir(f"{TOP}/{part}"):
                 shutil.copytree(f"{TOP}/{part}", f"{folder}/{part}")
-        files = {"HANDLES": read("HANDLES"), "crates.txt": f"{read('crates.txt')}{name}: {uses}\n"}
-        files |= {f"inputs/{it}": text for it, text in inputs.items()}
-        files |= {f"crates/{name}/src/{os.path.basename(it).removesuffix('.txt')}": read(it) for it in files_below(program, ".rt.txt")}
-        for it, text in files.items():
-            path = pathlib.Path(folder, it)
-            path.parent.mkdir(parents=True, exist_ok=True)
-            path.write_text(text, encoding="utf-8")
+        write_files(f"{folder}/crates/{name}", crate_in(program))
+        write_files(f"{folder}/crates/{KERNELS}", crate_in(OF_KERNELS))
+        write_files(f"{folder}/inputs", inputs)
+        lines = f"{read('crates.txt')}{KERNELS}: {KERNELS_USE}\n{name}: {uses}\n"
+        write_files(folder, {"HANDLES": read("HANDLES"), "crates.txt": lines})
         words = ["rt", "try", *flags, "--cases", f"{folder}/inputs"]
         ran = subprocess.run(words, cwd=f"{folder}/crates/{name}", stdin=subprocess.DEVNULL, capture_output=True, text=True)
     parts = re.split(r"^== (.*)\n", ran.stdout, flags=re.M)

@@ -1,4 +1,4 @@
-//! The kernels over the Rust crate, with the names, the arguments and the checksums of those in `crates/constriction_kernels`.
+//! The kernels over the Rust crate, with the names, the arguments and the checksums of those in `bench/kernels`.
 //!
 //! None is compiled into its caller, as none of a static library is.
 mod adapters;
