@@ -19,6 +19,9 @@ fn main(rt: HostRuntime) -> ExitCode {
     let mut reader = rt.reader();
     match run_lines(rt.alloc(), &mut reader, io::writer(&rt)) {
         Ok(()) => ExitCode::SUCCESS,
-        Err(fault) => ExitCode::from(fault.status()),
+        Err(fault) => {
+            let _ = eprintln!(&rt; "coder: {fault}");
+            ExitCode::from(fault.status())
+        }
     }
 }

@@ -82,7 +82,8 @@ fn status_of(rt: &HostRuntime, call: Call) -> ExitCode {
 /// Does what the argument asks for, `pack` or `unpack`, and answers the exit status, or `None` if there is no argument.
 pub(crate) fn asked(rt: &HostRuntime) -> Option<ExitCode> {
     let Ok(arguments) = env::args(rt) else {
-        return Some(ExitCode::from(3));
+        let _ = eprintln!(rt; "coder: {}", PackError::OutOfMemory);
+        return Some(ExitCode::from(PackError::OutOfMemory.status()));
     };
     let mut arguments = arguments.skip(1);
     let argument = arguments.next()?;
@@ -91,6 +92,7 @@ pub(crate) fn asked(rt: &HostRuntime) -> Option<ExitCode> {
     } else if argument.as_str() == "unpack" {
         Some(status_of(rt, Call::Unpack))
     } else {
+        let _ = eprintln!(rt; "coder: the argument is pack or unpack, or there is none");
         Some(ExitCode::from(64))
     }
 }
