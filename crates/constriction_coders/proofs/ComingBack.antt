@@ -1,32 +1,16 @@
 -- What was encoded is decoded, symbol by symbol.
-use Rattle.std.proofs.Common.{◌≡◌, ℕ, ◌+◌, ◌%◌, ◌^◌, ◌<◌, ◌≤◌, Bool, List, [], ◌∷◌, ◌++◌, Option, Some, length, ap, sym, ◌∙◌, subst, arith, inl, inr}
-use Rattle.std.proofs.lemmas.List.{same_from_push, length_push}
+use Rattle.std.proofs.Common.{◌≡◌, ℕ, ◌+◌, ◌%◌, ◌^◌, ◌<◌, ◌≤◌, Bool, List, [], ◌∷◌, ◌++◌, Option, Some, ap, sym, ◌∙◌, subst, arith, inl, inr}
 use Rattle.std.specs.Prelude.{All}
 use Rattle.constriction.specs.CodingLemmas.{entry-back, entry-positive, entry-within}
 use Rattle.constriction.specs.Coding.{InTurn}
 use Rattle.constriction.specs.Model.{LiesWithin}
 use Rattle.constriction.specs.Rows.{Row, RowsTile, entry_of}
 use Rattle.constriction_coders.specs.Laws.{SymbolComesBack, SymbolsComeBack, EncodedOnce}
-use Rattle.constriction_coders.specs.Steps.{Content, content, IsWhole, MayBeHeld, Refills, IsOnTop, IsDecoded}
+use Rattle.constriction_coders.specs.StackLemmas.{same-content, not-empty, refills-once}
 use Rattle.constriction_coders.specs.States.{put, taken}
+use Rattle.constriction_coders.specs.Steps.{Content, IsWhole, MayBeHeld, Refills, IsOnTop, IsDecoded}
 use Rattle.constriction_coders.proofs.States.{put_taken, put_high, put_low}
 use Rattle.std.proofs.lemmas.Bool.{cases_lt}
-
-pub same-content : (a b : Content) → a.state ≡ b.state → a.words ≡ b.words → a ≡ b
-same-content a b s w = ap (λ n. content n a.words) s ∙ ap (λ ws. content b.state ws) w
-
--- a stack with a word on top is not empty
-pub not-empty : {A : Type 0} (words others : List A) (word : A) → words ≡ others ++ word ∷ [] → words ≡ [] → ⊥
-not-empty words others word is none = absurd (omega (arith, ap length (sym is ∙ none), length_push others word))
-
--- a state takes a word, or none, in one way
-pub refills-once : (state : ℕ) (words : List ℕ) (a b : Content) → Refills state words a → Refills state words b → a ≡ b
-refills-once state words a b (inl p) (inl q) = p.1 ∙ sym q.1
-refills-once state words a b (inl p) (inr q) = absurd (not-empty words b.words q.1 q.3 (p.0 q.0))
-refills-once state words a b (inr p) (inl q) = absurd (not-empty words a.words p.1 p.3 (q.0 p.0))
-refills-once state words a b (inr p) (inr q) =
-    let parts = same_from_push a.words b.words p.1 q.1 (sym p.3 ∙ q.3) in
-    same-content a b (omega (arith, parts.1)) parts.0
 
 module _ {Symbol : Type 0} (Stands : Symbol → Symbol → Type 0) (eq : Symbol → Symbol → Bool) (entry : Symbol → Option (ℕ × ℕ))
     (rows : List (Row Symbol)) (bits precision : ℕ) (tile : RowsTile bits precision rows)
