@@ -76,13 +76,7 @@ module _ {S E : Type 0} (gives : S → ℕ → Result (Unit {0}) E → S → Typ
 -- there are as many words as under the state, and in the state
 pub counted : (c : Content) (all : List ℕ) (n : ℕ) → (c.state ≡ 0 → n ≡ 0) → (0 < c.state → c.state < 2 ^ 32 → n ≡ 1)
     → (2 ^ 32 ≤ c.state → n ≡ 2) → IsCompressed c all → length c.words + n ≡ length all
-counted c all n none one two compressed = go compressed.words
-  where
-    go : AreAllWordsOf c all → length c.words + n ≡ length all
-    go (inl p) = omega (arith, none p.0, ap length p.1)
-    go (inr (inl p)) = omega (arith, one p.0 p.1, ap length p.2, length-append c.words (c.state ∷ []))
-    go (inr (inr p)) =
-        omega (arith, two p.0, ap length p.1, length-append c.words (c.state % 2 ^ 32 ∷ c.state / 2 ^ 32 ∷ []))
+counted c all n none one two compressed = let w = compressed.words in grind (arith, length-append {A = ℕ})
 
 -- a number that is not 0 is positive
 pub positive : (n : ℕ) → (n ≡ 0 → ⊥) → 0 < n
@@ -104,12 +98,4 @@ not-compressed c all others compressed e = go compressed.words
 
 -- a content has one list of words
 pub words-once : (c : Content) (all others : List ℕ) → AreAllWordsOf c all → AreAllWordsOf c others → all ≡ others
-words-once c all others (inl p) (inl q) = p.1 ∙ sym q.1
-words-once c all others (inl p) (inr (inl q)) = absurd (omega (arith, p.0, q.0))
-words-once c all others (inl p) (inr (inr q)) = absurd (omega (arith, p.0, q.0))
-words-once c all others (inr (inl p)) (inl q) = absurd (omega (arith, p.0, q.0))
-words-once c all others (inr (inl p)) (inr (inl q)) = p.2 ∙ sym q.2
-words-once c all others (inr (inl p)) (inr (inr q)) = absurd (omega (arith, p.1, q.0))
-words-once c all others (inr (inr p)) (inl q) = absurd (omega (arith, p.0, q.0))
-words-once c all others (inr (inr p)) (inr (inl q)) = absurd (omega (arith, p.0, q.1))
-words-once c all others (inr (inr p)) (inr (inr q)) = p.1 ∙ sym q.1
+words-once c all others p q = grind arith

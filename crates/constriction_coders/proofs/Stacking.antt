@@ -1,38 +1,26 @@
 -- Words and symbols of a stack that held nothing before: symbols have one list of words, and come back from it.
-use Rattle.std.proofs.Common.{◌≡◌, ℕ, ◌+◌, ◌^◌, ◌<◌, ◌≤◌, Bool, List, [], ◌∷◌, Option, Some, sym, ◌∙◌, subst, arith, inl, inr}
+use Rattle.std.proofs.Common.{◌≡◌, ℕ, ◌+◌, ◌^◌, ◌<◌, ◌≤◌, Bool, List, [], ◌∷◌, Option, Some, sym, ◌∙◌, subst, arith}
+use Rattle.std.proofs.lemmas.List.{length_push}
 use Rattle.constriction.specs.Coding.{InTurn}
 use Rattle.constriction.specs.Rows.{Row}
 use Rattle.constriction_coders.specs.Compressed.{AreAllWordsOf}
 use Rattle.constriction_coders.specs.Laws.{EncodedOnce, SymbolsComeBack}
 use Rattle.constriction_coders.specs.StackLemmas.{compressed-once}
 use Rattle.constriction_coders.specs.StackMessages.{WordsOnce, WordsComeBack, WordsEndAbove0}
-use Rattle.constriction_coders.specs.States.{taken}
-use Rattle.constriction_coders.specs.Steps.{Content, content, MayBeHeld, Refills, IsOnTop, IsEncoded}
+use Rattle.constriction_coders.specs.Steps.{Content, content, MayBeHeld, IsOnTop, IsEncoded}
 use Rattle.constriction_coders.proofs.Closing.{words-once, not-compressed}
-use Rattle.constriction_coders.proofs.ComingBack.{not-below}
 use Rattle.constriction_coders.proofs.States.{taken_at_most, taken_some}
 
 -- if a coder may hold a content, it may hold what is under the symbol on top
 rest-held : (precision left weight : ℕ) (full rest : Content) → precision ≤ 32 → 0 < weight → left + weight ≤ 2 ^ precision
     → MayBeHeld full → IsOnTop precision left weight full rest → MayBeHeld rest
-rest-held precision left weight full rest fits some within held top = go top.under
-  where
-    under : ℕ
-    under = taken precision left weight full.state
-
-    less : under ≤ full.state
-    less = taken_at_most precision left weight full.state within
-
-    go : Refills under full.words rest → MayBeHeld rest
-    go (inl x) =
-        subst (λ (c : Content). MayBeHeld c) (sym x.1) (record { fits = omega (arith, less, held.fits); whole = x.0 })
-    go (inr x) =
-        let least : 2 ^ 32 ≤ full.state = not-below full rest.words x.1 x.3 held.whole in
-        let positive : 0 < under = taken_some precision left weight full.state fits some least in
-        record {
-          fits = omega (arith, x.0, x.2, x.4);
-          whole = λ below. absurd (omega (arith, below, x.4, positive));
-        }
+rest-held precision left weight full rest fits some within held top =
+    let less = taken_at_most precision left weight full.state within in
+    let positive = taken_some precision left weight full.state fits some in
+    let whole = held.whole in record {
+      fits = grind (arith, held.fits, top.under);
+      whole = λ below. grind (arith, held.fits, top.under, length_push {X = ℕ});
+    }
 
 module _ {Symbol : Type 0} (entry : Symbol → Option (ℕ × ℕ)) (precision : ℕ) (fits : precision ≤ 32)
     (lies : (s : Symbol) (left weight : ℕ) → entry s ≡ Some (left, weight) → (0 < weight) × (left + weight ≤ 2 ^ precision))

@@ -1,5 +1,5 @@
 -- The words of a stack have one content and one list of so many symbols, and they are few. No public clause cites this module.
-use Rattle.std.proofs.Common.{◌≡◌, ℕ, ◌+◌, ◌*◌, ◌%◌, ◌^◌, ◌≤◌, Bool, true, List, [], ◌∷◌, ◌++◌, Option, length, reverse, refl, ap, sym, ◌∙◌, subst, arith, inl, inr, nat_eq}
+use Rattle.std.proofs.Common.{◌≡◌, ℕ, ◌+◌, ◌*◌, ◌%◌, ◌^◌, ◌≤◌, Bool, true, List, [], ◌∷◌, Option, length, reverse, refl, ap, sym, ◌∙◌, subst, arith, inl, inr, nat_eq}
 use Rattle.std.proofs.lemmas.Bool.{eqb-true}
 use Rattle.std.proofs.lemmas.Cmp.{nat_eq_equiv}
 use Rattle.std.proofs.lemmas.List.{length-append, length_push, reverse-append, reverse-reverse, same_from_push}
@@ -23,18 +23,9 @@ use Rattle.constriction_coders.specs.Steps.{Content, content, Refills, IsEncoded
 pub same-content : (a b : Content) → a.state ≡ b.state → a.words ≡ b.words → a ≡ b
 same-content a b s w = ap (λ n. content n a.words) s ∙ ap (λ ws. content b.state ws) w
 
--- a stack with a word on top is not empty
-pub not-empty : {A : Type 0} (words others : List A) (word : A) → words ≡ others ++ word ∷ [] → words ≡ [] → ⊥
-not-empty words others word is none = absurd (omega (arith, ap length (sym is ∙ none), length_push others word))
-
 -- a state takes a word, or none, in one way
 pub refills-once : (state : ℕ) (words : List ℕ) (a b : Content) → Refills state words a → Refills state words b → a ≡ b
-refills-once state words a b (inl p) (inl q) = p.1 ∙ sym q.1
-refills-once state words a b (inl p) (inr q) = absurd (not-empty words b.words q.1 q.3 (p.0 q.0))
-refills-once state words a b (inr p) (inl q) = absurd (not-empty words a.words p.1 p.3 (q.0 p.0))
-refills-once state words a b (inr p) (inr q) =
-    let parts = same_from_push a.words b.words p.1 q.1 (sym p.3 ∙ q.3) in
-    same-content a b (omega (arith, parts.1)) parts.0
+refills-once state words a b p q = grind (arith, same_from_push {X = ℕ}, length_push {X = ℕ})
 
 -- the content that has these words, the last one first
 abbrev content_of : List ℕ → Content
