@@ -1,13 +1,17 @@
 -- Blocks: their words are few, and they have one content.
 use Rattle.std.proofs.Common.{◌≡◌, ℕ, ◌+◌, ◌<◌, ◌≤◌, List, ◌∷◌, ◌++◌, length, ap, sym, ◌∙◌, arith}
-use Rattle.std.proofs.lemmas.List.{length-append}
+use Rattle.std.proofs.lemmas.List.{length-append, length_push}
 use Rattle.std.proofs.lemmas.List.FromFn.{length-range_with_len}
 use Rattle.constriction.specs.RowLemmas.{length-rows_from}
 use Rattle.constriction.specs.Rows.{Row, contiguous_rows}
+use Rattle.constriction.specs.TurnLemmas.{turn-last}
 use Rattle.constriction_coders.specs.StackLemmas.{numbers-once, stack-words}
 use Rattle.constriction_coders.specs.StoredWeights.{weights_as_words}
 use Rattle.constriction_pack.specs.Blocks.{IsBlock, most_words}
 use Rattle.constriction_pack.proofs.FrameLemmas.{same_front}
+
+-- one byte more
+pub ruleset one_more = (turn-last, length_push)
 
 -- there are as many rows as weights
 pub row_count : (rows : List (Row ℕ)) (weights : List ℕ) → rows ≡ contiguous_rows weights → length rows ≡ length weights
