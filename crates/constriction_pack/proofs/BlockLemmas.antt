@@ -1,11 +1,12 @@
 -- Blocks: their words are few, and they have one content.
-use Rattle.std.proofs.Common.{◌≡◌, ℕ, ◌+◌, ◌<◌, ◌≤◌, List, ◌∷◌, ◌++◌, length, ap, sym, ◌∙◌, arith}
+use Rattle.std.proofs.Common.{◌≡◌, ℕ, ◌+◌, ◌<◌, ◌≤◌, List, ◌∷◌, ◌++◌, length, ap, sym, ◌∙◌, arith, nat_eq}
 use Rattle.std.proofs.lemmas.List.{length-append, length_push}
 use Rattle.std.proofs.lemmas.List.FromFn.{length-range_with_len}
 use Rattle.constriction.specs.RowLemmas.{length-rows_from}
-use Rattle.constriction.specs.Rows.{Row, contiguous_rows}
+use Rattle.constriction.specs.Rows.{Row, contiguous_rows, entry_of}
 use Rattle.constriction.specs.TurnLemmas.{turn-last}
 use Rattle.constriction_coders.specs.StackLemmas.{numbers-once, stack-words}
+use Rattle.constriction_coders.specs.StackMessages.{IsStackOf}
 use Rattle.constriction_coders.specs.StoredWeights.{weights_as_words}
 use Rattle.constriction_pack.specs.Blocks.{IsBlock, most_words}
 use Rattle.constriction_pack.proofs.FrameLemmas.{same_front}
@@ -24,16 +25,17 @@ block_words bytes words h =
     let long : length words ≡ 2 + length h.weights + length h.coded = omega (arith, ap length h.laid_out, length-append h.weights h.coded) in
     (omega arith, omega (arith, h.short, h.few))
 
--- the parts of a block's words
-pub same_parts : (n m : ℕ) (ws vs cs ds : List ℕ) → n ∷ (weights_as_words ws ++ cs) ≡ m ∷ (weights_as_words vs ++ ds)
-    → (n ≡ m) × (ws ≡ vs) × (cs ≡ ds)
-same_parts n m ws vs cs ds e =
-    let count : length ws ≡ length vs = cc in
-    let tail : ws ++ cs ≡ vs ++ ds = cc in
-    let parts = same_front ws vs cs ds tail count in (cc, parts.0, parts.1)
+-- what the words of a block hold belongs to its bytes
+pub block_from : (bytes words weights coded : List ℕ) (n : ℕ) → IsBlock bytes words → words ≡ n ∷ (weights_as_words weights ++ coded)
+    → (length bytes ≡ n) × IsStackOf (entry_of nat_eq (contiguous_rows weights)) 16 bytes coded
+block_from bytes words weights coded n h e =
+    let same : length bytes ∷ (weights_as_words h.weights ++ h.coded) ≡ n ∷ (weights_as_words weights ++ coded) = sym h.laid_out ∙ e in
+    let count : length h.weights ≡ length weights = cc in
+    let tail : h.weights ++ h.coded ≡ weights ++ coded = cc in
+    let parts = same_front h.weights weights h.coded coded tail count in (cc, rw (parts.0, parts.1) at h.stack)
 
 -- words are those of one block
 pub one_block : (bytes others words : List ℕ) → IsBlock bytes words → IsBlock others words → bytes ≡ others
 one_block bytes others words p q =
-    let same = same_parts _ _ p.weights q.weights p.coded q.coded (sym p.laid_out ∙ q.laid_out) in
-    numbers-once 16 p.weights bytes others p.coded p.accepted p.stack (rw (same.1, same.2) q.stack) same.0
+    let other = block_from others words p.weights p.coded (length bytes) q p.laid_out in
+    numbers-once 16 p.weights bytes others p.coded p.accepted p.stack other.1 (sym other.0)
