@@ -7,7 +7,7 @@ use Rattle.std.proofs.lemmas.List.Elements.{same_from_all_zip}
 use Rattle.std.proofs.lemmas.List.FromFn.{length-range_with_len}
 use Rattle.std.proofs.lemmas.Nat.{pow_pos, mod_below}
 use Rattle.std.specs.Cmp.{IsEquivalence}
-use Rattle.std.specs.List.{AllZip, range_with_len}
+use Rattle.std.specs.List.{AllZip}
 use Rattle.std.specs.Prelude.{IsTrue}
 use Rattle.constriction.specs.Acceptance.{IsAccepted}
 use Rattle.constriction.specs.Coding.{InTurn}
@@ -88,10 +88,9 @@ pub numbers-once : (precision : ℕ) (weights numbers others words : List ℕ) �
     → IsStackOf (entry_of nat_eq (contiguous_rows weights)) precision numbers words
     → IsStackOf (entry_of nat_eq (contiguous_rows weights)) precision others words → length numbers ≡ length others → numbers ≡ others
 numbers-once precision ws numbers others words accepted p q many =
-    let symbols : List ℕ = range_with_len 0 (length ws) in
-    let weights = weights-rows_from 0 symbols ws (length-range_with_len 0 (length ws)) in
-    let names = symbols-rows_from 0 symbols ws (length-range_with_len 0 (length ws)) in
-    let tile : RowsTile 32 precision (contiguous_rows ws) = record { accepted = rw weights accepted; in_order = rw (weights, names) refl } in
+    let long = length-range_with_len 0 (length ws) in
+    let tile : RowsTile 32 precision (contiguous_rows ws) =
+    record { accepted = rw weights-rows_from accepted; in_order = rw (weights-rows_from, symbols-rows_from) refl } in
     let equal = symbols-once (λ s t. t ≡ s) nat_eq _ _ precision 32 tile nat_eq_equiv (λ s. refl) numbers others words p q many in
     sym (same_from_all_zip (λ s t. IsTrue (nat_eq s t)) numbers others equal (λ s t h. sym (eqb-true s t h)))
 

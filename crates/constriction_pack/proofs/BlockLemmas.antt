@@ -1,5 +1,5 @@
 -- Blocks: their words are few, and they have one content.
-use Rattle.std.proofs.Common.{◌≡◌, ℕ, ◌+◌, ◌<◌, ◌≤◌, List, ◌∷◌, ◌++◌, length, ap, sym, ◌∙◌, arith, nat_eq}
+use Rattle.std.proofs.Common.{◌≡◌, ℕ, ◌<◌, ◌≤◌, List, ◌∷◌, ◌++◌, length, ap, sym, ◌∙◌, arith, nat_eq}
 use Rattle.std.proofs.lemmas.List.{length-append, length_push}
 use Rattle.std.proofs.lemmas.List.FromFn.{length-range_with_len}
 use Rattle.constriction.specs.RowLemmas.{length-rows_from}
@@ -22,7 +22,8 @@ row_count rows weights is = ap length is ∙ length-rows_from 0 _ weights (lengt
 pub block_words : (bytes words : List ℕ) → IsBlock bytes words → (0 < length words) × (length words ≤ most_words)
 block_words bytes words h =
     let coded = stack-words _ 16 bytes h.coded h.stack in
-    let long : length words ≡ 2 + length h.weights + length h.coded = omega (arith, ap length h.laid_out, length-append h.weights h.coded) in
+    let long = ap length h.laid_out in
+    let all = length-append h.weights h.coded in
     (omega arith, omega (arith, h.short, h.few))
 
 -- what the words of a block hold belongs to its bytes

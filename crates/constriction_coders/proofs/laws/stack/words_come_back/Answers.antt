@@ -7,4 +7,5 @@ returns-clause-back g c = words-come-back _ _ _ _ _ c.symbols_come_back.ensures
 
 pub returns-clause-one : goal.returns-clause-one
 returns-clause-one g c =
-    symbols-once g.D.DecoderModel.stands_for _ _ _ _ 32 (g.met.D.DecoderModel.tile_law c.args.decoder.now) g.met.E.EncoderModel.equality_law c.requires
+    symbols-once g.D.DecoderModel.stands_for _ _ _ _ 32 (g.met.D.DecoderModel.tile_law c.args.decoder.now)
+    g.met.E.EncoderModel.equality_law c.requires
