@@ -9,7 +9,7 @@ use Rattle.constriction.specs.Rows.{Row, RowsTile, entry_of}
 use Rattle.constriction_coders.specs.BitsBack.{FitTogether, BitsComeBack}
 use Rattle.constriction_coders.specs.Steps.{Content, IsEncoded, IsDecoded}
 use Rattle.constriction_coders.proofs.ComingBack.{encode-once, symbol-back}
-use Rattle.constriction_coders.proofs.GoingBack.{own-row}
+use Rattle.constriction_coders.proofs.GoingBack.{is-encoded}
 
 -- what stands for a symbol is equal to each symbol that this one equals
 equal-to : {Symbol : Type 0} (Stands : Symbol → Symbol → Type 0) (eq : Symbol → Symbol → Bool) → IsEquivalence eq → ClonesAreEqual eq Stands
@@ -71,13 +71,11 @@ module _ {Symbol Latent PosteriorModel LikelihoodModel : Type 0} (Posterior : Sy
             let invertible = fit.invertible symbol e.posterior e.chosen in
             let one = one-to-one posterior_eq entry 32 precision (posterior_rows e.posterior) (posterior_tile e.posterior) (λ s. refl)
             posterior_laws invertible.distinct in
-            record {
-              left = e.drawn.row.left;
-              weight = e.drawn.row.weight;
-              known =
-                  sym (one.same e.latent d.latent (fit.latents e.latent d.latent same_latent))
-                  ∙ own-row DrawnStands posterior_eq entry (posterior_rows e.posterior) precision one invertible.clones e.latent old e.rest e.drawn;
-              top = e.drawn.top;
+            let own = is-encoded DrawnStands posterior_eq entry _ precision one invertible.clones e.latent old e.rest e.drawn in record {
+              left = own.left;
+              weight = own.weight;
+              known = sym (one.same e.latent d.latent (fit.latents e.latent d.latent same_latent)) ∙ own.known;
+              top = own.top;
             }
 
         again : new ≡ old

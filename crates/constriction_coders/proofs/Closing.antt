@@ -3,8 +3,7 @@ use Rattle.std.proofs.Common.{◌≡◌, ℕ, ◌+◌, ◌/◌, ◌%◌, ◌^◌
 use Rattle.std.proofs.lemmas.Bool.{cases_lt}
 use Rattle.std.proofs.lemmas.List.{append_assoc, length-append, same_from_push}
 use Rattle.constriction_coders.specs.Compressed.{AreWordsOf, AreAllWordsOf, IsCompressed, IsClosed, ClosingStops}
-use Rattle.constriction_coders.specs.Steps.{Content, IsWhole}
-use Rattle.constriction_coders.proofs.ComingBack.{same-content}
+use Rattle.constriction_coders.specs.Steps.{Content}
 
 -- a state below 2 ^ 32 that is not 0 is its only word
 pub one-word : (state : ℕ) → 0 < state → state < 2 ^ 32 → AreWordsOf state (state % 2 ^ 32 ∷ [])
@@ -77,13 +76,7 @@ module _ {S E : Type 0} (gives : S → ℕ → Result (Unit {0}) E → S → Typ
 -- there are as many words as under the state, and in the state
 pub counted : (c : Content) (all : List ℕ) (n : ℕ) → (c.state ≡ 0 → n ≡ 0) → (0 < c.state → c.state < 2 ^ 32 → n ≡ 1)
     → (2 ^ 32 ≤ c.state → n ≡ 2) → IsCompressed c all → length c.words + n ≡ length all
-counted c all n none one two compressed = go compressed.words
-  where
-    go : AreAllWordsOf c all → length c.words + n ≡ length all
-    go (inl p) = omega (arith, none p.0, ap length p.1)
-    go (inr (inl p)) = omega (arith, one p.0 p.1, ap length p.2, length-append c.words (c.state ∷ []))
-    go (inr (inr p)) =
-        omega (arith, two p.0, ap length p.1, length-append c.words (c.state % 2 ^ 32 ∷ c.state / 2 ^ 32 ∷ []))
+counted c all n none one two compressed = let w = compressed.words in grind (arith, length-append {A = ℕ})
 
 -- a number that is not 0 is positive
 pub positive : (n : ℕ) → (n ≡ 0 → ⊥) → 0 < n
@@ -105,70 +98,4 @@ not-compressed c all others compressed e = go compressed.words
 
 -- a content has one list of words
 pub words-once : (c : Content) (all others : List ℕ) → AreAllWordsOf c all → AreAllWordsOf c others → all ≡ others
-words-once c all others (inl p) (inl q) = p.1 ∙ sym q.1
-words-once c all others (inl p) (inr (inl q)) = absurd (omega (arith, p.0, q.0))
-words-once c all others (inl p) (inr (inr q)) = absurd (omega (arith, p.0, q.0))
-words-once c all others (inr (inl p)) (inl q) = absurd (omega (arith, p.0, q.0))
-words-once c all others (inr (inl p)) (inr (inl q)) = p.2 ∙ sym q.2
-words-once c all others (inr (inl p)) (inr (inr q)) = absurd (omega (arith, p.1, q.0))
-words-once c all others (inr (inr p)) (inl q) = absurd (omega (arith, p.0, q.0))
-words-once c all others (inr (inr p)) (inr (inl q)) = absurd (omega (arith, p.0, q.1))
-words-once c all others (inr (inr p)) (inr (inr q)) = p.1 ∙ sym q.1
-
--- words are those of one content
-pub compressed-once : (a b : Content) (all : List ℕ) → IsCompressed a all → IsCompressed b all → a ≡ b
-compressed-once a b all p q = go p.words q.words
-  where
-    wa : IsWhole a.state a.words
-    wa = p.held.whole
-
-    wb : IsWhole b.state b.words
-    wb = q.held.whole
-
-    go : AreAllWordsOf a all → AreAllWordsOf b all → a ≡ b
-    go (inl x) (inl y) = same-content a b (omega (arith, x.0, y.0)) (sym x.1 ∙ y.1)
-    go (inl x) (inr (inl y)) =
-        absurd (omega (arith, ap length (sym x.1 ∙ y.2), length-append b.words (b.state ∷ []), ap length (wa (omega (arith, x.0)))))
-    go (inl x) (inr (inr y)) =
-        absurd (omega (
-          arith,
-          ap length (sym x.1 ∙ y.1),
-          length-append b.words (b.state % 2 ^ 32 ∷ b.state / 2 ^ 32 ∷ []),
-          ap length (wa (omega (arith, x.0))),
-        ))
-    go (inr (inl x)) (inl y) =
-        absurd (omega (arith, ap length (sym x.2 ∙ y.1), length-append a.words (a.state ∷ []), ap length (wb (omega (arith, y.0)))))
-    go (inr (inl x)) (inr (inl y)) =
-        let parts = same_from_push a.words b.words a.state b.state (sym x.2 ∙ y.2) in same-content a b parts.1 parts.0
-    go (inr (inl x)) (inr (inr y)) =
-        absurd (omega (
-          arith,
-          ap length (sym x.2 ∙ y.1),
-          length-append a.words (a.state ∷ []),
-          length-append b.words (b.state % 2 ^ 32 ∷ b.state / 2 ^ 32 ∷ []),
-          ap length (wa x.1),
-        ))
-    go (inr (inr x)) (inl y) =
-        absurd (omega (
-          arith,
-          ap length (sym y.1 ∙ x.1),
-          length-append a.words (a.state % 2 ^ 32 ∷ a.state / 2 ^ 32 ∷ []),
-          ap length (wb (omega (arith, y.0))),
-        ))
-    go (inr (inr x)) (inr (inl y)) =
-        absurd (omega (
-          arith,
-          ap length (sym y.2 ∙ x.1),
-          length-append b.words (b.state ∷ []),
-          length-append a.words (a.state % 2 ^ 32 ∷ a.state / 2 ^ 32 ∷ []),
-          ap length (wb y.1),
-        ))
-    go (inr (inr x)) (inr (inr y)) =
-        let al = a.state % 2 ^ 32 in
-        let ah = a.state / 2 ^ 32 in
-        let bl = b.state % 2 ^ 32 in
-        let bh = b.state / 2 ^ 32 in
-        let highs = same_from_push (a.words ++ al ∷ []) (b.words ++ bl ∷ []) ah bh
-        (append_assoc a.words (al ∷ []) (ah ∷ []) ∙ sym x.1 ∙ y.1 ∙ sym (append_assoc b.words (bl ∷ []) (bh ∷ []))) in
-        let lows = same_from_push a.words b.words al bl highs.0 in
-        same-content a b (omega (arith, highs.1, lows.1)) lows.0
+words-once c all others p q = grind arith

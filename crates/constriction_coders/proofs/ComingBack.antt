@@ -1,32 +1,16 @@
 -- What was encoded is decoded, symbol by symbol.
-use Rattle.std.proofs.Common.{◌≡◌, ℕ, ◌+◌, ◌%◌, ◌^◌, ◌<◌, ◌≤◌, Bool, List, [], ◌∷◌, ◌++◌, Option, Some, length, ap, sym, ◌∙◌, subst, arith, inl, inr}
-use Rattle.std.proofs.lemmas.List.{same_from_push, length_push}
+use Rattle.std.proofs.Common.{◌≡◌, ℕ, ◌+◌, ◌%◌, ◌^◌, ◌<◌, ◌≤◌, Bool, List, [], ◌∷◌, ◌++◌, Option, Some, ap, sym, ◌∙◌, subst, arith}
+use Rattle.std.proofs.lemmas.List.{length_push}
 use Rattle.std.specs.Prelude.{All}
 use Rattle.constriction.specs.CodingLemmas.{entry-back, entry-positive, entry-within}
 use Rattle.constriction.specs.Coding.{InTurn}
 use Rattle.constriction.specs.Model.{LiesWithin}
 use Rattle.constriction.specs.Rows.{Row, RowsTile, entry_of}
 use Rattle.constriction_coders.specs.Laws.{SymbolComesBack, SymbolsComeBack, EncodedOnce}
-use Rattle.constriction_coders.specs.Steps.{Content, content, IsWhole, MayBeHeld, Refills, IsOnTop, IsDecoded}
-use Rattle.constriction_coders.specs.States.{put, taken}
+use Rattle.constriction_coders.specs.StackLemmas.{refills-once}
+use Rattle.constriction_coders.specs.States.{taken}
+use Rattle.constriction_coders.specs.Steps.{Content, IsWhole, MayBeHeld, IsOnTop, IsDecoded}
 use Rattle.constriction_coders.proofs.States.{put_taken, put_high, put_low}
-use Rattle.std.proofs.lemmas.Bool.{cases_lt}
-
-pub same-content : (a b : Content) → a.state ≡ b.state → a.words ≡ b.words → a ≡ b
-same-content a b s w = ap (λ n. content n a.words) s ∙ ap (λ ws. content b.state ws) w
-
--- a stack with a word on top is not empty
-pub not-empty : {A : Type 0} (words others : List A) (word : A) → words ≡ others ++ word ∷ [] → words ≡ [] → ⊥
-not-empty words others word is none = absurd (omega (arith, ap length (sym is ∙ none), length_push others word))
-
--- a state takes a word, or none, in one way
-pub refills-once : (state : ℕ) (words : List ℕ) (a b : Content) → Refills state words a → Refills state words b → a ≡ b
-refills-once state words a b (inl p) (inl q) = p.1 ∙ sym q.1
-refills-once state words a b (inl p) (inr q) = absurd (not-empty words b.words q.1 q.3 (p.0 q.0))
-refills-once state words a b (inr p) (inl q) = absurd (not-empty words a.words p.1 p.3 (q.0 p.0))
-refills-once state words a b (inr p) (inr q) =
-    let parts = same_from_push a.words b.words p.1 q.1 (sym p.3 ∙ q.3) in
-    same-content a b (omega (arith, parts.1)) parts.0
 
 module _ {Symbol : Type 0} (Stands : Symbol → Symbol → Type 0) (eq : Symbol → Symbol → Bool) (entry : Symbol → Option (ℕ × ℕ))
     (rows : List (Row Symbol)) (bits precision : ℕ) (tile : RowsTile bits precision rows)
@@ -51,48 +35,20 @@ module _ {Symbol : Type 0} (Stands : Symbol → Symbol → Type 0) (eq : Symbol 
 
 -- with a word under it, the state of a whole content is at least 2 ^ 32
 pub not-below : (c : Content) (under : List ℕ) (word : ℕ) → c.words ≡ under ++ word ∷ [] → IsWhole c.state c.words → 2 ^ 32 ≤ c.state
-not-below c under word is whole =
-    elim (cases_lt c.state (2 ^ 32)) [
-      | inl below ↦ absurd (not-empty c.words under word is (whole below))
-      | inr least ↦ least
-    ]
+not-below c under word is whole = grind (arith, length_push {X = ℕ})
 
 -- a symbol is put on a content in one way, if a coder may hold the result
 pub put-once : (precision left weight : ℕ) (a b rest : Content) → precision ≤ 32 → 0 < weight → left + weight ≤ 2 ^ precision
     → MayBeHeld a → MayBeHeld b → IsOnTop precision left weight a rest → IsOnTop precision left weight b rest → a ≡ b
-put-once precision left weight a b rest fits some within ha hb p q = go p.under q.under
-  where
-    ta : ℕ
-    ta = taken precision left weight a.state
-
-    tb : ℕ
-    tb = taken precision left weight b.state
-
-    a-is : put precision left weight ta ≡ a.state
-    a-is = put_taken precision left weight a.state some within p.from p.to
-
-    b-is : put precision left weight tb ≡ b.state
-    b-is = put_taken precision left weight b.state some within q.from q.to
-
-    same : ta ≡ tb → a.words ≡ b.words → a ≡ b
-    same t w = same-content a b (sym a-is ∙ ap (λ n. put precision left weight n) t ∙ b-is) w
-
-    go : Refills ta a.words rest → Refills tb b.words rest → a ≡ b
-    go (inl x) (inl y) =
-        same (ap (λ (c : Content). c.state) (sym x.1 ∙ y.1)) (ap (λ (c : Content). c.words) (sym x.1 ∙ y.1))
-    go (inl x) (inr y) =
-        let least : 2 ^ 32 ≤ b.state = not-below b rest.words y.1 y.3 hb.whole in
-        let high = put_high precision left weight tb fits some within (omega (arith, least, b-is)) in
-        let low = put_low precision left weight ta fits some within (omega (arith, ha.fits, a-is)) in
-        absurd (omega (arith, high, low, y.4, ap (λ (c : Content). c.state) x.1))
-    go (inr x) (inl y) =
-        let least : 2 ^ 32 ≤ a.state = not-below a rest.words x.1 x.3 ha.whole in
-        let high = put_high precision left weight ta fits some within (omega (arith, least, a-is)) in
-        let low = put_low precision left weight tb fits some within (omega (arith, hb.fits, b-is)) in
-        absurd (omega (arith, high, low, x.4, ap (λ (c : Content). c.state) y.1))
-    go (inr x) (inr y) =
-        let tops : x.1 ≡ y.1 = omega (arith, x.2, y.2, x.4, y.4) in
-        same (omega (arith, x.2, y.2, x.4, y.4)) (x.3 ∙ ap (λ w. rest.words ++ w ∷ []) tops ∙ sym y.3)
+put-once precision left weight a b rest fits some within ha hb p q =
+    let under : ℕ → ℕ = taken precision left weight in
+    let a-is = put_taken precision left weight a.state some within p.from p.to in
+    let b-is = put_taken precision left weight b.state some within q.from q.to in
+    let a-low = put_low precision left weight (under a.state) fits some within in
+    let b-low = put_low precision left weight (under b.state) fits some within in
+    let a-high = put_high precision left weight (under a.state) fits some within in
+    let b-high = put_high precision left weight (under b.state) fits some within in
+    grind (arith, p.under, q.under, length_push {X = ℕ})
 
 some-inj : {X : Type 0} (x y : X) → Some x ≡ Some y → x ≡ y
 some-inj x y e = cc

@@ -13,10 +13,7 @@ some-inj : {X : Type 0} (x y : X) → Some x ≡ Some y → x ≡ y
 some-inj x y e = cc
 
 widened-once : (s a b : Span) → IsWidened s a → IsWidened s b → a ≡ b
-widened-once s a b (inl p) (inl q) = p.1 ∙ sym q.1
-widened-once s a b (inl p) (inr q) = absurd (omega (arith, p.0, q.0))
-widened-once s a b (inr p) (inl q) = absurd (omega (arith, p.0, q.0))
-widened-once s a b (inr p) (inr q) = p.1 ∙ sym q.1
+widened-once s a b p q = grind arith
 
 module _ {Symbol : Type 0} (entry : Symbol → Option (ℕ × ℕ)) (precision : ℕ) where
   narrowed-once : (symbol : Symbol) (old a b : Span) → IsNarrowed entry precision symbol old a → IsNarrowed entry precision symbol old b

@@ -14,6 +14,7 @@ pub mod RangeLaws
 pub mod RangePositions
 pub mod RangeWalks
 pub mod Spans
+pub mod StackLemmas
 pub mod StackMessages
 pub mod States
 pub mod Steps

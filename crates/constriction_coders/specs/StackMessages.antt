@@ -34,6 +34,12 @@ module _ {Symbol : Type 0} (Stands : Symbol → Symbol → Type 0) (eq : Symbol 
       (symbols others : List Symbol) (words : List ℕ) → IsStackOf entry precision symbols words → IsStackOf entry precision others words
       → length symbols ≡ length others → AllZip (λ s t. IsTrue (eq s t)) symbols others
 
+  -- words from which symbols are decoded until nothing is left are the words of these symbols
+  abbrev pub WordsGoBack : Type 0
+  WordsGoBack =
+      (symbols : List Symbol) (words : List ℕ) (opened : Content) → IsCompressed opened words
+      → InTurn (IsDecoded Stands rows precision) symbols opened (content 0 []) → IsStackOf entry precision symbols words
+
 -- the words of symbols do not end in 0
 abbrev pub WordsEndAbove0 : {Symbol : Type 0} → (Symbol → Option (ℕ × ℕ)) → ℕ → Type 0
 WordsEndAbove0 {Symbol} entry precision =

@@ -2,4 +2,3 @@ pub mod BlockLemmas
 pub mod FrameLemmas
 pub mod ReadLemmas
 pub mod StreamLemmas
-pub mod WeightLemmas

@@ -7,7 +7,7 @@ ghost use Rattle.constriction_coders.specs.BitsBack.{FitTogether, BitsComeBack};
 ghost use Rattle.constriction_coders.specs.Compressed.{IsCompressed, IsClosed, ClosingStops, IsOpened, OpeningStops};
 ghost use Rattle.constriction_coders.specs.Laws.{SymbolComesBack, SymbolsComeBack, EncodedOnce, EncodesThen, IsInvertible, DecodedGoesBack, DecodedHasEntry};
 ghost use Rattle.constriction_coders.specs.Positions.{PlaceComesBack};
-ghost use Rattle.constriction_coders.specs.StackMessages.{WordsOnce, WordsComeBack, SymbolsOnce, WordsEndAbove0};
+ghost use Rattle.constriction_coders.specs.StackMessages.{WordsOnce, WordsComeBack, SymbolsOnce, WordsEndAbove0, WordsGoBack};
 ghost use Rattle.constriction_coders.specs.Steps.{Content, content, MayBeHeld, IsDecoded, EncodingStops, DecodingStops};
 ghost use Rattle.constriction.specs.Coding.{InTurn, StandsForEqual};
 ghost use Rattle.constriction.specs.Model.{ClonesAreEqual};
@@ -82,7 +82,7 @@ where
 }
 
 /// If the symbols of the rows differ and clones equal their symbols, a symbol that was decoded has an entry. If it is encoded again, the
-/// coder holds what it held before.
+/// coder holds what it held before. So words from which symbols are decoded until nothing is left are the words of these symbols.
 pub fn decoded_goes_back<D, E, const PRECISION: usize>(decoder: &D, encoder: &E)
 where
     D: DecoderModel<PRECISION, Probability = u32>,
@@ -91,6 +91,7 @@ where
     requires invertible { IsInvertible E.symbol_eq D.stands_for (D.rows decoder.now) }
     ensures known { DecodedHasEntry D.stands_for (entry_of E.symbol_eq (E.rows encoder.now)) (D.rows decoder.now) PRECISION }
     ensures back { DecodedGoesBack D.stands_for (entry_of E.symbol_eq (E.rows encoder.now)) (D.rows decoder.now) PRECISION }
+    ensures words { WordsGoBack D.stands_for E.symbol_eq (entry_of E.symbol_eq (E.rows encoder.now)) (D.rows decoder.now) PRECISION }
 {
     encoded_once::<E, PRECISION>(encoder);
 }

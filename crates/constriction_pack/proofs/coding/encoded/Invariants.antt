@@ -1,4 +1,4 @@
-use Rattle.std.proofs.Common.{◌-◌, ◌≡◌, [], drop, length, nat_eq}
+use Rattle.std.proofs.Common.{◌-◌, [], drop, length, nat_eq}
 use Rattle.constriction.specs.Coding.{InTurn}
 use Rattle.constriction.specs.ModelRows.{contiguous_model_rows}
 use Rattle.constriction.specs.Rows.{entry_of}
@@ -7,8 +7,6 @@ use Rattle.constriction_pack.proofs.coding.encoded.Given as goal
 
 -- the last bytes were encoded
 abbrev pub invariant-loop-done : goal.invariant-loop-done
-invariant-loop-done l = record {
-  counted : l.count ≡ length l.bytes;
-  so_far : InTurn (IsEncoded (entry_of nat_eq (contiguous_model_rows l.model)) 16) (drop (length l.bytes - l.done) l.bytes)
-      (content l.coder.state l.coder.words.items) (content 0 []);
-}
+invariant-loop-done l =
+    InTurn (IsEncoded (entry_of nat_eq (contiguous_model_rows l.model)) 16) (drop (length l.bytes - l.done) l.bytes)
+    (content l.coder.state l.coder.words.items) (content 0 [])

@@ -3,5 +3,4 @@ use Rattle.constriction_coders.proofs.laws.stack.encoded_once.Goals as goal
 
 pub returns : goal.returns
 returns g c =
-    encode-once g.E.EncoderModel.symbol_eq (g.E.EntropyModel.rows c.args.encoder.now) g.row.PRECISION
-    (g.met.E.EntropyModel.precision_law c.args.encoder.now).fits (g.met.E.EncoderModel.within_law c.args.encoder.now)
+    encode-once _ _ _ (g.met.E.EntropyModel.precision_law c.args.encoder.now).fits (g.met.E.EncoderModel.within_law c.args.encoder.now)

@@ -1,20 +1,15 @@
 use Rattle.std.proofs.Common.{sym}
 use Rattle.constriction.specs.CodingLemmas.{entry-within, entry-positive}
-use Rattle.constriction.specs.Rows.{entry_of}
 use Rattle.constriction_coders.proofs.Stacking.{words-of-symbols-once, words-end-above-0}
 use Rattle.constriction_coders.proofs.laws.stack.words_once.Goals as goal
 
 pub returns-clause-once : goal.returns-clause-once
 returns-clause-once g c =
     let eq = g.E.EncoderModel.symbol_eq in
-    let rows = g.E.EntropyModel.rows c.args.encoder.now in
     let within = g.met.E.EncoderModel.within_law c.args.encoder.now in
-    words-of-symbols-once (entry_of eq rows) g.row.PRECISION (g.met.E.EntropyModel.precision_law c.args.encoder.now).fits
-    (λ s left weight known. (
-      entry-positive g.row.PRECISION eq rows s (left, weight) (sym known) within,
-      entry-within g.row.PRECISION eq rows s (left, weight) (sym known) within,
-    )) c.encoded_once.ensures
+    words-of-symbols-once _ _ (g.met.E.EntropyModel.precision_law c.args.encoder.now).fits
+    (λ s left weight known. (entry-positive _ eq _ s _ (sym known) within, entry-within _ eq _ s _ (sym known) within))
+    c.encoded_once.ensures
 
 pub returns-clause-end : goal.returns-clause-end
-returns-clause-end g c =
-    words-end-above-0 (entry_of g.E.EncoderModel.symbol_eq (g.E.EntropyModel.rows c.args.encoder.now)) g.row.PRECISION
+returns-clause-end g c = words-end-above-0 _ _
