@@ -1,7 +1,8 @@
 -- What readers of known bytes gave.
 use Rattle.std.proofs.Common.{◌≡◌, ℕ, ◌+◌, ◌*◌, ◌≤◌, List, [], ◌∷◌, ◌++◌, Option, Some, None, length, refl, ap, sym, ◌∙◌, arith}
 use Rattle.std.specs.Io.KnownBytes.{Consumes, IsAtEnd}
-use Rattle.std.proofs.lemmas.List.{append-nil, append_assoc, length-append}
+use Rattle.std.proofs.KnownBytes.{Consumes-trans}
+use Rattle.std.proofs.lemmas.List.{append-nil, length-append}
 use Rattle.constriction_coders.specs.Bytes.{bytes_of_words}
 use Rattle.constriction_pack.specs.Frames.{frame_of}
 use Rattle.constriction_pack.proofs.FrameLemmas.{length_frame_of, number_once, same_front}
@@ -18,29 +19,22 @@ read_to_end a b xs bs known read end =
     let none : given.0 ≡ [] = rw given.1 at end in
     sym (given.2 ∙ ap (λ ys. bs ++ ys) none ∙ append-nil bs)
 
--- where a frame stands, these bytes were read, and the others are left: its number, all of it, and not less than it before the end
-pub record IsSeen (before : ℕ) (words rest read : List ℕ) (left : Option (List ℕ)) : Type 0 where
-  pub others : List ℕ
-  pub known : left ≡ Some others
-  pub all : frame_of before words ++ rest ≡ read ++ others
-  pub number : (n : ℕ) → bytes_of_words (n ∷ []) ≡ read → n ≡ length words
-  pub whole : length read ≡ 4 * length words + 12 → read ≡ frame_of before words
-  pub end : IsAtEnd left → 4 * length words + 12 ≤ length read
-
-pub seen : (before : ℕ) (words rest old : List ℕ) {others new : List ℕ} {a b : Option (List ℕ)} → a ≡ Some others
-    → frame_of before words ++ rest ≡ old ++ others → (bytes : List ℕ) × Consumes a b bytes × (new ≡ old ++ bytes)
-    → IsSeen before words rest new b
+-- where a frame stands, what was read: its number, all of it, and not less than it before the end
+pub frame_read : (before : ℕ) (words rest read : List ℕ) (a b : Option (List ℕ)) → a ≡ Some (frame_of before words ++ rest) → Consumes a b read
+    → ((n : ℕ) → bytes_of_words (n ∷ []) ≡ read → n ≡ length words) × (length read ≡ 4 * length words + 12 → read ≡ frame_of before words)
+    × (IsAtEnd b → 4 * length words + 12 ≤ length read)
 unfolding frame_of
-seen before words rest old {others = others} {new = new} known is more =
-    let given = gave _ _ others more.0 known more.1 in
-    let all = is ∙ ap (λ ys. old ++ ys) given.2 ∙ sym (append_assoc old more.0 given.0) ∙ ap (λ xs. xs ++ given.0) (sym more.2) in
-    let long = length_frame_of before words in record {
-      others = given.0;
-      known = given.1;
-      all = all;
-      number = λ n is. number_once n (length words) given.0 _ (ap (λ xs. xs ++ given.0) is ∙ sym all);
-      whole = λ same. sym (same_front (frame_of before words) new rest given.0 all (long ∙ sym same)).0;
-      end = λ end.
-          let lengths = sym (length-append (frame_of before words) rest) ∙ ap length all ∙ length-append new given.0 in
-          omega (arith, long, lengths, ap length (rw given.1 at end));
-    }
+frame_read before words rest read a b known h =
+    let given = gave a b (frame_of before words ++ rest) read known h in
+    let long = length_frame_of before words in (
+      λ n is. number_once n (length words) given.0 _ (ap (λ xs. xs ++ given.0) is ∙ sym given.2),
+      λ same. sym (same_front (frame_of before words) read rest given.0 given.2 (long ∙ sym same)).0,
+      λ end.
+          let lengths = sym (length-append (frame_of before words) rest) ∙ ap length given.2 ∙ length-append read given.0 in
+          omega (arith, long, lengths, ap length (rw given.1 at end)),
+    )
+
+-- what two reads put into an empty buffer
+pub read_twice : (a b d : Option (List ℕ)) {old new last : List ℕ} → old ≡ [] → (bytes : List ℕ) × Consumes a b bytes × (new ≡ old ++ bytes)
+    → (bytes : List ℕ) × Consumes b d bytes × (last ≡ new ++ bytes) → Consumes a d last
+read_twice a b d none one two = rw (two.2, one.2, none) (Consumes-trans a b d one.0 two.0 one.1 two.1)

@@ -20,6 +20,7 @@ fn hash_of(before: u64, bytes: &[u8]) -> u64
 }
 
 /// Makes the frame of these words, after frames with this hash, and answers the hash after it.
+#[tactic(auto, unfolding(crate::specs::Frames::frame_of, crate::specs::Frames::hash_after_frame))]
 pub(crate) fn write_frame(
     frame: &mut Vec<u8>,
     before: u64,
@@ -38,7 +39,7 @@ pub(crate) fn write_frame(
 }
 
 /// The words of a frame, after frames with this hash, and the hash after it.
-#[tactic(auto, using(crate::proofs::FrameLemmas::length_frame_of))]
+#[tactic(auto, using(crate::proofs::FrameLemmas::of_frames), unfolding(crate::specs::Frames::hash_after_frame))]
 pub(crate) fn words_in(
     alloc: Global,
     before: u64,

@@ -98,6 +98,7 @@ pub(crate) fn read_end<R: Read>(reader: &mut R, input: &mut Vec<u8>) -> Result<(
 }
 
 /// Reads a frame. Of its words no more are read than a block has at most.
+#[tactic(auto, using(crate::proofs::ReadLemmas::frame_read))]
 pub(crate) fn read_frame<R: Read>(reader: &mut R, frame: &mut Vec<u8>) -> Result<(), PackError>
     ensures ok { OnOk result (Consumes (R.remaining reader.old) (R.remaining reader.new) frame.new.items) }
     ensures whole { (before : ℕ) (words rest : List ℕ) → length words ≤ most_words
