@@ -20,18 +20,17 @@ read_to_end a b xs bs known read end =
     sym (given.2 ∙ ap (λ ys. bs ++ ys) none ∙ append-nil bs)
 
 -- where a frame stands, what was read: its number, all of it, and not less than it before the end
-pub frame_read : (before : ℕ) (words rest read : List ℕ) (a b : Option (List ℕ)) → a ≡ Some (frame_of before words ++ rest) → Consumes a b read
-    → ((n : ℕ) → bytes_of_words (n ∷ []) ≡ read → n ≡ length words) × (length read ≡ 4 * length words + 12 → read ≡ frame_of before words)
-    × (IsAtEnd b → 4 * length words + 12 ≤ length read)
+pub frame_read : (before : ℕ) (words rest read : List ℕ) (a b : Option (List ℕ)) → a ≡ Some (frame_of before words ++ rest)
+    → Consumes a b read → ((n : ℕ) → bytes_of_words (n ∷ []) ≡ read → n ≡ length words)
+    × (length read ≡ 4 * length words + 12 → read ≡ frame_of before words) × (IsAtEnd b → 4 * length words + 12 ≤ length read)
 unfolding frame_of
 frame_read before words rest read a b known h =
     let given = gave a b (frame_of before words ++ rest) read known h in
-    let long = length_frame_of before words in (
+    let long = length_frame_of before words in
+    let sum = sym (length-append (frame_of before words) rest) ∙ ap length given.2 ∙ length-append read given.0 in (
       λ n is. number_once n (length words) given.0 _ (ap (λ xs. xs ++ given.0) is ∙ sym given.2),
       λ same. sym (same_front (frame_of before words) read rest given.0 given.2 (long ∙ sym same)).0,
-      λ end.
-          let lengths = sym (length-append (frame_of before words) rest) ∙ ap length given.2 ∙ length-append read given.0 in
-          omega (arith, long, lengths, ap length (rw given.1 at end)),
+      λ end. omega (arith, long, sum, ap length (rw given.1 at end)),
     )
 
 -- what two reads put into an empty buffer

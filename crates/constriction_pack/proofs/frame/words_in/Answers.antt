@@ -1,7 +1,6 @@
 use Rattle.std.proofs.Common.{◌≡◌, ◌∷◌, length, ap, sym, ◌∙◌, arith, rules}
 use Rattle.constriction_coders.specs.Bytes.{bytes_of_words}
-use Rattle.constriction_coders.specs.BytesLemmas.{length-bytes_of_words}
-use Rattle.constriction_pack.proofs.FrameLemmas.{length_frame_of, of_frames, same_front}
+use Rattle.constriction_pack.proofs.FrameLemmas.{of_frames, same_front}
 use Rattle.constriction_pack.specs.Frames.{frame_of, hash_after_frame}
 use Rattle.constriction_pack.proofs.frame.words_in.Goals as goal
 
@@ -9,7 +8,7 @@ pub returns-then-not-number_fits-clause-accepted : goal.returns-then-not-number_
 unfolding frame_of hash_after_frame
 returns-then-not-number_fits-clause-accepted c = λ words is.
     let parts = same_front c.split_at.result.0.now (bytes_of_words (length words ∷ words)) _ _ (sym c.split_at.ensures.by_index.0 ∙ is)
-    (omega (arith, c.split_at.ensures.front_len, ap length is, length_frame_of c.args.before words, length-bytes_of_words words)) in
+    (grind (arith, of_frames, c.split_at.ensures.front_len, ap length is)) in
     search (rules, of_frames, parts)
 
 pub returns-clause-frame : goal.returns-clause-frame

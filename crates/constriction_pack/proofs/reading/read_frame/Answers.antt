@@ -6,8 +6,7 @@ pub returns-then-len-length-clause-accepted : goal.returns-then-len-length-claus
 returns-then-len-length-clause-accepted g c = λ before words rest few known _.
     let all = frame_read before words rest _ _ _ known
     (read_twice _ _ _ c.clear.ensures.items c.in_ok-read_up_to.ensures.ok c.in_ok-read_up_to-2.ensures.ok) in
-    let short = all.2 (c.in_ok-read_up_to-2.ensures.end (omega arith)) in
-    grind (arith, frame_read, short)
+    grind (arith, frame_read, all.2 (c.in_ok-read_up_to-2.ensures.end (omega arith)))
 
 pub returns-clause-whole : goal.returns-clause-whole
 returns-clause-whole g c = λ before words rest few known.
