@@ -12,14 +12,10 @@ hash_after hash (byte ∷ bytes) = hash_after (bit_xor hash byte * 1099511628211
 abbrev pub first_hash : ℕ
 first_hash = 14695981039346656037
 
--- the bytes of the number of words, and then of the words
-unfoldable pub counted_bytes : List ℕ → List ℕ
-counted_bytes words = bytes_of_words (length words ∷ words)
-
--- the hash after a frame of these words
+-- the hash after the bytes of a frame's number and words
 unfoldable pub hash_after_frame : ℕ → List ℕ → ℕ
-hash_after_frame before words = hash_after before (counted_bytes words)
+hash_after_frame before words = hash_after before (bytes_of_words (length words ∷ words))
 
 -- a frame: words behind their number, and the hash of these bytes and those of all frames before
 unfoldable pub frame_of : ℕ → List ℕ → List ℕ
-frame_of before words = counted_bytes words ++ to_le_bytes w64 (hash_after_frame before words)
+frame_of before words = bytes_of_words (length words ∷ words) ++ to_le_bytes w64 (hash_after_frame before words)

@@ -7,6 +7,7 @@ ghost use Rattle.constriction_pack.specs.Faults.{IsRefusal};
 ghost use Rattle.constriction_pack.specs.Frames.{frame_of};
 
 use crate::fault::PackError;
+use crate::frame::number_of;
 use std::io::Read;
 
 /// The most bytes that one turn of a reader takes.
@@ -15,8 +16,8 @@ const CHUNK: usize = 8192;
 /// What packed files begin with.
 pub(crate) const MAGIC: &[u8] = b"cpk1";
 
-/// The most words of a block: of 1,048,576 bytes, 256 weights, and two that hold the numbers of these. A byte adds one word at most, and the
-/// state two.
+/// The most words of a block: of 1,048,576 bytes, 256 weights, and two that hold the numbers of these. A byte adds one word at most, and
+/// the state two.
 const MOST_WORDS: u32 = 1_048_836;
 
 /// One turn of the reader, of at most `room` bytes, which are put at the end of the input. It answers how many there were.
@@ -71,7 +72,8 @@ pub(crate) fn read_up_to<R: Read>(
 /// Reads what packed files begin with.
 pub(crate) fn read_magic<R: Read>(reader: &mut R, input: &mut Vec<u8>) -> Result<(), PackError>
     ensures ok { OnOk result (Consumes (R.remaining reader.old) (R.remaining reader.new) (codes "cpk1")) }
-    ensures accepted { (rest : List ℕ) → R.remaining reader.old ≡ Some (codes "cpk1" ++ rest) → IfErr result (λ fault. ¬ (IsRefusal fault)) }
+    ensures accepted { (rest : List ℕ) → R.remaining reader.old ≡ Some (codes "cpk1" ++ rest)
+        → IfErr result (λ fault. ¬ (IsRefusal fault)) }
 {
     input.clear();
     read_up_to(reader, 4, input)?;
@@ -96,6 +98,7 @@ pub(crate) fn read_end<R: Read>(reader: &mut R, input: &mut Vec<u8>) -> Result<(
 }
 
 /// Reads a frame. Of its words no more are read than a block has at most.
+#[tactic(auto, using(crate::proofs::ReadLemmas::frame_read))]
 pub(crate) fn read_frame<R: Read>(reader: &mut R, frame: &mut Vec<u8>) -> Result<(), PackError>
     ensures ok { OnOk result (Consumes (R.remaining reader.old) (R.remaining reader.new) frame.new.items) }
     ensures whole { (before : ℕ) (words rest : List ℕ) → length words ≤ most_words
@@ -105,10 +108,10 @@ pub(crate) fn read_frame<R: Read>(reader: &mut R, frame: &mut Vec<u8>) -> Result
 {
     frame.clear();
     read_up_to(reader, 4, frame)?;
-    let [first, second, third, fourth] = frame.as_slice() else {
+    if frame.len() < 4 {
         return Err(PackError::Cut);
-    };
-    let number = u32::from_le_bytes([*first, *second, *third, *fourth]);
+    }
+    let number = number_of(frame);
     if number > MOST_WORDS {
         return Err(PackError::Damaged);
     }
