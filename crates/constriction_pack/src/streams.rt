@@ -1,10 +1,10 @@
 //! Packing and unpacking from a reader to a writer, block by block.
 
-ghost use Rattle.std.specs.Prelude.{◌≡◌, ◌++◌, ℕ, List, None, Ok, Some, IfErr, MatchResult, OnOk, []};
+ghost use Rattle.std.specs.Prelude.{◌≡◌, ◌++◌, ℕ, List, None, Some, IfErr, IfOk, MatchResult, OnOk, []};
 ghost use Rattle.std.specs.Io.KnownBytes.{Appends, Consumes, IsAtEnd};
 ghost use Rattle.constriction_pack.specs.Faults.{IsRefusal};
 ghost use Rattle.constriction_pack.specs.Frames.{frame_of};
-ghost use Rattle.constriction_pack.specs.Packed.{AreFramed, IsFramed, IsPacked};
+ghost use Rattle.constriction_pack.specs.Packed.{AreFrames, IsNext, IsPacked};
 
 use crate::block::{BLOCK_BYTES, pack_block, unpack_block};
 use crate::fault::PackError;
@@ -35,11 +35,10 @@ fn pack_next<R: Read, W: Write>(
     buffer: &mut Vec<u8>,
     before: u64,
 ) -> Result<Option<u64>, PackError>
-    ensures more { (after : ℕ) → result ≡ Ok (Some after) → (block frame : List ℕ) × IsFramed before block frame after
+    ensures ok { IfOk result (λ after. (block words : List ℕ) × IsNext before block words after
         × Consumes (R.remaining reader.old) (R.remaining reader.new) block
-        × Appends (W.contents writer.old) (W.contents writer.new) frame }
-    ensures end { result ≡ Ok None → Consumes (R.remaining reader.old) (R.remaining reader.new) []
-        × IsAtEnd (R.remaining reader.new) × Appends (W.contents writer.old) (W.contents writer.new) (frame_of before []) }
+        × Appends (W.contents writer.old) (W.contents writer.new) (frame_of before words)) }
+    ensures end { IfOk result (λ after. after ≡ None → IsAtEnd (R.remaining reader.new)) }
     ensures faults { IfErr result (λ fault. ¬ (IsRefusal fault)) }
 {
     buffer.clear();
@@ -89,13 +88,12 @@ fn unpack_next<R: Read, W: Write>(
     buffer: &mut Vec<u8>,
     before: u64,
 ) -> Result<Option<u64>, PackError>
-    ensures more { (after : ℕ) → result ≡ Ok (Some after) → (block frame : List ℕ) × IsFramed before block frame after
-        × Consumes (R.remaining reader.old) (R.remaining reader.new) frame
-        × Appends (W.contents writer.old) (W.contents writer.new) block }
-    ensures end { result ≡ Ok None → Consumes (R.remaining reader.old) (R.remaining reader.new) (frame_of before [])
-        × IsAtEnd (R.remaining reader.new) × Appends (W.contents writer.old) (W.contents writer.new) [] }
-    ensures accepted { (blocks : List (List ℕ)) (frames : List ℕ) → AreFramed before blocks frames
-        → R.remaining reader.old ≡ Some frames → IfErr result (λ fault. ¬ (IsRefusal fault)) }
+    ensures ok { IfOk result (λ after. (block words : List ℕ) × IsNext before block words after
+        × Consumes (R.remaining reader.old) (R.remaining reader.new) (frame_of before words)
+        × Appends (W.contents writer.old) (W.contents writer.new) block) }
+    ensures end { IfOk result (λ after. after ≡ None → IsAtEnd (R.remaining reader.new)) }
+    ensures accepted { (bytes frames : List ℕ) → AreFrames (Some before) bytes frames → R.remaining reader.old ≡ Some frames
+        → IfErr result (λ fault. ¬ (IsRefusal fault)) }
     ensures kept { IfErr result (λ fault. IsRefusal fault → W.contents writer.new ≡ W.contents writer.old) }
 {
     read_frame(reader, buffer)?;
