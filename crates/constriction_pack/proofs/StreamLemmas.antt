@@ -88,12 +88,6 @@ left lost (begun x) known p e =
 left lost (further block words s n x y) known p e =
     let l = left lost s known p e in
     let given = gave _ _ l.2 (frame_of _ words) l.6 y in
-    let here = next_left block words _ l.5 n (ap (λ xs. xs ++ lost) given.2 ∙ append_assoc _ given.0 lost) in (
-      l.0 ++ block,
-      here.0,
-      given.0,
-      Appends-trans _ _ _ l.0 block l.3 x,
-      append_assoc l.0 block here.0 ∙ ap (λ xs. l.0 ++ xs) here.1 ∙ l.4,
-      here.2,
-      given.1,
-    )
+    let here = next_left block words _ l.5 n (ap (λ xs. xs ++ lost) given.2 ∙ append_assoc _ given.0 lost) in
+    let all = append_assoc l.0 block here.0 ∙ ap (λ xs. l.0 ++ xs) here.1 ∙ l.4 in
+    (l.0 ++ block, here.0, given.0, Appends-trans _ _ _ l.0 block l.3 x, all, here.2, given.1)

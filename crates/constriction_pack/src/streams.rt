@@ -28,6 +28,7 @@ fn write_whole<W: Write>(writer: &mut W, bytes: &[u8]) -> Result<(), PackError>
 }
 
 /// Packs the next block, after frames with this hash, and answers the hash after it, or `None` if it wrote the last frame.
+#[tactic(auto, using(crate::proofs::BlockLemmas::block_words))]
 fn pack_next<R: Read, W: Write>(
     alloc: Global,
     reader: &mut R,
@@ -59,6 +60,7 @@ fn pack_next<R: Read, W: Write>(
 /// The writer is not flushed: give one that holds nothing back. A block has 1,048,576 bytes but for the last one, and memory is asked for
 /// one block at a time, whatever there is to read. No fault is a refusal: the input was not read (which also stands for more than
 /// `2^64 - 1` blocks), the output was not written, or memory was refused. What was written before stands, and [`unpack`] refuses it.
+#[tactic(auto, using(crate::proofs::StreamLemmas::begun, crate::proofs::StreamLemmas::further))]
 pub fn pack<R: Read, W: Write>(
     alloc: Global,
     reader: &mut R,
@@ -81,6 +83,7 @@ pub fn pack<R: Read, W: Write>(
 }
 
 /// Unpacks the next frame, after frames with this hash, and answers the hash after it, or `None` if it was the last one.
+#[tactic(auto, using(crate::proofs::StreamLemmas::first, crate::proofs::FrameLemmas::frame_once))]
 fn unpack_next<R: Read, W: Write>(
     alloc: Global,
     reader: &mut R,
@@ -112,6 +115,7 @@ fn unpack_next<R: Read, W: Write>(
 /// The writer is not flushed. Only what is no packed file is refused, as `NotPacked`, `Cut` or `Damaged`. A block is written once its
 /// checksum is right and all of it is decoded: if the end of a packed file was lost, what stands after a refusal is a beginning of the
 /// bytes. Memory is asked for one block at a time, and for what was read and decoded, however much there is said to be.
+#[tactic(auto, using(crate::proofs::StreamLemmas::begun, crate::proofs::StreamLemmas::further))]
 pub fn unpack<R: Read, W: Write>(
     alloc: Global,
     reader: &mut R,

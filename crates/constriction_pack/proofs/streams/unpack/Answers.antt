@@ -1,17 +1,13 @@
-use Rattle.std.proofs.Common.{[], None, rules, append-nil, sym, refl}
+use Rattle.std.proofs.Common.{[], None, append-nil, arith, refl, sym}
 use Rattle.std.proofs.KnownBytes.{Appends-nil, Appends-trans, Consumes-nil, Consumes-trans}
 use Rattle.std.proofs.lemmas.Result.{err_from_is_err_and}
 use Rattle.constriction_pack.specs.Packed.{ended}
-use Rattle.constriction_pack.proofs.StreamLemmas.{at_end, begun, further, left, whole}
+use Rattle.constriction_pack.proofs.StreamLemmas.{at_end, further, left, whole}
 use Rattle.constriction_pack.proofs.streams.unpack.Goals as goal
-
-pub blocks-2-init : goal.blocks-2-init
-blocks-2-init g c = begun c.in_ok-read_magic.ensures.ok
 
 pub returns-in_err-after-clause-accepted : goal.returns-in_err-after-clause-accepted
 returns-in_err-after-clause-accepted g c = λ bytes packed known file.
-    let l = left [] c.blocks-2.invariant known file (sym (append-nil packed)) in
-    search (rules, c.in_err-after.ensures.accepted l.1 l.2 (rw (append-nil l.2) at l.5) l.6)
+    grind (arith, append-nil, left [] c.blocks-2.invariant known file (sym (append-nil packed)))
 
 pub returns-in_err-after-clause-cut : goal.returns-in_err-after-clause-cut
 returns-in_err-after-clause-cut g c = λ bytes packed lost known file.
@@ -29,7 +25,3 @@ returns-in-None g c =
       accepted = λ bytes packed known file. tt;
       cut = λ bytes packed lost known file. let l = left lost all known file refl in rw (rw l.6 at end) at (at_end l.5);
     }
-
-pub blocks-2-preserved : goal.blocks-2-preserved
-blocks-2-preserved g c =
-    let one = rw c.in-Some.is at c.in_ok-after.ensures.ok in further one.0 one.1 c.blocks-2.invariant one.2 one.4 one.3
