@@ -13,10 +13,7 @@ use Rattle.constriction_pack.proofs.ReadLemmas.{gave}
 -- words are those of one block, or of none
 next_once : (before : ℕ) (bytes others words : List ℕ) (after then : Option ℕ) → IsNext before bytes words after
     → IsNext before others words then → (bytes ≡ others) × (after ≡ then)
-next_once before bytes others words (Some n) (Some m) p q = (one_block bytes others words p.0 q.0, ap Some (p.1 ∙ sym q.1))
-next_once before bytes others words (Some n) None p q = absurd (omega (arith, (block_words bytes words p.0).0, ap length q.1))
-next_once before bytes others words None (Some m) p q = absurd (omega (arith, (block_words others words q.0).0, ap length p.1))
-next_once before bytes others words None None p q = (p.0 ∙ sym q.0, refl)
+next_once before bytes others words after then p q = grind (arith, one_block bytes others words, block_words)
 
 -- what is left after the next frame, and that it is nothing after the last one
 pub next_left : {before : ℕ} {bytes file : List ℕ} {after : Option ℕ} (block words more : List ℕ) → AreFrames (Some before) bytes file
