@@ -60,13 +60,13 @@ Moves = Option (List ℕ) → Option (List ℕ) → List ℕ → Type 0
 abbrev Join : Moves → Type 0
 Join R = (a b c : Option (List ℕ)) (xs ys : List ℕ) → R a b xs → R b c ys → R a c (xs ++ ys)
 
--- the letters and then frame after frame, which move as `S` says, and their blocks, which move as `R` says
+-- blocks that moved from the state `a` on, as `R` says, and the letters and their frames, which moved from `c` on, as `S` says
 pub data SoFar (R S : Moves) (a c : Option (List ℕ)) : Option ℕ → Option (List ℕ) → Option (List ℕ) → Type 0 where
   begun : {d : Option (List ℕ)} → S c d (codes "cpk1") → SoFar R S a c (Some first_hash) a d
   further : {before : ℕ} {after : Option ℕ} {b d e f : Option (List ℕ)} (block words : List ℕ) → SoFar R S a c (Some before) b d
       → IsNext before block words after → R b e block → S d f (frame_of before words) → SoFar R S a c after e f
 
--- with the frames that are left, a packed file
+-- with the frames to the last one, which move on, they are the bytes of a packed file, and the file
 pub whole : {R S : Moves} {a c b d e f : Option (List ℕ)} {to : Option ℕ} {bytes frames : List ℕ} → Join R → Join S → SoFar R S a c to b d
     → AreFrames to bytes frames → R b e bytes → S d f frames
     → (bytes packed : List ℕ) × R a e bytes × S c f packed × IsPacked bytes packed
