@@ -21,6 +21,7 @@ pub fn packed_once()
 {}
 
 /// The bytes of a block come back, unless memory is refused.
+#[tactic(auto, using(crate::proofs::BlockLemmas::one_block))]
 pub fn block_comes_back(alloc: Global, bytes: &[u8]) -> Result<Vec<u8>, PackError>
     requires some { 0 < length bytes.now }
     requires short { length bytes.now ≤ 2 ^ 20 }

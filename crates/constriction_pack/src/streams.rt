@@ -1,10 +1,10 @@
 //! Packing and unpacking from a reader to a writer, block by block.
 
-ghost use Rattle.std.specs.Prelude.{◌≡◌, ◌++◌, ℕ, List, None, Ok, Some, IfErr, MatchResult, OnOk, []};
+ghost use Rattle.std.specs.Prelude.{◌≡◌, ◌++◌, ℕ, List, None, Some, IfErr, IfOk, MatchResult, OnOk, []};
 ghost use Rattle.std.specs.Io.KnownBytes.{Appends, Consumes, IsAtEnd};
 ghost use Rattle.constriction_pack.specs.Faults.{IsRefusal};
 ghost use Rattle.constriction_pack.specs.Frames.{frame_of};
-ghost use Rattle.constriction_pack.specs.Packed.{AreFramed, IsFramed, IsPacked};
+ghost use Rattle.constriction_pack.specs.Packed.{AreFrames, IsNext, IsPacked};
 
 use crate::block::{BLOCK_BYTES, pack_block, unpack_block};
 use crate::fault::PackError;
@@ -28,6 +28,7 @@ fn write_whole<W: Write>(writer: &mut W, bytes: &[u8]) -> Result<(), PackError>
 }
 
 /// Packs the next block, after frames with this hash, and answers the hash after it, or `None` if it wrote the last frame.
+#[tactic(auto, using(crate::proofs::BlockLemmas::block_words))]
 fn pack_next<R: Read, W: Write>(
     alloc: Global,
     reader: &mut R,
@@ -35,11 +36,10 @@ fn pack_next<R: Read, W: Write>(
     buffer: &mut Vec<u8>,
     before: u64,
 ) -> Result<Option<u64>, PackError>
-    ensures more { (after : ℕ) → result ≡ Ok (Some after) → (block frame : List ℕ) × IsFramed before block frame after
+    ensures ok { IfOk result (λ after. (block words : List ℕ) × IsNext before block words after
         × Consumes (R.remaining reader.old) (R.remaining reader.new) block
-        × Appends (W.contents writer.old) (W.contents writer.new) frame }
-    ensures end { result ≡ Ok None → Consumes (R.remaining reader.old) (R.remaining reader.new) []
-        × IsAtEnd (R.remaining reader.new) × Appends (W.contents writer.old) (W.contents writer.new) (frame_of before []) }
+        × Appends (W.contents writer.old) (W.contents writer.new) (frame_of before words)) }
+    ensures end { IfOk result (λ after. after ≡ None → IsAtEnd (R.remaining reader.new)) }
     ensures faults { IfErr result (λ fault. ¬ (IsRefusal fault)) }
 {
     buffer.clear();
@@ -60,6 +60,7 @@ fn pack_next<R: Read, W: Write>(
 /// The writer is not flushed: give one that holds nothing back. A block has 1,048,576 bytes but for the last one, and memory is asked for
 /// one block at a time, whatever there is to read. No fault is a refusal: the input was not read (which also stands for more than
 /// `2^64 - 1` blocks), the output was not written, or memory was refused. What was written before stands, and [`unpack`] refuses it.
+#[tactic(auto, using(crate::proofs::StreamLemmas::begun, crate::proofs::StreamLemmas::further))]
 pub fn pack<R: Read, W: Write>(
     alloc: Global,
     reader: &mut R,
@@ -82,6 +83,7 @@ pub fn pack<R: Read, W: Write>(
 }
 
 /// Unpacks the next frame, after frames with this hash, and answers the hash after it, or `None` if it was the last one.
+#[tactic(auto, using(crate::proofs::StreamLemmas::first, crate::proofs::FrameLemmas::frame_once))]
 fn unpack_next<R: Read, W: Write>(
     alloc: Global,
     reader: &mut R,
@@ -89,13 +91,12 @@ fn unpack_next<R: Read, W: Write>(
     buffer: &mut Vec<u8>,
     before: u64,
 ) -> Result<Option<u64>, PackError>
-    ensures more { (after : ℕ) → result ≡ Ok (Some after) → (block frame : List ℕ) × IsFramed before block frame after
-        × Consumes (R.remaining reader.old) (R.remaining reader.new) frame
-        × Appends (W.contents writer.old) (W.contents writer.new) block }
-    ensures end { result ≡ Ok None → Consumes (R.remaining reader.old) (R.remaining reader.new) (frame_of before [])
-        × IsAtEnd (R.remaining reader.new) × Appends (W.contents writer.old) (W.contents writer.new) [] }
-    ensures accepted { (blocks : List (List ℕ)) (frames : List ℕ) → AreFramed before blocks frames
-        → R.remaining reader.old ≡ Some frames → IfErr result (λ fault. ¬ (IsRefusal fault)) }
+    ensures ok { IfOk result (λ after. (block words : List ℕ) × IsNext before block words after
+        × Consumes (R.remaining reader.old) (R.remaining reader.new) (frame_of before words)
+        × Appends (W.contents writer.old) (W.contents writer.new) block) }
+    ensures end { IfOk result (λ after. after ≡ None → IsAtEnd (R.remaining reader.new)) }
+    ensures accepted { (bytes frames : List ℕ) → AreFrames (Some before) bytes frames → R.remaining reader.old ≡ Some frames
+        → IfErr result (λ fault. ¬ (IsRefusal fault)) }
     ensures kept { IfErr result (λ fault. IsRefusal fault → W.contents writer.new ≡ W.contents writer.old) }
 {
     read_frame(reader, buffer)?;
@@ -114,6 +115,7 @@ fn unpack_next<R: Read, W: Write>(
 /// The writer is not flushed. Only what is no packed file is refused, as `NotPacked`, `Cut` or `Damaged`. A block is written once its
 /// checksum is right and all of it is decoded: if the end of a packed file was lost, what stands after a refusal is a beginning of the
 /// bytes. Memory is asked for one block at a time, and for what was read and decoded, however much there is said to be.
+#[tactic(auto, using(crate::proofs::StreamLemmas::begun, crate::proofs::StreamLemmas::further))]
 pub fn unpack<R: Read, W: Write>(
     alloc: Global,
     reader: &mut R,
