@@ -6,7 +6,7 @@ ghost use Rattle.constriction.specs.Rows.{contiguous_rows};
 
 use crate::checks::same;
 use constriction::stream::model::{
-    EntropyModel, LookupDecoderModel, Probe, SlottedContiguousLookupDecoderModel,
+    EntropyModel, Probe, SlottedContiguousLookupDecoderModel,
     SlottedNonContiguousLookupDecoderModel, row_of_quantile,
 };
 use constriction_test_models::any_symbols::{Decoder, SYMBOLS, WEIGHTS, decoder};
@@ -79,10 +79,8 @@ fn among_letters_of_a_slot(model: &TabledLetters, quantile: u8) -> (usize, usize
 fn a_search_asks_of_all_rows_and_beside_a_lookup_table_of_those_of_a_slot(rt: HostRuntime) {
     let model = of_four(rt.alloc(), [3, 18, 1, 42]).expect(&rt, "accepted");
     same(&rt, by_a_search(&model, 20), (0, 1, 2));
-    let tabled: Tabled = LookupDecoderModel::with_table(rt.alloc(), model).expect(
-        &rt,
-        "a lookup model",
-    );
+    let made = model.to_slotted_lookup_decoder_model::<2>(rt.alloc());
+    let tabled = made.expect(&rt, "a lookup model");
     same(&rt, by_a_lookup_table(&tabled, 5), (0, 1, 1));
     same(&rt, by_a_lookup_table(&tabled, 20), (1, 0, 2));
     same(&rt, by_a_lookup_table(&tabled, 40), (3, 0, 0));
@@ -95,10 +93,8 @@ fn a_search_of_letters_asks_of_all_rows_and_beside_a_lookup_table_of_those_of_a_
 ) {
     let letters = decoder::<6>(rt.alloc(), &SYMBOLS, &WEIGHTS, false).expect(&rt, "accepted");
     same(&rt, among_letters(&letters, 20), (0, 1, 2));
-    let tabled: TabledLetters = LookupDecoderModel::with_table(rt.alloc(), letters).expect(
-        &rt,
-        "a lookup model",
-    );
+    let made = letters.to_slotted_lookup_decoder_model::<2>(rt.alloc());
+    let tabled = made.expect(&rt, "a lookup model");
     same(&rt, among_letters_of_a_slot(&tabled, 20), (1, 0, 2));
     same(&rt, among_letters_of_a_slot(&tabled, 40), (3, 0, 0));
 }
