@@ -3,11 +3,11 @@
 
 use crate::checks::same;
 use crate::model_checks::small;
-use constriction::stream::model::{FromIterableEntropyModel, UniformModel};
-use constriction_test_models::any_symbols::{Decoder, Encoder, SYMBOLS, WEIGHTS, decoder, encoder};
+use constriction::stream::model::UniformModel;
+use constriction_test_models::any_symbols::{Encoder, SYMBOLS, WEIGHTS, decoder, encoder};
 use constriction_test_models::contiguous::Small;
 use constriction_test_models::intervals::{agree, has_rows_of};
-use constriction_test_models::lookup_any_symbols::Lookup;
+use constriction_test_models::lookup_any_symbols::lookup;
 use std::alloc::Global;
 use std::process::Abort;
 
@@ -37,10 +37,9 @@ fn a_uniform_model_agrees_with_itself(rt: HostRuntime) {
     same(&rt, has_rows_of(model, &symbols), Ok(true));
 }
 
-/// Asserts that the lookup model of a decoder model agrees with the encoder model.
-fn looks_up_letters(rt: &impl Abort, alloc: Global, encoder: &Encoder<6>, decoder: &Decoder<6>) {
-    let made = Lookup::<char, 6>::from_iterable_entropy_model(alloc, decoder);
-    let lookup = made.expect(rt, "a model");
+/// Asserts that the lookup model of four letters agrees with their encoder model.
+fn looks_up_letters(rt: &impl Abort, alloc: Global, encoder: &Encoder<6>) {
+    let lookup = lookup::<6>(alloc, &SYMBOLS, &WEIGHTS, false).expect(rt, "accepted");
     same(rt, agree(encoder, &lookup, &SYMBOLS), Ok(true));
     same(rt, has_rows_of(&lookup, &SYMBOLS), Ok(true));
 }
@@ -51,5 +50,5 @@ fn an_encoder_a_decoder_and_a_lookup_model_of_letters_agree(rt: HostRuntime) {
     let encoder = encoder::<6>(rt.alloc(), &SYMBOLS, &WEIGHTS, false).expect(&rt, "accepted");
     same(&rt, agree(&encoder, &decoder, &SYMBOLS), Ok(true));
     same(&rt, has_rows_of(&decoder, &SYMBOLS), Ok(true));
-    looks_up_letters(&rt, rt.alloc(), &encoder, &decoder);
+    looks_up_letters(&rt, rt.alloc(), &encoder);
 }

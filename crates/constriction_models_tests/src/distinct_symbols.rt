@@ -20,45 +20,9 @@ use std::alloc::Global;
 use std::iter;
 use std::process::Abort;
 
-/// A symbol that derives equality, order and hash.
-#[derive(Clone, Copy, Debug, PartialEq, Eq, PartialOrd, Ord, Hash)]
-enum Move {
-    Left,
-    Right,
-    Stay,
-}
-
-type Moves = NonContiguousCategoricalDecoderModel<Move, u8, Vec<(u8, Move)>, 6>;
-
 type Numbers = NonContiguousCategoricalDecoderModel<usize, u8, Vec<(u8, usize)>, 6>;
 
 type NumberLookup = NonContiguousLookupDecoderModel<usize, u8, Vec<(u8, usize)>, Vec<u8>, 6>;
-
-/// Asserts that a model was made, and that the quantile 31 has the row of the second move.
-fn has_moves(rt: &impl Abort, made: Result<Moves, ModelError>) {
-    let model = made.expect(rt, "a model");
-    let found = plain(model.quantile_function(31));
-    same(rt, found, Ok((Move::Right, 16, 16)));
-}
-
-#[test]
-fn an_enum_is_hashed_and_ordered(rt: HostRuntime) {
-    let symbols = [Move::Left, Move::Right, Move::Stay];
-    let hashed = Moves::from_hashable_symbols_and_nonzero_fixed_point_probabilities(
-        rt.alloc(),
-        symbols,
-        [16, 16, 32],
-        false,
-    );
-    has_moves(&rt, hashed);
-    let sorted = Moves::from_sorted_symbols_and_nonzero_fixed_point_probabilities(
-        rt.alloc(),
-        symbols,
-        [16, 16, 32],
-        false,
-    );
-    has_moves(&rt, sorted);
-}
 
 /// The model of four numbers that the caller knows to differ.
 #[tactic(auto, using(crate::proofs::DistinctLemmas::array_gives_distinct))]

@@ -13,8 +13,6 @@ use constriction_test_models::any_symbols::{SYMBOLS, WEIGHTS, decoder};
 use constriction_test_models::own_model::three;
 use constriction_test_models::symbol_types::letters;
 use constriction_test_models::widths::model_of;
-use std::alloc::Global;
-use std::process::Abort;
 
 /// What a caller learns from the trait alone.
 fn differ<M: IterableEntropyModel<PRECISION>, const PRECISION: usize>(model: &M) -> bool
@@ -26,15 +24,10 @@ where
     model.symbols_differ()
 }
 
-/// Asserts that a model of weights answers that its symbols differ.
-fn numbers_differ(rt: &impl Abort, alloc: Global) {
-    let numbers = model_of::<u8, 6>(alloc, &WEIGHTS, false).expect(rt, "accepted");
-    same(rt, differ(&&numbers), true);
-}
-
 #[test]
 fn models_of_the_library_know_that_their_symbols_differ(rt: HostRuntime) {
-    numbers_differ(&rt, rt.alloc());
+    let numbers = model_of::<u8, 6>(rt.alloc(), &WEIGHTS, false).expect(&rt, "accepted");
+    same(&rt, differ(&&numbers), true);
     let uniform = UniformModel::<u8, 6>::new(4);
     same(&rt, [differ(&uniform), differ(&&uniform)], [true; 2]);
     let chars = decoder::<6>(rt.alloc(), &SYMBOLS, &WEIGHTS, false).expect(&rt, "accepted");

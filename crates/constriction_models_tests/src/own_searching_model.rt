@@ -8,7 +8,7 @@ use constriction::stream::model::{
     AnswersRows, CdfEntry, CumulativeAndSymbol, DecoderModel, EntropyModel, LookupDecoderModel,
     StoresRows, Weight, is_quantile,
 };
-use constriction_test_models::watched::{Tally, Watched, count, tally};
+use constriction_test_models::watched::{Watched, count, tally};
 use std::alloc::{AllocError, Global};
 use std::cell::Cell;
 use std::process::Abort;
@@ -141,20 +141,6 @@ type Tabled<'c, const SLOT_BITS: usize> = LookupDecoderModel<
 /// A quantile, the number of its row, and how often a look-up reads where a row begins.
 type Case = (u16, u32, usize);
 
-/// Asserts that the lookup model answers these quantiles, and reads as often as stated.
-fn reads<const SLOT_BITS: usize>(
-    rt: &impl Abort,
-    tally: &Tally,
-    model: &Tabled<'_, SLOT_BITS>,
-    cases: &[Case],
-) {
-    for each in cases {
-        let (quantile, number, reads) = *each;
-        let found = (number_at(model, quantile), tally.read.replace(0));
-        same_at(rt, quantile, found, (Some(number), reads));
-    }
-}
-
 /// Asserts that a lookup model of sixteen rows, with `2^SLOT_BITS` slots, answers these quantiles, and reads as often as stated.
 /// Making it takes two passes over the rows, and the first pass leaves out the first row. A look-up hands the model the words
 /// after the slots, one for each row and one more, and never asks it to search.
@@ -173,7 +159,11 @@ fn looks_up<const SLOT_BITS: usize>(rt: &impl Abort, alloc: Global, cases: &[Cas
     );
     let tabled = made.expect(rt, "a lookup model");
     same(rt, tally.read.replace(0), 31);
-    reads(rt, &tally, &tabled, cases);
+    for each in cases {
+        let (quantile, number, reads) = *each;
+        let found = (number_at(&tabled, quantile), tally.read.replace(0));
+        same_at(rt, quantile, found, (Some(number), reads));
+    }
     same(rt, [asked.searches.get(), asked.beside.get()], [0, 17]);
     let searching = tabled.into_searching_model();
     same(rt, number_at(&searching, 316), Some(7));

@@ -229,7 +229,7 @@ fn refusals(alloc: Global, source: &LetterDecoder) -> [Option<ModelError>; 4] {
 fn lookup_refusals(alloc: Global, source: &LetterDecoder) -> [Option<ModelError>; 2] {
     [
         to_generic_lookup_decoder_model(alloc, source).err(),
-        source.to_lookup_decoder_model(alloc).err(),
+        source.to_slotted_lookup_decoder_model::<8>(alloc).err(),
     ]
 }
 

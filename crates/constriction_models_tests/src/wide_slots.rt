@@ -97,17 +97,6 @@ fn a_slot_of_one_quantile_is_not_searched(rt: HostRuntime) {
     }
 }
 
-#[test]
-fn each_quantile_of_16_bits_may_have_a_row_of_its_own(rt: HostRuntime) {
-    let ones = iter::repeat_n(1u16, 65_536);
-    let made = Narrow::<16>::from_nonzero_fixed_point_probabilities(rt.alloc(), ones, false);
-    let model = made.expect(&rt, "accepted");
-    for quantile in 0..=u16::MAX {
-        let found = row(Some(model.quantile_function(quantile)));
-        same_at(&rt, quantile, found, Some((quantile as usize, quantile, 1)));
-    }
-}
-
 /// Whether a quantile has a row of its own, and a search of its slot finds this row by at most 22 questions.
 fn is_found(model: &Lookup<40>, quantile: usize) -> bool
     requires { quantile < 2 ^ 40 }
