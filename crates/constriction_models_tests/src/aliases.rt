@@ -20,48 +20,71 @@ type Default = Vec<(u32, char)>;
 /// The stored entries of a model of letters over 12 bits.
 type Small = Vec<(u16, char)>;
 
+/// Holds only if the two names are of one type.
+trait Is<Name> {}
+
+impl<Type> Is<Type> for Type {}
+
+/// One type, by two names.
+struct Same<Alias: Is<Written>, Written> {
+    alias: Alias,
+    written: Written,
+}
+
 /// Compiles only if each alias is the type that is written beside it.
-#[test]
-fn names_are_over_their_words_at_their_precision() {
-    let _: Option<&DefaultContiguousCategoricalEntropyModel> = None::<
-        &ContiguousCategoricalEntropyModel<u32, Vec<u32>, 24>,
-    >;
-    let _: Option<&DefaultContiguousCategoricalEntropyModel<&[u32]>> = None::<
-        &ContiguousCategoricalEntropyModel<u32, &[u32], 24>,
-    >;
-    let _: Option<&DefaultNonContiguousCategoricalDecoderModel<char>> = None::<
-        &NonContiguousCategoricalDecoderModel<char, u32, Default, 24>,
-    >;
-    let _: Option<&DefaultNonContiguousCategoricalEncoderModel<char>> = None::<
-        &NonContiguousCategoricalEncoderModel<char, u32, 24>,
-    >;
-    let _: Option<&DefaultContiguousLookupDecoderModel> = None::<
-        &SlottedContiguousLookupDecoderModel<u32, Vec<u32>, Vec<u32>, 24, 12>,
-    >;
-    let _: Option<&DefaultNonContiguousLookupDecoderModel<char>> = None::<
-        &SlottedNonContiguousLookupDecoderModel<char, u32, Default, Vec<u32>, 24, 12>,
-    >;
-    let _: Option<&DefaultUniformModel> = None::<&UniformModel<u32, 24>>;
-    let _: Option<&SmallContiguousCategoricalEntropyModel> = None::<
-        &ContiguousCategoricalEntropyModel<u16, Vec<u16>, 12>,
-    >;
-    let _: Option<&SmallNonContiguousCategoricalDecoderModel<char>> = None::<
-        &NonContiguousCategoricalDecoderModel<char, u16, Small, 12>,
-    >;
-    let _: Option<&SmallNonContiguousCategoricalEncoderModel<char>> = None::<
-        &NonContiguousCategoricalEncoderModel<char, u16, 12>,
-    >;
-    let _: Option<&SmallContiguousLookupDecoderModel> = None::<
-        &ContiguousLookupDecoderModel<u16, Vec<u16>, Vec<u16>, 12>,
-    >;
-    let _: Option<&SmallNonContiguousLookupDecoderModel<char>> = None::<
-        &NonContiguousLookupDecoderModel<char, u16, Small, Vec<u16>, 12>,
-    >;
-    let _: Option<&SmallContiguousDirectLookupDecoderModel> = None::<
-        &SlottedContiguousLookupDecoderModel<u16, Vec<u16>, Vec<u16>, 12, 12>,
-    >;
-    let _: Option<&SmallNonContiguousDirectLookupDecoderModel<char>> = None::<
-        &SlottedNonContiguousLookupDecoderModel<char, u16, Small, Vec<u16>, 12, 12>,
-    >;
-    let _: Option<&SmallUniformModel> = None::<&UniformModel<u16, 12>>;
+struct Aliases<'w> {
+    wide_contiguous: Same<
+        DefaultContiguousCategoricalEntropyModel,
+        ContiguousCategoricalEntropyModel<u32, Vec<u32>, 24>,
+    >,
+    wide_contiguous_lent: Same<
+        DefaultContiguousCategoricalEntropyModel<&'w [u32]>,
+        ContiguousCategoricalEntropyModel<u32, &'w [u32], 24>,
+    >,
+    wide_non_contiguous_decoder: Same<
+        DefaultNonContiguousCategoricalDecoderModel<char>,
+        NonContiguousCategoricalDecoderModel<char, u32, Default, 24>,
+    >,
+    wide_non_contiguous_encoder: Same<
+        DefaultNonContiguousCategoricalEncoderModel<char>,
+        NonContiguousCategoricalEncoderModel<char, u32, 24>,
+    >,
+    wide_contiguous_lookup_decoder: Same<
+        DefaultContiguousLookupDecoderModel,
+        SlottedContiguousLookupDecoderModel<u32, Vec<u32>, Vec<u32>, 24, 12>,
+    >,
+    wide_non_contiguous_lookup_decoder: Same<
+        DefaultNonContiguousLookupDecoderModel<char>,
+        SlottedNonContiguousLookupDecoderModel<char, u32, Default, Vec<u32>, 24, 12>,
+    >,
+    wide_uniform: Same<DefaultUniformModel, UniformModel<u32, 24>>,
+    small_contiguous: Same<
+        SmallContiguousCategoricalEntropyModel,
+        ContiguousCategoricalEntropyModel<u16, Vec<u16>, 12>,
+    >,
+    small_non_contiguous_decoder: Same<
+        SmallNonContiguousCategoricalDecoderModel<char>,
+        NonContiguousCategoricalDecoderModel<char, u16, Small, 12>,
+    >,
+    small_non_contiguous_encoder: Same<
+        SmallNonContiguousCategoricalEncoderModel<char>,
+        NonContiguousCategoricalEncoderModel<char, u16, 12>,
+    >,
+    small_contiguous_lookup_decoder: Same<
+        SmallContiguousLookupDecoderModel,
+        ContiguousLookupDecoderModel<u16, Vec<u16>, Vec<u16>, 12>,
+    >,
+    small_non_contiguous_lookup_decoder: Same<
+        SmallNonContiguousLookupDecoderModel<char>,
+        NonContiguousLookupDecoderModel<char, u16, Small, Vec<u16>, 12>,
+    >,
+    small_contiguous_direct_lookup_decoder: Same<
+        SmallContiguousDirectLookupDecoderModel,
+        SlottedContiguousLookupDecoderModel<u16, Vec<u16>, Vec<u16>, 12, 12>,
+    >,
+    small_non_contiguous_direct_lookup_decoder: Same<
+        SmallNonContiguousDirectLookupDecoderModel<char>,
+        SlottedNonContiguousLookupDecoderModel<char, u16, Small, Vec<u16>, 12, 12>,
+    >,
+    small_uniform: Same<SmallUniformModel, UniformModel<u16, 12>>,
 }

@@ -1,30 +1,18 @@
 //! How many questions a search asks. The contracts of `quantile_probe` and `row_of_quantile` say it.
 
-ghost use Rattle.std.specs.Prelude.{◌≡◌, ◌+◌, ◌-◌, ◌<◌, ◌≤◌, [], ◌∷◌, length};
+ghost use Rattle.std.specs.Prelude.{◌≡◌, ◌+◌, ◌<◌, ◌≤◌, [], ◌∷◌};
 ghost use Rattle.constriction.specs.Probe.{digits, IsRowIndexOf};
 ghost use Rattle.constriction.specs.Rows.{contiguous_rows};
 
 use crate::checks::same;
 use constriction::stream::model::{
-    EntropyModel, LookupDecoderModel, Probe, SlottedContiguousLookupDecoderModel,
-    SlottedNonContiguousLookupDecoderModel, row_of_quantile,
+    EntropyModel, Probe, SlottedContiguousLookupDecoderModel, row_of_quantile,
 };
-use constriction_test_models::any_symbols::{Decoder, SYMBOLS, WEIGHTS, decoder};
 use constriction_test_models::contiguous::Weighted;
 use constriction_test_models::given::of_four;
 
 /// A lookup model with four slots of 16 quantiles each.
 type Tabled = SlottedContiguousLookupDecoderModel<u8, Vec<u8>, Vec<u8>, 6, 2>;
-
-/// The same over letters.
-type TabledLetters = SlottedNonContiguousLookupDecoderModel<
-    char,
-    u8,
-    Vec<(u8, char)>,
-    Vec<u8>,
-    6,
-    2,
->;
 
 /// A search of all four rows: the index of the first one, how many rows after it the quantile's row stands, and how many
 /// questions were asked.
@@ -51,54 +39,15 @@ fn by_a_lookup_table(model: &Tabled, quantile: u8) -> (usize, usize, usize)
     (first, index, rows.asked())
 }
 
-/// The same for a search of any number of rows of letters.
-fn among_letters(model: &Decoder<6>, quantile: u8) -> (usize, usize, usize)
-    requires { quantile < 64 }
-    ensures row { IsRowIndexOf (⟦<Decoder<6> as EntropyModel<6>>⟧.rows model.now) quantile (result.0 + result.1) }
-    ensures few { result.2 ≤ digits (length (⟦<Decoder<6> as EntropyModel<6>>⟧.rows model.now) - 1) }
-{
-    let (first, mut rows) = model.quantile_probe(quantile);
-    let index = row_of_quantile(&mut rows, quantile);
-    (first, index, rows.asked())
-}
-
-/// The same for a search of the rows of letters that meet the quantile's slot.
-fn among_letters_of_a_slot(model: &TabledLetters, quantile: u8) -> (usize, usize, usize)
-    requires { quantile < 64 }
-    ensures row { IsRowIndexOf (⟦<TabledLetters as EntropyModel<6>>⟧.rows model.now) quantile (result.0 + result.1) }
-    ensures few { result.2 ≤ digits (length (⟦<TabledLetters as EntropyModel<6>>⟧.rows model.now) - 1) }
-{
-    let (first, mut rows) = model.quantile_probe(quantile);
-    let index = row_of_quantile(&mut rows, quantile);
-    (first, index, rows.asked())
-}
-
 /// A search of four rows asks two questions. Two rows meet the slot of the quantile 5, three the slot of 20, and one the
 /// slot of 40.
 #[test]
 fn a_search_asks_of_all_rows_and_beside_a_lookup_table_of_those_of_a_slot(rt: HostRuntime) {
     let model = of_four(rt.alloc(), [3, 18, 1, 42]).expect(&rt, "accepted");
     same(&rt, by_a_search(&model, 20), (0, 1, 2));
-    let tabled: Tabled = LookupDecoderModel::with_table(rt.alloc(), model).expect(
-        &rt,
-        "a lookup model",
-    );
+    let made = model.to_slotted_lookup_decoder_model::<2>(rt.alloc());
+    let tabled = made.expect(&rt, "a lookup model");
     same(&rt, by_a_lookup_table(&tabled, 5), (0, 1, 1));
     same(&rt, by_a_lookup_table(&tabled, 20), (1, 0, 2));
     same(&rt, by_a_lookup_table(&tabled, 40), (3, 0, 0));
-}
-
-/// The same over letters.
-#[test]
-fn a_search_of_letters_asks_of_all_rows_and_beside_a_lookup_table_of_those_of_a_slot(
-    rt: HostRuntime,
-) {
-    let letters = decoder::<6>(rt.alloc(), &SYMBOLS, &WEIGHTS, false).expect(&rt, "accepted");
-    same(&rt, among_letters(&letters, 20), (0, 1, 2));
-    let tabled: TabledLetters = LookupDecoderModel::with_table(rt.alloc(), letters).expect(
-        &rt,
-        "a lookup model",
-    );
-    same(&rt, among_letters_of_a_slot(&tabled, 20), (1, 0, 2));
-    same(&rt, among_letters_of_a_slot(&tabled, 40), (3, 0, 0));
 }

@@ -10,9 +10,10 @@ use constriction::stream::model::{
 };
 use constriction_test_models::contiguous::Small;
 use constriction_test_models::widths::Model;
-use constriction_words::WholeNumber;
+use constriction_words::{BitArray, WholeNumber};
 use std::alloc::{AllocError, Global};
 use std::iter;
+use std::process::Abort;
 
 /// The symbol of a quantile and whether it has an entry, through the bounds alone.
 fn symbol_through_bounds<M: DecoderModel<6> + EncoderModel<6>>(
@@ -40,21 +41,26 @@ fn a_model_and_a_reference_to_it_are_used_through_bounds(rt: HostRuntime) {
     same(&rt, symbol_through_bounds(model, 3u8), Some(1));
 }
 
-const SENTENCES: [(ModelError, &str); 2] = [
-    (
-        ModelError::InvalidTable,
-        "The weights, or the symbols, are not accepted.",
-    ),
-    (ModelError::OutOfMemory, "Memory was refused."),
-];
+/// Asserts that the error is printed as this sentence.
+fn says(rt: &impl Abort, alloc: Global, error: ModelError, sentence: &str) {
+    let printed = format!(in alloc; "{error}").expect(rt, "memory");
+    same(rt, printed.as_str(), sentence);
+}
 
 #[test]
 fn why_there_is_no_model_is_said_in_a_sentence(rt: HostRuntime) {
-    for each in &SENTENCES {
-        let (error, text) = each;
-        let printed = format!(in rt.alloc(); "{error}").expect(&rt, "memory");
-        same(&rt, printed.as_str(), *text);
-    }
+    says(
+        &rt,
+        rt.alloc(),
+        ModelError::InvalidTable,
+        "The weights, or the symbols, are not accepted.",
+    );
+    says(
+        &rt,
+        rt.alloc(),
+        ModelError::OutOfMemory,
+        "Memory was refused.",
+    );
 }
 
 /// The constructor asks for no more memory than the longest accepted list needs, so 2^60 weights are refused as invalid. Memory
@@ -90,8 +96,9 @@ fn the_rows_of_a_model_are_collected(rt: HostRuntime) {
     let model = small(&rt, rt.alloc());
     let rows = collected(rt.alloc(), &model).expect(&rt, "memory");
     same(&rt, rows.len(), 4);
-    match rows.get(2) {
-        Some((symbol, left, _)) => same(&rt, (*symbol, *left), (2, 21)),
-        None => same(&rt, true, false),
-    }
+    same(
+        &rt,
+        rows.last(),
+        Some(&(3, 22, 42u8.into_nonzero_unchecked())),
+    );
 }

@@ -3,24 +3,30 @@
 
 use crate::checks::same;
 use crate::model_checks::small;
-use constriction::stream::model::{FromIterableEntropyModel, UniformModel};
-use constriction_test_models::any_symbols::{SYMBOLS, WEIGHTS, decoder, encoder};
+use constriction::stream::model::UniformModel;
+use constriction_test_models::any_symbols::{Encoder, SYMBOLS, WEIGHTS, decoder, encoder};
+use constriction_test_models::contiguous::Small;
 use constriction_test_models::intervals::{agree, has_rows_of};
-use constriction_test_models::lookup_any_symbols::Lookup;
+use constriction_test_models::lookup_any_symbols::lookup;
+use std::alloc::Global;
+use std::process::Abort;
 
 /// The symbols of a model of four weights.
 const NUMBERS: [usize; 4] = [0, 1, 2, 3];
+
+/// Asserts that the lookup model of a model of four weights agrees with it.
+fn looks_up(rt: &impl Abort, alloc: Global, model: &Small) {
+    let lookup = model.to_lookup_decoder_model(alloc).expect(rt, "memory");
+    same(rt, agree(model, &lookup, &NUMBERS), Ok(true));
+    same(rt, has_rows_of(&lookup, &NUMBERS), Ok(true));
+}
 
 #[test]
 fn a_model_of_weights_and_its_lookup_model_agree(rt: HostRuntime) {
     let model = small(&rt, rt.alloc());
     same(&rt, agree(&model, &model, &NUMBERS), Ok(true));
     same(&rt, has_rows_of(&model, &NUMBERS), Ok(true));
-    let lookup = model
-        .to_lookup_decoder_model(rt.alloc())
-        .expect(&rt, "memory");
-    same(&rt, agree(&model, &lookup, &NUMBERS), Ok(true));
-    same(&rt, has_rows_of(&lookup, &NUMBERS), Ok(true));
+    looks_up(&rt, rt.alloc(), &model);
 }
 
 #[test]
@@ -31,15 +37,18 @@ fn a_uniform_model_agrees_with_itself(rt: HostRuntime) {
     same(&rt, has_rows_of(model, &symbols), Ok(true));
 }
 
+/// Asserts that the lookup model of four letters agrees with their encoder model.
+fn looks_up_letters(rt: &impl Abort, alloc: Global, encoder: &Encoder<6>) {
+    let lookup = lookup::<6>(alloc, &SYMBOLS, &WEIGHTS, false).expect(rt, "accepted");
+    same(rt, agree(encoder, &lookup, &SYMBOLS), Ok(true));
+    same(rt, has_rows_of(&lookup, &SYMBOLS), Ok(true));
+}
+
 #[test]
 fn an_encoder_a_decoder_and_a_lookup_model_of_letters_agree(rt: HostRuntime) {
     let decoder = decoder::<6>(rt.alloc(), &SYMBOLS, &WEIGHTS, false).expect(&rt, "accepted");
     let encoder = encoder::<6>(rt.alloc(), &SYMBOLS, &WEIGHTS, false).expect(&rt, "accepted");
     same(&rt, agree(&encoder, &decoder, &SYMBOLS), Ok(true));
     same(&rt, has_rows_of(&decoder, &SYMBOLS), Ok(true));
-    let lookup: Lookup<char, 6> = Lookup::from_iterable_entropy_model(rt.alloc(), &decoder).expect(
-        &rt, "a model",
-    );
-    same(&rt, agree(&encoder, &lookup, &SYMBOLS), Ok(true));
-    same(&rt, has_rows_of(&lookup, &SYMBOLS), Ok(true));
+    looks_up_letters(&rt, rt.alloc(), &encoder);
 }

@@ -1,12 +1,11 @@
 //! Constructors and conversions that do not compare each symbol with all before it.
 
-ghost use Rattle.std.specs.Prelude.{◌<◌, nat_eq};
+ghost use Rattle.std.specs.Prelude.{nat_eq};
 ghost use Rattle.std.specs.List.{IsDistinct};
 ghost use Rattle.constriction.specs.Rows.{symbols_of};
 
-use crate::checks::{same, same_at};
-use crate::conversions::Encoder;
-use crate::model_checks::{has_row, small};
+use crate::checks::same;
+use crate::model_checks::{Encoder, has_row, small};
 use constriction::laws::{
     contiguous_symbols_differ, non_contiguous_symbols_differ, symbols_and_weights_rebuild,
 };
@@ -21,89 +20,9 @@ use std::alloc::Global;
 use std::iter;
 use std::process::Abort;
 
-/// A symbol that derives equality, order and hash.
-#[derive(Clone, Copy, Debug, PartialEq, Eq, PartialOrd, Ord, Hash)]
-enum Move {
-    Left,
-    Right,
-    Stay,
-}
-
-type Moves = NonContiguousCategoricalDecoderModel<Move, u8, Vec<(u8, Move)>, 6>;
-
-type Texts = NonContiguousCategoricalDecoderModel<String, u8, Vec<(u8, String)>, 6>;
-
 type Numbers = NonContiguousCategoricalDecoderModel<usize, u8, Vec<(u8, usize)>, 6>;
 
 type NumberLookup = NonContiguousLookupDecoderModel<usize, u8, Vec<(u8, usize)>, Vec<u8>, 6>;
-
-/// Asserts that a model was made, and that the quantile 31 has the row of the second move.
-fn has_moves(rt: &impl Abort, made: Result<Moves, ModelError>) {
-    let model = made.expect(rt, "a model");
-    let found = plain(model.quantile_function(31));
-    same(rt, found, Ok((Move::Right, 16, 16)));
-}
-
-#[test]
-fn an_enum_is_hashed_and_ordered(rt: HostRuntime) {
-    let symbols = [Move::Left, Move::Right, Move::Stay];
-    let hashed = Moves::from_hashable_symbols_and_nonzero_fixed_point_probabilities(
-        rt.alloc(),
-        symbols,
-        [16, 16, 32],
-        false,
-    );
-    has_moves(&rt, hashed);
-    let sorted = Moves::from_sorted_symbols_and_nonzero_fixed_point_probabilities(
-        rt.alloc(),
-        symbols,
-        [16, 16, 32],
-        false,
-    );
-    has_moves(&rt, sorted);
-}
-
-/// A text as a `String`. The test fails if memory is refused.
-fn owned(rt: &impl Abort, alloc: Global, text: &str) -> String {
-    String::from_str(alloc, text).expect(rt, "memory")
-}
-
-/// Asserts that a model was made, and that the row of the quantile has this text.
-fn has_text(rt: &impl Abort, made: Result<Texts, ModelError>, quantile: u8, text: &str)
-    requires { quantile < 64 }
-{
-    let model = made.expect(rt, "a model");
-    let (found, _left, _weight) = model.quantile_function(quantile).expect(rt, "memory");
-    same_at(rt, quantile, found.as_str(), text);
-}
-
-/// The model of two texts, by the constructor for sorted symbols or by the one that hashes.
-fn texts(
-    rt: &impl Abort,
-    alloc: Global,
-    in_order: bool,
-    [first, second]: [&str; 2],
-) -> Result<Texts, ModelError> {
-    let texts = [owned(rt, alloc, first), owned(rt, alloc, second)];
-    let weights = [22, 42];
-    if in_order {
-        Texts::from_sorted_symbols_and_nonzero_fixed_point_probabilities(
-            alloc, texts, weights, false,
-        )
-    } else {
-        Texts::from_hashable_symbols_and_nonzero_fixed_point_probabilities(
-            alloc, texts, weights, false,
-        )
-    }
-}
-
-#[test]
-fn texts_are_hashed_and_ordered(rt: HostRuntime) {
-    has_text(&rt, texts(&rt, rt.alloc(), false, ["b", "ab"]), 22, "ab");
-    has_text(&rt, texts(&rt, rt.alloc(), true, ["ab", "b"]), 21, "ab");
-    let repeat = texts(&rt, rt.alloc(), false, ["b", "b"]).err();
-    same(&rt, repeat, Some(ModelError::InvalidTable));
-}
 
 /// The model of four numbers that the caller knows to differ.
 #[tactic(auto, using(crate::proofs::DistinctLemmas::array_gives_distinct))]

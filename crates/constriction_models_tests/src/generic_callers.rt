@@ -5,9 +5,7 @@ ghost use Rattle.constriction.specs.Rows.{Row, IsRowOf};
 
 use crate::checks::same;
 use crate::model_checks::small;
-use constriction::stream::model::{
-    ContiguousCategoricalEntropyModel, DecoderModel, EncoderModel, SmallUniformModel,
-};
+use constriction::stream::model::{DecoderModel, EncoderModel, SmallUniformModel};
 use constriction_words::{BitArray, NonZeroBitArray};
 use std::alloc::AllocError;
 
@@ -57,19 +55,6 @@ where
     }
 }
 
-/// The quantile after the first one of the row that holds a quantile, modulo `2^BITS`, by a contiguous model over any words.
-pub fn after_the_first<Word: BitArray, const PRECISION: usize>(
-    model: &ContiguousCategoricalEntropyModel<Word, Vec<Word>, PRECISION>,
-    quantile: Word,
-) -> Result<Word, AllocError>
-    requires { Word.whole quantile < 2 ^ PRECISION }
-{
-    match model.quantile_function(quantile) {
-        Ok((_symbol, left, _weight)) => Ok(left.wrapping_add(&Word::one())),
-        Err(refusal) => Err(refusal),
-    }
-}
-
 /// The last quantile of the row that holds a quantile, by any decoder over `u16`.
 fn last_of_row<M: DecoderModel<12, Probability = u16>>(
     model: &M,
@@ -94,9 +79,8 @@ fn callers_that_compute_with_words(rt: HostRuntime) {
             end_of_row(&model, 20),
             end_of_row(&model, 63),
             weight_of_row(&model, 20),
-            after_the_first(&model, 22),
         ],
-        [Ok(21), Ok(64), Ok(18), Ok(23)],
+        [Ok(21), Ok(64), Ok(18)],
     );
     let weights: [u8; 2] = [weight_or_0(&model, &1), weight_or_0(&model, &4)];
     same(&rt, weights, [18, 0]);

@@ -63,18 +63,14 @@ fn items_and_letters(model: &LetterDecoder) -> (usize, usize)
     (count(model), letters)
 }
 
-/// The rows that the symbol table of a model gives.
-fn read_rows<M, const PRECISION: usize>(
-    alloc: Global,
-    model: M,
-) -> Result<Vec<(M::Symbol, M::Probability, Weight<M::Probability>)>, AllocError>
+/// The rows that the symbol table of a model of letters gives.
+fn read_rows<M>(alloc: Global, model: M) -> Result<Rows, AllocError>
 where
-    M: IterableEntropyModel<PRECISION>,
-    M::Symbol: Drop,
+    M: IterableEntropyModel<6, Symbol = char, Probability = u8>,
     requires clones { ClonesAreSame M.stands_for }
-    ensures { IfOk result (λ rows. map (row_of M.Probability.whole M.Probability.base) rows.items ≡ M.rows model) }
+    ensures { IfOk result (λ rows. map (row_of ⟦<u8 as WholeNumber>⟧.whole ⟦<u8 as WholeNumber>⟧.base) rows.items ≡ M.rows model) }
 {
-    table_gives_all_rows::<M, PRECISION>();
+    table_gives_all_rows::<M, 6>();
     let mut rows = Vec::new(alloc);
     for item in model.symbol_table() {
         rows.push(item?)?;
@@ -83,34 +79,23 @@ where
 }
 
 /// What [`read_rows`] returns.
-type Rows<M, const PRECISION: usize> = Vec<
-    (
-        <M as EntropyModel<PRECISION>>::Symbol,
-        <M as EntropyModel<PRECISION>>::Probability,
-        Weight<<M as EntropyModel<PRECISION>>::Probability>,
-    ),
->;
+type Rows = Vec<(char, u8, Weight<u8>)>;
 
 /// The rows of two models that answer alike, each read from its own symbol table. They are the same.
-fn read_both<M, N, const PRECISION: usize>(
-    alloc: Global,
-    model: M,
-    other: N,
-) -> Result<(Rows<M, PRECISION>, Rows<N, PRECISION>), AllocError>
+fn read_both<M, N>(alloc: Global, model: M, other: N) -> Result<(Rows, Rows), AllocError>
 where
-    M: DecoderModel<PRECISION> + IterableEntropyModel<PRECISION>,
-    N: DecoderModel<PRECISION>
-        + IterableEntropyModel<PRECISION>
-        + EntropyModel<PRECISION, Symbol = M::Symbol>
+    M: DecoderModel<6> + IterableEntropyModel<6> + EntropyModel<6, Symbol = char, Probability = u8>,
+    N: DecoderModel<6>
+        + IterableEntropyModel<6>
+        + EntropyModel<6, Symbol = char, Probability = u8>
         + Drop,
-    M::Symbol: Drop,
     requires clones { ClonesAreSame M.IterableEntropyModel.stands_for }
     requires other_clones { ClonesAreSame N.IterableEntropyModel.stands_for }
-    requires alike { (q : ℕ) (r : Row M.Symbol) → q < 2 ^ PRECISION → IsRowOf (M.rows model) q r ↔ IsRowOf (N.rows other) q r }
-    ensures { IfOk result (λ t. map (row_of M.Probability.whole M.Probability.base) t.0.items
-        ≡ map (row_of N.Probability.whole N.Probability.base) t.1.items) }
+    requires alike { (q : ℕ) (r : Row ℕ) → q < 2 ^ 6 → IsRowOf (M.rows model) q r ↔ IsRowOf (N.rows other) q r }
+    ensures { IfOk result (λ t. map (row_of ⟦<u8 as WholeNumber>⟧.whole ⟦<u8 as WholeNumber>⟧.base) t.0.items
+        ≡ map (row_of ⟦<u8 as WholeNumber>⟧.whole ⟦<u8 as WholeNumber>⟧.base) t.1.items) }
 {
-    equal_answers::<M, N, PRECISION>();
+    equal_answers::<M, N, 6>();
     match (read_rows(alloc, model), read_rows(alloc, other)) {
         (Ok(rows), Ok(others)) => Ok((rows, others)),
         _ => Err(AllocError),
@@ -204,7 +189,7 @@ fn quantiles_come_back_from_symbols_and_offsets(rt: HostRuntime) {
 }
 
 /// The rows read from the model, and from a reference to it.
-fn read_letters(alloc: Global) -> Result<(Rows<Twice, 6>, Rows<&'static Twice, 6>), AllocError> {
+fn read_letters(alloc: Global) -> Result<(Rows, Rows), AllocError> {
     read_both(alloc, Twice, &Twice)
 }
 

@@ -14,10 +14,6 @@ mod compared;
 #[cfg(test)]
 mod contiguous;
 #[cfg(test)]
-mod conversions;
-#[cfg(test)]
-mod default_words;
-#[cfg(test)]
 mod directions;
 #[cfg(test)]
 mod distinct_symbols;

@@ -1,7 +1,5 @@
 //! Lookup models over any symbols: made of a model of the caller's own, and shown.
 
-ghost use Rattle.std.specs.Prelude.{◌≤◌};
-
 use crate::checks::{same, shows};
 use constriction::laws::{
     non_contiguous_lookup_symbols_differ, slotted_non_contiguous_lookup_symbols_differ,
@@ -13,20 +11,14 @@ use constriction::stream::model::{
 use constriction_test_models::any_symbols::plain;
 use constriction_test_models::contiguous::weighted;
 use constriction_test_models::lookup_any_symbols::{Lookup, lookup};
-use constriction_test_models::own_model::three;
+use constriction_test_models::own_model::{Triple, three};
 use std::alloc::Global;
 
 /// The errors of the function and of the method that make a lookup model of this model.
-pub fn refusals<M, const PRECISION: usize>(alloc: Global, source: M) -> [Option<ModelError>; 2]
-where
-    M: IterableEntropyModel<PRECISION, Probability = u8> + Copy,
-    M::Symbol: Eq + Clone + Drop,
-    requires narrow { PRECISION ≤ 63 }
-    requires equality { M.is_equality M.Symbol.eq }
-{
+fn refusals(alloc: Global, source: &Triple) -> [Option<ModelError>; 2] {
     [
-        to_generic_lookup_decoder_model::<M, PRECISION>(alloc, source).err(),
-        Lookup::from_iterable_entropy_model(alloc, source).err(),
+        to_generic_lookup_decoder_model(alloc, source).err(),
+        Lookup::<char, 3>::from_iterable_entropy_model(alloc, source).err(),
     ]
 }
 

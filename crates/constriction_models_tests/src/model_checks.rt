@@ -1,11 +1,18 @@
 //! A model that several tests share, and a check of an answer.
 
 use crate::checks::same;
-use constriction::stream::model::DecoderModel;
+use constriction::stream::model::{DecoderModel, NonContiguousCategoricalEncoderModel};
 use constriction_test_models::any_symbols::{Decoder, plain};
 use constriction_test_models::contiguous::{Small, WEIGHTS, weighted};
 use std::alloc::Global;
 use std::process::Abort;
+
+/// An encoder model over any symbols.
+pub type Encoder<Symbol, const PRECISION: usize> = NonContiguousCategoricalEncoderModel<
+    Symbol,
+    u8,
+    PRECISION,
+>;
 
 /// The model of the weights 3, 18, 1 and 42.
 pub fn small(rt: &impl Abort, alloc: Global) -> Small {

@@ -6,11 +6,10 @@ ghost use Rattle.std.specs.List.{IsDistinct};
 ghost use Rattle.constriction.specs.Rows.{rows_of, symbols_of};
 
 use crate::checks::{same, same_at};
-use crate::conversions::refusals;
 use constriction::laws::non_contiguous_symbols_differ;
 use constriction::stream::model::{
-    DecoderModel, EncoderModel, EntropyModel, ModelError, to_generic_decoder_model,
-    to_generic_decoder_model_of_distinct, to_generic_encoder_model,
+    DecoderModel, EncoderModel, EntropyModel, FromIterableEntropyModel, ModelError,
+    to_generic_decoder_model, to_generic_decoder_model_of_distinct, to_generic_encoder_model,
 };
 use constriction_test_models::any_symbols::{Encoder, entry, plain, plain_entry};
 use constriction_test_models::conversions::Decoder;
@@ -60,6 +59,16 @@ fn have_entries(rt: &impl Abort, model: &Triple, made: &Encoder<3>) {
         let found = plain_entry(model.left_cumulative_and_probability(&symbol));
         same_at(rt, symbol, [found, entry(made, symbol)], [expected; 2]);
     }
+}
+
+/// The errors of the functions that make a decoder and an encoder model of three letters, and then those of the methods.
+fn refusals(alloc: Global, source: &Triple) -> [Option<ModelError>; 4] {
+    [
+        to_generic_decoder_model(alloc, source).err(),
+        to_generic_encoder_model(alloc, source).err(),
+        Decoder::<char, 3>::from_iterable_entropy_model(alloc, source).err(),
+        Encoder::<3>::from_iterable_entropy_model(alloc, source).err(),
+    ]
 }
 
 #[test]

@@ -161,13 +161,8 @@ fn looks_up<const SLOT_BITS: usize>(rt: &impl Abort, alloc: Global, cases: &[Cas
     same(rt, tally.read.replace(0), 31);
     for each in cases {
         let (quantile, number, reads) = *each;
-        let found = number_at(&tabled, quantile);
-        same_at(
-            rt,
-            quantile,
-            (found, tally.read.replace(0)),
-            (Some(number), reads),
-        );
+        let found = (number_at(&tabled, quantile), tally.read.replace(0));
+        same_at(rt, quantile, found, (Some(number), reads));
     }
     same(rt, [asked.searches.get(), asked.beside.get()], [0, 17]);
     let searching = tabled.into_searching_model();

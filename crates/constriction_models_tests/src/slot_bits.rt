@@ -6,16 +6,14 @@ use crate::checks::{same, shows};
 use constriction::stream::model::{
     AnswersRows, EntropyModel, SlottedContiguousLookupDecoderModel, StoresRows,
 };
-use constriction_test_models::widths::model_of;
+use constriction_test_models::widths::{Model, model_of};
 use constriction_words::WholeNumber;
 use std::alloc::Global;
 use std::process::Abort;
 
 /// The row at an index of a model that stores its rows, and how many stored entries the model lends.
-fn stored<M>(model: &M, index: usize) -> Option<(usize, u16, u16, usize)>
-where
-    M: AnswersRows<12> + EntropyModel<12, Symbol = usize, Probability = u16>,
-    requires { index < length (M.rows model.now) }
+fn stored(model: &Model<u16, 12>, index: usize) -> Option<(usize, u16, u16, usize)>
+    requires { index < length (⟦<Model<u16, 12> as EntropyModel<12>>⟧.rows model.now) }
 {
     match model.row_at(index) {
         Ok((symbol, left, weight)) => Some((

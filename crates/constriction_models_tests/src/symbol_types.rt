@@ -6,15 +6,16 @@ ghost use Rattle.std.specs.Hash as fed;
 ghost use Rattle.std.proofs.Common.{rules};
 
 use crate::checks::same;
-use crate::conversions::{Encoder, refusals};
+use crate::model_checks::Encoder;
 use constriction::stream::model::{
-    DecoderModel, EncoderModel, IterableEntropyModel, ModelError, NonContiguousSymbolTable, Weight,
+    DecoderModel, EncoderModel, FromIterableEntropyModel, IterableEntropyModel, ModelError,
+    NonContiguousSymbolTable, Weight, to_generic_decoder_model, to_generic_encoder_model,
     to_generic_lookup_decoder_model,
 };
 use constriction_test_models::any_symbols::{Row, plain, plain_entry};
 use constriction_test_models::conversions::Decoder;
 use constriction_test_models::lookup_any_symbols::Lookup;
-use constriction_test_models::symbol_types::{Letter, letters};
+use constriction_test_models::symbol_types::{Letter, LetterDecoder, letters};
 use std::alloc::{AllocError, Global};
 use std::hash::{Hash, Hasher};
 use std::process::Abort;
@@ -190,12 +191,17 @@ fn a_refused_clone_stands_in_the_place_of_its_row(rt: HostRuntime) {
     walks(&rt, model.symbol_table(), back);
 }
 
-/// The lookup model is made by moving the letters of the searching model, so no letter is cloned.
+/// The lookup model of the letters. It is made by moving those of the searching model, so no letter is cloned.
+fn looks_up(rt: &impl Abort, alloc: Global) -> Lookup<Letter, 6> {
+    let searching = letters(alloc).expect(rt, "accepted");
+    searching
+        .into_lookup_decoder_model(alloc)
+        .expect(rt, "a lookup model")
+}
+
 #[test]
 fn a_refused_clone_stands_in_the_place_of_the_row_that_is_looked_up(rt: HostRuntime) {
-    let model = letters(rt.alloc()).expect(&rt, "accepted");
-    let made = model.into_lookup_decoder_model(rt.alloc());
-    let model = made.expect(&rt, "a lookup model");
+    let model = looks_up(&rt, rt.alloc());
     let first = letter_row(model.quantile_function(15));
     let second = letter_row(model.quantile_function(16));
     same(&rt, [first, second], ANSWERS);
@@ -209,12 +215,28 @@ fn are_refused(rt: &impl Abort, refusals: &[Option<ModelError>]) {
     }
 }
 
+/// The errors of the functions that make a decoder and an encoder model of the model, and then those of the methods.
+fn refusals(alloc: Global, source: &LetterDecoder) -> [Option<ModelError>; 4] {
+    [
+        to_generic_decoder_model(alloc, source).err(),
+        to_generic_encoder_model(alloc, source).err(),
+        LetterDecoder::from_iterable_entropy_model(alloc, source).err(),
+        Encoder::<Letter, 6>::from_iterable_entropy_model(alloc, source).err(),
+    ]
+}
+
+/// The errors of the function and of the method that make a lookup model of the model.
+fn lookup_refusals(alloc: Global, source: &LetterDecoder) -> [Option<ModelError>; 2] {
+    [
+        to_generic_lookup_decoder_model(alloc, source).err(),
+        source.to_slotted_lookup_decoder_model::<8>(alloc).err(),
+    ]
+}
+
 #[test]
 fn a_refused_clone_is_want_of_memory(rt: HostRuntime) {
     let model = letters(rt.alloc()).expect(&rt, "accepted");
     same(&rt, model.clone().err(), Some(AllocError));
     are_refused(&rt, &refusals(rt.alloc(), &model));
-    let by_function = to_generic_lookup_decoder_model(rt.alloc(), &model).err();
-    let by_method = model.to_lookup_decoder_model(rt.alloc()).err();
-    are_refused(&rt, &[by_function, by_method]);
+    are_refused(&rt, &lookup_refusals(rt.alloc(), &model));
 }

@@ -1,18 +1,13 @@
-//! Models of symbols that cannot be cloned, and of letters whose last one fails to clone.
+//! Models of symbols that cannot be cloned.
 
 ghost use Rattle.std.specs.Prelude.{◌<◌};
 
 use crate::checks::same;
-use crate::conversions::Encoder;
-use constriction::stream::model::{
-    EncoderModel, ModelError, Probe, row_of_quantile, to_generic_decoder_model,
-    to_generic_lookup_decoder_model,
-};
+use crate::model_checks::Encoder;
+use constriction::stream::model::{EncoderModel, ModelError, Probe, row_of_quantile};
 use constriction_test_models::any_symbols::plain_entry;
-use constriction_test_models::contiguous::Weighted;
 use constriction_test_models::conversions::Decoder;
 use constriction_test_models::lookup_any_symbols::Lookup;
-use constriction_test_models::symbol_types::Letter;
 use std::process::Abort;
 
 /// A symbol without `Clone`.
@@ -38,6 +33,17 @@ fn found(model: &SealDecoder, quantile: u8) -> usize
     row_of_quantile(&mut rows, quantile)
 }
 
+/// The indices of the rows of five quantiles.
+fn five_found(model: &SealDecoder) -> [usize; 5] {
+    [
+        found(model, 15),
+        found(model, 16),
+        found(model, 31),
+        found(model, 32),
+        found(model, 63),
+    ]
+}
+
 /// Asserts that a model was made, and that it has the rows of the seals.
 fn has_seals(rt: &impl Abort, made: Result<SealDecoder, ModelError>) {
     let model = made.expect(rt, "accepted");
@@ -46,17 +52,7 @@ fn has_seals(rt: &impl Abort, made: Result<SealDecoder, ModelError>) {
         [model.support_size(), model.as_view().support_size()],
         [3, 3],
     );
-    same(
-        rt,
-        [
-            found(&model, 15),
-            found(&model, 16),
-            found(&model, 31),
-            found(&model, 32),
-            found(&model, 63),
-        ],
-        [0, 1, 1, 2, 2],
-    );
+    same(rt, five_found(&model), [0, 1, 1, 2, 2]);
 }
 
 #[test]
@@ -118,81 +114,5 @@ fn symbols_without_a_clone_are_encoded(rt: HostRuntime) {
         &rt,
         plain_entry(model.left_cumulative_and_probability(&Seal(9))),
         Some((32, 32)),
-    );
-}
-
-/// Letters. A clone of the last one fails.
-fn letters() -> [Letter; 3] {
-    [Letter('a'), Letter('c'), Letter('r')]
-}
-
-/// Asserts that a model was made, and that it has three rows.
-fn has_three(rt: &impl Abort, made: Result<Decoder<Letter, 6>, ModelError>) {
-    same(rt, made.map(|model| model.support_size()), Ok(3));
-}
-
-#[test]
-fn no_constructor_clones_the_last_symbol(rt: HostRuntime) {
-    let alloc = rt.alloc();
-    has_three(
-        &rt,
-        Decoder::from_symbols_and_nonzero_fixed_point_probabilities(
-            alloc,
-            letters(),
-            WEIGHTS,
-            false,
-        ),
-    );
-    has_three(
-        &rt,
-        Decoder::from_hashable_symbols_and_nonzero_fixed_point_probabilities(
-            alloc,
-            letters(),
-            WEIGHTS,
-            false,
-        ),
-    );
-    let looks_up: Result<Lookup<Letter, 6>, ModelError> =
-        Lookup::from_symbols_and_nonzero_fixed_point_probabilities(
-            alloc,
-            letters(),
-            WEIGHTS,
-            false,
-        );
-    has_three(
-        &rt,
-        looks_up.map(|model| model.into_non_contiguous_categorical()),
-    );
-}
-
-/// A walk through a decoder model clones each symbol, and one through a contiguous model clones nothing.
-#[test]
-fn a_conversion_refuses_for_the_clones_of_its_walk(rt: HostRuntime) {
-    let alloc = rt.alloc();
-    let numbers = Weighted::<6>::from_nonzero_fixed_point_probabilities(
-        alloc, WEIGHTS, false,
-    ).expect(&rt, "accepted");
-    same(
-        &rt,
-        to_generic_decoder_model::<_, 6>(alloc, &numbers).map(|model| model.support_size()),
-        Ok(3),
-    );
-    let made = Decoder::from_symbols_and_nonzero_fixed_point_probabilities(
-        alloc,
-        letters(),
-        WEIGHTS,
-        false,
-    );
-    let model = made.expect(&rt, "accepted");
-    let refused = Some(ModelError::OutOfMemory);
-    same(
-        &rt,
-        to_generic_decoder_model::<_, 6>(alloc, &model).err(),
-        refused,
-    );
-    same(
-        &rt,
-        to_generic_lookup_decoder_model::<_, 6>(alloc, &model).err(),
-        Some(ModelError::OutOfMemory),
     );
 }

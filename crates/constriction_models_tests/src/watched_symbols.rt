@@ -4,8 +4,9 @@ ghost use Rattle.std.specs.Prelude.{◌<◌, ◌^◌};
 
 use crate::checks::{same, same_at};
 use constriction::stream::model::{
-    DecoderModel, EncoderModel, IterableEntropyModel, NonContiguousCategoricalDecoderModel,
-    NonContiguousCategoricalEncoderModel,
+    DecoderModel, EncoderModel, IterableEntropyModel, ModelError,
+    NonContiguousCategoricalDecoderModel, NonContiguousCategoricalEncoderModel,
+    NonContiguousLookupDecoderModel,
 };
 use constriction_test_models::watched::{Tally, Watched, symbols, tally};
 use std::alloc::{AllocError, Global};
@@ -13,6 +14,8 @@ use std::iter;
 use std::process::Abort;
 
 pub type Decoder = NonContiguousCategoricalDecoderModel<Watched, u16, Vec<(u16, Watched)>, 12>;
+
+type Lookup = NonContiguousLookupDecoderModel<Watched, u16, Vec<(u16, Watched)>, Vec<u16>, 12>;
 
 type Encoder = NonContiguousCategoricalEncoderModel<Watched, usize, 24>;
 
@@ -25,10 +28,14 @@ const WEIGHTS: [u16; 15] = [
 /// to 15, and the seventh has those from 16 to 315.
 pub fn sixteen(rt: &impl Abort, alloc: Global, tally: &Tally) -> Decoder {
     let symbols = symbols(alloc, tally, 15, 15).expect(rt, "memory");
-    let made = Decoder::from_sorted_symbols_and_nonzero_fixed_point_probabilities(
+    of_sorted(alloc, symbols).expect(rt, "accepted")
+}
+
+/// The model of these symbols, which are in order.
+fn of_sorted(alloc: Global, symbols: Vec<Watched>) -> Result<Decoder, ModelError> {
+    Decoder::from_sorted_symbols_and_nonzero_fixed_point_probabilities(
         alloc, symbols, WEIGHTS, true,
-    );
-    made.expect(rt, "accepted")
+    )
 }
 
 /// Asserts how often a call cloned, compared and hashed symbols.
@@ -57,14 +64,25 @@ fn a_decoder_clones_a_symbol_once_for_each_row_that_it_gives(rt: HostRuntime) {
     counts(&rt, &tally, "clone", [16, 0, 0]);
 }
 
+/// Makes a lookup model, and lets it go.
+fn copies(alloc: Global, searching: &Decoder) {
+    let _ = searching.to_lookup_decoder_model(alloc);
+}
+
+/// The lookup model that takes the entries of a searching model.
+fn lookup(rt: &impl Abort, alloc: Global, searching: Decoder) -> Lookup {
+    searching
+        .into_lookup_decoder_model(alloc)
+        .expect(rt, "a lookup model")
+}
+
 #[test]
 fn a_lookup_model_clones_a_symbol_once_for_each_row_that_it_gives(rt: HostRuntime) {
     let tally = tally(rt.alloc()).expect(&rt, "memory");
     let searching = sixteen(&rt, rt.alloc(), &tally);
-    let _ = searching.to_lookup_decoder_model(rt.alloc());
+    copies(rt.alloc(), &searching);
     counts(&rt, &tally, "to_lookup_decoder_model", [16, 15, 0]);
-    let made = searching.into_lookup_decoder_model(rt.alloc());
-    let model = made.expect(&rt, "a lookup model");
+    let model = lookup(&rt, rt.alloc(), searching);
     counts(&rt, &tally, "into_lookup_decoder_model", [0, 0, 0]);
     let _ = model.quantile_function(316);
     counts(&rt, &tally, "quantile_function", [1, 0, 0]);
@@ -75,13 +93,17 @@ fn a_lookup_model_clones_a_symbol_once_for_each_row_that_it_gives(rt: HostRuntim
 /// The encoder model of the numbers from 0 to 4,999.
 fn five_thousand(rt: &impl Abort, alloc: Global, tally: &Tally) -> Encoder {
     let symbols = symbols(alloc, tally, 4999, 4999).expect(rt, "memory");
-    let made = Encoder::from_symbols_and_nonzero_fixed_point_probabilities(
+    encoder(alloc, symbols).expect(rt, "accepted")
+}
+
+/// The encoder model of 5,000 symbols.
+fn encoder(alloc: Global, symbols: Vec<Watched>) -> Result<Encoder, ModelError> {
+    Encoder::from_symbols_and_nonzero_fixed_point_probabilities(
         alloc,
         symbols,
         iter::repeat_n(1usize, 4999),
         true,
-    );
-    made.expect(rt, "accepted")
+    )
 }
 
 /// Looks up these symbols, one of which has no entry.

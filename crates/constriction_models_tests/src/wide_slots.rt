@@ -6,10 +6,12 @@ ghost use Rattle.std.specs.Prelude.{◌<◌, ◌^◌};
 use crate::checks::{same, same_at};
 use constriction::laws::contiguous_symbols_differ;
 use constriction::stream::model::{
-    ContiguousLookupDecoderModel, DecoderModel, ModelError, Probe,
-    SlottedContiguousLookupDecoderModel, row_of_quantile, to_generic_decoder_model_of_distinct,
+    ContiguousLookupDecoderModel, DecoderModel, ModelError, NonContiguousLookupDecoderModel, Probe,
+    SlottedContiguousLookupDecoderModel, row_of_quantile,
+    to_generic_lookup_decoder_model_of_distinct,
 };
 use constriction_test_models::plain_rows::row;
+use constriction_test_models::widths::Model;
 use std::alloc::Global;
 use std::iter;
 
@@ -27,6 +29,15 @@ type Narrow<const PRECISION: usize> = ContiguousLookupDecoderModel<
     Vec<u16>,
     Vec<u16>,
     PRECISION,
+>;
+
+/// The same over any symbols, with as many quantiles as the largest model here.
+type AnySymbols = NonContiguousLookupDecoderModel<
+    usize,
+    usize,
+    Vec<(usize, usize)>,
+    Vec<usize>,
+    40,
 >;
 
 /// A search of the rows that meet the quantile's slot: the index of the row that it finds, how many rows it searches, and how
@@ -86,17 +97,6 @@ fn a_slot_of_one_quantile_is_not_searched(rt: HostRuntime) {
     }
 }
 
-#[test]
-fn each_quantile_of_16_bits_may_have_a_row_of_its_own(rt: HostRuntime) {
-    let ones = iter::repeat_n(1u16, 65_536);
-    let made = Narrow::<16>::from_nonzero_fixed_point_probabilities(rt.alloc(), ones, false);
-    let model = made.expect(&rt, "accepted");
-    for quantile in 0..=u16::MAX {
-        let found = row(Some(model.quantile_function(quantile)));
-        same_at(&rt, quantile, found, Some((quantile as usize, quantile, 1)));
-    }
-}
-
 /// Whether a quantile has a row of its own, and a search of its slot finds this row by at most 22 questions.
 fn is_found(model: &Lookup<40>, quantile: usize) -> bool
     requires { quantile < 2 ^ 40 }
@@ -122,18 +122,20 @@ fn a_slot_that_4_194_304_rows_meet_is_searched(rt: HostRuntime) {
     }
 }
 
+/// The lookup model over any symbols with the rows of a model of weights.
+#[tactic(auto, using(crate::proofs::DistinctLemmas::same_are_equal))]
+fn any_symbols(alloc: Global, numbers: &Model<usize, 40>) -> Result<AnySymbols, ModelError> {
+    contiguous_symbols_differ();
+    to_generic_lookup_decoder_model_of_distinct(alloc, numbers)
+}
+
 /// The same for the lookup model over any symbols with these rows.
 #[test]
 fn a_slot_of_any_symbols_that_4_194_304_rows_meet_is_searched(rt: HostRuntime) {
     let ones = iter::repeat_n(1usize, 4_194_303);
-    let made = Lookup::<40>::from_nonzero_fixed_point_probabilities(rt.alloc(), ones, true);
-    let numbers = made.expect(&rt, "accepted").into_contiguous_categorical();
-    contiguous_symbols_differ();
-    let made = to_generic_decoder_model_of_distinct(rt.alloc(), &numbers);
-    let searching = made.expect(&rt, "a model");
-    let model = searching
-        .into_lookup_decoder_model(rt.alloc())
-        .expect(&rt, "a lookup model");
+    let made = Model::<usize, 40>::from_nonzero_fixed_point_probabilities(rt.alloc(), ones, true);
+    let numbers = made.expect(&rt, "accepted");
+    let model = any_symbols(rt.alloc(), &numbers).expect(&rt, "a lookup model");
     for quantile in 0..4_194_303usize {
         let answer = row(Some(model.quantile_function(quantile)));
         same_at(&rt, quantile, answer, Some((quantile, quantile, 1)));
