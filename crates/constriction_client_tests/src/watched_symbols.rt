@@ -16,7 +16,7 @@ use constriction::stream::model::{
 use constriction_client::laws::{DecoderAndEncoder, decoder_and_encoder, there_and_back_of_two};
 use constriction_client::{ChainStep, DecoderForm, Query, answer_queries, convert_chain};
 use constriction_test_models::watched::{Tally, Watched, count, symbols, tallied, tally};
-use std::alloc::{AllocError, Global};
+use std::alloc::Global;
 use std::cell::Cell;
 use std::iter;
 use std::process::Abort;
@@ -226,19 +226,25 @@ fn hashed_and_cloned(tally: &Tally) -> [usize; 2] {
     [tally.hashed.replace(0), tally.cloned.replace(0)]
 }
 
-/// A hundred items, and two hundred queries about the same symbols and about quantiles.
-type Questions = (Vec<(Watched, usize)>, Vec<Query<Watched, usize>>);
+/// A hundred items.
+fn items(rt: &impl Abort, alloc: Global, tally: &Tally) -> Vec<(Watched, usize)> {
+    let mut items = Vec::new(alloc);
+    for symbol in symbols(alloc, tally, 99, 100).expect(rt, "memory") {
+        items.push((symbol, 0)).expect(rt, "memory");
+    }
+    items
+}
 
-fn questions(alloc: Global, tally: &Tally) -> Result<Questions, AllocError> {
-    let (mut items, mut queries) = (Vec::new(alloc), Vec::new(alloc));
-    for symbol in symbols(alloc, tally, 99, 100)? {
-        items.push((symbol, 0))?;
+/// Two hundred queries about the same symbols and about quantiles.
+fn queries(rt: &impl Abort, alloc: Global, tally: &Tally) -> Vec<Query<Watched, usize>> {
+    let mut queries = Vec::new(alloc);
+    for symbol in symbols(alloc, tally, 99, 100).expect(rt, "memory") {
+        queries
+            .push(Query::OfQuantile(symbol.number as usize))
+            .expect(rt, "memory");
+        queries.push(Query::OfSymbol(symbol)).expect(rt, "memory");
     }
-    for symbol in symbols(alloc, tally, 99, 100)? {
-        queries.push(Query::OfQuantile(symbol.number as usize))?;
-        queries.push(Query::OfSymbol(symbol))?;
-    }
-    Ok((items, queries))
+    queries
 }
 
 /// Asserts that a decoder and an encoder made of a model are asked once for each item and each query. The encoder hashes a
@@ -246,7 +252,8 @@ fn questions(alloc: Global, tally: &Tally) -> Result<Questions, AllocError> {
 fn are_asked_once(rt: &impl Abort, alloc: Global, tally: &Tally, model: &Decoder) {
     let made = decoder_and_encoder(alloc, model);
     let (decoder, encoder) = made.expect(rt, "both models");
-    let (items, queries) = questions(alloc, tally).expect(rt, "memory");
+    let items = items(rt, alloc, tally);
+    let queries = queries(rt, alloc, tally);
     let _ = hashed_and_cloned(tally);
     let back = there_and_back_of_two(alloc, &decoder, &encoder, &items);
     same(rt, back.is_ok(), true);
