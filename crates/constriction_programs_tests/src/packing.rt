@@ -78,11 +78,8 @@ fn is_refused(rt: &impl Abort, alloc: Global, file: &[u8], fault: PackError, wri
     holds(rt, &again, written);
 }
 
-/// A file is refused if it is cut anywhere, or if any bit is flipped.
-#[test]
-fn damaged_files_are_refused(rt: HostRuntime) {
-    let alloc = rt.alloc();
-    let (bytes, file) = FILES[2];
+/// Asserts that each beginning of a file is refused, and that what was written is a beginning of the bytes.
+fn are_refused_if_cut(rt: &impl Abort, alloc: Global, file: &[u8], bytes: &[u8]) {
     for end in 0..file.len() {
         let fault = if end < 4 {
             PackError::NotPacked
@@ -90,18 +87,38 @@ fn damaged_files_are_refused(rt: HostRuntime) {
             PackError::Cut
         };
         let written = if end < 40 { &[] } else { bytes };
-        is_refused(&rt, alloc, &file[..end], fault, written);
+        is_refused(rt, alloc, &file[..end], fault, written);
     }
-    let mut damaged = Vec::from_slice(alloc, file).expect(&rt, "memory");
-    for place in 0..damaged.len() {
-        let byte = damaged[place];
+}
+
+/// The exit status for what `unpack` answers to a file.
+fn status_of(alloc: Global, file: &[u8]) -> u8 {
+    match unpacked(alloc, file).0 {
+        Ok(()) => 0,
+        Err(fault) => fault.status(),
+    }
+}
+
+/// Asserts that a file is refused with the status 2 if any of its bits is flipped.
+fn are_refused_if_flipped(rt: &impl Abort, alloc: Global, file: &mut [u8]) {
+    for place in 0..file.len() {
+        let byte = file[place];
         for bit in 0..8u32 {
-            damaged[place] = byte ^ (1 << bit);
-            let (result, _) = unpacked(alloc, &damaged);
-            same(&rt, result.is_err_and(|fault| fault.status() == 2), true);
+            file[place] = byte ^ (1 << bit);
+            same(rt, status_of(alloc, file), 2);
         }
-        damaged[place] = byte;
+        file[place] = byte;
     }
+}
+
+/// A file is refused if it is cut anywhere, or if any bit is flipped.
+#[test]
+fn damaged_files_are_refused(rt: HostRuntime) {
+    let alloc = rt.alloc();
+    let (bytes, file) = FILES[2];
+    are_refused_if_cut(&rt, alloc, file, bytes);
+    let mut damaged = Vec::from_slice(alloc, file).expect(&rt, "memory");
+    are_refused_if_flipped(&rt, alloc, &mut damaged);
     damaged.push(0).expect(&rt, "memory");
     is_refused(&rt, alloc, &damaged, PackError::Damaged, bytes);
     is_refused(&rt, alloc, b"cpk1\xff\xff\xff\xff", PackError::Damaged, &[]);
@@ -135,46 +152,72 @@ fn wrong_blocks_are_refused(rt: HostRuntime) {
     holds(&rt, &again, b"there and back");
 }
 
+/// Asserts that the reader of a packed file fails, and that what was written before stays.
+fn unpack_fails(rt: &impl Abort, alloc: Global, mut reader: SlowReader, bytes: &[u8]) {
+    let mut written = Vec::new(alloc);
+    same(
+        rt,
+        unpack(alloc, &mut reader, &mut written),
+        Err(PackError::Read),
+    );
+    holds(rt, &written, bytes);
+}
+
+/// The same of a reader of bytes to be packed.
+fn pack_fails(rt: &impl Abort, alloc: Global, mut reader: SlowReader, bytes: &[u8]) {
+    let mut written = Vec::new(alloc);
+    same(
+        rt,
+        pack(alloc, &mut reader, &mut written),
+        Err(PackError::Read),
+    );
+    holds(rt, &written, bytes);
+}
+
+/// What `pack` answers if the writer fails.
+fn packed_slowly(alloc: Global, mut bytes: &[u8], mut writer: SlowWriter) -> Result<(), PackError> {
+    pack(alloc, &mut bytes, &mut writer)
+}
+
 /// A reader that fails is not asked again, and what was written before stays.
 #[test]
 fn readers_and_writers_fail(rt: HostRuntime) {
-    let alloc = rt.alloc();
     let (bytes, file) = FILES[2];
-    let mut reader = SlowReader {
+    let reader = SlowReader {
         rest: file,
         turns: 45,
     };
-    let mut written = Vec::new(alloc);
-    let result = unpack(alloc, &mut reader, &mut written);
-    same(&rt, result, Err(PackError::Read));
-    holds(&rt, &written, bytes);
-    let mut reader = SlowReader {
+    unpack_fails(&rt, rt.alloc(), reader, bytes);
+    let reader = SlowReader {
         rest: bytes,
         turns: 3,
     };
-    let mut written = Vec::new(alloc);
-    let result = pack(alloc, &mut reader, &mut written);
-    same(&rt, result, Err(PackError::Read));
-    holds(&rt, &written, b"cpk1");
-    let mut writer = SlowWriter {
-        taken: Vec::new(alloc),
+    pack_fails(&rt, rt.alloc(), reader, b"cpk1");
+    let writer = SlowWriter {
+        taken: Vec::new(rt.alloc()),
         turns: 5,
     };
-    let result = pack(alloc, &mut b"abc".as_slice(), &mut writer);
-    same(&rt, result, Err(PackError::Write));
+    same(
+        &rt,
+        packed_slowly(rt.alloc(), b"abc", writer),
+        Err(PackError::Write),
+    );
 }
+
+/// The faults with their statuses and sentences.
+const FAULTS: [(PackError, u8, &str); 6] = [
+    (PackError::Read, 1, "The input could not be read."),
+    (PackError::Write, 1, "The output could not be written."),
+    (PackError::OutOfMemory, 3, "Memory was refused."),
+    (PackError::NotPacked, 2, "The input is no packed file."),
+    (PackError::Cut, 2, "The packed file was cut."),
+    (PackError::Damaged, 2, "The packed file is damaged."),
+];
 
 #[test]
 fn pack_faults_are_sentences(rt: HostRuntime) {
-    let sentences = [
-        (PackError::Read, 1, "The input could not be read."),
-        (PackError::Write, 1, "The output could not be written."),
-        (PackError::OutOfMemory, 3, "Memory was refused."),
-        (PackError::NotPacked, 2, "The input is no packed file."),
-        (PackError::Cut, 2, "The packed file was cut."),
-        (PackError::Damaged, 2, "The packed file is damaged."),
-    ];
-    for (fault, status, sentence) in sentences {
+    for each in &FAULTS {
+        let (fault, status, sentence) = *each;
         same(&rt, fault.status(), status);
         prints(&rt, rt.alloc(), &fault, sentence);
     }

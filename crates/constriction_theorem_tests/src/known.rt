@@ -171,6 +171,11 @@ fn leaves_one_result(rt: &impl Abort, alloc: Global, model: &Weighted<6>)
 fn contracts_leave_one_result(rt: HostRuntime) {
     let model = of_four(rt.alloc(), [3, 18, 1, 42]).expect(&rt, "accepted");
     leaves_one_result(&rt, rt.alloc(), &model);
+}
+
+#[test]
+fn contracts_leave_one_result_in_a_cursor(rt: HostRuntime) {
+    let model = of_four(rt.alloc(), [3, 18, 1, 42]).expect(&rt, "accepted");
     let mut cursor = at_0(rt.alloc()).expect(&rt, "a cursor");
     let pairs = through_a_cursor(rt.alloc(), &model, &mut cursor);
     same(&rt, pairs.is_some(), true);

@@ -91,14 +91,21 @@ fn letter_looked_up_in_a_clone(model: &Tabled) -> Result<(char, u8, u8), AllocEr
     letter_looked_up(&model.clone()?)
 }
 
-/// How many symbols a contiguous model has, and how many a decoder of letters.
-fn sizes(model: &Weighted<6>, letters: &Decoder) -> (usize, usize)
-    requires rows { ⟦<Weighted<6> as EntropyModel<6>>⟧.rows model.now ≡ contiguous_rows (3 ∷ 18 ∷ 1 ∷ 42 ∷ []) }
-    requires letters { ⟦<Decoder as EntropyModel<6>>⟧.rows letters.now
-        ≡ rows_of (97 ∷ 120 ∷ 99 ∷ 121 ∷ []) (3 ∷ 18 ∷ 1 ∷ 42 ∷ []) }
-    ensures { result ≡ (4, 4) }
+/// How many symbols a contiguous model has.
+fn size(model: &Weighted<6>) -> usize
+    requires { ⟦<Weighted<6> as EntropyModel<6>>⟧.rows model.now ≡ contiguous_rows (3 ∷ 18 ∷ 1 ∷ 42 ∷ []) }
+    ensures { result ≡ 4 }
 {
-    (model.support_size(), letters.support_size())
+    model.support_size()
+}
+
+/// How many symbols a decoder of letters has.
+fn letters(model: &Decoder) -> usize
+    requires { ⟦<Decoder as EntropyModel<6>>⟧.rows model.now
+        ≡ rows_of (97 ∷ 120 ∷ 99 ∷ 121 ∷ []) (3 ∷ 18 ∷ 1 ∷ 42 ∷ []) }
+    ensures { result ≡ 4 }
+{
+    model.support_size()
 }
 
 /// The entry of `x` by an encoder of letters.
@@ -295,12 +302,17 @@ fn leaves_one_answer(rt: &impl Abort, model: &Weighted<6>)
     same(rt, ends(model), (Some(0), Some(3), 2));
     same(rt, index_of_20(model), (0, 1));
     same(rt, rows_in_question(model), (0, 4));
+    same(rt, size(model), 4);
 }
 
 #[test]
 fn contracts_leave_one_answer(rt: HostRuntime) {
     let model = of_four(rt.alloc(), [3, 18, 1, 42]).expect(&rt, "accepted");
     leaves_one_answer(&rt, &model);
+}
+
+#[test]
+fn contracts_leave_one_answer_by_a_lookup_table(rt: HostRuntime) {
     let tabled = lookup_of_four(rt.alloc(), [3, 18, 1, 42]).expect(&rt, "accepted");
     same(&rt, looked_up(&tabled), Ok((1, 3, 18)));
     same(&rt, looked_up_in_a_view(&tabled), Ok((1, 3, 18)));
@@ -343,8 +355,7 @@ fn contracts_leave_one_answer_over_letters(rt: HostRuntime) {
     let model = model.expect(&rt, "accepted");
     same(&rt, letter_of_20(&model), Ok(('x', 3, 18)));
     same(&rt, letters_at_the_ends(&model), (Some('a'), Some('y'), 2));
-    let numbers = of_four(rt.alloc(), [3, 18, 1, 42]).expect(&rt, "accepted");
-    same(&rt, sizes(&numbers, &model), (4, 4));
+    same(&rt, letters(&model), 4);
     leaves_one_entry(&rt, rt.alloc(), &model);
 }
 

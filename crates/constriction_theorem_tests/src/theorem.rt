@@ -174,16 +174,28 @@ fn what_is_made_of_a_range_replies(rt: HostRuntime) {
 }
 
 #[test]
-fn a_range_of_wider_words_replies(rt: HostRuntime) {
+fn a_range_of_words_of_16_bits_replies(rt: HostRuntime) {
     let answers = answer_from_range_u16::<12>(rt.alloc(), 5, &[], &[Query::OfQuantile(4095)]);
     let expected = Reply::Row(4, 3276, 820u16.into_nonzero_unchecked());
     holds(&rt, &answers.expect(&rt, "replies").converted, &[expected]);
+}
+
+#[test]
+fn a_range_of_words_of_32_bits_replies(rt: HostRuntime) {
     let answers = answer_from_range_u32::<24>(rt.alloc(), 2, &[], &[Query::OfSymbol(1)]);
     let expected = Reply::Entry(Some((8_388_608, 8_388_608u32.into_nonzero_unchecked())));
     holds(&rt, &answers.expect(&rt, "replies").by_model, &[expected]);
+}
+
+#[test]
+fn a_range_of_words_of_64_bits_replies(rt: HostRuntime) {
     let answers = answer_from_range_u64::<63>(rt.alloc(), 2, &[], &[Query::OfQuantile(0)]);
     let expected = Reply::Row(0, 0, (1u64 << 62).into_nonzero_unchecked());
     holds(&rt, &answers.expect(&rt, "replies").converted, &[expected]);
+}
+
+#[test]
+fn a_range_of_words_of_a_pointers_width_replies(rt: HostRuntime) {
     let answers = answer_from_range_usize::<24>(rt.alloc(), 2, &[], &[Query::OfSymbol(1)]);
     let half = 8_388_608usize;
     let expected = Reply::Entry(Some((half, half.into_nonzero_unchecked())));
@@ -219,6 +231,10 @@ fn models_without_a_lookup_table_reply_at_the_full_width(rt: HostRuntime) {
     ];
     holds(&rt, &made.contiguous.hashed, &expected);
     holds(&rt, &made.non_contiguous.contiguous, &expected);
+}
+
+#[test]
+fn a_model_beside_an_encoder_replies(rt: HostRuntime) {
     let model = UniformModel::<u128, 64>::new(2);
     let found = answer_beside_encoder(rt.alloc(), model, &[Query::OfQuantile(0)]);
     let expected = Reply::Row(0, 0, (1u128 << 63).into_nonzero_unchecked());
