@@ -1,1 +1,2 @@
+mod KnownRuns
 mod SliceReading

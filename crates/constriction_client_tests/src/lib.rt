@@ -1,4 +1,5 @@
-//! The tests of items written and read back, chains of conversions, queries, and runs of calls on a cursor.
+//! The tests of items written and read back, chains of conversions, queries, runs of calls on a cursor, and the theorem's
+//! calls; and callers whose results follow from contracts alone.
 //!
 //! The libraries have no tests of their own, because a library with tests is proved twice. These tests use the public
 //! interface alone.
@@ -19,11 +20,17 @@ mod failing_sources;
 #[cfg(test)]
 mod items;
 #[cfg(test)]
+mod known;
+#[cfg(test)]
+mod known_models;
+#[cfg(test)]
 mod own_ends;
 #[cfg(test)]
 mod owned_symbols;
 #[cfg(test)]
 mod queries;
+#[cfg(test)]
+mod theorem;
 #[cfg(test)]
 mod two_models;
 #[cfg(test)]
