@@ -9,34 +9,34 @@ use constriction_coders::stack::AnsCoder;
 /// Weights that add up to `2^12`.
 type Model = ContiguousCategoricalEntropyModel<u32, Vec<u32>, 12>;
 
-const MESSAGE: [usize; 24] = [
-    0, 1, 0, 0, 2, 0, 1, 0, 0, 0, 3, 0, 1, 1, 0, 2, 0, 0, 1, 0, 0, 0, 2, 0,
-];
+fn main(host: HostRuntime) -> anyhow::Result<()> {
+    let alloc = host.alloc();
+    let weights = [2600, 1000, 400, 96];
+    let model = Model::from_nonzero_fixed_point_probabilities(alloc, weights, false)?;
+    let message = [
+        0, 1, 0, 0, 2, 0, 1, 0, 0, 0, 3, 0, 1, 1, 0, 2, 0, 0, 1, 0, 0, 0, 2, 0,
+    ];
 
-/// What was encoded last is decoded first.
-fn through_a_stack(host: &HostRuntime, model: &Model) -> anyhow::Result<Vec<usize>> {
-    let mut encoder = AnsCoder::new(host.alloc());
-    encoder.encode_symbols_reverse(&MESSAGE, model)?;
+    // What was encoded last is decoded first.
+    let mut encoder = AnsCoder::new(alloc);
+    encoder.encode_symbols_reverse(&message, &model)?;
     let words = encoder.into_compressed()?;
     println!(host; "stack: {words:?}")?;
     let Ok(mut decoder) = AnsCoder::from_compressed(words) else {
         anyhow::bail!("these words end in 0");
     };
-    Ok(decoder.decode_symbols(host.alloc(), MESSAGE.len(), model)?)
-}
+    let symbols = decoder.decode_symbols(alloc, message.len(), &model)?;
+    println!(host; "{symbols:?}")?;
 
-fn main(host: HostRuntime) -> anyhow::Result<()> {
-    let weights = [2600, 1000, 400, 96];
-    let model = Model::from_nonzero_fixed_point_probabilities(host.alloc(), weights, false)?;
-    println!(host; "{:?}", through_a_stack(&host, &model)?)?;
     // What was encoded first is decoded first.
-    let mut encoder = RangeEncoder::new(host.alloc());
-    encoder.encode_symbols(&MESSAGE, &model)?;
+    let mut encoder = RangeEncoder::new(alloc);
+    encoder.encode_symbols(&message, &model)?;
     let words = encoder.into_compressed()?;
     println!(host; "queue: {words:?}")?;
     let mut decoder = RangeDecoder::from_compressed(Cursor::new_at_write_beginning(words))?;
-    let symbols = decoder.decode_symbols(host.alloc(), MESSAGE.len(), &model)?;
+    let symbols = decoder.decode_symbols(alloc, message.len(), &model)?;
     println!(host; "{symbols:?}")?;
+
     let (symbol, left, weight) = model.quantile_function(3000)?;
     println!(host; "quantile 3000: symbol {symbol} has {weight} from {left} on")?;
     if let Some((left, weight)) = model.left_cumulative_and_probability(&3) {
