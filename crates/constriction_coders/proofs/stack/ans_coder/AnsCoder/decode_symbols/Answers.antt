@@ -1,5 +1,5 @@
-use Rattle.std.proofs.Common.{◌∷◌, [], arith, ap, length, length-append}
-use Rattle.constriction_coders.specs.Steps.{IsDecoded}
+use Rattle.std.proofs.Common.{arith, ap, length}
+use Rattle.std.proofs.lemmas.List.{length_push}
 use Rattle.constriction.specs.TurnLemmas.{turn-last}
 use Rattle.constriction_coders.proofs.Stopping.{decoding-stops}
 use Rattle.constriction_coders.proofs.stack.ans_coder.AnsCoder.decode_symbols.Goals as goal
@@ -14,16 +14,9 @@ returns-in-Err-decode_symbol-clause-err g c =
     c.in-Err-decode_symbol.ensures.failed
 
 pub loop-done-preserved : goal.loop-done-preserved
-loop-done-preserved g c = record {
-  counted = omega (
-    arith,
-    ap length c.push_reserved.ensures.items,
-    length-append c.loop-done.symbols.items (c.in-Ok-decode_symbol.symbol ∷ []),
-    c.loop-done.invariant.counted,
-  );
-  room = omega (arith, c.push_reserved.ensures.capacity, c.loop-done.invariant.room);
-  so_far =
-      rw c.push_reserved.ensures.items
-      (turn-last (IsDecoded g.D.DecoderModel.stands_for (g.D.EntropyModel.rows c.args.model.now) g.row.PRECISION)
-      c.loop-done.symbols.items c.in-Ok-decode_symbol.symbol _ _ _ c.loop-done.invariant.so_far c.in-Ok-decode_symbol.ensures.ok);
-}
+loop-done-preserved g c =
+    let pushed = c.push_reserved.ensures.items in record {
+      counted = omega (arith, ap length pushed, length_push c.loop-done.symbols.items c.in-Ok-decode_symbol.symbol);
+      room = omega (arith, c.push_reserved.ensures.capacity, c.loop-done.invariant.room);
+      so_far = rw pushed (turn-last _ _ _ _ _ _ c.loop-done.invariant.so_far c.in-Ok-decode_symbol.ensures.ok);
+    }

@@ -1,14 +1,11 @@
 use Rattle.constriction.specs.Rows.{entry_of}
-use Rattle.constriction_coders.specs.Steps.{IsEncoded}
 use Rattle.constriction.specs.TurnLemmas.{turn-first}
 use Rattle.constriction_coders.proofs.Stopping.{encoding-stops}
 use Rattle.constriction_coders.proofs.stack.ans_coder.AnsCoder.encode_symbols.Goals as goal
 
 pub loop-symbol-preserved : goal.loop-symbol-preserved
 loop-symbol-preserved g c =
-    turn-first (IsEncoded (entry_of g.E.EncoderModel.symbol_eq (g.E.EntropyModel.rows c.args.model.now)) g.row.PRECISION)
-    c.args.symbols.now c.loop-symbol.symbol-index c.symbol-item.result _ _ _ c.loop-symbol-test.true c.symbol-item.is
-    c.in-Ok.ensures.ok c.loop-symbol.invariant
+    turn-first _ _ _ _ _ _ _ c.loop-symbol-test.true c.symbol-item.is c.in-Ok.ensures.ok c.loop-symbol.invariant
 
 pub returns-in-Err-clause-err : goal.returns-in-Err-clause-err
 returns-in-Err-clause-err g c =
