@@ -2,7 +2,7 @@
 use Rattle.std.proofs.Common.{◌≡◌, ℕ, ◌+◌, ◌*◌, ◌≤◌, List, [], ◌∷◌, ◌++◌, Option, Some, None, length, refl, ap, sym, ◌∙◌, arith}
 use Rattle.std.specs.Io.KnownBytes.{Consumes, IsAtEnd}
 use Rattle.std.proofs.KnownBytes.{Consumes-trans}
-use Rattle.std.proofs.lemmas.List.{append-nil, length-append}
+use Rattle.std.proofs.lemmas.List.{length-append}
 use Rattle.constriction_coders.specs.Bytes.{bytes_of_words}
 use Rattle.constriction_pack.specs.Frames.{frame_of}
 use Rattle.constriction_pack.proofs.FrameLemmas.{length_frame_of, number_once, same_front}
@@ -12,12 +12,6 @@ pub gave : (a b : Option (List ℕ)) (xs bs : List ℕ) → a ≡ Some xs → Co
 gave None b xs bs e h = cc
 gave (Some zs) None xs bs e h = absurd h
 gave (Some zs) (Some ys) xs bs e h = (ys, refl, cc)
-
-pub read_to_end : (a b : Option (List ℕ)) (xs bs : List ℕ) → a ≡ Some xs → Consumes a b bs → IsAtEnd b → bs ≡ xs
-read_to_end a b xs bs known read end =
-    let given = gave a b xs bs known read in
-    let none : given.0 ≡ [] = rw given.1 at end in
-    sym (given.2 ∙ ap (λ ys. bs ++ ys) none ∙ append-nil bs)
 
 -- where a frame stands, what was read: its number, all of it, and not less than it before the end
 pub frame_read : (before : ℕ) (words rest read : List ℕ) (a b : Option (List ℕ)) → a ≡ Some (frame_of before words ++ rest)
