@@ -1,6 +1,6 @@
 use Rattle.std.proofs.Common.{codes}
-use Rattle.constriction_coders_tests.proofs.Spelled.{letters_answered, written}
-use Rattle.constriction_coders_tests.proofs.known_lines.run_over_letters.Goals as goal
+use Rattle.constriction_programs_tests.proofs.Spelled.{letters_answered, written}
+use Rattle.constriction_programs_tests.proofs.known.run_over_letters.Goals as goal
 
 pub returns : goal.returns
 returns c =

@@ -1,5 +1,0 @@
-use Rattle.constriction_coders_tests.proofs.Spelled.{many_digits_none, parsed_none}
-use Rattle.constriction_coders_tests.proofs.known_lines.of_many_digits.Goals as goal
-
-pub returns : goal.returns
-returns c = parsed_none _ c.parse.result many_digits_none c.parse.ensures.found

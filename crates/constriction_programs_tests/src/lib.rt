@@ -1,0 +1,16 @@
+//! The tests of what the programs call: lines, whole inputs and packed files.
+//!
+//! The answers to lines are tested by the input and output of `constriction_rows` and `constriction_coder`.
+//!
+//! The libraries have no tests of their own, because a library with tests is proved twice. These tests use the public
+//! interface alone.
+#![tactic(auto)]
+
+#[cfg(test)]
+mod checks;
+#[cfg(test)]
+mod known;
+#[cfg(test)]
+mod packing;
+#[cfg(test)]
+mod runs;
