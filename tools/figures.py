@@ -152,7 +152,7 @@ def summary(saved):
     few = sum(round(it, 2) <= 1.1 for it in usual)
     lines = (
         f"The same work on both sides: half of {len(usual)} rows take at most {usual[len(usual) // 2]:.2f} times what the Rust crate takes "
-        f"in the same run, {few} at most 1.1 times, and `{worst['name']}` at {rows_of(worst)} rows {ratio_text(worst)} times, the worst.",
+        f"in the same run, {few} at most 1.1 times, and `{worst['name']}` {ratio_text(worst)} times, the worst.",
         f"Other work here, by a rule: a constructor that refuses repeats takes up to {ratio_text(repeated)} times as long "
         f"({rows_of(repeated)} rows: each symbol is compared with all before it), and a look-up by 256 slots up to {ratio_text(slot)} "
         "times as long as by the Rust crate's slot for each quantile.",
