@@ -28,4 +28,4 @@ pub use Rattle.constriction_model.specs.Tables
 pub use Rattle.constriction_model.specs.TurnLemmas
 pub use Rattle.constriction_model.specs.UniformRowLemmas
 pub use Rattle.constriction_model.specs.WalkLemmas
-pub use Rattle.constriction_conversions.specs.Walked
+pub use Rattle.constriction_categorical.specs.Walked

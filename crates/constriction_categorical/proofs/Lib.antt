@@ -1,3 +1,4 @@
+pub mod CollectLemmas
 pub mod ReadEntries
 pub mod RowAnswers
 pub mod Remade

@@ -1,2 +1,3 @@
 pub mod InOrder
 pub mod ModelRows
+pub mod Walked

@@ -81,15 +81,19 @@ pub type DefaultNonContiguousLookupDecoderModel<
 
 // The model that owns its rows and its lookup table. Its short name keeps the names of proof modules below 239 characters: modules with
 // longer names are not kept, and each crate above checks them anew.
-type OwnLookupDecoderModel<Symbol, Probability, const PRECISION: usize, const SLOT_BITS: usize> =
-    SlottedNonContiguousLookupDecoderModel<
-        Symbol,
-        Probability,
-        Vec<(Probability, Symbol)>,
-        Vec<Probability>,
-        PRECISION,
-        SLOT_BITS,
-    >;
+pub(crate) type OwnLookupDecoderModel<
+    Symbol,
+    Probability,
+    const PRECISION: usize,
+    const SLOT_BITS: usize,
+> = SlottedNonContiguousLookupDecoderModel<
+    Symbol,
+    Probability,
+    Vec<(Probability, Symbol)>,
+    Vec<Probability>,
+    PRECISION,
+    SLOT_BITS,
+>;
 
 impl<
     Symbol: Eq + Drop,

@@ -17,8 +17,8 @@ use Rattle.constriction_model.specs.Entries.{SameEntries}
 use Rattle.constriction_model.specs.Model.{row_of, LiesWithin, StandForRows}
 use Rattle.constriction_model.specs.RowLemmas.{entry_of-cons}
 use Rattle.constriction_model.specs.Rows.{Row, entry_of, symbols_of}
-use Rattle.constriction_conversions.specs.Walked.{WalkedGood}
-use Rattle.constriction_conversions.proofs.CollectLemmas.{walked-more}
+use Rattle.constriction_categorical.specs.Walked.{WalkedGood}
+use Rattle.constriction_categorical.proofs.CollectLemmas.{walked-more}
 
 -- an entry with quantiles, all below 2 ^ precision
 abbrev pub EntryWithin : ℕ → ℕ × ℕ → Type 0

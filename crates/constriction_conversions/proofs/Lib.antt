@@ -1,2 +1,1 @@
-mod CollectLemmas
 mod HashLemmas

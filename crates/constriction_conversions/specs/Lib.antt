@@ -1,3 +1,2 @@
 pub mod EncoderRows
 pub mod Hashed
-pub mod Walked

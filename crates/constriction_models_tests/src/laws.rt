@@ -15,8 +15,7 @@ use constriction::laws::{
     table_length,
 };
 use constriction::stream::model::{
-    DecoderModel, EncoderModel, EntropyModel, FromIterableEntropyModel, IterableEntropyModel,
-    Weight,
+    DecoderModel, EncoderModel, EntropyModel, IterableEntropyModel, Weight,
 };
 use constriction_test_models::any_symbols::{Encoder, entry};
 use constriction_test_models::contiguous::Weighted;

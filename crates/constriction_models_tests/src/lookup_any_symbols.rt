@@ -5,8 +5,8 @@ use constriction::laws::{
     non_contiguous_lookup_symbols_differ, slotted_non_contiguous_lookup_symbols_differ,
 };
 use constriction::stream::model::{
-    DecoderModel, FromIterableEntropyModel, IterableEntropyModel, ModelError,
-    to_generic_lookup_decoder_model, to_generic_slotted_lookup_decoder_model,
+    DecoderModel, IterableEntropyModel, ModelError, to_generic_lookup_decoder_model,
+    to_generic_slotted_lookup_decoder_model,
 };
 use constriction_test_models::any_symbols::plain;
 use constriction_test_models::contiguous::weighted;

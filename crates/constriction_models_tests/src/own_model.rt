@@ -8,8 +8,8 @@ ghost use Rattle.constriction.specs.Rows.{rows_of, symbols_of};
 use crate::checks::{same, same_at};
 use constriction::laws::non_contiguous_symbols_differ;
 use constriction::stream::model::{
-    DecoderModel, EncoderModel, EntropyModel, FromIterableEntropyModel, ModelError,
-    to_generic_decoder_model, to_generic_decoder_model_of_distinct, to_generic_encoder_model,
+    DecoderModel, EncoderModel, EntropyModel, ModelError, to_generic_decoder_model,
+    to_generic_decoder_model_of_distinct, to_generic_encoder_model,
 };
 use constriction_test_models::any_symbols::{Encoder, entry, plain, plain_entry};
 use constriction_test_models::conversions::Decoder;

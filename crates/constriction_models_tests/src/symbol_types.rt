@@ -8,9 +8,8 @@ ghost use Rattle.std.proofs.Common.{rules};
 use crate::checks::same;
 use crate::model_checks::Encoder;
 use constriction::stream::model::{
-    DecoderModel, EncoderModel, FromIterableEntropyModel, IterableEntropyModel, ModelError,
-    NonContiguousSymbolTable, Weight, to_generic_decoder_model, to_generic_encoder_model,
-    to_generic_lookup_decoder_model,
+    DecoderModel, EncoderModel, IterableEntropyModel, ModelError, NonContiguousSymbolTable, Weight,
+    to_generic_decoder_model, to_generic_encoder_model, to_generic_lookup_decoder_model,
 };
 use constriction_test_models::any_symbols::{Row, plain, plain_entry};
 use constriction_test_models::conversions::Decoder;

@@ -2,23 +2,23 @@
 
 pub use constriction_categorical::{
     AnswersRows, ContiguousCategoricalEntropyModel, ContiguousLookupDecoderModel,
-    ContiguousSymbolTable, DefaultContiguousCategoricalEntropyModel,
+    ContiguousSymbolTable, DecoderMadeOf, DefaultContiguousCategoricalEntropyModel,
     DefaultContiguousLookupDecoderModel, DefaultNonContiguousCategoricalDecoderModel,
-    DefaultNonContiguousLookupDecoderModel, IterableEntropyModel, LookupDecoderModel,
+    DefaultNonContiguousLookupDecoderModel, IterableEntropyModel, LookupDecoderModel, LookupMadeOf,
     NonContiguousCategoricalDecoderModel, NonContiguousLookupDecoderModel,
     NonContiguousSymbolTable, SlottedContiguousLookupDecoderModel,
     SlottedNonContiguousLookupDecoderModel, SmallContiguousCategoricalEntropyModel,
     SmallContiguousDirectLookupDecoderModel, SmallContiguousLookupDecoderModel,
     SmallNonContiguousCategoricalDecoderModel, SmallNonContiguousDirectLookupDecoderModel,
-    SmallNonContiguousLookupDecoderModel, StoresRows,
+    SmallNonContiguousLookupDecoderModel, StoresRows, to_generic_decoder_model,
+    to_generic_decoder_model_by_comparison, to_generic_decoder_model_of_distinct,
+    to_generic_lookup_decoder_model, to_generic_lookup_decoder_model_of_distinct,
+    to_generic_slotted_lookup_decoder_model,
 };
 pub use constriction_conversions::{
-    DecoderMadeOf, DefaultNonContiguousCategoricalEncoderModel, EncoderMadeOf,
-    FromIterableEntropyModel, LookupMadeOf, NonContiguousCategoricalEncoderModel,
-    SmallNonContiguousCategoricalEncoderModel, to_generic_decoder_model,
-    to_generic_decoder_model_by_comparison, to_generic_decoder_model_of_distinct,
-    to_generic_encoder_model, to_generic_lookup_decoder_model,
-    to_generic_lookup_decoder_model_of_distinct, to_generic_slotted_lookup_decoder_model,
+    DefaultNonContiguousCategoricalEncoderModel, EncoderMadeOf,
+    NonContiguousCategoricalEncoderModel, SmallNonContiguousCategoricalEncoderModel,
+    to_generic_encoder_model,
 };
 pub use constriction_model::{
     DecoderModel, DefaultUniformModel, EncoderModel, EntropyModel, ModelError, Probe,

@@ -10,6 +10,7 @@ use std::marker::PhantomData;
 ///
 /// The callback keeps its state from call to call.
 #[derive(Drop)]
+#[derive_where(Debug; C: Debug)]
 pub struct FallibleCallbackWriteWords<Word, E, C: FnMut(Word) -> Result<(), E>> {
     write_callback: C,
     phantom: PhantomData<(Word, E)>,

@@ -4,12 +4,14 @@ ghost use Rattle.std.specs.Prelude.{◌≡◌, MatchResult};
 
 use crate::write::WriteWords;
 use std::convert::Infallible;
+use std::fmt::Debug;
 use std::marker::PhantomData;
 
 /// A sink that hands each word to a callback, which never refuses one.
 ///
 /// The callback keeps its state from call to call.
 #[derive(Drop)]
+#[derive_where(Debug; C: Debug)]
 pub struct InfallibleCallbackWriteWords<Word, C: FnMut(Word)> {
     write_callback: C,
     phantom: PhantomData<Word>,

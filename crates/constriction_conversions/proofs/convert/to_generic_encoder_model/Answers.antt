@@ -3,7 +3,7 @@ use Rattle.std.proofs.Common.{map}
 use Rattle.constriction_model.specs.CodingLemmas.{rows-within}
 use Rattle.constriction_model.specs.Model.{row_of}
 use Rattle.constriction_model.specs.StandLemmas.{tile-made}
-use Rattle.constriction_conversions.proofs.CollectLemmas.{walked-all}
+use Rattle.constriction_categorical.proofs.CollectLemmas.{walked-all}
 use Rattle.constriction_conversions.proofs.HashLemmas.{table-rows_within, found-within, table-count, table-same}
 use Rattle.constriction_conversions.proofs.convert.to_generic_encoder_model.Goals as goal
 

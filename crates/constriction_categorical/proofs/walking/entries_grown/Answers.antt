@@ -1,6 +1,6 @@
 use Rattle.std.proofs.Common.{false, refl}
-use Rattle.constriction_conversions.proofs.CollectLemmas.{collected-none, collected-uncompared, collected-end}
-use Rattle.constriction_conversions.proofs.walking.entries_grown.Goals as goal
+use Rattle.constriction_categorical.proofs.CollectLemmas.{collected-none, collected-uncompared, collected-end}
+use Rattle.constriction_categorical.proofs.walking.entries_grown.Goals as goal
 
 pub rows-init : goal.rows-init
 rows-init g c = (

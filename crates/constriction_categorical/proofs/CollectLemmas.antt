@@ -12,7 +12,7 @@ use Rattle.constriction_model.specs.StandLemmas.{tile-made, distinct-made}
 use Rattle.constriction_stored_rows.specs.Stored.{IsStored}
 use Rattle.constriction_model.specs.Tables.{YieldsRow}
 use Rattle.constriction_stored_rows.specs.Stored.{rows_paired}
-use Rattle.constriction_conversions.specs.Walked.{WalkedGood, WalkedBad}
+use Rattle.constriction_categorical.specs.Walked.{WalkedGood, WalkedBad}
 use Rattle.constriction_model.specs.WalkLemmas.{gives-all-rows, walks-rows}
 use Rattle.constriction_stored_rows.proofs.FillLemmas.{yields-more}
 use Rattle.constriction_stored_rows.proofs.PairedLemmas.{paired-of_rows}

@@ -1,7 +1,7 @@
 -- The rows that were taken from the walk are in the entries.
 use Rattle.std.specs.Iterator.{IsFinite}
-use Rattle.constriction_conversions.proofs.CollectLemmas.{IsCollected}
-use Rattle.constriction_conversions.proofs.walking.entries_walked.Given as goal
+use Rattle.constriction_categorical.proofs.CollectLemmas.{IsCollected}
+use Rattle.constriction_categorical.proofs.walking.entries_walked.Given as goal
 
 abbrev pub invariant-rows : goal.invariant-rows
 invariant-rows g l =

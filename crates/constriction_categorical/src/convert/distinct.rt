@@ -8,8 +8,9 @@ ghost use Rattle.constriction_stored_rows.specs.Stored.{IsStored, rows_paired};
 ghost use Rattle.constriction_categorical.specs.ModelRows.{decoder_model_rows, lookup_model_rows};
 
 use crate::convert::{DecoderMadeOf, LookupMadeOf};
+use crate::iterable::IterableEntropyModel;
+use crate::non_contiguous::decoder_over;
 use crate::walking::entries_collected;
-use constriction_categorical::{IterableEntropyModel, decoder_over};
 use constriction_model::ModelError;
 use constriction_numbers::IndexWord;
 use std::alloc::Global;
@@ -36,7 +37,7 @@ where
 }
 
 /// The decoder model with the rows of a model that can be walked through and has no two equal symbols. The
-/// functions of [`laws`](crate::laws) say so of each contiguous or uniform model, and of each decoder over any
+/// functions of `laws` say so of each contiguous or uniform model, and of each decoder over any
 /// symbols. If the walk clones symbols, a clone has to be equal to its symbol.
 ///
 /// Its symbols are the symbols that the walk gives. The only error is `OutOfMemory`, if memory for the entries,

@@ -1,5 +1,5 @@
-use Rattle.constriction_conversions.proofs.CollectLemmas.{collected-none, collected-step, collected-repeat, collected-end}
-use Rattle.constriction_conversions.proofs.walking.entries_walked.Goals as goal
+use Rattle.constriction_categorical.proofs.CollectLemmas.{collected-none, collected-step, collected-repeat, collected-end}
+use Rattle.constriction_categorical.proofs.walking.entries_walked.Goals as goal
 
 pub rows-init : goal.rows-init
 rows-init g c = (

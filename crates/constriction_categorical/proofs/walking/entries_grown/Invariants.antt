@@ -1,8 +1,8 @@
 -- The rows that were taken from the walk are in the entries.
 use Rattle.std.proofs.Common.{false, refl}
 use Rattle.std.specs.Iterator.{IsFinite}
-use Rattle.constriction_conversions.proofs.CollectLemmas.{IsCollected}
-use Rattle.constriction_conversions.proofs.walking.entries_grown.Given as goal
+use Rattle.constriction_categorical.proofs.CollectLemmas.{IsCollected}
+use Rattle.constriction_categorical.proofs.walking.entries_grown.Given as goal
 
 abbrev pub invariant-rows : goal.invariant-rows
 invariant-rows g l =

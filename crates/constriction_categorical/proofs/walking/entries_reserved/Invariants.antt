@@ -2,8 +2,8 @@
 use Rattle.std.proofs.Common.{false, refl, ◌+◌, ◌≤◌, length}
 use Rattle.std.specs.Prelude.{vec_capacity}
 use Rattle.std.specs.Iterator.{IsFinite, size}
-use Rattle.constriction_conversions.proofs.CollectLemmas.{IsCollected}
-use Rattle.constriction_conversions.proofs.walking.entries_reserved.Given as goal
+use Rattle.constriction_categorical.proofs.CollectLemmas.{IsCollected}
+use Rattle.constriction_categorical.proofs.walking.entries_reserved.Given as goal
 
 abbrev pub invariant-rows : goal.invariant-rows
 invariant-rows g l =

@@ -1,5 +1,5 @@
-use Rattle.constriction_conversions.proofs.CollectLemmas.{walked-apart, walked-stored, walked-distinct}
-use Rattle.constriction_conversions.proofs.convert.distinct.entries_of_distinct.Goals as goal
+use Rattle.constriction_categorical.proofs.CollectLemmas.{walked-apart, walked-stored, walked-distinct}
+use Rattle.constriction_categorical.proofs.convert.distinct.entries_of_distinct.Goals as goal
 
 pub returns-clause-stored : goal.returns-clause-stored
 returns-clause-stored g c =

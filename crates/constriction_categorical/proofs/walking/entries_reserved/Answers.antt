@@ -1,7 +1,7 @@
 use Rattle.std.proofs.Common.{false, refl, ap, arith, length}
 use Rattle.std.specs.Iterator.{size}
-use Rattle.constriction_conversions.proofs.CollectLemmas.{collected-none, collected-uncompared, collected-end, room-left}
-use Rattle.constriction_conversions.proofs.walking.entries_reserved.Goals as goal
+use Rattle.constriction_categorical.proofs.CollectLemmas.{collected-none, collected-uncompared, collected-end, room-left}
+use Rattle.constriction_categorical.proofs.walking.entries_reserved.Goals as goal
 
 pub rows-init : goal.rows-init
 rows-init g c =

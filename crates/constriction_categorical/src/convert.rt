@@ -1,0 +1,216 @@
+//! Decoders and lookup models over any symbols, made of any model that can be walked through.
+
+ghost use Rattle.std.specs.Prelude.{◌≡◌, ◌≤◌, map, IfOk};
+ghost use Rattle.std.specs.List.{IsDistinct};
+ghost use Rattle.constriction_model.specs.Model.{StandApart, ClonesRepeat};
+ghost use Rattle.constriction_stored_rows.specs.Stored.{IsStored, rows_paired};
+ghost use Rattle.constriction_categorical.specs.ModelRows.{decoder_model_rows, lookup_model_rows};
+
+use crate::convert::distinct::entries_of_distinct;
+use crate::iterable::IterableEntropyModel;
+use crate::lookup::{LookupDecoderModel, lookup_over};
+use crate::lookup_non_contiguous::OwnLookupDecoderModel;
+use crate::non_contiguous::{NonContiguousCategoricalDecoderModel, decoder_over};
+use crate::walking::entries_walked;
+use constriction_model::{EntropyModel, ModelError};
+use constriction_numbers::{IndexWord, WholeNumber};
+use std::alloc::Global;
+
+pub mod distinct;
+
+/// The decoder over any symbols that is made of the model `M`. It owns its entries.
+pub type DecoderMadeOf<M, const PRECISION: usize> = NonContiguousCategoricalDecoderModel<
+    <M as EntropyModel<PRECISION>>::Symbol,
+    <M as EntropyModel<PRECISION>>::Probability,
+    Vec<
+        (
+            <M as EntropyModel<PRECISION>>::Probability,
+            <M as EntropyModel<PRECISION>>::Symbol,
+        ),
+    >,
+    PRECISION,
+>;
+
+/// The lookup model over any symbols that is made of the model `M`. It owns its entries and its lookup table.
+pub type LookupMadeOf<M, const PRECISION: usize, const SLOT_BITS: usize> = LookupDecoderModel<
+    DecoderMadeOf<M, PRECISION>,
+    Vec<<M as EntropyModel<PRECISION>>::Probability>,
+    PRECISION,
+    SLOT_BITS,
+>;
+
+/// The entries of a decoder with a model's rows, if no two symbols are equal. Each symbol is compared with all before it.
+#[inline]
+fn entries_compared<M, const PRECISION: usize>(
+    alloc: Global,
+    model: M,
+) -> Result<Vec<(M::Probability, M::Symbol)>, ModelError>
+where
+    M: IterableEntropyModel<PRECISION>,
+    M::Symbol: Eq + Drop,
+    ensures stored { IfOk result (λ v. IsStored M.Probability.BITS PRECISION (map (λ x. M.Probability.whole x.0) v.items)) }
+    ensures distinct { IfOk result (λ v. IsDistinct M.Symbol.eq (map (λ x. x.1) v.items)) }
+    ensures rows { IfOk result (λ v. StandApart M.Symbol.eq M.stands_for
+        (rows_paired M.Probability.whole PRECISION v.items) (M.rows model)) }
+    ensures invalid { result ≡ Err ModelError.InvalidTable → ClonesRepeat M.Symbol.eq M.stands_for (M.rows model) }
+{
+    let cdf = entries_walked::<_, _, _, _, PRECISION>(alloc, model.symbol_table())?;
+    Ok(cdf)
+}
+
+/// The same. Symbols are compared only if the model does not know that they differ.
+#[inline]
+fn entries_of<M, const PRECISION: usize>(
+    alloc: Global,
+    model: M,
+) -> Result<Vec<(M::Probability, M::Symbol)>, ModelError>
+where
+    M: IterableEntropyModel<PRECISION>,
+    M::Symbol: Eq + Drop,
+    requires { M.is_equality M.Symbol.eq }
+    ensures stored { IfOk result (λ v. IsStored M.Probability.BITS PRECISION (map (λ x. M.Probability.whole x.0) v.items)) }
+    ensures distinct { IfOk result (λ v. IsDistinct M.Symbol.eq (map (λ x. x.1) v.items)) }
+    ensures rows { IfOk result (λ v. StandApart M.Symbol.eq M.stands_for
+        (rows_paired M.Probability.whole PRECISION v.items) (M.rows model)) }
+    ensures invalid { result ≡ Err ModelError.InvalidTable → ClonesRepeat M.Symbol.eq M.stands_for (M.rows model) }
+{
+    if model.symbols_differ() {
+        entries_of_distinct::<M, PRECISION>(alloc, model)
+    } else {
+        entries_compared::<M, PRECISION>(alloc, model)
+    }
+}
+
+/// The decoder model with the rows of any model that can be walked through, in the same order and with the same weights.
+///
+/// Its symbols are the symbols that the walk gives, which are clones if the model owns its symbols. `InvalidTable` comes
+/// only if two symbols that a walk may give are equal. If each clone is equal to its symbol, then two symbols of the rows
+/// are equal, and no model is made of such rows. `OutOfMemory` comes if memory for the entries, or for a clone of a
+/// symbol, is refused.
+///
+/// If the model knows that its symbols differ, as each model of this library does, none are compared. If it does not,
+/// each is compared with all before it: `n * (n - 1) / 2` comparisons for `n` rows. Both take one walk, and only the walk
+/// clones symbols.
+///
+/// For a model over any symbols, the call requires that a clone is equal to its symbol. If the symbols' type does not say
+/// so, take [`to_generic_decoder_model_by_comparison`], which requires nothing. If a caller knows that symbols differ, and
+/// the model does not, [`to_generic_decoder_model_of_distinct`] compares none.
+///
+/// [`to_generic_decoder_model_of_distinct`]: crate::to_generic_decoder_model_of_distinct
+pub fn to_generic_decoder_model<M, const PRECISION: usize>(
+    alloc: Global,
+    model: M,
+) -> Result<DecoderMadeOf<M, PRECISION>, ModelError>
+where
+    M: IterableEntropyModel<PRECISION>,
+    M::Symbol: Eq + Drop,
+    requires { M.is_equality M.Symbol.eq }
+    ensures ok { IfOk result (λ d. StandApart M.Symbol.eq M.stands_for (decoder_model_rows d) (M.rows model)) }
+    ensures invalid { result ≡ Err ModelError.InvalidTable → ClonesRepeat M.Symbol.eq M.stands_for (M.rows model) }
+{
+    match entries_of(alloc, model) {
+        Ok(entries) => Ok(decoder_over(entries)),
+        Err(refused) => Err(refused),
+    }
+}
+
+/// As [`to_generic_decoder_model`], for any model and any symbols. Each symbol that the walk gives is compared with all
+/// before it, whatever the model knows of its symbols.
+pub fn to_generic_decoder_model_by_comparison<M, const PRECISION: usize>(
+    alloc: Global,
+    model: M,
+) -> Result<DecoderMadeOf<M, PRECISION>, ModelError>
+where
+    M: IterableEntropyModel<PRECISION>,
+    M::Symbol: Eq + Drop,
+    ensures ok { IfOk result (λ d. StandApart M.Symbol.eq M.stands_for (decoder_model_rows d) (M.rows model)) }
+    ensures invalid { result ≡ Err ModelError.InvalidTable → ClonesRepeat M.Symbol.eq M.stands_for (M.rows model) }
+{
+    match entries_compared(alloc, model) {
+        Ok(entries) => Ok(decoder_over(entries)),
+        Err(refused) => Err(refused),
+    }
+}
+
+/// The lookup model with the rows of any model that can be walked through, in the same order and with the same weights.
+///
+/// It requires the same as [`to_generic_decoder_model`], and a `PRECISION` of at most 63. Its symbols are the symbols
+/// that the walk gives, which are clones if the model owns its symbols. `InvalidTable` comes only if two symbols that a
+/// walk may give are equal. If each clone is equal to its symbol, then two symbols of the rows are equal, and no model is
+/// made of such rows. `OutOfMemory` comes if memory for the entries, for a clone of a symbol, or for the lookup table is
+/// refused.
+///
+/// One walk, in which symbols are compared as [`to_generic_decoder_model`] does, and two passes over the rows.
+pub fn to_generic_lookup_decoder_model<M, const PRECISION: usize>(
+    alloc: Global,
+    model: M,
+) -> Result<LookupMadeOf<M, PRECISION, 8>, ModelError>
+where
+    M: IterableEntropyModel<PRECISION>,
+    M::Symbol: Eq + Drop,
+    M::Probability: IndexWord,
+    requires narrow { PRECISION ≤ 63 }
+    requires equality { M.is_equality M.Symbol.eq }
+    ensures ok { IfOk result (λ d. StandApart M.Symbol.eq M.stands_for (lookup_model_rows d) (M.rows model)) }
+    ensures invalid { result ≡ Err ModelError.InvalidTable → ClonesRepeat M.Symbol.eq M.stands_for (M.rows model) }
+{
+    to_generic_slotted_lookup_decoder_model::<M, PRECISION, 8>(alloc, model)
+}
+
+/// The same with `2^min(PRECISION, SLOT_BITS)` slots.
+pub fn to_generic_slotted_lookup_decoder_model<M, const PRECISION: usize, const SLOT_BITS: usize>(
+    alloc: Global,
+    model: M,
+) -> Result<LookupMadeOf<M, PRECISION, SLOT_BITS>, ModelError>
+where
+    M: IterableEntropyModel<PRECISION>,
+    M::Symbol: Eq + Drop,
+    M::Probability: IndexWord,
+    requires narrow { PRECISION ≤ 63 }
+    requires equality { M.is_equality M.Symbol.eq }
+    ensures ok { IfOk result (λ d. StandApart M.Symbol.eq M.stands_for (lookup_model_rows d) (M.rows model)) }
+    ensures invalid { result ≡ Err ModelError.InvalidTable → ClonesRepeat M.Symbol.eq M.stands_for (M.rows model) }
+{
+    match to_generic_decoder_model::<M, PRECISION>(alloc, model) {
+        Ok(searching) => lookup_over(alloc, searching),
+        Err(fault) => Err(fault),
+    }
+}
+
+impl<
+    Symbol: Eq + Drop,
+    Probability: WholeNumber,
+    const PRECISION: usize,
+> NonContiguousCategoricalDecoderModel<Symbol, Probability, Vec<(Probability, Symbol)>, PRECISION> {
+    /// As [`to_generic_decoder_model`](crate::to_generic_decoder_model).
+    pub fn from_iterable_entropy_model<M>(alloc: Global, model: M) -> Result<Self, ModelError>
+    where
+        M: IterableEntropyModel<PRECISION>
+            + EntropyModel<PRECISION, Symbol = Symbol, Probability = Probability>,
+        requires { M.is_equality Symbol.eq }
+        ensures ok { IfOk result (λ d. StandApart Symbol.eq M.stands_for (decoder_model_rows d) (M.rows model)) }
+        ensures invalid { result ≡ Err ModelError.InvalidTable → ClonesRepeat Symbol.eq M.stands_for (M.rows model) }
+    {
+        to_generic_decoder_model::<M, PRECISION>(alloc, model)
+    }
+}
+
+impl<
+    Symbol: Eq + Drop,
+    Probability: IndexWord,
+    const PRECISION: usize,
+    const SLOT_BITS: usize,
+> OwnLookupDecoderModel<Symbol, Probability, PRECISION, SLOT_BITS> {
+    /// As [`to_generic_slotted_lookup_decoder_model`](crate::to_generic_slotted_lookup_decoder_model).
+    pub fn from_iterable_entropy_model<M>(alloc: Global, model: M) -> Result<Self, ModelError>
+    where
+        M: IterableEntropyModel<PRECISION>
+            + EntropyModel<PRECISION, Symbol = Symbol, Probability = Probability>,
+        requires narrow { PRECISION ≤ 63 }
+        requires equality { M.is_equality Symbol.eq }
+        ensures ok { IfOk result (λ d. StandApart Symbol.eq M.stands_for (lookup_model_rows d) (M.rows model)) }
+        ensures invalid { result ≡ Err ModelError.InvalidTable → ClonesRepeat Symbol.eq M.stands_for (M.rows model) }
+    {
+        to_generic_slotted_lookup_decoder_model::<M, PRECISION, SLOT_BITS>(alloc, model)
+    }
+}
