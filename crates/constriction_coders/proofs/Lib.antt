@@ -13,7 +13,6 @@ pub mod Narrowing
 pub mod NarrowingStops
 pub mod NumberLemmas
 pub mod Once
-pub mod Pairs
 pub mod Placing
 pub mod PublishedWords
 pub mod RangePlacing

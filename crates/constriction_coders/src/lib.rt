@@ -6,7 +6,6 @@
 #![tactic(auto)]
 
 pub mod bytes;
-mod callers;
 pub mod counts;
 pub mod laws;
 pub mod queue;

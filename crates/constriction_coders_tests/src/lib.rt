@@ -7,6 +7,8 @@
 #[cfg(test)]
 mod bits_back;
 #[cfg(test)]
+mod callers;
+#[cfg(test)]
 mod checks;
 #[cfg(test)]
 mod copies;

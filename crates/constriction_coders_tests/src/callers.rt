@@ -10,14 +10,14 @@ ghost use Rattle.constriction_coders.specs.Steps.{content, IsDecoded, IsEncoded}
 mod queue;
 mod stack;
 
-use crate::laws::{compressed_comes_back, symbols_come_back, there_and_back};
-use crate::stack::AnsCoder;
 use constriction::backends::{Cursor, WordStack};
 use constriction::stream::model::{
     DecoderModel, DefaultNonContiguousCategoricalDecoderModel,
     DefaultNonContiguousCategoricalEncoderModel, EncoderModel, EntropyModel, UniformModel,
 };
 use constriction::{CoderError, DefaultEncoderFrontendError};
+use constriction_coders::laws::{compressed_comes_back, symbols_come_back, there_and_back};
+use constriction_coders::stack::AnsCoder;
 use std::alloc::{AllocError, Global};
 
 /// A decoder of texts over 24 bits of `u32`.

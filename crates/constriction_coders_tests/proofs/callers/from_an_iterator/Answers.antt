@@ -1,6 +1,6 @@
 use Rattle.constriction.specs.Rows.{entry_of}
-use Rattle.constriction_coders.proofs.Giving.{on-ok, shown-in-turn}
-use Rattle.constriction_coders.proofs.callers.from_an_iterator.Goals as goal
+use Rattle.constriction_coders_tests.proofs.Shown.{on-ok, shown-in-turn}
+use Rattle.constriction_coders_tests.proofs.callers.from_an_iterator.Goals as goal
 
 pub returns : goal.returns
 returns g c =

@@ -4,14 +4,14 @@ ghost use Rattle.std.specs.Prelude.{IfSome};
 ghost use Rattle.std.specs.List.{AllZip};
 ghost use Rattle.constriction.specs.Coding.{StandsForEqual};
 
-use crate::laws::{
-    message_comes_back, message_from, message_of, range_place_comes_back, range_symbol_comes_back,
-    range_symbols_come_back, sealed_words_tell,
-};
-use crate::queue::{EncodedWords, RangeDecoder, RangeEncoder};
 use constriction::Pos;
 use constriction::backends::Cursor;
 use constriction::stream::model::{DecoderModel, EncoderModel};
+use constriction_coders::laws::{
+    message_comes_back, message_from, message_of, range_place_comes_back, range_symbol_comes_back,
+    range_symbols_come_back, sealed_words_tell,
+};
+use constriction_coders::queue::{EncodedWords, RangeDecoder, RangeEncoder};
 use std::alloc::Global;
 
 /// A message by any model that encodes and decodes.

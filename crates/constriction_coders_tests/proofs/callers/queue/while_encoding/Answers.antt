@@ -5,7 +5,7 @@ use Rattle.constriction_coders.specs.Intervals.{held_of}
 use Rattle.constriction_coders.specs.Spans.{Span, IsNarrowed}
 use Rattle.constriction_coders.proofs.Messages.{came-back}
 use Rattle.constriction_coders.proofs.Spanning.{whole-reached}
-use Rattle.constriction_coders.proofs.callers.queue.while_encoding.Goals as goal
+use Rattle.constriction_coders_tests.proofs.callers.queue.while_encoding.Goals as goal
 
 pub returns-in-Ok-decode_symbols : goal.returns-in-Ok-decode_symbols
 returns-in-Ok-decode_symbols g c =

@@ -1,7 +1,7 @@
 use Rattle.std.proofs.Common.{◌∙◌, ap}
 use Rattle.std.proofs.lemmas.Bool.{eqb-true}
 use Rattle.constriction_coders.specs.Steps.{Content}
-use Rattle.constriction_coders.proofs.callers.stack.by_a_latent_number.Goals as goal
+use Rattle.constriction_coders_tests.proofs.callers.stack.by_a_latent_number.Goals as goal
 
 pub returns-in-Ok-decode-clause-symbol : goal.returns-in-Ok-decode-clause-symbol
 returns-in-Ok-decode-clause-symbol c =

@@ -6,12 +6,12 @@ ghost use Rattle.constriction.specs.Coding.{StandsForEqual};
 ghost use Rattle.constriction.specs.Rows.{entry_of, uniform_rows};
 ghost use Rattle.constriction_coders.specs.StackMessages.{IsStackOf};
 
-use crate::laws::{bits_come_back, may_be_held, words_come_back, words_once};
-use crate::stack::AnsCoder;
-use crate::stack::bits_back::{decode, encode};
 use constriction::CoderError;
 use constriction::laws::contiguous_symbols_differ;
 use constriction::stream::model::{DecoderModel, EncoderModel, EntropyModel, UniformModel};
+use constriction_coders::laws::{bits_come_back, may_be_held, words_come_back, words_once};
+use constriction_coders::stack::AnsCoder;
+use constriction_coders::stack::bits_back::{decode, encode};
 use std::alloc::Global;
 
 /// Why no symbols were decoded.

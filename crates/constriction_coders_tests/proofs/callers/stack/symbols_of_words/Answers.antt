@@ -1,6 +1,6 @@
 use Rattle.std.proofs.Common.{◌≡◌, ◌∙◌, Err, sym, ap}
 use Rattle.constriction_coders.specs.Steps.{Content}
-use Rattle.constriction_coders.proofs.callers.stack.symbols_of_words.Goals as goal
+use Rattle.constriction_coders_tests.proofs.callers.stack.symbols_of_words.Goals as goal
 
 pub returns-in-Err-Frontend-clause-accepted : goal.returns-in-Err-Frontend-clause-accepted
 returns-in-Err-Frontend-clause-accepted g c = λ _ symbols many stacked.

@@ -1,8 +1,8 @@
 use Rattle.std.proofs.Common.{◌≡◌, ◌++◌, [], drop, ap}
 use Rattle.std.proofs.lemmas.List.{append-nil}
 use Rattle.constriction_coders.specs.Intervals.{held_of}
-use Rattle.constriction_coders.proofs.Pairs.{two-back}
-use Rattle.constriction_coders.proofs.callers.queue.by_two_models.Goals as goal
+use Rattle.constriction_coders_tests.proofs.Pairs.{two-back}
+use Rattle.constriction_coders_tests.proofs.callers.queue.by_two_models.Goals as goal
 
 pub returns-in-Ok-decode_symbol-2 : goal.returns-in-Ok-decode_symbol-2
 returns-in-Ok-decode_symbol-2 g c =

@@ -1,7 +1,7 @@
 use Rattle.std.proofs.Common.{◌∙◌, ap, subst}
 use Rattle.constriction.specs.TurnLemmas.{turn-last}
 use Rattle.constriction_coders.specs.Steps.{content, IsDecoded}
-use Rattle.constriction_coders.proofs.callers.by_a_walk.Goals as goal
+use Rattle.constriction_coders_tests.proofs.callers.by_a_walk.Goals as goal
 
 pub loop-answer-preserved : goal.loop-answer-preserved
 loop-answer-preserved g c =

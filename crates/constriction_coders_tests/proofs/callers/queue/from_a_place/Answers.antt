@@ -4,7 +4,7 @@ use Rattle.std.proofs.lemmas.List.Elements.{All-nil}
 use Rattle.constriction_coders.specs.Intervals.{held_of}
 use Rattle.constriction_coders.specs.Spans.{LeadTo}
 use Rattle.constriction_coders.proofs.Messages.{came-back}
-use Rattle.constriction_coders.proofs.callers.queue.from_a_place.Goals as goal
+use Rattle.constriction_coders_tests.proofs.callers.queue.from_a_place.Goals as goal
 
 pub unreachable-requires : goal.unreachable-requires
 unreachable-requires g c =

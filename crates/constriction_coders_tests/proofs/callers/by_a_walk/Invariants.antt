@@ -1,7 +1,7 @@
 use Rattle.std.proofs.Common.{◌≡◌}
 use Rattle.constriction.specs.Coding.{InTurn}
 use Rattle.constriction_coders.specs.Steps.{content, IsDecoded}
-use Rattle.constriction_coders.proofs.callers.by_a_walk.Given as goal
+use Rattle.constriction_coders_tests.proofs.callers.by_a_walk.Given as goal
 
 -- the answers so far were symbols, and the walk holds the same coder and the same model
 abbrev pub invariant-loop-answer : goal.invariant-loop-answer
