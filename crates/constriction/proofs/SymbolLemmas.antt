@@ -2,7 +2,7 @@
 use Rattle.std.proofs.Common.{◌≡◌, ℕ, ◌+◌, ◌<◌, ◌≤◌, List, length, get_or, take, Some, None, ap, ◌∙◌, arith, inr, nat_eq}
 use Rattle.std.specs.Prelude.{◌≢◌, sum}
 use Rattle.std.proofs.lemmas.List.FromFn.{length-range_with_len, get_or-range_with_len}
-use Rattle.constriction_model.specs.RowLemmas.{contiguous-at, contiguous-past, indices, length-rows_from, rows_from-at}
+use Rattle.constriction_model.specs.lemmas.Rows.{contiguous-at, contiguous-past, indices, length-rows_from, rows_from-at}
 use Rattle.constriction_model.specs.Rows.{Row, contiguous_rows, entry_of}
 
 -- there are as many rows as weights

@@ -6,7 +6,7 @@ use Rattle.std.proofs.Common.{sym, ◌∙◌, ap, subst, arith, refl, append_ass
 use Rattle.std.proofs.lemmas.List.{reverse-append, reverse-reverse, length-reverse}
 use Rattle.constriction_buffers.specs.declared.buf.SafeBuf.{Ghosts}
 use Rattle.constriction_backends.specs.Cursor.{state_of, SeeksTo, TurnsRound, WritesTo}
-use Rattle.constriction_backends.specs.CursorLaws.{same_cursor}
+use Rattle.constriction_backends.specs.lemmas.Cursor.{same_cursor}
 use Rattle.constriction_backends.specs.CursorState.{State, reversal, StackReads, QueueReads}
 use Rattle.constriction_sources.specs.Sink.{Writes}
 

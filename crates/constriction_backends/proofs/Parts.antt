@@ -2,7 +2,7 @@
 use Rattle.std.proofs.Common.{◌≡◌, ℕ, List, [], ◌++◌, ◌+◌, ◌-◌, ◌≤◌, length, take, drop, arith, refl, ap, ◌∙◌}
 use Rattle.std.proofs.lemmas.List.{drop-drop, take-append-drop, append-nil, length-drop, take_all}
 use Rattle.std.proofs.Math.Seq.{drop-length}
-use Rattle.constriction_backends.specs.Part.{with_part}
+use Rattle.constriction_backends.specs.private.Part.{with_part}
 
 -- other words in the part that ends where the list ends
 pub with_part-end : {A : Type 0} (old : List A) (from to : ℕ) (new : List A) → to ≡ length old

@@ -2,7 +2,7 @@
 
 ghost use Rattle.std.specs.Prelude.{◌≡◌, ◌≤◌, ◌-◌, length, take, drop};
 ghost use Rattle.std.specs.Borrow.{Lends, sem, Array};
-ghost use Rattle.constriction_backends.specs.Part.{with_part};
+ghost use Rattle.constriction_backends.specs.private.Part.{with_part};
 
 use constriction_buffers::SafeBufMut;
 use std::slice::from_raw_parts_mut;

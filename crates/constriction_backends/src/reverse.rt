@@ -6,8 +6,8 @@ ghost use Rattle.std.proofs.Common.{sym, ◌∙◌};
 ghost use Rattle.std.proofs.lemmas.List.{reverse-reverse};
 ghost use Rattle.constriction_backends.specs.Cursor.{pos_of, state_of, PutsAt, TurnsRound};
 ghost use Rattle.constriction_backends.specs.CursorState.{reversal, Overwrites};
-ghost use Rattle.constriction_backends.specs.CursorLaws.{Overwrites-append, Overwrites-counts};
-ghost use Rattle.constriction_sources.specs.SinkLaws.{free_is_taken};
+ghost use Rattle.constriction_backends.specs.lemmas.Cursor.{Overwrites-append, Overwrites-counts};
+ghost use Rattle.constriction_sources.specs.lemmas.Sink.{free_is_taken};
 
 use crate::cursor::Cursor;
 use crate::error::BoundedWriteError;

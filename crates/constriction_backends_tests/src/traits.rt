@@ -3,7 +3,7 @@
 ghost use Rattle.std.specs.Prelude.{◌≡◌, ◌<◌, ◌≤◌, Err, IfErr, MatchResult};
 ghost use Rattle.constriction_backends.specs.Source.{CountsRead};
 ghost use Rattle.constriction_backends.specs.Sink.{CountsWrite};
-ghost use Rattle.constriction_backends.specs.SinkLaws.{free_is_taken};
+ghost use Rattle.constriction_backends.specs.lemmas.Sink.{free_is_taken};
 
 use crate::checks::{holds, same};
 use constriction_backends::{

@@ -1,3 +1,2 @@
 pub mod Buffer
-pub mod BufferLaws
-pub mod VecBuffer
+pub mod lemmas

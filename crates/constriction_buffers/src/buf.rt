@@ -7,8 +7,8 @@ ghost use Rattle.std.specs.Box.{boxed_slice_items};
 ghost use Rattle.std.proofs.Common.{ap, refl};
 ghost use denote.Ref.{at_last};
 ghost use Rattle.constriction_buffers.specs.Buffer.{refilled, with_now};
-ghost use Rattle.constriction_buffers.specs.BufferLaws.{refilled_same, refilled_again, length-refilled};
-ghost use Rattle.constriction_buffers.specs.VecBuffer.{with_items_stand, with_items-length, with_items_unchanged, with_items_again};
+ghost use Rattle.constriction_buffers.specs.lemmas.Buffer.{refilled_same, refilled_again, length-refilled};
+ghost use Rattle.constriction_buffers.specs.lemmas.VecBuffer.{with_items_stand, with_items-length, with_items_unchanged, with_items_again};
 
 use smallvec::SmallVec;
 use std::alloc::Allocator;

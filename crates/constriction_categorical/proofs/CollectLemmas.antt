@@ -8,12 +8,12 @@ use Rattle.std.proofs.lemmas.List.{map-append}
 use Rattle.std.proofs.lemmas.Simd.{map-map}
 use Rattle.constriction_model.specs.Model.{row_of, StandForRows, ClonesAreEqual, ClonesRepeat}
 use Rattle.constriction_model.specs.Rows.{Row, RowsTile, symbols_of}
-use Rattle.constriction_model.specs.StandLemmas.{tile-made, distinct-made}
+use Rattle.constriction_model.specs.lemmas.Stand.{tile-made, distinct-made}
 use Rattle.constriction_stored_rows.specs.Stored.{IsStored}
 use Rattle.constriction_model.specs.Tables.{YieldsRow}
 use Rattle.constriction_stored_rows.specs.Stored.{rows_paired}
-use Rattle.constriction_categorical.specs.Walked.{WalkedGood, WalkedBad}
-use Rattle.constriction_model.specs.WalkLemmas.{gives-all-rows, walks-rows}
+use Rattle.constriction_categorical.specs.private.Walked.{WalkedGood, WalkedBad}
+use Rattle.constriction_model.specs.lemmas.Walks.{gives-all-rows, walks-rows}
 use Rattle.constriction_stored_rows.proofs.FillLemmas.{yields-more}
 use Rattle.constriction_stored_rows.proofs.PairedLemmas.{paired-of_rows}
 use Rattle.constriction_stored_rows.proofs.ReadLemmas.{not-distinct, none-distinct, distinct-push, never-any}

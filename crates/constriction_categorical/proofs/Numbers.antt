@@ -2,7 +2,7 @@
 use Rattle.std.proofs.Common.{◌≡◌, Bool, List, ℕ, eq-eqb, nat_eq, subst, sym}
 use Rattle.std.specs.List.{IsDistinct}
 use Rattle.constriction_model.specs.Model.{ClonesAreEqual}
-use Rattle.constriction_model.specs.PairLemmas.{contiguous-distinct}
+use Rattle.constriction_model.specs.lemmas.Pairs.{contiguous-distinct}
 use Rattle.constriction_model.specs.Rows.{contiguous_rows, symbols_of}
 
 -- a number is equal to itself

@@ -6,8 +6,8 @@ use Rattle.constriction_model.specs.Acceptance.{AreAccepted, IsMadeOfBoth, Readi
 use Rattle.constriction_model.specs.Rows.{rows_of}
 use Rattle.constriction_model.specs.declared.error.ModelError.{ModelError}
 use Rattle.constriction_model.specs.declared.error.ModelError.TheVariants.{InvalidTable}
-use Rattle.constriction_stored_rows.specs.Filling.{HoldsRows}
-use Rattle.constriction_stored_rows.specs.Given.{GaveBothGood, GaveBothBad}
+use Rattle.constriction_stored_rows.specs.private.Filling.{HoldsRows}
+use Rattle.constriction_stored_rows.specs.private.Given.{GaveBothGood, GaveBothBad}
 use Rattle.constriction_stored_rows.specs.Stored.{IsStored, rows_paired}
 use Rattle.constriction_stored_rows.proofs.ApartLemmas.{read-symbols, apart-accepted, accepted-uncompared, bad-narrower, bad-at_end}
 use Rattle.constriction_stored_rows.proofs.MadeLemmas.{BothBad, made-unrefused, bad-both}

@@ -4,7 +4,7 @@ use Rattle.std.proofs.Common.{◌≡◌, ℕ, ◌+◌, ◌^◌, ◌<◌, List, l
 use Rattle.std.specs.Prelude.{Some, Result, Ok, Err, IfOk, IfErr, slice_get}
 use Rattle.std.proofs.lemmas.Option.{slice_get_read, get_or_from_slice_get}
 use Rattle.constriction_model.specs.Model.{row_of, AnswersQuantile, RowMayBeRefused}
-use Rattle.constriction_model.specs.PairLemmas.{has-row}
+use Rattle.constriction_model.specs.lemmas.Pairs.{has-row}
 use Rattle.constriction_model.specs.Probe.{IsLastAtMost, IsProbeFor, IsRowIndexOf}
 use Rattle.constriction_model.specs.Rows.{Row, RowsTile, IsRowOf}
 use Rattle.constriction_model.specs.declared.probe.Probe.{Ghosts}

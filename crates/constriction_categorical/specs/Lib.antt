@@ -1,3 +1,3 @@
 pub mod InOrder
 pub mod ModelRows
-pub mod Walked
+pub mod private

@@ -8,7 +8,7 @@ ghost use Rattle.constriction_model.specs.Precision.{IsPrecision};
 ghost use Rattle.constriction_model.specs.Probe.{IsProbeFor};
 ghost use Rattle.constriction_model.specs.Rows.{contiguous_rows};
 ghost use Rattle.constriction_stored_rows.specs.Stored.{IsCdf, lefts_in};
-ghost use Rattle.constriction_stored_rows.specs.StoredRowLemmas.{stored-within, stored-tiles};
+ghost use Rattle.constriction_stored_rows.specs.lemmas.StoredRows.{stored-within, stored-tiles};
 ghost use Rattle.constriction_stored_rows.specs.Stored.{rows_stored};
 
 use crate::iterable::IterableEntropyModel;

@@ -5,7 +5,7 @@ ghost use Rattle.std.specs.Iterator.{IsFiniteIterable};
 ghost use Rattle.constriction_model.specs.Acceptance.{completed, IsAccepted, WasReadOf, IsMadeOfWeights};
 ghost use Rattle.constriction_model.specs.Precision.{IsLookupPrecision};
 ghost use Rattle.constriction_model.specs.Rows.{contiguous_rows};
-ghost use Rattle.constriction_stored_rows.specs.StoredRowLemmas.{stored-tiles};
+ghost use Rattle.constriction_stored_rows.specs.lemmas.StoredRows.{stored-tiles};
 ghost use Rattle.constriction_stored_rows.specs.Stored.{rows_stored};
 ghost use Rattle.constriction_categorical.specs.ModelRows.{contiguous_model_rows, lookup_model_rows};
 

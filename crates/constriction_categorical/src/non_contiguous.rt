@@ -10,7 +10,7 @@ ghost use Rattle.constriction_model.specs.Precision.{IsPrecision};
 ghost use Rattle.constriction_model.specs.Probe.{IsProbeFor};
 ghost use Rattle.constriction_model.specs.Rows.{rows_of};
 ghost use Rattle.constriction_stored_rows.specs.Stored.{IsStored, AreEndWords, rows_paired};
-ghost use Rattle.constriction_stored_rows.specs.SymbolRowLemmas.{paired-tiles};
+ghost use Rattle.constriction_stored_rows.specs.lemmas.SymbolRows.{paired-tiles};
 ghost use Rattle.constriction_model.specs.Tables.{rows_between};
 
 use crate::iterable::IterableEntropyModel;

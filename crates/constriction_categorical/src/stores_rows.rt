@@ -4,9 +4,9 @@ ghost use Rattle.std.specs.Prelude.{◌≡◌, ◌<◌, length, map, slice_get, 
 ghost use Rattle.constriction_model.specs.Model.{row_of, LiesWithin};
 ghost use Rattle.constriction_model.specs.Rows.{Row, RowsTile};
 ghost use Rattle.constriction_model.specs.Tables.{StandsFor};
-ghost use Rattle.constriction_stored_rows.specs.StoredRowLemmas.{stored-tiles};
+ghost use Rattle.constriction_stored_rows.specs.lemmas.StoredRows.{stored-tiles};
 ghost use Rattle.constriction_stored_rows.specs.SlotTable.{MayFollow};
-ghost use Rattle.constriction_stored_rows.specs.SymbolRowLemmas.{paired-tiles};
+ghost use Rattle.constriction_stored_rows.specs.lemmas.SymbolRows.{paired-tiles};
 
 use crate::contiguous::ContiguousCategoricalEntropyModel;
 use crate::non_contiguous::NonContiguousCategoricalDecoderModel;

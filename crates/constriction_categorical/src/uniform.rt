@@ -3,7 +3,7 @@
 ghost use Rattle.std.specs.Prelude.{◌≡◌, ◌+◌, nat_eq};
 ghost use Rattle.constriction_model.specs.Rows.{uniform_rows};
 ghost use Rattle.constriction_model.specs.Tables.{rows_between};
-ghost use Rattle.constriction_model.specs.UniformRowLemmas.{uniform-tiles};
+ghost use Rattle.constriction_model.specs.lemmas.UniformRows.{uniform-tiles};
 
 use crate::iterable::IterableEntropyModel;
 use constriction_model::{EntropyModel, UniformModel, UniformSymbolTable};

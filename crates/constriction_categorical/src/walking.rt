@@ -3,7 +3,7 @@
 ghost use Rattle.std.specs.Prelude.{◌≡◌, IfOk, [], map, vec_capacity};
 ghost use Rattle.std.specs.Iterator.{IsFinite, UpTo};
 ghost use Rattle.std.specs.List.{IsDistinct};
-ghost use Rattle.constriction_categorical.specs.Walked.{WalkedGood, WalkedBad};
+ghost use Rattle.constriction_categorical.specs.private.Walked.{WalkedGood, WalkedBad};
 
 use constriction_model::ModelError;
 use constriction_stored_rows::{entries_announced, has_symbol, with_item};

@@ -6,7 +6,7 @@ use Rattle.std.proofs.lemmas.List.Sums.{fold-append}
 use Rattle.constriction.specs.Model.{ClonesAreSame}
 use Rattle.constriction.specs.Rows.{Row}
 use Rattle.constriction_client.specs.declared.chain.ChainStep.{ChainStep}
-use Rattle.constriction_client.specs.ChainLemmas.{leaves-more, same-after}
+use Rattle.constriction_client.specs.lemmas.Chains.{leaves-more, same-after}
 use Rattle.constriction_client.specs.Chains.{is_lookup_after, StepLeaves, ChainLeaves}
 
 module _ {Symbol : Type 0} (IsClone : Symbol → Symbol → Type 0) (steps : List ChainStep) where

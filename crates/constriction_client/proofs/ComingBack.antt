@@ -9,9 +9,9 @@ use Rattle.constriction_words.specs.declared.coder_error.CoderError.TheVariants.
 use Rattle.constriction_backends.specs.Source.{Reads}
 use Rattle.constriction_client.specs.declared.quantiles.ReadFault.{ReadFault}
 use Rattle.constriction_client.specs.declared.quantiles.ReadFault.TheVariants.{OutOfMemory, QuantileTooLarge}
-use Rattle.constriction_client.specs.Coming.{ComeNext, QuantilesCome}
+use Rattle.constriction_client.specs.private.Coming.{ComeNext, QuantilesCome}
 use Rattle.constriction_client.specs.Quantiles.{IsPairOf, ArePairs, ReadsPairs}
-use Rattle.constriction_backends.specs.SourceLaws.{reads_more}
+use Rattle.constriction_backends.specs.lemmas.Source.{reads_more}
 
 -- beginnings of one list that have the same length are equal
 same-front : {X : Type 0} (a b c d : List X) → a ++ b ≡ c ++ d → length a ≡ length c → a ≡ c

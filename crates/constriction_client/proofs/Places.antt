@@ -10,7 +10,7 @@ use Rattle.constriction_backends.specs.CursorState.{QueueReads}
 use Rattle.constriction_backends.specs.Sink.{Writes}
 use Rattle.constriction_backends.specs.Source.{Reads}
 use Rattle.constriction_client.specs.declared.quantiles.QuantileFault.{QuantileFault}
-use Rattle.constriction_client.specs.Coming.{ComeNext, GoesBack}
+use Rattle.constriction_client.specs.private.Coming.{ComeNext, GoesBack}
 use Rattle.constriction_client.specs.Placing.{PlacesItems}
 use Rattle.constriction_client.specs.Quantiles.{IsQuantileOf, IsFaultOf, WritesItems, StopsAt, StopsAtItem}
 

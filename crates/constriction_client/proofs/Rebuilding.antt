@@ -8,11 +8,11 @@ use Rattle.std.proofs.lemmas.Iterator.{YieldsList}
 use Rattle.std.proofs.lemmas.List.{map-append}
 use Rattle.std.proofs.lemmas.Simd.{map-map}
 use Rattle.constriction.specs.Acceptance.{AreAccepted, IsMadeOfBoth, WasReadOf, completed}
-use Rattle.constriction.specs.GivenLemmas.{made-of-lists, refused-lists}
+use Rattle.constriction.specs.lemmas.Given.{made-of-lists, refused-lists}
 use Rattle.constriction.specs.Laws.{AreRows}
 use Rattle.constriction.specs.Model.{row_of, StandForRows, ClonesAreEqual}
 use Rattle.constriction.specs.Rows.{Row, RowsTile, rows_of, symbols_of}
-use Rattle.constriction.specs.StandLemmas.{tile-made, distinct-made, tiling-rebuilds}
+use Rattle.constriction.specs.lemmas.Stand.{tile-made, distinct-made, tiling-rebuilds}
 use Rattle.constriction_model.specs.declared.error.ModelError.{ModelError}
 use Rattle.constriction_model.specs.declared.error.ModelError.TheVariants.{InvalidTable, OutOfMemory}
 

@@ -13,7 +13,7 @@ use Rattle.constriction_words.specs.declared.coder_error.CoderError.TheVariants.
 use Rattle.constriction_client.specs.declared.quantiles.QuantileFault.{QuantileFault}
 use Rattle.constriction_client.specs.Quantiles.{IsQuantileOf, AreQuantiles, IsPairOf, ArePairs, StopsAtItem}
 use Rattle.constriction_client.specs.ThereAndBack.{AreItems, StandForItems, ReadsBack, HasFault}
-use Rattle.constriction.specs.CodingLemmas.{entry-row, entry-below, one-row}
+use Rattle.constriction.specs.lemmas.Coding.{entry-row, entry-below, one-row}
 
 -- the pairs are the items, one by one, except that each symbol stands for one that is equal to the item's
 abbrev StandOneByOne : {Symbol Word : Type 0} → (Symbol → Symbol → Type 0) → (Symbol → Symbol → Bool) → List (Symbol × Word)

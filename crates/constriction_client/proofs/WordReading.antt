@@ -6,7 +6,7 @@ use Rattle.std.proofs.lemmas.List.Elements.{All-nil, All-push}
 use Rattle.std.proofs.lemmas.Slice.Zip.{all_zipped_more}
 use Rattle.constriction_words.specs.declared.coder_error.CoderError.TheVariants.{Frontend, Backend}
 use Rattle.constriction_backends.specs.Source.{ReadsUpcoming, Reads}
-use Rattle.constriction_backends.specs.SourceLaws.{reads_more}
+use Rattle.constriction_backends.specs.lemmas.Source.{reads_more}
 use Rattle.constriction.specs.Model.{RowMayBeRefused}
 use Rattle.constriction.specs.Rows.{Row}
 use Rattle.constriction_client.specs.declared.quantiles.ReadFault.{ReadFault}

@@ -1,9 +1,9 @@
-pub mod ChainLemmas
 pub mod Chains
-pub mod Coming
 pub mod CursorCalls
 pub mod FormRows
 pub mod Placing
 pub mod Quantiles
 pub mod Replies
 pub mod ThereAndBack
+pub mod lemmas
+pub mod private

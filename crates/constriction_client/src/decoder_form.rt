@@ -61,7 +61,7 @@ impl<Symbol: Eq, Probability: IndexWord, const PRECISION: usize> EntropyModel<PR
 impl<Symbol: Eq + Clone, Probability: IndexWord, const PRECISION: usize> DecoderModel<PRECISION>
     for DecoderForm<Symbol, Probability, PRECISION> {
     ghost use Rattle.constriction.specs.Rows.{RowsTile};
-    ghost use Rattle.constriction.specs.SymbolRowLemmas.{paired-tiles};
+    ghost use Rattle.constriction.specs.lemmas.SymbolRows.{paired-tiles};
     ghost use Rattle.constriction_client.specs.FormRows.{form_rows};
     ghost use Rattle.constriction_client.specs.declared.decoder_form.SearchOrLookup.TheVariants as form;
 
@@ -94,7 +94,7 @@ impl<
     ghost use Rattle.std.specs.Prelude.{◌≡◌};
     ghost use Rattle.constriction.specs.Model.{ClonesAreEqual};
     ghost use Rattle.constriction.specs.Rows.{RowsTile};
-    ghost use Rattle.constriction.specs.SymbolRowLemmas.{paired-tiles};
+    ghost use Rattle.constriction.specs.lemmas.SymbolRows.{paired-tiles};
     ghost use Rattle.constriction.specs.Stored.{rows_paired};
     ghost use Rattle.constriction.specs.Tables.{rows_between};
     ghost use Rattle.constriction_client.specs.FormRows.{form_rows};

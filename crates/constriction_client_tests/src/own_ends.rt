@@ -2,7 +2,7 @@
 
 ghost use Rattle.std.specs.Prelude.{◌≡◌};
 ghost use Rattle.constriction_backends.specs.Stack.{Pushes};
-ghost use Rattle.constriction_backends.specs.StackLaws.{Pushes-append};
+ghost use Rattle.constriction_backends.specs.lemmas.Stack.{Pushes-append};
 
 use crate::checks::{holds, same, small};
 use constriction_backends::{ReadWords, WriteWords};

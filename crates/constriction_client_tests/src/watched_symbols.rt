@@ -4,7 +4,7 @@
 ghost use Rattle.std.specs.Prelude.{◌<◌, ◌^◌};
 ghost use Rattle.std.specs.List.{IsDistinct};
 ghost use Rattle.constriction.specs.Rows.{symbols_of};
-ghost use Rattle.constriction_client_tests.specs.HeldSymbolTables.{held-step};
+ghost use Rattle.constriction_client_tests.specs.lemmas.HeldSymbolTables.{held-step};
 
 use crate::checks::same;
 use constriction::laws::non_contiguous_symbols_differ;

@@ -4,7 +4,7 @@ use Rattle.std.specs.Cmp.{IsEquivalence}
 use Rattle.std.specs.Prelude.{All}
 use Rattle.constriction.specs.Coding.{StandsForEqual}
 use Rattle.constriction.specs.Model.{ClonesAreEqual, LiesWithin}
-use Rattle.constriction.specs.PairLemmas.{one-to-one}
+use Rattle.constriction.specs.lemmas.Pairs.{one-to-one}
 use Rattle.constriction.specs.Rows.{Row, RowsTile, entry_of}
 use Rattle.constriction_coders.specs.BitsBack.{FitTogether, BitsComeBack}
 use Rattle.constriction_coders.specs.Steps.{Content, IsEncoded, IsDecoded}

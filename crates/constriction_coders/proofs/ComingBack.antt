@@ -2,12 +2,12 @@
 use Rattle.std.proofs.Common.{◌≡◌, ℕ, ◌+◌, ◌%◌, ◌^◌, ◌<◌, ◌≤◌, Bool, List, [], ◌∷◌, ◌++◌, Option, Some, ap, sym, ◌∙◌, subst, arith}
 use Rattle.std.proofs.lemmas.List.{length_push}
 use Rattle.std.specs.Prelude.{All}
-use Rattle.constriction.specs.CodingLemmas.{entry-back, entry-positive, entry-within}
+use Rattle.constriction.specs.lemmas.Coding.{entry-back, entry-positive, entry-within}
 use Rattle.constriction.specs.Coding.{InTurn}
 use Rattle.constriction.specs.Model.{LiesWithin}
 use Rattle.constriction.specs.Rows.{Row, RowsTile, entry_of}
 use Rattle.constriction_coders.specs.Laws.{SymbolComesBack, SymbolsComeBack, EncodedOnce}
-use Rattle.constriction_coders.specs.StackLemmas.{refills-once}
+use Rattle.constriction_coders.specs.lemmas.Stack.{refills-once}
 use Rattle.constriction_coders.specs.States.{taken}
 use Rattle.constriction_coders.specs.Steps.{Content, IsWhole, MayBeHeld, IsOnTop, IsDecoded}
 use Rattle.constriction_coders.proofs.States.{put_taken, put_high, put_low}

@@ -6,7 +6,7 @@ use Rattle.std.proofs.lemmas.Bool.{cases_lt}
 use Rattle.std.proofs.lemmas.List.{get_or-drop, drop-drop, take_all}
 use Rattle.std.proofs.lemmas.Nat.{mul-le, le-div, div_below}
 use Rattle.constriction.specs.Coding.{InTurn, StandsForEqual}
-use Rattle.constriction.specs.CodingLemmas.{entry-back, rows-within}
+use Rattle.constriction.specs.lemmas.Coding.{entry-back, rows-within}
 use Rattle.constriction.specs.Rows.{Row, RowsTile, IsRowOf, entry_of}
 use Rattle.constriction_backends.specs.Source.{ReadsUpcoming}
 use Rattle.constriction_coders.specs.Intervals.{Interval, interval, part_of, word_or_zero, HoldsPoint, IsAboveAll, IsStretched, IsStart, Held, held_of, IsRead}

@@ -2,7 +2,7 @@
 use Rattle.std.proofs.Common.{◌≡◌, ℕ, List, [], ◌∷◌, ◌++◌, Option, Some, None, refl, sym, subst}
 use Rattle.std.specs.Iterator.{Yields}
 use Rattle.constriction.specs.Coding.{InTurn}
-use Rattle.constriction.specs.TurnLemmas.{turn-last}
+use Rattle.constriction.specs.lemmas.Turns.{turn-last}
 use Rattle.constriction.specs.declared.CoderError.{CoderError}
 use Rattle.constriction_coders.proofs.Giving.{yields-more}
 use Rattle.constriction_coders.specs.RangeWalks.{NarrowsGiven, GivenNarrowingStops}

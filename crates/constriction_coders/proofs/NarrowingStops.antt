@@ -3,7 +3,7 @@ use Rattle.std.proofs.Common.{◌≡◌, ℕ, ◌+◌, ◌<◌, suc, List, [], �
 use Rattle.std.proofs.lemmas.List.{take_more}
 use Rattle.std.proofs.Math.Seq.{split_at}
 use Rattle.constriction.specs.Coding.{InTurn}
-use Rattle.constriction.specs.TurnLemmas.{turn-last}
+use Rattle.constriction.specs.lemmas.Turns.{turn-last}
 use Rattle.constriction.specs.declared.CoderError.{CoderError}
 use Rattle.constriction_coders.specs.Spans.{Span, IsNarrowed, IsNarrowingFault, NarrowingStops}
 

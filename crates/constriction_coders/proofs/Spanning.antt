@@ -2,7 +2,7 @@
 use Rattle.std.proofs.Common.{◌≡◌, ℕ, ◌+◌, ◌-◌, ◌*◌, ◌/◌, ◌^◌, ◌<◌, ◌≤◌, Bool, List, [], ◌∷◌, get_or, Option, Some, refl, ap, sym, ◌∙◌, subst, arith, inl, inr}
 use Rattle.std.specs.Prelude.{All}
 use Rattle.constriction.specs.Coding.{InTurn}
-use Rattle.constriction.specs.CodingLemmas.{entry-within}
+use Rattle.constriction.specs.lemmas.Coding.{entry-within}
 use Rattle.constriction.specs.Model.{LiesWithin}
 use Rattle.constriction.specs.Rows.{Row, entry_of}
 use Rattle.constriction_coders.specs.Numbers.{number_first}

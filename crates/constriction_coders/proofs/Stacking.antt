@@ -5,7 +5,7 @@ use Rattle.constriction.specs.Coding.{InTurn}
 use Rattle.constriction.specs.Rows.{Row}
 use Rattle.constriction_coders.specs.Compressed.{AreAllWordsOf}
 use Rattle.constriction_coders.specs.Laws.{EncodedOnce, SymbolsComeBack}
-use Rattle.constriction_coders.specs.StackLemmas.{compressed-once}
+use Rattle.constriction_coders.specs.lemmas.Stack.{compressed-once}
 use Rattle.constriction_coders.specs.StackMessages.{WordsOnce, WordsComeBack, WordsEndAbove0}
 use Rattle.constriction_coders.specs.Steps.{Content, content, MayBeHeld, IsOnTop, IsEncoded}
 use Rattle.constriction_coders.proofs.Closing.{words-once, not-compressed}

@@ -2,7 +2,7 @@
 use Rattle.std.proofs.Common.{◌≡◌, ℕ, List, [], ◌∷◌, ◌++◌, append-nil, Option, None, Result, Ok, Err, length, ap, sym, ◌∙◌, subst, arith, length-append}
 use Rattle.constriction_backends.specs.Sink.{Writes}
 use Rattle.constriction_backends.specs.Source.{ReadsUpcoming}
-use Rattle.constriction_backends.specs.SourceLaws.{reads_upcoming_all}
+use Rattle.constriction_backends.specs.lemmas.Source.{reads_upcoming_all}
 use Rattle.constriction_coders.specs.StoredWeights.{weights_as_words, BeginsWeights, EndsInWeights, StopsAtWord}
 
 -- words were written up to one that was refused

@@ -1,10 +1,8 @@
 pub mod BitsBack
 pub mod Bytes
-pub mod BytesLemmas
 pub mod Compressed
 pub mod Counts
 pub mod EncodedWords
-pub mod EncodedWordsLaws
 pub mod Intervals
 pub mod Laws
 pub mod Numbers
@@ -14,9 +12,9 @@ pub mod RangeLaws
 pub mod RangePositions
 pub mod RangeWalks
 pub mod Spans
-pub mod StackLemmas
 pub mod StackMessages
 pub mod States
 pub mod Steps
 pub mod StoredWeights
 pub mod Walks
+pub mod lemmas

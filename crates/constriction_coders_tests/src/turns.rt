@@ -2,7 +2,7 @@
 
 ghost use Rattle.std.specs.Prelude.{◌≡◌, refl, reverse};
 ghost use Rattle.constriction_backends.specs.Stack.{Pops, Pushes};
-ghost use Rattle.constriction_backends.specs.StackLaws.{Pops-upcoming, Pushes-append};
+ghost use Rattle.constriction_backends.specs.lemmas.Stack.{Pops-upcoming, Pushes-append};
 
 use crate::checks::same;
 use constriction::Stack;

@@ -11,13 +11,13 @@ use Rattle.std.proofs.lemmas.List.{reverse-append, length-map, map-append}
 use Rattle.std.proofs.lemmas.List.Elements.{All-cons, All-nil, All-tail}
 use Rattle.std.proofs.lemmas.Map.Keys.{IsDistinct-head, IsDistinct-tail}
 use Rattle.std.proofs.lemmas.Map.Made.{length-from_keys, is_some-lookup}
-use Rattle.constriction_stored_rows.specs.Filling.{HoldsEntries}
+use Rattle.constriction_stored_rows.specs.private.Filling.{HoldsEntries}
 use Rattle.constriction_conversions.specs.Hashed.{rows_of_table}
 use Rattle.constriction_model.specs.Entries.{SameEntries}
 use Rattle.constriction_model.specs.Model.{row_of, LiesWithin, StandForRows}
-use Rattle.constriction_model.specs.RowLemmas.{entry_of-cons}
+use Rattle.constriction_model.specs.lemmas.Rows.{entry_of-cons}
 use Rattle.constriction_model.specs.Rows.{Row, entry_of, symbols_of}
-use Rattle.constriction_categorical.specs.Walked.{WalkedGood}
+use Rattle.constriction_categorical.specs.private.Walked.{WalkedGood}
 use Rattle.constriction_categorical.proofs.CollectLemmas.{walked-more}
 
 -- an entry with quantiles, all below 2 ^ precision

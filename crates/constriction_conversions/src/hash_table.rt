@@ -2,7 +2,7 @@
 
 ghost use Rattle.std.specs.Prelude.{◌≡◌, cond, is_some, IsOk, true, false, ⊤};
 ghost use Rattle.std.specs.HashMap.{get, IsUnique};
-ghost use Rattle.constriction_stored_rows.specs.Filling.{HoldsEntries};
+ghost use Rattle.constriction_stored_rows.specs.private.Filling.{HoldsEntries};
 
 use constriction_model::{ModelError, Weight};
 use constriction_numbers::WholeNumber;

@@ -3,9 +3,9 @@
 ghost use Rattle.std.specs.Prelude.{◌≡◌, ℕ, IfOk, map};
 ghost use Rattle.std.specs.HashMap.{get, IsUnique};
 ghost use Rattle.std.specs.Iterator.{IsFinite};
-ghost use Rattle.constriction_stored_rows.specs.Filling.{HoldsEntries};
+ghost use Rattle.constriction_stored_rows.specs.private.Filling.{HoldsEntries};
 ghost use Rattle.constriction_model.specs.Model.{row_of};
-ghost use Rattle.constriction_categorical.specs.Walked.{WalkedGood};
+ghost use Rattle.constriction_categorical.specs.private.Walked.{WalkedGood};
 
 use crate::hash_table::Entry;
 use constriction_stored_rows::rows_announced;

@@ -4,8 +4,8 @@ use Rattle.std.proofs.Common.{suc, zero, get_or, refl, ap, sym, subst, ◌∙◌
 use Rattle.std.proofs.lemmas.List.{length-map}
 use Rattle.std.proofs.lemmas.List.Sums.{sum_by-cons}
 use Rattle.constriction_model.specs.Rows.{Row, RowsTile, IsRowOf, rows_from}
-use Rattle.constriction_model.specs.CodingLemmas.{above}
-use Rattle.constriction_model.specs.PairLemmas.{row-further}
+use Rattle.constriction_model.specs.lemmas.Coding.{above}
+use Rattle.constriction_model.specs.lemmas.Pairs.{row-further}
 
 -- an empty list has no row
 no-row : {Symbol : Type 0} (xs : List (Row Symbol)) (q : ℕ) (r : Row Symbol) → xs ≡ [] → IsRowOf xs q r → ⊥

@@ -2,7 +2,7 @@
 use Rattle.std.proofs.Common.{◌≡◌, ℕ, ◌+◌, ◌-◌, ◌*◌, ◌<◌, ◌≤◌, suc, zero, List, length, get_or, arith, inl, inr}
 use Rattle.std.proofs.lemmas.Bool.{cases_lt}
 use Rattle.std.specs.List.Sorted.{IsStrictlyIncreasing}
-use Rattle.constriction_model.specs.Searching.{IsNarrowed}
+use Rattle.constriction_model.specs.private.Searching.{IsNarrowed}
 use Rattle.constriction_model.specs.Probe.{IsSearchable, IsLastAtMost}
 
 -- in a list that increases, each later element is greater

@@ -2,8 +2,8 @@
 use Rattle.std.proofs.Common.{◌≡◌, ℕ, ◌+◌, ◌-◌, ◌*◌, ◌/◌, ◌%◌, ◌^◌, ◌<◌, ◌≤◌, refl, ap, sym, ◌∙◌, arith}
 use Rattle.std.proofs.Math.Nat.{add-div_right, pow-le-pow_right}
 use Rattle.std.proofs.lemmas.Nat.{mul-le}
-use Rattle.constriction_model.specs.UniformRowLemmas.{bin_of, rest_of}
-use Rattle.constriction_model.specs.UniformRowLemmas.{bin-positive, bins-fit}
+use Rattle.constriction_model.specs.lemmas.UniformRows.{bin_of, rest_of}
+use Rattle.constriction_model.specs.lemmas.UniformRows.{bin-positive, bins-fit}
 use Rattle.constriction_model.proofs.Differences.{difference-mod}
 
 -- the weight is one quantile for each symbol, and an equal share of the rest, rounded down

@@ -1,7 +1,7 @@
 //! The search for the row of a quantile, by halving.
 
 ghost use Rattle.std.specs.Prelude.{◌≡◌, ◌+◌, ◌-◌, ◌*◌, ◌<◌, ◌≤◌, length};
-ghost use Rattle.constriction_model.specs.Searching.{IsNarrowed};
+ghost use Rattle.constriction_model.specs.private.Searching.{IsNarrowed};
 ghost use Rattle.constriction_model.specs.Probe.{digits, IsSearchable, IsLastAtMost};
 
 use crate::probe::Probe;

@@ -4,7 +4,7 @@ ghost use Rattle.std.specs.Prelude.{◌≡◌, ◌+◌, ◌-◌, ◌*◌, ◌/�
 ghost use Rattle.std.specs.Cmp.{nat_eq_equiv};
 ghost use Rattle.constriction_model.specs.Precision.{IsPrecision};
 ghost use Rattle.constriction_model.specs.Rows.{uniform_rows};
-ghost use Rattle.constriction_model.specs.UniformRowLemmas.{IsWeight, bin_of, uniform-within, uniform-tiles};
+ghost use Rattle.constriction_model.specs.lemmas.UniformRows.{IsWeight, bin_of, uniform-within, uniform-tiles};
 
 use crate::traits::{DecoderModel, EncoderModel, EntropyModel, Weight};
 use crate::uniform::weights::{last_probability, probability_per_bin, symbol_of};

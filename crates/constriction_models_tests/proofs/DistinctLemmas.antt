@@ -5,7 +5,7 @@ use Rattle.std.specs.Array.Iter.{array_into_iter_items, array_steps}
 use Rattle.std.specs.Cmp.{nat_eq_equiv}
 use Rattle.std.specs.Iterator.{Drains}
 use Rattle.std.specs.List.{IsDistinct}
-use Rattle.constriction.specs.GivenLemmas.{gives-array, distinct-given}
+use Rattle.constriction.specs.lemmas.Given.{gives-array, distinct-given}
 
 -- a clone of a number or a letter is that value, and so is equal to it
 pub same_are_equal : (x y : ℕ) → y ≡ x → nat_eq x y ≡ true

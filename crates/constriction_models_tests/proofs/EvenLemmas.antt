@@ -4,7 +4,7 @@ use Rattle.std.proofs.lemmas.List.{length-map, get_or-map}
 use Rattle.std.proofs.lemmas.List.FromFn.{length-range_with_len, get_or-range_with_len}
 use Rattle.constriction_models_tests.specs.Evens.{evens}
 use Rattle.constriction.specs.Probe.{IsSearchable}
-use Rattle.constriction.specs.RowLemmas.{indices}
+use Rattle.constriction.specs.lemmas.Rows.{indices}
 
 pub length_evens : (size : ℕ) → length (evens size) ≡ size
 unfolding evens

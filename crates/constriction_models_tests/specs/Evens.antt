@@ -1,6 +1,6 @@
 -- A computed list of cumulatives, for a test alone.
 use Rattle.std.specs.Prelude.{ℕ, ◌*◌, List, map}
-use Rattle.constriction.specs.RowLemmas.{indices}
+use Rattle.constriction.specs.lemmas.Rows.{indices}
 
 -- the first `size` even numbers
 unfoldable pub evens : ℕ → List ℕ

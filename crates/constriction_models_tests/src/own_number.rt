@@ -2,7 +2,7 @@
 
 ghost use Rattle.std.specs.Prelude.{◌<◌};
 ghost use Rattle.std.proofs.Common.{ap};
-ghost use Rattle.constriction_words.specs.Word.{same-above-0};
+ghost use Rattle.constriction_words.specs.lemmas.Word.{same-above-0};
 
 use crate::checks::same;
 use constriction::stream::model::{

@@ -2,10 +2,10 @@
 use Rattle.std.proofs.Common.{◌≡◌, ℕ, ◌<◌, ◌≤◌, List, ◌∷◌, ◌++◌, length, ap, sym, ◌∙◌, arith, nat_eq}
 use Rattle.std.proofs.lemmas.List.{length-append, length_push}
 use Rattle.std.proofs.lemmas.List.FromFn.{length-range_with_len}
-use Rattle.constriction.specs.RowLemmas.{length-rows_from}
+use Rattle.constriction.specs.lemmas.Rows.{length-rows_from}
 use Rattle.constriction.specs.Rows.{Row, contiguous_rows, entry_of}
-use Rattle.constriction.specs.TurnLemmas.{turn-last}
-use Rattle.constriction_coders.specs.StackLemmas.{numbers-once, stack-words}
+use Rattle.constriction.specs.lemmas.Turns.{turn-last}
+use Rattle.constriction_coders.specs.lemmas.Stack.{numbers-once, stack-words}
 use Rattle.constriction_coders.specs.StackMessages.{IsStackOf}
 use Rattle.constriction_coders.specs.StoredWeights.{weights_as_words}
 use Rattle.constriction_pack.specs.Blocks.{IsBlock, most_words}

@@ -2,7 +2,7 @@
 use Rattle.std.proofs.Common.{◌≡◌, ℕ, ◌+◌, ◌*◌, List, [], ◌∷◌, ◌++◌, length, get_or, take, drop, refl, ap, sym, ◌∙◌, append_assoc, arith}
 use Rattle.std.proofs.lemmas.List.{length-append, take_at, drop_at}
 use Rattle.constriction_coders.specs.Bytes.{bytes_of_words}
-use Rattle.constriction_coders.specs.BytesLemmas.{bytes_once, length-bytes_of_words}
+use Rattle.constriction_coders.specs.lemmas.Bytes.{bytes_once, length-bytes_of_words}
 use Rattle.constriction_pack.specs.Frames.{frame_of}
 
 -- if two lists are equal, so are their beginnings of one length

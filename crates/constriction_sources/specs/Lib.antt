@@ -1,10 +1,5 @@
-pub mod ExtendingLaws
-pub mod ItemLaws
 pub mod Items
-pub mod KnownLength
 pub mod Sink
-pub mod SinkLaws
 pub mod Source
-pub mod SourceLaws
 pub mod Stack
-pub mod StackLaws
+pub mod lemmas

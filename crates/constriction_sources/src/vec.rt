@@ -2,7 +2,7 @@
 
 ghost use Rattle.std.specs.Prelude.{◌≡◌, ◌↔◌, [], ⊤, false, reverse, length, IsTrue, vec_capacity};
 ghost use Rattle.constriction_sources.specs.Stack.{PopsFrom, PushesTo};
-ghost use Rattle.constriction_sources.specs.StackLaws.{Pops-upcoming, Pops-counted, Pushes-append, tells_all, any_error};
+ghost use Rattle.constriction_sources.specs.lemmas.Stack.{Pops-upcoming, Pops-counted, Pushes-append, tells_all, any_error};
 
 use crate::read::{BoundedReadWords, ReadWords};
 use crate::write::WriteWords;

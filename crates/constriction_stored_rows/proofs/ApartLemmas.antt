@@ -3,7 +3,7 @@ use Rattle.std.specs.Prelude.{◌≡◌, ℕ, Bool, false, List, [], ◌∷◌, 
 use Rattle.std.proofs.Common.{refl, subst, ◌∙◌}
 use Rattle.std.specs.List.{AllByRecursion, IsDistinct}
 use Rattle.constriction_model.specs.Acceptance.{AreAccepted, Reading, ToItsEnd}
-use Rattle.constriction_stored_rows.specs.Filling.{HoldsRows}
+use Rattle.constriction_stored_rows.specs.private.Filling.{HoldsRows}
 use Rattle.constriction_model.specs.Rows.{rows_of}
 use Rattle.constriction_stored_rows.proofs.MadeLemmas.{BothBad}
 use Rattle.constriction_stored_rows.proofs.PairedLemmas.{accepted-symbols}

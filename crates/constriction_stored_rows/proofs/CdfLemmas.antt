@@ -9,8 +9,8 @@ use Rattle.constriction_model.specs.Acceptance.{IsAccepted}
 use Rattle.constriction_model.proofs.Differences.{difference-mod}
 use Rattle.constriction_stored_rows.specs.Stored.{IsCdf, lefts_in, lefts_from, weights_of}
 use Rattle.constriction_model.specs.Rows.{contiguous_rows}
-use Rattle.constriction_stored_rows.specs.StoredRowLemmas.{rows-many}
-use Rattle.constriction_stored_rows.specs.StoredLemmas.{IsRowAt, stored-row, stored-of}
+use Rattle.constriction_stored_rows.specs.lemmas.StoredRows.{rows-many}
+use Rattle.constriction_stored_rows.specs.lemmas.Stored.{IsRowAt, stored-row, stored-of}
 
 -- all of a list but its last item
 pub all-but_last : {A : Type 0} (items all : List A) (last : A) → all ≡ items ++ last ∷ [] → take (length all - 1) all ≡ items

@@ -6,7 +6,7 @@ use Rattle.std.proofs.lemmas.Nat.{pow_pos}
 use Rattle.std.proofs.lemmas.List.{length-append, length-map, get_or_append_left, get_or-append_right, get_or_default, get_or_past}
 use Rattle.constriction_model.proofs.Differences.{difference-mod}
 use Rattle.constriction_stored_rows.specs.Stored.{IsStored, AreEndWords, end_at, total_of, with_total, weights_of}
-use Rattle.constriction_stored_rows.specs.StoredLemmas.{stored-row, read-whole}
+use Rattle.constriction_stored_rows.specs.lemmas.Stored.{stored-row, read-whole}
 
 module _ (bits precision : ℕ) (lefts : List ℕ) where
   -- a row ends where the next row begins

@@ -9,7 +9,7 @@ use Rattle.std.proofs.lemmas.List.Sums.{sum_by-cons, sum_by-append, sum_by_push}
 use Rattle.std.specs.Iterator.{Yields}
 use Rattle.constriction_model.specs.Acceptance.{IsAccepted, completed}
 use Rattle.constriction_stored_rows.specs.Stored.{lefts_from}
-use Rattle.constriction_stored_rows.specs.Filling.{IsRowEnd, IsFilled}
+use Rattle.constriction_stored_rows.specs.private.Filling.{IsRowEnd, IsFilled}
 use Rattle.constriction_stored_rows.specs.Ends.{FillsAll, IsNoLast, IsNoneInferred, AndTotal, IsCdfBegun, IsCdfOf, IsNoCdf}
 
 lefts_from-push : (l : ℕ) (ws : List ℕ) (w : ℕ) → lefts_from l (ws ++ w ∷ []) ≡ lefts_from l ws ++ (l + sum ws) ∷ []

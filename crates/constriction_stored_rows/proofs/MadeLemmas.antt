@@ -2,7 +2,7 @@
 use Rattle.std.specs.Prelude.{◌≡◌, List, ◌++◌, Option, Ok, Err}
 use Rattle.std.proofs.Common.{refl, subst, inl, inr}
 use Rattle.constriction_model.specs.Acceptance.{Reading, ToItsEnd, SoFar, WasReadOf, MayGive}
-use Rattle.constriction_stored_rows.specs.Given.{GaveBad, GaveBothBad}
+use Rattle.constriction_stored_rows.specs.private.Given.{GaveBad, GaveBothBad}
 
 -- what is made is not refused
 pub made-unrefused : {A E : Type 0} (x : A) (e : E) → Ok x ≡ Err e → ⊥

@@ -4,15 +4,15 @@ use Rattle.std.specs.List.{AllZip, IsDistinct}
 use Rattle.std.proofs.Common.{Bool, ◌≡◌, ℕ, ◌+◌, ◌-◌, ◌^◌, ◌<◌, ◌≤◌, List, [], ◌∷◌, ◌++◌, length, get_or, map, refl, ap, sym, subst, ◌∙◌, arith}
 use Rattle.std.proofs.lemmas.List.{length-map, map-append, get_or-map}
 use Rattle.constriction_model.specs.Acceptance.{AreAccepted}
-use Rattle.constriction_stored_rows.specs.Filling.{HoldsRows, AreEntriesCloned}
+use Rattle.constriction_stored_rows.specs.private.Filling.{HoldsRows, AreEntriesCloned}
 use Rattle.constriction_model.specs.Model.{StandForRows}
-use Rattle.constriction_model.specs.RowLemmas.{weights-rows_from, symbols-rows_from}
+use Rattle.constriction_model.specs.lemmas.Rows.{weights-rows_from, symbols-rows_from}
 use Rattle.constriction_model.specs.Rows.{Row, rows_from, rows_of, symbols_of, RowsTile}
 use Rattle.constriction_stored_rows.specs.Stored.{IsStored, weights_of}
-use Rattle.constriction_stored_rows.specs.StoredLemmas.{IsRowAt, stored-row, stored-of_rows}
-use Rattle.constriction_stored_rows.specs.SymbolRowLemmas.{symbols-many, symbol-rows_many, symbol-is_at, paired-long, paired-tiles}
+use Rattle.constriction_stored_rows.specs.lemmas.Stored.{IsRowAt, stored-row, stored-of_rows}
+use Rattle.constriction_stored_rows.specs.lemmas.SymbolRows.{symbols-many, symbol-rows_many, symbol-is_at, paired-long, paired-tiles}
 use Rattle.constriction_model.specs.Probe.{IsRowIndexOf, IsLastAtMost, IsSearchable}
-use Rattle.constriction_model.specs.Searching.{TellsRows}
+use Rattle.constriction_model.specs.private.Searching.{TellsRows}
 use Rattle.constriction_stored_rows.specs.Stored.{rows_paired}
 use Rattle.constriction_model.specs.Tables.{rows_between}
 use Rattle.constriction_stored_rows.proofs.ProbeLemmas.{symbol-lefts}

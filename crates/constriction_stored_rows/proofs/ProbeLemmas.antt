@@ -5,11 +5,11 @@ use Rattle.std.proofs.lemmas.List.{get_or_default}
 use Rattle.std.specs.List.Sorted.{IsStrictlyIncreasing}
 use Rattle.constriction_model.specs.Rows.{rows_of, contiguous_rows}
 use Rattle.constriction_stored_rows.specs.Stored.{IsStored, weights_of}
-use Rattle.constriction_stored_rows.specs.StoredLemmas.{stored-row, stored-some, stored-first, lefts-rows_from, take-length}
-use Rattle.constriction_stored_rows.specs.StoredRowLemmas.{symbols, symbols-long}
-use Rattle.constriction_stored_rows.specs.SymbolRowLemmas.{symbols-many, symbol-rows_many, symbol-row_at, symbol-row_of}
+use Rattle.constriction_stored_rows.specs.lemmas.Stored.{stored-row, stored-some, stored-first, lefts-rows_from, take-length}
+use Rattle.constriction_stored_rows.specs.lemmas.StoredRows.{symbols, symbols-long}
+use Rattle.constriction_stored_rows.specs.lemmas.SymbolRows.{symbols-many, symbol-rows_many, symbol-row_at, symbol-row_of}
 use Rattle.constriction_model.specs.Probe.{IsRowIndexOf}
-use Rattle.constriction_model.specs.Searching.{TellsRows}
+use Rattle.constriction_model.specs.private.Searching.{TellsRows}
 use Rattle.constriction_model.specs.Probe.{IsSearchable, IsLastAtMost}
 
 module _ (bits precision : ℕ) (lefts : List ℕ) (t : IsStored bits precision lefts) where

@@ -8,8 +8,8 @@ use Rattle.std.proofs.lemmas.Bool.{cases_Bool}
 use Rattle.std.proofs.lemmas.Map.Keys.{IsDistinct-head, IsDistinct-tail, IsDistinct-cons}
 use Rattle.constriction_model.specs.Acceptance.{IsAccepted, completed, ToItsEnd, SoFar}
 use Rattle.constriction_stored_rows.specs.Ends.{FillsAll, IsNoLast, IsNoneInferred}
-use Rattle.constriction_stored_rows.specs.Reading.{IsRead, IsReadBadly, IsReadWell, TookRow, RefusedRow}
-use Rattle.constriction_model.specs.RowLemmas.{symbols-rows_from}
+use Rattle.constriction_stored_rows.specs.private.Reading.{IsRead, IsReadBadly, IsReadWell, TookRow, RefusedRow}
+use Rattle.constriction_model.specs.lemmas.Rows.{symbols-rows_from}
 use Rattle.constriction_model.specs.Rows.{Row, rows_from, rows_of, symbols_of}
 use Rattle.constriction_stored_rows.proofs.FillLemmas.{filled-none, filled-more, row-within, row-last, good-given, good-inferred, bad-no_last, bad-none_inferred, bad-after, yields-more}
 

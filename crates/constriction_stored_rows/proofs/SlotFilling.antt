@@ -7,7 +7,7 @@ use Rattle.std.proofs.lemmas.List.{length-map, length-append, length-replicate, 
 use Rattle.std.specs.List.Sorted.{IsStrictlyIncreasing}
 use Rattle.constriction_model.specs.Probe.{IsLastAtMost}
 use Rattle.constriction_stored_rows.specs.Slots.{slot_width, slot_count}
-use Rattle.constriction_stored_rows.specs.StoredLemmas.{read-whole}
+use Rattle.constriction_stored_rows.specs.lemmas.Stored.{read-whole}
 use Rattle.constriction_stored_rows.specs.SlotTable.{words_a_slot, HasWords, HasSlots, IsFirstWord}
 use Rattle.constriction_model.proofs.Halving.{later}
 

@@ -7,7 +7,7 @@ use Rattle.std.proofs.lemmas.Nat.{pow_pos}
 use Rattle.std.specs.List.Sorted.{IsStrictlyIncreasing}
 use Rattle.constriction_model.specs.Rows.{Row, RowsTile}
 use Rattle.constriction_model.specs.Probe.{IsSearchable, IsLastAtMost, IsRowIndexOf}
-use Rattle.constriction_model.specs.Searching.{TellsRows}
+use Rattle.constriction_model.specs.private.Searching.{TellsRows}
 use Rattle.constriction_stored_rows.specs.Slots.{slot_width, slot_count}
 use Rattle.constriction_stored_rows.specs.SlotTable.{words_a_slot, HasSlots, IsSlot, IsSlotPart}
 use Rattle.constriction_model.proofs.Halving.{later}

@@ -2,7 +2,7 @@
 use Rattle.std.proofs.Common.{◌≡◌, true, ℕ, ◌+◌, ◌-◌, ◌*◌, ◌<◌, List, get_or, arith, inl, inr}
 use Rattle.std.proofs.lemmas.Bool.{cases_lt, lt-ltb, ltb-true, and_parts, and_from}
 use Rattle.std.proofs.lemmas.Nat.{pow_pos}
-use Rattle.constriction_model.specs.Searching.{TellsRows}
+use Rattle.constriction_model.specs.private.Searching.{TellsRows}
 use Rattle.constriction_model.specs.Rows.{Row, RowsTile}
 use Rattle.constriction_stored_rows.specs.Slots.{meets_slot, slot_width}
 use Rattle.constriction_stored_rows.proofs.SlotLemmas.{MeetsSlot}

@@ -3,7 +3,7 @@ use Rattle.std.proofs.Common.{◌≡◌, ℕ, ◌+◌, ◌-◌, ◌<◌, ◌≤�
 use Rattle.std.proofs.lemmas.List.{length-map}
 use Rattle.constriction_model.specs.Rows.{contiguous_rows}
 use Rattle.constriction_stored_rows.specs.Stored.{IsCdf, lefts_in, weights_of}
-use Rattle.constriction_stored_rows.specs.StoredRowLemmas.{stored-at}
+use Rattle.constriction_stored_rows.specs.lemmas.StoredRows.{stored-at}
 use Rattle.constriction_stored_rows.specs.Stored.{rows_stored}
 use Rattle.constriction_model.proofs.StepLemmas.{all-between, first-between, last-between, length-between}
 use Rattle.constriction_stored_rows.proofs.CdfLemmas.{cdf-long, cdf-rows}

@@ -4,12 +4,12 @@ use Rattle.std.specs.List.Sorted.{IsStrictlyIncreasing}
 use Rattle.std.proofs.Common.{◌≡◌, ℕ, ◌+◌, ◌^◌, ◌<◌, List, length, get_or, map, sym, refl, ◌∙◌, arith}
 use Rattle.std.proofs.lemmas.List.{length-map}
 use Rattle.constriction_model.specs.Probe.{IsSearchable, IsLastAtMost, IsRowIndexOf}
-use Rattle.constriction_model.specs.Searching.{TellsRows}
+use Rattle.constriction_model.specs.private.Searching.{TellsRows}
 use Rattle.constriction_model.specs.Rows.{Row, RowsTile, contiguous_rows}
 use Rattle.constriction_stored_rows.specs.Stored.{IsStored, IsCdf, lefts_in, weights_of}
-use Rattle.constriction_stored_rows.specs.StoredLemmas.{stored-row, stored-of_rows}
-use Rattle.constriction_stored_rows.specs.StoredRowLemmas.{stored-tiles}
-use Rattle.constriction_stored_rows.specs.SymbolRowLemmas.{symbol-row_at}
+use Rattle.constriction_stored_rows.specs.lemmas.Stored.{stored-row, stored-of_rows}
+use Rattle.constriction_stored_rows.specs.lemmas.StoredRows.{stored-tiles}
+use Rattle.constriction_stored_rows.specs.lemmas.SymbolRows.{symbol-row_at}
 use Rattle.constriction_stored_rows.proofs.ProbeLemmas.{stored-increases, stored-lefts, stored-searchable, symbol-tells, symbol-found}
 
 -- rows that tile: the row at an index

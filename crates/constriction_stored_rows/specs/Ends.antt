@@ -2,8 +2,8 @@
 use Rattle.std.specs.Prelude.{◌≡◌, ℕ, ◌+◌, ◌%◌, ◌^◌, ◌<◌, ◌⊎◌, Bool, true, false, List, [], ◌∷◌, ◌++◌, map, Option, Some}
 use Rattle.std.specs.Iterator.{Yields}
 use Rattle.constriction_model.specs.Acceptance.{completed, IsAccepted}
-use Rattle.constriction_stored_rows.specs.Filling.{IsFilled}
-use Rattle.constriction_stored_rows.specs.Given.{GaveGood, GaveBad}
+use Rattle.constriction_stored_rows.specs.private.Filling.{IsFilled}
+use Rattle.constriction_stored_rows.specs.private.Given.{GaveGood, GaveBad}
 use Rattle.constriction_stored_rows.specs.Stored.{lefts_from}
 
 -- a given weight ends a list: it takes all quantiles that are left, one more than `room`, and none is inferred

@@ -1,10 +1,6 @@
 pub mod Ends
-pub mod Filling
-pub mod Given
-pub mod Reading
 pub mod SlotTable
 pub mod Slots
 pub mod Stored
-pub mod StoredLemmas
-pub mod StoredRowLemmas
-pub mod SymbolRowLemmas
+pub mod lemmas
+pub mod private

@@ -2,7 +2,7 @@
 
 ghost use Rattle.std.specs.Prelude.{◌≡◌, map, IfOk};
 ghost use Rattle.std.specs.List.{list_any};
-ghost use Rattle.constriction_stored_rows.specs.Filling.{HoldsRows, AreEntriesCloned};
+ghost use Rattle.constriction_stored_rows.specs.private.Filling.{HoldsRows, AreEntriesCloned};
 
 use crate::reading::TakesRows;
 use constriction_model::ModelError;

@@ -4,8 +4,8 @@ ghost use Rattle.std.specs.Prelude.{◌≡◌, ◌+◌, ◌^◌, ◌<◌, ◌≤
 ghost use Rattle.std.specs.Iterator.{IsFinite};
 ghost use Rattle.std.specs.List.{list_any};
 ghost use Rattle.constriction_model.specs.Acceptance.{completed, AreAccepted};
-ghost use Rattle.constriction_stored_rows.specs.Given.{GaveBothGood, GaveBothBad};
-ghost use Rattle.constriction_stored_rows.specs.Reading.{TookRow, RefusedRow, IsReadWell, IsReadBadly, EndsWell, EndsBadly};
+ghost use Rattle.constriction_stored_rows.specs.private.Given.{GaveBothGood, GaveBothBad};
+ghost use Rattle.constriction_stored_rows.specs.private.Reading.{TookRow, RefusedRow, IsReadWell, IsReadBadly, EndsWell, EndsBadly};
 ghost use Rattle.constriction_model.specs.Rows.{Row, rows_of, symbols_of};
 
 use crate::filling::{is_given_last, is_inferred_last, leaves_none};

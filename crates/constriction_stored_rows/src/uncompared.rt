@@ -3,7 +3,7 @@
 ghost use Rattle.std.specs.Prelude.{◌<◌, ◌≤◌, false, refl};
 ghost use Rattle.std.specs.Iterator.{IsFiniteIterable};
 ghost use Rattle.constriction_model.specs.Acceptance.{completed, AreAccepted, WasReadOf, IsMadeOfBoth};
-ghost use Rattle.constriction_stored_rows.specs.Filling.{HoldsRows};
+ghost use Rattle.constriction_stored_rows.specs.private.Filling.{HoldsRows};
 ghost use Rattle.constriction_model.specs.Rows.{rows_of};
 
 use crate::filling::entries_announced;

@@ -2,7 +2,7 @@
 
 ghost use Rattle.std.proofs.Common.{ap};
 ghost use Rattle.std.specs.Vec.{with_items};
-ghost use Rattle.constriction_buffers.specs.VecBuffer.{with_items_stand, with_items-length, with_items_unchanged, with_items_again};
+ghost use Rattle.constriction_buffers.specs.lemmas.VecBuffer.{with_items_stand, with_items-length, with_items_unchanged, with_items_again};
 
 use constriction_buffers::{SafeBuf, SafeBufMut};
 

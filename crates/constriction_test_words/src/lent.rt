@@ -18,7 +18,7 @@ pub fn set_first<Word: Copy, Buf: SafeBufMut<Word>>(cursor: &mut Cursor<Word, Bu
 }
 
 /// Sets the first word through a borrow of the words before the position.
-#[tactic(auto, using(constriction_buffers::specs::BufferLaws::set_front))]
+#[tactic(auto, using(constriction_buffers::specs::lemmas::Buffer::set_front))]
 pub fn set_written<Word: Copy, Buf: SafeBufMut<Word>>(cursor: &mut Cursor<Word, Buf>, word: Word)
     requires { 0 < pos_of cursor.old }
     ensures buf { buf_of cursor.new ≡ Buf.with_words (buf_of cursor.old) (slice_set (Buf.words_of (buf_of cursor.old)) 0 word) }
@@ -29,7 +29,7 @@ pub fn set_written<Word: Copy, Buf: SafeBufMut<Word>>(cursor: &mut Cursor<Word, 
 }
 
 /// Sets the word at the position through a borrow of the words from there on.
-#[tactic(auto, using(constriction_buffers::specs::BufferLaws::set_back))]
+#[tactic(auto, using(constriction_buffers::specs::lemmas::Buffer::set_back))]
 pub fn set_unwritten<Word: Copy, Buf: SafeBufMut<Word>>(cursor: &mut Cursor<Word, Buf>, word: Word)
     requires { pos_of cursor.old < length (Buf.words_of (buf_of cursor.old)) }
     ensures buf { buf_of cursor.new ≡ Buf.with_words (buf_of cursor.old)

@@ -12,9 +12,9 @@ use Rattle.std.proofs.lemmas.List.{map-append}
 use Rattle.std.proofs.lemmas.List.Elements.{All-head, All-tail, All-drop, All-take}
 use Rattle.std.proofs.lemmas.List.Sums.{AllPass-from_list_all, list_all-from_AllPass}
 use Rattle.constriction_model.specs.Acceptance.{IsAccepted, completed}
-use Rattle.constriction_stored_rows.specs.Given.{GaveGood, GaveBad}
-use Rattle.constriction_text.specs.NumberWords.{narrowed_to}
-use Rattle.constriction_text.specs.Answering.{are_accepted}
+use Rattle.constriction_stored_rows.specs.private.Given.{GaveGood, GaveBad}
+use Rattle.constriction_text.specs.private.NumberWords.{narrowed_to}
+use Rattle.constriction_text.specs.private.Answering.{are_accepted}
 
 -- ---- the test and what it tests
 

@@ -7,7 +7,7 @@ use Rattle.std.specs.Result.{IfOk}
 use Rattle.constriction_text.specs.declared.line.Command.{Command}
 use Rattle.constriction_text.specs.declared.line.Format.{Format}
 use Rattle.constriction_text.specs.Grammar.{view}
-use Rattle.constriction_text.specs.Reading.{read_format, read_line, read_numbers, read_request, read_words, ◌>>=◌}
+use Rattle.constriction_text.specs.private.Reading.{read_format, read_line, read_numbers, read_request, read_words, ◌>>=◌}
 
 -- a line of one word asks for nothing
 pub one_word : (line word : List ℕ) → slice_split (λ byte. byte == 32) line ≡ word ∷ [] → None ≡ read_line line

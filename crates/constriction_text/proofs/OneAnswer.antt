@@ -4,9 +4,9 @@ use Rattle.std.specs.List.{AllZip, concat}
 use Rattle.constriction_model.specs.Acceptance.{completed}
 use Rattle.constriction_model.specs.Rows.{Row, contiguous_rows}
 use Rattle.constriction_text.specs.declared.line.Format.{Format}
-use Rattle.constriction_text.specs.Answering.{are_accepted, text_of_model, answer_of, reply_to, answer_to, answers_of}
+use Rattle.constriction_text.specs.private.Answering.{are_accepted, text_of_model, answer_of, reply_to, answer_to, answers_of}
 use Rattle.constriction_text.specs.Grammar.{Request, table, infer, quantile, symbol, uniform, bits_of, precision_of, Spells}
-use Rattle.constriction_text.specs.Reading.{read_line}
+use Rattle.constriction_text.specs.private.Reading.{read_line}
 use Rattle.constriction_text.specs.Text.{IsTextOfModel, Answers, IsAnswer, AreAnswers, rows_text, quantile_text, symbol_text}
 use Rattle.constriction_text.proofs.Accepting.{are_accepted-to, are_accepted-from}
 use Rattle.constriction_text.proofs.Exactly.{some_inj, line_spelled, line_read, spells_none}

@@ -4,13 +4,13 @@ use Rattle.std.specs.Io.KnownBytes.{Appends, Keeps}
 use Rattle.std.proofs.KnownBytes.{Appends-nil, Appends-trans, Appends-kept}
 use Rattle.std.proofs.lemmas.List.Concat.{flat_map-append}
 use lib.Seq.{take-add}
-use Rattle.constriction_text.specs.Answering.{answer_to, answers_of, text_of}
+use Rattle.constriction_text.specs.private.Answering.{answer_to, answers_of, text_of}
 use Rattle.constriction_text.specs.Text.{IsTextOf, lines_of}
 use Rattle.constriction_text.proofs.OneAnswer.{are_answers}
 use Rattle.std.specs.Result.{OnOk}
 use Rattle.std.specs.declared.result.Result.{Result}
 use Rattle.std.specs.declared.result.Result.TheVariants.{Ok, Err}
-use Rattle.constriction_text.specs.Collecting.{WritesFront}
+use Rattle.constriction_text.specs.private.Collecting.{WritesFront}
 use Rattle.constriction_text.specs.Runs.{WritesBeginning, WritesAnswersBefore}
 
 -- the slice from an index on

@@ -3,7 +3,7 @@
 ghost use Rattle.std.specs.Prelude.{◌≡◌, ◌<◌, ◌≤◌, ◌++◌, false, true};
 ghost use Rattle.std.specs.Prelude.{IfOk, OnOk, string_bytes};
 ghost use Rattle.constriction_model.specs.Acceptance.{completed};
-ghost use Rattle.constriction_text.specs.Answering.{answer_of, answer_to, text_of_model};
+ghost use Rattle.constriction_text.specs.private.Answering.{answer_of, answer_to, text_of_model};
 ghost use Rattle.constriction_text.specs.Grammar.{bits_of, format_of, precision_of, view};
 ghost use Rattle.constriction_text.specs.Text.{IsAnswer, rows_text, quantile_text, symbol_text, uniform_text};
 
@@ -118,7 +118,7 @@ fn push_uniform<U: UniformRows<PRECISION>, const PRECISION: usize>(
 }
 
 /// Adds the answer to a command whose format has these models.
-#[tactic(auto, unfolding(crate::specs::Answering::answer_of))]
+#[tactic(auto, unfolding(crate::specs::private::Answering::answer_of))]
 fn push_at<M: LineModel<PRECISION>, U: UniformRows<PRECISION>, const PRECISION: usize>(
     alloc: Global,
     text: &mut String,

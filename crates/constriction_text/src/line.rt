@@ -5,9 +5,9 @@ ghost use Rattle.std.specs.List.{slice_split};
 ghost use Rattle.std.specs.Option.{option_copied, option_map};
 ghost use Rattle.std.specs.Str.{bytes_eq};
 ghost use Rattle.constriction_text.specs.Grammar.{Request, Spells, format_of, view};
-ghost use Rattle.constriction_text.specs.Parts.{parts_of, first_and_others, only_number};
-ghost use Rattle.constriction_text.specs.Reading.{read_format, read_line};
-ghost use Rattle.constriction_text.specs.Reading.{read_number, read_numbers, read_request};
+ghost use Rattle.constriction_text.specs.private.Parts.{parts_of, first_and_others, only_number};
+ghost use Rattle.constriction_text.specs.private.Reading.{read_format, read_line};
+ghost use Rattle.constriction_text.specs.private.Reading.{read_number, read_numbers, read_request};
 
 use std::alloc::{AllocError, Global};
 
@@ -96,7 +96,7 @@ const SPACE: u8 = b' ';
 const DIGITS: usize = 20;
 
 /// The number that a word spells, if it is one to twenty decimal digits and the number is below `2^64`. Zeros may lead it.
-#[tactic(auto, unfolding(crate::specs::Reading::read_number))]
+#[tactic(auto, unfolding(crate::specs::private::Reading::read_number))]
 pub fn parse_number(word: &[u8]) -> Option<u64>
     ensures { result ≡ read_number word.now }
 {
@@ -114,7 +114,7 @@ pub fn parse_number(word: &[u8]) -> Option<u64>
 }
 
 /// The format that a word names.
-#[tactic(auto, unfolding(crate::specs::Reading::read_format))]
+#[tactic(auto, unfolding(crate::specs::private::Reading::read_format))]
 fn parse_format(word: &[u8]) -> Option<Format>
     ensures { result ≡ read_format word.now }
 {
@@ -149,7 +149,7 @@ fn parse_numbers(alloc: Global, text: Option<&[u8]>) -> Result<Option<Vec<u64>>,
 }
 
 /// The first number of the rest of a line, and the others, if there is a first one and each word spells a number.
-#[tactic(auto, unfolding(crate::specs::Reading::read_numbers))]
+#[tactic(auto, unfolding(crate::specs::private::Reading::read_numbers))]
 fn parse_first_and_others(
     alloc: Global,
     text: Option<&[u8]>,
@@ -171,7 +171,7 @@ fn parse_first_and_others(
 }
 
 /// The number that the rest of a line spells, if that is a single number.
-#[tactic(auto, unfolding(crate::specs::Reading::read_numbers))]
+#[tactic(auto, unfolding(crate::specs::private::Reading::read_numbers))]
 fn parse_only_number(text: Option<&[u8]>) -> Option<u64>
     ensures { result ≡ option_and_then only_number (read_numbers (parts_of 32 (option_copied text.entry))) }
 {
@@ -186,7 +186,7 @@ fn parse_only_number(text: Option<&[u8]>) -> Option<u64>
 }
 
 /// What a keyword asks for with a format and the rest of a line.
-#[tactic(auto, unfolding(crate::specs::Reading::read_request))]
+#[tactic(auto, unfolding(crate::specs::private::Reading::read_request))]
 fn parse_command(
     alloc: Global,
     keyword: &[u8],
@@ -212,7 +212,7 @@ fn parse_command(
 }
 
 /// As `parse_command`, for a keyword that is neither `table` nor `infer`.
-#[tactic(auto, unfolding(crate::specs::Reading::read_request))]
+#[tactic(auto, unfolding(crate::specs::private::Reading::read_request))]
 fn parse_other_command(
     alloc: Global,
     keyword: &[u8],

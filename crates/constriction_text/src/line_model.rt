@@ -9,10 +9,10 @@ ghost use Rattle.std.proofs.Common.{refl};
 ghost use Rattle.constriction_model.specs.Acceptance.{IsAccepted, completed};
 ghost use Rattle.constriction_model.specs.Model.{ClonesAreSame};
 ghost use Rattle.constriction_model.specs.Rows.{Row, RowsTile, IsRowOf, contiguous_rows, entry_of, uniform_rows};
-ghost use Rattle.constriction_stored_rows.specs.Given.{GaveGood, GaveBad};
-ghost use Rattle.constriction_stored_rows.specs.StoredRowLemmas.{stored-tiles};
-ghost use Rattle.constriction_text.specs.Answering.{are_accepted};
-ghost use Rattle.constriction_text.specs.NumberWords.{narrowed_to};
+ghost use Rattle.constriction_stored_rows.specs.private.Given.{GaveGood, GaveBad};
+ghost use Rattle.constriction_stored_rows.specs.lemmas.StoredRows.{stored-tiles};
+ghost use Rattle.constriction_text.specs.private.Answering.{are_accepted};
+ghost use Rattle.constriction_text.specs.private.NumberWords.{narrowed_to};
 ghost use Rattle.constriction_text.specs.Text.{row_text, rows_text};
 
 use constriction_categorical::{ContiguousCategoricalEntropyModel, IterableEntropyModel};

@@ -4,8 +4,8 @@ ghost use Rattle.std.specs.Prelude.{◌≡◌, ◌≢◌, ◌<◌, ◌≤◌, �
 ghost use Rattle.std.specs.Prelude.{IfOk, IfErr, OnOk, OnErr, string_bytes};
 ghost use Rattle.std.specs.Io.KnownBytes.{Appends, Consumes, IsAtEnd, Keeps};
 ghost use Rattle.constriction_text.specs.Runs.{limit, HasRead, WritesBeginning, WritesAnswersBefore};
-ghost use Rattle.constriction_text.specs.Collecting.{WritesFront};
-ghost use Rattle.constriction_text.specs.Answering.{answer_to};
+ghost use Rattle.constriction_text.specs.private.Collecting.{WritesFront};
+ghost use Rattle.constriction_text.specs.private.Answering.{answer_to};
 ghost use Rattle.constriction_text.specs.Text.{IsTextOf, lines_of};
 
 use crate::answers::push_answer;

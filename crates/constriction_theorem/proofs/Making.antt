@@ -5,7 +5,7 @@ use Rattle.std.specs.Cmp.{IsEquivalence}
 use Rattle.constriction.specs.Entries.{HoldsEntriesOf}
 use Rattle.constriction.specs.Model.{ClonesAreEqual}
 use Rattle.constriction.specs.Rows.{Row, entry_of}
-use Rattle.constriction.specs.StandLemmas.{entries-of}
+use Rattle.constriction.specs.lemmas.Stand.{entries-of}
 
 -- what is known before a call is known of its value
 pub whatever-ok : {A E P : Type 0} (r : Result A E) → P → IfOk r (λ _. P)

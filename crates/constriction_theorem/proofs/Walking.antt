@@ -3,7 +3,7 @@ use Rattle.std.proofs.Common.{◌≡◌, ℕ, Bool, false, List, [], ◌∷◌, 
 use Rattle.std.specs.Prelude.{IfOk}
 use Rattle.constriction.specs.Model.{StandForRows}
 use Rattle.constriction.specs.Rows.{Row}
-use Rattle.constriction.specs.StandLemmas.{same-rows}
+use Rattle.constriction.specs.lemmas.Stand.{same-rows}
 use Rattle.constriction_client.specs.Chains.{ChainLeaves}
 use Rattle.constriction_client.specs.declared.chain.ChainStep.{ChainStep}
 use Rattle.constriction_client.specs.declared.queries.Reply.{Reply}

@@ -1,4 +1,4 @@
 pub mod CoderError
 pub mod ReadWriteError
 pub mod Rewinding
-pub use Rattle.constriction_numbers.specs.Word
+pub mod lemmas

@@ -5,7 +5,7 @@ ghost use Rattle.std.proofs.Common.{ap, sym, ◌∙◌};
 ghost use Rattle.std.proofs.lemmas.List.{length-reverse};
 ghost use Rattle.constriction_backends.specs.Cursor.{buf_of, state_of};
 ghost use Rattle.constriction_backends.specs.CursorState.{StackReads, QueueReads};
-ghost use Rattle.constriction_backends.specs.CursorLaws.{StackReads-upcoming, StackReads-counts, QueueReads-upcoming, QueueReads-counts};
+ghost use Rattle.constriction_backends.specs.lemmas.Cursor.{StackReads-upcoming, StackReads-counts, QueueReads-upcoming, QueueReads-counts};
 
 use crate::cursor::Cursor;
 use constriction_buffers::SafeBuf;

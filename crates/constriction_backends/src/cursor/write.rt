@@ -3,8 +3,8 @@
 ghost use Rattle.std.specs.Prelude.{◌≡◌, ◌<◌, refl, true, length};
 ghost use Rattle.std.proofs.Common.{sym};
 ghost use Rattle.constriction_backends.specs.Cursor.{state_of, WritesTo};
-ghost use Rattle.constriction_backends.specs.CursorLaws.{Overwrites-append, Overwrites-counts};
-ghost use Rattle.constriction_sources.specs.SinkLaws.{free_is_taken};
+ghost use Rattle.constriction_backends.specs.lemmas.Cursor.{Overwrites-append, Overwrites-counts};
+ghost use Rattle.constriction_sources.specs.lemmas.Sink.{free_is_taken};
 
 use crate::cursor::Cursor;
 use crate::error::BoundedWriteError;

@@ -7,7 +7,7 @@ ghost use Rattle.constriction.specs.Entries.{SameEntries};
 ghost use Rattle.constriction.specs.Model.{StandForRows, ClonesAreEqual};
 ghost use Rattle.constriction.specs.ModelRows.{decoder_model_rows};
 ghost use Rattle.constriction.specs.Rows.{entry_of, symbols_of};
-ghost use Rattle.constriction_client.specs.Coming.{ComeNext, QuantilesCome, GoesBack};
+ghost use Rattle.constriction_client.specs.private.Coming.{ComeNext, QuantilesCome, GoesBack};
 ghost use Rattle.constriction_client.specs.declared.quantiles.QuantileFault.{QuantileFault};
 ghost use Rattle.constriction_client.specs.Placing.{PlacesItems, EndsPlacing};
 ghost use Rattle.constriction_backends.specs.Source.{Reads};

@@ -3,7 +3,7 @@
 ghost use Rattle.std.specs.Prelude.{◌≡◌, ◌++◌, ◌∷◌, ◌/◌, ◌%◌, ◌^◌, ◌<◌, [], All};
 ghost use Rattle.constriction_backends.specs.Cursor.{state_of};
 ghost use Rattle.constriction_coders.specs.EncodedWords.{TakesFirst};
-ghost use Rattle.constriction_coders.specs.EncodedWordsLaws.{TakesFirst-upcoming};
+ghost use Rattle.constriction_coders.specs.lemmas.EncodedWords.{TakesFirst-upcoming};
 
 use constriction::Queue;
 use constriction::backends::{Cursor, ReadWords};

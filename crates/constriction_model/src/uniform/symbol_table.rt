@@ -4,7 +4,7 @@ ghost use Rattle.std.specs.Prelude.{◌≡◌, ◌+◌, ◌*◌, ◌<◌, ◌≤
 ghost use Rattle.std.specs.Iterator.{at_most, size};
 ghost use Rattle.std.specs.Iterator.SizeHint.{IsExactHint};
 ghost use Rattle.constriction_model.specs.Rows.{uniform_rows};
-ghost use Rattle.constriction_model.specs.UniformRowLemmas.{IsWeight, bin_of};
+ghost use Rattle.constriction_model.specs.lemmas.UniformRows.{IsWeight, bin_of};
 ghost use Rattle.constriction_model.specs.Tables.{YieldsRow, YieldsLastRow, rows_between};
 
 use crate::traits::Weight;

@@ -1,7 +1,7 @@
 //! The weights of a uniform model, and the symbol of a quantile, as numbers.
 
 ghost use Rattle.std.specs.Prelude.{◌≡◌, ◌/◌, ◌^◌, ◌<◌, ◌≤◌};
-ghost use Rattle.constriction_model.specs.UniformRowLemmas.{bin_of, rest_of};
+ghost use Rattle.constriction_model.specs.lemmas.UniformRows.{bin_of, rest_of};
 
 use constriction_numbers::WholeNumber;
 

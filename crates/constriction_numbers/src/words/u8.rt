@@ -1,7 +1,7 @@
 //! `u8` as a whole number.
 
 ghost use Rattle.std.specs.Int.NonZero.{non_zero_u8_get};
-ghost use Rattle.constriction_numbers.specs.Word.{same-above-0};
+ghost use Rattle.constriction_numbers.specs.lemmas.Word.{same-above-0};
 
 use crate::index_word::IndexWord;
 use crate::whole_number::WholeNumber;

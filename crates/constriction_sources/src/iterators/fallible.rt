@@ -4,7 +4,7 @@ ghost use Rattle.std.specs.Prelude.{◌≡◌, false, true};
 ghost use Rattle.std.specs.Iterator.{size, count_unless};
 ghost use Rattle.std.specs.Iterator.Adapters.{fuse_source, fuse_done, fuse_steps};
 ghost use Rattle.constriction_sources.specs.Items.{item_of, CountsDown};
-ghost use Rattle.constriction_sources.specs.ItemLaws.{item-counted, none-left};
+ghost use Rattle.constriction_sources.specs.lemmas.Items.{item-counted, none-left};
 
 use crate::iterators::FusedWords;
 use crate::read::{BoundedReadWords, ReadWords};

@@ -4,7 +4,7 @@ ghost use Rattle.std.specs.Prelude.{◌≡◌, false, true};
 ghost use Rattle.std.specs.Iterator.{AlwaysYields, size, count_unless};
 ghost use Rattle.std.specs.Iterator.Adapters.{fuse_source, fuse_done, fuse_steps};
 ghost use Rattle.constriction_sources.specs.Items.{GivesWord, CountsDown};
-ghost use Rattle.constriction_sources.specs.ItemLaws.{word-upcoming, word-counted, upcoming-counted, none-left, none-upcoming};
+ghost use Rattle.constriction_sources.specs.lemmas.Items.{word-upcoming, word-counted, upcoming-counted, none-left, none-upcoming};
 
 use crate::iterators::FusedWords;
 use crate::read::{BoundedReadWords, ReadWords};

@@ -3,7 +3,7 @@
 ghost use Rattle.std.specs.Prelude.{◌<◌};
 ghost use Rattle.std.proofs.Common.{ap};
 ghost use Rattle.std.proofs.lemmas.Bool.Decides.{Decides-eqb};
-ghost use Rattle.constriction_words.specs.Word.{pos-nonzero, same-above-0};
+ghost use Rattle.constriction_words.specs.lemmas.Word.{pos-nonzero, same-above-0};
 
 use crate::own_word::Sample;
 use constriction_words::NonZeroBitArray;

@@ -1,7 +1,7 @@
 //! Samples as whole numbers.
 
 ghost use Rattle.std.proofs.Common.{ap};
-ghost use Rattle.constriction_words.specs.Word.{same-above-0};
+ghost use Rattle.constriction_words.specs.lemmas.Word.{same-above-0};
 
 use crate::own_word::Sample;
 use crate::own_word::nonzero::NonZeroSample;

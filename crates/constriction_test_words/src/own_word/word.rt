@@ -2,7 +2,7 @@
 
 ghost use Rattle.std.proofs.Common.{refl, lit≤};
 ghost use Rattle.std.proofs.lemmas.Bool.Decides.{Decides-eqb};
-ghost use Rattle.constriction_words.specs.Word.{lt-whole, le-whole};
+ghost use Rattle.constriction_words.specs.lemmas.Word.{lt-whole, le-whole};
 
 use crate::own_word::Sample;
 use crate::own_word::nonzero::NonZeroSample;

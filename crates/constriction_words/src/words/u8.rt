@@ -3,7 +3,7 @@
 ghost use Rattle.std.specs.Int.NonZero.{non_zero_u8_get};
 ghost use Rattle.std.proofs.Common.{refl, lit≤};
 ghost use Rattle.std.proofs.lemmas.Bool.Decides.{Decides-eqb};
-ghost use Rattle.constriction_numbers.specs.Word.{pos-nonzero, same-above-0, lt-whole, le-whole};
+ghost use Rattle.constriction_numbers.specs.lemmas.Word.{pos-nonzero, same-above-0, lt-whole, le-whole};
 
 use crate::bit_array::{BitArray, NonZeroBitArray};
 use std::num::NonZeroU8;

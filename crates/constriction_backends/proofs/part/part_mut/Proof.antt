@@ -39,7 +39,7 @@ use denote.Triple.Table.{framed}
 use denote.Triple.Walked.{says, Stays, stay_dropped, walk_of, ends_at, Goes-dropped, Goes-spent_ref}
 use borrow.Table.Elements.{at, at_mul, length-take-le}
 use Rattle.constriction_buffers.proofs.Relending.{part_lent, lends_part}
-use Rattle.constriction_backends.specs.Part.{with_part}
+use Rattle.constriction_backends.specs.private.Part.{with_part}
 use Rattle.constriction_backends.proofs.Parts.{cut_part}
 use Rattle.constriction_buffers.specs.contracts.buf.SafeBufMut.words_mut as callee
 use Rattle.constriction_backends.specs.contracts.part.part_mut as F

@@ -6,8 +6,8 @@ use Rattle.std.specs.Iterator.Adapters.{copied_source}
 use Rattle.std.specs.Prelude.{OnOk}
 use Rattle.std.specs.Slice.Iter.{iter_rest}
 use Rattle.constriction_backends.specs.Cursor.{state_of, WritesTo}
-use Rattle.constriction_backends.specs.CursorLaws.{Overwrites-append}
-use Rattle.constriction_backends.specs.ExtendingLaws.{extended_by_all}
+use Rattle.constriction_backends.specs.lemmas.Cursor.{Overwrites-append}
+use Rattle.constriction_backends.specs.lemmas.Extending.{extended_by_all}
 use Rattle.constriction_backends.specs.Sink.{ExtendsBy, WritesAppend}
 use Rattle.constriction_backends_tests.proofs.cursors.extended.Goals as goal
 

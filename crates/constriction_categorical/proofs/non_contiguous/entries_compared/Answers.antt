@@ -1,7 +1,7 @@
 use Rattle.std.proofs.Common.{refl, vec_items}
 use Rattle.constriction_model.specs.Acceptance.{AreAccepted, WasReadOf, completed}
 use Rattle.constriction_model.specs.Rows.{rows_of}
-use Rattle.constriction_stored_rows.specs.Filling.{HoldsRows}
+use Rattle.constriction_stored_rows.specs.private.Filling.{HoldsRows}
 use Rattle.constriction_categorical.proofs.ReadEntries.{all-differ, all-stored, all-known, read-of_both}
 use Rattle.constriction_categorical.proofs.non_contiguous.entries_compared.Goals as goal
 

@@ -1,6 +1,6 @@
 use Rattle.std.proofs.Common.{◌∙◌, arith}
 use Rattle.std.proofs.lemmas.Iterator.Adapters.{YieldsList-from_vec}
-use Rattle.constriction.specs.GivenLemmas.{distinct-given}
+use Rattle.constriction.specs.lemmas.Given.{distinct-given}
 use Rattle.constriction_client.proofs.Rebuilding.{made-of-them, not-refused}
 use Rattle.constriction_client.proofs.chain.searching_of.Goals as goal
 

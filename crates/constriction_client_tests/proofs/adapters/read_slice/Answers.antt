@@ -3,7 +3,7 @@ use Rattle.std.proofs.iter.Yields.{Copied-slice, copies, fronts}
 use Rattle.std.specs.Iterator.{AlwaysYields}
 use Rattle.std.specs.Iterator.Adapters.{copied_source, fuse_done, fuse_source}
 use Rattle.std.specs.Slice.Iter.{iter_rest}
-use Rattle.constriction_backends.specs.ItemLaws.{tells-new}
+use Rattle.constriction_backends.specs.lemmas.Items.{tells-new}
 use Rattle.constriction_client_tests.proofs.SliceReading.{full-if-refused, pairs-if-read}
 use Rattle.constriction_client_tests.proofs.adapters.read_slice.Goals as goal
 

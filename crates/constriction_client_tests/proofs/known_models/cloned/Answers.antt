@@ -2,7 +2,7 @@ use Rattle.std.proofs.Common.{Ok, Err, ap, ◌∙◌}
 use Rattle.std.proofs.lemmas.Result.{IfOk-weaker}
 use Rattle.std.specs.Prelude.{IfOk, MatchResult, Result, nat_eq}
 use Rattle.constriction.specs.Rows.{entry_of}
-use Rattle.constriction.specs.StandLemmas.{same-rows}
+use Rattle.constriction.specs.lemmas.Stand.{same-rows}
 use Rattle.constriction_client_tests.proofs.known_models.cloned.Goals as goal
 
 if-ok : {A E : Type 0} (r : Result A E) (P : A → Type 0) (Q : E → Type 0) → MatchResult r P Q → IfOk r P

@@ -1,4 +1,4 @@
-use Rattle.constriction.specs.GivenLemmas.{gives-array, made-of-lists, refused-lists}
+use Rattle.constriction.specs.lemmas.Given.{gives-array, made-of-lists, refused-lists}
 use Rattle.constriction_test_models.proofs.GivenParts.{first, second}
 use Rattle.constriction_client_tests.proofs.known_models.decoder_of.Goals as goal
 

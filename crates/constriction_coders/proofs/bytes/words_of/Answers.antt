@@ -1,6 +1,6 @@
 use Rattle.std.proofs.Common.{◌≡◌, ◌+◌, ◌*◌, ap, arith, length}
 use Rattle.std.proofs.lemmas.List.{length_push}
-use Rattle.constriction_coders.specs.BytesLemmas.{words_more}
+use Rattle.constriction_coders.specs.lemmas.Bytes.{words_more}
 use Rattle.constriction_coders.proofs.bytes.words_of.Goals as goal
 
 pub loop-at-preserved : goal.loop-at-preserved

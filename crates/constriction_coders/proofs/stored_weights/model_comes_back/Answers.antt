@@ -1,7 +1,7 @@
 use Rattle.std.proofs.Common.{◌≡◌, ◌<◌, Err, length, map, drop, ap, sym, ◌∙◌, arith}
 use Rattle.constriction.specs.Acceptance.{AreAccepted}
 use Rattle.constriction.specs.Rows.{Row, rows_of}
-use Rattle.constriction.specs.StandLemmas.{tiling-rebuilds}
+use Rattle.constriction.specs.lemmas.Stand.{tiling-rebuilds}
 use Rattle.constriction.specs.declared.CoderError.{CoderError}
 use Rattle.constriction_coders.specs.StoredWeights.{weights_as_words}
 use Rattle.constriction_coders.specs.declared.stored_weights.ReadingError.TheVariants.{TooFewWords, NotAccepted}

@@ -1,7 +1,7 @@
 use Rattle.std.proofs.Common.{◌∙◌, Err, ap}
 use Rattle.std.proofs.lemmas.Iterator.Adapters.{YieldsList-from_vec}
 use Rattle.std.proofs.lemmas.List.{map-id}
-use Rattle.constriction.specs.GivenLemmas.{made-of-lists, refused-lists}
+use Rattle.constriction.specs.lemmas.Given.{made-of-lists, refused-lists}
 use Rattle.constriction_coders.proofs.stored_weights.model_of.Goals as goal
 
 pub returns-in-Ok-clause-accepted : goal.returns-in-Ok-clause-accepted

@@ -2,7 +2,7 @@ use Rattle.std.proofs.Common.{◌≡◌, [], ◌∷◌, ◌++◌, List, ℕ, Err
 use Rattle.std.proofs.lemmas.Result.{err_from_is_err_and}
 use Rattle.constriction.specs.declared.CoderError.{CoderError}
 use Rattle.constriction_backends.specs.Source.{Reads}
-use Rattle.constriction_backends.specs.SourceLaws.{reads_more, reads_upcoming_all}
+use Rattle.constriction_backends.specs.lemmas.Source.{reads_more, reads_upcoming_all}
 use Rattle.constriction_coders.specs.StoredWeights.{weights_as_words}
 use Rattle.constriction_coders.specs.declared.stored_weights.ReadingError.TheVariants.{TooFewWords}
 use Rattle.constriction_coders.proofs.StoredWeightsLemmas.{short-weights}

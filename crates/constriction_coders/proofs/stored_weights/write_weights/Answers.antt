@@ -3,7 +3,7 @@ use Rattle.std.proofs.Math.Seq.{split_at}
 use Rattle.std.proofs.lemmas.List.{take_more, take_all}
 use Rattle.std.proofs.lemmas.Result.{err_from_is_err_and}
 use Rattle.constriction_backends.specs.Sink.{Writes}
-use Rattle.constriction_backends.specs.SinkLaws.{writes_more, writes_append_all}
+use Rattle.constriction_backends.specs.lemmas.Sink.{writes_more, writes_append_all}
 use Rattle.constriction_coders.specs.StoredWeights.{weights_as_words}
 use Rattle.constriction_coders.proofs.StoredWeightsLemmas.{stopped}
 use Rattle.constriction_coders.proofs.stored_weights.write_weights.Goals as goal

@@ -1,5 +1,5 @@
 use Rattle.std.proofs.Common.{◌∙◌, ap, subst}
-use Rattle.constriction.specs.TurnLemmas.{turn-last}
+use Rattle.constriction.specs.lemmas.Turns.{turn-last}
 use Rattle.constriction_coders.specs.Steps.{content, IsDecoded}
 use Rattle.constriction_coders_tests.proofs.callers.by_a_walk.Goals as goal
 

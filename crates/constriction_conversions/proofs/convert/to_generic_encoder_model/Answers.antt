@@ -1,8 +1,8 @@
 use Rattle.std.specs.HashMap.{get}
 use Rattle.std.proofs.Common.{map}
-use Rattle.constriction_model.specs.CodingLemmas.{rows-within}
+use Rattle.constriction_model.specs.lemmas.Coding.{rows-within}
 use Rattle.constriction_model.specs.Model.{row_of}
-use Rattle.constriction_model.specs.StandLemmas.{tile-made}
+use Rattle.constriction_model.specs.lemmas.Stand.{tile-made}
 use Rattle.constriction_categorical.proofs.CollectLemmas.{walked-all}
 use Rattle.constriction_conversions.proofs.HashLemmas.{table-rows_within, found-within, table-count, table-same}
 use Rattle.constriction_conversions.proofs.convert.to_generic_encoder_model.Goals as goal

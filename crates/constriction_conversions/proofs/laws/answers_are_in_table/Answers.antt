@@ -1,4 +1,4 @@
-use Rattle.constriction_model.specs.WalkLemmas.{answers-are-in-table}
+use Rattle.constriction_model.specs.lemmas.Walks.{answers-are-in-table}
 use Rattle.constriction_conversions.proofs.laws.answers_are_in_table.Goals as goal
 
 pub returns : goal.returns

@@ -1,4 +1,4 @@
-use Rattle.constriction_model.specs.StandLemmas.{tiling-rebuilds}
+use Rattle.constriction_model.specs.lemmas.Stand.{tiling-rebuilds}
 use Rattle.constriction_conversions.proofs.laws.symbols_and_weights_rebuild.Goals as goal
 
 pub returns : goal.returns

@@ -1,4 +1,4 @@
-use Rattle.constriction_model.specs.WalkLemmas.{gives-all-rows}
+use Rattle.constriction_model.specs.lemmas.Walks.{gives-all-rows}
 use Rattle.constriction_conversions.proofs.laws.table_gives_all_rows.Goals as goal
 
 pub returns : goal.returns

@@ -1,4 +1,4 @@
-use Rattle.constriction_model.specs.WalkLemmas.{gives-as-many}
+use Rattle.constriction_model.specs.lemmas.Walks.{gives-as-many}
 use Rattle.constriction_conversions.proofs.laws.table_length.Goals as goal
 
 pub returns : goal.returns

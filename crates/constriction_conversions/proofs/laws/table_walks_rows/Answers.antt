@@ -1,4 +1,4 @@
-use Rattle.constriction_model.specs.WalkLemmas.{walks-rows}
+use Rattle.constriction_model.specs.lemmas.Walks.{walks-rows}
 use Rattle.constriction_conversions.proofs.laws.table_walks_rows.Goals as goal
 
 pub returns : goal.returns

@@ -1,4 +1,4 @@
-use Rattle.constriction_model.specs.PairLemmas.{pairs-are-quantiles}
+use Rattle.constriction_model.specs.lemmas.Pairs.{pairs-are-quantiles}
 use Rattle.constriction_model.proofs.laws.pairs_are_quantiles.Goals as goal
 
 pub returns : goal.returns

@@ -1,4 +1,4 @@
-use Rattle.constriction_model.specs.PairLemmas.{one-row-each}
+use Rattle.constriction_model.specs.lemmas.Pairs.{one-row-each}
 use Rattle.constriction_model.proofs.laws.quantiles_have_one_row.Goals as goal
 
 pub returns : goal.returns

@@ -1,6 +1,6 @@
 use Rattle.std.proofs.Common.{◌-◌, ◌≡◌, ◌+◌, length}
 use Rattle.constriction_model.specs.Probe.{digits}
-use Rattle.constriction_model.specs.Searching.{IsNarrowed}
+use Rattle.constriction_model.specs.private.Searching.{IsNarrowed}
 use Rattle.constriction_model.proofs.search.row_of_quantile.Given as goal
 
 abbrev pub invariant-rows : goal.invariant-rows

@@ -5,7 +5,7 @@ use Rattle.std.specs.List.{IsDistinct}
 use Rattle.std.proofs.lemmas.Map.Keys.{apart_from_distinct}
 use Rattle.constriction.specs.Model.{StandForRows}
 use Rattle.constriction.specs.Rows.{Row, symbols_of}
-use Rattle.constriction.specs.StandLemmas.{same-rows}
+use Rattle.constriction.specs.lemmas.Stand.{same-rows}
 use Rattle.constriction_models_tests.proofs.own_model.decoder_of.Goals as goal
 
 err-unless : {A E : Type 0} {P : A → Type 0} (r : Result A E) → IfOk r P → ((x : A) → P x → ⊥) → IsErr r

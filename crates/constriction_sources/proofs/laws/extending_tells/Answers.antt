@@ -1,4 +1,4 @@
-use Rattle.constriction_sources.specs.SinkLaws.{extending_tells}
+use Rattle.constriction_sources.specs.lemmas.Sink.{extending_tells}
 use Rattle.constriction_sources.proofs.laws.extending_tells.Goals as goal
 
 pub returns : goal.returns

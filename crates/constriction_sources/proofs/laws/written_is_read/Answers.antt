@@ -1,7 +1,7 @@
 use Rattle.std.proofs.Common.{◌≡◌, List, [], ◌∷◌, ◌++◌, length, Option, Some, None, Result, Ok, Err, MatchResult, sym, ◌∙◌, ap, arith}
 use Rattle.std.proofs.lemmas.List.{same_from_push, length_push}
 use Rattle.constriction_sources.specs.Stack.{PopsOrFails}
-use Rattle.constriction_sources.specs.StackLaws.{known_pushes, known_pops}
+use Rattle.constriction_sources.specs.lemmas.Stack.{known_pushes, known_pops}
 use Rattle.constriction_sources.proofs.laws.written_is_read.Goals as goal
 
 -- a pop answers the word on top and leaves the others, or fails and leaves all

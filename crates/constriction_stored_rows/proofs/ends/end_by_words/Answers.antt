@@ -1,7 +1,7 @@
 use Rattle.std.proofs.Common.{◌≡◌, ℕ, ◌+◌, ◌-◌, ◌%◌, ◌^◌, ◌<◌, ◌≤◌, ◌⊎◌, Bool, true, false, length, map, nat_lt, ap, sym, refl, ◌∙◌, arith, inl, inr}
 use Rattle.std.proofs.lemmas.Bool.{ltb-true, ltb-false}
 use Rattle.std.proofs.lemmas.List.{length-map}
-use Rattle.constriction_stored_rows.specs.StoredLemmas.{read-whole}
+use Rattle.constriction_stored_rows.specs.lemmas.Stored.{read-whole}
 use Rattle.constriction_stored_rows.proofs.EndLemmas.{end_words-next, end_words-last}
 use Rattle.constriction_stored_rows.proofs.ends.end_by_words.Goals as goal
 

@@ -1,7 +1,7 @@
 use Rattle.std.proofs.Common.{◌≡◌, get_or, map, ap, ◌∙◌, arith}
 use Rattle.std.proofs.lemmas.List.{length-map}
 use Rattle.constriction_stored_rows.specs.Stored.{weights_of}
-use Rattle.constriction_stored_rows.specs.StoredLemmas.{read-whole}
+use Rattle.constriction_stored_rows.specs.lemmas.Stored.{read-whole}
 use Rattle.constriction_stored_rows.proofs.EndLemmas.{row-weight}
 use Rattle.constriction_stored_rows.proofs.PairedLemmas.{paired-row}
 use Rattle.constriction_stored_rows.proofs.ends.row_up_to.Goals as goal

@@ -1,6 +1,6 @@
 -- the entries so far were cloned
 use Rattle.std.specs.Prelude.{take}
-use Rattle.constriction_stored_rows.specs.Filling.{AreEntriesCloned}
+use Rattle.constriction_stored_rows.specs.private.Filling.{AreEntriesCloned}
 use Rattle.constriction_stored_rows.proofs.paired.entries_cloned.Given as goal
 
 abbrev pub invariant-entries : goal.invariant-entries

@@ -1,6 +1,6 @@
 -- What was read so far is stored, and both iterators go on.
 use Rattle.std.specs.Iterator.{IsFinite}
-use Rattle.constriction_stored_rows.specs.Reading.{IsRead}
+use Rattle.constriction_stored_rows.specs.private.Reading.{IsRead}
 use Rattle.constriction_stored_rows.proofs.reading.take_all.Given as goal
 
 abbrev pub invariant-rows : goal.invariant-rows

@@ -3,7 +3,7 @@ use Rattle.std.proofs.lemmas.List.{length-map}
 use Rattle.std.proofs.lemmas.Nat.{pow_pos}
 use Rattle.constriction_stored_rows.specs.Slots.{slot_count, slot_width}
 use Rattle.constriction_stored_rows.specs.SlotTable.{words_a_slot}
-use Rattle.constriction_stored_rows.specs.StoredLemmas.{read-whole}
+use Rattle.constriction_stored_rows.specs.lemmas.Stored.{read-whole}
 use Rattle.constriction_stored_rows.proofs.SlotLemmas.{alone-within, slot-alone, pair-within, slot-pair, slot-order}
 use Rattle.constriction_stored_rows.proofs.slots.rows_of_slot.Goals as goal
 

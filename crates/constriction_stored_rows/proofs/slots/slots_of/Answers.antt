@@ -3,7 +3,7 @@ use Rattle.std.proofs.Math.Pow.{pow_mono}
 use Rattle.std.proofs.lemmas.List.{length-map}
 use Rattle.std.proofs.lemmas.Nat.{pow_pos}
 use Rattle.constriction_stored_rows.specs.Slots.{slot_width}
-use Rattle.constriction_stored_rows.specs.StoredLemmas.{read-whole}
+use Rattle.constriction_stored_rows.specs.lemmas.Stored.{read-whole}
 use Rattle.constriction_stored_rows.proofs.SlotFilling.{index-most, entry-word, next-word, word-within, row-filled, all-filled}
 use Rattle.constriction_stored_rows.proofs.slots.slots_of.Goals as goal
 

@@ -1,7 +1,7 @@
 use Rattle.std.proofs.Common.{◌≡◌, ◌+◌, ◌<◌, length, get_or, map, arith}
 use Rattle.std.proofs.lemmas.List.{length-map}
 use Rattle.constriction_stored_rows.specs.Stored.{lefts_in, weights_of}
-use Rattle.constriction_stored_rows.specs.StoredLemmas.{read-whole}
+use Rattle.constriction_stored_rows.specs.lemmas.Stored.{read-whole}
 use Rattle.constriction_stored_rows.proofs.CdfLemmas.{cdf-weight, cdf-row}
 use Rattle.constriction_stored_rows.proofs.stored.row_at.Goals as goal
 

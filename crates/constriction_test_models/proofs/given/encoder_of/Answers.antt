@@ -3,7 +3,7 @@ use Rattle.std.specs.Prelude.{IfOk, nat_eq}
 use Rattle.std.specs.Cmp.{nat_eq_equiv}
 use Rattle.constriction.specs.Entries.{HoldsEntriesOf, SameEntries}
 use Rattle.constriction.specs.Rows.{Row}
-use Rattle.constriction.specs.StandLemmas.{entries-of, same-equal}
+use Rattle.constriction.specs.lemmas.Stand.{entries-of, same-equal}
 use Rattle.constriction_test_models.proofs.given.encoder_of.Goals as goal
 
 -- if clones are the same values, what has the entries of the clones has the entries of the rows

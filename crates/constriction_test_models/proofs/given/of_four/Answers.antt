@@ -1,4 +1,4 @@
-use Rattle.constriction.specs.GivenLemmas.{gives-array, made-of-list, refused-list}
+use Rattle.constriction.specs.lemmas.Given.{gives-array, made-of-list, refused-list}
 use Rattle.constriction_test_models.proofs.GivenParts.{first, second}
 use Rattle.constriction_test_models.proofs.given.of_four.Goals as goal
 

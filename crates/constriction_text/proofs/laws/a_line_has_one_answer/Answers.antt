@@ -1,4 +1,4 @@
-use Rattle.constriction_text.specs.Answering.{answer_to}
+use Rattle.constriction_text.specs.private.Answering.{answer_to}
 use Rattle.constriction_text.proofs.OneAnswer.{is_answer, one_answer}
 use Rattle.constriction_text.proofs.laws.a_line_has_one_answer.Goals as goal
 

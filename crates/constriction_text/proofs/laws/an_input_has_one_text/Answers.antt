@@ -1,4 +1,4 @@
-use Rattle.constriction_text.specs.Answering.{text_of}
+use Rattle.constriction_text.specs.private.Answering.{text_of}
 use Rattle.constriction_text.specs.Text.{lines_of}
 use Rattle.constriction_text.proofs.OneAnswer.{are_answers, one_text}
 use Rattle.constriction_text.proofs.laws.an_input_has_one_text.Goals as goal

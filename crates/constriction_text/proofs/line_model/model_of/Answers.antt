@@ -4,8 +4,8 @@ use Rattle.std.proofs.lemmas.Iterator.{YieldsList-from_slice, YieldsList-from_ma
 use Rattle.std.proofs.lemmas.Iterator.Consumers.{YieldsList-at}
 use Rattle.constriction_model.specs.Acceptance.{completed}
 use Rattle.constriction_model.specs.Rows.{contiguous_rows}
-use Rattle.constriction_text.specs.NumberWords.{narrowed_to}
-use Rattle.constriction_text.specs.Answering.{are_accepted}
+use Rattle.constriction_text.specs.private.NumberWords.{narrowed_to}
+use Rattle.constriction_text.specs.private.Answering.{are_accepted}
 use Rattle.constriction_text.proofs.Accepting.{found_made, found_refused, first_found, second_found}
 use Rattle.constriction_text.proofs.line_model.model_of.Given as given
 use Rattle.constriction_text.proofs.line_model.model_of.Goals as goal

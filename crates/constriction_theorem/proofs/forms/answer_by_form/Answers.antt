@@ -1,5 +1,5 @@
 use Rattle.std.proofs.Common.{sym, ◌∙◌}
-use Rattle.constriction_client.specs.ChainLemmas.{entries-after}
+use Rattle.constriction_client.specs.lemmas.Chains.{entries-after}
 use Rattle.constriction_client.proofs.Replying.{scan-of-rows}
 use Rattle.constriction_theorem.proofs.Walking.{leaves-of-itself}
 use Rattle.constriction_theorem.proofs.forms.answer_by_form.Goals as goal

@@ -1,6 +1,6 @@
 use Rattle.std.proofs.Common.{◌∙◌}
 use Rattle.std.proofs.lemmas.Iterator.Adapters.{YieldsList-from_vec}
-use Rattle.constriction.specs.GivenLemmas.{made-of-lists, refused-lists}
+use Rattle.constriction.specs.lemmas.Given.{made-of-lists, refused-lists}
 use Rattle.constriction_theorem.proofs.made.searching_from.Goals as goal
 
 pub returns-clause-ok : goal.returns-clause-ok

@@ -36,7 +36,7 @@ use denote.Triple.Table.{entered}
 use denote.Triple.Walked.{says, Stays, stay_dropped, walk_of, ends_at, walked, Goes-spent_ref, walk_Meets}
 use Rattle.constriction_buffers.proofs.Relending.{elements_lent, lends_elements}
 use Rattle.constriction_buffers.specs.Buffer.{refilled}
-use Rattle.constriction_buffers.specs.BufferLaws.{refilled_same}
+use Rattle.constriction_buffers.specs.lemmas.Buffer.{refilled_same}
 use Rattle.constriction_buffers.specs.contracts.buf.ArraySafeBufMut.words_mut as F
 use Rattle.constriction_buffers.specs.contracts.buf.ArraySafeBufMut.words_mut.Key.{name as #self}
 use Rattle.constriction_buffers.proofs.buf.ArraySafeBufMut.words_mut.Statement as stated

@@ -44,7 +44,7 @@ use denote.Triple.Walked.{says, Stays, stay_dropped, walk_of, ends_at, walked, G
 use Rattle.std.proofs.Common.{append-nil}
 use Rattle.constriction_buffers.proofs.Relending.{part_lent, lends_part}
 use Rattle.constriction_buffers.specs.Buffer.{refilled}
-use Rattle.constriction_buffers.specs.BufferLaws.{refilled_same}
+use Rattle.constriction_buffers.specs.lemmas.Buffer.{refilled_same}
 use Rattle.constriction_buffers.specs.contracts.buf.RefMutSliceSafeBufMut.words_mut as F
 use Rattle.constriction_buffers.specs.contracts.buf.RefMutSliceSafeBufMut.words_mut.Key.{name as #self}
 use Rattle.constriction_buffers.proofs.buf.RefMutSliceSafeBufMut.words_mut.Statement as stated

@@ -1,4 +1,4 @@
-use Rattle.constriction_stored_rows.specs.SymbolRowLemmas.{lefts-words}
+use Rattle.constriction_stored_rows.specs.lemmas.SymbolRows.{lefts-words}
 use Rattle.constriction_categorical.proofs.contiguous.ContiguousCategoricalEntropyModel.cdf_entries.Goals as goal
 
 pub returns : goal.returns

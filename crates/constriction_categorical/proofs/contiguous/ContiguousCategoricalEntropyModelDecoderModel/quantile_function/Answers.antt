@@ -2,7 +2,7 @@ use Rattle.std.proofs.Common.{map, length, ap, refl, arith}
 use Rattle.std.proofs.lemmas.List.{length-map}
 use Rattle.constriction_model.specs.Model.{row_of}
 use Rattle.constriction_stored_rows.proofs.CdfLemmas.{cdf-rows}
-use Rattle.constriction_stored_rows.specs.StoredRowLemmas.{stored-tiles}
+use Rattle.constriction_stored_rows.specs.lemmas.StoredRows.{stored-tiles}
 use Rattle.constriction_categorical.proofs.RowAnswers.{all-searched}
 use Rattle.constriction_categorical.proofs.contiguous.ContiguousCategoricalEntropyModelDecoderModel.quantile_function.Goals as goal
 

@@ -1,9 +1,9 @@
 use Rattle.std.specs.Prelude.{nat_eq}
 use Rattle.std.proofs.Common.{◌≡◌, length, map, refl, arith, Some}
 use Rattle.std.proofs.lemmas.List.{length-map}
-use Rattle.constriction_model.specs.CodingLemmas.{words-within}
+use Rattle.constriction_model.specs.lemmas.Coding.{words-within}
 use Rattle.constriction_stored_rows.specs.Stored.{lefts_in}
-use Rattle.constriction_stored_rows.specs.StoredRowLemmas.{stored-entry, stored-no_entry, stored-within}
+use Rattle.constriction_stored_rows.specs.lemmas.StoredRows.{stored-entry, stored-no_entry, stored-within}
 use Rattle.constriction_stored_rows.proofs.StoredSteps.{lent-cdf}
 use Rattle.constriction_stored_rows.proofs.CdfLemmas.{cdf-long}
 use Rattle.constriction_categorical.proofs.contiguous.ContiguousCategoricalEntropyModelEncoderModel.left_cumulative_and_probability.Goals as goal

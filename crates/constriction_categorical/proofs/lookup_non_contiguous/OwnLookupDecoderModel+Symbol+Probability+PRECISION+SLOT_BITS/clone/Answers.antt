@@ -1,4 +1,4 @@
-use Rattle.constriction_model.specs.StandLemmas.{lefts-made}
+use Rattle.constriction_model.specs.lemmas.Stand.{lefts-made}
 use Rattle.constriction_stored_rows.specs.Stored.{rows_paired}
 use Rattle.constriction_categorical.proofs.lookup_non_contiguous.OwnLookupDecoderModel+Symbol+Probability+PRECISION+SLOT_BITS.clone.Goals as goal
 

@@ -1,5 +1,5 @@
 use Rattle.std.proofs.lemmas.Result.{IfOk-weaker}
-use Rattle.constriction_model.specs.StandLemmas.{distinct-clones}
+use Rattle.constriction_model.specs.lemmas.Stand.{distinct-clones}
 use Rattle.constriction_stored_rows.proofs.PairedLemmas.{cloned-words, cloned-symbols, cloned-rows}
 use Rattle.constriction_categorical.proofs.non_contiguous.NonContiguousCategoricalDecoderModel.cloned_entries.Goals as goal
 

@@ -1,6 +1,6 @@
 use Rattle.std.proofs.Common.{length, ap, arith}
 use Rattle.constriction_stored_rows.proofs.PairedLemmas.{paired-many}
-use Rattle.constriction_stored_rows.specs.SymbolRowLemmas.{paired-tiles}
+use Rattle.constriction_stored_rows.specs.lemmas.SymbolRows.{paired-tiles}
 use Rattle.constriction_categorical.proofs.RowAnswers.{all-searched, row-answered}
 use Rattle.constriction_categorical.proofs.non_contiguous.NonContiguousCategoricalDecoderModelDecoderModel.quantile_function.Goals as goal
 

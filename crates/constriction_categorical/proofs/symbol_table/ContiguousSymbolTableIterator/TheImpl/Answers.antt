@@ -1,4 +1,4 @@
-use Rattle.constriction_model.specs.HintLemmas.{exact-hint}
+use Rattle.constriction_model.specs.lemmas.Hints.{exact-hint}
 use Rattle.constriction_categorical.proofs.symbol_table.ContiguousSymbolTableIterator.TheImpl.Goals as goal
 
 pub size_hint-tells : goal.size_hint-tells

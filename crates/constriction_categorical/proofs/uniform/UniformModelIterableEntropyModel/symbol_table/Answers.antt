@@ -1,7 +1,7 @@
 use Rattle.std.proofs.Common.{◌+◌, ◌≡◌, sym}
 use Rattle.constriction_model.specs.Rows.{uniform_rows}
 use Rattle.constriction_model.specs.Tables.{rows_between}
-use Rattle.constriction_model.specs.UniformRowLemmas.{length-uniform_rows}
+use Rattle.constriction_model.specs.lemmas.UniformRows.{length-uniform_rows}
 use Rattle.constriction_model.proofs.StepLemmas.{all-between, same-most}
 use Rattle.constriction_categorical.proofs.uniform.UniformModelIterableEntropyModel.symbol_table.Goals as goal
 

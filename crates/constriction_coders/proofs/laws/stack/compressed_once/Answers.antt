@@ -1,4 +1,4 @@
-use Rattle.constriction_coders.specs.StackLemmas.{compressed-once}
+use Rattle.constriction_coders.specs.lemmas.Stack.{compressed-once}
 use Rattle.constriction_coders.proofs.laws.stack.compressed_once.Goals as goal
 
 pub returns : goal.returns

@@ -1,4 +1,4 @@
-use Rattle.constriction.specs.PairLemmas.{one-to-one}
+use Rattle.constriction.specs.lemmas.Pairs.{one-to-one}
 use Rattle.constriction.specs.Rows.{entry_of}
 use Rattle.constriction_coders.proofs.GoingBack.{goes-back, has-entry, words-go-back}
 use Rattle.constriction_coders.proofs.laws.stack.decoded_goes_back.Goals as goal

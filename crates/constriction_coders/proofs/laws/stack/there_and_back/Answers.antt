@@ -1,7 +1,7 @@
 use Rattle.std.proofs.Common.{◌∙◌, ap, reverse, sym}
 use Rattle.std.proofs.lemmas.List.{length-reverse}
 use Rattle.constriction_coders.specs.Steps.{Content}
-use Rattle.constriction.specs.TurnLemmas.{are-equal}
+use Rattle.constriction.specs.lemmas.Turns.{are-equal}
 use Rattle.constriction_coders.proofs.laws.stack.there_and_back.Goals as goal
 
 pub returns-in-Ok-decode_symbols-clause-state : goal.returns-in-Ok-decode_symbols-clause-state

@@ -1,4 +1,4 @@
-use Rattle.constriction_coders.specs.StackLemmas.{symbols-once}
+use Rattle.constriction_coders.specs.lemmas.Stack.{symbols-once}
 use Rattle.constriction_coders.proofs.Stacking.{words-come-back}
 use Rattle.constriction_coders.proofs.laws.stack.words_come_back.Goals as goal
 

@@ -1,5 +1,5 @@
 use Rattle.std.proofs.Common.{sym}
-use Rattle.constriction.specs.CodingLemmas.{entry-within, entry-positive}
+use Rattle.constriction.specs.lemmas.Coding.{entry-within, entry-positive}
 use Rattle.constriction_coders.proofs.Stacking.{words-of-symbols-once, words-end-above-0}
 use Rattle.constriction_coders.proofs.laws.stack.words_once.Goals as goal
 

@@ -7,7 +7,7 @@ use Rattle.std.specs.Set.{distinct_count}
 use Rattle.std.proofs.lemmas.Map.Made.{distinct_count-from_IsDistinct}
 use Rattle.constriction_model.specs.Acceptance.{AreAccepted, completed}
 use Rattle.constriction_model.specs.Rows.{rows_of}
-use Rattle.constriction_model.specs.CodingLemmas.{rows-within}
+use Rattle.constriction_model.specs.lemmas.Coding.{rows-within}
 use Rattle.constriction_conversions.proofs.HashLemmas.{table-rows_within, found-within, table-entry_of, table-count}
 use Rattle.constriction_stored_rows.proofs.MadeLemmas.{made-unrefused, bad-both}
 use Rattle.constriction_stored_rows.proofs.PairedLemmas.{accepted-tile, accepted-symbols}

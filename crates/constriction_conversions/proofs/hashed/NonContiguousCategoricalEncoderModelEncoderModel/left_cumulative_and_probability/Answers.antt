@@ -1,5 +1,5 @@
 use Rattle.std.proofs.Common.{Some, None}
-use Rattle.constriction_model.specs.CodingLemmas.{words-within}
+use Rattle.constriction_model.specs.lemmas.Coding.{words-within}
 use Rattle.constriction_conversions.proofs.HashLemmas.{table-answer}
 use Rattle.constriction_conversions.proofs.hashed.NonContiguousCategoricalEncoderModelEncoderModel.left_cumulative_and_probability.Goals as goal
 

@@ -1,5 +1,5 @@
 use Rattle.std.proofs.Common.{◌*◌, ◌∙◌, ap}
-use Rattle.constriction_model.specs.UniformRowLemmas.{left-fits}
+use Rattle.constriction_model.specs.lemmas.UniformRows.{left-fits}
 use Rattle.constriction_model.proofs.uniform.UniformModel.row_words_of.Goals as goal
 
 pub times-left-requires : goal.times-left-requires

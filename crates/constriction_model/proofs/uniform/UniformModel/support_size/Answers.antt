@@ -1,5 +1,5 @@
 use Rattle.std.proofs.Common.{◌+◌, arith}
-use Rattle.constriction_model.specs.WalkLemmas.{row-count}
+use Rattle.constriction_model.specs.lemmas.Walks.{row-count}
 use Rattle.constriction_model.proofs.uniform.UniformModel.support_size.Goals as goal
 
 pub returns : goal.returns

@@ -1,7 +1,7 @@
 use Rattle.std.proofs.Common.{refl}
-use Rattle.constriction_model.specs.CodingLemmas.{row-within}
+use Rattle.constriction_model.specs.lemmas.Coding.{row-within}
 use Rattle.constriction_model.specs.Model.{row_of}
-use Rattle.constriction_model.specs.UniformRowLemmas.{uniform-found, uniform-tiles}
+use Rattle.constriction_model.specs.lemmas.UniformRows.{uniform-found, uniform-tiles}
 use Rattle.constriction_model.proofs.uniform.UniformModelDecoderModel.quantile_function.Goals as goal
 
 pub returns : goal.returns

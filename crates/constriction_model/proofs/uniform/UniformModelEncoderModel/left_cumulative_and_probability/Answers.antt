@@ -1,7 +1,7 @@
 use Rattle.std.proofs.Common.{arith, Some}
 use Rattle.std.specs.Prelude.{nat_eq}
-use Rattle.constriction_model.specs.CodingLemmas.{words-within}
-use Rattle.constriction_model.specs.UniformRowLemmas.{uniform-entry, uniform-no_entry, uniform-within}
+use Rattle.constriction_model.specs.lemmas.Coding.{words-within}
+use Rattle.constriction_model.specs.lemmas.UniformRows.{uniform-entry, uniform-no_entry, uniform-within}
 use Rattle.constriction_model.proofs.uniform.UniformModelEncoderModel.left_cumulative_and_probability.Goals as goal
 
 pub returns-then-symbol-to_number : goal.returns-then-symbol-to_number

@@ -1,5 +1,5 @@
 use Rattle.std.proofs.Common.{arith}
-use Rattle.constriction_model.specs.UniformRowLemmas.{rest-positive}
+use Rattle.constriction_model.specs.lemmas.UniformRows.{rest-positive}
 use Rattle.constriction_model.proofs.UniformLemmas.{bin-fits, rest-wrapped}
 use Rattle.constriction_model.proofs.uniform.weights.last_probability.Goals as goal
 

@@ -1,5 +1,5 @@
 use Rattle.std.specs.Iterator.Adapters.{fuse_done, fuse_source}
-use Rattle.constriction_sources.specs.ItemLaws.{word-end-is-for-good}
+use Rattle.constriction_sources.specs.lemmas.Items.{word-end-is-for-good}
 use Rattle.constriction_sources.proofs.laws.iterators.word_end_is_for_good.Goals as goal
 
 pub returns : goal.returns

@@ -1,4 +1,4 @@
-use Rattle.constriction_sources.specs.StackLaws.{known_pops}
+use Rattle.constriction_sources.specs.lemmas.Stack.{known_pops}
 use Rattle.constriction_sources.proofs.laws.word_stacks.pop.Goals as goal
 
 pub returns-clause-pops : goal.returns-clause-pops

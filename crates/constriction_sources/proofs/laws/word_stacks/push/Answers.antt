@@ -1,4 +1,4 @@
-use Rattle.constriction_sources.specs.StackLaws.{known_pushes}
+use Rattle.constriction_sources.specs.lemmas.Stack.{known_pushes}
 use Rattle.constriction_sources.proofs.laws.word_stacks.push.Goals as goal
 
 pub returns-clause-pushes : goal.returns-clause-pushes

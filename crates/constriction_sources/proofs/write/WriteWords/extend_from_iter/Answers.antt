@@ -1,4 +1,4 @@
-use Rattle.constriction_sources.specs.SinkLaws.{writes_more}
+use Rattle.constriction_sources.specs.lemmas.Sink.{writes_more}
 use Rattle.constriction_sources.proofs.write.WriteWords.extend_from_iter.Goals as goal
 
 pub loop-word-preserved : goal.loop-word-preserved

@@ -1,6 +1,6 @@
 use Rattle.std.proofs.Common.{◌≡◌, map, ◌∙◌}
 use Rattle.constriction_model.specs.Rows.{contiguous_rows}
-use Rattle.constriction_model.specs.StandLemmas.{exact-row}
+use Rattle.constriction_model.specs.lemmas.Stand.{exact-row}
 use Rattle.constriction_stored_rows.specs.Stored.{lefts_in, weights_of}
 use Rattle.constriction_text.proofs.Accepting.{narrowed_same}
 use Rattle.constriction_text.proofs.RowTexts.{same_row}

@@ -1,4 +1,4 @@
-use Rattle.constriction_sources.specs.StackLaws.{tells_end}
+use Rattle.constriction_sources.specs.lemmas.Stack.{tells_end}
 use Rattle.constriction_backends.proofs.cursor.read.CursorReadWordsStack.TheImpl.Goals as goal
 
 pub maybe_exhausted-tells : goal.maybe_exhausted-tells

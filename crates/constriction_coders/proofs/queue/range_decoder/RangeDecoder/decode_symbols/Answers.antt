@@ -1,5 +1,5 @@
 use Rattle.std.proofs.Common.{◌∷◌, [], arith, ap, length, length-append}
-use Rattle.constriction.specs.TurnLemmas.{turn-last}
+use Rattle.constriction.specs.lemmas.Turns.{turn-last}
 use Rattle.constriction_coders.specs.Intervals.{IsRead}
 use Rattle.constriction_coders.proofs.Intervals.{reading_stops}
 use Rattle.constriction_coders.proofs.queue.range_decoder.RangeDecoder.decode_symbols.Goals as goal

@@ -1,6 +1,6 @@
 use Rattle.std.proofs.Common.{arith, ap, length}
 use Rattle.std.proofs.lemmas.List.{length_push}
-use Rattle.constriction.specs.TurnLemmas.{turn-last}
+use Rattle.constriction.specs.lemmas.Turns.{turn-last}
 use Rattle.constriction_coders.proofs.Stopping.{decoding-stops}
 use Rattle.constriction_coders.proofs.stack.ans_coder.AnsCoder.decode_symbols.Goals as goal
 

@@ -1,5 +1,5 @@
 use Rattle.constriction.specs.Rows.{entry_of}
-use Rattle.constriction.specs.TurnLemmas.{turn-first}
+use Rattle.constriction.specs.lemmas.Turns.{turn-first}
 use Rattle.constriction_coders.proofs.Stopping.{encoding-stops}
 use Rattle.constriction_coders.proofs.stack.ans_coder.AnsCoder.encode_symbols.Goals as goal
 

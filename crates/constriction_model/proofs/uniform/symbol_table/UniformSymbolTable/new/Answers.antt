@@ -1,5 +1,5 @@
 use Rattle.std.proofs.Common.{arith}
-use Rattle.constriction_model.specs.UniformRowLemmas.{bin-positive, rest-positive}
+use Rattle.constriction_model.specs.lemmas.UniformRows.{bin-positive, rest-positive}
 use Rattle.constriction_model.proofs.uniform.symbol_table.UniformSymbolTable.new.Goals as goal
 
 pub to_weight-requires : goal.to_weight-requires

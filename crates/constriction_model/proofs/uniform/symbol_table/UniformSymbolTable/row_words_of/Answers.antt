@@ -1,6 +1,6 @@
 use Rattle.std.proofs.Common.{◌≡◌, ◌*◌, true, false, ◌∙◌, ap, arith, inl, inr}
 use Rattle.std.proofs.lemmas.Bool.{cases_lt}
-use Rattle.constriction_model.specs.UniformRowLemmas.{left-fits}
+use Rattle.constriction_model.specs.lemmas.UniformRows.{left-fits}
 use Rattle.constriction_model.proofs.uniform.symbol_table.UniformSymbolTable.row_words_of.Goals.{then-is_below, else-is_below}
 use Rattle.constriction_model.proofs.uniform.symbol_table.UniformSymbolTable.row_words_of.Goals as goal
 

@@ -1,6 +1,6 @@
 use Rattle.std.proofs.Common.{ℕ, ◌+◌, ◌-◌, ◌<◌, ◌≤◌, refl, arith}
 use Rattle.constriction_model.specs.Rows.{uniform_rows}
-use Rattle.constriction_model.specs.UniformRowLemmas.{uniform-at, length-uniform_rows}
+use Rattle.constriction_model.specs.lemmas.UniformRows.{uniform-at, length-uniform_rows}
 use Rattle.constriction_model.proofs.StepLemmas.{last-between, fewer-last, none-between}
 use Rattle.constriction_model.proofs.uniform.symbol_table.UniformSymbolTableDoubleEndedIterator.next_back.Goals as goal
 

@@ -1,6 +1,6 @@
 use Rattle.std.proofs.Common.{◌+◌, sym, arith}
 use Rattle.constriction_model.specs.Rows.{uniform_rows}
-use Rattle.constriction_model.specs.UniformRowLemmas.{length-uniform_rows}
+use Rattle.constriction_model.specs.lemmas.UniformRows.{length-uniform_rows}
 use Rattle.constriction_model.proofs.StepLemmas.{length-between}
 use Rattle.constriction_model.proofs.uniform.symbol_table.UniformSymbolTableExactSizeIterator.len.Goals as goal
 

@@ -1,6 +1,6 @@
 use Rattle.std.proofs.Common.{ℕ, ◌+◌, ◌<◌, ◌≤◌, refl, arith}
 use Rattle.constriction_model.specs.Rows.{uniform_rows}
-use Rattle.constriction_model.specs.UniformRowLemmas.{uniform-at, length-uniform_rows}
+use Rattle.constriction_model.specs.lemmas.UniformRows.{uniform-at, length-uniform_rows}
 use Rattle.constriction_model.proofs.StepLemmas.{first-between, fewer-first, none-between}
 use Rattle.constriction_model.proofs.uniform.symbol_table.UniformSymbolTableIterator.next.Goals as goal
 

@@ -10,8 +10,8 @@ use Rattle.std.proofs.lemmas.List.FromFn.{length-range_with_len}
 use Rattle.std.proofs.lemmas.List.Sums.{sum_by-cons}
 use Rattle.std.proofs.lemmas.Map.Keys.{IsDistinct-head, IsDistinct-tail}
 use Rattle.constriction_model.specs.Rows.{Row, RowsTile, IsRowOf, rows_from, entry_of, contiguous_rows, symbols_of}
-use Rattle.constriction_model.specs.RowLemmas.{indices, entry_of-cons, symbols-rows_from}
-use Rattle.constriction_model.specs.CodingLemmas.{entry-row, entry-below, one-row, row-within, rows-within}
+use Rattle.constriction_model.specs.lemmas.Rows.{indices, entry_of-cons, symbols-rows_from}
+use Rattle.constriction_model.specs.lemmas.Coding.{entry-row, entry-below, one-row, row-within, rows-within}
 use Rattle.constriction_model.specs.Entries.{SameEntries}
 use Rattle.constriction_model.specs.Laws.{HasOneRow, IsQuantileAt, IsOneToOne}
 

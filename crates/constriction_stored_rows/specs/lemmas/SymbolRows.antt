@@ -5,8 +5,8 @@ use Rattle.std.proofs.lemmas.Bool.{cases_lt}
 use Rattle.std.proofs.lemmas.List.{length-map, take-map}
 use Rattle.constriction_model.specs.Rows.{Row, rows_of, RowsTile, IsRowOf}
 use Rattle.constriction_stored_rows.specs.Stored.{IsStored, lefts_in, weights_of}
-use Rattle.constriction_model.specs.RowLemmas.{length-rows_from, weights-rows_from, symbols-rows_from, rows_from-at}
-use Rattle.constriction_stored_rows.specs.StoredLemmas.{stored-row, length-gaps, lefts_from-at}
+use Rattle.constriction_model.specs.lemmas.Rows.{length-rows_from, weights-rows_from, symbols-rows_from, rows_from-at}
+use Rattle.constriction_stored_rows.specs.lemmas.Stored.{stored-row, length-gaps, lefts_from-at}
 use Rattle.constriction_stored_rows.specs.Stored.{rows_paired}
 
 module _ {Symbol : Type 0} (bits precision : ℕ) (ss : List Symbol) (lefts : List ℕ) (t : IsStored bits precision lefts)

@@ -10,7 +10,7 @@ use Rattle.std.proofs.lemmas.Map.Keys.{IsDistinct-head, IsDistinct-tail, IsDisti
 use Rattle.constriction_model.specs.Acceptance.{AreAccepted, IsAccepted}
 use Rattle.constriction_model.specs.Entries.{SameEntries, HoldsEntriesOf}
 use Rattle.constriction_model.specs.Model.{row_of, StandsForRow, AnswersQuantile, StandForRows, ClonesRepeat, ClonesAreSame, ClonesAreEqual}
-use Rattle.constriction_model.specs.RowLemmas.{entry_of-cons}
+use Rattle.constriction_model.specs.lemmas.Rows.{entry_of-cons}
 use Rattle.constriction_model.specs.Rows.{Row, RowsTile, IsRowOf, rows_from, rows_of, entry_of, symbols_of}
 
 -- ---- beginnings of a list with no two equal symbols

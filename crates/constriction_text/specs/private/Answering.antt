@@ -4,7 +4,7 @@ use Rattle.std.specs.List.{flat_map, list_all}
 use Rattle.constriction_model.specs.Acceptance.{completed}
 use Rattle.constriction_model.specs.Rows.{Row, contiguous_rows}
 use Rattle.constriction_text.specs.Grammar.{Request, table, infer, quantile, symbol, uniform, bits_of, precision_of}
-use Rattle.constriction_text.specs.Reading.{read_line}
+use Rattle.constriction_text.specs.private.Reading.{read_line}
 use Rattle.constriction_text.specs.Text.{lines_of, rows_text, quantile_text, symbol_text, uniform_text}
 
 -- whether weights are accepted over words of `bits` bits: each is positive and a word, and their sum is 2 ^ precision

@@ -6,7 +6,7 @@ use Rattle.std.proofs.lemmas.Iterator.{YieldsList}
 use Rattle.std.proofs.lemmas.Iterator.Consumers.{YieldsList-end}
 use Rattle.std.proofs.lemmas.List.{map-id}
 use Rattle.constriction_sources.specs.Sink.{WritesAppend, ExtendsBy}
-use Rattle.constriction_sources.specs.SinkLaws.{writes_append_all}
+use Rattle.constriction_sources.specs.lemmas.Sink.{writes_append_all}
 
 -- if all items were written, they come after the words that were written before
 pub extended_by_all : {S W E I : Type 0} (gives : S → W → Result (Unit {0}) E → S → Type 0) (tells : S → List W → Type 0)

@@ -11,9 +11,9 @@ use Rattle.std.specs.List.{AllZip}
 use Rattle.std.specs.Prelude.{IsTrue}
 use Rattle.constriction.specs.Acceptance.{IsAccepted}
 use Rattle.constriction.specs.Coding.{InTurn}
-use Rattle.constriction.specs.CodingLemmas.{entry-back}
-use Rattle.constriction.specs.PairLemmas.{has-row}
-use Rattle.constriction.specs.RowLemmas.{symbols-rows_from, weights-rows_from}
+use Rattle.constriction.specs.lemmas.Coding.{entry-back}
+use Rattle.constriction.specs.lemmas.Pairs.{has-row}
+use Rattle.constriction.specs.lemmas.Rows.{symbols-rows_from, weights-rows_from}
 use Rattle.constriction.specs.Rows.{Row, RowsTile, contiguous_rows, entry_of}
 use Rattle.constriction_coders.specs.Compressed.{AreAllWordsOf, IsCompressed}
 use Rattle.constriction_coders.specs.StackMessages.{IsStackOf, SymbolsOnce}

@@ -7,9 +7,9 @@ use Rattle.std.proofs.lemmas.Slice.Zip.{AllZip-long}
 use Rattle.constriction_model.specs.Rows.{Row, RowsTile, IsRowOf, uniform_rows}
 use Rattle.constriction_model.specs.Model.{row_of, StandsForRow, StandForRows, ClonesAreSame}
 use Rattle.constriction_model.specs.Tables.{StandsFor, YieldsRow}
-use Rattle.constriction_model.specs.CodingLemmas.{one-row}
-use Rattle.constriction_model.specs.StandLemmas.{its-symbol, its-left, its-weight, same-rows, same-answer}
-use Rattle.constriction_model.specs.UniformRowLemmas.{length-uniform_rows}
+use Rattle.constriction_model.specs.lemmas.Coding.{one-row}
+use Rattle.constriction_model.specs.lemmas.Stand.{its-symbol, its-left, its-weight, same-rows, same-answer}
+use Rattle.constriction_model.specs.lemmas.UniformRows.{length-uniform_rows}
 use Rattle.constriction_model.specs.Laws.{AreRows, IsInTable}
 
 -- if a relation holds of two lists place by place, each element of one has a partner in the other

@@ -4,8 +4,8 @@ use Rattle.std.specs.Iterator.{Yields}
 use Rattle.std.specs.List.{list_any, IsDistinct}
 use Rattle.constriction_model.specs.Acceptance.{completed, AreAccepted}
 use Rattle.constriction_model.specs.Rows.{Row, rows_of, symbols_of}
-use Rattle.constriction_stored_rows.specs.Filling.{IsFilled}
-use Rattle.constriction_stored_rows.specs.Given.{GaveBothGood, GaveBothBad}
+use Rattle.constriction_stored_rows.specs.private.Filling.{IsFilled}
+use Rattle.constriction_stored_rows.specs.private.Given.{GaveBothGood, GaveBothBad}
 
 module _ {S Symbol Stored : Type 0} (steps : S → Option Symbol → S → Type 0) (eq : Symbol → Symbol → Bool)
     (holds : Stored → List (Row Symbol) → Type 0) where

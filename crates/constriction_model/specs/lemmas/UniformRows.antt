@@ -11,10 +11,10 @@ use Rattle.std.proofs.lemmas.List.FromFn.{length-range_with_len, get_or-range_wi
 use Rattle.std.proofs.lemmas.List.Folds.{sum_by-replicate}
 use Rattle.std.proofs.lemmas.List.Sums.{sum_by_push}
 use Rattle.constriction_model.specs.Acceptance.{IsAccepted}
-use Rattle.constriction_model.specs.CodingLemmas.{rows-within}
+use Rattle.constriction_model.specs.lemmas.Coding.{rows-within}
 use Rattle.constriction_model.specs.Model.{LiesWithin}
-use Rattle.constriction_model.specs.RowLemmas.{indices, length-rows_from, weights-rows_from, symbols-rows_from}
-use Rattle.constriction_model.specs.RowLemmas.{rows_from-at, contiguous-at, contiguous-past}
+use Rattle.constriction_model.specs.lemmas.Rows.{indices, length-rows_from, weights-rows_from, symbols-rows_from}
+use Rattle.constriction_model.specs.lemmas.Rows.{rows_from-at, contiguous-at, contiguous-past}
 use Rattle.constriction_model.specs.Rows.{Row, contiguous_rows, uniform_weights, uniform_rows, RowsTile, IsRowOf, entry_of}
 
 -- in a uniform model whose last symbol is `last`, the weight of each other symbol, and the weight that they leave for the last one

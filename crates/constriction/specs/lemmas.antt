@@ -1,0 +1,11 @@
+pub use Rattle.constriction_model.specs.lemmas.Coding
+pub use Rattle.constriction_model.specs.lemmas.Given
+pub use Rattle.constriction_model.specs.lemmas.Pairs
+pub use Rattle.constriction_model.specs.lemmas.Rows
+pub use Rattle.constriction_model.specs.lemmas.Stand
+pub use Rattle.constriction_stored_rows.specs.lemmas.Stored
+pub use Rattle.constriction_stored_rows.specs.lemmas.StoredRows
+pub use Rattle.constriction_stored_rows.specs.lemmas.SymbolRows
+pub use Rattle.constriction_model.specs.lemmas.Turns
+pub use Rattle.constriction_model.specs.lemmas.UniformRows
+pub use Rattle.constriction_model.specs.lemmas.Walks

@@ -1,0 +1,9 @@
+pub use Rattle.constriction_buffers.specs.lemmas.Buffer
+pub mod Cursor
+pub use Rattle.constriction_sources.specs.lemmas.Extending
+pub use Rattle.constriction_sources.specs.lemmas.Items
+pub use Rattle.constriction_sources.specs.lemmas.KnownLength
+pub use Rattle.constriction_sources.specs.lemmas.Sink
+pub use Rattle.constriction_sources.specs.lemmas.Source
+pub use Rattle.constriction_sources.specs.lemmas.Stack
+pub use Rattle.constriction_buffers.specs.lemmas.VecBuffer

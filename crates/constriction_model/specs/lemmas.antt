@@ -1,0 +1,9 @@
+pub mod Coding
+pub mod Given
+pub mod Hints
+pub mod Pairs
+pub mod Rows
+pub mod Stand
+pub mod Turns
+pub mod UniformRows
+pub mod Walks

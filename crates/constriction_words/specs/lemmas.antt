@@ -1,0 +1,1 @@
+pub use Rattle.constriction_numbers.specs.lemmas.Word
