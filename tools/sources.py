@@ -52,7 +52,9 @@ class Part:
 
     def __init__(self, file, kind, name, docs, lines, names, owner=None, around=()):
         self.file, self.kind, self.name, self.docs, self.lines, self.names, self.owner = file, kind, name, docs, lines, names, owner
-        self.crate, self.module, self.depth = file.split("/")[1], os.path.basename(file).removesuffix(".antt"), indent_of(lines[0])
+        self.crate, self.depth = file.split("/")[1], indent_of(lines[0])
+        # below specs/, as `Rows` or `lemmas.Rows`
+        self.module = ".".join(file.removesuffix(".antt").split("/")[3:])
         # of a definition the headers of the modules around it, of a trait or an impl its members
         self.around, self.members, self.owns, self.is_public = around, [], {name}, False
         starts = [at for at, it in enumerate(lines) if kind == "fn" and CLAUSE.match(it) and indent_of(it) == self.depth + 4]
@@ -133,7 +135,7 @@ class Repository:
         for crate in self.crates:
             for path in files_below(f"crates/{crate}/specs", ".antt"):
                 self.definitions += definitions_of(path)
-                passed = re.findall(r"^pub use Rattle\.(\w+)\.specs\.(\w+)", read(path), re.M)
+                passed = re.findall(r"^pub use Rattle\.(\w+)\.specs\.([\w.]+)", read(path), re.M)
                 self.passed_on.update({(crate, module): other for other, module in passed})
             for path in files_below(f"crates/{crate}/src", ".rt"):
                 self.items += items_of(path, read(path).splitlines())

@@ -1,4 +1,4 @@
--- The steps of a cursor's state meet the laws of sources and sinks. The impls cite these. No public clause cites this module.
+-- The steps of a cursor's state meet the laws of sources and sinks. The impls cite these.
 use Rattle.std.specs.Prelude.{◌≡◌, ◌≤◌, ℕ, List, [], ◌∷◌, ◌++◌, length, reverse, Option, Some, None, Result, Ok, Err}
 use Rattle.std.proofs.Common.{sym, ◌∙◌, ap, subst, length-append, add-one}
 use Rattle.std.proofs.lemmas.List.{reverse-append}

@@ -1,4 +1,4 @@
--- A list with other words in a part of it. No public clause cites this module.
+-- A list with other words in a part of it.
 use Rattle.std.specs.Prelude.{ℕ, List, ◌++◌, take, drop}
 
 -- the list old with new in place of its words from one index up to another

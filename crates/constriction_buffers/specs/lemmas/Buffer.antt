@@ -1,4 +1,4 @@
--- Lists with other words in them: the impls cite these, and a caller's proof may. No public clause cites this module.
+-- Lists with other words in them: the impls cite these, and a caller's proof may.
 use Rattle.std.specs.Prelude.{◌≡◌, ℕ, zero, suc, List, [], ◌∷◌, ◌++◌, ◌+◌, ◌≤◌, ◌<◌, length, take, drop, slice_set}
 use Rattle.std.proofs.Common.{arith, ap, sym, ◌∙◌}
 use Rattle.std.proofs.lemmas.List.{take-append-drop}

@@ -1,4 +1,4 @@
--- A `Vec` with other items in it: the impls cite these, and a caller's own buffer may. No public clause cites this module.
+-- A `Vec` with other items in it: the impls cite these, and a caller's own buffer may.
 use Rattle.std.specs.Prelude.{◌≡◌, List, ◌≤◌, length}
 use Rattle.std.specs.Vec.{with_items}
 use Rattle.std.specs.declared.vec.Vec.{Vec}

@@ -1,4 +1,4 @@
--- What a walk through rows gave, if no item was a refusal. No public clause cites this module.
+-- What a walk through rows gave, if no item was a refusal.
 use Rattle.std.specs.Prelude.{List, map, Option, Result, Ok}
 use Rattle.std.specs.Iterator.{Drains, Yields}
 

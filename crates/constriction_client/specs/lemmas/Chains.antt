@@ -1,5 +1,5 @@
 -- The rows that a chain of conversions leaves are the rows of before if each clone is its symbol, and have their entries if each clone is
--- equal to its symbol. No public clause cites this module.
+-- equal to its symbol.
 use Rattle.std.specs.Prelude.{◌≡◌, Bool, List, [], ◌∷◌, ◌++◌}
 use Rattle.std.specs.Cmp.{IsEquivalence}
 use Rattle.std.proofs.Common.{refl, ap, ◌∙◌, subst}

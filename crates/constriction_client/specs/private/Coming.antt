@@ -1,4 +1,4 @@
--- Words that are the next ones to come from a source. No public clause cites this module. `tells` is that of a source.
+-- Words that are the next ones to come from a source. `tells` is that of a source.
 use Rattle.std.specs.Prelude.{◌≡◌, ℕ, ◌^◌, ◌<◌, List, ◌++◌, length, All, Option}
 use Rattle.constriction_buffers.specs.declared.buf.SafeBuf.{Ghosts}
 use Rattle.constriction_backends.specs.declared.cursor.Cursor.{Cursor}

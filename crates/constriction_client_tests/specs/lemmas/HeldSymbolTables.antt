@@ -1,4 +1,4 @@
--- A symbol table of a caller's own, over another one that it holds. No public clause cites this module.
+-- A symbol table of a caller's own, over another one that it holds.
 use Rattle.std.specs.Prelude.{ℕ, List, Option, Some, None, Result, Ok, Err}
 use Rattle.constriction.specs.Rows.{Row}
 use Rattle.constriction.specs.Tables.{YieldsRow}

@@ -1,4 +1,4 @@
--- Reads that take the first word meet the law of sources: the impl cites it. No public clause cites this module.
+-- Reads that take the first word meet the law of sources: the impl cites it.
 use Rattle.std.specs.Prelude.{◌≡◌, ℕ, List, Option, Some, None, Result, Ok, Err}
 use Rattle.std.proofs.Common.{sym, ◌∙◌}
 use Rattle.constriction_backends.specs.Source.{ReadsUpcoming}

@@ -1,4 +1,4 @@
--- The words of a stack have one content and one list of so many symbols, and they are few. No public clause cites this module.
+-- The words of a stack have one content and one list of so many symbols, and they are few.
 use Rattle.std.proofs.Common.{◌≡◌, ℕ, ◌+◌, ◌*◌, ◌%◌, ◌^◌, ◌≤◌, Bool, true, List, [], ◌∷◌, Option, length, reverse, refl, ap, sym, ◌∙◌, subst, arith, inl, inr, nat_eq}
 use Rattle.std.proofs.lemmas.Bool.{eqb-true}
 use Rattle.std.proofs.lemmas.Cmp.{nat_eq_equiv}

@@ -1,5 +1,5 @@
 -- Rows and entries, for the proofs of coders: the row of an entry, its quantiles, that a quantile has one row, and that the row of an
--- entry's quantile has this entry. No public clause cites this module.
+-- entry's quantile has this entry.
 use Rattle.std.proofs.Common.{◌≡◌, ℕ, suc, zero, ◌+◌, ◌-◌, ◌^◌, ◌<◌, ◌≤◌, Bool, true, false, List, [], ◌∷◌, length, get_or, reverse, Option, Some, None, refl, ap, sym, ◌∙◌, subst, arith}
 use Rattle.std.specs.Prelude.{All, Contains, find, sum, map, IfSome}
 use Rattle.std.specs.Option.{option_map}

@@ -1,7 +1,6 @@
 -- Constructors whose iterator gives a known list: a model is the model of this list, and if the result is InvalidTable, the list is not
--- accepted. No public clause cites this module.
--- That an iterator gives a list is std's `YieldsList`. It comes from `gives-array` for an array, from `YieldsList-from_vec` for a Vec, and
--- from `YieldsList-from_copied` over `YieldsList-from_slice` for a slice whose words are copied.
+-- accepted. That an iterator gives a list is std's `YieldsList`. It comes from `gives-array` for an array, from `YieldsList-from_vec` for a
+-- Vec, and from `YieldsList-from_copied` over `YieldsList-from_slice` for a slice whose words are copied.
 use Rattle.std.proofs.Common.{◌≡◌, ℕ, List, [], ◌∷◌, ◌++◌, Option, None, Result, Ok, Err, length, map, take, drop, refl, ap, sym, subst, ◌∙◌, take-append-drop}
 use Rattle.std.specs.Prelude.{Bool, IfOk}
 use Rattle.std.specs.Iterator.{Drains}

@@ -1,4 +1,4 @@
--- What an exact size hint says. No public clause cites this module.
+-- What an exact size hint says.
 use Rattle.std.specs.Prelude.{ℕ, ◌-◌, ◌^◌, Option, Some, None, IfSome}
 use Rattle.std.proofs.Common.{arith}
 use Rattle.std.proofs.Math.Nat.{min-le_left}

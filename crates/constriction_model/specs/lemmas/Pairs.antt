@@ -1,4 +1,4 @@
--- Symbols with offsets, and quantiles: the entry of a row's own symbol, and the pair of each quantile. No public clause cites this module.
+-- Symbols with offsets, and quantiles: the entry of a row's own symbol, and the pair of each quantile.
 use Rattle.std.specs.Prelude.{◌≡◌, ℕ, ◌+◌, ◌-◌, ◌^◌, ◌<◌, ◌≤◌, Bool, true, false, List, [], ◌∷◌, length, map, sum, Contains, Option, Some, None, nat_eq}
 use Rattle.std.proofs.Common.{suc, zero, get_or, refl, ap, sym, subst, ◌∙◌, arith, inl, inr, cond}
 use Rattle.std.specs.Cmp.{IsEquivalence}

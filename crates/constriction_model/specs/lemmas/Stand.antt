@@ -1,5 +1,5 @@
 -- Rows and answers whose symbols stand for the symbols of other rows, as clones do. They tile if those rows do, are those rows if clones
--- are the same values, and have their entries if clones are equal to their originals. No public clause cites this module.
+-- are the same values, and have their entries if clones are equal to their originals.
 use Rattle.std.specs.Prelude.{◌≡◌, ℕ, ◌+◌, Bool, false, List, [], ◌∷◌, ◌++◌, map}
 use Rattle.std.specs.Cmp.{IsEquivalence}
 use Rattle.std.specs.List.{AllZip, AllByRecursion, IsDistinct}

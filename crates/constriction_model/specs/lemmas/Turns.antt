@@ -1,5 +1,4 @@
--- Runs of symbols, for the proofs of coders: a run grows at either end, and answers equal their symbols if clones do. No public clause
--- cites this module.
+-- Runs of symbols, for the proofs of coders: a run grows at either end, and answers equal their symbols if clones do.
 use Rattle.std.proofs.Common.{◌≡◌, ℕ, ◌+◌, ◌<◌, Bool, List, [], ◌∷◌, ◌++◌, length, reverse, take, get_or, refl, ap, sym, ◌∙◌, subst}
 use Rattle.std.specs.Cmp.{IsEquivalence}
 use Rattle.std.specs.Prelude.{IsTrue}

@@ -1,4 +1,4 @@
--- The rows of a uniform model, for the models' laws. No public clause cites this module.
+-- The rows of a uniform model, for the models' laws.
 use Rattle.std.specs.Prelude.{◌≡◌, ℕ, ◌+◌, ◌-◌, ◌*◌, ◌/◌, ◌%◌, ◌^◌, ◌<◌, ◌≤◌, ◌⊎◌, Some, None, nat_eq}
 use Rattle.std.specs.Prelude.{List, [], ◌∷◌, ◌++◌, length, replicate, All, sum, take}
 use Rattle.std.proofs.Common.{get_or, refl, ap, sym, ◌∙◌, arith, subst, inl, inr}

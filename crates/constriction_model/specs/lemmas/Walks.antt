@@ -1,4 +1,4 @@
--- Walks through a symbol table: the items that its steps give. No public clause cites this module.
+-- Walks through a symbol table: the items that its steps give.
 use Rattle.std.specs.Prelude.{◌≡◌, ℕ, ◌+◌, ◌-◌, ◌<◌, ◌≤◌, List, [], ◌∷◌, ◌++◌, length, map, Contains, Option, Some, None, Result, Ok, Err, IfOk}
 use Rattle.std.proofs.Common.{suc, zero, get_or, refl, ap, sym, subst, ◌∙◌, append-nil, arith}
 use Rattle.std.specs.Iterator.{Yields, Drains}

@@ -1,4 +1,4 @@
--- How unsigned integers meet the laws of words. The impls cite these, and a caller's own word may. No public clause does.
+-- How unsigned integers meet the laws of words. The impls cite these, and a caller's own word may.
 use Rattle.std.specs.Prelude.{◌≡◌, ◌≢◌, ◌↔◌, ◌<◌, ◌≤◌, ℕ, pos, Some, IsTrue}
 use Rattle.std.specs.Ordering.{nat_cmp, partial_lt, partial_le}
 use Rattle.std.proofs.Common.{ap, subst, arith}

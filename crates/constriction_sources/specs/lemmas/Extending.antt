@@ -1,5 +1,4 @@
--- The written words of a sink that took the known items of an iterator. A caller's proof may cite this. No public clause cites this
--- module.
+-- The written words of a sink that took the known items of an iterator. A caller's proof may cite this.
 use Rattle.std.specs.Prelude.{◌≡◌, List, ◌++◌, Option, None, Result, Ok}
 use Rattle.std.proofs.Common.{◌∙◌, refl, subst, sym}
 use Rattle.std.proofs.lemmas.Iterator.{YieldsList}

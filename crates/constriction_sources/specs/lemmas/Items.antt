@@ -1,5 +1,4 @@
--- The steps of sources over iterators meet the laws of sources. The impls cite these, and a caller's own may. No public clause cites
--- this module.
+-- The steps of sources over iterators meet the laws of sources. The impls cite these, and a caller's own may.
 use Rattle.std.specs.Prelude.{◌≡◌, ℕ, suc, zero, ◌+◌, List, [], ◌∷◌, length, Bool, true, false, Option, Some, None, Result, Ok, Err, MatchBool, MatchOption, All}
 use Rattle.std.specs.Iterator.{AlwaysYields, Count, size, count_unless}
 use Rattle.std.proofs.Common.{sym, ap, subst, refl, arith}

@@ -1,5 +1,4 @@
--- The count of a source over an iterator of known length is exact. A caller's proof may cite this for `is_exact`. No public clause cites
--- this module.
+-- The count of a source over an iterator of known length is exact. A caller's proof may cite this for `is_exact`.
 use Rattle.std.specs.Prelude.{◌≡◌, ◌<◌, ◌-◌, ℕ, zero, suc, ◌+◌, List, [], ◌∷◌, length, Bool, true, false, cond, Option, Some, None, MatchBool}
 use Rattle.std.specs.Iterator.{AlwaysYields, Count, at_most, size, count_unless}
 use Rattle.std.specs.Iterator.Adapters.{fuse_source, fuse_done, fuse_steps, copied_source, copied_steps}

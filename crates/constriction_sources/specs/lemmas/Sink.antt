@@ -1,5 +1,4 @@
--- Writes in a row, and counted writes. A default method and impls cite these, and a caller's proof may. No public clause cites this
--- module.
+-- Writes in a row, and counted writes. A default method and impls cite these, and a caller's proof may.
 use Rattle.std.specs.Prelude.{ℕ, ◌<◌, List, [], ◌∷◌, ◌++◌, Option, Result, Ok, Err, IfErr}
 use Rattle.std.proofs.Common.{subst, sym, append_assoc, append-nil, arith}
 use Rattle.constriction_sources.specs.Sink.{WritesAppend, CountsWrite, TakesItems, Writes, ExtendsBy}

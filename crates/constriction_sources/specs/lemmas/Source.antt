@@ -1,5 +1,4 @@
--- Reads in a row that each answered a word, and the upcoming words that they leave. A caller's proof may cite these. No public clause
--- cites this module.
+-- Reads in a row that each answered a word, and the upcoming words that they leave. A caller's proof may cite these.
 use Rattle.std.specs.Prelude.{◌≡◌, List, [], ◌∷◌, ◌++◌, Option, Some, Result, Ok}
 use Rattle.std.proofs.Common.{refl, ap, sym, ◌∙◌, subst}
 use Rattle.constriction_sources.specs.Source.{ReadsUpcoming, Reads}

@@ -1,5 +1,4 @@
--- The steps of a stack meet the laws of sources and sinks. The impls cite these, and a caller's own may. No public clause cites this
--- module.
+-- The steps of a stack meet the laws of sources and sinks. The impls cite these, and a caller's own may.
 use Rattle.std.specs.Prelude.{◌≡◌, ◌≢◌, ◌↔◌, List, [], ◌∷◌, ◌++◌, ⊤, reverse, length, Option, Some, None, Result, Ok, Err, IfErr}
 use Rattle.std.specs.Prelude.{Bool, true, false, IsTrue}
 use Rattle.std.specs.Bool.{OnFalse}

@@ -1,4 +1,4 @@
--- What a stored list says of each of its rows. No public clause cites this module.
+-- What a stored list says of each of its rows.
 use Rattle.std.proofs.Common.{◌≡◌, ℕ, suc, zero, ◌+◌, ◌-◌, ◌^◌, ◌<◌, ◌≤◌, List, [], ◌∷◌, length, get_or, take, map, ap, sym, refl, ◌∙◌, arith, sum}
 use Rattle.std.proofs.lemmas.List.{length-map, get_or-map}
 use Rattle.std.proofs.lemmas.Nat.{pow_pos}

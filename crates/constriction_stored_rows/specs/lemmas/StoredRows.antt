@@ -1,4 +1,4 @@
--- The rows of a stored list, for the models' laws. No public clause cites this module.
+-- The rows of a stored list, for the models' laws.
 use Rattle.std.specs.Prelude.{◌≡◌, ℕ, ◌+◌, ◌^◌, ◌<◌, ◌≤◌, List, length, All, sum, take, Some, None, nat_eq}
 use Rattle.std.proofs.Common.{get_or, ap, sym, ◌∙◌, arith, subst, inr}
 use Rattle.std.proofs.lemmas.List.FromFn.{length-range_with_len, get_or-range_with_len}

@@ -1,4 +1,4 @@
--- The rows of symbols and of a stored list, for the models' laws. No public clause cites this module.
+-- The rows of symbols and of a stored list, for the models' laws.
 use Rattle.std.specs.Prelude.{◌≡◌, ℕ, ◌+◌, ◌-◌, ◌^◌, ◌<◌, ◌≤◌, List, length, map, sum, take}
 use Rattle.std.proofs.Common.{get_or, refl, ap, sym, ◌∙◌, arith, inl, inr}
 use Rattle.std.proofs.lemmas.Bool.{cases_lt}

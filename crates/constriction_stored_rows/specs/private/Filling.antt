@@ -1,4 +1,4 @@
--- How far the quantiles below 2 ^ precision are filled. No public clause cites this module.
+-- How far the quantiles below 2 ^ precision are filled.
 use Rattle.std.specs.Prelude.{◌≡◌, ℕ, ◌+◌, ◌^◌, ◌<◌, Bool, List, All, map, sum, Option, Some, None, IfSome}
 use Rattle.std.specs.List.{AllZip}
 use Rattle.std.specs.Option.{option_map}

@@ -1,4 +1,4 @@
--- What iterators gave to the readers of this crate. No public clause cites this module.
+-- What iterators gave to the readers of this crate.
 use Rattle.std.specs.Prelude.{◌⊎◌, List, ◌++◌, Option}
 use Rattle.std.specs.Iterator.{Drains, Yields}
 use Rattle.constriction_model.specs.Acceptance.{Reading, WasRead, MayGive}

@@ -1,4 +1,4 @@
--- How far symbols and weights were read, and rows stored. No public clause cites this module.
+-- How far symbols and weights were read, and rows stored.
 use Rattle.std.specs.Prelude.{◌≡◌, ℕ, ◌+◌, ◌^◌, ◌⊎◌, Bool, true, false, List, [], ◌∷◌, ◌++◌, length, map, Option, Some, None}
 use Rattle.std.specs.Iterator.{Yields}
 use Rattle.std.specs.List.{list_any, IsDistinct}

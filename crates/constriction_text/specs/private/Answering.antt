@@ -1,4 +1,4 @@
--- The texts that answer a request, a line and an input, as functions. No public clause cites this module.
+-- The texts that answer a request, a line and an input, as functions.
 use Rattle.std.specs.Prelude.{ℕ, ◌^◌, Bool, true, ◌&&◌, ◌==◌, nat_lt, List, codes, sum, Option, Some, None, if◌then◌else◌}
 use Rattle.std.specs.List.{flat_map, list_all}
 use Rattle.constriction_model.specs.Acceptance.{completed}

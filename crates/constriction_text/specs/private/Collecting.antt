@@ -1,4 +1,4 @@
--- Text that is collected before it is written. No public clause cites this module.
+-- Text that is collected before it is written.
 use Rattle.std.specs.Prelude.{ℕ, ◌≡◌, List, ◌++◌, Option}
 use Rattle.std.specs.Io.KnownBytes.{Appends}
 

@@ -1,4 +1,4 @@
--- Numbers as words. No public clause cites this module.
+-- Numbers as words.
 use Rattle.std.specs.Prelude.{ℕ, ◌^◌, nat_lt, if◌then◌else◌}
 
 -- the number, or 0 if it is no word of `bits` bits

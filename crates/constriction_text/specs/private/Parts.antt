@@ -1,4 +1,4 @@
--- The parts of what follows a separator, and the first numbers of a line. No public clause cites this module.
+-- The parts of what follows a separator, and the first numbers of a line.
 use Rattle.std.specs.Prelude.{ℕ, List, [], ◌∷◌, Option, Some, None, ◌==◌}
 use Rattle.std.specs.List.{slice_split}
 

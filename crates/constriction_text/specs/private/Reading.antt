@@ -1,4 +1,4 @@
--- How a line is read: its words, and the request that they make. No public clause cites this module.
+-- How a line is read: its words, and the request that they make.
 use Rattle.std.specs.Prelude.{ℕ, ◌^◌, List, [], ◌∷◌, codes, length, find, Option, Some, None, option_and_then}
 use Rattle.std.specs.Prelude.{nat_lt, nat_le, ◌==◌, ◌&&◌, if◌then◌else◌}
 use Rattle.std.specs.List.{slice_split}
