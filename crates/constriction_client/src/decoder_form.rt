@@ -53,15 +53,14 @@ impl<Symbol: Eq, Probability: IndexWord, const PRECISION: usize> EntropyModel<PR
     ghost rows = { form_rows };
 
     ghost precision_law = { elim [
-      | form.Search s ↦ s.precise
-      | form.Lookup s ↦ s.model.precise
+      | form.Search s ↦ ⟦<Searching<Symbol, Probability, PRECISION> as EntropyModel<PRECISION>>⟧.precision_law s
+      | form.Lookup s ↦ ⟦<Tabled<Symbol, Probability, PRECISION> as EntropyModel<PRECISION>>⟧.precision_law s
     ] };
 }
 
 impl<Symbol: Eq + Clone, Probability: IndexWord, const PRECISION: usize> DecoderModel<PRECISION>
     for DecoderForm<Symbol, Probability, PRECISION> {
     ghost use Rattle.constriction.specs.Rows.{RowsTile};
-    ghost use Rattle.constriction.specs.lemmas.SymbolRows.{paired-tiles};
     ghost use Rattle.constriction_client.specs.FormRows.{form_rows};
     ghost use Rattle.constriction_client.specs.declared.decoder_form.SearchOrLookup.TheVariants as form;
 
@@ -80,8 +79,8 @@ impl<Symbol: Eq + Clone, Probability: IndexWord, const PRECISION: usize> Decoder
     }
 
     ghost tile_law = { λ m. elim m as (λ f. RowsTile Probability.BITS PRECISION (form_rows f)) [
-      | form.Search s ↦ paired-tiles Probability.whole _ _ _ s.stored
-      | form.Lookup s ↦ paired-tiles Probability.whole _ _ _ s.model.stored
+      | form.Search s ↦ ⟦<Searching<Symbol, Probability, PRECISION> as DecoderModel<PRECISION>>⟧.tile_law s
+      | form.Lookup s ↦ ⟦<Tabled<Symbol, Probability, PRECISION> as DecoderModel<PRECISION>>⟧.tile_law s
     ] };
 }
 
@@ -94,9 +93,6 @@ impl<
     ghost use Rattle.std.specs.Prelude.{◌≡◌};
     ghost use Rattle.constriction.specs.Model.{ClonesAreEqual};
     ghost use Rattle.constriction.specs.Rows.{RowsTile};
-    ghost use Rattle.constriction.specs.lemmas.SymbolRows.{paired-tiles};
-    ghost use Rattle.constriction.specs.Stored.{rows_paired};
-    ghost use Rattle.constriction.specs.Tables.{rows_between};
     ghost use Rattle.constriction_client.specs.FormRows.{form_rows};
     ghost use Rattle.constriction_client.specs.declared.decoder_form.SearchOrLookup.TheVariants as form;
 
@@ -106,7 +102,7 @@ impl<
 
     ghost may_refuse = { λ s. ¬ (Symbol.is_infallible s) };
 
-    ghost rows_left = { λ t. rows_between t.from t.to (rows_paired Probability.whole PRECISION t.cdf.now) };
+    ghost rows_left = { ⟦<&'m Searching<Symbol, Probability, PRECISION> as IterableEntropyModel<PRECISION>>⟧.rows_left };
 
     ghost is_equality = { λ eq. (eq ≡ Symbol.eq) × ClonesAreEqual Symbol.eq Symbol.is_clone };
 
@@ -127,7 +123,7 @@ impl<
     ghost steps_law = { λ t r u step. step };
 
     ghost tile_law = { λ m. elim m.now as (λ f. RowsTile Probability.BITS PRECISION (form_rows f)) [
-      | form.Search s ↦ paired-tiles Probability.whole _ _ _ s.stored
-      | form.Lookup s ↦ paired-tiles Probability.whole _ _ _ s.model.stored
+      | form.Search s ↦ ⟦<Searching<Symbol, Probability, PRECISION> as DecoderModel<PRECISION>>⟧.tile_law s
+      | form.Lookup s ↦ ⟦<Tabled<Symbol, Probability, PRECISION> as DecoderModel<PRECISION>>⟧.tile_law s
     ] };
 }
