@@ -129,7 +129,7 @@ class Repository:
 
     def __init__(self):
         names = re.findall(r"^(\w+)", read("crates.txt"), re.M)
-        names = [it for it in names if not it.endswith(("_tests", "_test_models", "_test_words"))]
+        names = [it for it in names if not it.endswith(("_tests", "_test_support"))]
         self.crates = [it for it in names if os.path.isfile(f"{TOP}/crates/{it}/src/lib.rt")]
         self.definitions, self.items, self.passed_on, self.passed_names, self.imports = [], [], {}, set(), {}
         for crate in self.crates:

@@ -2,7 +2,7 @@
 
 use crate::checks::{same, vec_of};
 use constriction_backends::{SafeBuf, SafeBufMut};
-use constriction_test_models::marked::Marked;
+use constriction_test_support::marked::Marked;
 use std::process::Abort;
 
 fn lends<Buf: SafeBuf<u8>>(rt: &impl Abort, buf: &Buf) {

@@ -4,7 +4,7 @@ use crate::checks::{same, vec_of};
 use constriction_backends::{
     AsReadWords, AsSeekReadWords, IntoReadWords, IntoSeekReadWords, ReadWords,
 };
-use constriction_test_models::marked::Marked;
+use constriction_test_support::marked::Marked;
 use constriction_words::{Queue, Seek, Stack, UnwrapInfallible};
 use std::alloc::Global;
 use std::process::Abort;

@@ -7,7 +7,7 @@ use crate::checks::{is_at, same, vec_of};
 use constriction_backends::{
     BoundedWriteError, Cursor, ReadWords, SafeBuf, SafeBufMut, WriteWords, laws,
 };
-use constriction_test_models::marked::Marked;
+use constriction_test_support::marked::Marked;
 use constriction_words::{Pos, Queue, Seek};
 use std::alloc::Global;
 use std::process::Abort;

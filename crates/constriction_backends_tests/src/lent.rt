@@ -2,7 +2,7 @@
 
 use crate::checks::{is_at, same, vec_of};
 use constriction_backends::Cursor;
-use constriction_test_words::lent::{
+use constriction_test_support::lent::{
     Coder, VecCoder, move_a_view, read_a_slice, read_over_a_loan, set_first, set_over_a_loan,
     set_slice, set_through_another, set_unwritten, set_written,
 };

@@ -8,7 +8,7 @@ use crate::weights::greatest_is_same_as;
 use constriction::stream::model::{
     ContiguousCategoricalEntropyModel, DecoderModel, EncoderModel, ModelError,
 };
-use constriction_test_words::own_word::{NonZeroSample, Sample};
+use constriction_test_support::own_word::{NonZeroSample, Sample};
 use constriction_words::{BitArray, IndexWord, NonZeroBitArray, WholeNumber};
 use num_traits::{PrimInt, cast};
 use std::alloc::Global;

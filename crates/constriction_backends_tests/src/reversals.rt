@@ -7,7 +7,7 @@ use constriction_backends::{
     BoundedReadWords, BoundedWriteError, BoundedWriteWords, Cursor, ReadWords, Reverse, SafeBufMut,
     WriteWords, laws,
 };
-use constriction_test_models::marked::Marked;
+use constriction_test_support::marked::Marked;
 use constriction_words::{Pos, Queue, Seek, Semantics, Stack, UnwrapInfallible};
 use std::convert::Infallible;
 use std::process::Abort;

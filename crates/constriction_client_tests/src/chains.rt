@@ -3,9 +3,9 @@
 use crate::checks::same;
 use constriction::stream::model::{IterableEntropyModel, ModelError, NonContiguousSymbolTable};
 use constriction_client::{ChainStep, DecoderForm, convert_chain};
-use constriction_test_models::any_symbols::{ROWS, Row, SYMBOLS, WEIGHTS, decoder, plain};
-use constriction_test_models::intervals::has_rows_of;
-use constriction_test_models::symbol_types::letters;
+use constriction_test_support::any_symbols::{ROWS, Row, SYMBOLS, WEIGHTS, decoder, plain};
+use constriction_test_support::intervals::has_rows_of;
+use constriction_test_support::symbol_types::letters;
 use std::alloc::{AllocError, Global};
 use std::process::Abort;
 

@@ -2,7 +2,7 @@
 //!
 //! Tests call these functions, because `assert_eq!` takes long to prove and a call takes no time.
 
-use constriction_test_models::contiguous::{WEIGHTS, Weighted, weighted};
+use constriction_test_support::contiguous::{WEIGHTS, Weighted, weighted};
 use std::alloc::Global;
 use std::fmt::{Debug, Display};
 use std::process::Abort;

@@ -8,7 +8,7 @@ use crate::checks::{holds, same, vec_of};
 use constriction_backends::{Cursor, Reverse, SafeBuf, SafeBufMut};
 use constriction_client::laws::{run_cursor_and_reversal, runs_are_alike};
 use constriction_client::{CursorCall, CursorReply, run_cursor, run_reversed};
-use constriction_test_models::marked::Marked;
+use constriction_test_support::marked::Marked;
 use constriction_words::Pos;
 use std::alloc::{AllocError, Global};
 use std::process::Abort;

@@ -3,8 +3,8 @@
 use crate::checks::{holds, same, small};
 use constriction_backends::{BoundedWriteError, Cursor, FallibleCallbackWriteWords};
 use constriction_client::{QuantileFault, write_quantiles};
-use constriction_test_models::contiguous::Weighted;
-use constriction_test_models::own_model::{Triple, three};
+use constriction_test_support::contiguous::Weighted;
+use constriction_test_support::own_model::{Triple, three};
 use constriction_words::{CoderError, Pos};
 use std::alloc::AllocError;
 

@@ -3,8 +3,8 @@
 use crate::checks::{holds, same, small};
 use constriction_backends::{BoundedReadWords, Cursor, FallibleIteratorReadWords};
 use constriction_client::{ReadFault, read_symbols};
-use constriction_test_models::contiguous::Weighted;
-use constriction_test_models::symbol_types::{Letter, LetterDecoder, letters};
+use constriction_test_support::contiguous::Weighted;
+use constriction_test_support::symbol_types::{Letter, LetterDecoder, letters};
 use constriction_words::{CoderError, Pos, Queue};
 use std::convert::Infallible;
 use std::vec;

@@ -19,9 +19,9 @@ use constriction_client::{
     ChainStep, CursorCall, CursorReply, DecoderForm, QuantileFault, Query, Reply, answer_queries,
     run_cursor, run_reversed, write_quantiles,
 };
-use constriction_test_models::any_symbols::Encoder;
-use constriction_test_models::contiguous::Weighted;
-use constriction_test_models::given::{encoder_of, of_four};
+use constriction_test_support::any_symbols::Encoder;
+use constriction_test_support::contiguous::Weighted;
+use constriction_test_support::given::{encoder_of, of_four};
 use constriction_theorem::{FormAndReplies, answer_by_form};
 use constriction_words::{CoderError, WholeNumber};
 use std::alloc::{AllocError, Global};

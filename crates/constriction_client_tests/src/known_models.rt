@@ -13,8 +13,8 @@ use constriction::stream::model::{
     NonContiguousCategoricalDecoderModel, NonContiguousCategoricalEncoderModel,
     NonContiguousLookupDecoderModel, Probe, SmallUniformModel, is_quantile, row_of_quantile,
 };
-use constriction_test_models::contiguous::Weighted;
-use constriction_test_models::given::{Lookup, encoder_of, lookup_of_four, of_four};
+use constriction_test_support::contiguous::Weighted;
+use constriction_test_support::given::{Lookup, encoder_of, lookup_of_four, of_four};
 use constriction_words::{NonZeroBitArray, WholeNumber};
 use std::alloc::{AllocError, Global};
 use std::process::Abort;

@@ -7,7 +7,7 @@ ghost use Rattle.constriction_backends.specs.lemmas.Stack.{Pushes-append};
 use crate::checks::{holds, same, small};
 use constriction_backends::{ReadWords, WriteWords};
 use constriction_client::{ReadFault, read_symbols, write_quantiles};
-use constriction_test_models::contiguous::Weighted;
+use constriction_test_support::contiguous::Weighted;
 use constriction_words::{CoderError, Queue};
 
 /// A sink of at most two words. It hands back each word that it refuses.

@@ -6,9 +6,9 @@ use crate::checks::{holds, same};
 use constriction::laws::contiguous_symbols_differ;
 use constriction::stream::model::{ModelError, UniformModel};
 use constriction_client::{ChainStep, DecoderForm, Query, Reply, SearchOrLookup};
-use constriction_test_models::any_symbols::{SYMBOLS, WEIGHTS};
-use constriction_test_models::contiguous::Weighted;
-use constriction_test_models::given::of_four;
+use constriction_test_support::any_symbols::{SYMBOLS, WEIGHTS};
+use constriction_test_support::contiguous::Weighted;
+use constriction_test_support::given::of_four;
 use constriction_theorem::{
     AnswersOfModel, AnswersOfWeights, FormAndReplies, RepliesByEncoder, answer_beside_encoder,
     answer_by_model, answer_from_range_u8, answer_from_range_u16, answer_from_range_u32,

@@ -10,8 +10,8 @@ use constriction_client::QuantileFault;
 use constriction_client::laws::{
     CursorError, there_and_back, there_and_back_in_a_cursor, there_and_back_of_two,
 };
-use constriction_test_models::contiguous::{WEIGHTS, Weighted};
-use constriction_test_models::given::of_four;
+use constriction_test_support::contiguous::{WEIGHTS, Weighted};
+use constriction_test_support::given::of_four;
 use constriction_words::{CoderError, Pos, ReadWriteError, Seek};
 use std::alloc::{AllocError, Global};
 use std::process::Abort;

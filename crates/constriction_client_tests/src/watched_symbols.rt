@@ -15,7 +15,7 @@ use constriction::stream::model::{
 };
 use constriction_client::laws::{DecoderAndEncoder, decoder_and_encoder, there_and_back_of_two};
 use constriction_client::{ChainStep, DecoderForm, Query, answer_queries, convert_chain};
-use constriction_test_models::watched::{Tally, Watched, count, symbols, tallied, tally};
+use constriction_test_support::watched::{Tally, Watched, count, symbols, tallied, tally};
 use std::alloc::Global;
 use std::cell::Cell;
 use std::iter;

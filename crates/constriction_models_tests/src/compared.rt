@@ -8,8 +8,8 @@ use crate::checks::same;
 use constriction::stream::model::{
     EntropyModel, Probe, SlottedContiguousLookupDecoderModel, row_of_quantile,
 };
-use constriction_test_models::contiguous::Weighted;
-use constriction_test_models::given::of_four;
+use constriction_test_support::contiguous::Weighted;
+use constriction_test_support::given::of_four;
 
 /// A lookup model with four slots of 16 quantiles each.
 type Tabled = SlottedContiguousLookupDecoderModel<u8, Vec<u8>, Vec<u8>, 6, 2>;

@@ -8,8 +8,8 @@ use constriction::stream::model::{
     DecoderModel, EncoderModel, IterableEntropyModel, ModelError, SmallUniformModel,
     UniformSymbolTable, Weight,
 };
-use constriction_test_models::contiguous::Small;
-use constriction_test_models::widths::Model;
+use constriction_test_support::contiguous::Small;
+use constriction_test_support::widths::Model;
 use constriction_words::{BitArray, WholeNumber};
 use std::alloc::{AllocError, Global};
 use std::iter;

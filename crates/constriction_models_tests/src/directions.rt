@@ -4,10 +4,10 @@
 use crate::checks::same;
 use crate::model_checks::small;
 use constriction::stream::model::UniformModel;
-use constriction_test_models::any_symbols::{Encoder, SYMBOLS, WEIGHTS, decoder, encoder};
-use constriction_test_models::contiguous::Small;
-use constriction_test_models::intervals::{agree, has_rows_of};
-use constriction_test_models::lookup_any_symbols::lookup;
+use constriction_test_support::any_symbols::{Encoder, SYMBOLS, WEIGHTS, decoder, encoder};
+use constriction_test_support::contiguous::Small;
+use constriction_test_support::intervals::{agree, has_rows_of};
+use constriction_test_support::lookup_any_symbols::lookup;
 use std::alloc::Global;
 use std::process::Abort;
 

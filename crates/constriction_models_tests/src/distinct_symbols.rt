@@ -14,8 +14,8 @@ use constriction::stream::model::{
     NonContiguousLookupDecoderModel, to_generic_decoder_model_of_distinct,
     to_generic_lookup_decoder_model_of_distinct,
 };
-use constriction_test_models::any_symbols::{Decoder, SYMBOLS, WEIGHTS, plain};
-use constriction_test_models::contiguous::Small;
+use constriction_test_support::any_symbols::{Decoder, SYMBOLS, WEIGHTS, plain};
+use constriction_test_support::contiguous::Small;
 use std::alloc::Global;
 use std::iter;
 use std::process::Abort;

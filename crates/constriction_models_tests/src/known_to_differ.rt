@@ -9,10 +9,10 @@ use constriction::stream::model::{
     IterableEntropyModel, ModelError, UniformModel, to_generic_decoder_model,
     to_generic_decoder_model_by_comparison,
 };
-use constriction_test_models::any_symbols::{SYMBOLS, WEIGHTS, decoder};
-use constriction_test_models::own_model::three;
-use constriction_test_models::symbol_types::letters;
-use constriction_test_models::widths::model_of;
+use constriction_test_support::any_symbols::{SYMBOLS, WEIGHTS, decoder};
+use constriction_test_support::own_model::three;
+use constriction_test_support::symbol_types::letters;
+use constriction_test_support::widths::model_of;
 
 /// What a caller learns from the trait alone.
 fn differ<M: IterableEntropyModel<PRECISION>, const PRECISION: usize>(model: &M) -> bool

@@ -17,9 +17,9 @@ use constriction::laws::{
 use constriction::stream::model::{
     DecoderModel, EncoderModel, EntropyModel, IterableEntropyModel, Weight,
 };
-use constriction_test_models::any_symbols::{Encoder, entry};
-use constriction_test_models::contiguous::Weighted;
-use constriction_test_models::symbol_types::{LetterDecoder, letters};
+use constriction_test_support::any_symbols::{Encoder, entry};
+use constriction_test_support::contiguous::Weighted;
+use constriction_test_support::symbol_types::{LetterDecoder, letters};
 use constriction_words::{BitArray, WholeNumber};
 use std::alloc::{AllocError, Global};
 

@@ -8,10 +8,10 @@ use constriction::stream::model::{
     DecoderModel, IterableEntropyModel, ModelError, to_generic_lookup_decoder_model,
     to_generic_slotted_lookup_decoder_model,
 };
-use constriction_test_models::any_symbols::plain;
-use constriction_test_models::contiguous::weighted;
-use constriction_test_models::lookup_any_symbols::{Lookup, lookup};
-use constriction_test_models::own_model::{Triple, three};
+use constriction_test_support::any_symbols::plain;
+use constriction_test_support::contiguous::weighted;
+use constriction_test_support::lookup_any_symbols::{Lookup, lookup};
+use constriction_test_support::own_model::{Triple, three};
 use std::alloc::Global;
 
 /// The errors of the function and of the method that make a lookup model of this model.

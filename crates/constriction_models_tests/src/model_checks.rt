@@ -2,8 +2,8 @@
 
 use crate::checks::same;
 use constriction::stream::model::{DecoderModel, NonContiguousCategoricalEncoderModel};
-use constriction_test_models::any_symbols::{Decoder, plain};
-use constriction_test_models::contiguous::{Small, WEIGHTS, weighted};
+use constriction_test_support::any_symbols::{Decoder, plain};
+use constriction_test_support::contiguous::{Small, WEIGHTS, weighted};
 use std::alloc::Global;
 use std::process::Abort;
 

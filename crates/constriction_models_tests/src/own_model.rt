@@ -1,4 +1,4 @@
-//! The model of a caller's own in `constriction_test_models`: its answers to symbols, and what the caller knows of models that
+//! The model of a caller's own in `constriction_test_support`: its answers to symbols, and what the caller knows of models that
 //! are made from it.
 
 ghost use Rattle.std.specs.Prelude.{◌≡◌, ◌∷◌, [], IfOk, IsErr, nat_eq};
@@ -11,9 +11,9 @@ use constriction::stream::model::{
     DecoderModel, EncoderModel, EntropyModel, ModelError, to_generic_decoder_model,
     to_generic_decoder_model_of_distinct, to_generic_encoder_model,
 };
-use constriction_test_models::any_symbols::{Encoder, entry, plain, plain_entry};
-use constriction_test_models::conversions::Decoder;
-use constriction_test_models::own_model::{Triple, three};
+use constriction_test_support::any_symbols::{Encoder, entry, plain, plain_entry};
+use constriction_test_support::conversions::Decoder;
+use constriction_test_support::own_model::{Triple, three};
 use std::alloc::Global;
 use std::process::Abort;
 

@@ -8,7 +8,7 @@ use constriction::stream::model::{
     AnswersRows, CdfEntry, CumulativeAndSymbol, DecoderModel, EntropyModel, LookupDecoderModel,
     StoresRows, Weight, is_quantile,
 };
-use constriction_test_models::watched::{Watched, count, tally};
+use constriction_test_support::watched::{Watched, count, tally};
 use std::alloc::{AllocError, Global};
 use std::cell::Cell;
 use std::process::Abort;

@@ -11,7 +11,7 @@ use constriction::stream::model::{
     to_generic_decoder_model_of_distinct, to_generic_encoder_model,
 };
 use constriction_model::row_in_probe;
-use constriction_test_models::plain_rows::row;
+use constriction_test_support::plain_rows::row;
 use constriction_words::{NonZeroBitArray, WholeNumber};
 use std::cell::Cell;
 use std::iter;

@@ -6,7 +6,7 @@ use crate::checks::{same, shows};
 use constriction::stream::model::{
     AnswersRows, EntropyModel, SlottedContiguousLookupDecoderModel, StoresRows,
 };
-use constriction_test_models::widths::{Model, model_of};
+use constriction_test_support::widths::{Model, model_of};
 use constriction_words::WholeNumber;
 use std::alloc::Global;
 use std::process::Abort;

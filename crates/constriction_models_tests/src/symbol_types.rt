@@ -11,10 +11,10 @@ use constriction::stream::model::{
     DecoderModel, EncoderModel, IterableEntropyModel, ModelError, NonContiguousSymbolTable, Weight,
     to_generic_decoder_model, to_generic_encoder_model, to_generic_lookup_decoder_model,
 };
-use constriction_test_models::any_symbols::{Row, plain, plain_entry};
-use constriction_test_models::conversions::Decoder;
-use constriction_test_models::lookup_any_symbols::Lookup;
-use constriction_test_models::symbol_types::{Letter, LetterDecoder, letters};
+use constriction_test_support::any_symbols::{Row, plain, plain_entry};
+use constriction_test_support::conversions::Decoder;
+use constriction_test_support::lookup_any_symbols::Lookup;
+use constriction_test_support::symbol_types::{Letter, LetterDecoder, letters};
 use std::alloc::{AllocError, Global};
 use std::hash::{Hash, Hasher};
 use std::process::Abort;

@@ -5,9 +5,9 @@ ghost use Rattle.std.specs.Prelude.{◌<◌};
 use crate::checks::same;
 use crate::model_checks::Encoder;
 use constriction::stream::model::{EncoderModel, ModelError, Probe, row_of_quantile};
-use constriction_test_models::any_symbols::plain_entry;
-use constriction_test_models::conversions::Decoder;
-use constriction_test_models::lookup_any_symbols::Lookup;
+use constriction_test_support::any_symbols::plain_entry;
+use constriction_test_support::conversions::Decoder;
+use constriction_test_support::lookup_any_symbols::Lookup;
 use std::process::Abort;
 
 /// A symbol without `Clone`.

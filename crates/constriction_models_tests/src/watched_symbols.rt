@@ -8,7 +8,7 @@ use constriction::stream::model::{
     NonContiguousCategoricalDecoderModel, NonContiguousCategoricalEncoderModel,
     NonContiguousLookupDecoderModel,
 };
-use constriction_test_models::watched::{Tally, Watched, symbols, tally};
+use constriction_test_support::watched::{Tally, Watched, symbols, tally};
 use std::alloc::{AllocError, Global};
 use std::iter;
 use std::process::Abort;

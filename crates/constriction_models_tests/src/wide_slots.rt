@@ -10,8 +10,8 @@ use constriction::stream::model::{
     SlottedContiguousLookupDecoderModel, row_of_quantile,
     to_generic_lookup_decoder_model_of_distinct,
 };
-use constriction_test_models::plain_rows::row;
-use constriction_test_models::widths::Model;
+use constriction_test_support::plain_rows::row;
+use constriction_test_support::widths::Model;
 use std::alloc::Global;
 use std::iter;
 

@@ -1,6 +1,6 @@
 //! The tests of what the programs call: lines, whole inputs and packed files.
 //!
-//! The answers to lines are tested by the input and output of `constriction_rows` and `constriction_coder`.
+//! The answers to lines are tested by the input and output of `constriction_rows` and `constriction_coder_program`.
 //!
 //! The libraries have no tests of their own, because a library with tests is proved twice. These tests use the public
 //! interface alone.

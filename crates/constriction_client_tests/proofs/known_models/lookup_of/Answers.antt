@@ -1,5 +1,5 @@
 use Rattle.constriction.specs.lemmas.Given.{gives-array, made-of-lists, refused-lists}
-use Rattle.constriction_test_models.proofs.GivenParts.{second}
+use Rattle.constriction_test_support.proofs.GivenParts.{second}
 use Rattle.constriction_client_tests.proofs.known_models.lookup_of.Goals as goal
 
 pub returns-clause-rows : goal.returns-clause-rows

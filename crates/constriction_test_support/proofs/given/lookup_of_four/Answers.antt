@@ -1,6 +1,6 @@
 use Rattle.constriction.specs.lemmas.Given.{gives-array, made-of-list, refused-list}
-use Rattle.constriction_test_models.proofs.GivenParts.{second}
-use Rattle.constriction_test_models.proofs.given.lookup_of_four.Goals as goal
+use Rattle.constriction_test_support.proofs.GivenParts.{second}
+use Rattle.constriction_test_support.proofs.given.lookup_of_four.Goals as goal
 
 pub returns-clause-rows : goal.returns-clause-rows
 returns-clause-rows c =

@@ -4,7 +4,7 @@ use Rattle.std.specs.Cmp.{nat_eq_equiv}
 use Rattle.constriction.specs.Entries.{HoldsEntriesOf, SameEntries}
 use Rattle.constriction.specs.Rows.{Row}
 use Rattle.constriction.specs.lemmas.Stand.{entries-of, same-equal}
-use Rattle.constriction_test_models.proofs.given.encoder_of.Goals as goal
+use Rattle.constriction_test_support.proofs.given.encoder_of.Goals as goal
 
 -- if clones are the same values, what has the entries of the clones has the entries of the rows
 their-entries : {A E : Type 0} (rows : A → List (Row ℕ)) (others : List (Row ℕ)) (r : Result A E)
