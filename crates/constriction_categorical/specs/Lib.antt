@@ -1,3 +1,4 @@
 pub mod InOrder
 pub mod ModelRows
+pub mod lemmas
 pub mod private

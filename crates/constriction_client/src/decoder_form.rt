@@ -43,6 +43,7 @@ pub type DecoderForm<Symbol, Probability, const PRECISION: usize> = SearchOrLook
 
 impl<Symbol: Eq, Probability: IndexWord, const PRECISION: usize> EntropyModel<PRECISION>
     for DecoderForm<Symbol, Probability, PRECISION> {
+    ghost use Rattle.constriction.specs.lemmas.ModelRows.{decoder-precise, lookup-precise};
     ghost use Rattle.constriction_client.specs.FormRows.{form_rows};
     ghost use Rattle.constriction_client.specs.declared.decoder_form.SearchOrLookup.TheVariants as form;
 
@@ -53,14 +54,15 @@ impl<Symbol: Eq, Probability: IndexWord, const PRECISION: usize> EntropyModel<PR
     ghost rows = { form_rows };
 
     ghost precision_law = { elim [
-      | form.Search s ↦ ⟦<Searching<Symbol, Probability, PRECISION> as EntropyModel<PRECISION>>⟧.precision_law s
-      | form.Lookup s ↦ ⟦<Tabled<Symbol, Probability, PRECISION> as EntropyModel<PRECISION>>⟧.precision_law s
+      | form.Search s ↦ decoder-precise s
+      | form.Lookup s ↦ lookup-precise decoder-precise s
     ] };
 }
 
 impl<Symbol: Eq + Clone, Probability: IndexWord, const PRECISION: usize> DecoderModel<PRECISION>
     for DecoderForm<Symbol, Probability, PRECISION> {
     ghost use Rattle.constriction.specs.Rows.{RowsTile};
+    ghost use Rattle.constriction.specs.lemmas.ModelRows.{decoder-tiles, lookup-tiles};
     ghost use Rattle.constriction_client.specs.FormRows.{form_rows};
     ghost use Rattle.constriction_client.specs.declared.decoder_form.SearchOrLookup.TheVariants as form;
 
@@ -79,8 +81,8 @@ impl<Symbol: Eq + Clone, Probability: IndexWord, const PRECISION: usize> Decoder
     }
 
     ghost tile_law = { λ m. elim m as (λ f. RowsTile Probability.BITS PRECISION (form_rows f)) [
-      | form.Search s ↦ ⟦<Searching<Symbol, Probability, PRECISION> as DecoderModel<PRECISION>>⟧.tile_law s
-      | form.Lookup s ↦ ⟦<Tabled<Symbol, Probability, PRECISION> as DecoderModel<PRECISION>>⟧.tile_law s
+      | form.Search s ↦ decoder-tiles s
+      | form.Lookup s ↦ lookup-tiles decoder-tiles s
     ] };
 }
 
@@ -93,6 +95,7 @@ impl<
     ghost use Rattle.std.specs.Prelude.{◌≡◌};
     ghost use Rattle.constriction.specs.Model.{ClonesAreEqual};
     ghost use Rattle.constriction.specs.Rows.{RowsTile};
+    ghost use Rattle.constriction.specs.lemmas.ModelRows.{decoder-tiles, lookup-tiles};
     ghost use Rattle.constriction_client.specs.FormRows.{form_rows};
     ghost use Rattle.constriction_client.specs.declared.decoder_form.SearchOrLookup.TheVariants as form;
 
@@ -123,7 +126,7 @@ impl<
     ghost steps_law = { λ t r u step. step };
 
     ghost tile_law = { λ m. elim m.now as (λ f. RowsTile Probability.BITS PRECISION (form_rows f)) [
-      | form.Search s ↦ ⟦<Searching<Symbol, Probability, PRECISION> as DecoderModel<PRECISION>>⟧.tile_law s
-      | form.Lookup s ↦ ⟦<Tabled<Symbol, Probability, PRECISION> as DecoderModel<PRECISION>>⟧.tile_law s
+      | form.Search s ↦ decoder-tiles s
+      | form.Lookup s ↦ lookup-tiles decoder-tiles s
     ] };
 }
