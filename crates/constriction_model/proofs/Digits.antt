@@ -78,6 +78,11 @@ digits_between (suc k) n more most =
       digits_between k (n - n / 2) (omega arith) (omega arith),
     )
 
+-- one less than 2 ^ k has k digits
+pub digits_ones : (k : ℕ) → digits (2 ^ k - 1) ≡ k
+digits_ones zero = digits-zero
+digits_ones (suc k) = digits_between k (2 ^ suc k) (omega (arith, pow_pos k)) (omega arith)
+
 -- one less than a part of n rows has no more digits than one less than n
 pub digits_some : (first m n : ℕ) → first + m ≤ n → digits (m - 1) ≤ digits (n - 1)
 digits_some first m n h = digits_grow (m - 1) (n - 1) (omega arith)

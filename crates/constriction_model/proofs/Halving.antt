@@ -1,9 +1,11 @@
 -- The steps of a search by halving.
-use Rattle.std.proofs.Common.{◌≡◌, ℕ, ◌+◌, ◌-◌, ◌*◌, ◌<◌, ◌≤◌, suc, zero, List, length, get_or, arith, inl, inr}
+use Rattle.std.proofs.Common.{◌≡◌, ℕ, ◌+◌, ◌-◌, ◌*◌, ◌/◌, ◌^◌, ◌<◌, ◌≤◌, suc, zero, List, length, get_or, arith, inl, inr}
 use Rattle.std.proofs.lemmas.Bool.{cases_lt}
 use Rattle.std.specs.List.Sorted.{IsStrictlyIncreasing}
-use Rattle.constriction_model.specs.private.Searching.{IsNarrowed}
-use Rattle.constriction_model.specs.Probe.{IsSearchable, IsLastAtMost}
+use Rattle.constriction_model.proofs.Digits.{digits-zero, digits_between, digits_ones, digits_step, digits_word}
+use Rattle.constriction_model.specs.Probe.{digits, IsSearchable, IsLastAtMost}
+use Rattle.constriction_model.specs.declared.probe.Probe.{Ghosts}
+use Rattle.constriction_model.specs.private.Searching.{IsNarrowed, MaySearch, Narrows, IsHalved}
 
 -- in a list that increases, each later element is greater
 pub later : (xs : List ℕ) (i j : ℕ) → IsStrictlyIncreasing xs → i < j → j < length xs → get_or xs i 0 < get_or xs j 0
@@ -41,3 +43,82 @@ module _ (xs : List ℕ) (q : ℕ) (s : IsSearchable xs q) where
       | inr no_more ↦ (let e : first + (size - left) ≡ first + left = omega arith in rw (← e) greater)
     ];
   }
+
+-- more than 2 ^ k rows, and at most twice that
+halved_power : (k n : ℕ) → 2 ^ k < n → n ≤ 2 ^ suc k → IsHalved n (2 ^ k)
+halved_power k n more most = record {
+  fewer = more;
+  half = omega arith;
+  digit = omega (arith, digits_between k n more most, digits_ones k);
+}
+
+halved_one : (n : ℕ) → 1 < n → n ≤ 2 → IsHalved n 1
+halved_one = halved_power 0
+
+pub halved_two : (n : ℕ) → 2 < n → n ≤ 4 → IsHalved n 2
+halved_two = halved_power 1
+
+pub halved_four : (n : ℕ) → 4 < n → n ≤ 8 → IsHalved n 4
+halved_four = halved_power 2
+
+pub halved_eight : (n : ℕ) → 8 < n → n ≤ 16 → IsHalved n 8
+halved_eight = halved_power 3
+
+pub halved_sixteen : (n : ℕ) → 16 < n → n ≤ 32 → IsHalved n 16
+halved_sixteen = halved_power 4
+
+pub two_halved : IsHalved 2 1
+two_halved = halved_one 2 (omega arith) (omega arith)
+
+pub four_halved : IsHalved 4 2
+four_halved = halved_two 4 (omega arith) (omega arith)
+
+pub eight_halved : IsHalved 8 4
+eight_halved = halved_four 8 (omega arith) (omega arith)
+
+pub sixteen_halved : IsHalved 16 8
+sixteen_halved = halved_eight 16 (omega arith) (omega arith)
+
+-- at least two rows
+pub halved_step : (n left : ℕ) → left ≡ n - n / 2 → 1 < n → IsHalved n left
+halved_step n left e more = rw e (record { fewer = omega arith; half = omega arith; digit = digits_step n more })
+
+-- the search of a probe
+module _ {P Word : Type 0} (g : Ghosts P Word) (rows : P) (q : Word) where
+  -- a question whose answers both leave `left` of `size` rows
+  module _ (first size left at : ℕ) (new : P) (may : MaySearch g rows q first size) (h : IsHalved size left) (at_is : at ≡ first + (size - left))
+      (same : g.cumulatives new ≡ g.cumulatives rows) (counted : g.questions new ≡ g.questions rows + 1) where
+    asked : (next : ℕ) → IsNarrowed (g.cumulatives rows) (g.number q) next left → Narrows g rows q size new next left
+    asked next n = record { narrowed = rw same n; same = same; counted = omega (arith, counted, h.digit) }
+
+    pub asked_yes : get_or (g.cumulatives rows) at 0 ≤ g.number q → Narrows g rows q size new at left
+    asked_yes before =
+        let end : at + left ≡ first + size = omega (arith, at_is, h.fewer) in
+        asked at (record {
+          some = omega (arith, h.fewer, h.half);
+          within = omega (arith, end, may.narrowed.within);
+          at_most = before;
+          above = rw end may.narrowed.above;
+        })
+
+    pub asked_no : g.number q < get_or (g.cumulatives rows) at 0 → Narrows g rows q size new first left
+    asked_no after =
+        asked first (narrowed_first _ _ may.searchable first size left may.narrowed h.fewer h.half (rw at_is at after))
+
+  -- a search of all rows may begin
+  pub may_begin : IsSearchable (g.cumulatives rows) (g.number q) → length (g.cumulatives rows) < 2 ^ 64
+      → g.questions rows ≤ 2 ^ 64 - 1 - 64 → MaySearch g rows q 0 (length (g.cumulatives rows))
+  may_begin searchable word room = record {
+    searchable = searchable;
+    word = word;
+    narrowed = narrowed_all _ _ searchable;
+    room = omega (arith, room, digits_word (length (g.cumulatives rows)) word);
+  }
+
+  -- a search of all rows that came to one row found it
+  module _ (new : P) (first left : ℕ) (n : Narrows g rows q (length (g.cumulatives rows)) new first left) (one : left ≤ 1) where
+    pub found : IsSearchable (g.cumulatives rows) (g.number q) → IsLastAtMost (g.cumulatives rows) (g.number q) first
+    found searchable = narrowed_one _ _ searchable first left (rw (← n.same) n.narrowed) one
+
+    pub counted_all : g.questions new ≡ g.questions rows + digits (length (g.cumulatives rows) - 1)
+    counted_all = let none : left - 1 ≡ 0 = omega (arith, one) in omega (arith, rw (none, digits-zero) at n.counted)

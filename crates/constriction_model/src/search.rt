@@ -1,23 +1,18 @@
 //! The search for the row of a quantile, by halving.
 
 ghost use Rattle.std.specs.Prelude.{◌≡◌, ◌+◌, ◌-◌, ◌*◌, ◌<◌, ◌≤◌, length};
-ghost use Rattle.constriction_model.specs.private.Searching.{IsNarrowed};
+ghost use Rattle.constriction_model.specs.private.Searching.{MaySearch, Narrows, IsHalved};
 ghost use Rattle.constriction_model.specs.Probe.{digits, IsSearchable, IsLastAtMost};
 
 use crate::probe::Probe;
 
 /// Halves the rows from `first` on. There are at least two.
 #[inline(always)]
-#[tactic(auto, using(crate::proofs::Digits::digits_step))]
+#[tactic(auto, using(crate::proofs::Halving::halved_step, crate::proofs::Halving::asked_yes, crate::proofs::Halving::asked_no))]
 fn half_of_more<R: Probe>(rows: &mut R, q: R::Word, first: usize, size: usize) -> (usize, usize)
-    requires searchable { IsSearchable (R.cumulatives rows.old) (R.number q) }
-    requires word { length (R.cumulatives rows.old) ≤ usize.MAX }
-    requires narrowed { IsNarrowed (R.cumulatives rows.old) (R.number q) first size }
+    requires searching { MaySearch R.Probe rows.old q first size }
     requires more { 1 < size }
-    requires room { R.questions rows.old + digits (size - 1) ≤ usize.MAX }
-    ensures narrowed { IsNarrowed (R.cumulatives rows.old) (R.number q) result.0 result.1 }
-    ensures same { R.cumulatives rows.new ≡ R.cumulatives rows.old }
-    ensures counted { R.questions rows.new + digits (result.1 - 1) ≡ R.questions rows.old + digits (size - 1) }
+    ensures narrows { Narrows R.Probe rows.old q size rows.new result.0 result.1 }
     ensures fewer { result.1 < size }
     ensures half { size ≤ 2 * result.1 }
 {
@@ -32,13 +27,8 @@ fn half_of_more<R: Probe>(rows: &mut R, q: R::Word, first: usize, size: usize) -
 /// Halves the rows from `first` on, if there are at least two.
 #[inline]
 fn halve<R: Probe>(rows: &mut R, q: R::Word, first: usize, size: usize) -> (usize, usize)
-    requires searchable { IsSearchable (R.cumulatives rows.old) (R.number q) }
-    requires word { length (R.cumulatives rows.old) ≤ usize.MAX }
-    requires narrowed { IsNarrowed (R.cumulatives rows.old) (R.number q) first size }
-    requires room { R.questions rows.old + digits (size - 1) ≤ usize.MAX }
-    ensures narrowed { IsNarrowed (R.cumulatives rows.old) (R.number q) result.0 result.1 }
-    ensures same { R.cumulatives rows.new ≡ R.cumulatives rows.old }
-    ensures counted { R.questions rows.new + digits (result.1 - 1) ≡ R.questions rows.old + digits (size - 1) }
+    requires searching { MaySearch R.Probe rows.old q first size }
+    ensures narrows { Narrows R.Probe rows.old q size rows.new result.0 result.1 }
     ensures no_more { result.1 ≤ size }
     ensures fewer { 1 < size → result.1 < size }
 {
@@ -51,13 +41,8 @@ fn halve<R: Probe>(rows: &mut R, q: R::Word, first: usize, size: usize) -> (usiz
 /// Halves the rows from `first` on four times.
 #[inline(always)]
 fn halve_four_times<R: Probe>(rows: &mut R, q: R::Word, first: usize, size: usize) -> (usize, usize)
-    requires searchable { IsSearchable (R.cumulatives rows.old) (R.number q) }
-    requires word { length (R.cumulatives rows.old) ≤ usize.MAX }
-    requires narrowed { IsNarrowed (R.cumulatives rows.old) (R.number q) first size }
-    requires room { R.questions rows.old + digits (size - 1) ≤ usize.MAX }
-    ensures narrowed { IsNarrowed (R.cumulatives rows.old) (R.number q) result.0 result.1 }
-    ensures same { R.cumulatives rows.new ≡ R.cumulatives rows.old }
-    ensures counted { R.questions rows.new + digits (result.1 - 1) ≡ R.questions rows.old + digits (size - 1) }
+    requires searching { MaySearch R.Probe rows.old q first size }
+    ensures narrows { Narrows R.Probe rows.old q size rows.new result.0 result.1 }
     ensures fewer { 1 < size → result.1 < size }
 {
     let (half_first, half) = halve(rows, q, first, size);
@@ -74,14 +59,9 @@ fn halve_many_four_times<R: Probe>(
     first: usize,
     size: usize,
 ) -> (usize, usize)
-    requires searchable { IsSearchable (R.cumulatives rows.old) (R.number q) }
-    requires word { length (R.cumulatives rows.old) ≤ usize.MAX }
-    requires narrowed { IsNarrowed (R.cumulatives rows.old) (R.number q) first size }
+    requires searching { MaySearch R.Probe rows.old q first size }
     requires many { 8 < size }
-    requires room { R.questions rows.old + digits (size - 1) ≤ usize.MAX }
-    ensures narrowed { IsNarrowed (R.cumulatives rows.old) (R.number q) result.0 result.1 }
-    ensures same { R.cumulatives rows.new ≡ R.cumulatives rows.old }
-    ensures counted { R.questions rows.new + digits (result.1 - 1) ≡ R.questions rows.old + digits (size - 1) }
+    ensures narrows { Narrows R.Probe rows.old q size rows.new result.0 result.1 }
     ensures fewer { result.1 < size }
     ensures sixteenth { size ≤ 16 * result.1 }
 {
@@ -95,13 +75,8 @@ fn halve_many_four_times<R: Probe>(
 /// the answers, and not to moves, which are several times as fast on random quantiles.
 #[inline(never)]
 fn sixteenth<R: Probe>(rows: &mut R, q: R::Word, first: usize, size: usize) -> (usize, usize)
-    requires searchable { IsSearchable (R.cumulatives rows.old) (R.number q) }
-    requires word { length (R.cumulatives rows.old) ≤ usize.MAX }
-    requires narrowed { IsNarrowed (R.cumulatives rows.old) (R.number q) first size }
-    requires room { R.questions rows.old + digits (size - 1) ≤ usize.MAX }
-    ensures narrowed { IsNarrowed (R.cumulatives rows.old) (R.number q) result.0 result.1 }
-    ensures same { R.cumulatives rows.new ≡ R.cumulatives rows.old }
-    ensures counted { R.questions rows.new + digits (result.1 - 1) ≡ R.questions rows.old + digits (size - 1) }
+    requires searching { MaySearch R.Probe rows.old q first size }
+    ensures narrows { Narrows R.Probe rows.old q size rows.new result.0 result.1 }
     ensures fewer { 1 < size → result.1 < size }
 {
     if size > 8 {
@@ -115,12 +90,9 @@ fn sixteenth<R: Probe>(rows: &mut R, q: R::Word, first: usize, size: usize) -> (
 #[inline(always)]
 #[tactic(auto, using(crate::proofs::Digits::digits_two))]
 fn row_of_two<R: Probe>(rows: &mut R, q: R::Word) -> usize
-    requires searchable { IsSearchable (R.cumulatives rows.old) (R.number q) }
+    requires searching { MaySearch R.Probe rows.old q 0 (length (R.cumulatives rows.old)) }
     requires two { length (R.cumulatives rows.old) ≤ 2 }
-    requires room { R.questions rows.old ≤ usize.MAX - 64 }
-    ensures found { IsLastAtMost (R.cumulatives rows.old) (R.number q) result }
-    ensures same { R.cumulatives rows.new ≡ R.cumulatives rows.old }
-    ensures counted { R.questions rows.new ≡ R.questions rows.old + digits (length (R.cumulatives rows.old) - 1) }
+    ensures { Narrows R.Probe rows.old q (length (R.cumulatives rows.old)) rows.new result 1 }
 {
     if rows.len() < 2 {
         return 0;
@@ -130,16 +102,11 @@ fn row_of_two<R: Probe>(rows: &mut R, q: R::Word) -> usize
 
 /// The first of the `left` rows that one question leaves of the `size` rows from `first` on. Either answer leaves that many.
 #[inline(always)]
+#[tactic(auto, using(crate::proofs::Halving::asked_yes))]
 fn first_left<R: Probe>(rows: &mut R, q: R::Word, first: usize, size: usize, left: usize) -> usize
-    requires searchable { IsSearchable (R.cumulatives rows.old) (R.number q) }
-    requires word { length (R.cumulatives rows.old) ≤ usize.MAX }
-    requires narrowed { IsNarrowed (R.cumulatives rows.old) (R.number q) first size }
-    requires fewer { left < size }
-    requires half { size ≤ 2 * left }
-    requires room { R.questions rows.old < usize.MAX }
-    ensures narrowed { IsNarrowed (R.cumulatives rows.old) (R.number q) result left }
-    ensures same { R.cumulatives rows.new ≡ R.cumulatives rows.old }
-    ensures counted { R.questions rows.new ≡ R.questions rows.old + 1 }
+    requires searching { MaySearch R.Probe rows.old q first size }
+    requires halved { IsHalved size left }
+    ensures { Narrows R.Probe rows.old q size rows.new result left }
 {
     let skipped = size - left;
     if rows.at_most(first + skipped, q) {
@@ -151,14 +118,10 @@ fn first_left<R: Probe>(rows: &mut R, q: R::Word, first: usize, size: usize, lef
 
 /// The row among the four from `first` on.
 #[inline(always)]
+#[tactic(auto, using(crate::proofs::Halving::four_halved, crate::proofs::Halving::two_halved))]
 fn row_of_four<R: Probe>(rows: &mut R, q: R::Word, first: usize) -> usize
-    requires searchable { IsSearchable (R.cumulatives rows.old) (R.number q) }
-    requires word { length (R.cumulatives rows.old) ≤ usize.MAX }
-    requires narrowed { IsNarrowed (R.cumulatives rows.old) (R.number q) first 4 }
-    requires room { R.questions rows.old ≤ usize.MAX - 2 }
-    ensures narrowed { IsNarrowed (R.cumulatives rows.old) (R.number q) result 1 }
-    ensures same { R.cumulatives rows.new ≡ R.cumulatives rows.old }
-    ensures counted { R.questions rows.new ≡ R.questions rows.old + 2 }
+    requires { MaySearch R.Probe rows.old q first 4 }
+    ensures { Narrows R.Probe rows.old q 4 rows.new result 1 }
 {
     let half = first_left(rows, q, first, 4, 2);
     first_left(rows, q, half, 2, 1)
@@ -166,14 +129,10 @@ fn row_of_four<R: Probe>(rows: &mut R, q: R::Word, first: usize) -> usize
 
 /// The row among the eight from `first` on.
 #[inline(always)]
+#[tactic(auto, using(crate::proofs::Halving::eight_halved))]
 fn row_of_eight<R: Probe>(rows: &mut R, q: R::Word, first: usize) -> usize
-    requires searchable { IsSearchable (R.cumulatives rows.old) (R.number q) }
-    requires word { length (R.cumulatives rows.old) ≤ usize.MAX }
-    requires narrowed { IsNarrowed (R.cumulatives rows.old) (R.number q) first 8 }
-    requires room { R.questions rows.old ≤ usize.MAX - 3 }
-    ensures narrowed { IsNarrowed (R.cumulatives rows.old) (R.number q) result 1 }
-    ensures same { R.cumulatives rows.new ≡ R.cumulatives rows.old }
-    ensures counted { R.questions rows.new ≡ R.questions rows.old + 3 }
+    requires { MaySearch R.Probe rows.old q first 8 }
+    ensures { Narrows R.Probe rows.old q 8 rows.new result 1 }
 {
     let half = first_left(rows, q, first, 8, 4);
     row_of_four(rows, q, half)
@@ -181,14 +140,10 @@ fn row_of_eight<R: Probe>(rows: &mut R, q: R::Word, first: usize) -> usize
 
 /// The row among the sixteen from `first` on.
 #[inline(always)]
+#[tactic(auto, using(crate::proofs::Halving::sixteen_halved))]
 fn row_of_sixteen<R: Probe>(rows: &mut R, q: R::Word, first: usize) -> usize
-    requires searchable { IsSearchable (R.cumulatives rows.old) (R.number q) }
-    requires word { length (R.cumulatives rows.old) ≤ usize.MAX }
-    requires narrowed { IsNarrowed (R.cumulatives rows.old) (R.number q) first 16 }
-    requires room { R.questions rows.old ≤ usize.MAX - 4 }
-    ensures narrowed { IsNarrowed (R.cumulatives rows.old) (R.number q) result 1 }
-    ensures same { R.cumulatives rows.new ≡ R.cumulatives rows.old }
-    ensures counted { R.questions rows.new ≡ R.questions rows.old + 4 }
+    requires { MaySearch R.Probe rows.old q first 16 }
+    ensures { Narrows R.Probe rows.old q 16 rows.new result 1 }
 {
     let half = first_left(rows, q, first, 16, 8);
     row_of_eight(rows, q, half)
@@ -199,13 +154,11 @@ fn row_of_sixteen<R: Probe>(rows: &mut R, q: R::Word, first: usize) -> usize
 /// The first question leaves a power of two, so each later one asks about the row at a fixed distance from the first row left.
 /// The number of questions is chosen once, before the first one, and nothing is tested between them.
 #[inline(always)]
+#[tactic(auto, using(crate::proofs::Halving::halved_sixteen, crate::proofs::Halving::halved_eight, crate::proofs::Halving::halved_four, crate::proofs::Halving::halved_two, crate::proofs::Halving::two_halved))]
 fn row_of_thirty_two<R: Probe>(rows: &mut R, q: R::Word) -> usize
-    requires searchable { IsSearchable (R.cumulatives rows.old) (R.number q) }
+    requires searching { MaySearch R.Probe rows.old q 0 (length (R.cumulatives rows.old)) }
     requires few { length (R.cumulatives rows.old) ≤ 32 }
-    requires room { R.questions rows.old ≤ usize.MAX - 64 }
-    ensures found { IsLastAtMost (R.cumulatives rows.old) (R.number q) result }
-    ensures same { R.cumulatives rows.new ≡ R.cumulatives rows.old }
-    ensures counted { R.questions rows.new ≡ R.questions rows.old + digits (length (R.cumulatives rows.old) - 1) }
+    ensures { Narrows R.Probe rows.old q (length (R.cumulatives rows.old)) rows.new result 1 }
 {
     let size = rows.len();
     if size > 16 {
@@ -231,8 +184,8 @@ fn row_of_thirty_two<R: Probe>(rows: &mut R, q: R::Word) -> usize
 ///
 /// The search halves the rows until one is left. So it asks as many questions as one less than the number of
 /// rows has binary digits, for every `q`.
-#[tactic(auto, using(crate::proofs::Digits::digits_word, crate::proofs::Halving::narrowed_one, crate::proofs::Halving::narrowed_all))]
 #[inline(always)]
+#[tactic(auto, using(crate::proofs::Halving::may_begin, crate::proofs::Halving::found, crate::proofs::Halving::counted_all))]
 pub fn row_of_quantile<R: Probe>(rows: &mut R, q: R::Word) -> usize
     requires searchable { IsSearchable (R.cumulatives rows.old) (R.number q) }
     requires room { R.questions rows.old ≤ usize.MAX - 64 }
@@ -260,6 +213,7 @@ pub fn row_of_quantile<R: Probe>(rows: &mut R, q: R::Word) -> usize
 /// probe of at most `FEW` rows, 32 or fewer, is searched at fixed distances, and stays in registers. In a loop, the questions about
 /// more than two rows are then compiled to jumps; outside a loop `FEW` may be 32.
 #[inline(always)]
+#[tactic(auto, using(crate::proofs::Halving::may_begin, crate::proofs::Halving::found))]
 pub fn row_in_probe<R: Probe + Drop, const FEW: usize>(rows: R, q: R::Word) -> usize
     requires searchable { IsSearchable (R.cumulatives rows) (R.number q) }
     requires room { R.questions rows ≤ usize.MAX - 64 }
