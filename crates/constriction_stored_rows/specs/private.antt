@@ -1,3 +1,4 @@
+pub mod Cloned
 pub mod Filling
 pub mod Given
 pub mod Reading

@@ -2,9 +2,9 @@
 //!
 //! A row ends where the next entry begins. The last row ends at the total, which no entry has.
 
-ghost use Rattle.std.specs.Prelude.{◌≡◌, ◌+◌, ◌++◌, ◌<◌, ◌≤◌, length, map, slice_index, slice_index_or, IfOk, IfErr, IfSome, IfNone};
-ghost use Rattle.constriction_model.specs.Model.{row_of, LiesWithin};
-ghost use Rattle.constriction_model.specs.Rows.{Row};
+ghost use Rattle.std.specs.Prelude.{◌≡◌, ◌++◌, ◌<◌, ◌≤◌, length, map, slice_index, IfOk, IfSome, IfNone};
+ghost use Rattle.constriction_model.specs.Precision.{IsPrecision};
+ghost use Rattle.constriction_stored_rows.specs.private.Cloned.{IsClonedRow};
 ghost use Rattle.constriction_stored_rows.specs.SlotTable.{MayFollow};
 ghost use Rattle.constriction_stored_rows.specs.Stored.{IsStored, AreEndWords, end_at, rows_paired, weights_of, with_total};
 
@@ -21,8 +21,7 @@ use std::alloc::AllocError;
 pub fn end_words_of<P: WholeNumber, Symbol, const PRECISION: usize>(
     entries: &[(P, Symbol)],
 ) -> [P; 2]
-    requires positive { 0 < PRECISION }
-    requires fits { PRECISION ≤ P.BITS }
+    requires { IsPrecision P.BITS PRECISION }
     ensures { AreEndWords P.BITS PRECISION (map (λ x. P.whole x.0) entries.now) (map P.whole result) }
 {
     let total = P::wrapping_pow2(PRECISION);
@@ -62,8 +61,7 @@ fn end_of<P: WholeNumber, Symbol, const PRECISION: usize>(
     entries: &[(P, Symbol)],
     index: usize,
 ) -> P
-    requires positive { 0 < PRECISION }
-    requires fits { PRECISION ≤ P.BITS }
+    requires precision { IsPrecision P.BITS PRECISION }
     requires in_bounds { index < length entries.now }
     ensures { P.whole result ≡ end_at P.BITS PRECISION (map (λ x. P.whole x.0) entries.now) index }
 {
@@ -81,8 +79,7 @@ pub fn end_before<P: WholeNumber, Symbol, const PRECISION: usize>(
     from: usize,
     to: usize,
 ) -> Option<P>
-    requires positive { 0 < PRECISION }
-    requires fits { PRECISION ≤ P.BITS }
+    requires precision { IsPrecision P.BITS PRECISION }
     requires order { from ≤ to }
     requires in_bounds { to ≤ length entries.now }
     ensures none { IfNone result (from ≡ to) }
@@ -106,8 +103,7 @@ fn end_among<P: WholeNumber, Symbol, const PRECISION: usize>(
     cdf: &[P],
     index: usize,
 ) -> P
-    requires positive { 0 < PRECISION }
-    requires fits { PRECISION ≤ P.BITS }
+    requires precision { IsPrecision P.BITS PRECISION }
     requires cdf { MayFollow P.BITS PRECISION (map (λ x. P.whole x.0) entries.now) (map P.whole cdf.now) }
     requires in_bounds { index < length entries.now }
     ensures { P.whole result ≡ end_at P.BITS PRECISION (map (λ x. P.whole x.0) entries.now) index }
@@ -144,8 +140,7 @@ pub fn paired_row_at<P: WholeNumber, Symbol, const PRECISION: usize>(
     entries: &[(P, Symbol)],
     index: usize,
 ) -> (P, Weight<P>)
-    requires positive { 0 < PRECISION }
-    requires fits { PRECISION ≤ P.BITS }
+    requires precision { IsPrecision P.BITS PRECISION }
     requires stored { IsStored P.BITS PRECISION (map (λ x. P.whole x.0) entries.now) }
     requires in_bounds { index < length entries.now }
     ensures left { P.whole result.0 ≡ slice_index (map (λ x. P.whole x.0) entries.now) index }
@@ -169,12 +164,8 @@ fn cloned_row_up_to<P: WholeNumber, Symbol: Clone, const PRECISION: usize>(
     requires stored { IsStored P.BITS PRECISION (map (λ x. P.whole x.0) entries.now) }
     requires end { P.whole end ≡ end_at P.BITS PRECISION (map (λ x. P.whole x.0) entries.now) index }
     requires in_bounds { index < length entries.now }
-    ensures row { IfOk result (λ x. (own : Symbol) × Symbol.is_clone own x.0
-        × (slice_index_or (rows_paired P.whole PRECISION entries.now) index (row_of P.whole P.base (own, x.1, x.2))
-        ≡ row_of P.whole P.base (own, x.1, x.2))) }
-    ensures within { IfOk result (λ x. LiesWithin PRECISION (row_of P.whole P.base x)) }
-    ensures refused { IfErr result (λ _. (r : Row Symbol)
-        × (slice_index_or (rows_paired P.whole PRECISION entries.now) index r ≡ r) × ¬ (Symbol.is_infallible r.symbol)) }
+    ensures { IsClonedRow Symbol.is_clone Symbol.is_infallible P.whole P.base PRECISION (rows_paired P.whole PRECISION entries.now) index
+        result }
 {
     let (left, weight) = row_up_to::<P, Symbol, PRECISION>(entries, end, index);
     match entries[index].1.clone() {
@@ -194,12 +185,8 @@ pub fn cloned_row_at<P: WholeNumber, Symbol: Clone, const PRECISION: usize>(
     requires stored { IsStored P.BITS PRECISION (map (λ x. P.whole x.0) entries.now) }
     requires end_words { AreEndWords P.BITS PRECISION (map (λ x. P.whole x.0) entries.now) (map P.whole end_words.now) }
     requires in_bounds { index < length entries.now }
-    ensures row { IfOk result (λ x. (own : Symbol) × Symbol.is_clone own x.0
-        × (slice_index_or (rows_paired P.whole PRECISION entries.now) index (row_of P.whole P.base (own, x.1, x.2))
-        ≡ row_of P.whole P.base (own, x.1, x.2))) }
-    ensures within { IfOk result (λ x. LiesWithin PRECISION (row_of P.whole P.base x)) }
-    ensures refused { IfErr result (λ _. (r : Row Symbol)
-        × (slice_index_or (rows_paired P.whole PRECISION entries.now) index r ≡ r) × ¬ (Symbol.is_infallible r.symbol)) }
+    ensures { IsClonedRow Symbol.is_clone Symbol.is_infallible P.whole P.base PRECISION (rows_paired P.whole PRECISION entries.now) index
+        result }
 {
     let end = end_by_words::<P, Symbol, PRECISION>(entries, end_words, index);
     cloned_row_up_to::<P, Symbol, PRECISION>(entries, end, index)
@@ -213,17 +200,12 @@ pub fn cloned_row_among<P: WholeNumber, Symbol: Clone, const PRECISION: usize>(
     cdf: &[P],
     index: usize,
 ) -> Result<(Symbol, P, Weight<P>), AllocError>
-    requires positive { 0 < PRECISION }
-    requires fits { PRECISION ≤ P.BITS }
+    requires precision { IsPrecision P.BITS PRECISION }
     requires stored { IsStored P.BITS PRECISION (map (λ x. P.whole x.0) entries.now) }
     requires cdf { MayFollow P.BITS PRECISION (map (λ x. P.whole x.0) entries.now) (map P.whole cdf.now) }
     requires in_bounds { index < length entries.now }
-    ensures row { IfOk result (λ x. (own : Symbol) × Symbol.is_clone own x.0
-        × (slice_index_or (rows_paired P.whole PRECISION entries.now) index (row_of P.whole P.base (own, x.1, x.2))
-        ≡ row_of P.whole P.base (own, x.1, x.2))) }
-    ensures within { IfOk result (λ x. LiesWithin PRECISION (row_of P.whole P.base x)) }
-    ensures refused { IfErr result (λ _. (r : Row Symbol)
-        × (slice_index_or (rows_paired P.whole PRECISION entries.now) index r ≡ r) × ¬ (Symbol.is_infallible r.symbol)) }
+    ensures { IsClonedRow Symbol.is_clone Symbol.is_infallible P.whole P.base PRECISION (rows_paired P.whole PRECISION entries.now) index
+        result }
 {
     let end = end_among::<P, Symbol, PRECISION>(entries, cdf, index);
     cloned_row_up_to::<P, Symbol, PRECISION>(entries, end, index)
@@ -234,8 +216,7 @@ pub fn with_ends<Entry, Kind: CdfEntry<Entry>, const PRECISION: usize>(
     words: Vec<Kind::Word>,
     entries: &[Entry],
 ) -> Result<Vec<Kind::Word>, AllocError>
-    requires positive { 0 < PRECISION }
-    requires fits { PRECISION ≤ Kind.Word.BITS }
+    requires { IsPrecision Kind.Word.BITS PRECISION }
     ensures { IfOk result (λ v. map Kind.Word.whole v.items ≡ map Kind.Word.whole words.items
         ++ with_total Kind.Word.BITS PRECISION (map Kind.cumulative entries.now)) }
 {
