@@ -8,6 +8,7 @@ use Rattle.std.proofs.lemmas.List.Elements.{All-push, All-nil, All-contains, Con
 use Rattle.std.proofs.lemmas.List.Sums.{sum_by-cons, sum_by-append, sum_by_push}
 use Rattle.std.specs.Iterator.{Yields}
 use Rattle.constriction_model.specs.Acceptance.{IsAccepted, completed}
+use Rattle.constriction_model.specs.Precision.{IsPrecision}
 use Rattle.constriction_stored_rows.specs.Stored.{lefts_from}
 use Rattle.constriction_stored_rows.specs.private.Filling.{IsRowEnd, IsFilled}
 use Rattle.constriction_stored_rows.specs.Ends.{FillsAll, IsNoLast, IsNoneInferred, AndTotal, IsCdfBegun, IsCdfOf, IsNoCdf}
@@ -188,8 +189,8 @@ wrapped n last w is range = elim (cases_lt (last + 1) n) [
 pub one_is : (n : ℕ) → n + 1 ≡ 2 ^ 1 → n ≡ 1
 one_is n e = omega arith
 
-pub one_fits : (precision bits : ℕ) → 0 < precision → precision ≤ bits → 1 ≤ bits
-one_fits precision bits some fits = omega arith
+pub one_fits : (bits precision : ℕ) → IsPrecision bits precision → 1 ≤ bits
+one_fits bits precision p = omega (arith, p.positive, p.fits)
 
 -- what is left after the first quantile of a row is a word, and so is the end of a row that leaves some
 pub room_below : (left room all bits : ℕ) → left + room + 1 ≡ all → all ≤ bits → room < bits

@@ -3,6 +3,7 @@
 ghost use Rattle.std.specs.Prelude.{◌≡◌, ◌+◌, ◌^◌, ◌<◌, ◌≤◌, ◌⊎◌, [], ◌∷◌, ◌++◌, Some, None, IfOk, IsTrue, true, false, min};
 ghost use Rattle.std.specs.Vec.{vec_len, vec_capacity};
 ghost use Rattle.std.specs.Iterator.{IsFinite, IsFiniteIterable};
+ghost use Rattle.constriction_model.specs.Precision.{IsPrecision};
 ghost use Rattle.constriction_stored_rows.specs.Ends.{FillsAll, IsNoLast, IsNoneInferred, AndTotal, IsCdfOf, IsNoCdf};
 
 use constriction_model::ModelError;
@@ -159,8 +160,7 @@ fn finish<P: WholeNumber, const PRECISION: usize>(
     cdf: Vec<P>,
     is_whole: bool,
 ) -> Result<Vec<P>, ModelError>
-    requires positive { 0 < PRECISION }
-    requires fits { PRECISION ≤ P.BITS }
+    requires { IsPrecision P.BITS PRECISION }
     ensures ok { IfOk result (λ v. (is_whole ≡ true) × AndTotal P.whole P.BITS PRECISION cdf.items v.items) }
     ensures invalid { result ≡ Err ModelError.InvalidTable → is_whole ≡ false }
 {
@@ -177,8 +177,7 @@ fn finish_inferred<P: WholeNumber, const PRECISION: usize>(
     left: P,
     is_word: bool,
 ) -> Result<Vec<P>, ModelError>
-    requires positive { 0 < PRECISION }
-    requires fits { PRECISION ≤ P.BITS }
+    requires { IsPrecision P.BITS PRECISION }
     ensures ok { IfOk result (λ v. (is_word ≡ true) × AndTotal P.whole P.BITS PRECISION (cdf.items ++ left ∷ []) v.items) }
     ensures invalid { result ≡ Err ModelError.InvalidTable → is_word ≡ false }
 {
@@ -195,8 +194,7 @@ fn fill<P: WholeNumber, I: Iterator<Item = P>, const PRECISION: usize>(
     rest: &mut I,
     infer_last: bool,
 ) -> Result<Vec<P>, ModelError>
-    requires positive { 0 < PRECISION }
-    requires fits { PRECISION ≤ P.BITS }
+    requires precision { IsPrecision P.BITS PRECISION }
     requires empty { cdf.items ≡ [] }
     // The cdf has no more room than accepted weights need.
     requires room { vec_capacity cdf ≤ 2 ^ PRECISION + 1 }
@@ -234,8 +232,7 @@ pub fn cdf_of<P: WholeNumber, I: IntoIterator<Item = P>, const PRECISION: usize>
     weights: I,
     infer_last: bool,
 ) -> Result<Vec<P>, ModelError>
-    requires positive { 0 < PRECISION }
-    requires fits { PRECISION ≤ P.BITS }
+    requires precision { IsPrecision P.BITS PRECISION }
     requires ends { IsFiniteIterable I.into_iter_gives I.IntoIter.can_next I.IntoIter.remaining weights }
     ensures ok { IfOk result (λ v. (it : I.IntoIter) × I.into_iter_gives weights it
         × IsCdfOf I.IntoIter.next_gives it P.whole P.BITS PRECISION infer_last v.items) }

@@ -4,6 +4,7 @@ ghost use Rattle.std.specs.Prelude.{◌≡◌, ◌+◌, ◌^◌, ◌<◌, ◌≤
 ghost use Rattle.std.specs.Iterator.{IsFinite};
 ghost use Rattle.std.specs.List.{list_any};
 ghost use Rattle.constriction_model.specs.Acceptance.{completed, AreAccepted};
+ghost use Rattle.constriction_model.specs.Precision.{IsPrecision};
 ghost use Rattle.constriction_stored_rows.specs.private.Given.{GaveBothGood, GaveBothBad};
 ghost use Rattle.constriction_stored_rows.specs.private.Reading.{TookRow, RefusedRow, IsReadWell, IsReadBadly, EndsWell, EndsBadly};
 ghost use Rattle.constriction_model.specs.Rows.{Row, rows_of, symbols_of};
@@ -154,8 +155,7 @@ fn take_all<
     weights: &mut Weights,
     infer_last: bool,
 ) -> Result<(), ModelError>
-    requires positive { 0 < PRECISION }
-    requires fits { PRECISION ≤ P.BITS }
+    requires precision { IsPrecision P.BITS PRECISION }
     requires none { Stored.holds stored.old [] }
     requires symbols_go { Symbols.can_next symbols.old }
     requires symbols_end { IsFinite (Symbols.remaining symbols.old) }
@@ -202,8 +202,7 @@ pub fn rows_read<
     mut weights: Weights,
     infer_last: bool,
 ) -> Result<Stored, ModelError>
-    requires positive { 0 < PRECISION }
-    requires fits { PRECISION ≤ P.BITS }
+    requires precision { IsPrecision P.BITS PRECISION }
     requires none { Stored.holds stored [] }
     requires symbols_go { Symbols.can_next symbols }
     requires symbols_end { IsFinite (Symbols.remaining symbols) }

@@ -3,6 +3,7 @@
 ghost use Rattle.std.specs.Prelude.{◌<◌, ◌≤◌, false, refl};
 ghost use Rattle.std.specs.Iterator.{IsFiniteIterable};
 ghost use Rattle.constriction_model.specs.Acceptance.{completed, AreAccepted, WasReadOf, IsMadeOfBoth};
+ghost use Rattle.constriction_model.specs.Precision.{IsPrecision};
 ghost use Rattle.constriction_stored_rows.specs.private.Filling.{HoldsRows};
 ghost use Rattle.constriction_model.specs.Rows.{rows_of};
 
@@ -41,8 +42,7 @@ pub fn entries_read<
     W: IntoIterator<Item = P>,
     const PRECISION: usize,
 >(alloc: Global, symbols: S, weights: W, infer_last: bool) -> Result<Vec<(P, Symbol)>, ModelError>
-    requires positive { 0 < PRECISION }
-    requires fits { PRECISION ≤ P.BITS }
+    requires precision { IsPrecision P.BITS PRECISION }
     requires symbols_end { IsFiniteIterable S.into_iter_gives S.IntoIter.can_next S.IntoIter.remaining symbols }
     requires weights_end { IsFiniteIterable W.into_iter_gives W.IntoIter.can_next W.IntoIter.remaining weights }
     ensures { IsMadeOfBoth (AreAccepted (λ _ _. false) P.BITS PRECISION) (completed PRECISION infer_last)

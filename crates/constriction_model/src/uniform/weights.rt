@@ -1,6 +1,7 @@
 //! The weights of a uniform model, and the symbol of a quantile, as numbers.
 
 ghost use Rattle.std.specs.Prelude.{◌≡◌, ◌/◌, ◌^◌, ◌<◌, ◌≤◌};
+ghost use Rattle.constriction_model.specs.Precision.{IsPrecision};
 ghost use Rattle.constriction_model.specs.lemmas.UniformRows.{bin_of, rest_of};
 
 use constriction_numbers::WholeNumber;
@@ -14,8 +15,7 @@ use constriction_numbers::WholeNumber;
 pub(crate) fn probability_per_bin<Word: WholeNumber, const PRECISION: usize>(
     last_symbol: Word,
 ) -> Word
-    requires positive { 0 < PRECISION }
-    requires fits { PRECISION ≤ Word.BITS }
+    requires precision { IsPrecision Word.BITS PRECISION }
     requires some { 0 < Word.whole last_symbol }
     requires within { Word.whole last_symbol < 2 ^ PRECISION }
     ensures value { Word.whole result ≡ bin_of PRECISION (Word.whole last_symbol) }
@@ -36,8 +36,7 @@ pub(crate) fn last_probability<Word: WholeNumber, const PRECISION: usize>(
     last_symbol: Word,
     bin: Word,
 ) -> Word
-    requires positive { 0 < PRECISION }
-    requires fits { PRECISION ≤ Word.BITS }
+    requires precision { IsPrecision Word.BITS PRECISION }
     requires some { 0 < Word.whole last_symbol }
     requires within { Word.whole last_symbol < 2 ^ PRECISION }
     requires bin { Word.whole bin ≡ bin_of PRECISION (Word.whole last_symbol) }

@@ -54,13 +54,13 @@ returns-clause-invalid g c = λ e.
     c.in_default.ensures.steps (c.is_inferred_last.ensures.bad (c.finish_inferred.ensures.invalid e))
 
 pub greatest_of_bits-one-requires-clause-fits : goal.greatest_of_bits-one-requires-clause-fits
-greatest_of_bits-one-requires-clause-fits g c = one_fits g.row.PRECISION g.P.WholeNumber.BITS c.requires.positive c.requires.fits
+greatest_of_bits-one-requires-clause-fits g c = one_fits _ _ c.requires.precision
 
 pub greatest_of_bits-room-requires-clause-some : goal.greatest_of_bits-room-requires-clause-some
-greatest_of_bits-room-requires-clause-some g c = c.requires.positive
+greatest_of_bits-room-requires-clause-some g c = c.requires.precision.positive
 
 pub greatest_of_bits-room-requires-clause-fits : goal.greatest_of_bits-room-requires-clause-fits
-greatest_of_bits-room-requires-clause-fits g c = c.requires.fits
+greatest_of_bits-room-requires-clause-fits g c = c.requires.precision.fits
 
 pub next-requires : goal.next-requires
 next-requires g c = c.rows.invariant.0
@@ -100,19 +100,7 @@ is_end_of_given-requires-clause-none_left g c = c.leaves_none.ensures.none c.if-
 pub is_end_of_given-requires-clause-goes : goal.is_end_of_given-requires-clause-goes
 is_end_of_given-requires-clause-goes g c = (c.in-Some.ensures.goes.on c.rows.invariant.1).0
 
-pub finish-requires-clause-positive : goal.finish-requires-clause-positive
-finish-requires-clause-positive g c = c.requires.positive
-
-pub finish-requires-clause-fits : goal.finish-requires-clause-fits
-finish-requires-clause-fits g c = c.requires.fits
-
 pub is_inferred_last-requires : goal.is_inferred_last-requires
 is_inferred_last-requires g c =
     room_below (g.P.WholeNumber.whole c.rows.left) (g.P.WholeNumber.whole c.rows.room) (2 ^ g.row.PRECISION) (2 ^ g.P.WholeNumber.BITS)
     c.rows.invariant.2.rest c.greatest_of_bits-room.ensures.within
-
-pub finish_inferred-requires-clause-positive : goal.finish_inferred-requires-clause-positive
-finish_inferred-requires-clause-positive g c = c.requires.positive
-
-pub finish_inferred-requires-clause-fits : goal.finish_inferred-requires-clause-fits
-finish_inferred-requires-clause-fits g c = c.requires.fits

@@ -58,13 +58,13 @@ returns-clause-invalid g c = λ e.
     c.take_inferred_last.ensures.invalid e _ _ _ c.rows.weights c.rows.invariant.4 c.in_default.ensures.steps
 
 pub greatest_of_bits-one-requires-clause-fits : goal.greatest_of_bits-one-requires-clause-fits
-greatest_of_bits-one-requires-clause-fits g c = one_fits g.row.PRECISION g.P.WholeNumber.BITS c.requires.positive c.requires.fits
+greatest_of_bits-one-requires-clause-fits g c = one_fits _ _ c.requires.precision
 
 pub greatest_of_bits-room-requires-clause-some : goal.greatest_of_bits-room-requires-clause-some
-greatest_of_bits-room-requires-clause-some g c = c.requires.positive
+greatest_of_bits-room-requires-clause-some g c = c.requires.precision.positive
 
 pub greatest_of_bits-room-requires-clause-fits : goal.greatest_of_bits-room-requires-clause-fits
-greatest_of_bits-room-requires-clause-fits g c = c.requires.fits
+greatest_of_bits-room-requires-clause-fits g c = c.requires.precision.fits
 
 pub next-requires : goal.next-requires
 next-requires g c = c.rows.invariant.0
