@@ -18,7 +18,9 @@ use constriction_model::{
     DecoderModel, EncoderModel, EntropyModel, ModelError, Probe, Weight, row_in_probe,
 };
 use constriction_numbers::WholeNumber;
-use constriction_stored_rows::{CdfProbe, Cumulative, cdf_of, contiguous_row_at, copy_of, row_at};
+use constriction_stored_rows::{
+    CdfProbe, Cumulative, cdf_of, cdf_row_at, contiguous_row_at, copy_of,
+};
 use std::alloc::{AllocError, Global};
 use std::marker::PhantomData;
 
@@ -203,7 +205,7 @@ impl<Probability: WholeNumber, Cdf: SafeBuf<Probability>, const PRECISION: usize
     ) -> Option<(Probability, Weight<Probability>)> {
         let cdf = self.cdf.words();
         if *symbol < cdf.len() - 1 {
-            Some(row_at::<Probability, PRECISION>(cdf, *symbol))
+            Some(cdf_row_at::<Probability, PRECISION>(cdf, *symbol))
         } else {
             None
         }

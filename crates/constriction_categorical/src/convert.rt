@@ -6,7 +6,7 @@ ghost use Rattle.constriction_model.specs.Model.{StandApart, ClonesRepeat};
 ghost use Rattle.constriction_stored_rows.specs.Stored.{IsStored, rows_paired};
 ghost use Rattle.constriction_categorical.specs.ModelRows.{decoder_model_rows, lookup_model_rows};
 
-use crate::convert::distinct::entries_of_distinct;
+use crate::convert::distinct::uncompared_entries_of_model;
 use crate::iterable::IterableEntropyModel;
 use crate::lookup::{LookupDecoderModel, lookup_over};
 use crate::lookup_non_contiguous::OwnLookupDecoderModel;
@@ -41,7 +41,7 @@ pub type LookupMadeOf<M, const PRECISION: usize, const SLOT_BITS: usize> = Looku
 
 /// The entries of a decoder with a model's rows, if no two symbols are equal. Each symbol is compared with all before it.
 #[inline]
-fn entries_compared<M, const PRECISION: usize>(
+fn compared_entries_of_model<M, const PRECISION: usize>(
     alloc: Global,
     model: M,
 ) -> Result<Vec<(M::Probability, M::Symbol)>, ModelError>
@@ -54,13 +54,13 @@ where
         (rows_paired M.Probability.whole PRECISION v.items) (M.rows model)) }
     ensures invalid { result ≡ Err ModelError.InvalidTable → ClonesRepeat M.Symbol.eq M.stands_for (M.rows model) }
 {
-    let cdf = entries_walked::<_, _, _, _, PRECISION>(alloc, model.symbol_table())?;
-    Ok(cdf)
+    let entries = entries_walked::<_, _, _, _, PRECISION>(alloc, model.symbol_table())?;
+    Ok(entries)
 }
 
 /// The same. Symbols are compared only if the model does not know that they differ.
 #[inline]
-fn entries_of<M, const PRECISION: usize>(
+fn entries_of_model<M, const PRECISION: usize>(
     alloc: Global,
     model: M,
 ) -> Result<Vec<(M::Probability, M::Symbol)>, ModelError>
@@ -75,9 +75,9 @@ where
     ensures invalid { result ≡ Err ModelError.InvalidTable → ClonesRepeat M.Symbol.eq M.stands_for (M.rows model) }
 {
     if model.symbols_differ() {
-        entries_of_distinct::<M, PRECISION>(alloc, model)
+        uncompared_entries_of_model::<M, PRECISION>(alloc, model)
     } else {
-        entries_compared::<M, PRECISION>(alloc, model)
+        compared_entries_of_model::<M, PRECISION>(alloc, model)
     }
 }
 
@@ -108,7 +108,7 @@ where
     ensures ok { IfOk result (λ d. StandApart M.Symbol.eq M.stands_for (decoder_model_rows d) (M.rows model)) }
     ensures invalid { result ≡ Err ModelError.InvalidTable → ClonesRepeat M.Symbol.eq M.stands_for (M.rows model) }
 {
-    match entries_of(alloc, model) {
+    match entries_of_model(alloc, model) {
         Ok(entries) => Ok(decoder_over(entries)),
         Err(refused) => Err(refused),
     }
@@ -126,7 +126,7 @@ where
     ensures ok { IfOk result (λ d. StandApart M.Symbol.eq M.stands_for (decoder_model_rows d) (M.rows model)) }
     ensures invalid { result ≡ Err ModelError.InvalidTable → ClonesRepeat M.Symbol.eq M.stands_for (M.rows model) }
 {
-    match entries_compared(alloc, model) {
+    match compared_entries_of_model(alloc, model) {
         Ok(entries) => Ok(decoder_over(entries)),
         Err(refused) => Err(refused),
     }

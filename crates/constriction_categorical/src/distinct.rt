@@ -3,15 +3,14 @@
 //! [`into_lookup_decoder_model`](NonContiguousCategoricalDecoderModel::into_lookup_decoder_model) turns their
 //! models into lookup models.
 
-ghost use Rattle.std.specs.Prelude.{◌≡◌, ◌<◌, ◌≤◌, map, IfOk};
+ghost use Rattle.std.specs.Prelude.{◌≡◌};
 ghost use Rattle.std.specs.Iterator.{IsFiniteIterable};
-ghost use Rattle.std.specs.List.{IsDistinct};
 ghost use Rattle.constriction_model.specs.Acceptance.{completed, AreAccepted, WasReadOf, IsMadeOfBoth, GivesDistinct};
 ghost use Rattle.constriction_model.specs.Precision.{IsPrecision};
 ghost use Rattle.constriction_model.specs.Rows.{rows_of};
-ghost use Rattle.constriction_stored_rows.specs.Stored.{IsStored, rows_paired};
 ghost use Rattle.constriction_categorical.specs.InOrder.{AreInOrder};
 ghost use Rattle.constriction_categorical.specs.ModelRows.{decoder_model_rows};
+ghost use Rattle.constriction_categorical.specs.private.Entries.{MakesEntries};
 
 use crate::non_contiguous::{NonContiguousCategoricalDecoderModel, decoder_over};
 use constriction_model::ModelError;
@@ -23,46 +22,54 @@ use std::hash::Hash;
 /// The entries of these symbols and weights, for symbols that are known to differ.
 #[inline]
 fn entries_of_distinct<
-    P: WholeNumber,
+    Probability: WholeNumber,
     Symbol: Eq + Drop,
-    S: IntoIterator<Item = Symbol>,
-    W: IntoIterator<Item = P>,
+    Symbols: IntoIterator<Item = Symbol>,
+    Weights: IntoIterator<Item = Probability>,
     const PRECISION: usize,
->(alloc: Global, symbols: S, weights: W, infer_last: bool) -> Result<Vec<(P, Symbol)>, ModelError>
-    requires positive { 0 < PRECISION }
-    requires fits { PRECISION ≤ P.BITS }
-    requires symbols_end { IsFiniteIterable S.into_iter_gives S.IntoIter.can_next S.IntoIter.remaining symbols }
-    requires weights_end { IsFiniteIterable W.into_iter_gives W.IntoIter.can_next W.IntoIter.remaining weights }
-    requires distinct { GivesDistinct S.into_iter_gives S.IntoIter.next_gives Symbol.eq symbols }
-    ensures made { IsMadeOfBoth (AreAccepted Symbol.eq P.BITS PRECISION) (completed PRECISION infer_last)
-        (WasReadOf S.into_iter_gives S.IntoIter.next_gives symbols) (WasReadOf W.into_iter_gives W.IntoIter.next_gives weights)
-        P.whole (λ v ss ws. rows_paired P.whole PRECISION v.items ≡ rows_of ss ws) result }
-    ensures stored { IfOk result (λ v. IsStored P.BITS PRECISION (map (λ x. P.whole x.0) v.items)) }
-    ensures distinct { IfOk result (λ v. IsDistinct Symbol.eq (map (λ x. x.1) v.items)) }
+>(
+    alloc: Global,
+    symbols: Symbols,
+    weights: Weights,
+    infer_last: bool,
+) -> Result<Vec<(Probability, Symbol)>, ModelError>
+    requires precision { IsPrecision Probability.BITS PRECISION }
+    requires symbols_end { IsFiniteIterable Symbols.into_iter_gives Symbols.IntoIter.can_next Symbols.IntoIter.remaining symbols }
+    requires weights_end { IsFiniteIterable Weights.into_iter_gives Weights.IntoIter.can_next Weights.IntoIter.remaining weights }
+    requires distinct { GivesDistinct Symbols.into_iter_gives Symbols.IntoIter.next_gives Symbol.eq symbols }
+    ensures { MakesEntries Symbol.eq (AreAccepted Symbol.eq Probability.BITS PRECISION) Probability.whole Probability.BITS PRECISION infer_last
+        (WasReadOf Symbols.into_iter_gives Symbols.IntoIter.next_gives symbols)
+        (WasReadOf Weights.into_iter_gives Weights.IntoIter.next_gives weights) result }
 {
-    entries_read::<P, Symbol, S, W, PRECISION>(alloc, symbols, weights, infer_last)
+    entries_read::<Probability, Symbol, Symbols, Weights, PRECISION>(
+        alloc, symbols, weights, infer_last,
+    )
 }
 
 /// The entries of these symbols and weights, if no two of the symbols are equal. Each symbol is hashed.
 #[inline]
 fn entries_hashed<
-    P: WholeNumber,
+    Probability: WholeNumber,
     Symbol: Hash + Eq + Drop,
-    S: IntoIterator<Item = Symbol>,
-    W: IntoIterator<Item = P>,
+    Symbols: IntoIterator<Item = Symbol>,
+    Weights: IntoIterator<Item = Probability>,
     const PRECISION: usize,
->(alloc: Global, symbols: S, weights: W, infer_last: bool) -> Result<Vec<(P, Symbol)>, ModelError>
-    requires positive { 0 < PRECISION }
-    requires fits { PRECISION ≤ P.BITS }
-    requires symbols_end { IsFiniteIterable S.into_iter_gives S.IntoIter.can_next S.IntoIter.remaining symbols }
-    requires weights_end { IsFiniteIterable W.into_iter_gives W.IntoIter.can_next W.IntoIter.remaining weights }
-    ensures made { IsMadeOfBoth (AreAccepted Symbol.eq P.BITS PRECISION) (completed PRECISION infer_last)
-        (WasReadOf S.into_iter_gives S.IntoIter.next_gives symbols) (WasReadOf W.into_iter_gives W.IntoIter.next_gives weights)
-        P.whole (λ v ss ws. rows_paired P.whole PRECISION v.items ≡ rows_of ss ws) result }
-    ensures stored { IfOk result (λ v. IsStored P.BITS PRECISION (map (λ x. P.whole x.0) v.items)) }
-    ensures distinct { IfOk result (λ v. IsDistinct Symbol.eq (map (λ x. x.1) v.items)) }
+>(
+    alloc: Global,
+    symbols: Symbols,
+    weights: Weights,
+    infer_last: bool,
+) -> Result<Vec<(Probability, Symbol)>, ModelError>
+    requires precision { IsPrecision Probability.BITS PRECISION }
+    requires symbols_end { IsFiniteIterable Symbols.into_iter_gives Symbols.IntoIter.can_next Symbols.IntoIter.remaining symbols }
+    requires weights_end { IsFiniteIterable Weights.into_iter_gives Weights.IntoIter.can_next Weights.IntoIter.remaining weights }
+    ensures { MakesEntries Symbol.eq (AreAccepted Symbol.eq Probability.BITS PRECISION) Probability.whole Probability.BITS PRECISION infer_last
+        (WasReadOf Symbols.into_iter_gives Symbols.IntoIter.next_gives symbols)
+        (WasReadOf Weights.into_iter_gives Weights.IntoIter.next_gives weights) result }
 {
-    let entries = entries_read::<P, Symbol, S, W, PRECISION>(alloc, symbols, weights, infer_last)?;
+    let entries = entries_read::<Probability, Symbol, Symbols, Weights, PRECISION>(
+        alloc, symbols, weights, infer_last,
+    )?;
     let apart = are_apart(alloc, &entries)?;
     if !apart {
         return Err(ModelError::InvalidTable);
@@ -73,23 +80,27 @@ fn entries_hashed<
 /// The entries of these symbols and weights, if each symbol is less than the next one.
 #[inline]
 fn entries_in_order<
-    P: WholeNumber,
+    Probability: WholeNumber,
     Symbol: Ord + Drop,
-    S: IntoIterator<Item = Symbol>,
-    W: IntoIterator<Item = P>,
+    Symbols: IntoIterator<Item = Symbol>,
+    Weights: IntoIterator<Item = Probability>,
     const PRECISION: usize,
->(alloc: Global, symbols: S, weights: W, infer_last: bool) -> Result<Vec<(P, Symbol)>, ModelError>
-    requires positive { 0 < PRECISION }
-    requires fits { PRECISION ≤ P.BITS }
-    requires symbols_end { IsFiniteIterable S.into_iter_gives S.IntoIter.can_next S.IntoIter.remaining symbols }
-    requires weights_end { IsFiniteIterable W.into_iter_gives W.IntoIter.can_next W.IntoIter.remaining weights }
-    ensures made { IsMadeOfBoth (AreInOrder Symbol.eq Symbol.cmp P.BITS PRECISION) (completed PRECISION infer_last)
-        (WasReadOf S.into_iter_gives S.IntoIter.next_gives symbols) (WasReadOf W.into_iter_gives W.IntoIter.next_gives weights)
-        P.whole (λ v ss ws. rows_paired P.whole PRECISION v.items ≡ rows_of ss ws) result }
-    ensures stored { IfOk result (λ v. IsStored P.BITS PRECISION (map (λ x. P.whole x.0) v.items)) }
-    ensures distinct { IfOk result (λ v. IsDistinct Symbol.eq (map (λ x. x.1) v.items)) }
+>(
+    alloc: Global,
+    symbols: Symbols,
+    weights: Weights,
+    infer_last: bool,
+) -> Result<Vec<(Probability, Symbol)>, ModelError>
+    requires precision { IsPrecision Probability.BITS PRECISION }
+    requires symbols_end { IsFiniteIterable Symbols.into_iter_gives Symbols.IntoIter.can_next Symbols.IntoIter.remaining symbols }
+    requires weights_end { IsFiniteIterable Weights.into_iter_gives Weights.IntoIter.can_next Weights.IntoIter.remaining weights }
+    ensures { MakesEntries Symbol.eq (AreInOrder Symbol.eq Symbol.cmp Probability.BITS PRECISION) Probability.whole Probability.BITS PRECISION infer_last
+        (WasReadOf Symbols.into_iter_gives Symbols.IntoIter.next_gives symbols)
+        (WasReadOf Weights.into_iter_gives Weights.IntoIter.next_gives weights) result }
 {
-    let entries = entries_read::<P, Symbol, S, W, PRECISION>(alloc, symbols, weights, infer_last)?;
+    let entries = entries_read::<Probability, Symbol, Symbols, Weights, PRECISION>(
+        alloc, symbols, weights, infer_last,
+    )?;
     let in_order = are_in_order(&entries);
     if !in_order {
         return Err(ModelError::InvalidTable);

@@ -12,6 +12,7 @@ ghost use Rattle.constriction_model.specs.Rows.{rows_of};
 ghost use Rattle.constriction_stored_rows.specs.Stored.{IsStored, AreEndWords, rows_paired};
 ghost use Rattle.constriction_stored_rows.specs.lemmas.SymbolRows.{paired-tiles};
 ghost use Rattle.constriction_model.specs.Tables.{rows_between};
+ghost use Rattle.constriction_categorical.specs.private.Entries.{MakesEntries};
 
 use crate::iterable::IterableEntropyModel;
 use crate::non_contiguous_table::NonContiguousSymbolTable;
@@ -19,8 +20,8 @@ use constriction_buffers::SafeBuf;
 use constriction_model::{DecoderModel, EntropyModel, ModelError, Probe, Weight, row_in_probe};
 use constriction_numbers::WholeNumber;
 use constriction_stored_rows::{
-    CdfProbe, CumulativeAndSymbol, cloned_row_at, end_words_of, entries_announced, entries_cloned,
-    rows_read,
+    CdfProbe, CumulativeAndSymbol, cloned_row_by_words, end_words_of, entries_announced,
+    entries_cloned, rows_read,
 };
 use std::alloc::{AllocError, Global};
 use std::marker::PhantomData;
@@ -75,26 +76,30 @@ impl<
 /// The entries of these symbols and weights, if no symbol is equal to one before it.
 #[inline]
 fn entries_compared<
-    P: WholeNumber,
+    Probability: WholeNumber,
     Symbol: Eq + Drop,
-    S: IntoIterator<Item = Symbol>,
-    W: IntoIterator<Item = P>,
+    Symbols: IntoIterator<Item = Symbol>,
+    Weights: IntoIterator<Item = Probability>,
     const PRECISION: usize,
->(alloc: Global, symbols: S, weights: W, infer_last: bool) -> Result<Vec<(P, Symbol)>, ModelError>
-    requires positive { 0 < PRECISION }
-    requires fits { PRECISION ≤ P.BITS }
-    requires symbols_end { IsFiniteIterable S.into_iter_gives S.IntoIter.can_next S.IntoIter.remaining symbols }
-    requires weights_end { IsFiniteIterable W.into_iter_gives W.IntoIter.can_next W.IntoIter.remaining weights }
-    ensures made { IsMadeOfBoth (AreAccepted Symbol.eq P.BITS PRECISION) (completed PRECISION infer_last)
-        (WasReadOf S.into_iter_gives S.IntoIter.next_gives symbols) (WasReadOf W.into_iter_gives W.IntoIter.next_gives weights)
-        P.whole (λ v ss ws. rows_paired P.whole PRECISION v.items ≡ rows_of ss ws) result }
-    ensures stored { IfOk result (λ v. IsStored P.BITS PRECISION (map (λ x. P.whole x.0) v.items)) }
-    ensures distinct { IfOk result (λ v. IsDistinct Symbol.eq (map (λ x. x.1) v.items)) }
+>(
+    alloc: Global,
+    symbols: Symbols,
+    weights: Weights,
+    infer_last: bool,
+) -> Result<Vec<(Probability, Symbol)>, ModelError>
+    requires precision { IsPrecision Probability.BITS PRECISION }
+    requires symbols_end { IsFiniteIterable Symbols.into_iter_gives Symbols.IntoIter.can_next Symbols.IntoIter.remaining symbols }
+    requires weights_end { IsFiniteIterable Weights.into_iter_gives Weights.IntoIter.can_next Weights.IntoIter.remaining weights }
+    ensures { MakesEntries Symbol.eq (AreAccepted Symbol.eq Probability.BITS PRECISION) Probability.whole Probability.BITS PRECISION infer_last
+        (WasReadOf Symbols.into_iter_gives Symbols.IntoIter.next_gives symbols)
+        (WasReadOf Weights.into_iter_gives Weights.IntoIter.next_gives weights) result }
 {
     let symbols = symbols.into_iter();
     let weights = weights.into_iter();
     let room = Vec::with_capacity(alloc, entries_announced::<PRECISION>(symbols.size_hint().0))?;
-    rows_read::<P, Symbol, Vec<(P, Symbol)>, _, _, PRECISION>(room, symbols, weights, infer_last)
+    rows_read::<Probability, Symbol, Vec<(Probability, Symbol)>, _, _, PRECISION>(
+        room, symbols, weights, infer_last,
+    )
 }
 
 /// The model over these entries: a model's left cumulatives, each with a symbol, and all symbols distinct. It takes no
@@ -107,8 +112,7 @@ pub fn decoder_over<Symbol: Eq, Probability: WholeNumber, const PRECISION: usize
     Vec<(Probability, Symbol)>,
     PRECISION,
 >
-    requires positive { 0 < PRECISION }
-    requires fits { PRECISION ≤ Probability.BITS }
+    requires precision { IsPrecision Probability.BITS PRECISION }
     requires stored { IsStored Probability.BITS PRECISION (map (λ x. Probability.whole x.0) entries.items) }
     requires distinct { IsDistinct Symbol.eq (map (λ x. x.1) entries.items) }
     ensures { ⟦<NonContiguousCategoricalDecoderModel<Symbol, Probability, Vec<(Probability, Symbol)>, PRECISION> as EntropyModel<PRECISION>>⟧.rows result
@@ -323,7 +327,7 @@ impl<
         let entries = self.cdf_entries();
         let (_, rows) = self.quantile_probe(quantile);
         let index = row_in_probe::<_, 2>(rows, quantile);
-        cloned_row_at::<Probability, Symbol, PRECISION>(entries, &self.end_words, index)
+        cloned_row_by_words::<Probability, Symbol, PRECISION>(entries, &self.end_words, index)
     }
 
     ghost tile_law = { λ m. paired-tiles Probability.whole _ _ _ m.stored };
@@ -343,7 +347,7 @@ impl<
 
     ghost may_refuse = { λ s. ¬ (Symbol.is_infallible s) };
 
-    ghost rows_left = { λ t. rows_between t.from t.to (rows_paired Probability.whole PRECISION t.cdf.now) };
+    ghost rows_left = { λ t. rows_between t.from t.to (rows_paired Probability.whole PRECISION t.entries.now) };
 
     ghost is_equality = { λ eq. (eq ≡ Symbol.eq) × ClonesAreEqual Symbol.eq Symbol.is_clone };
 
@@ -357,11 +361,11 @@ impl<
     /// for a clone is refused, the row's item is the refusal.
     #[inline]
     fn symbol_table(self) -> NonContiguousSymbolTable<'m, Symbol, Probability, PRECISION> {
-        let cdf = self.cdf.words();
+        let entries = self.cdf.words();
         NonContiguousSymbolTable {
-            cdf,
+            entries,
             from: 0,
-            to: cdf.len(),
+            to: entries.len(),
         }
     }
 

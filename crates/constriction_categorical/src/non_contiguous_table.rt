@@ -9,7 +9,7 @@ ghost use Rattle.constriction_model.specs.Tables.{YieldsRow, YieldsLastRow, rows
 
 use constriction_model::Weight;
 use constriction_numbers::WholeNumber;
-use constriction_stored_rows::{end_before, paired_row_at, row_up_to};
+use constriction_stored_rows::{end_in_walk, paired_row_at, paired_row_ending_at};
 use std::alloc::AllocError;
 use std::iter::FusedIterator;
 
@@ -22,13 +22,13 @@ use std::iter::FusedIterator;
 /// [`NonContiguousCategoricalDecoderModel`]: crate::NonContiguousCategoricalDecoderModel
 #[derive(Debug, Drop)]
 pub struct NonContiguousSymbolTable<'m, Symbol, Probability: WholeNumber, const PRECISION: usize> {
-    pub(crate) cdf: &'m [(Probability, Symbol)],
+    pub(crate) entries: &'m [(Probability, Symbol)],
     pub(crate) from: usize,
     pub(crate) to: usize,
     ghost precise: { IsPrecision Probability.BITS PRECISION },
-    ghost stored: { IsStored Probability.BITS PRECISION (map (λ x. Probability.whole x.0) cdf.now) },
+    ghost stored: { IsStored Probability.BITS PRECISION (map (λ x. Probability.whole x.0) entries.now) },
     ghost in_order: { from ≤ to },
-    ghost in_bounds: { to ≤ length cdf.now },
+    ghost in_bounds: { to ≤ length entries.now },
 }
 
 impl<'m, Symbol: Clone, Probability: WholeNumber, const PRECISION: usize> Iterator
@@ -36,20 +36,24 @@ impl<'m, Symbol: Clone, Probability: WholeNumber, const PRECISION: usize> Iterat
     type Item = Result<(Symbol, Probability, Weight<Probability>), AllocError>;
 
     ghost next_gives = { YieldsRow Symbol.is_clone (λ s. ¬ (Symbol.is_infallible s)) Probability.whole Probability.base
-        (λ t. rows_between t.from t.to (rows_paired Probability.whole PRECISION t.cdf.now)) };
+        (λ t. rows_between t.from t.to (rows_paired Probability.whole PRECISION t.entries.now)) };
 
-    ghost remaining = { λ t. at_most (length (rows_between t.from t.to (rows_paired Probability.whole PRECISION t.cdf.now))) };
+    ghost remaining = { λ t. at_most (length (rows_between t.from t.to (rows_paired Probability.whole PRECISION t.entries.now))) };
 
     #[inline]
     fn next(&mut self) -> Option<Result<(Symbol, Probability, Weight<Probability>), AllocError>> {
         let index = self.from;
-        let Some(end) = end_before::<Probability, Symbol, PRECISION>(self.cdf, index, self.to)
+        let Some(end) = end_in_walk::<Probability, Symbol, PRECISION>(self.entries, index, self.to)
         else {
             return None;
         };
-        let (left, weight) = row_up_to::<Probability, Symbol, PRECISION>(self.cdf, end, index);
+        let (left, weight) = paired_row_ending_at::<Probability, Symbol, PRECISION>(
+            self.entries,
+            end,
+            index,
+        );
         self.from = index + 1;
-        match self.cdf[index].1.clone() {
+        match self.entries[index].1.clone() {
             Ok(symbol) => Some(Ok((symbol, left, weight))),
             Err(refused) => Some(Err(refused)),
         }
@@ -68,7 +72,7 @@ impl<'m, Symbol: Clone, Probability: WholeNumber, const PRECISION: usize> Iterat
 impl<'m, Symbol: Clone, Probability: WholeNumber, const PRECISION: usize> DoubleEndedIterator
     for NonContiguousSymbolTable<'m, Symbol, Probability, PRECISION> {
     ghost next_back_gives = { YieldsLastRow Symbol.is_clone (λ s. ¬ (Symbol.is_infallible s)) Probability.whole Probability.base
-        (λ t. rows_between t.from t.to (rows_paired Probability.whole PRECISION t.cdf.now)) };
+        (λ t. rows_between t.from t.to (rows_paired Probability.whole PRECISION t.entries.now)) };
 
     #[inline]
     fn next_back(
@@ -78,9 +82,9 @@ impl<'m, Symbol: Clone, Probability: WholeNumber, const PRECISION: usize> Double
             return None;
         }
         let index = self.to - 1;
-        let (left, weight) = paired_row_at::<Probability, Symbol, PRECISION>(self.cdf, index);
+        let (left, weight) = paired_row_at::<Probability, Symbol, PRECISION>(self.entries, index);
         self.to = index;
-        match self.cdf[index].1.clone() {
+        match self.entries[index].1.clone() {
             Ok(symbol) => Some(Ok((symbol, left, weight))),
             Err(failed) => Some(Err(failed)),
         }

@@ -14,7 +14,8 @@ use constriction_buffers::SafeBuf;
 use constriction_model::{DecoderModel, EntropyModel, Weight};
 use constriction_numbers::WholeNumber;
 use constriction_stored_rows::{
-    CdfEntry, Cumulative, CumulativeAndSymbol, cloned_row_among, cloned_row_at, contiguous_row_at,
+    CdfEntry, Cumulative, CumulativeAndSymbol, cloned_row_by_words, cloned_row_in_cdf,
+    contiguous_row_at,
 };
 use std::alloc::AllocError;
 
@@ -136,7 +137,11 @@ impl<
         &self,
         index: usize,
     ) -> Result<(Symbol, Probability, Weight<Probability>), AllocError> {
-        cloned_row_at::<Probability, Symbol, PRECISION>(self.cdf_entries(), &self.end_words, index)
+        cloned_row_by_words::<Probability, Symbol, PRECISION>(
+            self.cdf_entries(),
+            &self.end_words,
+            index,
+        )
     }
 
     #[inline]
@@ -145,7 +150,7 @@ impl<
         cdf: &[Probability],
         index: usize,
     ) -> Result<(Symbol, Probability, Weight<Probability>), AllocError> {
-        cloned_row_among::<Probability, Symbol, PRECISION>(self.cdf_entries(), cdf, index)
+        cloned_row_in_cdf::<Probability, Symbol, PRECISION>(self.cdf_entries(), cdf, index)
     }
 }
 

@@ -9,7 +9,7 @@ ghost use Rattle.constriction_stored_rows.specs.Stored.{rows_stored};
 
 use constriction_model::Weight;
 use constriction_numbers::WholeNumber;
-use constriction_stored_rows::row_at;
+use constriction_stored_rows::cdf_row_at;
 use std::alloc::AllocError;
 use std::iter::FusedIterator;
 
@@ -45,7 +45,7 @@ impl<'m, Probability: WholeNumber, const PRECISION: usize> Iterator
         if index == self.to {
             return None;
         }
-        let (left, weight) = row_at::<Probability, PRECISION>(self.cdf, index);
+        let (left, weight) = cdf_row_at::<Probability, PRECISION>(self.cdf, index);
         self.from = index + 1;
         Some(Ok((index, left, weight)))
     }
@@ -73,7 +73,7 @@ impl<'m, Probability: WholeNumber, const PRECISION: usize> DoubleEndedIterator
             return None;
         }
         let index = self.to - 1;
-        let (left, weight) = row_at::<Probability, PRECISION>(self.cdf, index);
+        let (left, weight) = cdf_row_at::<Probability, PRECISION>(self.cdf, index);
         self.to = index;
         Some(Ok((index, left, weight)))
     }

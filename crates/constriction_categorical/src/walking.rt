@@ -29,15 +29,18 @@ where
     ensures invalid { result ≡ Err ModelError.InvalidTable
         → WalkedBad Walk.next_gives walk (λ xs. IsDistinct Symbol.eq (map (λ x. x.0) xs)) }
 {
-    let mut cdf = Vec::with_capacity(alloc, entries_announced::<PRECISION>(walk.size_hint().0))?;
+    let mut entries = Vec::with_capacity(
+        alloc,
+        entries_announced::<PRECISION>(walk.size_hint().0),
+    )?;
     'rows: while let Some(row) = walk.next() {
         let (symbol, left, _weight) = row?;
-        if has_symbol(&cdf, &symbol) {
+        if has_symbol(&entries, &symbol) {
             return Err(ModelError::InvalidTable);
         }
-        cdf.push((left, symbol))?;
+        entries.push((left, symbol))?;
     }
-    Ok(cdf)
+    Ok(entries)
 }
 
 /// The entries of the rows that a walk gives. Symbols are not compared.

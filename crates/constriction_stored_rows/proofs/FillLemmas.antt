@@ -10,8 +10,8 @@ use Rattle.std.specs.Iterator.{Yields}
 use Rattle.constriction_model.specs.Acceptance.{IsAccepted, completed}
 use Rattle.constriction_model.specs.Precision.{IsPrecision}
 use Rattle.constriction_stored_rows.specs.Stored.{lefts_from}
-use Rattle.constriction_stored_rows.specs.private.Filling.{IsRowEnd, IsFilled}
-use Rattle.constriction_stored_rows.specs.Ends.{FillsAll, IsNoLast, IsNoneInferred, AndTotal, IsCdfBegun, IsCdfOf, IsNoCdf}
+use Rattle.constriction_stored_rows.specs.private.Filling.{IsRowEnd, IsFilled, IsCdfBegun}
+use Rattle.constriction_stored_rows.specs.Ends.{FillsAll, IsNoLast, IsNoneInferred, AndTotal, IsCdfOf, IsNoCdf}
 
 lefts_from-push : (l : ℕ) (ws : List ℕ) (w : ℕ) → lefts_from l (ws ++ w ∷ []) ≡ lefts_from l ws ++ (l + sum ws) ∷ []
 lefts_from-push l [] w = ap (λ x. x ∷ []) (omega arith)
@@ -214,45 +214,47 @@ yields-more steps s (y ∷ xs) t x u (j, k, r) h = (j, k, yields-more steps j xs
 
 pub begun-none : {S W : Type 0} (steps : S → Option W → S → Type 0) (it : S) (whole : W → ℕ) (bits precision : ℕ) (cdf : List W)
     (left : W) (room : ℕ) → cdf ≡ [] → whole left ≡ 0 → room + 1 ≡ 2 ^ precision
-    → IsCdfBegun steps it whole bits precision cdf it left room
+    → IsCdfBegun steps it whole bits precision [] cdf it left room
 begun-none steps it whole bits precision cdf left room empty least all = record {
-  weights = [];
   given = refl;
   filled = rw empty (filled-none whole bits precision left least (omega arith));
   rest = omega arith;
 }
 
-module _ {S W : Type 0} (steps : S → Option W → S → Type 0) (it : S) (whole : W → ℕ) (bits precision : ℕ) (cdf : List W) (s : S)
-    (left : W) (room : ℕ) (t : IsCdfBegun steps it whole bits precision cdf s left room) where
+module _ {S W : Type 0} {steps : S → Option W → S → Type 0} {it : S} {whole : W → ℕ} {bits precision : ℕ} {weights cdf : List W} {s : S}
+    {left : W} {room : ℕ} (t : IsCdfBegun steps it whole bits precision weights cdf s left room) where
   -- one more row
   pub begun-more : (cdf' : List W) (s' : S) (w next : W) (room' : ℕ) → cdf' ≡ cdf ++ left ∷ [] → steps s (Some w) s'
       → 2 ^ precision ≤ 2 ^ bits → (0 < whole w) × (whole w ≤ room) → whole next ≡ whole left + whole w → room' ≡ room - whole w
-      → IsCdfBegun steps it whole bits precision cdf' s' next room'
+      → IsCdfBegun steps it whole bits precision (weights ++ w ∷ []) cdf' s' next room'
   begun-more cdf' s' w next room' pushed sw narrow some end rest = record {
-    weights = t.weights ++ w ∷ [];
-    given = yields-more steps it t.weights s w s' t.given sw;
+    given = yields-more steps it weights s w s' t.given sw;
     filled =
         rw pushed
-        (filled-more whole bits precision t.weights cdf left w (Some next) t.filled
+        (filled-more whole bits precision weights cdf left w (Some next) t.filled
         (row-within whole bits precision left w next room t.rest narrow some.0 some.1 end));
     rest = omega (arith, t.rest, some.1, end, rest);
   }
 
   -- the last row, of a given weight
+  pub given-accepted : (infer : Bool) (w : W) → FillsAll bits (whole w) room infer
+      → IsAccepted bits precision (map whole (weights ++ w ∷ []))
+      × (map whole (cdf ++ left ∷ []) ≡ lefts_from 0 (map whole (weights ++ w ∷ [])))
+  given-accepted infer w fills = good-given whole bits precision (weights ++ w ∷ []) (cdf ++ left ∷ [])
+      (filled-more whole bits precision weights cdf left w None t.filled (row-last whole bits precision left w room infer t.rest fills))
+
   pub begun-given : (infer : Bool) (cdf' all : List W) (s' s'' : S) (w : W) → cdf' ≡ cdf ++ left ∷ [] → steps s (Some w) s'
       → FillsAll bits (whole w) room infer × steps s' None s'' → AndTotal whole bits precision cdf' all
       → IsCdfOf steps it whole bits precision infer all
   begun-given infer cdf' all s' s'' w pushed sw fills end =
       let given : infer ≡ false = fills.0.given in
-      let good = good-given whole bits precision (t.weights ++ w ∷ []) (cdf ++ left ∷ [])
-      (filled-more whole bits precision t.weights cdf left w None t.filled
-      (row-last whole bits precision left w room infer t.rest fills.0)) in (
-        t.weights ++ w ∷ [],
-        (s'', (s', yields-more steps it t.weights s w s' t.given sw, fills.1)),
+      let good = given-accepted infer w fills.0 in (
+        weights ++ w ∷ [],
+        (s'', (s', yields-more steps it weights s w s' t.given sw, fills.1)),
         rw given (
           good.0,
           ended whole (cdf ++ left ∷ []) cdf' all end.0 (2 ^ precision % 2 ^ bits)
-              (lefts_from 0 (map whole (t.weights ++ w ∷ []))) pushed end.1 end.2 good.1,
+              (lefts_from 0 (map whole (weights ++ w ∷ []))) pushed end.1 end.2 good.1,
         ),
       )
 
@@ -260,47 +262,51 @@ module _ {S W : Type 0} (steps : S → Option W → S → Type 0) (it : S) (whol
       → IsNoLast (whole w) room infer ⊎ ((room < whole w) × (more : W) × steps s' (Some more) s'')
       → IsNoCdf steps it whole bits precision infer
   begun-bad_given infer s' s'' w sw why =
-      let given = yields-more steps it t.weights s w s' t.given sw in
+      let given = yields-more steps it weights s w s' t.given sw in
       elim why [
         | inl bad ↦ inr (
-          t.weights ++ w ∷ [],
+          weights ++ w ∷ [],
           s',
           given,
-          λ more. bad-no_last whole bits precision infer t.weights more w room (omega (arith, t.filled.is, t.rest)) bad,
+          λ more. bad-no_last whole bits precision infer weights more w room (omega (arith, t.filled.is, t.rest)) bad,
         )
         | inr after ↦
-            let total : sum (map whole (t.weights ++ w ∷ [])) ≡ sum (map whole t.weights) + whole w =
-            ap sum (map-append whole t.weights (w ∷ [])) ∙ sum_by_push (λ x. x) (map whole t.weights) (whole w) in
-            let much : 2 ^ precision ≤ sum (map whole (t.weights ++ w ∷ [])) = omega (arith, total, t.filled.is, t.rest, after.0) in
+            let total : sum (map whole (weights ++ w ∷ [])) ≡ sum (map whole weights) + whole w =
+            ap sum (map-append whole weights (w ∷ [])) ∙ sum_by_push (λ x. x) (map whole weights) (whole w) in
+            let much : 2 ^ precision ≤ sum (map whole (weights ++ w ∷ [])) = omega (arith, total, t.filled.is, t.rest, after.0) in
             inr (
-              (t.weights ++ w ∷ []) ++ after.1 ∷ [],
+              (weights ++ w ∷ []) ++ after.1 ∷ [],
               s'',
-              yields-more steps it (t.weights ++ w ∷ []) s' after.1 s'' given after.2,
-              λ more. bad-after whole bits precision infer (t.weights ++ w ∷ []) more after.1 much,
+              yields-more steps it (weights ++ w ∷ []) s' after.1 s'' given after.2,
+              λ more. bad-after whole bits precision infer (weights ++ w ∷ []) more after.1 much,
             )
       ]
 
   -- the last row, of the inferred weight
+  pub inferred-accepted : room + 1 < 2 ^ bits → IsAccepted bits precision (completed precision true (map whole weights))
+      × (map whole (cdf ++ left ∷ []) ≡ lefts_from 0 (completed precision true (map whole weights)))
+  inferred-accepted narrow = good-inferred whole bits precision weights cdf left t.filled (omega (arith, t.rest, narrow))
+
   pub begun-inferred : (infer : Bool) (all : List W) (s' : S) → steps s None s' → (infer ≡ true) × (room + 1 < 2 ^ bits)
       → AndTotal whole bits precision (cdf ++ left ∷ []) all → IsCdfOf steps it whole bits precision infer all
   begun-inferred infer all s' none word end =
       let inferred : infer ≡ true = word.0 in
-      let good = good-inferred whole bits precision t.weights cdf left t.filled (omega (arith, t.rest, word.1)) in (
-        t.weights,
+      let good = inferred-accepted word.1 in (
+        weights,
         (s', (s, t.given, none)),
         rw inferred (
           good.0,
           ended whole (cdf ++ left ∷ []) (cdf ++ left ∷ []) all end.0 (2 ^ precision % 2 ^ bits)
-              (lefts_from 0 (completed precision true (map whole t.weights))) refl end.1 end.2 good.1,
+              (lefts_from 0 (completed precision true (map whole weights))) refl end.1 end.2 good.1,
         ),
       )
 
   pub begun-bad_inferred : (infer : Bool) (s' : S) → steps s None s' → IsNoneInferred bits room infer
       → IsNoCdf steps it whole bits precision infer
   begun-bad_inferred infer s' none why = inl (
-    t.weights,
+    weights,
     (s', (s, t.given, none)),
-    bad-none_inferred whole bits precision infer t.weights cdf left room t.filled t.rest why,
+    bad-none_inferred whole bits precision infer weights cdf left room t.filled t.rest why,
   )
 
 -- what follows from a fact of an `Ok` holds of it too

@@ -1,7 +1,7 @@
 -- The rows that meet a slot.
-use Rattle.std.proofs.Common.{◌≡◌, ℕ, ◌+◌, ◌-◌, ◌*◌, ◌/◌, ◌^◌, ◌<◌, ◌≤◌, List, length, get_or, map, take, drop, ap, sym, ◌∙◌, arith, inl, inr}
+use Rattle.std.proofs.Common.{◌≡◌, ℕ, ◌+◌, ◌-◌, ◌*◌, ◌/◌, ◌^◌, ◌<◌, ◌≤◌, List, length, get_or, map, take, drop, ap, sym, subst, ◌∙◌, arith, inl, inr}
 use Rattle.std.proofs.lemmas.Bool.{cases_lt}
-use Rattle.std.proofs.lemmas.List.{take-map, drop-map, get_or-take, get_or-drop, length-take-le, length-drop}
+use Rattle.std.proofs.lemmas.List.{length-map, take-map, drop-map, get_or-take, get_or-drop, length-take-le, length-drop}
 use Rattle.std.proofs.Math.Nat.{div-mul-le_self, lt-div-mul-add}
 use Rattle.std.proofs.lemmas.Nat.{pow_pos}
 use Rattle.std.specs.List.Sorted.{IsStrictlyIncreasing}
@@ -10,6 +10,7 @@ use Rattle.constriction_model.specs.Probe.{IsSearchable, IsLastAtMost, IsRowInde
 use Rattle.constriction_model.specs.private.Searching.{TellsRows}
 use Rattle.constriction_stored_rows.specs.Slots.{slot_width, slot_count}
 use Rattle.constriction_stored_rows.specs.SlotTable.{words_a_slot, HasSlots, IsSlot, IsSlotPart}
+use Rattle.constriction_stored_rows.specs.lemmas.Stored.{read-whole}
 use Rattle.constriction_model.proofs.Halving.{later}
 use Rattle.constriction_stored_rows.proofs.SlotFilling.{slot-within, slot-below}
 use Rattle.constriction_stored_rows.proofs.TileLemmas.{IsTile, tile-at, tiles-many, tiles-increase, tiles-found}
@@ -39,35 +40,65 @@ slot_only precision slot_bits q lefts first last same s = record {
   last = λ j a b. omega (arith, s.to.last j (omega arith) b, slot-to precision slot_bits q);
 }
 
--- the rows of a slot that has one word
-module _ (width count : ℕ) (lefts table : List ℕ) (slot : ℕ) (s : HasSlots width count lefts table) (within : slot < count) where
-  module _ (one : words_a_slot width ≡ 1) where
+-- what the words of a slot tell, in a table over words
+module _ {W E : Type 0} (whole : W → ℕ) (left_of : E → ℕ) (entries : List E) (table : List W) (width count slot : ℕ)
+    (s : HasSlots width count (map left_of entries) (map whole table)) (within : slot < count) where
+  word-at : (q i : ℕ) (w : W) → i < length table → w ≡ get_or table i w
+      → (i < length (map whole table) → IsLastAtMost (map left_of entries) q (get_or (map whole table) i 0))
+      → IsLastAtMost (map left_of entries) q (whole w)
+  word-at q i w h is found =
+      subst (λ k. IsLastAtMost (map left_of entries) q k) (read-whole whole table i w h is) (found (omega (arith, h, length-map table whole)))
+
+  row-within : (q : ℕ) (w : W) → IsLastAtMost (map left_of entries) q (whole w) → whole w < length entries
+  row-within q w l = omega (arith, l.in_bounds, length-map entries left_of)
+
+  -- a slot that has one word
+  module _ (one : width ≡ 1) where
+    alone : words_a_slot width ≡ 1
+    alone = omega (arith, one)
+
     pub alone-within : slot < length table
     alone-within =
-        let long : length table ≡ 1 * count = rw one at s.long in
-        omega arith
+        let long : length (map whole table) ≡ 1 * count = rw alone at s.long in
+        omega (arith, long, length-map table whole)
 
-    pub slot-alone : IsSlot lefts width slot (get_or table slot 0) (get_or table slot 0)
-    slot-alone =
+    pub slot-alone : (w : W) → w ≡ get_or table slot w → IsSlot (map left_of entries) width slot (whole w) (whole w)
+    slot-alone w is =
         let same : 1 * slot ≡ slot = omega arith in
         let same_last : 1 * slot + 0 ≡ slot = omega arith in
         record {
-          from = rw same at ((rw one at (s.words.first slot)) (omega (arith, alone-within)));
-          to = rw same_last at ((rw one at (s.words.last slot)) (omega (arith, alone-within)));
+          from = word-at (slot * width) slot w alone-within is (rw same at (rw alone at (s.words.first slot)));
+          to = word-at (slot * width + (width - 1)) slot w alone-within is (rw same_last at (rw alone at (s.words.last slot)));
         }
 
-  -- and of a slot that has two
-  module _ (two : words_a_slot width ≡ 2) where
+    pub alone-row : (w : W) → w ≡ get_or table slot w → whole w < length entries
+    alone-row w is = row-within (slot * width) w (slot-alone w is).from
+
+  -- a slot that has two words
+  module _ (more : 1 < width) where
+    both : words_a_slot width ≡ 2
+    both = omega (arith, more)
+
     pub pair-within : 2 * slot + 1 < length table
     pair-within =
-        let long : length table ≡ 2 * count = rw two at s.long in
-        omega arith
+        let long : length (map whole table) ≡ 2 * count = rw both at s.long in
+        omega (arith, long, within, length-map table whole)
 
-    pub slot-pair : IsSlot lefts width slot (get_or table (2 * slot) 0) (get_or table (2 * slot + 1) 0)
-    slot-pair = record {
-      from = (rw two at (s.words.first slot)) (omega (arith, pair-within));
-      to = (rw two at (s.words.last slot)) (omega (arith, pair-within));
-    }
+    first : (a : W) → a ≡ get_or table (2 * slot) a → IsLastAtMost (map left_of entries) (slot * width) (whole a)
+    first a is = word-at (slot * width) (2 * slot) a (omega (arith, pair-within)) is (rw both at (s.words.first slot))
+
+    last : (b : W) → b ≡ get_or table (2 * slot + 1) b → IsLastAtMost (map left_of entries) (slot * width + (width - 1)) (whole b)
+    last b is = word-at (slot * width + (width - 1)) (2 * slot + 1) b pair-within is (rw both at (s.words.last slot))
+
+    pub pair-first : (a : W) → a ≡ get_or table (2 * slot) a → whole a < length entries
+    pair-first a is = row-within (slot * width) a (first a is)
+
+    pub pair-last : (b : W) → b ≡ get_or table (2 * slot + 1) b → whole b < length entries
+    pair-last b is = row-within (slot * width + (width - 1)) b (last b is)
+
+    pub slot-pair : (a b : W) → a ≡ get_or table (2 * slot) a → b ≡ get_or table (2 * slot + 1) b
+        → IsSlot (map left_of entries) width slot (whole a) (whole b)
+    slot-pair a b is_first is_last = record { from = first a is_first; to = last b is_last }
 
 -- a greater quantile has no earlier row
 last-order : (lefts : List ℕ) (x y i k : ℕ) → IsLastAtMost lefts x i → IsLastAtMost lefts y k → x ≤ y → i ≤ k

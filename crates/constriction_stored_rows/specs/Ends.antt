@@ -1,8 +1,6 @@
 -- How a list of weights ends, and the cdf that it fills. Only public clauses of this crate cite this module.
-use Rattle.std.specs.Prelude.{◌≡◌, ℕ, ◌+◌, ◌%◌, ◌^◌, ◌<◌, ◌⊎◌, Bool, true, false, List, [], ◌∷◌, ◌++◌, map, Option, Some}
-use Rattle.std.specs.Iterator.{Yields}
+use Rattle.std.specs.Prelude.{◌≡◌, ℕ, ◌+◌, ◌%◌, ◌^◌, ◌<◌, ◌⊎◌, Bool, true, false, List, [], ◌∷◌, ◌++◌, map, Option}
 use Rattle.constriction_model.specs.Acceptance.{completed, IsAccepted}
-use Rattle.constriction_stored_rows.specs.private.Filling.{IsFilled}
 use Rattle.constriction_stored_rows.specs.private.Given.{GaveGood, GaveBad}
 use Rattle.constriction_stored_rows.specs.Stored.{lefts_from}
 
@@ -27,13 +25,6 @@ AndTotal {Word} whole bits precision lefts cdf =
     (total : Word) × (cdf ≡ lefts ++ total ∷ []) × (whole total ≡ 2 ^ precision % 2 ^ bits)
 
 module _ {S W : Type 0} (steps : S → Option W → S → Type 0) (it : S) (whole : W → ℕ) (bits precision : ℕ) where
-  -- the weights so far fill the cdf, and leave `room` quantiles after the one at `left`
-  pub record IsCdfBegun (cdf : List W) (s : S) (left : W) (room : ℕ) : Type 0 where
-    pub weights : List W
-    pub given : Yields steps it weights s
-    pub filled : IsFilled whole bits precision weights cdf (Some left)
-    pub rest : whole left + room + 1 ≡ 2 ^ precision
-
   -- the iterator gave accepted weights, and this is their cdf
   abbrev pub IsCdfOf : Bool → List W → Type 0
   IsCdfOf infer cdf = GaveGood steps it (λ ws. IsAccepted bits precision (completed precision infer (map whole ws))

@@ -42,15 +42,11 @@ total_of bits precision = 2 ^ precision % 2 ^ bits
 abbrev pub end_at : (bits precision : ℕ) → List ℕ → ℕ → ℕ
 end_at bits precision lefts i = slice_index_or lefts (i + 1) (total_of bits precision)
 
--- the ends of the first and of the last row
-abbrev pub ends_of : (bits precision : ℕ) → List ℕ → List ℕ
-ends_of bits precision lefts = end_at bits precision lefts 0 ∷ total_of bits precision ∷ []
-
 -- two numbers beside the left cumulatives, by which the end of a row is computed without a choice: with one or two rows, the ends of the
 -- first and of the last row; with more, the last left cumulative minus the total, modulo 2 ^ bits, and 0
 pub record AreEndWords (bits precision : ℕ) (lefts end_words : List ℕ) : Type 0 where
   pub two : length end_words ≡ 2
-  pub ends : length lefts ≤ 2 → end_words ≡ ends_of bits precision lefts
+  pub ends : length lefts ≤ 2 → end_words ≡ end_at bits precision lefts 0 ∷ total_of bits precision ∷ []
   pub fits : 2 < length lefts → slice_index end_words 0 < 2 ^ bits
   pub leads : 2 < length lefts
       → (total_of bits precision + slice_index end_words 0) % 2 ^ bits ≡ slice_index lefts (length lefts - 1)

@@ -23,13 +23,13 @@ pub trait CdfEntry<Entry> {
 #[derive(Drop)]
 pub struct Cumulative;
 
-impl<P: WholeNumber> CdfEntry<P> for Cumulative {
-    type Word = P;
+impl<Number: WholeNumber> CdfEntry<Number> for Cumulative {
+    type Word = Number;
 
-    ghost cumulative = { P.whole };
+    ghost cumulative = { Number.whole };
 
     #[inline]
-    fn cumulative_of(entry: &P) -> P {
+    fn cumulative_of(entry: &Number) -> Number {
         *entry
     }
 }
@@ -38,13 +38,13 @@ impl<P: WholeNumber> CdfEntry<P> for Cumulative {
 #[derive(Drop)]
 pub struct CumulativeAndSymbol;
 
-impl<P: WholeNumber, Symbol> CdfEntry<(P, Symbol)> for CumulativeAndSymbol {
-    type Word = P;
+impl<Number: WholeNumber, Symbol> CdfEntry<(Number, Symbol)> for CumulativeAndSymbol {
+    type Word = Number;
 
-    ghost cumulative = { λ x. P.whole x.0 };
+    ghost cumulative = { λ x. Number.whole x.0 };
 
     #[inline]
-    fn cumulative_of(entry: &(P, Symbol)) -> P {
+    fn cumulative_of(entry: &(Number, Symbol)) -> Number {
         entry.0
     }
 }

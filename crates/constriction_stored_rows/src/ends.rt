@@ -18,13 +18,13 @@ use std::alloc::AllocError;
 /// the ends of the first and the last row. With more rows the second word is 0, and the first is the last left
 /// cumulative minus the total, modulo `2^BITS`.
 #[inline]
-pub fn end_words_of<P: WholeNumber, Symbol, const PRECISION: usize>(
-    entries: &[(P, Symbol)],
-) -> [P; 2]
-    requires { IsPrecision P.BITS PRECISION }
-    ensures { AreEndWords P.BITS PRECISION (map (λ x. P.whole x.0) entries.now) (map P.whole result) }
+pub fn end_words_of<Word: WholeNumber, Symbol, const PRECISION: usize>(
+    entries: &[(Word, Symbol)],
+) -> [Word; 2]
+    requires { IsPrecision Word.BITS PRECISION }
+    ensures { AreEndWords Word.BITS PRECISION (map (λ x. Word.whole x.0) entries.now) (map Word.whole result) }
 {
-    let total = P::wrapping_pow2(PRECISION);
+    let total = Word::wrapping_pow2(PRECISION);
     let rows = entries.len();
     if rows < 2 {
         return [total, total];
@@ -32,20 +32,20 @@ pub fn end_words_of<P: WholeNumber, Symbol, const PRECISION: usize>(
     if rows == 2 {
         return [entries[1].0, total];
     }
-    [entries[rows - 1].0.wrapping_minus(total), P::least()]
+    [entries[rows - 1].0.wrapping_minus(total), Word::least()]
 }
 
 /// Where the row at `index` ends. With one or two rows this is an end word. With more rows it is the left cumulative of
 /// the next row minus the second end word, or the last row's own left cumulative minus the first end word.
 #[inline(always)]
-fn end_by_words<P: WholeNumber, Symbol, const PRECISION: usize>(
-    entries: &[(P, Symbol)],
-    end_words: &[P],
+fn end_by_words<Word: WholeNumber, Symbol, const PRECISION: usize>(
+    entries: &[(Word, Symbol)],
+    end_words: &[Word],
     index: usize,
-) -> P
-    requires end_words { AreEndWords P.BITS PRECISION (map (λ x. P.whole x.0) entries.now) (map P.whole end_words.now) }
+) -> Word
+    requires end_words { AreEndWords Word.BITS PRECISION (map (λ x. Word.whole x.0) entries.now) (map Word.whole end_words.now) }
     requires in_bounds { index < length entries.now }
-    ensures { P.whole result ≡ end_at P.BITS PRECISION (map (λ x. P.whole x.0) entries.now) index }
+    ensures { Word.whole result ≡ end_at Word.BITS PRECISION (map (λ x. Word.whole x.0) entries.now) index }
 {
     if entries.len() <= 2 {
         return end_words[index];
@@ -57,34 +57,34 @@ fn end_by_words<P: WholeNumber, Symbol, const PRECISION: usize>(
 /// The same without end words: where the next row begins, or the total. It is out of line, since its callers call it
 /// for a last row alone, or never, and a loop is shorter without it.
 #[inline(never)]
-fn end_of<P: WholeNumber, Symbol, const PRECISION: usize>(
-    entries: &[(P, Symbol)],
+fn end_without_words<Word: WholeNumber, Symbol, const PRECISION: usize>(
+    entries: &[(Word, Symbol)],
     index: usize,
-) -> P
-    requires precision { IsPrecision P.BITS PRECISION }
+) -> Word
+    requires precision { IsPrecision Word.BITS PRECISION }
     requires in_bounds { index < length entries.now }
-    ensures { P.whole result ≡ end_at P.BITS PRECISION (map (λ x. P.whole x.0) entries.now) index }
+    ensures { Word.whole result ≡ end_at Word.BITS PRECISION (map (λ x. Word.whole x.0) entries.now) index }
 {
     if index + 1 < entries.len() {
         return entries[index + 1].0;
     }
-    P::wrapping_pow2(PRECISION)
+    Word::wrapping_pow2(PRECISION)
 }
 
 /// Where the row at `from` ends, in a walk up to `to`, or `None` at the end of the walk. While more than one row is left
 /// there is a next entry, so a loop makes one test for a row, and needs the total at its end alone.
 #[inline(always)]
-pub fn end_before<P: WholeNumber, Symbol, const PRECISION: usize>(
-    entries: &[(P, Symbol)],
+pub fn end_in_walk<Word: WholeNumber, Symbol, const PRECISION: usize>(
+    entries: &[(Word, Symbol)],
     from: usize,
     to: usize,
-) -> Option<P>
-    requires precision { IsPrecision P.BITS PRECISION }
+) -> Option<Word>
+    requires precision { IsPrecision Word.BITS PRECISION }
     requires order { from ≤ to }
     requires in_bounds { to ≤ length entries.now }
     ensures none { IfNone result (from ≡ to) }
     ensures some { IfSome result (λ end. (from < to)
-        × (P.whole end ≡ end_at P.BITS PRECISION (map (λ x. P.whole x.0) entries.now) from)) }
+        × (Word.whole end ≡ end_at Word.BITS PRECISION (map (λ x. Word.whole x.0) entries.now) from)) }
 {
     let rows = to - from;
     if rows > 1 {
@@ -93,41 +93,41 @@ pub fn end_before<P: WholeNumber, Symbol, const PRECISION: usize>(
     if rows == 0 {
         return None;
     }
-    Some(end_of::<P, Symbol, PRECISION>(entries, from))
+    Some(end_without_words::<Word, Symbol, PRECISION>(entries, from))
 }
 
 /// Where the row at `index` ends. `cdf` has the left cumulatives and the total, or nothing.
 #[inline(always)]
-fn end_among<P: WholeNumber, Symbol, const PRECISION: usize>(
-    entries: &[(P, Symbol)],
-    cdf: &[P],
+fn end_in_cdf<Word: WholeNumber, Symbol, const PRECISION: usize>(
+    entries: &[(Word, Symbol)],
+    cdf: &[Word],
     index: usize,
-) -> P
-    requires precision { IsPrecision P.BITS PRECISION }
-    requires cdf { MayFollow P.BITS PRECISION (map (λ x. P.whole x.0) entries.now) (map P.whole cdf.now) }
+) -> Word
+    requires precision { IsPrecision Word.BITS PRECISION }
+    requires cdf { MayFollow Word.BITS PRECISION (map (λ x. Word.whole x.0) entries.now) (map Word.whole cdf.now) }
     requires in_bounds { index < length entries.now }
-    ensures { P.whole result ≡ end_at P.BITS PRECISION (map (λ x. P.whole x.0) entries.now) index }
+    ensures { Word.whole result ≡ end_at Word.BITS PRECISION (map (λ x. Word.whole x.0) entries.now) index }
 {
     if cdf.is_empty() {
-        return end_of::<P, Symbol, PRECISION>(entries, index);
+        return end_without_words::<Word, Symbol, PRECISION>(entries, index);
     }
     cdf[index + 1]
 }
 
 /// The left cumulative of the row at `index`, and its weight, which is the difference to `end`.
 #[inline]
-pub fn row_up_to<P: WholeNumber, Symbol, const PRECISION: usize>(
-    entries: &[(P, Symbol)],
-    end: P,
+pub fn paired_row_ending_at<Word: WholeNumber, Symbol, const PRECISION: usize>(
+    entries: &[(Word, Symbol)],
+    end: Word,
     index: usize,
-) -> (P, Weight<P>)
-    requires fits { PRECISION ≤ P.BITS }
-    requires stored { IsStored P.BITS PRECISION (map (λ x. P.whole x.0) entries.now) }
-    requires end { P.whole end ≡ end_at P.BITS PRECISION (map (λ x. P.whole x.0) entries.now) index }
+) -> (Word, Weight<Word>)
+    requires fits { PRECISION ≤ Word.BITS }
+    requires stored { IsStored Word.BITS PRECISION (map (λ x. Word.whole x.0) entries.now) }
+    requires end { Word.whole end ≡ end_at Word.BITS PRECISION (map (λ x. Word.whole x.0) entries.now) index }
     requires in_bounds { index < length entries.now }
-    ensures left { P.whole result.0 ≡ slice_index (map (λ x. P.whole x.0) entries.now) index }
-    ensures weight { P.whole (P.base result.1)
-        ≡ slice_index (weights_of PRECISION (map (λ x. P.whole x.0) entries.now)) index }
+    ensures left { Word.whole result.0 ≡ slice_index (map (λ x. Word.whole x.0) entries.now) index }
+    ensures weight { Word.whole (Word.base result.1)
+        ≡ slice_index (weights_of PRECISION (map (λ x. Word.whole x.0) entries.now)) index }
 {
     let left = entries[index].0;
     (left, end.wrapping_minus(left).to_weight())
@@ -136,38 +136,42 @@ pub fn row_up_to<P: WholeNumber, Symbol, const PRECISION: usize>(
 /// The left cumulative and the weight of the row at `index`. A jump tests whether the row is the last one, which a walk
 /// backwards mispredicts once.
 #[inline]
-pub fn paired_row_at<P: WholeNumber, Symbol, const PRECISION: usize>(
-    entries: &[(P, Symbol)],
+pub fn paired_row_at<Word: WholeNumber, Symbol, const PRECISION: usize>(
+    entries: &[(Word, Symbol)],
     index: usize,
-) -> (P, Weight<P>)
-    requires precision { IsPrecision P.BITS PRECISION }
-    requires stored { IsStored P.BITS PRECISION (map (λ x. P.whole x.0) entries.now) }
+) -> (Word, Weight<Word>)
+    requires precision { IsPrecision Word.BITS PRECISION }
+    requires stored { IsStored Word.BITS PRECISION (map (λ x. Word.whole x.0) entries.now) }
     requires in_bounds { index < length entries.now }
-    ensures left { P.whole result.0 ≡ slice_index (map (λ x. P.whole x.0) entries.now) index }
-    ensures weight { P.whole (P.base result.1)
-        ≡ slice_index (weights_of PRECISION (map (λ x. P.whole x.0) entries.now)) index }
+    ensures left { Word.whole result.0 ≡ slice_index (map (λ x. Word.whole x.0) entries.now) index }
+    ensures weight { Word.whole (Word.base result.1)
+        ≡ slice_index (weights_of PRECISION (map (λ x. Word.whole x.0) entries.now)) index }
 {
     if index + 1 < entries.len() {
-        return row_up_to::<P, Symbol, PRECISION>(entries, entries[index + 1].0, index);
+        return paired_row_ending_at::<Word, Symbol, PRECISION>(
+            entries,
+            entries[index + 1].0,
+            index,
+        );
     }
-    row_up_to::<P, Symbol, PRECISION>(entries, P::wrapping_pow2(PRECISION), index)
+    paired_row_ending_at::<Word, Symbol, PRECISION>(entries, Word::wrapping_pow2(PRECISION), index)
 }
 
 /// The row at `index`, which ends at `end`, with a clone of its symbol.
 #[inline]
-fn cloned_row_up_to<P: WholeNumber, Symbol: Clone, const PRECISION: usize>(
-    entries: &[(P, Symbol)],
-    end: P,
+fn cloned_row_ending_at<Word: WholeNumber, Symbol: Clone, const PRECISION: usize>(
+    entries: &[(Word, Symbol)],
+    end: Word,
     index: usize,
-) -> Result<(Symbol, P, Weight<P>), AllocError>
-    requires fits { PRECISION ≤ P.BITS }
-    requires stored { IsStored P.BITS PRECISION (map (λ x. P.whole x.0) entries.now) }
-    requires end { P.whole end ≡ end_at P.BITS PRECISION (map (λ x. P.whole x.0) entries.now) index }
+) -> Result<(Symbol, Word, Weight<Word>), AllocError>
+    requires fits { PRECISION ≤ Word.BITS }
+    requires stored { IsStored Word.BITS PRECISION (map (λ x. Word.whole x.0) entries.now) }
+    requires end { Word.whole end ≡ end_at Word.BITS PRECISION (map (λ x. Word.whole x.0) entries.now) index }
     requires in_bounds { index < length entries.now }
-    ensures { IsClonedRow Symbol.is_clone Symbol.is_infallible P.whole P.base PRECISION (rows_paired P.whole PRECISION entries.now) index
+    ensures { IsClonedRow Symbol.is_clone Symbol.is_infallible Word.whole Word.base PRECISION (rows_paired Word.whole PRECISION entries.now) index
         result }
 {
-    let (left, weight) = row_up_to::<P, Symbol, PRECISION>(entries, end, index);
+    let (left, weight) = paired_row_ending_at::<Word, Symbol, PRECISION>(entries, end, index);
     match entries[index].1.clone() {
         Ok(symbol) => Ok((symbol, left, weight)),
         Err(refused) => Err(refused),
@@ -176,43 +180,43 @@ fn cloned_row_up_to<P: WholeNumber, Symbol: Clone, const PRECISION: usize>(
 
 /// The row at `index`, with a clone of its symbol. `end_words` are the words of [`end_words_of`].
 #[inline]
-pub fn cloned_row_at<P: WholeNumber, Symbol: Clone, const PRECISION: usize>(
-    entries: &[(P, Symbol)],
-    end_words: &[P],
+pub fn cloned_row_by_words<Word: WholeNumber, Symbol: Clone, const PRECISION: usize>(
+    entries: &[(Word, Symbol)],
+    end_words: &[Word],
     index: usize,
-) -> Result<(Symbol, P, Weight<P>), AllocError>
-    requires fits { PRECISION ≤ P.BITS }
-    requires stored { IsStored P.BITS PRECISION (map (λ x. P.whole x.0) entries.now) }
-    requires end_words { AreEndWords P.BITS PRECISION (map (λ x. P.whole x.0) entries.now) (map P.whole end_words.now) }
+) -> Result<(Symbol, Word, Weight<Word>), AllocError>
+    requires fits { PRECISION ≤ Word.BITS }
+    requires stored { IsStored Word.BITS PRECISION (map (λ x. Word.whole x.0) entries.now) }
+    requires end_words { AreEndWords Word.BITS PRECISION (map (λ x. Word.whole x.0) entries.now) (map Word.whole end_words.now) }
     requires in_bounds { index < length entries.now }
-    ensures { IsClonedRow Symbol.is_clone Symbol.is_infallible P.whole P.base PRECISION (rows_paired P.whole PRECISION entries.now) index
+    ensures { IsClonedRow Symbol.is_clone Symbol.is_infallible Word.whole Word.base PRECISION (rows_paired Word.whole PRECISION entries.now) index
         result }
 {
-    let end = end_by_words::<P, Symbol, PRECISION>(entries, end_words, index);
-    cloned_row_up_to::<P, Symbol, PRECISION>(entries, end, index)
+    let end = end_by_words::<Word, Symbol, PRECISION>(entries, end_words, index);
+    cloned_row_ending_at::<Word, Symbol, PRECISION>(entries, end, index)
 }
 
 /// The row at `index`, with a clone of its symbol. `cdf` has nothing, or the left cumulatives and the total, and then no
 /// row is tested for being the last one.
 #[inline]
-pub fn cloned_row_among<P: WholeNumber, Symbol: Clone, const PRECISION: usize>(
-    entries: &[(P, Symbol)],
-    cdf: &[P],
+pub fn cloned_row_in_cdf<Word: WholeNumber, Symbol: Clone, const PRECISION: usize>(
+    entries: &[(Word, Symbol)],
+    cdf: &[Word],
     index: usize,
-) -> Result<(Symbol, P, Weight<P>), AllocError>
-    requires precision { IsPrecision P.BITS PRECISION }
-    requires stored { IsStored P.BITS PRECISION (map (λ x. P.whole x.0) entries.now) }
-    requires cdf { MayFollow P.BITS PRECISION (map (λ x. P.whole x.0) entries.now) (map P.whole cdf.now) }
+) -> Result<(Symbol, Word, Weight<Word>), AllocError>
+    requires precision { IsPrecision Word.BITS PRECISION }
+    requires stored { IsStored Word.BITS PRECISION (map (λ x. Word.whole x.0) entries.now) }
+    requires cdf { MayFollow Word.BITS PRECISION (map (λ x. Word.whole x.0) entries.now) (map Word.whole cdf.now) }
     requires in_bounds { index < length entries.now }
-    ensures { IsClonedRow Symbol.is_clone Symbol.is_infallible P.whole P.base PRECISION (rows_paired P.whole PRECISION entries.now) index
+    ensures { IsClonedRow Symbol.is_clone Symbol.is_infallible Word.whole Word.base PRECISION (rows_paired Word.whole PRECISION entries.now) index
         result }
 {
-    let end = end_among::<P, Symbol, PRECISION>(entries, cdf, index);
-    cloned_row_up_to::<P, Symbol, PRECISION>(entries, end, index)
+    let end = end_in_cdf::<Word, Symbol, PRECISION>(entries, cdf, index);
+    cloned_row_ending_at::<Word, Symbol, PRECISION>(entries, end, index)
 }
 
 /// The words, and after them the left cumulatives and the total. This fails only if memory is refused.
-pub fn with_ends<Entry, Kind: CdfEntry<Entry>, const PRECISION: usize>(
+pub fn with_cdf<Entry, Kind: CdfEntry<Entry>, const PRECISION: usize>(
     words: Vec<Kind::Word>,
     entries: &[Entry],
 ) -> Result<Vec<Kind::Word>, AllocError>

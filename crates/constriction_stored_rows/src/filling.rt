@@ -44,11 +44,11 @@ pub fn with_item<T: Drop>(mut items: Vec<T>, item: T) -> Result<Vec<T>, AllocErr
 /// One comparison separates the weights that leave some quantiles from all others: 0, the weight that fills the
 /// quantiles, and weights that exceed them.
 #[inline(always)]
-pub(crate) fn leaves_none<P: WholeNumber>(weight: P, one: P, room: P) -> bool
-    requires one { P.whole one ≡ 1 }
-    requires range { P.whole room < 2 ^ P.BITS }
-    ensures none { IsTrue result → (P.whole weight ≡ 0) ⊎ (P.whole room < P.whole weight) }
-    ensures some { result ≡ false → (0 < P.whole weight) × (P.whole weight ≤ P.whole room) }
+pub(crate) fn leaves_none<Word: WholeNumber>(weight: Word, one: Word, room: Word) -> bool
+    requires one { Word.whole one ≡ 1 }
+    requires range { Word.whole room < 2 ^ Word.BITS }
+    ensures none { IsTrue result → (Word.whole weight ≡ 0) ⊎ (Word.whole room < Word.whole weight) }
+    ensures some { result ≡ false → (0 < Word.whole weight) × (Word.whole weight ≤ Word.whole room) }
 {
     let last = weight.wrapping_minus(one);
     room.is_at_most(last)
@@ -57,11 +57,16 @@ pub(crate) fn leaves_none<P: WholeNumber>(weight: P, one: P, room: P) -> bool
 /// Whether the row of this weight is the last one: it is if the given weight fills the quantiles, and no further one
 /// is inferred.
 #[inline]
-pub(crate) fn is_given_last<P: WholeNumber>(weight: P, one: P, room: P, infer_last: bool) -> bool
-    requires one { P.whole one ≡ 1 }
-    requires none_left { (P.whole weight ≡ 0) ⊎ (P.whole room < P.whole weight) }
-    ensures filled { IsTrue result → FillsAll P.BITS (P.whole weight) (P.whole room) infer_last }
-    ensures bad { result ≡ false → IsNoLast (P.whole weight) (P.whole room) infer_last }
+pub(crate) fn is_given_last<Word: WholeNumber>(
+    weight: Word,
+    one: Word,
+    room: Word,
+    infer_last: bool,
+) -> bool
+    requires one { Word.whole one ≡ 1 }
+    requires none_left { (Word.whole weight ≡ 0) ⊎ (Word.whole room < Word.whole weight) }
+    ensures filled { IsTrue result → FillsAll Word.BITS (Word.whole weight) (Word.whole room) infer_last }
+    ensures bad { result ≡ false → IsNoLast (Word.whole weight) (Word.whole room) infer_last }
 {
     if infer_last {
         return false;
@@ -75,10 +80,10 @@ pub(crate) fn is_given_last<P: WholeNumber>(weight: P, one: P, room: P, infer_la
 
 /// Whether the row that takes all quantiles left is the last one: it is if its weight is inferred, and is a word.
 #[inline]
-pub(crate) fn is_inferred_last<P: WholeNumber>(room: P, infer_last: bool) -> bool
-    requires { P.whole room < 2 ^ P.BITS }
-    ensures inferred { IsTrue result → (infer_last ≡ true) × (P.whole room + 1 < 2 ^ P.BITS) }
-    ensures bad { result ≡ false → IsNoneInferred P.BITS (P.whole room) infer_last }
+pub(crate) fn is_inferred_last<Word: WholeNumber>(room: Word, infer_last: bool) -> bool
+    requires { Word.whole room < 2 ^ Word.BITS }
+    ensures inferred { IsTrue result → (infer_last ≡ true) × (Word.whole room + 1 < 2 ^ Word.BITS) }
+    ensures bad { result ≡ false → IsNoneInferred Word.BITS (Word.whole room) infer_last }
 {
     if infer_last {
         return !room.is_greatest();
@@ -110,7 +115,7 @@ pub fn entries_announced<const PRECISION: usize>(announced: usize) -> usize
 
 /// A copy of these words, in one allocation.
 #[inline]
-pub fn copy_of<W: Copy>(alloc: Global, words: &[W]) -> Result<Vec<W>, AllocError>
+pub fn copy_of<Word: Copy>(alloc: Global, words: &[Word]) -> Result<Vec<Word>, AllocError>
     ensures { IfOk result (λ v. v.items ≡ words.now) }
 {
     let mut copy = Vec::with_capacity(alloc, words.len())?;
@@ -134,19 +139,19 @@ fn words_needed<const PRECISION: usize>(announced: usize, infer_last: bool) -> u
 
 /// Whether a weight that leaves no quantiles is the last one, and fills them.
 #[inline(always)]
-fn is_end_of_given<P: WholeNumber, I: Iterator<Item = P>>(
-    rest: &mut I,
-    weight: P,
-    one: P,
-    room: P,
+fn is_end_of_given<Word: WholeNumber, Weights: Iterator<Item = Word>>(
+    rest: &mut Weights,
+    weight: Word,
+    one: Word,
+    room: Word,
     infer_last: bool,
 ) -> bool
-    requires one { P.whole one ≡ 1 }
-    requires none_left { (P.whole weight ≡ 0) ⊎ (P.whole room < P.whole weight) }
-    requires goes { I.can_next rest.old }
-    ensures filled { IsTrue result → FillsAll P.BITS (P.whole weight) (P.whole room) infer_last × I.next_gives rest.old None rest.new }
-    ensures bad { result ≡ false → IsNoLast (P.whole weight) (P.whole room) infer_last
-        ⊎ ((P.whole room < P.whole weight) × (more : P) × I.next_gives rest.old (Some more) rest.new) }
+    requires one { Word.whole one ≡ 1 }
+    requires none_left { (Word.whole weight ≡ 0) ⊎ (Word.whole room < Word.whole weight) }
+    requires goes { Weights.can_next rest.old }
+    ensures filled { IsTrue result → FillsAll Word.BITS (Word.whole weight) (Word.whole room) infer_last × Weights.next_gives rest.old None rest.new }
+    ensures bad { result ≡ false → IsNoLast (Word.whole weight) (Word.whole room) infer_last
+        ⊎ ((Word.whole room < Word.whole weight) × (more : Word) × Weights.next_gives rest.old (Some more) rest.new) }
 {
     if !is_given_last(weight, one, room, infer_last) {
         return false;
@@ -156,57 +161,57 @@ fn is_end_of_given<P: WholeNumber, I: Iterator<Item = P>>(
 
 /// The cdf with the total after it, if all quantiles are filled.
 #[inline(always)]
-fn finish<P: WholeNumber, const PRECISION: usize>(
-    cdf: Vec<P>,
+fn finish<Word: WholeNumber, const PRECISION: usize>(
+    cdf: Vec<Word>,
     is_whole: bool,
-) -> Result<Vec<P>, ModelError>
-    requires { IsPrecision P.BITS PRECISION }
-    ensures ok { IfOk result (λ v. (is_whole ≡ true) × AndTotal P.whole P.BITS PRECISION cdf.items v.items) }
+) -> Result<Vec<Word>, ModelError>
+    requires { IsPrecision Word.BITS PRECISION }
+    ensures ok { IfOk result (λ v. (is_whole ≡ true) × AndTotal Word.whole Word.BITS PRECISION cdf.items v.items) }
     ensures invalid { result ≡ Err ModelError.InvalidTable → is_whole ≡ false }
 {
     if !is_whole {
         return Err(ModelError::InvalidTable);
     }
-    Ok(with_item(cdf, P::wrapping_pow2(PRECISION))?)
+    Ok(with_item(cdf, Word::wrapping_pow2(PRECISION))?)
 }
 
 /// The cdf with the row of the inferred weight and the total after it, if that weight is a word.
 #[inline(always)]
-fn finish_inferred<P: WholeNumber, const PRECISION: usize>(
-    cdf: Vec<P>,
-    left: P,
+fn finish_inferred<Word: WholeNumber, const PRECISION: usize>(
+    cdf: Vec<Word>,
+    left: Word,
     is_word: bool,
-) -> Result<Vec<P>, ModelError>
-    requires { IsPrecision P.BITS PRECISION }
-    ensures ok { IfOk result (λ v. (is_word ≡ true) × AndTotal P.whole P.BITS PRECISION (cdf.items ++ left ∷ []) v.items) }
+) -> Result<Vec<Word>, ModelError>
+    requires { IsPrecision Word.BITS PRECISION }
+    ensures ok { IfOk result (λ v. (is_word ≡ true) × AndTotal Word.whole Word.BITS PRECISION (cdf.items ++ left ∷ []) v.items) }
     ensures invalid { result ≡ Err ModelError.InvalidTable → is_word ≡ false }
 {
     if !is_word {
         return Err(ModelError::InvalidTable);
     }
-    finish::<P, PRECISION>(with_item(cdf, left)?, true)
+    finish::<Word, PRECISION>(with_item(cdf, left)?, true)
 }
 
 /// Fills an empty cdf from the weights of an iterator.
 #[inline(always)]
-fn fill<P: WholeNumber, I: Iterator<Item = P>, const PRECISION: usize>(
-    mut cdf: Vec<P>,
-    rest: &mut I,
+fn fill_cdf<Word: WholeNumber, Weights: Iterator<Item = Word>, const PRECISION: usize>(
+    mut cdf: Vec<Word>,
+    rest: &mut Weights,
     infer_last: bool,
-) -> Result<Vec<P>, ModelError>
-    requires precision { IsPrecision P.BITS PRECISION }
+) -> Result<Vec<Word>, ModelError>
+    requires precision { IsPrecision Word.BITS PRECISION }
     requires empty { cdf.items ≡ [] }
     // The cdf has no more room than accepted weights need.
     requires room { vec_capacity cdf ≤ 2 ^ PRECISION + 1 }
-    requires goes { I.can_next rest.old }
-    requires ends { IsFinite (I.remaining rest.old) }
-    ensures ok { IfOk result (λ v. IsCdfOf I.next_gives rest.old P.whole P.BITS PRECISION infer_last v.items) }
+    requires goes { Weights.can_next rest.old }
+    requires ends { IsFinite (Weights.remaining rest.old) }
+    ensures ok { IfOk result (λ v. IsCdfOf Weights.next_gives rest.old Word.whole Word.BITS PRECISION infer_last v.items) }
     ensures invalid { result ≡ Err ModelError.InvalidTable
-        → IsNoCdf I.next_gives rest.old P.whole P.BITS PRECISION infer_last }
+        → IsNoCdf Weights.next_gives rest.old Word.whole Word.BITS PRECISION infer_last }
 {
-    let one = P::greatest_of_bits(1);
-    let mut left = P::least();
-    let mut room = P::greatest_of_bits(PRECISION);
+    let one = Word::greatest_of_bits(1);
+    let mut left = Word::least();
+    let mut room = Word::greatest_of_bits(PRECISION);
     'rows: while let Some(weight) = rest.next() {
         if cdf.len() == cdf.capacity() {
             let mut full = cdf;
@@ -215,7 +220,7 @@ fn fill<P: WholeNumber, I: Iterator<Item = P>, const PRECISION: usize>(
         }
         cdf.push_reserved(left);
         if leaves_none(weight, one, room) {
-            return finish::<P, PRECISION>(
+            return finish::<Word, PRECISION>(
                 cdf,
                 is_end_of_given(rest, weight, one, room, infer_last),
             );
@@ -223,26 +228,26 @@ fn fill<P: WholeNumber, I: Iterator<Item = P>, const PRECISION: usize>(
         left = left.plus(weight);
         room = room.minus(weight);
     }
-    finish_inferred::<P, PRECISION>(cdf, left, is_inferred_last(room, infer_last))
+    finish_inferred::<Word, PRECISION>(cdf, left, is_inferred_last(room, infer_last))
 }
 
 /// The cdf of these weights. The last weight may be inferred.
-pub fn cdf_of<P: WholeNumber, I: IntoIterator<Item = P>, const PRECISION: usize>(
+pub fn cdf_of<Word: WholeNumber, Weights: IntoIterator<Item = Word>, const PRECISION: usize>(
     alloc: Global,
-    weights: I,
+    weights: Weights,
     infer_last: bool,
-) -> Result<Vec<P>, ModelError>
-    requires precision { IsPrecision P.BITS PRECISION }
-    requires ends { IsFiniteIterable I.into_iter_gives I.IntoIter.can_next I.IntoIter.remaining weights }
-    ensures ok { IfOk result (λ v. (it : I.IntoIter) × I.into_iter_gives weights it
-        × IsCdfOf I.IntoIter.next_gives it P.whole P.BITS PRECISION infer_last v.items) }
-    ensures invalid { result ≡ Err ModelError.InvalidTable → (it : I.IntoIter) × I.into_iter_gives weights it
-        × IsNoCdf I.IntoIter.next_gives it P.whole P.BITS PRECISION infer_last }
+) -> Result<Vec<Word>, ModelError>
+    requires precision { IsPrecision Word.BITS PRECISION }
+    requires ends { IsFiniteIterable Weights.into_iter_gives Weights.IntoIter.can_next Weights.IntoIter.remaining weights }
+    ensures ok { IfOk result (λ v. (it : Weights.IntoIter) × Weights.into_iter_gives weights it
+        × IsCdfOf Weights.IntoIter.next_gives it Word.whole Word.BITS PRECISION infer_last v.items) }
+    ensures invalid { result ≡ Err ModelError.InvalidTable → (it : Weights.IntoIter) × Weights.into_iter_gives weights it
+        × IsNoCdf Weights.IntoIter.next_gives it Word.whole Word.BITS PRECISION infer_last }
 {
     let mut rest = weights.into_iter();
     let cdf = Vec::with_capacity(
         alloc,
         words_needed::<PRECISION>(rest.size_hint().0, infer_last),
     )?;
-    fill::<P, I::IntoIter, PRECISION>(cdf, &mut rest, infer_last)
+    fill_cdf::<Word, Weights::IntoIter, PRECISION>(cdf, &mut rest, infer_last)
 }

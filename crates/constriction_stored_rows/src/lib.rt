@@ -19,11 +19,12 @@ mod uncompared;
 pub use crate::apart::{are_apart, are_in_order};
 pub use crate::cdf_probe::{CdfEntry, CdfProbe, Cumulative, CumulativeAndSymbol};
 pub use crate::ends::{
-    cloned_row_among, cloned_row_at, end_before, end_words_of, paired_row_at, row_up_to, with_ends,
+    cloned_row_by_words, cloned_row_in_cdf, end_in_walk, end_words_of, paired_row_at,
+    paired_row_ending_at, with_cdf,
 };
 pub use crate::filling::{cdf_of, copy_of, entries_announced, rows_announced, with_item};
 pub use crate::paired::{entries_cloned, has_symbol};
 pub use crate::reading::{TakesRows, rows_read};
 pub use crate::slots::{row_in_slot, slot_probe, table_of_slots, words_of_table};
-pub use crate::stored::{contiguous_row_at, row_at};
+pub use crate::stored::{cdf_row_at, contiguous_row_at};
 pub use crate::uncompared::entries_read;

@@ -37,15 +37,15 @@ pub trait TakesRows<Symbol, Word: WholeNumber> {
 /// Reads the symbol of a row, and stores the row.
 #[inline(always)]
 fn take_next<
-    P: WholeNumber,
+    Word: WholeNumber,
     Symbol,
-    Stored: TakesRows<Symbol, P>,
+    Stored: TakesRows<Symbol, Word>,
     Symbols: Iterator<Item = Symbol>,
->(stored: &mut Stored, symbols: &mut Symbols, left: P, weight: P) -> Result<(), ModelError>
-    requires positive { 0 < P.whole weight }
+>(stored: &mut Stored, symbols: &mut Symbols, left: Word, weight: Word) -> Result<(), ModelError>
+    requires positive { 0 < Word.whole weight }
     requires goes { Symbols.can_next symbols.old }
     ensures took { IsOk result → TookRow Symbols.next_gives Stored.symbol_eq Stored.holds symbols.old stored.old
-        (P.whole left) (P.whole weight) symbols.new stored.new }
+        (Word.whole left) (Word.whole weight) symbols.new stored.new }
     ensures goes { IsOk result → IsFinite (Symbols.remaining symbols.old)
         → Symbols.can_next symbols.new × IsFinite (Symbols.remaining symbols.new) }
     ensures refused { result ≡ Err ModelError.InvalidTable
@@ -60,38 +60,38 @@ fn take_next<
 /// Stores the row of a given weight that leaves no quantiles. The weight has to fill them and to be the last one.
 #[inline(always)]
 fn take_given_last<
-    P: WholeNumber,
+    Word: WholeNumber,
     Symbol: Drop,
-    Stored: TakesRows<Symbol, P>,
+    Stored: TakesRows<Symbol, Word>,
     Symbols: Iterator<Item = Symbol>,
-    Weights: Iterator<Item = P>,
+    Weights: Iterator<Item = Word>,
     const PRECISION: usize,
 >(
     stored: &mut Stored,
     symbols: &mut Symbols,
     weights: &mut Weights,
-    left: P,
-    weight: P,
-    one: P,
-    room: P,
+    left: Word,
+    weight: Word,
+    one: Word,
+    room: Word,
     infer_last: bool,
 ) -> Result<(), ModelError>
-    requires one { P.whole one ≡ 1 }
-    requires none_left { (P.whole weight ≡ 0) ⊎ (P.whole room < P.whole weight) }
+    requires one { Word.whole one ≡ 1 }
+    requires none_left { (Word.whole weight ≡ 0) ⊎ (Word.whole room < Word.whole weight) }
     requires symbols_go { Symbols.can_next symbols.old }
     requires symbols_end { IsFinite (Symbols.remaining symbols.old) }
     requires weights_go { Weights.can_next weights.old }
     ensures ok { IsOk result
-        → EndsWell Symbols.next_gives Weights.next_gives Stored.symbol_eq Stored.holds P.whole P.BITS PRECISION
-        infer_last stored.old symbols.old left (P.whole room) (Some weight) weights.old stored.new }
+        → EndsWell Symbols.next_gives Weights.next_gives Stored.symbol_eq Stored.holds Word.whole Word.BITS PRECISION
+        infer_last stored.old symbols.old left (Word.whole room) (Some weight) weights.old stored.new }
     ensures invalid { result ≡ Err ModelError.InvalidTable
-        → EndsBadly Symbols.next_gives Weights.next_gives Stored.symbol_eq Stored.holds P.whole P.BITS PRECISION
-        infer_last stored.old symbols.old left (P.whole room) (Some weight) weights.old }
+        → EndsBadly Symbols.next_gives Weights.next_gives Stored.symbol_eq Stored.holds Word.whole Word.BITS PRECISION
+        infer_last stored.old symbols.old left (Word.whole room) (Some weight) weights.old }
 {
     if !is_given_last(weight, one, room, infer_last) {
         return Err(ModelError::InvalidTable);
     }
-    take_next::<P, Symbol, Stored, Symbols>(stored, symbols, left, weight)?;
+    take_next::<Word, Symbol, Stored, Symbols>(stored, symbols, left, weight)?;
     if let Some(_) = weights.next() {
         return Err(ModelError::InvalidTable);
     }
@@ -104,36 +104,36 @@ fn take_given_last<
 /// Stores the row of the inferred weight, which is all that the given weights leave.
 #[inline(always)]
 fn take_inferred_last<
-    P: WholeNumber,
+    Word: WholeNumber,
     Symbol: Drop,
-    Stored: TakesRows<Symbol, P>,
+    Stored: TakesRows<Symbol, Word>,
     Symbols: Iterator<Item = Symbol>,
-    Weights: Iterator<Item = P>,
+    Weights: Iterator<Item = Word>,
     const PRECISION: usize,
 >(
     stored: &mut Stored,
     symbols: &mut Symbols,
-    left: P,
-    one: P,
-    room: P,
+    left: Word,
+    one: Word,
+    room: Word,
     infer_last: bool,
 ) -> Result<(), ModelError>
-    requires one { P.whole one ≡ 1 }
-    requires range { P.whole room < 2 ^ P.BITS }
+    requires one { Word.whole one ≡ 1 }
+    requires range { Word.whole room < 2 ^ Word.BITS }
     requires symbols_go { Symbols.can_next symbols.old }
     requires symbols_end { IsFinite (Symbols.remaining symbols.old) }
     ensures ok { IsOk result → (end : Weights)
-        → EndsWell Symbols.next_gives Weights.next_gives Stored.symbol_eq Stored.holds P.whole P.BITS PRECISION
-        infer_last stored.old symbols.old left (P.whole room) None end stored.new }
+        → EndsWell Symbols.next_gives Weights.next_gives Stored.symbol_eq Stored.holds Word.whole Word.BITS PRECISION
+        infer_last stored.old symbols.old left (Word.whole room) None end stored.new }
     ensures invalid { result ≡ Err ModelError.InvalidTable → (end : Weights)
-        → EndsBadly Symbols.next_gives Weights.next_gives Stored.symbol_eq Stored.holds P.whole P.BITS PRECISION
-        infer_last stored.old symbols.old left (P.whole room) None end }
+        → EndsBadly Symbols.next_gives Weights.next_gives Stored.symbol_eq Stored.holds Word.whole Word.BITS PRECISION
+        infer_last stored.old symbols.old left (Word.whole room) None end }
 {
     if !is_inferred_last(room, infer_last) {
         return Err(ModelError::InvalidTable);
     }
     let weight = room.plus(one);
-    take_next::<P, Symbol, Stored, Symbols>(stored, symbols, left, weight)?;
+    take_next::<Word, Symbol, Stored, Symbols>(stored, symbols, left, weight)?;
     if let Some(_) = symbols.next() {
         return Err(ModelError::InvalidTable);
     }
@@ -143,11 +143,11 @@ fn take_inferred_last<
 /// Reads and stores all rows.
 #[inline(always)]
 fn take_all<
-    P: WholeNumber,
+    Word: WholeNumber,
     Symbol: Drop,
-    Stored: TakesRows<Symbol, P>,
+    Stored: TakesRows<Symbol, Word>,
     Symbols: Iterator<Item = Symbol>,
-    Weights: Iterator<Item = P>,
+    Weights: Iterator<Item = Word>,
     const PRECISION: usize,
 >(
     stored: &mut Stored,
@@ -155,33 +155,33 @@ fn take_all<
     weights: &mut Weights,
     infer_last: bool,
 ) -> Result<(), ModelError>
-    requires precision { IsPrecision P.BITS PRECISION }
+    requires precision { IsPrecision Word.BITS PRECISION }
     requires none { Stored.holds stored.old [] }
     requires symbols_go { Symbols.can_next symbols.old }
     requires symbols_end { IsFinite (Symbols.remaining symbols.old) }
     requires weights_go { Weights.can_next weights.old }
     requires weights_end { IsFinite (Weights.remaining weights.old) }
     ensures ok { IsOk result
-        → IsReadWell Symbols.next_gives Weights.next_gives Stored.symbol_eq Stored.holds P.whole P.BITS PRECISION
+        → IsReadWell Symbols.next_gives Weights.next_gives Stored.symbol_eq Stored.holds Word.whole Word.BITS PRECISION
         infer_last symbols.old weights.old stored.new }
     ensures invalid { result ≡ Err ModelError.InvalidTable
-        → IsReadBadly Symbols.next_gives Weights.next_gives Stored.symbol_eq Stored.holds P.whole P.BITS PRECISION
+        → IsReadBadly Symbols.next_gives Weights.next_gives Stored.symbol_eq Stored.holds Word.whole Word.BITS PRECISION
         infer_last symbols.old weights.old }
 {
-    let one = P::greatest_of_bits(1);
-    let mut left = P::least();
-    let mut room = P::greatest_of_bits(PRECISION);
+    let one = Word::greatest_of_bits(1);
+    let mut left = Word::least();
+    let mut room = Word::greatest_of_bits(PRECISION);
     'rows: while let Some(weight) = weights.next() {
         if leaves_none(weight, one, room) {
-            return take_given_last::<P, Symbol, Stored, Symbols, Weights, PRECISION>(
+            return take_given_last::<Word, Symbol, Stored, Symbols, Weights, PRECISION>(
                 stored, symbols, weights, left, weight, one, room, infer_last,
             );
         }
-        take_next::<P, Symbol, Stored, Symbols>(stored, symbols, left, weight)?;
+        take_next::<Word, Symbol, Stored, Symbols>(stored, symbols, left, weight)?;
         left = left.plus(weight);
         room = room.minus(weight);
     }
-    take_inferred_last::<P, Symbol, Stored, Symbols, Weights, PRECISION>(
+    take_inferred_last::<Word, Symbol, Stored, Symbols, Weights, PRECISION>(
         stored, symbols, left, one, room, infer_last,
     )
 }
@@ -190,11 +190,11 @@ fn take_all<
 ///
 /// A weight is judged before its symbol is read, and the symbol before the next weight is read.
 pub fn rows_read<
-    P: WholeNumber,
+    Word: WholeNumber,
     Symbol: Drop,
-    Stored: TakesRows<Symbol, P> + Drop,
+    Stored: TakesRows<Symbol, Word> + Drop,
     Symbols: Iterator<Item = Symbol>,
-    Weights: Iterator<Item = P>,
+    Weights: Iterator<Item = Word>,
     const PRECISION: usize,
 >(
     mut stored: Stored,
@@ -202,20 +202,20 @@ pub fn rows_read<
     mut weights: Weights,
     infer_last: bool,
 ) -> Result<Stored, ModelError>
-    requires precision { IsPrecision P.BITS PRECISION }
+    requires precision { IsPrecision Word.BITS PRECISION }
     requires none { Stored.holds stored [] }
     requires symbols_go { Symbols.can_next symbols }
     requires symbols_end { IsFinite (Symbols.remaining symbols) }
     requires weights_go { Weights.can_next weights }
     requires weights_end { IsFinite (Weights.remaining weights) }
     ensures ok { IfOk result (λ t. GaveBothGood Symbols.next_gives symbols Weights.next_gives weights (λ ss ws.
-        AreAccepted Stored.symbol_eq P.BITS PRECISION ss (completed PRECISION infer_last (map P.whole ws))
-        × Stored.holds t (rows_of ss (completed PRECISION infer_last (map P.whole ws))))) }
+        AreAccepted Stored.symbol_eq Word.BITS PRECISION ss (completed PRECISION infer_last (map Word.whole ws))
+        × Stored.holds t (rows_of ss (completed PRECISION infer_last (map Word.whole ws))))) }
     ensures invalid { result ≡ Err ModelError.InvalidTable
         → GaveBothBad Symbols.next_gives symbols Weights.next_gives weights (λ ss ws.
-        AreAccepted Stored.symbol_eq P.BITS PRECISION ss (completed PRECISION infer_last (map P.whole ws))) }
+        AreAccepted Stored.symbol_eq Word.BITS PRECISION ss (completed PRECISION infer_last (map Word.whole ws))) }
 {
-    take_all::<P, Symbol, Stored, Symbols, Weights, PRECISION>(
+    take_all::<Word, Symbol, Stored, Symbols, Weights, PRECISION>(
         &mut stored,
         &mut symbols,
         &mut weights,

@@ -7,7 +7,7 @@ ghost use Rattle.constriction_stored_rows.specs.Slots.{slot_count, slot_width};
 ghost use Rattle.constriction_stored_rows.specs.SlotTable.{words_a_slot, BeginsWithSlots, HasSlots, IsFirstWord, IsSlot, IsSlotPart};
 
 use crate::cdf_probe::{CdfEntry, CdfProbe};
-use crate::ends::with_ends;
+use crate::ends::with_cdf;
 use constriction_model::{Probe, row_in_probe};
 use constriction_numbers::WholeNumber;
 use std::alloc::{AllocError, Global};
@@ -42,10 +42,12 @@ pub fn words_of_table<const PRECISION: usize, const SLOT_BITS: usize>() -> usize
 
 /// The first word of the lookup table whose quantile is not below `left`.
 #[inline]
-fn first_word<W: WholeNumber, const PRECISION: usize, const SLOT_BITS: usize>(left: W) -> usize
+fn first_word<Word: WholeNumber, const PRECISION: usize, const SLOT_BITS: usize>(
+    left: Word,
+) -> usize
     requires narrow { PRECISION ≤ 63 }
-    requires below { W.whole left < 2 ^ PRECISION }
-    ensures { IsFirstWord (slot_width PRECISION SLOT_BITS) (W.whole left) result }
+    requires below { Word.whole left < 2 ^ PRECISION }
+    ensures { IsFirstWord (slot_width PRECISION SLOT_BITS) (Word.whole left) result }
 {
     let width = width_of_slots::<PRECISION, SLOT_BITS>();
     let left = left.to_number();
@@ -58,7 +60,7 @@ fn first_word<W: WholeNumber, const PRECISION: usize, const SLOT_BITS: usize>(le
 /// The lookup table, filled up with `row` to `words` words, for which it has room. No word is tested for room, and the table
 /// stays in registers, which it would leave around a call that may request memory.
 #[inline(always)]
-fn fill<W: Copy>(mut table: Vec<W>, words: usize, row: W) -> Vec<W>
+fn fill<Word: Copy>(mut table: Vec<Word>, words: usize, row: Word) -> Vec<Word>
     requires room { words ≤ vec_capacity table }
     requires more { vec_len table ≤ words }
     ensures items { result.items ≡ table.items ++ replicate (words - vec_len table) row }
@@ -101,12 +103,12 @@ fn slots_of<Entry, Kind: CdfEntry<Entry>, const PRECISION: usize, const SLOT_BIT
     Ok(fill(table, words, row))
 }
 
-/// The lookup table of the rows that meet each slot. If `has_ends`, the left cumulatives and the total follow, so that a
+/// The lookup table of the rows that meet each slot. If `has_cdf`, the left cumulatives and the total follow, so that a
 /// look-up finds these words side by side. They never follow in a model of one quantile.
 pub fn table_of_slots<Entry, Kind: CdfEntry<Entry>, const PRECISION: usize, const SLOT_BITS: usize>(
     alloc: Global,
     entries: &[Entry],
-    has_ends: bool,
+    has_cdf: bool,
 ) -> Result<Vec<Kind::Word>, AllocError>
     requires narrow { PRECISION ≤ 63 }
     requires fits { PRECISION ≤ Kind.Word.BITS }
@@ -116,20 +118,22 @@ pub fn table_of_slots<Entry, Kind: CdfEntry<Entry>, const PRECISION: usize, cons
     ensures { IfOk result (λ table. BeginsWithSlots Kind.Word.BITS PRECISION (slot_width PRECISION SLOT_BITS)
         (slot_count PRECISION SLOT_BITS) (map Kind.cumulative entries.now) (map Kind.Word.whole table.items)) }
 {
-    if PRECISION == 0 || !has_ends {
+    if PRECISION == 0 || !has_cdf {
         return slots_of::<Entry, Kind, PRECISION, SLOT_BITS>(alloc, entries, 0);
     }
     let more = entries.len().saturating_add(1);
     let slots = slots_of::<Entry, Kind, PRECISION, SLOT_BITS>(alloc, entries, more)?;
-    with_ends::<Entry, Kind, PRECISION>(slots, entries)
+    with_cdf::<Entry, Kind, PRECISION>(slots, entries)
 }
 
 /// The slot of a quantile.
 #[inline]
-fn slot_of<W: WholeNumber, const PRECISION: usize, const SLOT_BITS: usize>(quantile: W) -> usize
+fn slot_of<Word: WholeNumber, const PRECISION: usize, const SLOT_BITS: usize>(
+    quantile: Word,
+) -> usize
     requires narrow { PRECISION ≤ 63 }
-    requires below { W.whole quantile < 2 ^ PRECISION }
-    ensures is { result ≡ W.whole quantile / slot_width PRECISION SLOT_BITS }
+    requires below { Word.whole quantile < 2 ^ PRECISION }
+    ensures is { result ≡ Word.whole quantile / slot_width PRECISION SLOT_BITS }
     ensures below { result < slot_count PRECISION SLOT_BITS }
 {
     quantile.to_number() / width_of_slots::<PRECISION, SLOT_BITS>()

@@ -10,13 +10,16 @@ use constriction_numbers::WholeNumber;
 
 /// The left cumulative of the row at `index`, and its weight, which is the difference to the next word of the cdf.
 #[inline]
-pub fn row_at<P: WholeNumber, const PRECISION: usize>(cdf: &[P], index: usize) -> (P, Weight<P>)
-    requires fits { PRECISION ≤ P.BITS }
-    requires cdf { IsCdf P.BITS PRECISION (map P.whole cdf.now) }
+pub fn cdf_row_at<Word: WholeNumber, const PRECISION: usize>(
+    cdf: &[Word],
+    index: usize,
+) -> (Word, Weight<Word>)
+    requires fits { PRECISION ≤ Word.BITS }
+    requires cdf { IsCdf Word.BITS PRECISION (map Word.whole cdf.now) }
     requires in_bounds { index + 1 < length cdf.now }
-    ensures left { P.whole result.0 ≡ slice_index (lefts_in (map P.whole cdf.now)) index }
-    ensures weight { P.whole (P.base result.1)
-        ≡ slice_index (weights_of PRECISION (lefts_in (map P.whole cdf.now))) index }
+    ensures left { Word.whole result.0 ≡ slice_index (lefts_in (map Word.whole cdf.now)) index }
+    ensures weight { Word.whole (Word.base result.1)
+        ≡ slice_index (weights_of PRECISION (lefts_in (map Word.whole cdf.now))) index }
 {
     let left = cdf[index];
     (left, cdf[index + 1].wrapping_minus(left).to_weight())
@@ -24,17 +27,17 @@ pub fn row_at<P: WholeNumber, const PRECISION: usize>(cdf: &[P], index: usize) -
 
 /// The row at `index` of a contiguous model: its symbol is the index.
 #[inline]
-pub fn contiguous_row_at<P: WholeNumber, const PRECISION: usize>(
-    cdf: &[P],
+pub fn contiguous_row_at<Word: WholeNumber, const PRECISION: usize>(
+    cdf: &[Word],
     index: usize,
-) -> (usize, P, Weight<P>)
-    requires fits { PRECISION ≤ P.BITS }
-    requires cdf { IsCdf P.BITS PRECISION (map P.whole cdf.now) }
+) -> (usize, Word, Weight<Word>)
+    requires fits { PRECISION ≤ Word.BITS }
+    requires cdf { IsCdf Word.BITS PRECISION (map Word.whole cdf.now) }
     requires in_bounds { index + 1 < length cdf.now }
-    ensures row { slice_index_or (contiguous_rows (weights_of PRECISION (lefts_in (map P.whole cdf.now)))) index
-        (row_of P.whole P.base result) ≡ row_of P.whole P.base result }
-    ensures within { LiesWithin PRECISION (row_of P.whole P.base result) }
+    ensures row { slice_index_or (contiguous_rows (weights_of PRECISION (lefts_in (map Word.whole cdf.now)))) index
+        (row_of Word.whole Word.base result) ≡ row_of Word.whole Word.base result }
+    ensures within { LiesWithin PRECISION (row_of Word.whole Word.base result) }
 {
-    let (left, weight) = row_at::<P, PRECISION>(cdf, index);
+    let (left, weight) = cdf_row_at::<Word, PRECISION>(cdf, index);
     (index, left, weight)
 }

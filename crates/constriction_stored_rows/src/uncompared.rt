@@ -36,23 +36,28 @@ impl<Word: WholeNumber, Symbol: Drop> TakesRows<Symbol, Word> for Uncompared<Wor
 /// The entries of these symbols and weights. The last weight may be inferred. Symbols and weights are
 /// accepted as by a constructor, and equal symbols are accepted too.
 pub fn entries_read<
-    P: WholeNumber,
+    Word: WholeNumber,
     Symbol: Drop,
-    S: IntoIterator<Item = Symbol>,
-    W: IntoIterator<Item = P>,
+    Symbols: IntoIterator<Item = Symbol>,
+    Weights: IntoIterator<Item = Word>,
     const PRECISION: usize,
->(alloc: Global, symbols: S, weights: W, infer_last: bool) -> Result<Vec<(P, Symbol)>, ModelError>
-    requires precision { IsPrecision P.BITS PRECISION }
-    requires symbols_end { IsFiniteIterable S.into_iter_gives S.IntoIter.can_next S.IntoIter.remaining symbols }
-    requires weights_end { IsFiniteIterable W.into_iter_gives W.IntoIter.can_next W.IntoIter.remaining weights }
-    ensures { IsMadeOfBoth (AreAccepted (λ _ _. false) P.BITS PRECISION) (completed PRECISION infer_last)
-        (WasReadOf S.into_iter_gives S.IntoIter.next_gives symbols) (WasReadOf W.into_iter_gives W.IntoIter.next_gives weights)
-        P.whole (λ v ss ws. HoldsRows P.whole v.items (rows_of ss ws)) result }
+>(
+    alloc: Global,
+    symbols: Symbols,
+    weights: Weights,
+    infer_last: bool,
+) -> Result<Vec<(Word, Symbol)>, ModelError>
+    requires precision { IsPrecision Word.BITS PRECISION }
+    requires symbols_end { IsFiniteIterable Symbols.into_iter_gives Symbols.IntoIter.can_next Symbols.IntoIter.remaining symbols }
+    requires weights_end { IsFiniteIterable Weights.into_iter_gives Weights.IntoIter.can_next Weights.IntoIter.remaining weights }
+    ensures { IsMadeOfBoth (AreAccepted (λ _ _. false) Word.BITS PRECISION) (completed PRECISION infer_last)
+        (WasReadOf Symbols.into_iter_gives Symbols.IntoIter.next_gives symbols) (WasReadOf Weights.into_iter_gives Weights.IntoIter.next_gives weights)
+        Word.whole (λ v ss ws. HoldsRows Word.whole v.items (rows_of ss ws)) result }
 {
     let symbols = symbols.into_iter();
     let weights = weights.into_iter();
     let entries = Vec::with_capacity(alloc, entries_announced::<PRECISION>(symbols.size_hint().0))?;
-    let read = rows_read::<P, Symbol, Uncompared<P, Symbol>, _, _, PRECISION>(
+    let read = rows_read::<Word, Symbol, Uncompared<Word, Symbol>, _, _, PRECISION>(
         Uncompared { entries },
         symbols,
         weights,

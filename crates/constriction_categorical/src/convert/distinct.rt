@@ -17,7 +17,7 @@ use std::alloc::Global;
 
 /// The entries of a decoder with a model's rows. No two of the model's symbols are equal.
 #[inline]
-pub(crate) fn entries_of_distinct<M, const PRECISION: usize>(
+pub(crate) fn uncompared_entries_of_model<M, const PRECISION: usize>(
     alloc: Global,
     model: M,
 ) -> Result<Vec<(M::Probability, M::Symbol)>, ModelError>
@@ -32,8 +32,8 @@ where
         (rows_paired M.Probability.whole PRECISION v.items) (M.rows model)) }
     ensures refused { IfErr result (λ e. e ≡ ModelError.OutOfMemory) }
 {
-    let cdf = entries_collected::<_, _, _, _, PRECISION>(alloc, model.symbol_table())?;
-    Ok(cdf)
+    let entries = entries_collected::<_, _, _, _, PRECISION>(alloc, model.symbol_table())?;
+    Ok(entries)
 }
 
 /// The decoder model with the rows of a model that can be walked through and has no two equal symbols. The
@@ -57,7 +57,7 @@ where
     ensures ok { IfOk result (λ d. StandApart M.Symbol.eq M.stands_for (decoder_model_rows d) (M.rows model)) }
     ensures refused { IfErr result (λ e. e ≡ ModelError.OutOfMemory) }
 {
-    match entries_of_distinct(alloc, model) {
+    match uncompared_entries_of_model(alloc, model) {
         Ok(entries) => Ok(decoder_over(entries)),
         Err(refused) => Err(refused),
     }

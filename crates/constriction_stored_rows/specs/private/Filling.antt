@@ -1,20 +1,21 @@
 -- How far the quantiles below 2 ^ precision are filled.
 use Rattle.std.specs.Prelude.{◌≡◌, ℕ, ◌+◌, ◌^◌, ◌<◌, Bool, List, All, map, sum, Option, Some, None, IfSome}
+use Rattle.std.specs.Iterator.{Yields}
 use Rattle.std.specs.List.{AllZip}
 use Rattle.std.specs.Option.{option_map}
 use Rattle.constriction_model.specs.Rows.{Row, symbols_of, entry_of}
 use Rattle.constriction_stored_rows.specs.Stored.{lefts_from}
 
 -- where the next row would begin, or 2 ^ precision if all quantiles are filled
-abbrev pub end_of : {Word : Type 0} → (Word → ℕ) → ℕ → Option Word → ℕ
-end_of whole precision (Some next) = whole next
-end_of whole precision None = 2 ^ precision
+abbrev pub filled_to : {Word : Type 0} → (Word → ℕ) → ℕ → Option Word → ℕ
+filled_to whole precision (Some next) = whole next
+filled_to whole precision None = 2 ^ precision
 
 -- a row of this weight that begins at `left` ends at `end`
 pub record IsRowEnd {Word : Type 0} (whole : Word → ℕ) (bits precision : ℕ) (left weight : Word) (end : Option Word) : Type 0 where
   pub positive : 0 < whole weight
   pub fits : whole weight < 2 ^ bits
-  pub is : end_of whole precision end ≡ whole left + whole weight
+  pub is : filled_to whole precision end ≡ whole left + whole weight
   pub below : IfSome end (λ next. whole next < 2 ^ precision)
 
 -- the cdf has the left cumulatives of these weights, and the next row would begin at `end`
@@ -23,8 +24,15 @@ pub record IsFilled {Word : Type 0} (whole : Word → ℕ) (bits precision : ℕ
   pub positive : All (λ w. 0 < w) (map whole weights)
   pub fit : All (λ w. w < 2 ^ bits) (map whole weights)
   pub lefts : map whole cdf ≡ lefts_from 0 (map whole weights)
-  pub is : end_of whole precision end ≡ sum (map whole weights)
+  pub is : filled_to whole precision end ≡ sum (map whole weights)
   pub below : IfSome end (λ next. whole next < 2 ^ precision)
+
+-- the iterator gave these weights so far, which fill the cdf, and leave `room` quantiles after the one at `left`
+pub record IsCdfBegun {S Word : Type 0} (steps : S → Option Word → S → Type 0) (it : S) (whole : Word → ℕ) (bits precision : ℕ)
+    (weights : List Word) (cdf : List Word) (s : S) (left : Word) (room : ℕ) : Type 0 where
+  pub given : Yields steps it weights s
+  pub filled : IsFilled whole bits precision weights cdf (Some left)
+  pub rest : whole left + room + 1 ≡ 2 ^ precision
 
 -- these entries hold these rows: the symbol and the left cumulative of each, in order
 abbrev pub HoldsRows : {Word Symbol : Type 0} → (Word → ℕ) → List (Word × Symbol) → List (Row Symbol) → Type 0

@@ -1,10 +1,10 @@
 -- How far symbols and weights were read, and rows stored.
-use Rattle.std.specs.Prelude.{◌≡◌, ℕ, ◌+◌, ◌^◌, ◌⊎◌, Bool, true, false, List, [], ◌∷◌, ◌++◌, length, map, Option, Some, None}
+use Rattle.std.specs.Prelude.{◌≡◌, ℕ, ◌⊎◌, Bool, true, false, List, [], ◌∷◌, ◌++◌, length, map, Option, Some, None}
 use Rattle.std.specs.Iterator.{Yields}
 use Rattle.std.specs.List.{list_any, IsDistinct}
 use Rattle.constriction_model.specs.Acceptance.{completed, AreAccepted}
 use Rattle.constriction_model.specs.Rows.{Row, rows_of, symbols_of}
-use Rattle.constriction_stored_rows.specs.private.Filling.{IsFilled}
+use Rattle.constriction_stored_rows.specs.private.Filling.{IsCdfBegun}
 use Rattle.constriction_stored_rows.specs.private.Given.{GaveBothGood, GaveBothBad}
 
 module _ {S Symbol Stored : Type 0} (steps : S → Option Symbol → S → Type 0) (eq : Symbol → Symbol → Bool)
@@ -32,13 +32,11 @@ module _ {S T Symbol W Stored : Type 0} (steps : S → Option Symbol → S → T
     pub symbols : List Symbol
     pub weights : List W
     pub cdf : List W
-    pub from_symbols : Yields steps it symbols u
-    pub from_weights : Yields wsteps jt weights v
+    pub given : Yields steps it symbols u
+    pub begun : IsCdfBegun wsteps jt whole bits precision weights cdf v left room
     pub as_many : length symbols ≡ length weights
     pub distinct : IsDistinct eq symbols
     pub held : holds stored (rows_of symbols (map whole weights))
-    pub filled : IsFilled whole bits precision weights cdf (Some left)
-    pub rest : whole left + room + 1 ≡ 2 ^ precision
 
   -- what both iterators gave is accepted, and its rows are stored
   abbrev pub IsReadWell : Bool → S → T → Stored → Type 0

@@ -1,8 +1,8 @@
-use Rattle.std.proofs.Common.{refl, vec_items}
+use Rattle.std.proofs.Common.{refl}
 use Rattle.constriction_model.specs.Acceptance.{AreAccepted, WasReadOf, completed}
 use Rattle.constriction_model.specs.Rows.{rows_of}
 use Rattle.constriction_stored_rows.specs.private.Filling.{HoldsRows}
-use Rattle.constriction_categorical.proofs.ReadEntries.{all-differ, all-stored, all-known, read-of_both}
+use Rattle.constriction_categorical.proofs.ReadEntries.{all-makes, read-of_both}
 use Rattle.constriction_categorical.proofs.non_contiguous.entries_compared.Goals as goal
 
 pub rows_read-requires-clause-none : goal.rows_read-requires-clause-none
@@ -25,41 +25,15 @@ pub rows_read-requires-clause-weights_end : goal.rows_read-requires-clause-weigh
 rows_read-requires-clause-weights_end g c =
     (c.requires.weights_end c.into_iter-weights.result c.into_iter-weights.ensures.into_iter_gives).1
 
-pub returns-clause-made : goal.returns-clause-made
-returns-clause-made g c =
-    all-known vec_items g.P.WholeNumber.whole g.P.WholeNumber.BITS g.row.PRECISION (completed g.row.PRECISION c.args.infer_last)
-    (WasReadOf g.S.IntoIterator.into_iter_gives g.S.IntoIter.Iterator.next_gives c.args.symbols)
-    (WasReadOf g.W.IntoIterator.into_iter_gives g.W.IntoIter.Iterator.next_gives c.args.weights) g.Symbol.PartialEq.eq c.rows_read.result
-    (read-of_both g.S.IntoIterator.into_iter_gives g.S.IntoIter.Iterator.next_gives c.args.symbols g.W.IntoIterator.into_iter_gives
-    g.W.IntoIter.Iterator.next_gives c.args.weights
-    (AreAccepted g.Symbol.PartialEq.eq g.P.WholeNumber.BITS g.row.PRECISION) (completed g.row.PRECISION c.args.infer_last)
-    g.P.WholeNumber.whole
-    (λ v ss ws. HoldsRows g.P.WholeNumber.whole v.items (rows_of ss ws))
-    c.into_iter-symbols.result c.into_iter-symbols.ensures.into_iter_gives
-    c.into_iter-weights.result c.into_iter-weights.ensures.into_iter_gives c.rows_read.result c.rows_read.ensures.ok c.rows_read.ensures.invalid)
-
-pub returns-clause-stored : goal.returns-clause-stored
-returns-clause-stored g c =
-    all-stored vec_items g.P.WholeNumber.whole g.P.WholeNumber.BITS g.row.PRECISION (completed g.row.PRECISION c.args.infer_last)
-    (WasReadOf g.S.IntoIterator.into_iter_gives g.S.IntoIter.Iterator.next_gives c.args.symbols)
-    (WasReadOf g.W.IntoIterator.into_iter_gives g.W.IntoIter.Iterator.next_gives c.args.weights) g.Symbol.PartialEq.eq c.rows_read.result
-    (read-of_both g.S.IntoIterator.into_iter_gives g.S.IntoIter.Iterator.next_gives c.args.symbols g.W.IntoIterator.into_iter_gives
-    g.W.IntoIter.Iterator.next_gives c.args.weights
-    (AreAccepted g.Symbol.PartialEq.eq g.P.WholeNumber.BITS g.row.PRECISION) (completed g.row.PRECISION c.args.infer_last)
-    g.P.WholeNumber.whole
-    (λ v ss ws. HoldsRows g.P.WholeNumber.whole v.items (rows_of ss ws))
-    c.into_iter-symbols.result c.into_iter-symbols.ensures.into_iter_gives
-    c.into_iter-weights.result c.into_iter-weights.ensures.into_iter_gives c.rows_read.result c.rows_read.ensures.ok c.rows_read.ensures.invalid)
-
-pub returns-clause-distinct : goal.returns-clause-distinct
-returns-clause-distinct g c =
-    all-differ vec_items g.P.WholeNumber.whole g.P.WholeNumber.BITS g.row.PRECISION (completed g.row.PRECISION c.args.infer_last)
-    (WasReadOf g.S.IntoIterator.into_iter_gives g.S.IntoIter.Iterator.next_gives c.args.symbols)
-    (WasReadOf g.W.IntoIterator.into_iter_gives g.W.IntoIter.Iterator.next_gives c.args.weights) g.Symbol.PartialEq.eq c.rows_read.result
-    (read-of_both g.S.IntoIterator.into_iter_gives g.S.IntoIter.Iterator.next_gives c.args.symbols g.W.IntoIterator.into_iter_gives
-    g.W.IntoIter.Iterator.next_gives c.args.weights
-    (AreAccepted g.Symbol.PartialEq.eq g.P.WholeNumber.BITS g.row.PRECISION) (completed g.row.PRECISION c.args.infer_last)
-    g.P.WholeNumber.whole
-    (λ v ss ws. HoldsRows g.P.WholeNumber.whole v.items (rows_of ss ws))
-    c.into_iter-symbols.result c.into_iter-symbols.ensures.into_iter_gives
-    c.into_iter-weights.result c.into_iter-weights.ensures.into_iter_gives c.rows_read.result c.rows_read.ensures.ok c.rows_read.ensures.invalid)
+pub returns : goal.returns
+returns g c =
+    all-makes g.Probability.WholeNumber.whole g.Probability.WholeNumber.BITS g.row.PRECISION c.args.infer_last
+    (WasReadOf g.Symbols.IntoIterator.into_iter_gives g.Symbols.IntoIter.Iterator.next_gives c.args.symbols)
+    (WasReadOf g.Weights.IntoIterator.into_iter_gives g.Weights.IntoIter.Iterator.next_gives c.args.weights)
+    g.Symbol.PartialEq.eq c.rows_read.result
+    (read-of_both g.Symbols.IntoIterator.into_iter_gives g.Symbols.IntoIter.Iterator.next_gives c.args.symbols
+    g.Weights.IntoIterator.into_iter_gives g.Weights.IntoIter.Iterator.next_gives c.args.weights
+    (AreAccepted g.Symbol.PartialEq.eq g.Probability.WholeNumber.BITS g.row.PRECISION) (completed g.row.PRECISION c.args.infer_last)
+    g.Probability.WholeNumber.whole (λ v ss ws. HoldsRows g.Probability.WholeNumber.whole v.items (rows_of ss ws))
+    c.into_iter-symbols.result c.into_iter-symbols.ensures.into_iter_gives c.into_iter-weights.result
+    c.into_iter-weights.ensures.into_iter_gives c.rows_read.result c.rows_read.ensures.ok c.rows_read.ensures.invalid)

@@ -7,4 +7,4 @@ abbrev pub invariant-rows : goal.invariant-rows
 invariant-rows g l =
     g.Walk.Iterator.can_next l.walk
     × IsFinite (g.Walk.Iterator.remaining l.walk)
-    × IsCollected g.Walk.Iterator.next_gives l.fn.walk g.Symbol.PartialEq.eq g.met.Symbol.Eq.laws.symm l.walk l.cdf.items
+    × IsCollected g.Walk.Iterator.next_gives l.fn.walk g.Symbol.PartialEq.eq g.met.Symbol.Eq.laws.symm l.walk l.entries.items

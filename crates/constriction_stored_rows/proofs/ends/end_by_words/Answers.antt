@@ -12,13 +12,13 @@ either i n false e = inr (ltb-false i n e, e)
 
 pub returns : goal.returns
 returns g c =
-    let whole = g.P.WholeNumber.whole in
-    let known = λ (x : g.row.P.Denot × g.row.Symbol.Denot). whole x.0 in
+    let whole = g.Word.WholeNumber.whole in
+    let known = λ (x : g.row.Word.Denot × g.row.Symbol.Denot). whole x.0 in
     let entries = c.args.entries.now in
     let i = c.args.index in
     let long : length (map known entries) ≡ length entries = length-map entries known in
     let many : 2 < length (map known entries) = omega (arith, long, c.if-entries-le2.false) in
-    let bits = g.P.WholeNumber.BITS in
+    let bits = g.Word.WholeNumber.BITS in
     let end = whole c.wrapping_minus.result in
     let x = c.index-end_words-next.result in
     let taken : (end + whole x) % 2 ^ bits ≡ whole c.index-entries-index.result.0 =

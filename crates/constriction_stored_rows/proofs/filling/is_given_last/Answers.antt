@@ -5,11 +5,11 @@ use Rattle.constriction_stored_rows.proofs.filling.is_given_last.Goals as goal
 
 pub returns-clause-filled : goal.returns-clause-filled
 returns-clause-filled g c = λ h.
-    let whole = g.P.WholeNumber.whole in
+    let whole = g.Word.WholeNumber.whole in
     let last = whole c.wrapping_minus-last.result in
-    let is : (last + 1) % 2 ^ g.P.WholeNumber.BITS ≡ whole c.args.weight =
-    subst (λ n. (last + n) % 2 ^ g.P.WholeNumber.BITS ≡ whole c.args.weight) c.requires.one c.wrapping_minus-last.ensures.difference in
-    let either = wrapped (2 ^ g.P.WholeNumber.BITS) last (whole c.args.weight) is c.wrapping_minus-last.ensures.range in
+    let is : (last + 1) % 2 ^ g.Word.WholeNumber.BITS ≡ whole c.args.weight =
+    subst (λ n. (last + n) % 2 ^ g.Word.WholeNumber.BITS ≡ whole c.args.weight) c.requires.one c.wrapping_minus-last.ensures.difference in
+    let either = wrapped (2 ^ g.Word.WholeNumber.BITS) last (whole c.args.weight) is c.wrapping_minus-last.ensures.range in
     let most : last ≤ whole c.args.room = c.is_at_most.ensures.0 h in
     elim either [
       | inl zero ↦
@@ -31,11 +31,11 @@ returns-clause-filled g c = λ h.
 
 pub returns-clause-bad : goal.returns-clause-bad
 returns-clause-bad g c = λ h.
-    let whole = g.P.WholeNumber.whole in
+    let whole = g.Word.WholeNumber.whole in
     let last = whole c.wrapping_minus-last.result in
-    let is : (last + 1) % 2 ^ g.P.WholeNumber.BITS ≡ whole c.args.weight =
-    subst (λ n. (last + n) % 2 ^ g.P.WholeNumber.BITS ≡ whole c.args.weight) c.requires.one c.wrapping_minus-last.ensures.difference in
-    let either = wrapped (2 ^ g.P.WholeNumber.BITS) last (whole c.args.weight) is c.wrapping_minus-last.ensures.range in
+    let is : (last + 1) % 2 ^ g.Word.WholeNumber.BITS ≡ whole c.args.weight =
+    subst (λ n. (last + n) % 2 ^ g.Word.WholeNumber.BITS ≡ whole c.args.weight) c.requires.one c.wrapping_minus-last.ensures.difference in
+    let either = wrapped (2 ^ g.Word.WholeNumber.BITS) last (whole c.args.weight) is c.wrapping_minus-last.ensures.range in
     elim (cases_lt (whole c.args.room) last) [
       | inl much ↦ elim either [ inl zero ↦ inl zero.0 | inr more ↦ inr (inl (omega (arith, much, more.0))) ]
       | inr most ↦

@@ -5,21 +5,21 @@ use Rattle.constriction_stored_rows.proofs.filling.leaves_none.Goals as goal
 
 pub returns-clause-none : goal.returns-clause-none
 returns-clause-none g c = λ h.
-    let whole = g.P.WholeNumber.whole in
+    let whole = g.Word.WholeNumber.whole in
     let last = whole c.wrapping_minus-last.result in
-    let is : (last + 1) % 2 ^ g.P.WholeNumber.BITS ≡ whole c.args.weight =
-    subst (λ n. (last + n) % 2 ^ g.P.WholeNumber.BITS ≡ whole c.args.weight) c.requires.one c.wrapping_minus-last.ensures.difference in
-    let either = wrapped (2 ^ g.P.WholeNumber.BITS) last (whole c.args.weight) is c.wrapping_minus-last.ensures.range in
+    let is : (last + 1) % 2 ^ g.Word.WholeNumber.BITS ≡ whole c.args.weight =
+    subst (λ n. (last + n) % 2 ^ g.Word.WholeNumber.BITS ≡ whole c.args.weight) c.requires.one c.wrapping_minus-last.ensures.difference in
+    let either = wrapped (2 ^ g.Word.WholeNumber.BITS) last (whole c.args.weight) is c.wrapping_minus-last.ensures.range in
     let most : whole c.args.room ≤ last = c.is_at_most.ensures.0 h in
     elim either [ inl zero ↦ inl zero.0 | inr more ↦ inr (omega (arith, most, more.0)) ]
 
 pub returns-clause-some : goal.returns-clause-some
 returns-clause-some g c = λ h.
-    let whole = g.P.WholeNumber.whole in
+    let whole = g.Word.WholeNumber.whole in
     let last = whole c.wrapping_minus-last.result in
-    let is : (last + 1) % 2 ^ g.P.WholeNumber.BITS ≡ whole c.args.weight =
-    subst (λ n. (last + n) % 2 ^ g.P.WholeNumber.BITS ≡ whole c.args.weight) c.requires.one c.wrapping_minus-last.ensures.difference in
-    let either = wrapped (2 ^ g.P.WholeNumber.BITS) last (whole c.args.weight) is c.wrapping_minus-last.ensures.range in
+    let is : (last + 1) % 2 ^ g.Word.WholeNumber.BITS ≡ whole c.args.weight =
+    subst (λ n. (last + n) % 2 ^ g.Word.WholeNumber.BITS ≡ whole c.args.weight) c.requires.one c.wrapping_minus-last.ensures.difference in
+    let either = wrapped (2 ^ g.Word.WholeNumber.BITS) last (whole c.args.weight) is c.wrapping_minus-last.ensures.range in
     elim (cases_lt last (whole c.args.room)) [
       | inl less ↦
           elim either [

@@ -1,7 +1,7 @@
-use Rattle.std.proofs.Common.{◌≡◌, ◌^◌, Err, true, refl, rules}
+use Rattle.std.proofs.Common.{◌≡◌, ◌^◌, [], Err, true, refl, rules}
 use Rattle.constriction_model.specs.declared.error.ModelError.TheVariants.{InvalidTable}
-use Rattle.constriction_stored_rows.proofs.FillLemmas.{one_is, one_fits, room_below, end_below}
-use Rattle.constriction_stored_rows.proofs.ReadLemmas.{read-none, read-more, bad-row}
+use Rattle.constriction_stored_rows.proofs.FillLemmas.{one_is, one_fits, room_below, end_below, begun-none}
+use Rattle.constriction_stored_rows.proofs.ReadLemmas.{none-distinct, read-more, bad-row}
 use Rattle.constriction_stored_rows.proofs.reading.take_all.Goals as goal
 
 pub rows-init : goal.rows-init
@@ -10,10 +10,19 @@ rows-init g c = (
   c.requires.weights_end,
   c.requires.symbols_go,
   c.requires.symbols_end,
-  read-none g.Symbols.Iterator.next_gives _ g.Weights.Iterator.next_gives _ g.Stored.TakesRows.symbol_eq
-      g.met.Stored.TakesRows.symmetry_law g.Stored.TakesRows.holds g.P.WholeNumber.whole g.P.WholeNumber.BITS g.row.PRECISION
-      c.args.stored.now c.least-left.result (g.P.WholeNumber.whole c.greatest_of_bits-room.result) c.requires.none c.least-left.ensures
-      c.greatest_of_bits-room.ensures.value,
+  record {
+    symbols = [];
+    weights = [];
+    cdf = [];
+    given = refl;
+    begun =
+        begun-none g.Weights.Iterator.next_gives _ g.Word.WholeNumber.whole g.Word.WholeNumber.BITS g.row.PRECISION [] c.least-left.result
+        (g.Word.WholeNumber.whole c.greatest_of_bits-room.result)
+        refl c.least-left.ensures c.greatest_of_bits-room.ensures.value;
+    as_many = refl;
+    distinct = none-distinct g.Stored.TakesRows.symbol_eq;
+    held = c.requires.none;
+  },
 )
 
 pub returns-then-leaves_none-clause-ok : goal.returns-then-leaves_none-clause-ok
@@ -27,10 +36,8 @@ returns-then-leaves_none-clause-invalid g c = λ e.
 pub returns-in_err-take_next-clause-invalid : goal.returns-in_err-take_next-clause-invalid
 returns-in_err-take_next-clause-invalid g c = λ h.
     let e : c.take_next.result ≡ Err InvalidTable = search rules in
-    bad-row g.Symbols.Iterator.next_gives _ g.Weights.Iterator.next_gives _ g.Stored.TakesRows.symbol_eq
-    g.met.Stored.TakesRows.symmetry_law g.Stored.TakesRows.holds g.P.WholeNumber.whole g.P.WholeNumber.BITS g.row.PRECISION
-    c.rows.stored c.rows.symbols c.rows.weights c.rows.left (g.P.WholeNumber.whole c.rows.room) c.rows.invariant.4 c.args.infer_last _ _
-    c.in-Some.weight c.in-Some.ensures.steps (c.take_next.ensures.refused e)
+    bad-row g.met.Stored.TakesRows.symmetry_law c.rows.invariant.4 c.args.infer_last _ _ c.in-Some.weight c.in-Some.ensures.steps
+    (c.take_next.ensures.refused e)
 
 pub rows-preserved : goal.rows-preserved
 rows-preserved g c =
@@ -40,11 +47,8 @@ rows-preserved g c =
       weights.1,
       symbols.0,
       symbols.1,
-      read-more g.Symbols.Iterator.next_gives _ g.Weights.Iterator.next_gives _ g.Stored.TakesRows.symbol_eq
-          g.met.Stored.TakesRows.symmetry_law g.Stored.TakesRows.holds g.P.WholeNumber.whole g.P.WholeNumber.BITS g.row.PRECISION
-          c.rows.stored c.rows.symbols c.rows.weights c.rows.left (g.P.WholeNumber.whole c.rows.room) c.rows.invariant.4
-          c.take_next.new.stored c.take_next.new.symbols c.next.new.self c.in-Some.weight c.plus-left.result
-          (g.P.WholeNumber.whole c.minus-room.result) c.in-Some.ensures.steps (c.in_ok-take_next.ensures.took (refl {a = true}))
+      read-more g.met.Stored.TakesRows.symmetry_law c.rows.invariant.4 c.take_next.new.stored c.take_next.new.symbols c.next.new.self c.in-Some.weight c.plus-left.result
+          (g.Word.WholeNumber.whole c.minus-room.result) c.in-Some.ensures.steps (c.in_ok-take_next.ensures.took (refl {a = true}))
           c.greatest_of_bits-room.ensures.within (c.leaves_none.ensures.some c.if-leaves_none.false) c.plus-left.ensures
           c.minus-room.ensures,
     )
@@ -70,24 +74,24 @@ pub next-requires : goal.next-requires
 next-requires g c = c.rows.invariant.0
 
 pub leaves_none-requires-clause-one : goal.leaves_none-requires-clause-one
-leaves_none-requires-clause-one g c = one_is (g.P.WholeNumber.whole c.greatest_of_bits-one.result) c.greatest_of_bits-one.ensures.value
+leaves_none-requires-clause-one g c = one_is (g.Word.WholeNumber.whole c.greatest_of_bits-one.result) c.greatest_of_bits-one.ensures.value
 
 pub leaves_none-requires-clause-range : goal.leaves_none-requires-clause-range
 leaves_none-requires-clause-range g c =
-    room_below (g.P.WholeNumber.whole c.rows.left) (g.P.WholeNumber.whole c.rows.room) (2 ^ g.row.PRECISION) (2 ^ g.P.WholeNumber.BITS)
-    c.rows.invariant.4.rest c.greatest_of_bits-room.ensures.within
+    room_below (g.Word.WholeNumber.whole c.rows.left) (g.Word.WholeNumber.whole c.rows.room) (2 ^ g.row.PRECISION) (2 ^ g.Word.WholeNumber.BITS)
+    c.rows.invariant.4.begun.rest c.greatest_of_bits-room.ensures.within
 
 pub plus-left-requires : goal.plus-left-requires
 plus-left-requires g c =
-    end_below (g.P.WholeNumber.whole c.rows.left) (g.P.WholeNumber.whole c.in-Some.weight) (g.P.WholeNumber.whole c.rows.room)
-    (2 ^ g.row.PRECISION) (2 ^ g.P.WholeNumber.BITS)
-    c.rows.invariant.4.rest c.greatest_of_bits-room.ensures.within (c.leaves_none.ensures.some c.if-leaves_none.false).1
+    end_below (g.Word.WholeNumber.whole c.rows.left) (g.Word.WholeNumber.whole c.in-Some.weight) (g.Word.WholeNumber.whole c.rows.room)
+    (2 ^ g.row.PRECISION) (2 ^ g.Word.WholeNumber.BITS)
+    c.rows.invariant.4.begun.rest c.greatest_of_bits-room.ensures.within (c.leaves_none.ensures.some c.if-leaves_none.false).1
 
 pub minus-room-requires : goal.minus-room-requires
 minus-room-requires g c = (c.leaves_none.ensures.some c.if-leaves_none.false).1
 
 pub take_given_last-requires-clause-one : goal.take_given_last-requires-clause-one
-take_given_last-requires-clause-one g c = one_is (g.P.WholeNumber.whole c.greatest_of_bits-one.result) c.greatest_of_bits-one.ensures.value
+take_given_last-requires-clause-one g c = one_is (g.Word.WholeNumber.whole c.greatest_of_bits-one.result) c.greatest_of_bits-one.ensures.value
 
 pub take_given_last-requires-clause-none_left : goal.take_given_last-requires-clause-none_left
 take_given_last-requires-clause-none_left g c = c.leaves_none.ensures.none c.if-leaves_none.true
@@ -108,12 +112,12 @@ pub take_next-requires-clause-goes : goal.take_next-requires-clause-goes
 take_next-requires-clause-goes g c = c.rows.invariant.2
 
 pub take_inferred_last-requires-clause-one : goal.take_inferred_last-requires-clause-one
-take_inferred_last-requires-clause-one g c = one_is (g.P.WholeNumber.whole c.greatest_of_bits-one.result) c.greatest_of_bits-one.ensures.value
+take_inferred_last-requires-clause-one g c = one_is (g.Word.WholeNumber.whole c.greatest_of_bits-one.result) c.greatest_of_bits-one.ensures.value
 
 pub take_inferred_last-requires-clause-range : goal.take_inferred_last-requires-clause-range
 take_inferred_last-requires-clause-range g c =
-    room_below (g.P.WholeNumber.whole c.rows.left) (g.P.WholeNumber.whole c.rows.room) (2 ^ g.row.PRECISION) (2 ^ g.P.WholeNumber.BITS)
-    c.rows.invariant.4.rest c.greatest_of_bits-room.ensures.within
+    room_below (g.Word.WholeNumber.whole c.rows.left) (g.Word.WholeNumber.whole c.rows.room) (2 ^ g.row.PRECISION) (2 ^ g.Word.WholeNumber.BITS)
+    c.rows.invariant.4.begun.rest c.greatest_of_bits-room.ensures.within
 
 pub take_inferred_last-requires-clause-symbols_go : goal.take_inferred_last-requires-clause-symbols_go
 take_inferred_last-requires-clause-symbols_go g c = c.rows.invariant.2

@@ -10,5 +10,5 @@ invariant-rows g l =
     × g.Symbols.Iterator.can_next l.symbols
     × IsFinite (g.Symbols.Iterator.remaining l.symbols)
     × IsRead g.Symbols.Iterator.next_gives g.Weights.Iterator.next_gives g.Stored.TakesRows.symbol_eq g.Stored.TakesRows.holds
-    g.P.WholeNumber.whole g.P.WholeNumber.BITS g.row.PRECISION l.initial.symbols l.initial.weights
-    l.stored l.symbols l.weights l.left (g.P.WholeNumber.whole l.room)
+    g.Word.WholeNumber.whole g.Word.WholeNumber.BITS g.row.PRECISION l.initial.symbols l.initial.weights
+    l.stored l.symbols l.weights l.left (g.Word.WholeNumber.whole l.room)

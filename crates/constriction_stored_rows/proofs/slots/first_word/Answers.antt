@@ -20,11 +20,11 @@ overflow_add-result-2 g c =
 pub returns-then-width-eq1 : goal.returns-then-width-eq1
 returns-then-width-eq1 g c =
     let one : slot_width g.row.PRECISION g.row.SLOT_BITS ≡ 1 = sym c.width_of_slots-width.ensures ∙ c.if-width-eq1.true in
-    rw (one, c.to_number-left.ensures) (first-alone (g.W.WholeNumber.whole c.args.left))
+    rw (one, c.to_number-left.ensures) (first-alone (g.Word.WholeNumber.whole c.args.left))
 
 pub returns : goal.returns
 returns g c =
     let width : ℕ = slot_width g.row.PRECISION g.row.SLOT_BITS in
     let some : 0 < width = pow_pos (g.row.PRECISION - g.row.SLOT_BITS) in
     let two : words_a_slot width ≡ 2 = omega (arith, c.width_of_slots-width.ensures, c.if-width-eq1.false) in
-    rw (c.width_of_slots-width.ensures, c.to_number-left.ensures) (first-word width (g.W.WholeNumber.whole c.args.left) some two)
+    rw (c.width_of_slots-width.ensures, c.to_number-left.ensures) (first-word width (g.Word.WholeNumber.whole c.args.left) some two)

@@ -5,7 +5,7 @@ use Rattle.constriction_stored_rows.proofs.slots.slot_of.Goals as goal
 
 pub returns : goal.returns
 returns g c =
-    let q = g.W.WholeNumber.whole c.args.quantile in
+    let q = g.Word.WholeNumber.whole c.args.quantile in
     let is : c.to_number.result / c.width_of_slots.result ≡ q / slot_width g.row.PRECISION g.row.SLOT_BITS =
     rw (c.to_number.ensures, c.width_of_slots.ensures) refl in
     record { is = is; below = rw is (slot-below g.row.PRECISION g.row.SLOT_BITS q c.requires.below) }

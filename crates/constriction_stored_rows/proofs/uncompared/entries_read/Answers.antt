@@ -45,10 +45,10 @@ returns-in_err-read g c = record {
   ok = search rules;
   invalid = λ h.
       let e : c.rows_read.result ≡ Err InvalidTable = search rules in
-      bad-both g.S.IntoIterator.into_iter_gives g.S.IntoIter.Iterator.next_gives c.args.symbols g.W.IntoIterator.into_iter_gives
-      g.W.IntoIter.Iterator.next_gives c.args.weights
-      (λ ss ws. AreAccepted (λ _ _. false) g.P.WholeNumber.BITS g.row.PRECISION ss
-      (completed g.row.PRECISION c.args.infer_last (map g.P.WholeNumber.whole ws))) (
+      bad-both g.Symbols.IntoIterator.into_iter_gives g.Symbols.IntoIter.Iterator.next_gives c.args.symbols g.Weights.IntoIterator.into_iter_gives
+      g.Weights.IntoIter.Iterator.next_gives c.args.weights
+      (λ ss ws. AreAccepted (λ _ _. false) g.Word.WholeNumber.BITS g.row.PRECISION ss
+      (completed g.row.PRECISION c.args.infer_last (map g.Word.WholeNumber.whole ws))) (
         c.into_iter-symbols.result,
         c.into_iter-symbols.ensures.into_iter_gives,
         c.into_iter-weights.result,

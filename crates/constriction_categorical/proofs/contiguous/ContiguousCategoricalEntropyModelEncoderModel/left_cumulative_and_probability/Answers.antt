@@ -18,13 +18,13 @@ returns-then-symbol-cdf g c =
     let same : map whole words ≡ table = rw c.words-cdf.ensures refl in
     let long : length table ≡ length words = rw (← same) (length-map words whole) in
     let found = stored-entry g.Probability.WholeNumber.BITS g.row.PRECISION (lefts_in table) m.stored.stored c.args.symbol.now
-    (whole c.row_at.result.0) (whole (base c.row_at.result.1))
+    (whole c.cdf_row_at.result.0) (whole (base c.cdf_row_at.result.1))
     (omega (arith, c.if-symbol-cdf.true, cdf-long _ _ table m.stored))
-    (rw (← same) c.row_at.ensures.left)
-    (rw (← same) c.row_at.ensures.weight) in
+    (rw (← same) c.cdf_row_at.ensures.left)
+    (rw (← same) c.cdf_row_at.ensures.weight) in
     record {
       entry = found;
-      within = words-within g.row.PRECISION nat_eq _ c.args.symbol.now whole base (Some c.row_at.result) found
+      within = words-within g.row.PRECISION nat_eq _ c.args.symbol.now whole base (Some c.cdf_row_at.result) found
           (stored-within _ _ _ m.stored.stored);
     }
 

@@ -4,14 +4,14 @@ use Rattle.constriction_stored_rows.specs.lemmas.SymbolRows.{paired-tiles}
 use Rattle.constriction_categorical.proofs.RowAnswers.{all-searched, row-answered}
 use Rattle.constriction_categorical.proofs.non_contiguous.NonContiguousCategoricalDecoderModelDecoderModel.quantile_function.Goals as goal
 
-pub cloned_row_at-requires-clause-stored : goal.cloned_row_at-requires-clause-stored
-cloned_row_at-requires-clause-stored g c = rw c.cdf_entries-entries.ensures c.args.self.now.stored
+pub cloned_row_by_words-requires-clause-stored : goal.cloned_row_by_words-requires-clause-stored
+cloned_row_by_words-requires-clause-stored g c = rw c.cdf_entries-entries.ensures c.args.self.now.stored
 
-pub cloned_row_at-requires-clause-end_words : goal.cloned_row_at-requires-clause-end_words
-cloned_row_at-requires-clause-end_words g c = rw c.cdf_entries-entries.ensures c.args.self.now.aided
+pub cloned_row_by_words-requires-clause-end_words : goal.cloned_row_by_words-requires-clause-end_words
+cloned_row_by_words-requires-clause-end_words g c = rw c.cdf_entries-entries.ensures c.args.self.now.aided
 
-pub cloned_row_at-requires-clause-in_bounds : goal.cloned_row_at-requires-clause-in_bounds
-cloned_row_at-requires-clause-in_bounds g c =
+pub cloned_row_by_words-requires-clause-in_bounds : goal.cloned_row_by_words-requires-clause-in_bounds
+cloned_row_by_words-requires-clause-in_bounds g c =
     let whole = g.Probability.WholeNumber.whole in
     let entries = g.Cdf.SafeBuf.words_of c.args.self.now.cdf in
     let found = all-searched _ _ g.row.PRECISION _ _ _ _ _ (paired-tiles whole _ _ _ c.args.self.now.stored) c.requires.in_range
@@ -28,13 +28,13 @@ returns-clause-row g c =
     let whole = g.Probability.WholeNumber.whole in
     let found = all-searched _ _ g.row.PRECISION _ _ _ _ _ (paired-tiles whole _ _ _ c.args.self.now.stored) c.requires.in_range
     c.quantile_probe.ensures c.row_in_probe-index.ensures in
-    (row-answered g.Symbol.Clone.is_clone _ whole g.Probability.WholeNumber.base _ _ _ found c.cloned_row_at.result
-    (rw c.cdf_entries-entries.ensures at c.cloned_row_at.ensures.row) (rw c.cdf_entries-entries.ensures at c.cloned_row_at.ensures.refused)).0
+    (row-answered g.Symbol.Clone.is_clone _ whole g.Probability.WholeNumber.base _ _ _ found c.cloned_row_by_words.result
+    (rw c.cdf_entries-entries.ensures at c.cloned_row_by_words.ensures.row) (rw c.cdf_entries-entries.ensures at c.cloned_row_by_words.ensures.refused)).0
 
 pub returns-clause-refused : goal.returns-clause-refused
 returns-clause-refused g c =
     let whole = g.Probability.WholeNumber.whole in
     let found = all-searched _ _ g.row.PRECISION _ _ _ _ _ (paired-tiles whole _ _ _ c.args.self.now.stored) c.requires.in_range
     c.quantile_probe.ensures c.row_in_probe-index.ensures in
-    (row-answered g.Symbol.Clone.is_clone _ whole g.Probability.WholeNumber.base _ _ _ found c.cloned_row_at.result
-    (rw c.cdf_entries-entries.ensures at c.cloned_row_at.ensures.row) (rw c.cdf_entries-entries.ensures at c.cloned_row_at.ensures.refused)).1
+    (row-answered g.Symbol.Clone.is_clone _ whole g.Probability.WholeNumber.base _ _ _ found c.cloned_row_by_words.result
+    (rw c.cdf_entries-entries.ensures at c.cloned_row_by_words.ensures.row) (rw c.cdf_entries-entries.ensures at c.cloned_row_by_words.ensures.refused)).1

@@ -7,7 +7,7 @@ use Rattle.constriction_categorical.proofs.non_contiguous_table.NonContiguousSym
 pub returns-then-self : goal.returns-then-self
 returns-then-self g c =
     let t = c.args.self.now in
-    let rows = rows_paired g.Probability.WholeNumber.whole g.row.PRECISION t.cdf.now in
+    let rows = rows_paired g.Probability.WholeNumber.whole g.row.PRECISION t.entries.now in
     record { steps = none-between rows t.from t.to c.if-self.true; goes = record { on = λ _. tt; keeps = tt; rests = λ _. tt } }
 
 pub returns-in-Ok : goal.returns-in-Ok
@@ -16,7 +16,7 @@ returns-in-Ok g c =
     let some : t.from < t.to = omega (arith, t.in_order, c.if-self.false) in
     let whole = g.Probability.WholeNumber.whole in
     let bits = g.Probability.WholeNumber.BITS in
-    let step = paired-last whole bits g.row.PRECISION t.cdf.now t.stored
+    let step = paired-last whole bits g.row.PRECISION t.entries.now t.stored
     t.from t.to _ _ c.index-self-index.result some t.in_bounds c.index-self-index.is c.paired_row_at-left.ensures.left
     c.paired_row_at-left.ensures.weight in
     record {
@@ -30,7 +30,7 @@ returns-in-Err g c =
     let some : t.from < t.to = omega (arith, t.in_order, c.if-self.false) in
     let whole = g.Probability.WholeNumber.whole in
     let bits = g.Probability.WholeNumber.BITS in
-    let step = paired-last whole bits g.row.PRECISION t.cdf.now t.stored
+    let step = paired-last whole bits g.row.PRECISION t.entries.now t.stored
     t.from t.to _ _ c.index-self-index.result some t.in_bounds c.index-self-index.is c.paired_row_at-left.ensures.left
     c.paired_row_at-left.ensures.weight in
     record {

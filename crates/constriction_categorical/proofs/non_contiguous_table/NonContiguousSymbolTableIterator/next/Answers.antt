@@ -9,9 +9,9 @@ returns-in-Ok g c =
     let some : t.from < t.to = c.in-Some.ensures.some.0 in
     let whole = g.Probability.WholeNumber.whole in
     let bits = g.Probability.WholeNumber.BITS in
-    let step = paired-first whole bits g.row.PRECISION t.cdf.now t.stored
-    t.from t.to _ _ c.index-self-index.result some t.in_bounds c.index-self-index.is c.row_up_to-left.ensures.left
-    c.row_up_to-left.ensures.weight in
+    let step = paired-first whole bits g.row.PRECISION t.entries.now t.stored
+    t.from t.to _ _ c.index-self-index.result some t.in_bounds c.index-self-index.is c.paired_row_ending_at-left.ensures.left
+    c.paired_row_ending_at-left.ensures.weight in
     record {
       steps = (c.index-self-index.result.1, rw (← c.index-self-index.is) at c.in-Ok.ensures.cases, step);
       goes = record { on = λ _. (tt, tt, fewer-first _ _ _ step); keeps = tt; rests = λ _. tt };
@@ -23,9 +23,9 @@ returns-in-Err g c =
     let some : t.from < t.to = c.in-Some.ensures.some.0 in
     let whole = g.Probability.WholeNumber.whole in
     let bits = g.Probability.WholeNumber.BITS in
-    let step = paired-first whole bits g.row.PRECISION t.cdf.now t.stored
-    t.from t.to _ _ c.index-self-index.result some t.in_bounds c.index-self-index.is c.row_up_to-left.ensures.left
-    c.row_up_to-left.ensures.weight in
+    let step = paired-first whole bits g.row.PRECISION t.entries.now t.stored
+    t.from t.to _ _ c.index-self-index.result some t.in_bounds c.index-self-index.is c.paired_row_ending_at-left.ensures.left
+    c.paired_row_ending_at-left.ensures.weight in
     record {
       steps = (_, rw (← c.index-self-index.is) at c.in-Err.ensures.cases, step);
       goes = record { on = λ _. (tt, tt, fewer-first _ _ _ step); keeps = tt; rests = λ _. tt };

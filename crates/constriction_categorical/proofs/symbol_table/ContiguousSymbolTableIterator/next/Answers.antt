@@ -19,7 +19,7 @@ returns g c =
     let some : t.from < t.to = omega (arith, t.in_order, c.if-index-self.false) in
     let within : t.to < length table = omega (arith, t.in_bounds, length-map t.cdf.now g.Probability.WholeNumber.whole) in
     let step = first-stored g.Probability.WholeNumber.BITS g.row.PRECISION table t.stored t.from t.to _ _ some within
-    c.row_at-left.ensures.left c.row_at-left.ensures.weight in
+    c.cdf_row_at-left.ensures.left c.cdf_row_at-left.ensures.weight in
     record {
       steps = (_, refl, step);
       goes = record { on = λ _. (tt, tt, fewer-first _ _ _ step); keeps = tt; rests = λ _. tt };

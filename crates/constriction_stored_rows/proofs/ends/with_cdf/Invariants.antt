@@ -1,6 +1,6 @@
 -- The left cumulatives of the rows so far follow the words.
 use Rattle.std.specs.Prelude.{◌≡◌, ◌++◌, map, take}
-use Rattle.constriction_stored_rows.proofs.ends.with_ends.Given as goal
+use Rattle.constriction_stored_rows.proofs.ends.with_cdf.Given as goal
 
 abbrev pub invariant-entries : goal.invariant-entries
 invariant-entries g l =

@@ -3,11 +3,11 @@ use Rattle.std.proofs.lemmas.List.{length-map}
 use Rattle.constriction_stored_rows.specs.Stored.{lefts_in, weights_of}
 use Rattle.constriction_stored_rows.specs.lemmas.Stored.{read-whole}
 use Rattle.constriction_stored_rows.proofs.CdfLemmas.{cdf-weight, cdf-row}
-use Rattle.constriction_stored_rows.proofs.stored.row_at.Goals as goal
+use Rattle.constriction_stored_rows.proofs.stored.cdf_row_at.Goals as goal
 
 pub to_weight-requires : goal.to_weight-requires
 to_weight-requires g c =
-    let whole = g.P.WholeNumber.whole in
+    let whole = g.Word.WholeNumber.whole in
     let words = c.args.cdf.now in
     let cdf = map whole words in
     let long : c.args.index + 1 < length cdf = omega (arith, c.requires.in_bounds, length-map words whole) in
@@ -21,7 +21,7 @@ to_weight-requires g c =
 
 pub returns-clause-weight : goal.returns-clause-weight
 returns-clause-weight g c =
-    let whole = g.P.WholeNumber.whole in
+    let whole = g.Word.WholeNumber.whole in
     let words = c.args.cdf.now in
     let long : c.args.index + 1 < length (map whole words) = omega (arith, c.requires.in_bounds, length-map words whole) in
     rw c.to_weight.ensures

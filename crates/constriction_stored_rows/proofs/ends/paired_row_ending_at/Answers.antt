@@ -4,15 +4,15 @@ use Rattle.constriction_stored_rows.specs.Stored.{weights_of}
 use Rattle.constriction_stored_rows.specs.lemmas.Stored.{read-whole}
 use Rattle.constriction_stored_rows.proofs.EndLemmas.{row-weight}
 use Rattle.constriction_stored_rows.proofs.PairedLemmas.{paired-row}
-use Rattle.constriction_stored_rows.proofs.ends.row_up_to.Goals as goal
+use Rattle.constriction_stored_rows.proofs.ends.paired_row_ending_at.Goals as goal
 
 pub to_weight-requires : goal.to_weight-requires
 to_weight-requires g c =
-    let known = λ (x : g.row.P.Denot × g.row.Symbol.Denot). g.P.WholeNumber.whole x.0 in
+    let known = λ (x : g.row.Word.Denot × g.row.Symbol.Denot). g.Word.WholeNumber.whole x.0 in
     let entries = c.args.entries.now in
-    let row = paired-row g.P.WholeNumber.whole g.P.WholeNumber.BITS g.row.PRECISION entries c.requires.stored c.args.index
+    let row = paired-row g.Word.WholeNumber.whole g.Word.WholeNumber.BITS g.row.PRECISION entries c.requires.stored c.args.index
     c.requires.in_bounds in
-    let weight : g.P.WholeNumber.whole c.wrapping_minus.result ≡ get_or (weights_of g.row.PRECISION (map known entries)) c.args.index 0 =
+    let weight : g.Word.WholeNumber.whole c.wrapping_minus.result ≡ get_or (weights_of g.row.PRECISION (map known entries)) c.args.index 0 =
     row-weight _ g.row.PRECISION (map known entries) c.requires.stored c.requires.fits c.args.index _ _ _
     (omega (arith, c.requires.in_bounds, length-map entries known))
     (read-whole known entries c.args.index c.index-entries-index.result c.requires.in_bounds c.index-entries-index.is
@@ -22,7 +22,7 @@ to_weight-requires g c =
 
 pub returns-clause-weight : goal.returns-clause-weight
 returns-clause-weight g c =
-    let known = λ (x : g.row.P.Denot × g.row.Symbol.Denot). g.P.WholeNumber.whole x.0 in
+    let known = λ (x : g.row.Word.Denot × g.row.Symbol.Denot). g.Word.WholeNumber.whole x.0 in
     let entries = c.args.entries.now in
     rw c.to_weight.ensures
     (row-weight _ g.row.PRECISION (map known entries) c.requires.stored c.requires.fits c.args.index _ _ _
