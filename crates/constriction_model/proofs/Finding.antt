@@ -6,12 +6,6 @@ use Rattle.std.proofs.lemmas.List.Sums.{sum_by-cons}
 use Rattle.constriction_model.specs.Rows.{Row, RowsTile, IsRowOf, rows_from}
 use Rattle.constriction_model.specs.Scanning.{holds}
 
-none_is_some : {A : Type 0} (x : A) → None ≡ Some x → ⊥
-none_is_some x e = cc
-
-some_inj : {A : Type 0} (x y : A) → Some x ≡ Some y → x ≡ y
-some_inj x y e = cc
-
 -- no row begins before the first
 begins_after : {S : Type 0} (left : ℕ) (symbols : List S) (weights : List ℕ) (r : Row S) (k : ℕ)
     → k < length (rows_from left symbols weights)
@@ -85,13 +79,13 @@ further_on q x xs r is = record { among = (suc is.among.0, omega (arith, is.amon
 
 here_or_further : {S C : Type 0} (b : Bool) (x r : Row S) (rest : Option (Row S)) → cond b (Some x) rest ≡ Some r
     → (b ≡ true → x ≡ r → C) → (rest ≡ Some r → C) → C
-here_or_further true x r rest e here further = here refl (some_inj x r e)
-here_or_further false x r rest e here further = further e
+here_or_further {S = S} true x r rest e here further = let is : ◌≡◌ {A = Option (Row S)} (Some x) (Some r) = e in here refl (cc)
+here_or_further {S = S} false x r rest e here further = further e
 
 -- the row that is found is one of the rows, and holds the quantile
 found_in : {S : Type 0} (q : ℕ) (rows : List (Row S)) (r : Row S) → find (holds q) rows ≡ Some r → IsRowOf rows q r
-found_in q [] r e = absurd (none_is_some r e)
-found_in q (x ∷ xs) r e =
+found_in {S = S} q [] r e = let is : ◌≡◌ {A = Option (Row S)} None (Some r) = e in absurd (cc)
+found_in {S = S} q (x ∷ xs) r e =
     here_or_further (holds q x) x r (find (holds q) xs) e (λ t same. at_first q x xs r t same)
     (λ later. further_on q x xs r (found_in q xs r later))
 

@@ -9,20 +9,17 @@ use Rattle.std.proofs.lemmas.List.Sums.{sum_by-cons}
 use Rattle.constriction_model.specs.Model.{LiesWithin, entry_in, row_of}
 use Rattle.constriction_model.specs.Rows.{Row, rows_from, rows_of, RowsTile, IsRowOf, entry_of}
 
-none-is-some : {X : Type 0} (x : X) → None ≡ Some x → ⊥
-none-is-some x e = cc
-
-some-inj : {X : Type 0} (x y : X) → Some x ≡ Some y → x ≡ y
-some-inj x y e = cc
-
 -- what a test finds is an element that passes it
 found : {X : Type 0} (p : X → Bool) (xs : List X) (x : X) → find p xs ≡ Some x → Contains xs x × (p x ≡ true)
-found p [] x e = absurd (none-is-some x e)
+found {X = X} p [] x e = let is : ◌≡◌ {A = Option X} None (Some x) = e in absurd (cc)
 found {X = X} p (y ∷ ys) x e = go (p y) refl (λ h. found p ys x h)
   where
     go : (b : Bool) → p y ≡ b → (find p ys ≡ Some x → Contains ys x × (p x ≡ true))
         → Contains (y ∷ ys) x × (p x ≡ true)
-    go true t later = let same : y ≡ x = some-inj y x (rw t at e) in ((0, omega arith, same), ap p (sym same) ∙ t)
+    go true t later =
+        let is : ◌≡◌ {A = Option X} (Some y) (Some x) = rw t at e in
+        let same : y ≡ x = cc in
+        ((0, omega arith, same), ap p (sym same) ∙ t)
     go false t later = let rest = later (rw t at e) in ((suc rest.0.0, omega arith, rest.0.2), rest.1)
 
 -- an element of the reversed list is an element of the list
@@ -47,10 +44,11 @@ pub entry-row : {Symbol : Type 0} (eq : Symbol → Symbol
 entry-row {Symbol = Symbol} eq rows s left weight e = go (find (λ r. eq r.symbol s) (reverse rows)) refl
   where
     go : (o : Option (Row Symbol)) → find (λ r. eq r.symbol s) (reverse rows) ≡ o → HasEntry eq rows s left weight
-    go None n = absurd (none-is-some (left, weight) (rw n at e))
+    go None n = let is : ◌≡◌ {A = Option (ℕ × ℕ)} None (Some (left, weight)) = rw n at e in absurd (cc)
     go (Some r) f =
         let h = found (λ (x : Row Symbol). eq x.symbol s) (reverse rows) r f in
-        let same : ◌≡◌ {A = ℕ × ℕ} (r.left, r.weight) (left, weight) = some-inj _ _ (rw f at e) in
+        let is : ◌≡◌ {A = Option (ℕ × ℕ)} (Some (r.left, r.weight)) (Some (left, weight)) = rw f at e in
+        let same : ◌≡◌ {A = ℕ × ℕ} (r.left, r.weight) (left, weight) = cc in
         record {
           row = r;
           among = unreversed rows r h.0;
