@@ -41,9 +41,7 @@ fn entries_of_distinct<
         (WasReadOf Symbols.into_iter_gives Symbols.IntoIter.next_gives symbols)
         (WasReadOf Weights.into_iter_gives Weights.IntoIter.next_gives weights) result }
 {
-    entries_read::<Probability, Symbol, Symbols, Weights, PRECISION>(
-        alloc, symbols, weights, infer_last,
-    )
+    entries_read::<_, _, _, _, PRECISION>(alloc, symbols, weights, infer_last)
 }
 
 /// The entries of these symbols and weights, if no two of the symbols are equal. Each symbol is hashed.
@@ -67,9 +65,7 @@ fn entries_hashed<
         (WasReadOf Symbols.into_iter_gives Symbols.IntoIter.next_gives symbols)
         (WasReadOf Weights.into_iter_gives Weights.IntoIter.next_gives weights) result }
 {
-    let entries = entries_read::<Probability, Symbol, Symbols, Weights, PRECISION>(
-        alloc, symbols, weights, infer_last,
-    )?;
+    let entries = entries_read::<_, _, _, _, PRECISION>(alloc, symbols, weights, infer_last)?;
     let apart = are_apart(alloc, &entries)?;
     if !apart {
         return Err(ModelError::InvalidTable);
@@ -98,9 +94,7 @@ fn entries_in_order<
         (WasReadOf Symbols.into_iter_gives Symbols.IntoIter.next_gives symbols)
         (WasReadOf Weights.into_iter_gives Weights.IntoIter.next_gives weights) result }
 {
-    let entries = entries_read::<Probability, Symbol, Symbols, Weights, PRECISION>(
-        alloc, symbols, weights, infer_last,
-    )?;
+    let entries = entries_read::<_, _, _, _, PRECISION>(alloc, symbols, weights, infer_last)?;
     let in_order = are_in_order(&entries);
     if !in_order {
         return Err(ModelError::InvalidTable);
