@@ -2,8 +2,8 @@
 use Rattle.std.proofs.Common.{refl, subst, ◌≡◌, ℕ, ◌<◌, ◌^◌, Bool, true, false, ◌||◌, ◌&&◌, eqb, cond, List, [], ◌∷◌, ◌++◌, ap, sym, ◌∙◌, length, arith, Option, Some, None, nat_lt, nat_le, Result, Ok, Err, find, codes}
 use Rattle.std.specs.Option.{option_map, IfSome, IfNone}
 use Rattle.std.specs.Result.{IfOk}
-use Rattle.std.proofs.lemmas.Bool.{ltb-true, leb-true, ne_eqb}
-use Rattle.std.proofs.lemmas.Option.{cond_some}
+use Rattle.std.proofs.lemmas.Bool.{ltb-true, leb-true, ne_eqb, and_parts, or_parts}
+use Rattle.std.proofs.lemmas.Option.{cond_some, none-some, same_Some}
 use Rattle.std.proofs.lemmas.List.Splits.{join_with_byte-slice_split, slice_split-cons_no, slice_split-cons_yes}
 use Rattle.std.proofs.lemmas.Str.Parse.{IsNumeralModel, numerals_by_value, tells_all_ascii_digits}
 use Rattle.std.specs.Char.{digit_value}
@@ -19,38 +19,24 @@ use Rattle.constriction_text.specs.private.Parts.{only_number}
 use Rattle.constriction_text.specs.private.Reading.{keyword, numbers_of, formats, requests_of, read_number, read_numbers, read_format, read_request, read_words, read_line, ◌>>=◌}
 use Rattle.constriction_text.proofs.Numbers.{read_number-some}
 
-pub none_is_none : {A : Type 0} (x : A) → None ≡ Some x → ⊥
-none_is_none x e = cc
-
-pub some_inj : {A : Type 0} (x y : A) → Some x ≡ Some y → x ≡ y
-some_inj x y e = cc
-
 -- a search that found something found it here or further down
 found_where : {X C : Type 0} (passes : Bool) (x found : X) (rest : Option X) → cond passes (Some x) rest ≡ Some found
     → (passes ≡ true → x ≡ found → C) → (rest ≡ Some found → C) → C
-found_where true x found rest e here later = here refl (some_inj x found e)
+found_where true x found rest e here later = here refl (same_Some x found e)
 found_where false x found rest e here later = later e
 
 -- what a search finds passes the test
 found_passes : {X : Type 0} (p : X → Bool) (xs : List X) (found : X) → find p xs ≡ Some found → p found ≡ true
-found_passes p [] found e = absurd (none_is_none _ e)
+found_passes p [] found e = absurd (none-some _ e)
 found_passes p (x ∷ xs) found e =
     found_where (p x) x found (find p xs) e (λ passes same. ap p (sym same) ∙ passes) (λ later. found_passes p xs found later)
 
 -- what holds of each element holds of what a search finds
 found_holds : {X : Type 0} (p : X → Bool) (P : X → Type 0) (xs : List X) (found : X) → AllByRecursion P xs
     → find p xs ≡ Some found → P found
-found_holds p P [] found all e = absurd (none_is_none _ e)
+found_holds p P [] found all e = absurd (none-some _ e)
 found_holds p P (x ∷ xs) found all e =
     found_where (p x) x found (find p xs) e (λ passes same. subst P same all.0) (λ later. found_holds p P xs found all.1 later)
-
-both : (a b : Bool) → (a && b) ≡ true → (a ≡ true) × (b ≡ true)
-both true b e = (refl, e)
-both false b e = absurd (cc)
-
-neither : (a b : Bool) → (a || b) ≡ false → (a ≡ false) × (b ≡ false)
-neither true b e = absurd (cc)
-neither false b e = (refl, e)
 
 -- the parts of a chain that found something
 bind_some : {A B : Type 0} (o : Option A) (f : A → Option B) (y : B) → (o >>= f) ≡ Some y
@@ -70,9 +56,9 @@ number_spelled word n e =
     cond_some (nat_lt (digits_value 10 word) (2 ^ 64) && all_ascii_digits word && nat_lt 0 (length word) && nat_le
     (length word) 20) (digits_value 10 word) n e in
     let q =
-    both (nat_lt (digits_value 10 word) (2 ^ 64) && all_ascii_digits word && nat_lt 0 (length word)) (nat_le (length word) 20) p.0 in
-    let r = both (nat_lt (digits_value 10 word) (2 ^ 64) && all_ascii_digits word) (nat_lt 0 (length word)) q.0 in
-    let s = both (nat_lt (digits_value 10 word) (2 ^ 64)) (all_ascii_digits word) r.0 in
+    and_parts (nat_lt (digits_value 10 word) (2 ^ 64) && all_ascii_digits word && nat_lt 0 (length word)) (nat_le (length word) 20) p.0 in
+    let r = and_parts (nat_lt (digits_value 10 word) (2 ^ 64) && all_ascii_digits word) (nat_lt 0 (length word)) q.0 in
+    let s = and_parts (nat_lt (digits_value 10 word) (2 ^ 64)) (all_ascii_digits word) r.0 in
     record {
       digits = (ltb-true 0 (length word) r.1, own.to word s.1);
       short = leb-true (length word) 20 q.1;
@@ -92,7 +78,7 @@ numbers_spelled (word ∷ words) ns e =
     let p = bind_some (read_number word) (λ n. read_numbers words >>= λ ns. Some (n ∷ ns)) ns e in
     let q = bind_some (read_numbers words) (λ ns. Some (p.0 ∷ ns)) ns p.2 in
     let P : List ℕ → Type 0 = λ l. AllZip IsNumber (word ∷ words) l in
-    subst P (some_inj _ _ q.2) (number_spelled word p.0 p.1, numbers_spelled words q.0 q.1)
+    subst P (same_Some _ _ q.2) (number_spelled word p.0 p.1, numbers_spelled words q.0 q.1)
 
 numbers_read : (words : List (List ℕ)) (ns : List ℕ) → AllZip IsNumber words ns → read_numbers words ≡ Some ns
 unfolding read_numbers
@@ -188,14 +174,14 @@ has_space-onto b bs h e = rw (ne_eqb b 32 h, e)
 split_last : (word : List ℕ) → has_space word ≡ false → slice_split (λ b. eqb b 32) word ≡ word ∷ []
 split_last [] e = refl
 split_last (b ∷ bs) e =
-    let p = neither _ _ e in
+    let p = or_parts _ _ e in
     slice_split-cons_no (λ b. eqb b 32) b bs p.0 ∙ ap (onto_first b) (split_last bs p.1)
 
 split_next : (word rest : List ℕ) → has_space word ≡ false
     → slice_split (λ b. eqb b 32) (word ++ 32 ∷ rest) ≡ word ∷ slice_split (λ b. eqb b 32) rest
 split_next [] rest e = slice_split-cons_yes (λ b. eqb b 32) 32 rest refl
 split_next (b ∷ bs) rest e =
-    let p = neither _ _ e in
+    let p = or_parts _ _ e in
     slice_split-cons_no (λ b. eqb b 32) b (bs ++ 32 ∷ rest) p.0 ∙ ap (onto_first b) (split_next bs rest p.1)
 
 abbrev NoSpaces : List (List ℕ) → Type 0
@@ -260,8 +246,8 @@ words_read request words h = rw (format_read (format_of request), numbers_read w
 words_spelled : (words : List (List ℕ)) (request : Request) → read_words words ≡ Some request
     → Spells (join_with_byte 32 words) request
 unfolding read_words
-words_spelled [] request e = absurd (none_is_none _ e)
-words_spelled (key ∷ []) request e = absurd (none_is_none _ e)
+words_spelled [] request e = absurd (none-some _ e)
+words_spelled (key ∷ []) request e = absurd (none-some _ e)
 words_spelled (key ∷ word ∷ words) request e =
     let p = bind_some (read_format word) (λ format. read_numbers words >>= λ numbers. read_request key format numbers) request e in
     let q = bind_some (read_numbers words) (λ numbers. read_request key p.0 numbers) request p.2 in
@@ -293,7 +279,7 @@ line_read line request spelled =
 
 -- if reading finds nothing, the line spells no request
 pub spells_none : (line : List ℕ) → read_line line ≡ None → (request : Request) → ¬ (Spells line request)
-spells_none line none request spelled = none_is_none request (sym none ∙ line_read line request spelled)
+spells_none line none request spelled = none-some request (sym none ∙ line_read line request spelled)
 
 -- if a parser finds what `read_line` finds, the line spells it
 pub line_found : {E : Type 0} (line : List ℕ) (r : Result (Option Command) E)

@@ -1,5 +1,6 @@
 -- `answer_of`, `answer_to` and `answers_of` give the only answer to a request, a line and lines.
 use Rattle.std.proofs.Common.{refl, subst, ◌≡◌, ℕ, Bool, true, false, cond, List, [], ◌∷◌, ◌++◌, Option, Some, None, ap, sym, ◌∙◌, codes, inl, inr}
+use Rattle.std.proofs.lemmas.Option.{same_Some}
 use Rattle.std.specs.List.{AllZip, concat}
 use Rattle.constriction_model.specs.Acceptance.{completed}
 use Rattle.constriction_model.specs.Rows.{Row, contiguous_rows}
@@ -9,11 +10,11 @@ use Rattle.constriction_text.specs.Grammar.{Request, table, infer, quantile, sym
 use Rattle.constriction_text.specs.private.Reading.{read_line}
 use Rattle.constriction_text.specs.Text.{IsTextOfModel, Answers, IsAnswer, AreAnswers, rows_text, quantile_text, symbol_text}
 use Rattle.constriction_text.proofs.Accepting.{are_accepted-to, are_accepted-from}
-use Rattle.constriction_text.proofs.Exactly.{some_inj, line_spelled, line_read, spells_none}
+use Rattle.constriction_text.proofs.Exactly.{line_spelled, line_read, spells_none}
 
 -- a line spells at most one request
 pub one_request : (line : List ℕ) (one other : Request) → Spells line one → Spells line other → one ≡ other
-one_request line one other first second = some_inj one other (sym (line_read line one first) ∙ line_read line other second)
+one_request line one other first second = same_Some one other (sym (line_read line one first) ∙ line_read line other second)
 
 -- ---- the text of a model
 

@@ -2,16 +2,14 @@
 use Rattle.std.proofs.Common.{refl, ◌≡◌, ℕ, ◌+◌, ◌-◌, ◌<◌, ◌≤◌, Bool, true, false, List, [], ◌∷◌, Some, None, ap, sym, ◌∙◌, length, take, drop, arith, nat_lt, cond, take_all, length-drop}
 use Rattle.std.specs.List.{position, position_or_len, slice_split}
 use Rattle.std.proofs.lemmas.Bool.{ltb-true, ltb-false}
+use Rattle.std.proofs.lemmas.Option.{same_Some}
 use Rattle.std.proofs.lemmas.List.Splits.{slice_split_first, slice_split_none}
 use Rattle.std.proofs.lemmas.Grind.{common_steps}
 use Rattle.std.proofs.lemmas.List.Sums.{fails_before_first}
 
-some_inj : {A : Type 0} (x y : A) → Some x ≡ Some y → x ≡ y
-some_inj x y e = cc
-
 -- a position that was found is the first, and stands in the list
 found_position : (n i at : ℕ) (b : Bool) → nat_lt i n ≡ b → Some at ≡ cond b (Some i) None → (at ≡ i) × (i < n)
-found_position n i at true t e = (some_inj at i e, ltb-true i n t)
+found_position n i at true t e = (same_Some at i e, ltb-true i n t)
 found_position n i at false t e = absurd (cc)
 
 no_position : (n i : ℕ) (b : Bool) → nat_lt i n ≡ b → None ≡ cond b (Some i) None → n ≤ i

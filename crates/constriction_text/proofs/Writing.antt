@@ -7,9 +7,6 @@ use lib.Seq.{take-add}
 use Rattle.constriction_text.specs.private.Answering.{answer_to, answers_of, text_of}
 use Rattle.constriction_text.specs.Text.{IsTextOf, lines_of}
 use Rattle.constriction_text.proofs.OneAnswer.{are_answers}
-use Rattle.std.specs.Result.{OnOk}
-use Rattle.std.specs.declared.result.Result.{Result}
-use Rattle.std.specs.declared.result.Result.TheVariants.{Ok, Err}
 use Rattle.constriction_text.specs.private.Collecting.{WritesFront}
 use Rattle.constriction_text.specs.Runs.{WritesBeginning, WritesAnswersBefore}
 
@@ -133,11 +130,3 @@ answered-stopped a b c input rest text so_far turn =
       subst (IsTextOf input) (sym joined) (are_answers (lines_of input)),
       Appends-trans a b c so_far.written turn.0 so_far.wrote turn.3,
     )
-
--- a fault that was handed on is the same fault
-pub same-fault : {T F : Type 0} (x y : F) → ◌≡◌ {A = Result T F} (Err x) (Err y) → x ≡ y
-same-fault x y e = cc
-
-pub if-ok : {T E : Type 0} (result : Result T E) (P Q : Type 0) → (P → Q) → OnOk result P → OnOk result Q
-if-ok (Ok x) P Q step h = step h
-if-ok (Err e) P Q step h = tt

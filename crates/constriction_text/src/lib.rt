@@ -6,9 +6,9 @@
 
 mod answers;
 mod fault;
+mod format_word;
 pub mod laws;
 mod line;
-mod line_model;
 mod program;
 
 pub use crate::answers::answer;

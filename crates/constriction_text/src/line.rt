@@ -1,9 +1,8 @@
 //! Lines of text, and what they ask for.
 
-ghost use Rattle.std.specs.Prelude.{◌≡◌, ◌==◌, ◌∷◌, ◌<◌, IfOk, IfSome, IfNone, codes, false, length, option_and_then, position};
+ghost use Rattle.std.specs.Prelude.{◌≡◌, ◌==◌, ◌∷◌, ◌<◌, IfOk, IfSome, IfNone, length, option_and_then, position};
 ghost use Rattle.std.specs.List.{slice_split};
 ghost use Rattle.std.specs.Option.{option_copied, option_map};
-ghost use Rattle.std.specs.Str.{bytes_eq};
 ghost use Rattle.constriction_text.specs.Grammar.{Request, Spells, format_of, view};
 ghost use Rattle.constriction_text.specs.private.Parts.{parts_of, first_and_others, only_number};
 ghost use Rattle.constriction_text.specs.private.Reading.{read_format, read_line};
@@ -208,22 +207,6 @@ fn parse_command(
             None => Ok(None),
         };
     }
-    parse_other_command(alloc, keyword, format, text)
-}
-
-/// As `parse_command`, for a keyword that is neither `table` nor `infer`.
-#[tactic(auto, unfolding(crate::specs::private::Reading::read_request))]
-fn parse_other_command(
-    alloc: Global,
-    keyword: &[u8],
-    format: Format,
-    text: Option<&[u8]>,
-) -> Result<Option<Command>, AllocError>
-    requires no_table { bytes_eq keyword.now (codes "table") ≡ false }
-    requires no_infer { bytes_eq keyword.now (codes "infer") ≡ false }
-    ensures { IfOk result (λ found. option_map view found
-        ≡ option_and_then (read_request keyword.now format) (read_numbers (parts_of 32 (option_copied text.entry)))) }
-{
     if keyword == b"quantile".as_slice() {
         return match parse_first_and_others(alloc, text)? {
             Some((quantile, weights)) => Ok(Some(Command::Quantile {

@@ -1,6 +1,7 @@
 use Rattle.std.proofs.Common.{rules}
+use Rattle.std.proofs.lemmas.Result.{on_ok_weaker}
 use Rattle.constriction_text.proofs.Writing.{answered-none, answered-more, answered-written, answered-before}
-use Rattle.constriction_text.proofs.Writing.{answered-all, answered-stopped, same-fault, if-ok}
+use Rattle.constriction_text.proofs.Writing.{answered-all, answered-stopped}
 use Rattle.constriction_text.proofs.program.write_answers.Goals as goal
 
 pub loop-rest-init : goal.loop-rest-init
@@ -17,12 +18,12 @@ pub returns-in-Err-clause-out_of_memory : goal.returns-in-Err-clause-out_of_memo
 returns-in-Err-clause-out_of_memory g c = λ e.
     answered-before _ _ _ c.first_line.result.0.now c.args.input.now _ c.first_line.result.1.now _
     c.loop-rest.invariant c.first_line.ensures.lines
-    (rw (c.as_bytes.ensures.value, c.in-Err.ensures.err) at (c.write_last.ensures.out_of_memory (same-fault _ _ e)))
+    (rw (c.as_bytes.ensures.value, c.in-Err.ensures.err) at (c.write_last.ensures.out_of_memory (cc)))
 
 pub returns-in-Err-clause-write : goal.returns-in-Err-clause-write
 returns-in-Err-clause-write g c = λ e.
     answered-stopped _ _ _ c.args.input.now _ _ c.loop-rest.invariant
-    (rw (c.as_bytes.ensures.value, c.in-Err.ensures.err) at (c.write_last.ensures.write (same-fault _ _ e)))
+    (rw (c.as_bytes.ensures.value, c.in-Err.ensures.err) at (c.write_last.ensures.write (cc)))
 
 pub returns-in_err-write_many-clause-write : goal.returns-in_err-write_many-clause-write
 returns-in_err-write_many-clause-write g c = λ e.
@@ -33,7 +34,7 @@ returns-in_err-write_many-clause-write g c = λ e.
 
 pub returns-clause-ok : goal.returns-clause-ok
 returns-clause-ok g c =
-    if-ok c.write_whole.result _ _
+    on_ok_weaker c.write_whole.result
     (λ turn. answered-all _ _ _ c.args.input.now _ _ c.loop-rest.invariant (rw c.as_bytes-2.ensures.value at turn) (search rules))
     c.write_whole.ensures.ok
 
