@@ -1,4 +1,4 @@
--- The laws of decoders over any symbols and of lookup models, for a model that holds one of them.
+-- The laws of known models, for a model that holds one of them and for a caller.
 use Rattle.std.specs.Prelude.{ℕ}
 use Rattle.std.specs.declared.cmp.PartialEq as equality
 use Rattle.constriction_numbers.specs.declared.whole_number.WholeNumber as number
@@ -6,10 +6,20 @@ use Rattle.constriction_buffers.specs.declared.buf.SafeBuf as buffer
 use Rattle.constriction_model.specs.Precision.{IsPrecision}
 use Rattle.constriction_model.specs.Rows.{RowsTile}
 use Rattle.constriction_model.specs.declared.traits.EntropyModel as model
+use Rattle.constriction_stored_rows.specs.lemmas.StoredRows.{stored-tiles}
 use Rattle.constriction_stored_rows.specs.lemmas.SymbolRows.{paired-tiles}
-use Rattle.constriction_categorical.specs.ModelRows.{decoder_model_rows, lookup_model_rows}
+use Rattle.constriction_categorical.specs.ModelRows.{contiguous_model_rows, decoder_model_rows, lookup_model_rows}
+use Rattle.constriction_categorical.specs.declared.contiguous.ContiguousCategoricalEntropyModel.{ContiguousCategoricalEntropyModel}
 use Rattle.constriction_categorical.specs.declared.lookup.LookupDecoderModel.{LookupDecoderModel}
 use Rattle.constriction_categorical.specs.declared.non_contiguous.NonContiguousCategoricalDecoderModel as decoder
+
+module _ {Word NonZero Cdf : Type 0} {precision : ℕ} {words : number.Ghosts Word NonZero} {cdf : buffer.Ghosts Cdf Word} where
+  pub contiguous-precise : ContiguousCategoricalEntropyModel Word Cdf precision NonZero words cdf → IsPrecision words.BITS precision
+  contiguous-precise m = m.precise
+
+  pub contiguous-tiles : (m : ContiguousCategoricalEntropyModel Word Cdf precision NonZero words cdf)
+      → RowsTile words.BITS precision (contiguous_model_rows m)
+  contiguous-tiles m = stored-tiles _ _ _ m.stored.stored
 
 module _ {Symbol Word NonZero Cdf : Type 0} {precision : ℕ} {symbols : equality.Ghosts Symbol} {words : number.Ghosts Word NonZero}
     {cdf : buffer.Ghosts Cdf (Word × Symbol)} where
