@@ -9,7 +9,7 @@ WORD = r"[^\W\d][\w'-]*"
 COMMENT = re.compile(r"(?: *--.*\n)*")
 HEADER = re.compile(r"(?: *--.*\n)* *module _ (?:.*\n)*?.*where\n")
 SIGNED = re.compile(rf"(?:abbrev |unfoldable )?(?:pub )?(?:(record|data) )?(?!use |mod |open |infix|ruleset )({WORD}|◌\S*◌)(?= |$)")
-ITEM = re.compile(r"(pub )?(?:pub\([a-z]+\) )?(?:unsafe |const (?=fn))*(fn|struct|enum|trait|impl|type|const|ghost|use|mod)\b ?(\w*)")
+ITEM = re.compile(r"(pub )?(?:pub\([a-z]+\) )?(?:unsafe |final |const (?=fn))*(fn|struct|enum|trait|impl|type|const|ghost|use|mod)\b ?(\w*)")
 CLAUSE = re.compile(r" *(requires|ensures)\*? ?(\w*)")
 
 

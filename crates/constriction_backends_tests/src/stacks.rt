@@ -62,7 +62,7 @@ fn read_once<Backend: WordStack<u8>>(
 ) -> Result<Option<u8>, Backend::ReadError>
     ensures { Backend.words_of backend.old ≡ [] → (result ≡ Ok None) × (Backend.words_of backend.new ≡ []) }
 {
-    laws::pop(backend)
+    backend.pop()
 }
 
 #[test]

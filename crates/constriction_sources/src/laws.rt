@@ -8,10 +8,8 @@ ghost use Rattle.constriction_sources.specs.Sink.{TakesItems, ExtendsBy};
 ghost use Rattle.constriction_sources.specs.Stack.{Pops, Pushes, ReadsWhatWasWritten};
 
 mod iterators;
-mod word_stacks;
 
 pub use self::iterators::{item_end_is_for_good, word_end_is_for_good};
-pub use self::word_stacks::{pop, push};
 use crate::read::BoundedReadWords;
 use crate::stack::WordStack;
 use crate::write::{BoundedWriteWords, WriteWords};
@@ -44,11 +42,11 @@ pub fn push_then_pop<Word, Backend: WordStack<Word>>(
     ensures failed { (error : Backend.ReadError) → result ≡ Err (ReadWriteError.Read error)
         → Backend.words_of backend.new ≡ Backend.words_of backend.old ++ word ∷ [] }
 {
-    match push(backend, word) {
+    match backend.push(word) {
         Ok(()) => {}
         Err(error) => return Err(ReadWriteError::Write(error)),
     }
-    match pop(backend) {
+    match backend.pop() {
         Ok(read) => Ok(read),
         Err(error) => Err(ReadWriteError::Read(error)),
     }

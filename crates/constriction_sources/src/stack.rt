@@ -1,6 +1,7 @@
 //! Stacks: backends that read what was written to them, the last word first.
 
 ghost use Rattle.std.specs.Prelude.{◌≡◌, List, refl, reverse};
+ghost use Rattle.constriction_sources.specs.Stack.{Pushes, PopsOrFails};
 
 use crate::read::ReadWords;
 use crate::write::WriteWords;
@@ -11,9 +12,11 @@ use std::default::MadeWith;
 
 /// A sink that is also a source, and reads the last written word first.
 ///
-/// The trait adds laws and no calls. The words are known, so a contract can name them, and an invariant
-/// can tie them to what else a coder holds. A stack may be written and read in every state, so a coder over
-/// it changes between writing and reading without a condition.
+/// The words are known, so a contract can name them, and an invariant can tie them to what else a coder
+/// holds: [`push`](Self::push) is a write and [`pop`](Self::pop) a read, with clauses about them. A stack may
+/// be written and read in every state, so a coder over it changes between both without a condition.
+///
+/// On a known `Vec` or `SmallVec`, `push` and `pop` are the calls of that type.
 pub trait WordStack<Word>: WriteWords<Word> + ReadWords<Word, Stack> {
     // The words, the one on top last.
     ghost words_of: { Self → List Word };
@@ -35,6 +38,24 @@ pub trait WordStack<Word>: WriteWords<Word> + ReadWords<Word, Stack> {
 
     // and read in every state.
     ghost always_readable: { (s : Self) → Self.can_read s };
+
+    /// Puts a word on top, or is refused and keeps the words.
+    #[inline]
+    final fn push(&mut self, word: Word) -> Result<(), Self::WriteError>
+        ensures gives { Self.write_gives self.old word result self.new }
+        ensures pushes { Pushes (words_of self.old) word result (words_of self.new) }
+    {
+        self.write(word)
+    }
+
+    /// Takes the word on top, or answers `Ok(None)` if there is none. It fails only if there is one, and then keeps the words.
+    #[inline]
+    final fn pop(&mut self) -> Result<Option<Word>, Self::ReadError>
+        ensures gives { Self.read_gives self.old result self.new }
+        ensures pops { PopsOrFails (words_of self.old) result (words_of self.new) }
+    {
+        self.read()
+    }
 }
 
 impl<Word: Drop> WordStack<Word> for Vec<Word> {
