@@ -8,7 +8,6 @@ ghost use Rattle.constriction.specs.Rows.{entry_of};
 
 use crate::stack::state::{is_full_for, quantile_of, with_entry, without_entry};
 use constriction::backends::WordStack;
-use constriction::backends::laws::{pop, push};
 use constriction::stream::model::{DecoderModel, EncoderModel};
 use constriction::{CoderError, DefaultEncoderFrontendError};
 use std::alloc::AllocError;
@@ -46,7 +45,7 @@ fn with_room<Backend: WordStack<u32>, const PRECISION: usize>(
     if !is_full_for::<PRECISION>(state, weight) {
         return Ok(state);
     }
-    match push(words, (state % (1 << 32)) as u32) {
+    match words.push((state % (1 << 32)) as u32) {
         Ok(()) => Ok(state >> 32),
         Err(error) => Err(error),
     }
@@ -70,7 +69,7 @@ fn refilled<Backend: WordStack<u32>>(
     if state >= 1 << 32 {
         return Ok(state);
     }
-    match pop(words) {
+    match words.pop() {
         Ok(Some(word)) => Ok((state << 32) + word as u64),
         Ok(None) => Ok(state),
         Err(error) => Err(error),

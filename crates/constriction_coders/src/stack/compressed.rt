@@ -7,7 +7,6 @@ ghost use Rattle.constriction_coders.specs.Steps.{content};
 use crate::stack::ans_coder::AnsCoder;
 use constriction::CoderError;
 use constriction::backends::WordStack;
-use constriction::backends::laws::{pop, push};
 use std::alloc::{AllocError, Global};
 
 impl AnsCoder<Vec<u32>> {
@@ -66,14 +65,14 @@ impl<Backend: WordStack<u32> + Drop> AnsCoder<Backend> {
         if state == 0 {
             return Ok(words);
         }
-        match push(&mut words, (state % (1 << 32)) as u32) {
+        match words.push((state % (1 << 32)) as u32) {
             Ok(()) => {}
             Err(error) => return Err(error),
         }
         if state < 1 << 32 {
             return Ok(words);
         }
-        match push(&mut words, (state >> 32) as u32) {
+        match words.push((state >> 32) as u32) {
             Ok(()) => Ok(words),
             Err(error) => Err(error),
         }
@@ -92,13 +91,13 @@ impl<Backend: WordStack<u32> + Drop> AnsCoder<Backend> {
         ensures failed { (error : _) → result ≡ Err (CoderError.Backend error) → OpeningStops Backend.read_gives words error }
     {
         let mut words = words;
-        let high = match pop(&mut words) {
+        let high = match words.pop() {
             Ok(None) => return Ok(Self { state: 0, words }),
             Ok(Some(0)) => return Err(CoderError::Frontend(words)),
             Ok(Some(high)) => high as u64,
             Err(error) => return Err(CoderError::Backend(error)),
         };
-        match pop(&mut words) {
+        match words.pop() {
             Ok(None) => Ok(Self { state: high, words }),
             Ok(Some(low)) => Ok(Self {
                 state: (high << 32) + low as u64,
