@@ -1,12 +1,11 @@
 -- The rows and the kind of form that a chain leaves, step by step.
-use Rattle.std.proofs.Common.{◌≡◌, ℕ, ◌+◌, ◌<◌, List, [], ◌∷◌, Result, Ok, Err, length, get_or, take, ap, sym, subst, ◌∙◌}
-use Rattle.std.specs.Prelude.{Bool, fold, IfOk}
+use Rattle.std.proofs.Common.{◌≡◌, ℕ, ◌+◌, ◌<◌, List, [], ◌∷◌, length, get_or, take, ap, sym, subst, ◌∙◌}
+use Rattle.std.specs.Prelude.{Bool, fold}
 use Rattle.std.proofs.lemmas.List.{take_more}
 use Rattle.std.proofs.lemmas.List.Sums.{fold-append}
-use Rattle.constriction.specs.Model.{ClonesAreSame}
 use Rattle.constriction.specs.Rows.{Row}
 use Rattle.constriction_client.specs.declared.chain.ChainStep.{ChainStep}
-use Rattle.constriction_client.specs.lemmas.Chains.{leaves-more, same-after}
+use Rattle.constriction_client.specs.lemmas.Chains.{leaves-more}
 use Rattle.constriction_client.specs.Chains.{is_lookup_after, StepLeaves, ChainLeaves}
 
 module _ {Symbol : Type 0} (IsClone : Symbol → Symbol → Type 0) (steps : List ChainStep) where
@@ -17,13 +16,6 @@ module _ {Symbol : Type 0} (IsClone : Symbol → Symbol → Type 0) (steps : Lis
   one-step-more i d rows between made within so_far one =
       subst (λ (ss : List ChainStep). ChainLeaves IsClone ss rows made) (sym (take_more steps i d within))
       (leaves-more IsClone (take i steps) (get_or steps i d) rows between made so_far one)
-
-  -- if each clone is its symbol, the rows are those of before
-  pub exact-after : {Form Error : Type 0} (known : Form → List (Row Symbol)) (rows : List (Row Symbol)) (r : Result Form Error)
-      → IfOk r (λ made. ChainLeaves IsClone steps rows (known made))
-      → IfOk r (λ made. ClonesAreSame IsClone → known made ≡ rows)
-  exact-after known rows (Ok made) h = λ same. same-after IsClone same steps rows (known made) h
-  exact-after known rows (Err e) h = tt
 
 -- the kind after one more step is what the step makes of the kind before
 pub one-kind-more : (steps : List ChainStep) (i : ℕ) (d : ChainStep) (before now next : Bool) → i < length steps

@@ -7,5 +7,4 @@ pub mod Replying
 mod Returning
 pub mod Running
 mod Stepping
-mod WordNumbers
 mod WordReading

@@ -6,6 +6,7 @@ use Rattle.std.specs.Iterator.{Drains}
 use Rattle.std.specs.List.{IsDistinct}
 use Rattle.std.proofs.lemmas.Iterator.{YieldsList}
 use Rattle.std.proofs.lemmas.List.{map-append}
+use Rattle.std.proofs.lemmas.Result.{IfOk-weaker}
 use Rattle.std.proofs.lemmas.Simd.{map-map}
 use Rattle.constriction.specs.Acceptance.{AreAccepted, IsMadeOfBoth, WasReadOf, completed}
 use Rattle.constriction.specs.lemmas.Given.{made-of-lists, refused-lists}
@@ -38,14 +39,10 @@ module _ {J S K T Symbol Word Model : Type 0} (becomes : J → S → Type 0) (st
   -- its model has the rows of these symbols and weights
   pub made-of-them : IfOk r (λ m. rows m ≡ rows_of symbols (map whole weights))
   made-of-them =
-      second (λ (m : Model). AreAccepted eq bits precision symbols (map whole weights))
-      (λ (m : Model). rows m ≡ rows_of symbols (map whole weights)) r
+      IfOk-weaker r (λ (m : Model). AreAccepted eq bits precision symbols (map whole weights) × (rows m ≡ rows_of symbols (map whole weights)))
+      (λ (m : Model). rows m ≡ rows_of symbols (map whole weights)) (λ m made_of. made_of.1)
       (made-of-lists becomes steps from symbols gives other_becomes other_steps other weights other_gives (completed precision false) whole
       (AreAccepted eq bits precision) (λ (m : Model) ss ws. rows m ≡ rows_of ss ws) r made)
-    where
-      second : {A E : Type 0} (P Q : A → Type 0) (r : Result A E) → IfOk r (λ x. P x × Q x) → IfOk r Q
-      second P Q (Ok x) k = k.1
-      second P Q (Err e) k = tt
 
   -- if they are accepted, the only error is `OutOfMemory`
   pub not-refused : AreAccepted eq bits precision symbols (map whole weights) → IfErr r (λ e. e ≡ OutOfMemory)
@@ -145,11 +142,3 @@ module _ {Symbol Word Weight Refusal Walk : Type 0} (eq : Symbol → Symbol → 
       lists-of-rows rows read symbols weights tile distinct
       (subst (λ (rs : List (Row Symbol)). StandForRows Stands (map (row_of whole base) read) rs) e
       ((gives (map Ok read) drained).unrefused read refl)) ss ws
-
--- if the rows of a form are `listed`, and these stand for others, the rows of the form stand for the others
-pub rows_stand : {Symbol Form Error : Type 0} (Stands : Symbol → Symbol → Type 0) (rows : Form → List (Row Symbol))
-    (listed others : List (Row Symbol)) (r : Result Form Error) → IfOk r (λ m. rows m ≡ listed) → StandForRows Stands listed others
-    → IfOk r (λ m. StandForRows Stands (rows m) others)
-rows_stand {Symbol = Symbol} Stands rows listed others (Ok m) is stand =
-    subst (λ (rs : List (Row Symbol)). StandForRows Stands rs others) (sym is) stand
-rows_stand Stands rows listed others (Err e) is stand = tt

@@ -216,7 +216,6 @@ impl<Symbol: Eq + Clone + Drop, Probability: IndexWord, const PRECISION: usize> 
         }
     }
 
-    #[tactic(auto, using(crate::proofs::Rebuilding::rows_stand))]
     fn to_lookup(&self, alloc: Global) -> Result<Self, ModelError> {
         symbols_differ_of(self);
         match searched(alloc, self) {

@@ -1,6 +1,10 @@
-use Rattle.std.proofs.Common.{arith}
-use Rattle.constriction_client.proofs.WordNumbers.{not-less}
+use Rattle.std.proofs.Common.{◌≡◌, ℕ, ◌<◌, ◌≤◌, Bool, true, false, inl, inr, arith}
+use Rattle.std.proofs.lemmas.Bool.{cases_lt}
 use Rattle.constriction_client.proofs.quantiles.pair_of.Goals as goal
+
+-- if a test of a < b fails, b is at most a
+not-less : (a b : ℕ) (test : Bool) → test ≡ false → (a < b → test ≡ true) → b ≤ a
+not-less a b test failed is = elim (cases_lt a b) [ inl less ↦ let holds = is less in absurd (cc) | inr more ↦ more ]
 
 pub returns-then-not-is_quantile : goal.returns-then-not-is_quantile
 returns-then-not-is_quantile g c = record {

@@ -1,5 +1,5 @@
 use Rattle.std.proofs.Common.{refl}
-use Rattle.constriction_client.proofs.Rebuilding.{rows_stand}
+use Rattle.std.proofs.lemmas.Result.{IfOk-weaker}
 use Rattle.constriction_client.proofs.chain.DecoderFormConverts.rebuild.Goals as goal
 
 pub symbols_and_weights-requires-clause-distinct : goal.symbols_and_weights-requires-clause-distinct
@@ -18,8 +18,7 @@ returns-in-Search g c = record {
 pub returns-in-Lookup : goal.returns-in-Lookup
 returns-in-Lookup g c = record {
   rows =
-      rows_stand g.Symbol.Clone.is_clone _ _ _ c.tabled_of.result c.tabled_of.ensures.rows
-      (rw c.in_ok-model.ensures.rows c.in_ok-symbols.ensures.rows);
+      IfOk-weaker c.tabled_of.result _ _ (λ m is. rw is (rw c.in_ok-model.ensures.rows c.in_ok-symbols.ensures.rows)) c.tabled_of.ensures.rows;
   kind = rw c.in-Lookup.is c.tabled_of.ensures.kind;
   refused = c.tabled_of.ensures.refused;
 }
