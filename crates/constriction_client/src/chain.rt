@@ -150,7 +150,7 @@ fn tabled_of<Symbol: Eq + Drop, Probability: IndexWord, const PRECISION: usize>(
 {
     match model.into_lookup_decoder_model(alloc) {
         Ok(model) => Ok(DecoderForm::Lookup(model)),
-        Err(refusal) => Err(refusal),
+        Err(error) => Err(error),
     }
 }
 
@@ -212,7 +212,7 @@ impl<Symbol: Eq + Clone + Drop, Probability: IndexWord, const PRECISION: usize> 
         symbols_differ_of(self);
         match searched(alloc, self) {
             Ok(model) => Ok(DecoderForm::Search(model)),
-            Err(refusal) => Err(refusal),
+            Err(error) => Err(error),
         }
     }
 
@@ -220,7 +220,7 @@ impl<Symbol: Eq + Clone + Drop, Probability: IndexWord, const PRECISION: usize> 
         symbols_differ_of(self);
         match searched(alloc, self) {
             Ok(model) => tabled_of(alloc, model),
-            Err(refusal) => Err(refusal),
+            Err(error) => Err(error),
         }
     }
 

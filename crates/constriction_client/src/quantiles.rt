@@ -113,8 +113,8 @@ where
     requires can_write { W.can_write sink.old }
     ensures ok { OnOk result (WritesItems (entry_of E.symbol_eq (E.rows encoder.now)) E.Probability.whole
         W.write_gives W.tells_written items.now sink.old sink.new) }
-    ensures err { IfErr result (λ fault. StopsAtItem (entry_of E.symbol_eq (E.rows encoder.now)) E.Probability.whole
-        W.write_gives W.tells_written items.now sink.old fault sink.new) }
+    ensures err { IfErr result (λ error. StopsAtItem (entry_of E.symbol_eq (E.rows encoder.now)) E.Probability.whole
+        W.write_gives W.tells_written items.now sink.old error sink.new) }
     ensures goes_on { W.can_write sink.new }
 {
     for item in items {
@@ -124,7 +124,7 @@ where
         };
         match sink.write(word) {
             Ok(()) => {}
-            Err(refusal) => return Err(CoderError::Backend(refusal)),
+            Err(error) => return Err(CoderError::Backend(error)),
         }
     }
     Ok(())

@@ -146,8 +146,8 @@ where
     Buf: SafeBufMut<E::Probability>,
     ensures ok { OnOk result (GoesBack (entry_of E.symbol_eq (E.rows encoder.now)) E.Probability.whole Buf.with_words
         cursor.old items.now cursor.new) }
-    ensures err { IfErr result (λ fault. EndsPlacing (entry_of E.symbol_eq (E.rows encoder.now)) E.Probability.whole
-        Buf.with_words cursor.old items.now fault cursor.new) }
+    ensures err { IfErr result (λ error. EndsPlacing (entry_of E.symbol_eq (E.rows encoder.now)) E.Probability.whole
+        Buf.with_words cursor.old items.now error cursor.new) }
 {
     extending_overwrites::<E::Probability, Buf, BoundedWriteError>();
     let start = cursor.pos();
@@ -188,8 +188,8 @@ where
     ensures ok { IfOk result (λ pairs. StandForItems D.stands_for E.symbol_eq items.now pairs.items) }
     ensures placed { OnOk result (PlacesItems (entry_of E.symbol_eq (E.rows encoder.now)) D.Probability.whole
         Buf.with_words cursor.old items.now cursor.new) }
-    ensures err { IfErr result (λ fault. EndsPlacing (entry_of E.symbol_eq (E.rows encoder.now)) D.Probability.whole
-        Buf.with_words cursor.old items.now fault cursor.new) }
+    ensures err { IfErr result (λ error. EndsPlacing (entry_of E.symbol_eq (E.rows encoder.now)) D.Probability.whole
+        Buf.with_words cursor.old items.now error cursor.new) }
 {
     match write_and_go_back(encoder, items, cursor) {
         Ok(()) => {}
