@@ -3,6 +3,7 @@ use Rattle.std.proofs.Common.{◌≡◌, List, [], ◌∷◌, sym, subst, ◌∙
 use Rattle.std.specs.Prelude.{ℕ, Result, IfOk, IsErr, Ok, Err, nat_eq, false}
 use Rattle.std.specs.List.{IsDistinct}
 use Rattle.std.proofs.lemmas.Map.Keys.{apart_from_distinct}
+use Rattle.std.proofs.lemmas.Result.{IfOk-weaker}
 use Rattle.constriction.specs.Model.{StandForRows}
 use Rattle.constriction.specs.Rows.{Row, symbols_of}
 use Rattle.constriction.specs.lemmas.Stand.{same-rows}
@@ -26,13 +27,9 @@ its-rows rows letters (Ok d) h =
     (same, subst (λ (rs : List (Row ℕ)). IsDistinct nat_eq (symbols_of rs)) same h.1)
 its-rows rows letters (Err e) h = tt
 
-first-part : {A E : Type 0} (P Q : A → Type 0) (r : Result A E) → IfOk r (λ x. P x × Q x) → IfOk r P
-first-part P Q (Ok x) h = h.0
-first-part P Q (Err e) h = tt
-
 pub returns-clause-ok : goal.returns-clause-ok
 returns-clause-ok c =
-    first-part _ _ c.to_generic_decoder_model.result (its-rows _ _ c.to_generic_decoder_model.result c.to_generic_decoder_model.ensures.ok)
+    let made = c.to_generic_decoder_model in IfOk-weaker made.result _ _ (λ d parts. parts.0) (its-rows _ _ made.result made.ensures.ok)
 
 pub returns-clause-repeated : goal.returns-clause-repeated
 returns-clause-repeated c = λ e.
