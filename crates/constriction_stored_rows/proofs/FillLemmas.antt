@@ -1,5 +1,5 @@
 -- Filling a cdf row by row.
-use Rattle.std.specs.Prelude.{◌≡◌, ℕ, ◌+◌, ◌-◌, ◌%◌, ◌^◌, ◌<◌, ◌≤◌, ◌⊎◌, Bool, true, false, List, [], ◌∷◌, ◌++◌, length, map, sum, All, Option, Some, None, Result, Ok, Err, IfOk}
+use Rattle.std.specs.Prelude.{◌≡◌, ℕ, ◌+◌, ◌-◌, ◌%◌, ◌^◌, ◌<◌, ◌≤◌, ◌⊎◌, Bool, true, false, List, [], ◌∷◌, ◌++◌, length, map, sum, All, Option, Some, None}
 use Rattle.std.proofs.Common.{suc, zero, refl, ap, sym, ◌∙◌, arith, subst, inl, inr}
 use Rattle.std.proofs.Math.Nat.{mod-eq_of_lt, mod_self}
 use Rattle.std.proofs.lemmas.Bool.{cases_lt}
@@ -308,8 +308,3 @@ module _ {S W : Type 0} {steps : S → Option W → S → Type 0} {it : S} {whol
     (s', (s, t.given, none)),
     bad-none_inferred whole bits precision infer weights cdf left room t.filled t.rest why,
   )
-
--- what follows from a fact of an `Ok` holds of it too
-pub if_ok-more : {T E : Type 0} {P Q : T → Type 0} (r : Result T E) → IfOk r P → ((v : T) → P v → Q v) → IfOk r Q
-if_ok-more (Ok v) p more = more v p
-if_ok-more (Err e) p more = tt

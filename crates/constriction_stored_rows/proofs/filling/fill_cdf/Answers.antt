@@ -1,5 +1,6 @@
 use Rattle.std.proofs.Common.{◌≡◌, ◌^◌, ◌∷◌, ◌++◌, [], ap, ◌∙◌}
-use Rattle.constriction_stored_rows.proofs.FillLemmas.{if_ok-more, one_is, one_fits, room_below, end_below, begun-none, begun-more, begun-given, begun-bad_given, begun-inferred, begun-bad_inferred}
+use Rattle.std.proofs.lemmas.Result.{IfOk-weaker}
+use Rattle.constriction_stored_rows.proofs.FillLemmas.{one_is, one_fits, room_below, end_below, begun-none, begun-more, begun-given, begun-bad_given, begun-inferred, begun-bad_inferred}
 use Rattle.constriction_stored_rows.proofs.filling.fill_cdf.Goals.{then-len-capacity+in_ok-make_room, else-len-capacity}
 use Rattle.constriction_stored_rows.proofs.filling.fill_cdf.Goals as goal
 
@@ -11,10 +12,10 @@ returns-then-leaves_none-clause-ok g c =
       | else-len-capacity w ↦ ap (λ t. t.items) w.cdf-is
     ] in
     let pushed : c.push_reserved.new.self.items ≡ c.rows.cdf.items ++ c.rows.left ∷ [] = rw (← same) c.push_reserved.ensures.items in
-    if_ok-more c.finish.result c.finish.ensures.ok
-    (λ v ok. begun-given c.rows.invariant.2.1 c.args.infer_last c.push_reserved.new.self.items
+    IfOk-weaker c.finish.result _ _ (λ v ok. begun-given c.rows.invariant.2.1 c.args.infer_last c.push_reserved.new.self.items
     v.items _ _
     c.in-Some.weight pushed c.in-Some.ensures.steps (c.is_end_of_given.ensures.filled ok.0) ok.1)
+    c.finish.ensures.ok
 
 pub returns-then-leaves_none-clause-invalid : goal.returns-then-leaves_none-clause-invalid
 returns-then-leaves_none-clause-invalid g c = λ e.
@@ -42,9 +43,9 @@ rows-preserved g c =
 
 pub returns-clause-ok : goal.returns-clause-ok
 returns-clause-ok g c =
-    if_ok-more c.finish_inferred.result c.finish_inferred.ensures.ok
-    (λ v ok. begun-inferred c.rows.invariant.2.1 c.args.infer_last v.items _
+    IfOk-weaker c.finish_inferred.result _ _ (λ v ok. begun-inferred c.rows.invariant.2.1 c.args.infer_last v.items _
     c.in_default.ensures.steps (c.is_inferred_last.ensures.inferred ok.0) ok.1)
+    c.finish_inferred.ensures.ok
 
 pub returns-clause-invalid : goal.returns-clause-invalid
 returns-clause-invalid g c = λ e.
