@@ -1,7 +1,7 @@
 //! A model over a word type of the caller's own that implements `WholeNumber` and not `BitArray`.
 
 ghost use Rattle.std.specs.Prelude.{◌<◌};
-ghost use Rattle.std.proofs.Common.{ap};
+ghost use Rattle.std.proofs.Common.{ap, refl};
 ghost use Rattle.constriction_words.specs.lemmas.Word.{same-above-0};
 
 use crate::checks::same;
@@ -103,6 +103,8 @@ impl WholeNumber for Share {
     }
 
     ghost same_law = { λ a b e. ap (λ n. record { 0 = n }) e };
+
+    ghost number_law = { λ n _. (record { 0 = n }, refl) };
 
     ghost weight_law = { λ x. x.positive };
 

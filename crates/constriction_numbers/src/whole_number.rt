@@ -121,6 +121,9 @@ pub trait WholeNumber: Copy {
     // Words with the same number are equal.
     ghost same_law: { (a b : Self) → whole a ≡ whole b → a ≡ b };
 
+    // Each number below `2^BITS` is the number of a word.
+    ghost number_law: { (n : ℕ) → n < 2 ^ BITS → (x : Self) × (whole x ≡ n) };
+
     // A weight is not 0.
     ghost weight_law: { (x : Self.NonZero) → 0 < whole (base x) };
 

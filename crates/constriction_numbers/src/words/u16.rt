@@ -1,5 +1,6 @@
 //! `u16` as a whole number.
 
+ghost use Rattle.std.specs.Prelude.{refl};
 ghost use Rattle.std.specs.Int.NonZero.{non_zero_u16_get};
 ghost use Rattle.constriction_numbers.specs.lemmas.Word.{same-above-0};
 
@@ -104,6 +105,8 @@ impl WholeNumber for u16 {
     }
 
     ghost same_law = { λ a b e. e };
+
+    ghost number_law = { λ n _. (n, refl) };
 
     ghost weight_law = { λ x. x.ok };
 

@@ -1,6 +1,6 @@
 //! Samples as whole numbers.
 
-ghost use Rattle.std.proofs.Common.{ap};
+ghost use Rattle.std.proofs.Common.{ap, refl};
 ghost use Rattle.constriction_words.specs.lemmas.Word.{same-above-0};
 
 use crate::own_word::Sample;
@@ -87,6 +87,8 @@ impl WholeNumber for Sample {
     }
 
     ghost same_law = { λ a b e. ap (λ n. record { 0 = n }) e };
+
+    ghost number_law = { λ n _. (record { 0 = n }, refl) };
 
     ghost weight_law = { λ x. x.positive };
 
