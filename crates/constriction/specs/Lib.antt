@@ -6,7 +6,6 @@ pub use Rattle.constriction_conversions.specs.Hashed
 pub use Rattle.constriction_model.specs.Laws
 pub use Rattle.constriction_model.specs.Model
 pub use Rattle.constriction_categorical.specs.ModelRows
-pub mod PlainLists
 pub use Rattle.constriction_model.specs.Precision
 pub use Rattle.constriction_model.specs.Probe
 pub use Rattle.constriction_model.specs.Rows

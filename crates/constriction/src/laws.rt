@@ -12,8 +12,6 @@ pub use constriction_model::laws::{
     uniform_row_count,
 };
 
-mod lists;
 mod symbols;
 
-pub use self::lists::{listed_symbols_and_weights_decide, listed_weights_decide};
 pub use self::symbols::contiguous_symbols_have_entries;

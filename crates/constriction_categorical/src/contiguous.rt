@@ -2,7 +2,7 @@
 
 ghost use Rattle.std.specs.Prelude.{◌≡◌, ◌+◌, ◌^◌, ◌<◌, length, map, nat_eq, IfOk, ⊤};
 ghost use Rattle.std.specs.Iterator.{IsFiniteIterable};
-ghost use Rattle.constriction_model.specs.Acceptance.{completed, IsAccepted, WasReadOf, IsMadeOfWeights};
+ghost use Rattle.constriction_model.specs.Acceptance.{completed, IsAccepted, IsDecidedByWeights};
 ghost use Rattle.std.specs.Cmp.{nat_eq_equiv};
 ghost use Rattle.constriction_model.specs.Precision.{IsPrecision};
 ghost use Rattle.constriction_model.specs.Probe.{IsProbeFor};
@@ -77,9 +77,9 @@ impl<Probability: WholeNumber, const PRECISION: usize> ContiguousCategoricalEntr
     ) -> Result<Self, ModelError>
         requires precision { IsPrecision Probability.BITS PRECISION }
         requires ends { IsFiniteIterable I.into_iter_gives I.IntoIter.can_next I.IntoIter.remaining probabilities }
-        ensures { IsMadeOfWeights (IsAccepted Probability.BITS PRECISION) (completed PRECISION infer_last_probability)
-            (WasReadOf I.into_iter_gives I.IntoIter.next_gives probabilities) Probability.whole
-            (λ m ws. contiguous_model_rows m ≡ contiguous_rows ws) result }
+        ensures { IsDecidedByWeights (IsAccepted Probability.BITS PRECISION) (completed PRECISION infer_last_probability)
+            I.into_iter_gives I.IntoIter.next_gives probabilities Probability.whole (λ m ws. contiguous_model_rows m ≡ contiguous_rows ws)
+            result }
     {
         let cdf = cdf_of::<Probability, I, PRECISION>(
             alloc,

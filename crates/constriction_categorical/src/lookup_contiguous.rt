@@ -2,7 +2,7 @@
 
 ghost use Rattle.std.specs.Prelude.{◌≡◌, ◌≤◌, map, IfOk, IfErr, nat_eq};
 ghost use Rattle.std.specs.Iterator.{IsFiniteIterable};
-ghost use Rattle.constriction_model.specs.Acceptance.{completed, IsAccepted, WasReadOf, IsMadeOfWeights};
+ghost use Rattle.constriction_model.specs.Acceptance.{completed, IsAccepted, IsDecidedByWeights};
 ghost use Rattle.constriction_model.specs.Precision.{IsLookupPrecision};
 ghost use Rattle.constriction_model.specs.Rows.{contiguous_rows};
 ghost use Rattle.constriction_stored_rows.specs.lemmas.StoredRows.{stored-tiles};
@@ -79,7 +79,7 @@ impl<
     ///
     /// One pass over the weights and one over the rows. Beside the rows it takes one allocation for the
     /// lookup table, of at most 512 words with 8 `SLOT_BITS`.
-    #[tactic(auto, using(crate::proofs::Remade::made_of_weights, crate::proofs::Remade::refused_weights))]
+    #[tactic(auto, using(crate::proofs::Remade::error_of_weights))]
     pub fn from_nonzero_fixed_point_probabilities<I: IntoIterator<Item = Probability>>(
         alloc: Global,
         probabilities: I,
@@ -87,9 +87,9 @@ impl<
     ) -> Result<Self, ModelError>
         requires precision { IsLookupPrecision Probability.BITS PRECISION }
         requires ends { IsFiniteIterable I.into_iter_gives I.IntoIter.can_next I.IntoIter.remaining probabilities }
-        ensures { IsMadeOfWeights (IsAccepted Probability.BITS PRECISION) (completed PRECISION infer_last_probability)
-            (WasReadOf I.into_iter_gives I.IntoIter.next_gives probabilities) Probability.whole
-            (λ m ws. lookup_model_rows m ≡ contiguous_rows ws) result }
+        ensures { IsDecidedByWeights (IsAccepted Probability.BITS PRECISION) (completed PRECISION infer_last_probability)
+            I.into_iter_gives I.IntoIter.next_gives probabilities Probability.whole (λ m ws. lookup_model_rows m ≡ contiguous_rows ws)
+            result }
     {
         match ContiguousCategoricalEntropyModel::<
             Probability,

@@ -2,7 +2,7 @@
 
 ghost use Rattle.std.specs.Prelude.{◌≡◌, ◌≤◌, IfOk, IfErr};
 ghost use Rattle.std.specs.Iterator.{IsFiniteIterable};
-ghost use Rattle.constriction_model.specs.Acceptance.{completed, AreAccepted, WasReadOf, IsMadeOfBoth};
+ghost use Rattle.constriction_model.specs.Acceptance.{completed, AreAccepted, IsDecidedByBoth};
 ghost use Rattle.constriction_model.specs.Model.{StandForRows, ClonesAreEqual};
 ghost use Rattle.constriction_model.specs.Precision.{IsLookupPrecision};
 ghost use Rattle.constriction_model.specs.Rows.{rows_of};
@@ -110,7 +110,7 @@ impl<
     /// One pass over both, in which each symbol is compared with all before it, and two over the rows. No symbol is
     /// cloned. Beside the rows it takes one allocation for the lookup table: with 8 `SLOT_BITS`, at most 512 words, one
     /// word a symbol and one more.
-    #[tactic(auto, using(crate::proofs::Remade::made_of_both, crate::proofs::Remade::refused_both))]
+    #[tactic(auto, using(crate::proofs::Remade::error_of_both))]
     pub fn from_symbols_and_nonzero_fixed_point_probabilities<
         S: IntoIterator<Item = Symbol>,
         P: IntoIterator<Item = Probability>,
@@ -123,8 +123,8 @@ impl<
         requires precision { IsLookupPrecision Probability.BITS PRECISION }
         requires symbols_end { IsFiniteIterable S.into_iter_gives S.IntoIter.can_next S.IntoIter.remaining symbols }
         requires probabilities_end { IsFiniteIterable P.into_iter_gives P.IntoIter.can_next P.IntoIter.remaining probabilities }
-        ensures { IsMadeOfBoth (AreAccepted Symbol.eq Probability.BITS PRECISION) (completed PRECISION infer_last_probability)
-            (WasReadOf S.into_iter_gives S.IntoIter.next_gives symbols) (WasReadOf P.into_iter_gives P.IntoIter.next_gives probabilities)
+        ensures { IsDecidedByBoth (AreAccepted Symbol.eq Probability.BITS PRECISION) (completed PRECISION infer_last_probability)
+            S.into_iter_gives S.IntoIter.next_gives symbols P.into_iter_gives P.IntoIter.next_gives probabilities
             Probability.whole (λ m ss ws. lookup_model_rows m ≡ rows_of ss ws) result }
     {
         match NonContiguousCategoricalDecoderModel::<

@@ -4,7 +4,7 @@ ghost use Rattle.std.specs.Prelude.{◌≡◌, ◌+◌, ◌^◌, ◌<◌, ◌≤
 ghost use Rattle.std.specs.Iterator.{IsFiniteIterable};
 ghost use Rattle.std.specs.List.{IsDistinct};
 ghost use Rattle.std.proofs.Props.{props};
-ghost use Rattle.constriction_model.specs.Acceptance.{completed, AreAccepted, WasReadOf, IsMadeOfBoth};
+ghost use Rattle.constriction_model.specs.Acceptance.{completed, AreAccepted, WasReadOf, IsMadeOfBoth, IsDecidedByBoth};
 ghost use Rattle.constriction_model.specs.Model.{StandForRows, ClonesAreEqual};
 ghost use Rattle.constriction_model.specs.Precision.{IsPrecision};
 ghost use Rattle.constriction_model.specs.Probe.{IsProbeFor};
@@ -151,7 +151,6 @@ impl<
     /// [`from_hashable_symbols_and_nonzero_fixed_point_probabilities`]: Self::from_hashable_symbols_and_nonzero_fixed_point_probabilities
     /// [`from_sorted_symbols_and_nonzero_fixed_point_probabilities`]: Self::from_sorted_symbols_and_nonzero_fixed_point_probabilities
     /// [`from_distinct_symbols_and_nonzero_fixed_point_probabilities`]: Self::from_distinct_symbols_and_nonzero_fixed_point_probabilities
-    #[tactic(auto, using(crate::proofs::Remade::made_of_both, crate::proofs::Remade::refused_both))]
     pub fn from_symbols_and_nonzero_fixed_point_probabilities<
         S: IntoIterator<Item = Symbol>,
         P: IntoIterator<Item = Probability>,
@@ -164,8 +163,8 @@ impl<
         requires precision { IsPrecision Probability.BITS PRECISION }
         requires symbols_end { IsFiniteIterable S.into_iter_gives S.IntoIter.can_next S.IntoIter.remaining symbols }
         requires probabilities_end { IsFiniteIterable P.into_iter_gives P.IntoIter.can_next P.IntoIter.remaining probabilities }
-        ensures { IsMadeOfBoth (AreAccepted Symbol.eq Probability.BITS PRECISION) (completed PRECISION infer_last_probability)
-            (WasReadOf S.into_iter_gives S.IntoIter.next_gives symbols) (WasReadOf P.into_iter_gives P.IntoIter.next_gives probabilities)
+        ensures { IsDecidedByBoth (AreAccepted Symbol.eq Probability.BITS PRECISION) (completed PRECISION infer_last_probability)
+            S.into_iter_gives S.IntoIter.next_gives symbols P.into_iter_gives P.IntoIter.next_gives probabilities
             Probability.whole (λ m ss ws. decoder_model_rows m ≡ rows_of ss ws) result }
     {
         match entries_compared::<Probability, Symbol, S, P, PRECISION>(

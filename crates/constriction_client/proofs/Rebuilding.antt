@@ -4,12 +4,9 @@ use Rattle.std.specs.Prelude.{IfOk, IfErr}
 use Rattle.std.specs.Cmp.{IsEquivalence}
 use Rattle.std.specs.Iterator.{Drains}
 use Rattle.std.specs.List.{IsDistinct}
-use Rattle.std.proofs.lemmas.Iterator.{YieldsList}
 use Rattle.std.proofs.lemmas.List.{map-append}
-use Rattle.std.proofs.lemmas.Result.{IfOk-weaker}
 use Rattle.std.proofs.lemmas.Simd.{map-map}
-use Rattle.constriction.specs.Acceptance.{AreAccepted, IsMadeOfBoth, WasReadOf, completed}
-use Rattle.constriction.specs.lemmas.Given.{made-of-lists, refused-lists}
+use Rattle.constriction.specs.Acceptance.{AreAccepted}
 use Rattle.constriction.specs.Laws.{AreRows}
 use Rattle.constriction.specs.Model.{row_of, StandForRows, ClonesAreEqual}
 use Rattle.constriction.specs.Rows.{Row, RowsTile, rows_of, symbols_of}
@@ -18,37 +15,13 @@ use Rattle.constriction_model.specs.declared.error.ModelError.{ModelError}
 use Rattle.constriction_model.specs.declared.error.ModelError.TheVariants.{InvalidTable, OutOfMemory}
 
 -- an error that is not `InvalidTable` is `OutOfMemory`
-pub memory-alone : (e : ModelError) → (e ≡ InvalidTable → ⊥) → e ≡ OutOfMemory
+memory-alone : (e : ModelError) → (e ≡ InvalidTable → ⊥) → e ≡ OutOfMemory
 memory-alone OutOfMemory h = refl
 memory-alone InvalidTable h = absurd (h refl)
 
-only-memory : {A : Type 0} (r : Result A ModelError) → (r ≡ Err InvalidTable → ⊥) → IfErr r (λ e. e ≡ OutOfMemory)
+pub only-memory : {A : Type 0} (r : Result A ModelError) → (r ≡ Err InvalidTable → ⊥) → IfErr r (λ e. e ≡ OutOfMemory)
 only-memory (Ok x) h = tt
 only-memory (Err e) h = memory-alone e (λ is. h (ap Err is))
-
--- ---- a constructor that was given symbols and weights
-
-module _ {J S K T Symbol Word Model : Type 0} (becomes : J → S → Type 0) (steps : S → Option Symbol → S → Type 0) (from : J)
-    (other_becomes : K → T → Type 0) (other_steps : T → Option Word → T → Type 0) (other : K)
-    (eq : Symbol → Symbol → Bool) (whole : Word → ℕ) (bits precision : ℕ) (symbols : List Symbol) (weights : List Word)
-    (gives : (it : S) → becomes from it → YieldsList steps (λ y. y) it symbols)
-    (other_gives : (jt : T) → other_becomes other jt → YieldsList other_steps (λ y. y) jt weights)
-    (rows : Model → List (Row Symbol)) (r : Result Model ModelError)
-    (made : IsMadeOfBoth (AreAccepted eq bits precision) (completed precision false) (WasReadOf becomes steps from)
-    (WasReadOf other_becomes other_steps other) whole (λ m ss ws. rows m ≡ rows_of ss ws) r) where
-  -- its model has the rows of these symbols and weights
-  pub made-of-them : IfOk r (λ m. rows m ≡ rows_of symbols (map whole weights))
-  made-of-them =
-      IfOk-weaker r (λ (m : Model). AreAccepted eq bits precision symbols (map whole weights) × (rows m ≡ rows_of symbols (map whole weights)))
-      (λ (m : Model). rows m ≡ rows_of symbols (map whole weights)) (λ m made_of. made_of.1)
-      (made-of-lists becomes steps from symbols gives other_becomes other_steps other weights other_gives (completed precision false) whole
-      (AreAccepted eq bits precision) (λ (m : Model) ss ws. rows m ≡ rows_of ss ws) r made)
-
-  -- if they are accepted, the only error is `OutOfMemory`
-  pub not-refused : AreAccepted eq bits precision symbols (map whole weights) → IfErr r (λ e. e ≡ OutOfMemory)
-  not-refused accepted = only-memory r (λ invalid.
-      refused-lists becomes steps from symbols gives other_becomes other_steps other weights other_gives (completed precision false) whole
-      (AreAccepted eq bits precision) (λ (m : Model) ss ws. rows m ≡ rows_of ss ws) r made invalid accepted)
 
 -- ---- the symbols and the weights of a table
 

@@ -3,7 +3,7 @@
 ghost use Rattle.std.specs.Prelude.{◌≡◌, ◌<◌, ◌≤◌, Bool, List, fold, map, true, false, IfOk, IfErr};
 ghost use Rattle.std.specs.Iterator.{Drains, IsFinite};
 ghost use Rattle.std.specs.List.{IsDistinct};
-ghost use Rattle.constriction.specs.Acceptance.{completed, AreAccepted, WasReadOf, IsMadeOfBoth, GivesDistinct};
+ghost use Rattle.constriction.specs.Acceptance.{AreAccepted};
 ghost use Rattle.constriction.specs.Model.{StandForRows, ClonesAreSame, ClonesAreEqual};
 ghost use Rattle.constriction.specs.ModelRows.{decoder_model_rows};
 ghost use Rattle.constriction.specs.Rows.{Row, rows_of, symbols_of};
@@ -18,7 +18,6 @@ use constriction::stream::model::{
 };
 use constriction_words::{IndexWord, WholeNumber};
 use std::alloc::{AllocError, Global};
-use std::vec::IntoIter;
 
 /// A conversion of a [`DecoderForm`].
 #[derive(Debug, Clone, Copy, PartialEq, Eq, Drop)]
@@ -80,27 +79,6 @@ where
     Ok((symbols, weights))
 }
 
-/// The searching model of two lists. The clause is the constructor's, which is about the iterators that the lists
-/// become; `searching_of` has the clauses about the lists themselves.
-fn from_lists<Symbol: Eq + Drop, Probability: WholeNumber, const PRECISION: usize>(
-    alloc: Global,
-    symbols: Vec<Symbol>,
-    weights: Vec<Probability>,
-) -> Result<Searching<Symbol, Probability, PRECISION>, ModelError>
-    requires positive { 0 < PRECISION }
-    requires fits { PRECISION ≤ Probability.BITS }
-    requires distinct { GivesDistinct ⟦<Vec<Symbol> as IntoIterator>⟧.into_iter_gives
-        ⟦<IntoIter<Symbol> as Iterator>⟧.next_gives Symbol.eq symbols }
-    ensures { IsMadeOfBoth (AreAccepted Symbol.eq Probability.BITS PRECISION) (completed PRECISION false)
-        (WasReadOf ⟦<Vec<Symbol> as IntoIterator>⟧.into_iter_gives ⟦<IntoIter<Symbol> as Iterator>⟧.next_gives symbols)
-        (WasReadOf ⟦<Vec<Probability> as IntoIterator>⟧.into_iter_gives ⟦<IntoIter<Probability> as Iterator>⟧.next_gives weights)
-        Probability.whole (λ m ss ws. decoder_model_rows m ≡ rows_of ss ws) result }
-{
-    Searching::from_distinct_symbols_and_nonzero_fixed_point_probabilities(
-        alloc, symbols, weights, false,
-    )
-}
-
 /// The searching model of symbols and weights that are accepted. The symbols are not compared.
 fn searching_of<Symbol: Eq + Drop, Probability: WholeNumber, const PRECISION: usize>(
     alloc: Global,
@@ -113,7 +91,9 @@ fn searching_of<Symbol: Eq + Drop, Probability: WholeNumber, const PRECISION: us
     ensures rows { IfOk result (λ m. decoder_model_rows m ≡ rows_of symbols.items (map Probability.whole weights.items)) }
     ensures refused { IfErr result (λ e. e ≡ ModelError.OutOfMemory) }
 {
-    from_lists(alloc, symbols, weights)
+    Searching::from_distinct_symbols_and_nonzero_fixed_point_probabilities(
+        alloc, symbols, weights, false,
+    )
 }
 
 /// The searching model of a form's rows, with clones of its symbols. No symbols are compared.

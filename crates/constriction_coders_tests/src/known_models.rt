@@ -1,4 +1,4 @@
-//! What laws tell callers that make models of plain lists, and callers that encode numbers below `support_size`. None of these
+//! What contracts tell callers that make models of plain lists, and callers that encode numbers below `support_size`. None of these
 //! proofs has a written answer.
 
 ghost use Rattle.std.specs.Prelude.{◌≡◌, ◌<◌, ◌≤◌, Err, IfOk, IfSome, length, nat_eq};
@@ -8,9 +8,7 @@ ghost use Rattle.constriction.specs.Rows.{contiguous_rows, rows_of};
 
 use crate::checks::same;
 use constriction::CoderError;
-use constriction::laws::{
-    contiguous_symbols_have_entries, listed_symbols_and_weights_decide, listed_weights_decide,
-};
+use constriction::laws::contiguous_symbols_have_entries;
 use constriction::stream::model::{
     ContiguousCategoricalEntropyModel, EncoderModel, EntropyModel, ModelError,
     NonContiguousCategoricalDecoderModel, UniformModel,
@@ -36,7 +34,6 @@ fn of_a_vec<const PRECISION: usize>(
     ensures rows { IfOk result (λ model. contiguous_model_rows model ≡ contiguous_rows weights.items) }
     ensures invalid { result ≡ Err ModelError.InvalidTable → ¬ (IsAccepted 32 PRECISION weights.items) }
 {
-    listed_weights_decide::<Model<PRECISION>, _, PRECISION>(&weights, weights.as_slice(), false);
     Model::<PRECISION>::from_nonzero_fixed_point_probabilities(alloc, weights, false)
 }
 
@@ -51,9 +48,11 @@ fn of_a_slice<const PRECISION: usize>(
     ensures rows { IfOk result (λ model. contiguous_model_rows model ≡ contiguous_rows weights.now) }
     ensures invalid { result ≡ Err ModelError.InvalidTable → ¬ (IsAccepted 32 PRECISION weights.now) }
 {
-    let given = weights.iter().copied();
-    listed_weights_decide::<Model<PRECISION>, _, PRECISION>(&given, weights, false);
-    Model::<PRECISION>::from_nonzero_fixed_point_probabilities(alloc, given, false)
+    Model::<PRECISION>::from_nonzero_fixed_point_probabilities(
+        alloc,
+        weights.iter().copied(),
+        false,
+    )
 }
 
 /// The model of letters and weights.
@@ -61,13 +60,6 @@ fn of_letters(alloc: Global, letters: Vec<char>, weights: Vec<u32>) -> Result<Le
     ensures accepted { IfOk result (λ _. AreAccepted nat_eq 32 24 letters.items weights.items) }
     ensures rows { IfOk result (λ model. decoder_model_rows model ≡ rows_of letters.items weights.items) }
 {
-    listed_symbols_and_weights_decide::<Letters, _, _, 24>(
-        &letters,
-        letters.as_slice(),
-        &weights,
-        weights.as_slice(),
-        false,
-    );
     Letters::from_symbols_and_nonzero_fixed_point_probabilities(alloc, letters, weights, false)
 }
 

@@ -5,7 +5,7 @@ ghost use Rattle.std.specs.Iterator.{IsFiniteIterable};
 ghost use Rattle.std.specs.List.{IsDistinct};
 ghost use Rattle.std.specs.Map.{keys_of};
 ghost use Rattle.std.proofs.Props.{props};
-ghost use Rattle.constriction_model.specs.Acceptance.{completed, AreAccepted, WasReadOf, IsMadeOfBoth};
+ghost use Rattle.constriction_model.specs.Acceptance.{completed, AreAccepted, IsDecidedByBoth};
 ghost use Rattle.constriction_conversions.specs.Hashed.{rows_of_table};
 ghost use Rattle.constriction_model.specs.Model.{LiesWithin, StandForRows};
 ghost use Rattle.constriction_model.specs.Precision.{IsPrecision};
@@ -130,8 +130,8 @@ impl<
         requires precision { IsPrecision Probability.BITS PRECISION }
         requires symbols_end { IsFiniteIterable S.into_iter_gives S.IntoIter.can_next S.IntoIter.remaining symbols }
         requires probabilities_end { IsFiniteIterable P.into_iter_gives P.IntoIter.can_next P.IntoIter.remaining probabilities }
-        ensures { IsMadeOfBoth (AreAccepted Symbol.eq Probability.BITS PRECISION) (completed PRECISION infer_last_probability)
-            (WasReadOf S.into_iter_gives S.IntoIter.next_gives symbols) (WasReadOf P.into_iter_gives P.IntoIter.next_gives probabilities)
+        ensures { IsDecidedByBoth (AreAccepted Symbol.eq Probability.BITS PRECISION) (completed PRECISION infer_last_probability)
+            S.into_iter_gives S.IntoIter.next_gives symbols P.into_iter_gives P.IntoIter.next_gives probabilities
             Probability.whole (λ m ss ws. AreHashedRowsOf Symbol.eq (encoder_model_rows m) ss ws) result }
     {
         let symbols = symbols.into_iter();

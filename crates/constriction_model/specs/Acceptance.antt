@@ -1,7 +1,8 @@
 -- Which weights a model accepts, and what a constructor that reads them from an iterator says of them.
-use Rattle.std.specs.Prelude.{◌≡◌, ℕ, ◌-◌, ◌^◌, ◌<◌, Bool, List, [], ◌∷◌, ◌++◌, length, map, sum, All, Option, Result, Err, IfOk, if◌then◌else◌}
+use Rattle.std.specs.Prelude.{◌≡◌, ℕ, ◌-◌, ◌^◌, ◌<◌, ◌≤◌, Bool, true, List, [], ◌∷◌, ◌++◌, length, map, sum, slice_index_or, All, Option, Result, Err, IfOk, IfSome, if◌then◌else◌}
 use Rattle.std.specs.List.{IsDistinct}
 use Rattle.std.specs.Iterator.{Drains, Yields}
+use Rattle.std.specs.Iterator.Runs.{EachRunFrom}
 use Rattle.constriction_model.specs.declared.error.ModelError.{ModelError}
 use Rattle.constriction_model.specs.declared.error.ModelError.TheVariants.{InvalidTable}
 
@@ -74,8 +75,42 @@ pub record IsMadeOfBoth {Symbol Word Model : Type 0} (Accepted : List Symbol →
       × ((all : List Symbol) (weights : List Word) → MayGive reading ss all → MayGive other ws weights
       → ¬ (Accepted all (completes (map whole weights))))
 
--- whichever iterator the argument becomes, no two of the symbols that it gives are equal
+-- ---- constructors that are given a known list
+
+-- Each iterator that a value becomes gives items that `value` takes to this list: those so far to a beginning of it, and all of them to all
+-- of it. A caller with a `Vec`, an array or the copied items of a slice need not prove this: search finds it.
+abbrev pub GivesList : {J S A B : Type 0} → (A → B) → (J → S → Type 0) → (S → Option A → S → Type 0) → J → List B → Type 0
+GivesList {S = S} value becomes steps from list =
+    (it : S) → becomes from it → EachRunFrom steps it (λ p. (p.len ≤ length list) × (p.whole ≡ true → map value p.items ≡ list)
+    × ((k : ℕ) → k < p.len → IfSome (p.at k) (λ x. value x ≡ slice_index_or list k (value x))))
+
+-- What a constructor says of its result: `made` whatever it reads, and the rest if what it reads is a known list. Then the list decides: a
+-- model comes only if the list is accepted, and has its rows, and InvalidTable comes only if the list is not accepted.
+pub record IsDecidedByWeights {J S Word Model : Type 0} (Accepted : List ℕ → Type 0) (completes : List ℕ → List ℕ)
+    (becomes : J → S → Type 0) (steps : S → Option Word → S → Type 0) (from : J) (whole : Word → ℕ) (Tells : Model → List ℕ → Type 0)
+    (result : Result Model ModelError) : Type 0 where
+  pub made : IsMadeOfWeights Accepted completes (WasReadOf becomes steps from) whole Tells result
+  pub accepted : (weights : List ℕ) → GivesList whole becomes steps from weights → IfOk result (λ _. Accepted (completes weights))
+  pub rows : (weights : List ℕ) → GivesList whole becomes steps from weights → IfOk result (λ m. Tells m (completes weights))
+  pub invalid : (weights : List ℕ) → GivesList whole becomes steps from weights
+      → result ≡ Err InvalidTable → ¬ (Accepted (completes weights))
+
+-- the same for symbols and weights
+pub record IsDecidedByBoth {J S K T Symbol Word Model : Type 0} (Accepted : List Symbol → List ℕ → Type 0) (completes : List ℕ → List ℕ)
+    (becomes : J → S → Type 0) (steps : S → Option Symbol → S → Type 0) (from : J)
+    (other_becomes : K → T → Type 0) (other_steps : T → Option Word → T → Type 0) (other : K) (whole : Word → ℕ)
+    (Tells : Model → List Symbol → List ℕ → Type 0) (result : Result Model ModelError) : Type 0 where
+  pub made : IsMadeOfBoth Accepted completes (WasReadOf becomes steps from) (WasReadOf other_becomes other_steps other) whole Tells result
+  pub accepted : (symbols : List Symbol) (weights : List ℕ) → GivesList (λ s. s) becomes steps from symbols
+      → GivesList whole other_becomes other_steps other weights → IfOk result (λ _. Accepted symbols (completes weights))
+  pub rows : (symbols : List Symbol) (weights : List ℕ) → GivesList (λ s. s) becomes steps from symbols
+      → GivesList whole other_becomes other_steps other weights → IfOk result (λ m. Tells m symbols (completes weights))
+  pub invalid : (symbols : List Symbol) (weights : List ℕ) → GivesList (λ s. s) becomes steps from symbols
+      → GivesList whole other_becomes other_steps other weights → result ≡ Err InvalidTable → ¬ (Accepted symbols (completes weights))
+
+-- Whichever iterator the argument becomes, no two of the symbols that it gives are equal. Of a `Vec`, an array or the copied items of a slice
+-- whose symbols differ, search finds it.
 abbrev pub GivesDistinct : {J S Symbol : Type 0} → (J → S → Type 0) → (S → Option Symbol → S → Type 0)
     → (Symbol → Symbol → Bool) → J → Type 0
-GivesDistinct {S = S} {Symbol = Symbol} becomes steps eq from =
-    (it : S) (symbols : List Symbol) → becomes from it → Drains steps it symbols → IsDistinct eq symbols
+GivesDistinct {S = S} becomes steps eq from =
+    (it : S) → becomes from it → EachRunFrom steps it (λ p. p.whole ≡ true → IsDistinct eq p.items)

@@ -25,7 +25,6 @@ type Numbers = NonContiguousCategoricalDecoderModel<usize, u8, Vec<(u8, usize)>,
 type NumberLookup = NonContiguousLookupDecoderModel<usize, u8, Vec<(u8, usize)>, Vec<u8>, 6>;
 
 /// The model of four numbers that the caller knows to differ.
-#[tactic(auto, using(crate::proofs::DistinctLemmas::array_gives_distinct))]
 fn of_distinct(alloc: Global, symbols: [usize; 4], weights: [u8; 4]) -> Result<Numbers, ModelError>
     requires { IsDistinct nat_eq symbols }
 {

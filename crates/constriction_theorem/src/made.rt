@@ -2,7 +2,7 @@
 
 ghost use Rattle.std.specs.Prelude.{◌≡◌, ◌<◌, ◌≤◌, map, nat_eq, IfOk, IfErr};
 ghost use Rattle.std.specs.List.{IsDistinct};
-ghost use Rattle.constriction.specs.Acceptance.{completed, IsAccepted, AreAccepted, WasReadOf, IsMadeOfWeights, IsMadeOfBoth};
+ghost use Rattle.constriction.specs.Acceptance.{completed, IsAccepted, AreAccepted};
 ghost use Rattle.constriction.specs.EncoderRows.{encoder_model_rows};
 ghost use Rattle.constriction.specs.Entries.{HoldsEntriesOf, SameEntries};
 ghost use Rattle.constriction.specs.Model.{StandForRows, ClonesAreEqual};
@@ -19,7 +19,6 @@ use constriction_client::laws::DecoderAndEncoder;
 use constriction_words::WholeNumber;
 use std::alloc::Global;
 use std::hash::Hash;
-use std::vec::IntoIter;
 
 /// The searching decoder over any symbols.
 pub(crate) type Searching<Symbol, Probability, const PRECISION: usize> =
@@ -37,28 +36,6 @@ pub(crate) type Contiguous<Probability, const PRECISION: usize> = ContiguousCate
     PRECISION,
 >;
 
-/// The searching decoder of two lists. The clause is the constructor's, about the iterators that the lists become.
-fn searching_of_lists<Symbol: Eq + Drop, Probability: WholeNumber, const PRECISION: usize>(
-    alloc: Global,
-    symbols: Vec<Symbol>,
-    weights: Vec<Probability>,
-    infer_last_probability: bool,
-) -> Result<Searching<Symbol, Probability, PRECISION>, ModelError>
-    requires positive { 0 < PRECISION }
-    requires fits { PRECISION ≤ Probability.BITS }
-    ensures { IsMadeOfBoth (AreAccepted Symbol.eq Probability.BITS PRECISION) (completed PRECISION infer_last_probability)
-        (WasReadOf ⟦<Vec<Symbol> as IntoIterator>⟧.into_iter_gives ⟦<IntoIter<Symbol> as Iterator>⟧.next_gives symbols)
-        (WasReadOf ⟦<Vec<Probability> as IntoIterator>⟧.into_iter_gives ⟦<IntoIter<Probability> as Iterator>⟧.next_gives weights)
-        Probability.whole (λ m ss ws. decoder_model_rows m ≡ rows_of ss ws) result }
-{
-    Searching::from_symbols_and_nonzero_fixed_point_probabilities(
-        alloc,
-        symbols,
-        weights,
-        infer_last_probability,
-    )
-}
-
 /// The searching decoder of two lists.
 pub(crate) fn searching_from<Symbol: Eq + Drop, Probability: WholeNumber, const PRECISION: usize>(
     alloc: Global,
@@ -68,29 +45,20 @@ pub(crate) fn searching_from<Symbol: Eq + Drop, Probability: WholeNumber, const 
 ) -> Result<Searching<Symbol, Probability, PRECISION>, ModelError>
     requires positive { 0 < PRECISION }
     requires fits { PRECISION ≤ Probability.BITS }
-    ensures ok { IfOk result (λ m. let given = completed PRECISION infer_last_probability (map Probability.whole weights.items) in
-        AreAccepted Symbol.eq Probability.BITS PRECISION symbols.items given
-        × (decoder_model_rows m ≡ rows_of symbols.items given)) }
+    ensures accepted { IfOk result (λ _. AreAccepted Symbol.eq Probability.BITS PRECISION symbols.items
+        (completed PRECISION infer_last_probability (map Probability.whole weights.items))) }
+    ensures rows { IfOk result (λ m. decoder_model_rows m
+        ≡ rows_of symbols.items (completed PRECISION infer_last_probability (map Probability.whole weights.items))) }
     ensures invalid { result ≡ Err ModelError.InvalidTable
         → ¬ (AreAccepted Symbol.eq Probability.BITS PRECISION symbols.items
         (completed PRECISION infer_last_probability (map Probability.whole weights.items))) }
 {
-    searching_of_lists(alloc, symbols, weights, infer_last_probability)
-}
-
-/// The model of a list of weights. The clause is the constructor's, about the iterator that the list becomes.
-fn contiguous_of_list<Probability: WholeNumber, const PRECISION: usize>(
-    alloc: Global,
-    weights: Vec<Probability>,
-    infer_last_probability: bool,
-) -> Result<Contiguous<Probability, PRECISION>, ModelError>
-    requires positive { 0 < PRECISION }
-    requires fits { PRECISION ≤ Probability.BITS }
-    ensures { IsMadeOfWeights (IsAccepted Probability.BITS PRECISION) (completed PRECISION infer_last_probability)
-        (WasReadOf ⟦<Vec<Probability> as IntoIterator>⟧.into_iter_gives ⟦<IntoIter<Probability> as Iterator>⟧.next_gives weights)
-        Probability.whole (λ m ws. contiguous_model_rows m ≡ contiguous_rows ws) result }
-{
-    Contiguous::from_nonzero_fixed_point_probabilities(alloc, weights, infer_last_probability)
+    Searching::from_symbols_and_nonzero_fixed_point_probabilities(
+        alloc,
+        symbols,
+        weights,
+        infer_last_probability,
+    )
 }
 
 /// The model of a list of weights.
@@ -101,12 +69,14 @@ pub(crate) fn contiguous_from<Probability: WholeNumber, const PRECISION: usize>(
 ) -> Result<Contiguous<Probability, PRECISION>, ModelError>
     requires positive { 0 < PRECISION }
     requires fits { PRECISION ≤ Probability.BITS }
-    ensures ok { IfOk result (λ m. let given = completed PRECISION infer_last_probability (map Probability.whole weights.items) in
-        IsAccepted Probability.BITS PRECISION given × (contiguous_model_rows m ≡ contiguous_rows given)) }
+    ensures accepted { IfOk result (λ _. IsAccepted Probability.BITS PRECISION
+        (completed PRECISION infer_last_probability (map Probability.whole weights.items))) }
+    ensures rows { IfOk result (λ m. contiguous_model_rows m
+        ≡ contiguous_rows (completed PRECISION infer_last_probability (map Probability.whole weights.items))) }
     ensures invalid { result ≡ Err ModelError.InvalidTable → ¬ (IsAccepted Probability.BITS PRECISION
         (completed PRECISION infer_last_probability (map Probability.whole weights.items))) }
 {
-    contiguous_of_list(alloc, weights, infer_last_probability)
+    Contiguous::from_nonzero_fixed_point_probabilities(alloc, weights, infer_last_probability)
 }
 
 /// The hashed encoder of the rows of a model that can be walked through.

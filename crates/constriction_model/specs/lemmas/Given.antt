@@ -1,101 +1,147 @@
--- Constructors whose iterator gives a known list: a model is the model of this list, and if the result is InvalidTable, the list is not
--- accepted. That an iterator gives a list is std's `YieldsList`. It comes from `gives-array` for an array, from `YieldsList-from_vec` for a
--- Vec, and from `YieldsList-from_copied` over `YieldsList-from_slice` for a slice whose words are copied.
-use Rattle.std.proofs.Common.{◌≡◌, ℕ, List, [], ◌∷◌, ◌++◌, Option, None, Result, Ok, Err, length, map, take, drop, refl, ap, sym, subst, ◌∙◌, take-append-drop}
-use Rattle.std.specs.Prelude.{Bool, IfOk}
-use Rattle.std.specs.Iterator.{Drains}
+-- A constructor's contract at a known list, from what it says of whatever it reads. A caller who makes models needs none of this.
+use Rattle.std.proofs.Common.{◌≡◌, ℕ, zero, suc, ◌+◌, ◌-◌, ◌^◌, ◌<◌, ◌≤◌, true, false, List, [], ◌∷◌, ◌++◌, length, get_or, map, sum, Option, Some, Result, Ok, Err, refl, ap, sym, subst, ◌∙◌, arith}
+use Rattle.std.specs.Prelude.{Bool, IfOk, IfSome, All, slice_get}
+use Rattle.std.specs.Iterator.{Drains, DrainsIf}
 use Rattle.std.specs.List.{IsDistinct}
-use Rattle.std.proofs.lemmas.Iterator.{YieldsList}
-use Rattle.std.specs.Array.Iter.{array_into_iter_items, array_steps}
-use Rattle.std.proofs.lemmas.Iterator.Consumers.{YieldsList-so_far, YieldsList-end, YieldsList-from_shown}
-use Rattle.constriction_model.specs.Acceptance.{Reading, ToItsEnd, SoFar, WasRead, WasReadOf, MayGive, IsMadeOfWeights, IsMadeOfBoth}
+use Rattle.std.proofs.iter.runs.Made.{run, seen, to_end}
+use Rattle.std.proofs.lemmas.List.{map-append, map-id}
+use Rattle.std.proofs.lemmas.List.Elements.{All-head, All-tail}
+use Rattle.constriction_model.specs.Acceptance.{completed, IsAccepted, AreAccepted, Reading, ToItsEnd, SoFar, WasReadOf, MayGive, IsMadeOfWeights, IsMadeOfBoth, GivesList, GivesDistinct, IsDecidedByWeights, IsDecidedByBoth}
 use Rattle.constriction_model.specs.declared.error.ModelError.{ModelError}
 use Rattle.constriction_model.specs.declared.error.ModelError.TheVariants.{InvalidTable}
 
-same-map : {A : Type 0} (xs : List A) → map (λ y. y) xs ≡ xs
-same-map [] = refl
-same-map (x ∷ xs) = ap (λ ys. x ∷ ys) (same-map xs)
+-- the first items of a list, in order, are a beginning of it
+beginning : {A B : Type 0} (value : A → B) (xs : List A) (list : List B) → length xs ≤ length list
+    → ((k : ℕ) → k < length xs → IfSome (slice_get xs k) (λ x. value x ≡ get_or list k (value x)))
+    → (rest : List B) × (list ≡ map value xs ++ rest)
+beginning value [] list short same = (list, refl)
+beginning value (x ∷ xs) [] short same = absurd (omega arith)
+beginning value (x ∷ xs) (y ∷ ys) short same =
+    let first : value x ≡ y = same 0 (omega arith) in
+    let rest = beginning value xs ys (omega arith) (λ k h. same (suc k) (omega arith)) in
+    (rest.0, ap (λ zs. y ∷ zs) rest.1 ∙ ap (λ z. z ∷ (map value xs ++ rest.0)) (sym first))
 
--- the iterator that an array becomes gives its items
-pub gives-array : {A : Type 0} {n : ℕ} {it : _} (items : List A) → array_into_iter_items {X = A} {n = n} it ≡ items
-    → YieldsList (array_steps {A = A} {n = n}) (λ y. y) it items
-gives-array {A} {n} {it} items e =
-    subst (λ (xs : List A). YieldsList (array_steps {A = A} {n = n}) (λ y. y) it xs) e
-    (YieldsList-from_shown (array_steps {A = A} {n = n}) (λ y. y) array_into_iter_items (λ s t p. p.0) (λ s x t p. p) it)
+false-is-true : false ≡ true → ⊥
+false-is-true e = cc
 
--- ---- one iterator, which gives a list
+module _ {J S A B : Type 0} (value : A → B) (becomes : J → S → Type 0) (steps : S → Option A → S → Type 0) (from : J) (list : List B)
+    (gives : GivesList value becomes steps from list) where
+  -- what is read from it to its end is the list
+  all-read : (xs : List A) → WasReadOf becomes steps from ToItsEnd xs → map value xs ≡ list
+  all-read xs read =
+      let p = run steps read.iterator xs true (to_end steps read.iterator xs read.was_read) in
+      (gives read.iterator read.became p (seen (length xs)) refl).1 refl
 
-module _ {S A : Type 0} (steps : S → Option A → S → Type 0) (it : S) (list : List A) (gives : YieldsList steps (λ y. y) it list) where
-  -- what was read from it to its end is the list
-  pub all-given : (xs : List A) → Drains steps it xs → xs ≡ list
-  all-given xs d = sym (same-map xs) ∙ (YieldsList-end gives xs d.1.0 d.1.1 None d.0 refl d.1.2).0
+  -- whatever was read from it, it may give items of this list, if the rest of the list stands for items
+  may-read : ((first rest : List B) → list ≡ first ++ rest → (ys : List A) × (map value ys ≡ rest))
+      → (reading : Reading) (xs : List A) → WasReadOf becomes steps from reading xs
+      → (all : List A) × MayGive reading xs all × (map value all ≡ list)
+  may-read items ToItsEnd xs read = (xs, refl, all-read xs read)
+  may-read items SoFar xs read =
+      let drained : DrainsIf steps (false ≡ true) read.iterator xs = (read.was_read.0, read.was_read.1, λ e. absurd (false-is-true e)) in
+      let given = gives read.iterator read.became (run steps read.iterator xs false drained) (seen (length xs)) refl in
+      let cut = beginning value xs list given.0 given.2 in
+      let more = items (map value xs) cut.0 cut.1 in
+      (xs ++ more.0, (more.0, refl), map-append value xs more.0 ∙ ap (λ ys. map value xs ++ ys) more.1 ∙ sym cut.1)
 
-  -- whatever was read from it, it may give the list
-  pub may-give : (reading : Reading) (xs : List A) → WasRead steps it reading xs → MayGive reading xs list
-  may-give ToItsEnd xs d = sym (all-given xs d)
-  may-give SoFar xs y =
-      let front : xs ≡ take (length xs) list = sym (same-map xs) ∙ YieldsList-so_far gives xs y.0 y.1 in
-      (drop (length xs) list, sym (take-append-drop (length xs) list) ∙ ap (λ ys. ys ++ drop (length xs) list) (sym front))
+-- if no two symbols that an argument gives are equal, no two that were read are
+pub distinct-read : {J S Symbol : Type 0} (becomes : J → S → Type 0) (steps : S → Option Symbol → S → Type 0)
+    (eq : Symbol → Symbol → Bool) (from : J) → GivesDistinct becomes steps eq from
+    → (ss : List Symbol) → WasReadOf becomes steps from ToItsEnd ss → IsDistinct eq ss
+distinct-read becomes steps eq from differ ss read =
+    differ read.iterator read.became (run steps read.iterator ss true (to_end steps read.iterator ss read.was_read)) (seen (length ss))
+    refl refl
 
-  -- if no two symbols of the list are equal, no two that it gave are
-  pub distinct-given : (eq : A → A → Bool) → IsDistinct eq list → (xs : List A) → Drains steps it xs → IsDistinct eq xs
-  distinct-given eq d xs drained = subst (IsDistinct eq) (sym (all-given xs drained)) d
+-- ---- numbers and their words
 
--- ---- what a constructor answers, by its contract, if its arguments give these lists
+All-end : {A : Type 0} (P : A → Type 0) (xs ys : List A) → All P (xs ++ ys) → All P ys
+All-end P [] ys all = all
+All-end P (x ∷ xs) ys all = All-end P xs ys (All-tail P x (xs ++ ys) all)
 
-module _ {J S A : Type 0} (becomes : J → S → Type 0) (steps : S → Option A → S → Type 0) (from : J) (list : List A)
-    (gives : (it : S) → becomes from it → YieldsList steps (λ y. y) it list) where
-  -- what was read from a value to its end is the list
-  pub all-read : (xs : List A) → WasReadOf becomes steps from ToItsEnd xs → xs ≡ list
-  all-read xs read = all-given steps read.iterator list (gives read.iterator read.became) xs read.was_read
+All-front : {A : Type 0} (P : A → Type 0) (xs ys : List A) → All P (xs ++ ys) → All P xs
+All-front P [] ys all k d short = absurd (omega arith)
+All-front P (x ∷ xs) ys all zero d short = All-head P x (xs ++ ys) all
+All-front P (x ∷ xs) ys all (suc k) d short = All-front P xs ys (All-tail P x (xs ++ ys) all) k d (omega arith)
 
-  -- whatever was read from it, it may give the list
-  pub may-read : (reading : Reading) (xs : List A) → WasReadOf becomes steps from reading xs → MayGive reading xs list
-  may-read reading xs read = may-give steps read.iterator list (gives read.iterator read.became) reading xs read.was_read
+given-fit : (P : ℕ → Type 0) (precision : ℕ) (infer : Bool) (weights : List ℕ) → All P (completed precision infer weights) → All P weights
+given-fit P precision true weights all = All-front P weights ((2 ^ precision - sum weights) ∷ []) all
+given-fit P precision false weights all = all
 
-module _ {J S Word Model : Type 0} (becomes : J → S → Type 0) (steps : S → Option Word → S → Type 0) (from : J) (list : List Word)
-    (gives : (it : S) → becomes from it → YieldsList steps (λ y. y) it list)
-    (completes : List ℕ → List ℕ) (whole : Word → ℕ) (Accepted : List ℕ → Type 0) (Tells : Model → List ℕ → Type 0) where
-  -- a model is the model of the list, which is accepted
-  pub made-of-list : (r : Result Model ModelError)
-      → IsMadeOfWeights Accepted completes (WasReadOf becomes steps from) whole Tells r
-      → IfOk r (λ m. Accepted (completes (map whole list)) × Tells m (completes (map whole list)))
-  made-of-list (Ok m) made =
-      let given = made.ok in
-      subst (λ (xs : List Word). Accepted (completes (map whole xs)) × Tells m (completes (map whole xs)))
-      (all-read becomes steps from list gives given.0 given.1) (given.2, given.3)
-  made-of-list (Err e) made = tt
+module _ {Word : Type 0} (bits : ℕ) (whole : Word → ℕ) (word_of : (n : ℕ) → n < 2 ^ bits → (x : Word) × (whole x ≡ n)) where
+  words-of : (ns : List ℕ) → All (λ n. n < 2 ^ bits) ns → (ws : List Word) × (map whole ws ≡ ns)
+  words-of [] fit = ([], refl)
+  words-of (n ∷ ns) fit =
+      let first = word_of n (All-head (λ m. m < 2 ^ bits) n ns fit) in
+      let rest = words-of ns (All-tail (λ m. m < 2 ^ bits) n ns fit) in
+      (first.0 ∷ rest.0, ap (λ m. m ∷ map whole rest.0) first.1 ∙ ap (λ ms. n ∷ ms) rest.1)
 
-  -- if the result is InvalidTable, the list is not accepted
-  pub refused-list : (r : Result Model ModelError)
-      → IsMadeOfWeights Accepted completes (WasReadOf becomes steps from) whole Tells r
-      → r ≡ Err InvalidTable → ¬ (Accepted (completes (map whole list)))
-  refused-list r made e =
-      let bad = made.invalid e in
-      bad.3 list (may-read becomes steps from list gives bad.1 bad.0 bad.2)
+  words-of_rest : (weights : List ℕ) → All (λ n. n < 2 ^ bits) weights
+      → (first rest : List ℕ) → weights ≡ first ++ rest → (ws : List Word) × (map whole ws ≡ rest)
+  words-of_rest weights fit first rest cut =
+      words-of rest (All-end (λ n. n < 2 ^ bits) first rest (subst (All (λ n. n < 2 ^ bits)) cut fit))
 
-module _ {J S K T Symbol Word Model : Type 0} (becomes : J → S → Type 0) (steps : S → Option Symbol → S → Type 0) (from : J)
-    (list : List Symbol) (gives : (it : S) → becomes from it → YieldsList steps (λ y. y) it list)
-    (other_becomes : K → T → Type 0) (other_steps : T → Option Word → T → Type 0) (other : K) (others : List Word)
-    (other_gives : (jt : T) → other_becomes other jt → YieldsList other_steps (λ y. y) jt others)
-    (completes : List ℕ → List ℕ) (whole : Word → ℕ) (Accepted : List Symbol → List ℕ → Type 0)
-    (Tells : Model → List Symbol → List ℕ → Type 0) where
-  -- the same for two lists
-  pub made-of-lists : (r : Result Model ModelError)
-      → IsMadeOfBoth Accepted completes (WasReadOf becomes steps from) (WasReadOf other_becomes other_steps other) whole Tells r
-      → IfOk r (λ m. Accepted list (completes (map whole others)) × Tells m list (completes (map whole others)))
-  made-of-lists (Ok m) made =
-      let given = made.ok in
-      subst (λ (ys : List Word). Accepted list (completes (map whole ys)) × Tells m list (completes (map whole ys)))
-      (all-read other_becomes other_steps other others other_gives given.1 given.3)
-      (subst (λ (xs : List Symbol). Accepted xs (completes (map whole given.1)) × Tells m xs (completes (map whole given.1)))
-      (all-read becomes steps from list gives given.0 given.2) (given.4, given.5))
-  made-of-lists (Err e) made = tt
+-- ---- what a constructor says at lists that it is given
 
-  pub refused-lists : (r : Result Model ModelError)
-      → IsMadeOfBoth Accepted completes (WasReadOf becomes steps from) (WasReadOf other_becomes other_steps other) whole Tells r
-      → r ≡ Err InvalidTable → ¬ (Accepted list (completes (map whole others)))
-  refused-lists r made e =
-      let bad = made.invalid e in
-      bad.6 list others (may-read becomes steps from list gives bad.2 bad.0 bad.4)
-      (may-read other_becomes other_steps other others other_gives bad.3 bad.1 bad.5)
+at-ok : {A E : Type 0} {P : A → Type 0} (r : Result A E) (Q : A → Type 0) → IfOk r P → ((x : A) → P x → Q x) → IfOk r Q
+at-ok (Ok x) Q given so = so x given
+at-ok (Err e) Q given so = tt
+
+module _ {J S Word Model : Type 0} {becomes : J → S → Type 0} {steps : S → Option Word → S → Type 0} {from : J} {whole : Word → ℕ}
+    {Tells : Model → List ℕ → Type 0} (bits precision : ℕ) (infer : Bool)
+    (word_of : (n : ℕ) → n < 2 ^ bits → (x : Word) × (whole x ≡ n)) where
+  pub decided-by_weights : (r : Result Model ModelError)
+      → IsMadeOfWeights (IsAccepted bits precision) (completed precision infer) (WasReadOf becomes steps from) whole Tells r
+      → IsDecidedByWeights (IsAccepted bits precision) (completed precision infer) becomes steps from whole Tells r
+  decided-by_weights r made = record {
+    made = made;
+    accepted = λ weights gives. at-ok r (λ m. IsAccepted bits precision (completed precision infer weights)) made.ok (λ m ok.
+        subst (λ (ns : List ℕ). IsAccepted bits precision (completed precision infer ns))
+        (all-read whole becomes steps from weights gives ok.0 ok.1) ok.2);
+    rows = λ weights gives. at-ok r (λ m. Tells m (completed precision infer weights)) made.ok (λ m ok.
+        subst (λ (ns : List ℕ). Tells m (completed precision infer ns)) (all-read whole becomes steps from weights gives ok.0 ok.1) ok.3);
+    invalid = λ weights gives is good.
+        let bad = made.invalid is in
+        let fit = given-fit (λ n. n < 2 ^ bits) precision infer weights good.fit in
+        let all = may-read whole becomes steps from weights gives (words-of_rest bits whole word_of weights fit) bad.1 bad.0 bad.2 in
+        bad.3 all.0 all.1 (subst (λ (ns : List ℕ). IsAccepted bits precision (completed precision infer ns)) (sym all.2) good);
+  }
+
+module _ {J S K T Symbol Word : Type 0} {becomes : J → S → Type 0} {steps : S → Option Symbol → S → Type 0} {from : J}
+    {other_becomes : K → T → Type 0} {other_steps : T → Option Word → T → Type 0} {other : K} (whole : Word → ℕ) where
+  -- what is true of the lists that were read is true of the lists that are given
+  both-read : (P : List Symbol → List ℕ → Type 0) (symbols : List Symbol) (weights : List ℕ) → GivesList (λ s. s) becomes steps from symbols
+      → GivesList whole other_becomes other_steps other weights
+      → (ss : List Symbol) (ws : List Word) → WasReadOf becomes steps from ToItsEnd ss
+      → WasReadOf other_becomes other_steps other ToItsEnd ws → P ss (map whole ws) → P symbols weights
+  both-read P symbols weights gives others ss ws read other_read holds =
+      subst (P symbols) (all-read whole other_becomes other_steps other weights others ws other_read)
+      (subst (λ (xs : List Symbol). P xs (map whole ws)) (sym (map-id ss) ∙ all-read (λ s. s) becomes steps from symbols gives ss read)
+      holds)
+
+module _ {J S K T Symbol Word Model : Type 0} {becomes : J → S → Type 0} {steps : S → Option Symbol → S → Type 0} {from : J}
+    {other_becomes : K → T → Type 0} {other_steps : T → Option Word → T → Type 0} {other : K} {whole : Word → ℕ}
+    {Tells : Model → List Symbol → List ℕ → Type 0} (Accepted : List Symbol → List ℕ → Type 0) (bits precision : ℕ) (infer : Bool)
+    (word_of : (n : ℕ) → n < 2 ^ bits → (x : Word) × (whole x ≡ n))
+    (fits : (ss : List Symbol) (ns : List ℕ) → Accepted ss ns → All (λ n. n < 2 ^ bits) ns) where
+  pub decided-by_both : (r : Result Model ModelError)
+      → IsMadeOfBoth Accepted (completed precision infer) (WasReadOf becomes steps from) (WasReadOf other_becomes other_steps other) whole
+      Tells r
+      → IsDecidedByBoth Accepted (completed precision infer) becomes steps from other_becomes other_steps other whole Tells r
+  decided-by_both r made = record {
+    made = made;
+    accepted = λ symbols weights gives others.
+        at-ok r (λ m. Accepted symbols (completed precision infer weights)) made.ok (λ m ok.
+        both-read whole (λ ss ns. Accepted ss (completed precision infer ns)) symbols weights gives others ok.0 ok.1 ok.2 ok.3 ok.4);
+    rows = λ symbols weights gives others.
+        at-ok r (λ m. Tells m symbols (completed precision infer weights)) made.ok (λ m ok.
+        both-read whole (λ ss ns. Tells m ss (completed precision infer ns)) symbols weights gives others ok.0 ok.1 ok.2 ok.3 ok.5);
+    invalid = λ symbols weights gives others is good.
+        let bad = made.invalid is in
+        let fit = given-fit (λ n. n < 2 ^ bits) precision infer weights (fits symbols (completed precision infer weights) good) in
+        let ss = may-read (λ s. s) becomes steps from symbols gives (λ _ rest _. (rest, map-id rest)) bad.2 bad.0 bad.4 in
+        let ws = may-read whole other_becomes other_steps other weights others (words-of_rest bits whole word_of weights fit) bad.3 bad.1
+        bad.5 in
+        bad.6 ss.0 ws.0 ss.1 ws.1
+        (subst (λ (ns : List ℕ). Accepted ss.0 (completed precision infer ns)) (sym ws.2)
+        (subst (λ (xs : List Symbol). Accepted xs (completed precision infer weights)) (sym ss.2 ∙ map-id ss.0) good));
+  }

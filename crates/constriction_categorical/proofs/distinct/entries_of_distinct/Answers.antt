@@ -1,4 +1,5 @@
 use Rattle.constriction_model.specs.Acceptance.{WasReadOf}
+use Rattle.constriction_model.specs.lemmas.Given.{distinct-read}
 use Rattle.constriction_categorical.proofs.ReadEntries.{apart-makes}
 use Rattle.constriction_categorical.proofs.distinct.entries_of_distinct.Goals as goal
 
@@ -7,5 +8,5 @@ returns g c =
     apart-makes g.Probability.WholeNumber.whole g.Probability.WholeNumber.BITS g.row.PRECISION c.args.infer_last
     (WasReadOf g.Symbols.IntoIterator.into_iter_gives g.Symbols.IntoIter.Iterator.next_gives c.args.symbols)
     (WasReadOf g.Weights.IntoIterator.into_iter_gives g.Weights.IntoIter.Iterator.next_gives c.args.weights)
-    g.Symbol.PartialEq.eq (λ ss read. c.requires.distinct read.iterator ss read.became read.was_read) c.entries_read.result
+    g.Symbol.PartialEq.eq (distinct-read _ _ g.Symbol.PartialEq.eq c.args.symbols c.requires.distinct) c.entries_read.result
     c.entries_read.ensures

@@ -12,7 +12,7 @@ returns-in-Ok g c =
     let bits = g.Word.WholeNumber.BITS in
     let precision = g.row.PRECISION in
     let weights = c.args.weights.now in
-    let made = c.in-Ok.ensures.ok in
+    let made = c.in-Ok.ensures.made.ok in
     let same : completed precision c.args.infer (map whole made.0) ≡ completed precision c.args.infer weights =
     ap (completed precision c.args.infer)
     (good_read _ _ _ whole bits precision c.args.infer weights made.0 made.1 made.2
@@ -31,7 +31,7 @@ returns-in-Err-InvalidTable g c =
     let whole = g.Word.WholeNumber.whole in
     let bits = g.Word.WholeNumber.BITS in
     let weights = c.args.weights.now in
-    let given = c.in-Err-InvalidTable.ensures.invalid (ap Err c.in-Err-InvalidTable.field-0-is) in
+    let given = c.in-Err-InvalidTable.ensures.made.invalid (ap Err c.in-Err-InvalidTable.field-0-is) in
     record {
       accepted = tt;
       rows = tt;

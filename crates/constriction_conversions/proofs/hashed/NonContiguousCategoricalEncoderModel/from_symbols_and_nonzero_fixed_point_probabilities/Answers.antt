@@ -8,6 +8,7 @@ use Rattle.std.proofs.lemmas.Map.Made.{distinct_count-from_IsDistinct}
 use Rattle.constriction_model.specs.Acceptance.{AreAccepted, completed}
 use Rattle.constriction_model.specs.Rows.{rows_of}
 use Rattle.constriction_model.specs.lemmas.Coding.{rows-within}
+use Rattle.constriction_model.specs.lemmas.Given.{decided-by_both}
 use Rattle.constriction_conversions.proofs.HashLemmas.{table-rows_within, found-within, table-entry_of, table-count}
 use Rattle.constriction_stored_rows.proofs.MadeLemmas.{made-unrefused, bad-both}
 use Rattle.constriction_stored_rows.proofs.PairedLemmas.{accepted-tile, accepted-symbols}
@@ -43,6 +44,8 @@ returns g c =
     let weights = completed g.row.PRECISION c.args.infer_last_probability (map whole given.1) in
     let good = given.4 in
     let rows = rows_of given.0 weights in
+    decided-by_both (AreAccepted g.Symbol.PartialEq.eq g.Probability.WholeNumber.BITS g.row.PRECISION) g.Probability.WholeNumber.BITS
+    g.row.PRECISION c.args.infer_last_probability g.met.Probability.WholeNumber.number_law (λ ss ns a. a.tile.fit) _
     record {
       ok = (
         given.0,
@@ -90,18 +93,21 @@ pub rows_read-requires-clause-weights_end : goal.rows_read-requires-clause-weigh
 rows_read-requires-clause-weights_end g c = (c.requires.probabilities_end c.into_iter-probabilities.result c.into_iter-probabilities.ensures.into_iter_gives).1
 
 pub returns-in_err-read : goal.returns-in_err-read
-returns-in_err-read g c = record {
-  ok = search rules;
-  invalid = λ h.
-      let e : c.rows_read.result ≡ Err InvalidTable = search rules in
-      bad-both g.S.IntoIterator.into_iter_gives g.S.IntoIter.Iterator.next_gives c.args.symbols g.P.IntoIterator.into_iter_gives
-      g.P.IntoIter.Iterator.next_gives c.args.probabilities
-      (λ ss ws. AreAccepted g.Symbol.PartialEq.eq g.Probability.WholeNumber.BITS g.row.PRECISION ss
-      (completed g.row.PRECISION c.args.infer_last_probability (map g.Probability.WholeNumber.whole ws))) (
-        c.into_iter-symbols.result,
-        c.into_iter-symbols.ensures.into_iter_gives,
-        c.into_iter-probabilities.result,
-        c.into_iter-probabilities.ensures.into_iter_gives,
-        c.rows_read.ensures.invalid e,
-      );
-}
+returns-in_err-read g c =
+    decided-by_both (AreAccepted g.Symbol.PartialEq.eq g.Probability.WholeNumber.BITS g.row.PRECISION) g.Probability.WholeNumber.BITS
+    g.row.PRECISION c.args.infer_last_probability g.met.Probability.WholeNumber.number_law (λ ss ns a. a.tile.fit) _
+    record {
+      ok = search rules;
+      invalid = λ h.
+          let e : c.rows_read.result ≡ Err InvalidTable = search rules in
+          bad-both g.S.IntoIterator.into_iter_gives g.S.IntoIter.Iterator.next_gives c.args.symbols g.P.IntoIterator.into_iter_gives
+          g.P.IntoIter.Iterator.next_gives c.args.probabilities
+          (λ ss ws. AreAccepted g.Symbol.PartialEq.eq g.Probability.WholeNumber.BITS g.row.PRECISION ss
+          (completed g.row.PRECISION c.args.infer_last_probability (map g.Probability.WholeNumber.whole ws))) (
+            c.into_iter-symbols.result,
+            c.into_iter-symbols.ensures.into_iter_gives,
+            c.into_iter-probabilities.result,
+            c.into_iter-probabilities.ensures.into_iter_gives,
+            c.rows_read.ensures.invalid e,
+          );
+    }
