@@ -1,68 +1,51 @@
--- The words of a state: they exist, how many there are, and what writing them gives.
+-- The words of a coder: what writing those of its state gives, how many there are, and what the last one is.
 use Rattle.std.proofs.Common.{◌≡◌, ℕ, ◌+◌, ◌/◌, ◌%◌, ◌^◌, ◌<◌, ◌≤◌, List, [], ◌∷◌, ◌++◌, suc, zero, Result, Ok, Err, length, refl, ap, sym, ◌∙◌, arith, inl, inr}
 use Rattle.std.proofs.lemmas.Bool.{cases_lt}
 use Rattle.std.proofs.lemmas.List.{append_assoc, length-append, same_from_push}
-use Rattle.constriction_coders.specs.Compressed.{AreWordsOf, AreAllWordsOf, IsCompressed, IsClosed, ClosingStops}
-use Rattle.constriction_coders.specs.Steps.{Content}
-
--- a state below 2 ^ 32 that is not 0 is its only word
-pub one-word : (state : ℕ) → 0 < state → state < 2 ^ 32 → AreWordsOf state (state % 2 ^ 32 ∷ [])
-one-word state some small = let same : state % 2 ^ 32 ≡ state = omega (arith, small) in rw same (inr (inl (some, small, refl)))
-
-pub two-words : (state : ℕ) → 2 ^ 32 ≤ state → AreWordsOf state (state % 2 ^ 32 ∷ state / 2 ^ 32 ∷ [])
-two-words state least = inr (inr (least, refl))
+use Rattle.constriction_backends.specs.Sink.{Writes}
+use Rattle.constriction_coders.specs.Compressed.{AreAllWordsOf, IsCompressed}
+use Rattle.constriction_coders.specs.Steps.{Content, content}
+use Rattle.constriction_coders.specs.StoredWeights.{StopsAtWord}
 
 module _ {S E : Type 0} (gives : S → ℕ → Result (Unit {0}) E → S → Type 0) (state : ℕ) (from : S) (some : 0 < state) where
-  pub closed-one : (to : S) → state < 2 ^ 32 → gives from (state % 2 ^ 32) (Ok tt) to → IsClosed gives state from to
-  closed-one to small step = (state % 2 ^ 32 ∷ [], one-word state some small, (to, step, refl))
+  -- a state below 2 ^ 32 that is not 0 is its only word
+  one-word : state < 2 ^ 32 → AreAllWordsOf (content state []) (state % 2 ^ 32 ∷ [])
+  one-word small = let same : state % 2 ^ 32 ≡ state = omega (arith, small) in rw same (inr (inl (some, small, refl)))
 
-  pub closed-two : (reached to : S) → 2 ^ 32 ≤ state → gives from (state % 2 ^ 32) (Ok tt) reached
-      → gives reached (state / 2 ^ 32) (Ok tt) to → IsClosed gives state from to
-  closed-two reached to least low high =
-      (state % 2 ^ 32 ∷ state / 2 ^ 32 ∷ [], two-words state least, (reached, low, (to, high, refl)))
+  pub wrote-one : (to : S) → state < 2 ^ 32 → gives from (state % 2 ^ 32) (Ok tt) to
+      → (own : List ℕ) × AreAllWordsOf (content state []) own × Writes gives from own to
+  wrote-one to small step = (state % 2 ^ 32 ∷ [], one-word small, (to, step, refl))
+
+  pub wrote-two : (reached to : S) → 2 ^ 32 ≤ state → gives from (state % 2 ^ 32) (Ok tt) reached
+      → gives reached (state / 2 ^ 32) (Ok tt) to → (own : List ℕ) × AreAllWordsOf (content state []) own × Writes gives from own to
+  wrote-two reached to least low high = (state % 2 ^ 32 ∷ state / 2 ^ 32 ∷ [], inr (inr (least, refl)), (reached, low, (to, high, refl)))
 
   -- the first word was refused
-  pub stops-first : (left : S) (error : E) → gives from (state % 2 ^ 32) (Err error) left → ClosingStops gives state from error
+  pub stops-first : (left : S) (error : E) → gives from (state % 2 ^ 32) (Err error) left
+      → (own : List ℕ) × AreAllWordsOf (content state []) own × ((left : S) × StopsAtWord gives from own error left)
   stops-first left error step =
+      let stops : (after : List ℕ) → StopsAtWord gives from (state % 2 ^ 32 ∷ after) error left = λ after. record {
+        before = [];
+        word = state % 2 ^ 32;
+        after = after;
+        split = refl;
+        reached = from;
+        written = refl;
+        refused = step;
+      } in
       elim (cases_lt state (2 ^ 32)) [
-        | inl small ↦ (
-          state % 2 ^ 32 ∷ [],
-          one-word state some small,
-          left,
-          record {
-            before = [];
-            word = state % 2 ^ 32;
-            after = [];
-            split = refl;
-            reached = from;
-            written = refl;
-            refused = step;
-          },
-        )
-        | inr least ↦ (
-          state % 2 ^ 32 ∷ state / 2 ^ 32 ∷ [],
-          two-words state least,
-          left,
-          record {
-            before = [];
-            word = state % 2 ^ 32;
-            after = state / 2 ^ 32 ∷ [];
-            split = refl;
-            reached = from;
-            written = refl;
-            refused = step;
-          },
-        )
+        | inl small ↦ (state % 2 ^ 32 ∷ [], one-word small, (left, stops []))
+        | inr least ↦ (state % 2 ^ 32 ∷ state / 2 ^ 32 ∷ [], inr (inr (least, refl)), (left, stops (state / 2 ^ 32 ∷ [])))
       ]
 
   -- the second word was refused
   pub stops-second : (reached left : S) (error : E) → 2 ^ 32 ≤ state → gives from (state % 2 ^ 32) (Ok tt) reached
-      → gives reached (state / 2 ^ 32) (Err error) left → ClosingStops gives state from error
+      → gives reached (state / 2 ^ 32) (Err error) left
+      → (own : List ℕ) × AreAllWordsOf (content state []) own × ((left : S) × StopsAtWord gives from own error left)
   stops-second reached left error least low step = (
     state % 2 ^ 32 ∷ state / 2 ^ 32 ∷ [],
-    two-words state least,
-    left,
-    record {
+    inr (inr (least, refl)),
+    (left, record {
       before = state % 2 ^ 32 ∷ [];
       word = state / 2 ^ 32;
       after = [];
@@ -70,7 +53,7 @@ module _ {S E : Type 0} (gives : S → ℕ → Result (Unit {0}) E → S → Typ
       reached = reached;
       written = (reached, low, refl);
       refused = step;
-    },
+    }),
   )
 
 -- there are as many words as under the state, and in the state

@@ -1,17 +1,20 @@
 -- A coder as words alone, and the writes and reads that turn one into the other.
-use Rattle.std.specs.Prelude.{◌≡◌, ℕ, ◌+◌, ◌*◌, ◌/◌, ◌%◌, ◌^◌, ◌<◌, ◌≤◌, ◌⊎◌, List, [], ◌∷◌, ◌++◌, Option, Some, None, Result, Ok, Err}
+use Rattle.std.specs.Prelude.{◌≡◌, ℕ, ◌+◌, ◌*◌, ◌/◌, ◌%◌, ◌^◌, ◌<◌, ◌≤◌, ◌⊎◌, List, [], ◌∷◌, ◌++◌, Option, Some, None, Result, Ok, Err, MatchResult}
+use Rattle.std.specs.declared.fmt.Debug as shown
+use Rattle.constriction.specs.declared.CoderError.{CoderError}
+use Rattle.constriction.specs.declared.CoderError.TheVariants.{Frontend, Backend}
+use Rattle.constriction.specs.declared.Stack.{Stack}
+use Rattle.constriction.specs.declared.backends.ReadWords as source
+use Rattle.constriction.specs.declared.backends.WordStack as stack
+use Rattle.constriction.specs.declared.backends.WriteWords as sink
 use Rattle.constriction_backends.specs.Sink.{Writes}
-use Rattle.constriction_coders.specs.Steps.{Content, MayBeHeld}
+use Rattle.constriction_backends.specs.Source.{GivesAnswers}
+use Rattle.constriction_coders.specs.declared.stack.ans_coder.AnsCoder.{AnsCoder}
+use Rattle.constriction_coders.specs.Steps.{Content, content, MayBeHeld}
 use Rattle.constriction_coders.specs.StoredWeights.{StopsAtWord}
 
--- the words of a state, the lower one first and without a leading zero: none for 0, one for a state below 2 ^ 32, and two for any other
-abbrev pub AreWordsOf : ℕ → List ℕ → Type 0
-AreWordsOf state own =
-    ((state ≡ 0) × (own ≡ []))
-    ⊎ ((0 < state) × (state < 2 ^ 32) × (own ≡ state ∷ []))
-    ⊎ ((2 ^ 32 ≤ state) × (own ≡ state % 2 ^ 32 ∷ state / 2 ^ 32 ∷ []))
-
--- all words of a content: those under the state, and then those of the state
+-- All words of a content: those under the state, and then those of the state, the lower one first and without a leading zero: none for 0,
+-- one for a state below 2 ^ 32, and two for any other.
 abbrev pub AreAllWordsOf : Content → List ℕ → Type 0
 AreAllWordsOf c all =
     ((c.state ≡ 0) × (all ≡ c.words))
@@ -23,27 +26,27 @@ pub record IsCompressed (c : Content) (all : List ℕ) : Type 0 where
   pub held : MayBeHeld c
   pub words : AreAllWordsOf c all
 
-module _ {S E : Type 0} (gives : S → ℕ → Result (Unit {0}) E → S → Type 0) (state : ℕ) (from : S) where
-  -- the words of the state were written, which led to `to`
-  abbrev pub IsClosed : S → Type 0
-  IsClosed to = (own : List ℕ) × AreWordsOf state own × Writes gives from own to
+module _ {S WriteError ReadError : Type 0} {words : stack.Ghosts S ℕ WriteError ReadError} {writes : sink.Ghosts S ℕ WriteError}
+    {fault : shown.Ghosts WriteError} {reads : source.Ghosts S ℕ Stack ReadError} {other_fault : shown.Ghosts ReadError} where
+  -- the words of the coder's state were written to the words under it: all of them, or those before one that was refused
+  abbrev pub WritesState : AnsCoder S WriteError ReadError words writes fault reads other_fault → Result S WriteError → Type 0
+  WritesState coder r =
+      (own : List ℕ) × AreAllWordsOf (content coder.state []) own
+      × MatchResult r
+      (λ to. Writes writes.write_gives coder.words own to)
+      (λ error. (left : S) × StopsAtWord writes.write_gives coder.words own error left)
 
-  -- one of the words of the state was refused with this error
-  abbrev pub ClosingStops : E → Type 0
-  ClosingStops error = (own : List ℕ) × AreWordsOf state own × (left : S) × StopsAtWord gives from own error left
-
-module _ {S E : Type 0} (gives : S → Result (Option ℕ) E → S → Type 0) (from : S) where
-  -- Reads gave the words of the state from the top, and led to `to`: none, because the source was at its end; one that is not 0, and then
-  -- the end; or two, the first of them not 0.
-  abbrev pub IsOpened : ℕ → S → Type 0
-  IsOpened state to =
-      ((state ≡ 0) × gives from (Ok None) to)
-      ⊎ ((0 < state) × (state < 2 ^ 32) × ((reached : S) × gives from (Ok (Some state)) reached × gives reached (Ok None) to))
-      ⊎ ((high : ℕ) × (low : ℕ) × (0 < high) × (state ≡ high * 2 ^ 32 + low)
-      × ((reached : S) × gives from (Ok (Some high)) reached × gives reached (Ok (Some low)) to))
-
-  -- one of these reads answered this error
-  abbrev pub OpeningStops : E → Type 0
-  OpeningStops error =
-      ((left : S) × gives from (Err error) left)
-      ⊎ ((high : ℕ) × (reached left : S) × gives from (Ok (Some high)) reached × gives reached (Err error) left)
+  -- The words of a coder's state were read from the top: two, or fewer and then the end. A word of 0 on top belongs to no state. Or the
+  -- first or the second read failed.
+  abbrev pub ReadsState : S → Result (AnsCoder S WriteError ReadError words writes fault reads other_fault) (CoderError S ReadError) → Type 0
+  ReadsState from (Ok coder) =
+      ((coder.state ≡ 0) × GivesAnswers reads.read_gives from (Ok None ∷ []) coder.words)
+      ⊎ ((0 < coder.state) × (coder.state < 2 ^ 32)
+      × GivesAnswers reads.read_gives from (Ok (Some coder.state) ∷ Ok None ∷ []) coder.words)
+      ⊎ ((high : ℕ) × (low : ℕ) × (0 < high) × (coder.state ≡ high * 2 ^ 32 + low)
+      × GivesAnswers reads.read_gives from (Ok (Some high) ∷ Ok (Some low) ∷ []) coder.words)
+  ReadsState from (Err (Frontend left)) = GivesAnswers reads.read_gives from (Ok (Some 0) ∷ []) left
+  ReadsState from (Err (Backend error)) =
+      (left : S)
+      × (GivesAnswers reads.read_gives from (Err error ∷ []) left
+      ⊎ ((high : ℕ) × GivesAnswers reads.read_gives from (Ok (Some high) ∷ Err error ∷ []) left))

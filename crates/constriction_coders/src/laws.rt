@@ -10,9 +10,9 @@ pub use self::queue::{
     range_place_comes_back, range_symbol_comes_back, range_symbols_come_back, sealed_words_tell,
 };
 pub use self::stack::{
-    back_and_there, bits_come_back, coder_comes_back, compressed_comes_back, compressed_once,
-    decoded_goes_back, encoded_once, may_be_held, place_comes_back, symbol_comes_back,
-    symbols_come_back, there_and_back, words_come_back, words_once,
+    back_and_there, bits_come_back, compressed_comes_back, compressed_once, decoded_goes_back,
+    encoded_once, may_be_held, place_comes_back, symbol_comes_back, symbols_come_back,
+    there_and_back, words_come_back, words_once,
 };
 
 /// Why a message did not come back.

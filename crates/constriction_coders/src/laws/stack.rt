@@ -1,10 +1,10 @@
 //! What comes back from a stack coder, each law the contract of a function.
 
-ghost use Rattle.std.specs.Prelude.{◌≡◌, ◌≢◌, ◌++◌, ◌∷◌, [], ℕ, List, Some, Ok, Err, IsTrue, length, reverse, IfOk, OnOk};
+ghost use Rattle.std.specs.Prelude.{◌≡◌, ◌≢◌, ℕ, List, Err, IsTrue, length, reverse, IfOk, OnOk};
 ghost use Rattle.std.specs.Fn.{FnReturnsAt};
 ghost use Rattle.std.specs.List.{AllZip};
 ghost use Rattle.constriction_coders.specs.BitsBack.{FitTogether, BitsComeBack};
-ghost use Rattle.constriction_coders.specs.Compressed.{IsCompressed, IsClosed, ClosingStops, IsOpened, OpeningStops};
+ghost use Rattle.constriction_coders.specs.Compressed.{IsCompressed};
 ghost use Rattle.constriction_coders.specs.Laws.{SymbolComesBack, SymbolsComeBack, EncodedOnce, EncodesThen, IsInvertible, DecodedGoesBack, DecodedHasEntry};
 ghost use Rattle.constriction_coders.specs.Positions.{PlaceComesBack};
 ghost use Rattle.constriction_coders.specs.StackMessages.{WordsOnce, WordsComeBack, SymbolsOnce, WordsEndAbove0, WordsGoBack};
@@ -230,13 +230,8 @@ pub fn compressed_comes_back<Backend: WordStack<u32> + Drop>(
 >
     ensures state { IfOk result (λ again. again.state ≡ coder.state) }
     ensures words { IfOk result (λ again. Backend.words_of again.words ≡ Backend.words_of coder.words) }
-    ensures between { IfOk result (λ again. (between : Backend) × IsCompressed (content coder.state (Backend.words_of coder.words))
-        (Backend.words_of between) × IsClosed Backend.write_gives coder.state coder.words between
-        × IsOpened Backend.read_gives between again.state again.words) }
-    ensures unwritten { (error : _) → result ≡ Err (ReadWriteError.Write error)
-        → ClosingStops Backend.write_gives coder.state coder.words error }
-    ensures unread { (error : _) → result ≡ Err (ReadWriteError.Read (CoderError.Backend error)) → (between : Backend)
-        × IsClosed Backend.write_gives coder.state coder.words between × OpeningStops Backend.read_gives between error }
+    ensures between { IfOk result (λ _. (between : Backend) × IsCompressed (content coder.state (Backend.words_of coder.words))
+        (Backend.words_of between)) }
     ensures accepted { (left : _) → result ≢ Err (ReadWriteError.Read (CoderError.Frontend left)) }
 {
     match coder.into_compressed() {
@@ -245,33 +240,5 @@ pub fn compressed_comes_back<Backend: WordStack<u32> + Drop>(
             Err(error) => Err(ReadWriteError::Read(error)),
         },
         Err(error) => Err(ReadWriteError::Write(error)),
-    }
-}
-
-/// Turns words into a coder, and this into words, which are the first ones.
-///
-/// Words that end in 0 are refused. Otherwise it fails only if a read or a write fails.
-pub fn coder_comes_back<Backend: WordStack<u32> + Drop>(
-    words: Backend,
-) -> Result<Backend, ReadWriteError<CoderError<Backend, Backend::ReadError>, Backend::WriteError>>
-    ensures words { IfOk result (λ again. Backend.words_of again ≡ Backend.words_of words) }
-    ensures between { IfOk result (λ again. (state : ℕ) × (between : Backend)
-        × IsCompressed (content state (Backend.words_of between)) (Backend.words_of words)
-        × IsOpened Backend.read_gives words state between × IsClosed Backend.write_gives state between again) }
-    ensures refused { (left : _) → result ≡ Err (ReadWriteError.Read (CoderError.Frontend left))
-        → Backend.words_of words ≡ Backend.words_of left ++ 0 ∷ [] }
-    ensures answered { (left : _) → result ≡ Err (ReadWriteError.Read (CoderError.Frontend left))
-        → Backend.read_gives words (Ok (Some 0)) left }
-    ensures unread { (error : _) → result ≡ Err (ReadWriteError.Read (CoderError.Backend error))
-        → OpeningStops Backend.read_gives words error }
-    ensures unwritten { (error : _) → result ≡ Err (ReadWriteError.Write error) → (state : ℕ) × (between : Backend)
-        × IsOpened Backend.read_gives words state between × ClosingStops Backend.write_gives state between error }
-{
-    match AnsCoder::from_compressed(words) {
-        Ok(coder) => match coder.into_compressed() {
-            Ok(again) => Ok(again),
-            Err(error) => Err(ReadWriteError::Write(error)),
-        },
-        Err(error) => Err(ReadWriteError::Read(error)),
     }
 }

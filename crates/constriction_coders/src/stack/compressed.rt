@@ -1,7 +1,7 @@
 //! A coder as words alone, and the coder of such words.
 
-ghost use Rattle.std.specs.Prelude.{◌≡◌, ◌≢◌, ◌↔◌, ◌<◌, ◌≤◌, ◌^◌, ◌++◌, ◌∷◌, [], List, ℕ, Some, Ok, Err, IfOk, IsTrue, length, vec_capacity};
-ghost use Rattle.constriction_coders.specs.Compressed.{IsCompressed, IsClosed, ClosingStops, IsOpened, OpeningStops};
+ghost use Rattle.std.specs.Prelude.{◌≡◌, ◌≢◌, ◌↔◌, ◌<◌, ◌≤◌, ◌^◌, ◌++◌, ◌∷◌, [], List, ℕ, Err, IfOk, IsTrue, length, vec_capacity};
+ghost use Rattle.constriction_coders.specs.Compressed.{IsCompressed, ReadsState, WritesState};
 ghost use Rattle.constriction_coders.specs.Steps.{content};
 
 use crate::stack::ans_coder::AnsCoder;
@@ -57,8 +57,7 @@ impl<Backend: WordStack<u32> + Drop> AnsCoder<Backend> {
     pub fn into_compressed(self) -> Result<Backend, Backend::WriteError>
         ensures ok { IfOk result (λ words. IsCompressed (content self.state (Backend.words_of self.words)) (Backend.words_of words)) }
         ensures end { IfOk result (λ words. (others : List ℕ) → Backend.words_of words ≢ others ++ 0 ∷ []) }
-        ensures wrote { IfOk result (λ words. IsClosed Backend.write_gives self.state self.words words) }
-        ensures failed { (error : _) → result ≡ Err error → ClosingStops Backend.write_gives self.state self.words error }
+        ensures wrote { WritesState self result }
     {
         let state = self.state;
         let mut words = self.words;
@@ -84,11 +83,9 @@ impl<Backend: WordStack<u32> + Drop> AnsCoder<Backend> {
     /// that 0. All other words are accepted. No words at all make a coder that holds nothing.
     pub fn from_compressed(words: Backend) -> Result<Self, CoderError<Backend, Backend::ReadError>>
         ensures ok { IfOk result (λ coder. IsCompressed (content coder.state (Backend.words_of coder.words)) (Backend.words_of words)) }
-        ensures read { IfOk result (λ coder. IsOpened Backend.read_gives words coder.state coder.words) }
         ensures refused { (left : _) → result ≡ Err (CoderError.Frontend left)
             → Backend.words_of words ≡ Backend.words_of left ++ 0 ∷ [] }
-        ensures answered { (left : _) → result ≡ Err (CoderError.Frontend left) → Backend.read_gives words (Ok (Some 0)) left }
-        ensures failed { (error : _) → result ≡ Err (CoderError.Backend error) → OpeningStops Backend.read_gives words error }
+        ensures read { ReadsState words result }
     {
         let mut words = words;
         let high = match words.pop() {
