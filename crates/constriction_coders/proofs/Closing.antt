@@ -45,15 +45,18 @@ module _ {S E : Type 0} (gives : S → ℕ → Result (Unit {0}) E → S → Typ
   stops-second reached left error least low step = (
     state % 2 ^ 32 ∷ state / 2 ^ 32 ∷ [],
     inr (inr (least, refl)),
-    (left, record {
-      before = state % 2 ^ 32 ∷ [];
-      word = state / 2 ^ 32;
-      after = [];
-      split = refl;
-      reached = reached;
-      written = (reached, low, refl);
-      refused = step;
-    }),
+    (
+      left,
+      record {
+        before = state % 2 ^ 32 ∷ [];
+        word = state / 2 ^ 32;
+        after = [];
+        split = refl;
+        reached = reached;
+        written = (reached, low, refl);
+        refused = step;
+      },
+    ),
   )
 
 -- there are as many words as under the state, and in the state

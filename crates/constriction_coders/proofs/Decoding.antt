@@ -9,7 +9,7 @@ use Rattle.constriction.specs.Coding.{InTurn, StandsForEqual}
 use Rattle.constriction.specs.lemmas.Coding.{entry-back, rows-within}
 use Rattle.constriction.specs.Rows.{Row, RowsTile, IsRowOf, entry_of}
 use Rattle.constriction_backends.specs.Source.{ReadsUpcoming}
-use Rattle.constriction_coders.specs.Intervals.{Interval, interval, part_of, word_or_zero, HoldsPoint, IsAboveAll, IsStretched, IsStart, Held, held_of, IsRead}
+use Rattle.constriction_coders.specs.Intervals.{Interval, interval, part_of, word_or_zero, HoldsPoint, IsAboveAll, IsWidenedByRead, IsStart, Held, held_of, IsRead}
 use Rattle.constriction_coders.specs.Numbers.{number_first}
 use Rattle.constriction_coders.specs.RangeLaws.{IsAt, IsDecodedFrom, DecoderFollows, EndsThere, NeverAboveAll, RangeSymbolComesBack, RangeSymbolsComeBack}
 use Rattle.constriction_coders.specs.Spans.{Span, span, whole, part_in, IsWidened, IsNarrowed, LiesIn}
@@ -68,7 +68,7 @@ module _ {S E : Type 0} (gives : S → Result (Option ℕ) E → S → Type 0) (
   -- the decoder holds the part if decoder and encoder widen it, or leave it, alike
   pub is-at-part : (part new : Span) (words : List ℕ) (i held : Interval) (from to : S)
       → i ≡ interval part.size (number_first (part.written + 2) words - part.low) → part.low ≤ number_first (part.written + 2) words
-      → tells from (drop (part.written + 2) words) → IsStretched gives i from held to → IsWidened part new
+      → tells from (drop (part.written + 2) words) → IsWidenedByRead gives i from held to → IsWidened part new
       → IsAt tells new words (record { held = held; source = to })
   is-at-part part new words i held from to is low known (inl stays) (inl same) =
       let there : IsAt tells part words (record { held = held; source = to }) = record {
@@ -163,9 +163,9 @@ module _ {Symbol S E : Type 0} (Stands : Symbol → Symbol → Type 0) (eq : Sym
 
         is-at-next : IsAt tells new words later
         is-at-next =
-            let stretched : IsStretched gives (interval (unit * e.weight) (offset - unit * e.left)) now.source later.held later.source =
+            let stretched : IsWidenedByRead gives (interval (unit * e.weight) (offset - unit * e.left)) now.source later.held later.source =
             rw (same-entry.1, same-entry.2) at
-            (subst (λ (i : Interval). IsStretched gives (part_of precision d.row.left d.row.weight i) now.source later.held later.source)
+            (subst (λ (i : Interval). IsWidenedByRead gives (part_of precision d.row.left d.row.weight i) now.source later.held later.source)
             here.held d.next) in
             let away : offset - unit * e.left ≡ number_first (old.written + 2) words - (old.low + unit * e.left) =
             omega (arith, inside.0) in

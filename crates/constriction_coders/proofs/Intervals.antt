@@ -1,14 +1,8 @@
 -- A step of a range decoder, from its arithmetic.
-use Rattle.std.proofs.Common.{◌≡◌, ℕ, ◌+◌, ◌-◌, ◌*◌, ◌/◌, ◌^◌, ◌<◌, ◌≤◌, List, Option, Result, Ok, Err, length, refl, ap, sym, ◌∙◌, subst, arith, inl, inr}
+use Rattle.std.proofs.Common.{◌≡◌, ℕ, ◌+◌, ◌-◌, ◌*◌, ◌/◌, ◌^◌, ◌<◌, ◌≤◌, List, Option, Result, Ok, ap, ◌∙◌, subst, arith, inl, inr}
 use Rattle.std.proofs.lemmas.Nat.{mul-le}
-use Rattle.constriction.specs.Coding.{InTurn}
-use Rattle.constriction.specs.declared.CoderError.{CoderError}
-use Rattle.constriction.specs.declared.CoderError.TheVariants.{Frontend, Backend}
-use Rattle.constriction.specs.Model.{RowMayBeRefused}
 use Rattle.constriction.specs.Rows.{Row, IsRowOf}
-use Rattle.constriction_coders.specs.declared.queue.range_decoder.DecoderFrontendError.{DecoderFrontendError}
-use Rattle.constriction_coders.specs.declared.queue.range_decoder.DecoderFrontendError.TheVariants.{InvalidData, OutOfMemory}
-use Rattle.constriction_coders.specs.Intervals.{Interval, interval, word_or_zero, HoldsPoint, IsAboveAll, IsRead, IsReadingFault, ReadingStops, Held, held_of}
+use Rattle.constriction_coders.specs.Intervals.{interval, word_or_zero, HoldsPoint, IsRead, held_of}
 
 module _ (offset unit quantile left weight : ℕ) (from : unit * quantile ≤ offset) (to : offset < unit * (quantile + 1))
     (first : left ≤ quantile) (last : quantile < left + weight) where
@@ -64,7 +58,7 @@ module _ {Symbol S E : Type 0} (Stands : Symbol → Symbol → Type 0) (rows : L
     );
   }
 
-  -- a small part is stretched by a word
+  -- a small part is widened by a word
   pub read_small : (part_range part_offset word new_range new_offset : ℕ) → part_range ≡ unit * weight
       → part_offset ≡ offset - unit * left → part_range < 2 ^ 32 → new_range ≡ part_range * 2 ^ 32
       → new_offset ≡ part_offset * 2 ^ 32 + word → (asked : Option ℕ) → gives from (Ok asked) to → word ≡ word_or_zero asked
@@ -84,41 +78,3 @@ module _ {Symbol S E : Type 0} (Stands : Symbol → Symbol → Type 0) (rows : L
           ∙ ap (λ n. (offset - unit * left) * 2 ^ 32 + n) is_word)),
     );
   }
-
--- a run stops at a step that fails, which leaves what is held
-module _ {Symbol S E : Type 0} (Stands : Symbol → Symbol → Type 0) (MayRefuse : Symbol → Type 0) (rows : List (Row Symbol))
-    (gives : S → Result (Option ℕ) E → S → Type 0) (precision : ℕ) (old : Held S) (range offset : ℕ) (reached : S)
-    (new_range new_offset : ℕ)
-    (left : S) (stays : new_range ≡ range) (stands : new_offset ≡ offset) where
-  pub fault : {T : Type 0} (error : CoderError DecoderFrontendError E)
-      → ((let r : Result T (CoderError DecoderFrontendError E) = Err error in r ≡ Err (Frontend InvalidData))
-      → IsAboveAll precision (interval range offset))
-      → ((let r : Result T (CoderError DecoderFrontendError E) = Err error in r ≡ Err (Frontend OutOfMemory))
-      → (quantile : ℕ) × HoldsPoint precision quantile 1 (interval range offset) × RowMayBeRefused MayRefuse rows quantile)
-      → ((e : E) → (let r : Result T (CoderError DecoderFrontendError E) = Err error in r ≡ Err (Backend e)) → gives reached (Err e) left)
-      → ((f : DecoderFrontendError)
-      → (let r : Result T (CoderError DecoderFrontendError E) = Err error in r ≡ Err (Frontend f)) → left ≡ reached)
-      → IsReadingFault MayRefuse rows gives precision error (held_of range offset reached) left
-  fault (Frontend InvalidData) invalid memory failed source = (invalid refl, source InvalidData refl)
-  fault (Frontend OutOfMemory) invalid memory failed source = (memory refl, source OutOfMemory refl)
-  fault (Backend e) invalid memory failed source = failed e refl
-
-  pub reading_stops : {T : Type 0} (symbols : List Symbol) (count : ℕ) (error : CoderError DecoderFrontendError E)
-      → length symbols < count → InTurn (IsRead Stands rows gives precision) symbols old (held_of range offset reached)
-      → ((let r : Result T (CoderError DecoderFrontendError E) = Err error in r ≡ Err (Frontend InvalidData))
-      → IsAboveAll precision (interval range offset))
-      → ((let r : Result T (CoderError DecoderFrontendError E) = Err error in r ≡ Err (Frontend OutOfMemory))
-      → (quantile : ℕ) × HoldsPoint precision quantile 1 (interval range offset) × RowMayBeRefused MayRefuse rows quantile)
-      → ((e : E) → (let r : Result T (CoderError DecoderFrontendError E) = Err error in r ≡ Err (Backend e)) → gives reached (Err e) left)
-      → ((f : DecoderFrontendError)
-      → (let r : Result T (CoderError DecoderFrontendError E) = Err error in r ≡ Err (Frontend f)) → left ≡ reached)
-      → ReadingStops Stands MayRefuse rows gives precision count error old (interval new_range new_offset) left
-  reading_stops symbols count error fewer led invalid memory failed source =
-      let same : interval range offset ≡ interval new_range new_offset =
-      ap (λ n. interval n offset) (sym stays) ∙ ap (λ n. interval new_range n) (sym stands) in
-      subst (λ (h : Interval). ReadingStops Stands MayRefuse rows gives precision count error old h left) same (record {
-        done = symbols;
-        reached = reached;
-        led = led;
-        why = inl (fewer, fault error invalid memory failed source);
-      })

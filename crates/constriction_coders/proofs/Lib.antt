@@ -5,7 +5,6 @@ pub mod CountsLemmas
 pub mod Decoding
 pub mod Exchanging
 pub mod Giving
-pub mod GivingSpans
 pub mod GoingBack
 pub mod Intervals
 pub mod Messages
@@ -16,7 +15,6 @@ pub mod Once
 pub mod Placing
 pub mod PublishedWords
 pub mod RangePlacing
-pub mod RangeWalking
 pub mod Sealing
 pub mod Spanning
 pub mod Stacking

@@ -6,7 +6,7 @@ use Rattle.constriction.specs.Coding.{InTurn, StandsForEqual}
 use Rattle.constriction.specs.declared.CoderError.{CoderError}
 use Rattle.constriction.specs.declared.CoderError.TheVariants.{Frontend}
 use Rattle.constriction.specs.Rows.{Row}
-use Rattle.constriction_coders.specs.Intervals.{Interval, Held, IsRead, ReadingStops}
+use Rattle.constriction_coders.specs.Intervals.{Held, IsRead, ReadingStops}
 use Rattle.constriction_coders.specs.declared.queue.range_decoder.DecoderFrontendError.{DecoderFrontendError}
 use Rattle.constriction_coders.specs.declared.queue.range_decoder.DecoderFrontendError.TheVariants.{InvalidData}
 use Rattle.constriction_coders.specs.RangeLaws.{IsAt, RangeSymbolsComeBack, NeverAboveAll}
@@ -34,16 +34,16 @@ module _ {Symbol S E : Type 0} (Stands : Symbol → Symbol → Type 0) (eq : Sym
       }))
 
   pub not-invalid : NeverAboveAll Stands eq entry rows gives tells precision → (MayRefuse : Symbol → Type 0)
-      → (error : CoderError DecoderFrontendError E) (held : Interval) (left : S)
-      → ReadingStops Stands MayRefuse rows gives precision count error start held left → error ≡ Frontend InvalidData
+      → (error : CoderError DecoderFrontendError E) (new : Held S)
+      → ReadingStops Stands MayRefuse rows gives precision count error start new → error ≡ Frontend InvalidData
       → (symbols : List Symbol) (words : List ℕ) (first last : Span) → IsReached first → length symbols ≡ count
       → InTurn (IsNarrowed entry precision) symbols first last → LeadTo last words → IsAt tells first words start → ⊥
-  not-invalid valid MayRefuse error held left stops is symbols words first last reached long encoded message begun =
-      let invalid = subst (λ (e : CoderError DecoderFrontendError E). ReadingStops Stands MayRefuse rows gives precision count e start held left)
+  not-invalid valid MayRefuse error new stops is symbols words first last reached long encoded message begun =
+      let invalid = subst (λ (e : CoderError DecoderFrontendError E). ReadingStops Stands MayRefuse rows gives precision count e start new)
       is stops in
       elim invalid.why [
         | inl fewer ↦
-            valid first symbols invalid.done words (record { held = held; source = invalid.reached }) (record {
+            valid first symbols invalid.done words invalid.reached (record {
               reached = reached;
               last = last;
               encoded = encoded;
@@ -52,6 +52,6 @@ module _ {Symbol S E : Type 0} (Stands : Symbol → Symbol → Type 0) (eq : Sym
               begun = begun;
               decoded = invalid.led;
               as_many = omega (arith, fewer.0, long);
-            }) (omega (arith, fewer.0, long)) fewer.1.0
+            }) (omega (arith, fewer.0, long)) fewer.1.fault.0
         | inr none ↦ cc (none.1)
       ]

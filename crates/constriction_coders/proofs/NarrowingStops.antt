@@ -1,11 +1,11 @@
 -- A run of symbols goes on, or stops at a symbol.
 use Rattle.std.proofs.Common.{◌≡◌, ℕ, ◌+◌, ◌<◌, suc, List, [], ◌∷◌, ◌++◌, Option, length, take, drop, get_or, ap, sym, ◌∙◌, subst}
 use Rattle.std.proofs.lemmas.List.{take_more}
-use Rattle.std.proofs.Math.Seq.{split_at}
 use Rattle.constriction.specs.Coding.{InTurn}
 use Rattle.constriction.specs.lemmas.Turns.{turn-last}
 use Rattle.constriction.specs.declared.CoderError.{CoderError}
 use Rattle.constriction_coders.specs.Spans.{Span, IsNarrowed, IsNarrowingFault, NarrowingStops}
+use Rattle.constriction_coders.proofs.Stopping.{split-at-symbol}
 
 -- one symbol more after the others
 pub turn-more : {Symbol Content : Type 0} (Step : Symbol → Content → Content → Type 0) (xs : List Symbol) (i : ℕ) (x : Symbol)
@@ -25,7 +25,7 @@ narrowing-stops entry precision symbols i symbol error old reached new less is l
       done = take i symbols;
       symbol = symbol;
       after = drop (suc i) symbols;
-      split = split_at symbols i symbol less ∙ ap (λ x. take i symbols ++ x ∷ drop (suc i) symbols) (sym is);
+      split = split-at-symbol symbols i symbol less is;
       led = led;
       why = why;
     })

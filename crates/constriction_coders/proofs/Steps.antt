@@ -1,5 +1,5 @@
 -- The steps of a coder, from those of its state and of its words.
-use Rattle.std.proofs.Common.{◌≡◌, ◌≢◌, ℕ, ◌+◌, ◌/◌, ◌%◌, ◌^◌, ◌<◌, ◌≤◌, List, [], ◌∷◌, ◌++◌, Option, Some, ap, sym, ◌∙◌, subst, arith, inl, inr}
+use Rattle.std.proofs.Common.{◌≡◌, ℕ, ◌+◌, ◌/◌, ◌%◌, ◌^◌, ◌<◌, ◌≤◌, List, [], ◌∷◌, ◌++◌, Option, Some, ap, sym, ◌∙◌, subst, arith, inl, inr}
 use Rattle.std.proofs.lemmas.Bool.{cases_lt}
 use Rattle.std.proofs.lemmas.Nat.{mod_below, div-add-mod'}
 use Rattle.constriction.specs.Rows.{Row, IsRowOf}
@@ -12,16 +12,13 @@ pub refills-back : (state : ℕ) (words all : List ℕ) → state < 2 ^ 64 → a
     → Refills (state / 2 ^ 32) all (content state words)
 refills-back state words all h is = inr (omega arith, state % 2 ^ 32, omega arith, is, sym (div-add-mod' state (2 ^ 32)))
 
--- a state that is below 2 ^ 32 without its symbol needs a word, if there is one
-pub needs_word : {Symbol : Type 0} (precision left weight other state quantile : ℕ) (words : List ℕ) (rows : List (Row Symbol))
-    (own : Symbol) → quantile ≡ state % 2 ^ precision → IsRowOf rows quantile (record { symbol = own; left = left; weight = other })
-    → other ≡ weight → taken precision left weight state < 2 ^ 32 → words ≢ [] → NeedsWord rows precision (content state words)
-needs_word precision left weight other state quantile words rows own quantile_is found same below some = (
-  record { symbol = own; left = left; weight = weight },
-  rw (quantile_is, same) at found,
-  below,
-  some,
-)
+-- the row that was looked up is the row that needs a word
+pub needs-row : {Symbol : Type 0} (precision left weight other : ℕ) (c : Content) (quantile : ℕ) (rows : List (Row Symbol)) (own : Symbol)
+    → quantile ≡ c.state % 2 ^ precision → IsRowOf rows quantile (record { symbol = own; left = left; weight = other }) → other ≡ weight
+    → NeedsWord precision left weight c
+    → (row : Row Symbol) × IsRowOf rows (c.state % 2 ^ precision) row × NeedsWord precision row.left row.weight c
+needs-row precision left weight other c quantile rows own quantile_is found same needs =
+    (record { symbol = own; left = left; weight = weight }, rw (quantile_is, same) at found, needs)
 
 -- a symbol that is put on a state is on top
 pub put-on-top : (precision left weight state next : ℕ) (words : List ℕ) (other : Content) → 0 < weight → left + weight ≤ 2 ^ precision

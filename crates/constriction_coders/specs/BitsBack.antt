@@ -45,11 +45,11 @@ module _ {Symbol Latent PosteriorModel LikelihoodModel : Type 0} (Posterior : Sy
   -- likelihood.
   pub record LacksEntry (Stands : Latent → Latent → Type 0) (posterior_rows : PosteriorModel → List (Row Latent))
       (likelihood_entry : LikelihoodModel → Symbol → Option (ℕ × ℕ)) (prior_entry : Latent → Option (ℕ × ℕ)) (symbol : Symbol)
-      (state : ℕ) : Type 0 where
+      (old : Content) : Type 0 where
     pub posterior : PosteriorModel
     pub chosen : Posterior symbol posterior
     pub row : Row Latent
-    pub found : IsRowOf (posterior_rows posterior) (state % 2 ^ precision) row
+    pub found : IsRowOf (posterior_rows posterior) (old.state % 2 ^ precision) row
     pub latent : Latent
     pub stands : Stands row.symbol latent
     pub likelihood : LikelihoodModel

@@ -1,5 +1,5 @@
 -- What a range decoder holds, and what a symbol does to it.
-use Rattle.std.specs.Prelude.{◌≡◌, ℕ, ◌+◌, ◌-◌, ◌*◌, ◌/◌, ◌^◌, ◌<◌, ◌≤◌, ◌⊎◌, List, [], Contains, Option, Some, None, Result, Ok, Err, length}
+use Rattle.std.specs.Prelude.{◌≡◌, ℕ, ◌+◌, ◌-◌, ◌*◌, ◌/◌, ◌^◌, ◌<◌, ◌≤◌, ◌⊎◌, List, [], Contains, Option, Some, None, Result, Ok, Err, IfOk, IfErr, OnErr, length}
 use Rattle.constriction.specs.Coding.{InTurn}
 use Rattle.constriction.specs.declared.CoderError.{CoderError}
 use Rattle.constriction.specs.declared.CoderError.TheVariants.{Frontend, Backend}
@@ -46,8 +46,8 @@ word_or_zero (Some word) = word
 module _ {S E : Type 0} (gives : S → Result (Option ℕ) E → S → Type 0) where
   -- An interval of at least 2 ^ 32 numbers stays as it is. A smaller one gets 2 ^ 32 times as many numbers, and a word that is read says
   -- which of the 2 ^ 32 numbers in the place of the point is the point.
-  abbrev pub IsStretched : Interval → S → Interval → S → Type 0
-  IsStretched i from new to =
+  abbrev pub IsWidenedByRead : Interval → S → Interval → S → Type 0
+  IsWidenedByRead i from new to =
       ((2 ^ 32 ≤ i.range) × (new ≡ i) × (to ≡ from))
       ⊎ ((i.range < 2 ^ 32) × (answer : Option ℕ) × gives from (Ok answer) to
       × (new ≡ interval (i.range * 2 ^ 32) (i.offset * 2 ^ 32 + word_or_zero answer)))
@@ -74,7 +74,7 @@ pub record IsRead {Symbol S E : Type 0} (Stands : Symbol → Symbol → Type 0) 
   pub among : Contains rows row
   pub stands : Stands row.symbol symbol
   pub holds : HoldsPoint precision row.left row.weight old.held
-  pub next : IsStretched gives (part_of precision row.left row.weight old.held) old.source new.held new.source
+  pub next : IsWidenedByRead gives (part_of precision row.left row.weight old.held) old.source new.held new.source
 
 -- This is why a symbol was not decoded: the point lies above all quantiles, or memory for the row in which it lies was refused, and
 -- nothing was read; or a read answered the error.
@@ -85,12 +85,17 @@ IsReadingFault MayRefuse rows gives precision (Frontend OutOfMemory) at left =
     ((quantile : ℕ) × HoldsPoint precision quantile 1 at.held × RowMayBeRefused MayRefuse rows quantile) × (left ≡ at.source)
 IsReadingFault MayRefuse rows gives precision (Backend error) at left = gives at.source (Err error) left
 
--- fewer than `count` symbols were decoded, and the next one was not; or none was, because memory for all of them was refused
-pub record ReadingStops {Symbol S E : Type 0} (Stands : Symbol → Symbol → Type 0) (MayRefuse : Symbol → Type 0) (rows : List (Row Symbol))
-    (gives : S → Result (Option ℕ) E → S → Type 0) (precision count : ℕ) (error : CoderError DecoderFrontendError E) (old : Held S)
-    (held : Interval) (left : S) : Type 0 where
-  pub done : List Symbol
-  pub reached : S
-  pub led : InTurn (IsRead Stands rows gives precision) done old (record { held = held; source = reached })
-  pub why : ((length done < count) × IsReadingFault MayRefuse rows gives precision error (record { held = held; source = reached }) left)
-      ⊎ ((done ≡ []) × (error ≡ Frontend OutOfMemory) × (left ≡ reached))
+module _ {Symbol S E : Type 0} (Stands : Symbol → Symbol → Type 0) (MayRefuse : Symbol → Type 0) (rows : List (Row Symbol))
+    (gives : S → Result (Option ℕ) E → S → Type 0) (precision : ℕ) where
+  -- what decoding a symbol answers and leaves
+  pub record Decodes (old : Held S) (answer : Result Symbol (CoderError DecoderFrontendError E)) (new : Held S) : Type 0 where
+    pub ok : IfOk answer (λ symbol. IsRead Stands rows gives precision symbol old new)
+    pub fault : IfErr answer (λ error. IsReadingFault MayRefuse rows gives precision error old new.source)
+    pub same : OnErr answer (new.held ≡ old.held)
+
+  -- fewer than `count` symbols were decoded, and the next one was not; or none was, because memory for all of them was refused
+  pub record ReadingStops (count : ℕ) (error : CoderError DecoderFrontendError E) (old new : Held S) : Type 0 where
+    pub done : List Symbol
+    pub reached : Held S
+    pub led : InTurn (IsRead Stands rows gives precision) done old reached
+    pub why : ((length done < count) × Decodes reached (Err error) new) ⊎ ((done ≡ []) × (error ≡ Frontend OutOfMemory) × (new ≡ reached))

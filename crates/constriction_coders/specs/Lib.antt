@@ -1,3 +1,4 @@
+pub mod AnsCoder
 pub mod BitsBack
 pub mod Bytes
 pub mod Compressed
@@ -8,9 +9,9 @@ pub mod Laws
 pub mod Numbers
 pub mod Positions
 pub mod Published
+pub mod RangeDecoder
 pub mod RangeLaws
 pub mod RangePositions
-pub mod RangeWalks
 pub mod Spans
 pub mod StackMessages
 pub mod States

@@ -1,6 +1,5 @@
 -- What a coder holds, and what a step does to it.
-use Rattle.std.specs.Prelude.{◌≡◌, ◌≢◌, ℕ, ◌+◌, ◌*◌, ◌%◌, ◌^◌, ◌<◌, ◌≤◌, ◌⊎◌, List, [], ◌∷◌, ◌++◌, length, reverse, Option, Some, None, Result, Err}
-use Rattle.constriction.specs.Coding.{InTurn}
+use Rattle.std.specs.Prelude.{◌≡◌, ◌≢◌, ℕ, ◌+◌, ◌*◌, ◌%◌, ◌^◌, ◌<◌, ◌≤◌, ◌⊎◌, List, [], ◌∷◌, ◌++◌, Option, Some, Result, Ok, Err}
 use Rattle.constriction.specs.declared.CoderError.{CoderError}
 use Rattle.constriction.specs.declared.CoderError.TheVariants.{Frontend, Backend}
 use Rattle.constriction.specs.Model.{RowMayBeRefused}
@@ -52,44 +51,30 @@ pub record IsDecoded {Symbol : Type 0} (Stands : Symbol → Symbol → Type 0) (
   pub stands : Stands row.symbol symbol
   pub top : IsOnTop precision row.left row.weight full rest
 
--- without the symbol on top, which these rows have for its quantile, the state is below 2 ^ 32, and there is a word for it to take
-abbrev pub NeedsWord : {Symbol : Type 0} → List (Row Symbol) → (precision : ℕ) → Content → Type 0
-NeedsWord {Symbol} rows precision c =
-    (row : Row Symbol) × IsRowOf rows (c.state % 2 ^ precision) row × (taken precision row.left row.weight c.state < 2 ^ 32)
-    × (c.words ≢ [])
+-- without a symbol of this entry on top, the state is below 2 ^ 32, and there is a word for it to take
+abbrev pub NeedsWord : (precision left weight : ℕ) → Content → Type 0
+NeedsWord precision left weight c = (taken precision left weight c.state < 2 ^ 32) × (c.words ≢ [])
 
--- this is why a symbol was not encoded: it has no entry, or a write to a stack of these words answered the error
-abbrev pub IsEncodingFault : {Symbol S Fault E : Type 0} → (S → List ℕ) → (Symbol → Option (ℕ × ℕ))
-    → (S → ℕ → Result (Unit {0}) E → S → Type 0) → CoderError Fault E → Symbol → S → Type 0
-IsEncodingFault words_of entry gives (Frontend fault) symbol left = entry symbol ≡ None
-IsEncodingFault {S = S} words_of entry gives (Backend error) symbol left =
-    (reached : S) × (word : ℕ) × (words_of reached ≡ words_of left) × gives reached word (Err error) left
+-- This is why a symbol was not decoded: memory for the row of the state's quantile was refused, as it may be; or a read failed, and without
+-- that row the state needs a word.
+abbrev pub IsDecodingFault : {Symbol Fault E : Type 0} → (Symbol → Type 0) → List (Row Symbol) → (precision : ℕ) → CoderError Fault E
+    → Content → Type 0
+IsDecodingFault MayRefuse rows precision (Frontend fault) c = RowMayBeRefused MayRefuse rows (c.state % 2 ^ precision)
+IsDecodingFault {Symbol = Symbol} MayRefuse rows precision (Backend error) c =
+    (row : Row Symbol) × IsRowOf rows (c.state % 2 ^ precision) row × NeedsWord precision row.left row.weight c
 
--- the symbols before one were encoded, and that one was not
-pub record EncodingStops {Symbol S Fault E : Type 0} (words_of : S → List ℕ) (entry : Symbol → Option (ℕ × ℕ))
-    (gives : S → ℕ → Result (Unit {0}) E → S → Type 0) (precision : ℕ) (symbols : List Symbol) (error : CoderError Fault E)
-    (old : Content) (state : ℕ) (left : S) : Type 0 where
-  pub done : List Symbol
-  pub symbol : Symbol
-  pub after : List Symbol
-  pub split : symbols ≡ done ++ symbol ∷ after
-  pub led : InTurn (IsEncoded entry precision) (reverse done) (content state (words_of left)) old
-  pub why : IsEncodingFault words_of entry gives error symbol left
+-- how a call ended for the backend: by an error of it, or by none
+abbrev pub backend_result : {A Fault E : Type 0} → Result A (CoderError Fault E) → Result (Unit {0}) E
+backend_result (Ok value) = Ok tt
+backend_result (Err (Frontend fault)) = Ok tt
+backend_result (Err (Backend error)) = Err error
 
--- this is why a symbol was not decoded: memory for it was refused, as it may be; or the state needs a word, and a read of a stack of these
--- words answered the error
-abbrev pub IsDecodingFault : {Symbol S Fault E : Type 0} → (S → List ℕ) → (Symbol → Type 0) → List (Row Symbol)
-    → (S → Result (Option ℕ) E → S → Type 0) → (precision : ℕ) → CoderError Fault E → ℕ → S → Type 0
-IsDecodingFault words_of MayRefuse rows gives precision (Frontend fault) state left = RowMayBeRefused MayRefuse rows (state % 2 ^ precision)
-IsDecodingFault {S = S} words_of MayRefuse rows gives precision (Backend error) state left =
-    NeedsWord rows precision (content state (words_of left))
-    × ((reached : S) × (words_of reached ≡ words_of left) × gives reached (Err error) left)
+-- nothing was written, or one word, and an error is what that write answered
+abbrev pub WritesAtMostOne : {A S E : Type 0} → (S → ℕ → Result (Unit {0}) E → S → Type 0) → S → Result A E → S → Type 0
+WritesAtMostOne gives from (Ok value) to = (to ≡ from) ⊎ ((word : ℕ) × gives from word (Ok tt) to)
+WritesAtMostOne gives from (Err error) to = (word : ℕ) × gives from word (Err error) to
 
--- fewer than `count` symbols were decoded, and the next one was not; or none was, because memory for all of them was refused
-pub record DecodingStops {Symbol S Fault E : Type 0} (words_of : S → List ℕ) (Stands : Symbol → Symbol → Type 0)
-    (MayRefuse : Symbol → Type 0) (rows : List (Row Symbol)) (gives : S → Result (Option ℕ) E → S → Type 0) (precision count : ℕ)
-    (error : CoderError Fault E) (old : Content) (state : ℕ) (left : S) : Type 0 where
-  pub done : List Symbol
-  pub led : InTurn (IsDecoded Stands rows precision) done old (content state (words_of left))
-  pub why : ((length done < count) × IsDecodingFault words_of MayRefuse rows gives precision error state left)
-      ⊎ ((done ≡ []) × ((fault : Fault) × (error ≡ Frontend fault)))
+-- nothing was read, or there was one read, and an error is what that read answered
+abbrev pub ReadsAtMostOne : {A S E : Type 0} → (S → Result (Option ℕ) E → S → Type 0) → S → Result A E → S → Type 0
+ReadsAtMostOne gives from (Ok value) to = (to ≡ from) ⊎ ((answer : Option ℕ) × gives from (Ok answer) to)
+ReadsAtMostOne gives from (Err error) to = gives from (Err error) to

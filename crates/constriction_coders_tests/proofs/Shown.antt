@@ -4,23 +4,26 @@ use Rattle.std.proofs.lemmas.List.{reverse-append}
 use Rattle.std.specs.Iterator.{YieldsThen, YieldsLast}
 use Rattle.std.specs.Prelude.{OnOk}
 use Rattle.constriction.specs.Coding.{InTurn}
+use Rattle.constriction_backends.specs.Sink.{TakesItems}
 use Rattle.constriction_coders.specs.Steps.{Content, IsEncoded}
-use Rattle.constriction_coders.specs.Walks.{EncodesGiven}
 
-module _ {Symbol I : Type 0} (steps : I → Option Symbol → I → Type 0) (rest : I → List Symbol)
-    (shows : (s : I) (answer : Option Symbol) (t : I) → steps s answer t → YieldsLast rest s answer t) where
+module _ {Symbol I : Type 0} (steps : I → Option Symbol → I → Type 0) where
   -- if each state shows what is left, that is what was given from the back, the last one first
-  shown-back : (given : List Symbol) (s u : I) → YieldsThen steps s given None u → reverse given ≡ rest s
-  shown-back [] s u (t, same, end) = sym (ap rest same ∙ (shows t None u end).0)
-  shown-back (x ∷ xs) s u (t, (j, step, yields), end) =
-      reverse-append (x ∷ []) xs ∙ ap (λ ys. ys ++ x ∷ []) (shown-back xs j u (t, yields, end)) ∙ sym (shows s (Some x) j step)
+  shown-back : (rest : I → List Symbol)
+      → ((s : I) (answer : Option Symbol) (t : I) → steps s answer t → YieldsLast rest s answer t)
+      → (given : List Symbol) (s u : I) → YieldsThen steps s given None u → reverse given ≡ rest s
+  shown-back rest shows [] s u (t, same, end) = sym (ap rest same ∙ (shows t None u end).0)
+  shown-back rest shows (x ∷ xs) s u (t, (j, step, yields), end) =
+      reverse-append (x ∷ []) xs ∙ ap (λ ys. ys ++ x ∷ []) (shown-back rest shows xs j u (t, yields, end)) ∙ sym (shows s (Some x) j step)
 
-  pub shown-in-turn : (entry : Symbol → Option (ℕ × ℕ)) (precision : ℕ) (symbols : I) (old full : Content)
-      → EncodesGiven steps entry precision symbols old full → InTurn (IsEncoded entry precision) (rest symbols) full old
-  shown-in-turn entry precision symbols old full h =
-      subst (λ (ys : List Symbol). InTurn (IsEncoded entry precision) ys full old) (shown-back h.0 symbols h.1.0 h.1.1) h.2
-
--- what follows from success
-pub on-ok : {A E P Q : Type 0} (r : Result A E) → OnOk r P → (P → Q) → OnOk r Q
-on-ok (Ok a) h f = f h
-on-ok (Err e) h f = tt
+  -- so if all of it was encoded, what was shown was
+  pub taken-in-turn : {E : Type 0} (entry : Symbol → Option (ℕ × ℕ)) (precision : ℕ) (symbols given : I) → given ≡ symbols
+      → (full old : Content) (r : Result (Unit {0}) E) (OfThose : List Symbol → Symbol → E → Type 0)
+      → TakesItems steps given r (λ done. InTurn (IsEncoded entry precision) (reverse done) full old) OfThose
+      → OnOk r ((rest : I → List Symbol)
+      → ((s : I) (answer : Option Symbol) (t : I) → steps s answer t → YieldsLast rest s answer t)
+      → InTurn (IsEncoded entry precision) (rest symbols) full old)
+  taken-in-turn entry precision symbols given same full old (Ok x) OfThose (done, drains, led) = λ rest shows.
+      subst (λ (ys : List Symbol). InTurn (IsEncoded entry precision) ys full old)
+      (shown-back rest shows done given drains.0 drains.1 ∙ ap rest same) led
+  taken-in-turn entry precision symbols given same full old (Err e) OfThose took = tt

@@ -1,11 +1,13 @@
 //! What callers learn from the contracts alone.
 
 ghost use Rattle.std.specs.Prelude.{◌≡◌, nat_eq, reverse, string_eq, IfOk, IfSome, IsTrue, List, OnOk, Option};
+ghost use Rattle.constriction.specs.Entries.{SameEntries};
 ghost use Rattle.constriction.specs.Rows.{entry_of};
 ghost use Rattle.std.specs.Iterator.{IsFinite, YieldsLast};
 ghost use Rattle.std.specs.List.{AllZip};
 ghost use Rattle.constriction.specs.Coding.{InTurn, StandsForEqual};
-ghost use Rattle.constriction_coders.specs.Steps.{content, IsDecoded, IsEncoded};
+ghost use Rattle.constriction_coders.specs.AnsCoder.{held_by};
+ghost use Rattle.constriction_coders.specs.Steps.{IsDecoded, IsEncoded};
 
 mod queue;
 mod stack;
@@ -84,8 +86,7 @@ pub fn of_texts(
     encoder: &TextEncoder,
     symbols: &[String],
 ) -> Option<Vec<String>>
-    requires { (s : _) → entry_of string_eq (⟦<TextEncoder as EntropyModel<24>>⟧.rows encoder.now) s
-        ≡ entry_of string_eq (⟦<Texts as EntropyModel<24>>⟧.rows texts.now) s }
+    requires { SameEntries string_eq (⟦<TextEncoder as EntropyModel<24>>⟧.rows encoder.now) (⟦<Texts as EntropyModel<24>>⟧.rows texts.now) }
     ensures { IfSome result (λ answers. AllZip (λ symbol answer. IsTrue (string_eq answer symbol))
         (reverse symbols.now) answers.items) }
 {
@@ -94,7 +95,7 @@ pub fn of_texts(
 
 /// The words of a coder over a `Vec`, and the coder of them: nothing is lost.
 pub fn opened_again(coder: AnsCoder<Vec<u32>>) -> Option<AnsCoder<Vec<u32>>>
-    ensures { IfSome result (λ again. again.state ≡ coder.state × (again.words.items ≡ coder.words.items)) }
+    ensures { IfSome result (λ again. held_by again ≡ held_by coder) }
 {
     compressed_comes_back(coder).ok()
 }
@@ -111,7 +112,7 @@ where
     D: DecoderModel<PRECISION, Probability = u32>,
     D::Symbol: Drop,
     ensures { IfOk result (λ symbols. InTurn (IsDecoded D.stands_for (D.rows model.now) PRECISION) symbols.items
-        (content coder.old.state (Backend.words_of coder.old.words)) (content coder.new.state (Backend.words_of coder.new.words))) }
+        (held_by coder.old) (held_by coder.new)) }
 {
     let mut symbols = Vec::new(alloc);
     for answer in coder.decode_iid_symbols::<D, PRECISION>(count, model) {
@@ -141,7 +142,7 @@ where
     requires ends { IsFinite (I.remaining symbols) }
     ensures { OnOk result ((rest : I → List E.Symbol) → ((s : I) (answer : Option E.Symbol) (t : I) → I.next_back_gives s answer t
         → YieldsLast rest s answer t) → InTurn (IsEncoded (entry_of E.symbol_eq (E.rows model.now)) PRECISION) (rest symbols)
-        (content coder.new.state (Backend.words_of coder.new.words)) (content coder.old.state (Backend.words_of coder.old.words))) }
+        (held_by coder.new) (held_by coder.old)) }
 {
     coder.encode_iid_symbols_reverse::<E, I, PRECISION>(symbols, model)
 }

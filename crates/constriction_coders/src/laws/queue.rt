@@ -8,6 +8,7 @@ ghost use Rattle.constriction_coders.specs.RangePositions.{RangePlaceComesBack};
 ghost use Rattle.constriction_coders.specs.Spans.{IsMessageOf};
 ghost use Rattle.constriction.specs.Coding.{StandsForEqual};
 ghost use Rattle.constriction.specs.Model.{ClonesAreEqual};
+ghost use Rattle.constriction.specs.Entries.{SameEntries};
 ghost use Rattle.constriction.specs.Rows.{entry_of};
 
 use crate::laws::MessageError;
@@ -26,7 +27,7 @@ where
     D: DecoderModel<PRECISION, Probability = u32>,
     E: EncoderModel<PRECISION, Symbol = D::Symbol, Probability = u32>,
     Source: ReadWords<u32, Queue>,
-    requires { (s : D.Symbol) → entry_of E.symbol_eq (E.rows encoder.now) s ≡ entry_of E.symbol_eq (D.rows decoder.now) s }
+    requires { SameEntries E.symbol_eq (E.rows encoder.now) (D.rows decoder.now) }
     ensures back { RangeSymbolComesBack D.stands_for E.symbol_eq (entry_of E.symbol_eq (E.rows encoder.now)) (D.rows decoder.now)
         Source.read_gives Source.tells_upcoming PRECISION }
     ensures before { LiesBefore (entry_of E.symbol_eq (E.rows encoder.now)) PRECISION }
@@ -41,7 +42,7 @@ where
     D: DecoderModel<PRECISION, Probability = u32>,
     E: EncoderModel<PRECISION, Symbol = D::Symbol, Probability = u32>,
     Source: ReadWords<u32, Queue>,
-    requires { (s : D.Symbol) → entry_of E.symbol_eq (E.rows encoder.now) s ≡ entry_of E.symbol_eq (D.rows decoder.now) s }
+    requires { SameEntries E.symbol_eq (E.rows encoder.now) (D.rows decoder.now) }
     ensures back { RangeSymbolsComeBack D.stands_for E.symbol_eq (entry_of E.symbol_eq (E.rows encoder.now)) (D.rows decoder.now)
         Source.read_gives Source.tells_upcoming PRECISION }
     ensures follows { DecoderFollows D.stands_for E.symbol_eq (entry_of E.symbol_eq (E.rows encoder.now)) (D.rows decoder.now)
@@ -117,7 +118,7 @@ where
     D::Symbol: Drop,
     E: EncoderModel<PRECISION, Symbol = D::Symbol, Probability = u32>,
     Source: ReadWords<u32, Queue> + Drop,
-    requires alike { (s : D.Symbol) → entry_of E.symbol_eq (E.rows encoder.now) s ≡ entry_of E.symbol_eq (D.rows decoder.now) s }
+    requires alike { SameEntries E.symbol_eq (E.rows encoder.now) (D.rows decoder.now) }
     requires can_read { Source.can_read source }
     ensures back { IfOk result (λ answers. (symbols : List D.Symbol) (words more : List ℕ) → length symbols ≡ count
         → IsMessageOf (entry_of E.symbol_eq (E.rows encoder.now)) PRECISION symbols words → All (λ w. w < 2 ^ 32) more
@@ -158,7 +159,7 @@ where
     D: DecoderModel<PRECISION, Probability = u32>,
     D::Symbol: Drop,
     E: EncoderModel<PRECISION, Symbol = D::Symbol, Probability = u32>,
-    requires { (s : D.Symbol) → entry_of E.symbol_eq (E.rows encoder.now) s ≡ entry_of E.symbol_eq (D.rows decoder.now) s }
+    requires { SameEntries E.symbol_eq (E.rows encoder.now) (D.rows decoder.now) }
     ensures back { IfOk result (λ answers. AllZip (StandsForEqual D.stands_for E.symbol_eq) symbols.now answers.items) }
     ensures equal { IfOk result (λ answers. ClonesAreEqual E.symbol_eq D.stands_for
         → AllZip (λ symbol answer. IsTrue (E.symbol_eq answer symbol)) symbols.now answers.items) }

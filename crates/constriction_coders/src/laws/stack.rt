@@ -3,14 +3,16 @@
 ghost use Rattle.std.specs.Prelude.{◌≡◌, ◌≢◌, ℕ, List, Err, IsTrue, length, reverse, IfOk, OnOk};
 ghost use Rattle.std.specs.Fn.{FnReturnsAt};
 ghost use Rattle.std.specs.List.{AllZip};
+ghost use Rattle.constriction_coders.specs.AnsCoder.{held_by, EncodingStops, DecodingStops};
 ghost use Rattle.constriction_coders.specs.BitsBack.{FitTogether, BitsComeBack};
 ghost use Rattle.constriction_coders.specs.Compressed.{IsCompressed};
 ghost use Rattle.constriction_coders.specs.Laws.{SymbolComesBack, SymbolsComeBack, EncodedOnce, EncodesThen, IsInvertible, DecodedGoesBack, DecodedHasEntry};
 ghost use Rattle.constriction_coders.specs.Positions.{PlaceComesBack};
 ghost use Rattle.constriction_coders.specs.StackMessages.{WordsOnce, WordsComeBack, SymbolsOnce, WordsEndAbove0, WordsGoBack};
-ghost use Rattle.constriction_coders.specs.Steps.{Content, content, MayBeHeld, IsDecoded, EncodingStops, DecodingStops};
+ghost use Rattle.constriction_coders.specs.Steps.{Content, MayBeHeld, IsDecoded};
 ghost use Rattle.constriction.specs.Coding.{InTurn, StandsForEqual};
 ghost use Rattle.constriction.specs.Model.{ClonesAreEqual};
+ghost use Rattle.constriction.specs.Entries.{SameEntries};
 ghost use Rattle.constriction.specs.Rows.{entry_of};
 
 use crate::laws::MessageError;
@@ -25,7 +27,7 @@ pub fn symbol_comes_back<D, E, const PRECISION: usize>(decoder: &D, encoder: &E)
 where
     D: DecoderModel<PRECISION, Probability = u32>,
     E: EncoderModel<PRECISION, Symbol = D::Symbol, Probability = u32>,
-    requires { (s : D.Symbol) → entry_of E.symbol_eq (E.rows encoder.now) s ≡ entry_of E.symbol_eq (D.rows decoder.now) s }
+    requires { SameEntries E.symbol_eq (E.rows encoder.now) (D.rows decoder.now) }
     ensures { SymbolComesBack D.stands_for E.symbol_eq (entry_of E.symbol_eq (E.rows encoder.now)) (D.rows decoder.now) PRECISION }
 {}
 
@@ -34,7 +36,7 @@ pub fn symbols_come_back<D, E, const PRECISION: usize>(decoder: &D, encoder: &E)
 where
     D: DecoderModel<PRECISION, Probability = u32>,
     E: EncoderModel<PRECISION, Symbol = D::Symbol, Probability = u32>,
-    requires { (s : D.Symbol) → entry_of E.symbol_eq (E.rows encoder.now) s ≡ entry_of E.symbol_eq (D.rows decoder.now) s }
+    requires { SameEntries E.symbol_eq (E.rows encoder.now) (D.rows decoder.now) }
     ensures { SymbolsComeBack D.stands_for E.symbol_eq (entry_of E.symbol_eq (E.rows encoder.now)) (D.rows decoder.now) PRECISION }
 {}
 
@@ -47,8 +49,9 @@ where
 
 /// A coder holds a state of 64 bits, which is below `2^32` only if there is no word under it. Other laws require this of each content.
 pub fn may_be_held<Backend: WordStack<u32>>(coder: &AnsCoder<Backend>)
-    ensures { MayBeHeld (content coder.now.state (Backend.words_of coder.now.words)) }
+    ensures { MayBeHeld (held_by coder.now) }
 {
+    // A read of the state says that it has 64 bits.
     let _state = coder.state;
 }
 
@@ -74,7 +77,7 @@ pub fn words_come_back<D, E, const PRECISION: usize>(decoder: &D, encoder: &E)
 where
     D: DecoderModel<PRECISION, Probability = u32>,
     E: EncoderModel<PRECISION, Symbol = D::Symbol, Probability = u32>,
-    requires { (s : D.Symbol) → entry_of E.symbol_eq (E.rows encoder.now) s ≡ entry_of E.symbol_eq (D.rows decoder.now) s }
+    requires { SameEntries E.symbol_eq (E.rows encoder.now) (D.rows decoder.now) }
     ensures back { WordsComeBack D.stands_for E.symbol_eq (entry_of E.symbol_eq (E.rows encoder.now)) (D.rows decoder.now) PRECISION }
     ensures one { SymbolsOnce D.stands_for E.symbol_eq (entry_of E.symbol_eq (E.rows encoder.now)) (D.rows decoder.now) PRECISION }
 {
@@ -87,7 +90,7 @@ pub fn decoded_goes_back<D, E, const PRECISION: usize>(decoder: &D, encoder: &E)
 where
     D: DecoderModel<PRECISION, Probability = u32>,
     E: EncoderModel<PRECISION, Symbol = D::Symbol, Probability = u32>,
-    requires alike { (s : D.Symbol) → entry_of E.symbol_eq (E.rows encoder.now) s ≡ entry_of E.symbol_eq (D.rows decoder.now) s }
+    requires alike { SameEntries E.symbol_eq (E.rows encoder.now) (D.rows decoder.now) }
     requires invertible { IsInvertible E.symbol_eq D.stands_for (D.rows decoder.now) }
     ensures known { DecodedHasEntry D.stands_for (entry_of E.symbol_eq (E.rows encoder.now)) (D.rows decoder.now) PRECISION }
     ensures back { DecodedGoesBack D.stands_for (entry_of E.symbol_eq (E.rows encoder.now)) (D.rows decoder.now) PRECISION }
@@ -126,21 +129,19 @@ where
     D: DecoderModel<PRECISION, Probability = u32>,
     D::Symbol: Drop,
     E: EncoderModel<PRECISION, Symbol = D::Symbol, Probability = u32>,
-    requires { (s : D.Symbol) → entry_of E.symbol_eq (E.rows encoder.now) s ≡ entry_of E.symbol_eq (D.rows decoder.now) s }
+    requires { SameEntries E.symbol_eq (E.rows encoder.now) (D.rows decoder.now) }
     ensures back { IfOk result (λ answers. AllZip (StandsForEqual D.stands_for E.symbol_eq) (reverse symbols.now) answers.items) }
     ensures equal { IfOk result (λ answers. ClonesAreEqual E.symbol_eq D.stands_for
         → AllZip (λ symbol answer. IsTrue (E.symbol_eq answer symbol)) (reverse symbols.now) answers.items) }
     ensures coded { IfOk result (λ answers. EncodesThen (entry_of E.symbol_eq (E.rows encoder.now)) PRECISION (reverse symbols.now)
-        (content coder.old.state (Backend.words_of coder.old.words)) (λ full. InTurn (IsDecoded D.stands_for (D.rows decoder.now) PRECISION)
-        answers.items full (content coder.new.state (Backend.words_of coder.new.words)))) }
-    ensures state { OnOk result (coder.new.state ≡ coder.old.state) }
-    ensures words { OnOk result (Backend.words_of coder.new.words ≡ Backend.words_of coder.old.words) }
+        (held_by coder.old) (λ full. InTurn (IsDecoded D.stands_for (D.rows decoder.now) PRECISION) answers.items full
+        (held_by coder.new))) }
+    ensures same { OnOk result (held_by coder.new ≡ held_by coder.old) }
     ensures encoding { (error : _) → result ≡ Err (MessageError.Encoding error)
-        → EncodingStops Backend.words_of (entry_of E.symbol_eq (E.rows encoder.now)) Backend.write_gives PRECISION symbols.now error
-        (content coder.old.state (Backend.words_of coder.old.words)) coder.new.state coder.new.words }
-    ensures decoding { (e : _) → result ≡ Err (MessageError.Decoding e) → EncodesThen (entry_of E.symbol_eq (E.rows encoder.now)) PRECISION
-        (reverse symbols.now) (content coder.old.state (Backend.words_of coder.old.words)) (λ c. DecodingStops Backend.words_of D.stands_for
-        D.may_refuse (D.rows decoder.now) Backend.read_gives PRECISION (length symbols.now) e c coder.new.state coder.new.words) }
+        → EncodingStops (entry_of E.symbol_eq (E.rows encoder.now)) PRECISION symbols.now error (held_by coder.old) coder.new }
+    ensures decoding { (error : _) → result ≡ Err (MessageError.Decoding error)
+        → EncodesThen (entry_of E.symbol_eq (E.rows encoder.now)) PRECISION (reverse symbols.now) (held_by coder.old)
+        (λ full. DecodingStops D.stands_for D.may_refuse (D.rows decoder.now) PRECISION (length symbols.now) error full coder.new) }
 {
     symbols_come_back::<D, E, PRECISION>(decoder, encoder);
     match coder.encode_symbols(symbols, encoder) {
@@ -173,21 +174,20 @@ where
     D: DecoderModel<PRECISION, Probability = u32>,
     D::Symbol: Drop,
     E: EncoderModel<PRECISION, Symbol = D::Symbol, Probability = u32>,
-    requires alike { (s : D.Symbol) → entry_of E.symbol_eq (E.rows encoder.now) s ≡ entry_of E.symbol_eq (D.rows decoder.now) s }
+    requires alike { SameEntries E.symbol_eq (E.rows encoder.now) (D.rows decoder.now) }
     requires invertible { IsInvertible E.symbol_eq D.stands_for (D.rows decoder.now) }
     ensures possible { (fault : _) → result ≢ Err (MessageError.Encoding (CoderError.Frontend fault)) }
-    ensures state { OnOk result (coder.new.state ≡ coder.old.state) }
-    ensures words { OnOk result (Backend.words_of coder.new.words ≡ Backend.words_of coder.old.words) }
+    ensures same { OnOk result (held_by coder.new ≡ held_by coder.old) }
 {
     decoded_goes_back::<D, E, PRECISION>(decoder, encoder);
-    let _state = coder.state;
+    may_be_held(coder);
     let symbol = match coder.decode_symbol(decoder) {
         Ok(symbol) => symbol,
         Err(error) => return Err(MessageError::Decoding(error)),
     };
     match coder.encode_symbol(&symbol, encoder) {
         Ok(()) => {
-            let _state = coder.state;
+            may_be_held(coder);
             Ok(symbol)
         }
         Err(error) => Err(MessageError::Encoding(error)),
@@ -228,10 +228,8 @@ pub fn compressed_comes_back<Backend: WordStack<u32> + Drop>(
     AnsCoder<Backend>,
     ReadWriteError<CoderError<Backend, Backend::ReadError>, Backend::WriteError>,
 >
-    ensures state { IfOk result (λ again. again.state ≡ coder.state) }
-    ensures words { IfOk result (λ again. Backend.words_of again.words ≡ Backend.words_of coder.words) }
-    ensures between { IfOk result (λ _. (between : Backend) × IsCompressed (content coder.state (Backend.words_of coder.words))
-        (Backend.words_of between)) }
+    ensures same { IfOk result (λ again. held_by again ≡ held_by coder) }
+    ensures between { IfOk result (λ _. (between : Backend) × IsCompressed (held_by coder) (Backend.words_of between)) }
     ensures accepted { (left : _) → result ≢ Err (ReadWriteError.Read (CoderError.Frontend left)) }
 {
     match coder.into_compressed() {

@@ -3,8 +3,9 @@
 ghost use Rattle.std.specs.Prelude.{◌≡◌};
 ghost use Rattle.std.specs.Iterator.{at_most, size};
 ghost use Rattle.std.specs.Iterator.SizeHint.{IsExactHint};
-ghost use Rattle.constriction_coders.specs.Intervals.{held_of};
-ghost use Rattle.constriction_coders.specs.RangeWalks.{ReadsOn};
+ghost use Rattle.constriction_coders.specs.Intervals.{Decodes};
+ghost use Rattle.constriction_coders.specs.RangeDecoder.{held_by};
+ghost use Rattle.constriction_coders.specs.Walks.{StepsOn};
 
 use crate::queue::range_decoder::{DecoderFrontendError, RangeDecoder};
 use constriction::backends::ReadWords;
@@ -44,9 +45,8 @@ where
     ghost can_next = { λ s. Source.can_read s.decoder.now.words };
 
     ghost next_gives = { λ s r t. (t.decoder.ghost_name ≡ s.decoder.ghost_name) × (t.model ≡ s.model)
-        × ReadsOn D.stands_for D.may_refuse (D.rows s.model.now) Source.read_gives PRECISION
-        s.left (held_of s.decoder.now.range s.decoder.now.offset s.decoder.now.words) r
-        t.left (held_of t.decoder.now.range t.decoder.now.offset t.decoder.now.words) };
+        × StepsOn (Decodes D.stands_for D.may_refuse (D.rows s.model.now) Source.read_gives PRECISION)
+        s.left (held_by s.decoder.now) r t.left (held_by t.decoder.now) };
 
     ghost remaining = { λ s. at_most s.left };
 

@@ -1,9 +1,10 @@
 //! Messages whose symbols an iterator gives.
 
-ghost use Rattle.std.specs.Prelude.{IfErr, OnOk};
 ghost use Rattle.std.specs.Iterator.{IsFiniteIterable};
+ghost use Rattle.constriction.specs.Coding.{InTurn};
 ghost use Rattle.constriction.specs.Rows.{entry_of};
-ghost use Rattle.constriction_coders.specs.RangeWalks.{NarrowsGiven, GivenNarrowingStops};
+ghost use Rattle.constriction_backends.specs.Sink.{TakesItems};
+ghost use Rattle.constriction_coders.specs.Spans.{IsNarrowed, IsNarrowingFault};
 
 use crate::queue::range_encoder::RangeEncoder;
 use constriction::stream::model::EncoderModel;
@@ -21,12 +22,11 @@ impl RangeEncoder {
         E: EncoderModel<PRECISION, Probability = u32>,
         E::Symbol: Drop,
         I: IntoIterator<Item = E::Symbol>,
-        requires ends { IsFiniteIterable I.into_iter_gives I.IntoIter.can_next I.IntoIter.remaining symbols }
-        ensures ok { OnOk result ((it : I.IntoIter) × I.into_iter_gives symbols it
-            × NarrowsGiven I.IntoIter.next_gives (entry_of E.symbol_eq (E.rows model.now)) PRECISION it self.old self.new) }
-        ensures err { IfErr result (λ error. (it : I.IntoIter) × I.into_iter_gives symbols it
-            × GivenNarrowingStops I.IntoIter.next_gives (entry_of E.symbol_eq (E.rows model.now)) PRECISION it error
-            self.old self.new) }
+        requires { IsFiniteIterable I.into_iter_gives I.IntoIter.can_next I.IntoIter.remaining symbols }
+        ensures { (given : I.IntoIter) × I.into_iter_gives symbols given × TakesItems I.IntoIter.next_gives given result
+            (λ done. InTurn (IsNarrowed (entry_of E.symbol_eq (E.rows model.now)) PRECISION) done self.old self.new)
+            (λ done symbol error. InTurn (IsNarrowed (entry_of E.symbol_eq (E.rows model.now)) PRECISION) done self.old self.new
+            × IsNarrowingFault (entry_of E.symbol_eq (E.rows model.now)) PRECISION error symbol self.new) }
     {
         let mut given = symbols.into_iter();
         'turns: while let Some(symbol) = given.next() {

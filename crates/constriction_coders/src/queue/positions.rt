@@ -2,7 +2,7 @@
 
 ghost use Rattle.std.specs.Prelude.{◌≡◌, ◌≤◌, length};
 ghost use Rattle.constriction_backends.specs.Cursor.{buf_of};
-ghost use Rattle.constriction_coders.specs.Intervals.{held_of};
+ghost use Rattle.constriction_coders.specs.RangeDecoder.{held_by};
 ghost use Rattle.constriction_coders.specs.RangePositions.{coder_state, distance_at, place_of, SeeksSpan};
 ghost use Rattle.constriction_coders.specs.Spans.{IsReached};
 
@@ -78,8 +78,7 @@ impl<Buf: SafeBuf<u32>> RangeDecoder<Cursor<u32, Buf>> {
     /// refusal leaves the decoder as it was.
     pub fn seek(&mut self, pos: (usize, RangeCoderState)) -> Result<(), ()>
         ensures sought { SeeksSpan ⟦<Cursor<u32, Buf> as ReadWords<u32, Queue>>⟧.tells_upcoming (Buf.words_of (buf_of self.old.words))
-            (held_of self.old.range self.old.offset self.old.words) pos result
-            (held_of self.new.range self.new.offset self.new.words) }
+            (held_by self.old) pos result (held_by self.new) }
         ensures buf { buf_of self.new.words ≡ buf_of self.old.words }
     {
         let (place, state) = pos;

@@ -1,12 +1,11 @@
 //! A range decoder: what was encoded first is decoded first.
 
-ghost use Rattle.std.specs.Prelude.{◌≡◌, ◌≢◌, ◌+◌, ◌^◌, ◌<◌, ◌≤◌, [], ℕ, List, Some, None, Ok, Err, IfOk, IfErr, OnErr, IsTrue, length};
+ghost use Rattle.std.specs.Prelude.{◌≡◌, ◌≢◌, ◌^◌, ◌<◌, ◌≤◌, [], ℕ, List, Ok, Err, IfOk, IfErr, OnOk, OnErr, IsTrue, length};
 ghost use Rattle.std.specs.Bool.{OnFalse};
-ghost use Rattle.constriction_coders.specs.Intervals.{interval, held_of, word_or_zero, IsAboveAll, IsStart, IsRead, HoldsPoint, MayBeAtEnd, ReadingStops};
+ghost use Rattle.constriction_coders.specs.Intervals.{word_or_zero, IsStart, IsRead, IsReadingFault, MayBeAtEnd, ReadingStops};
 ghost use Rattle.constriction_coders.specs.RangeLaws.{IsAt};
 ghost use Rattle.constriction_coders.specs.Spans.{whole};
 ghost use Rattle.constriction.specs.Coding.{InTurn};
-ghost use Rattle.constriction.specs.Model.{RowMayBeRefused};
 
 use crate::queue::interval::{part_of, quantile_at, unit_of};
 use constriction::backends::ReadWords;
@@ -60,13 +59,15 @@ fn next_or_zero<Source: ReadWords<u32, Queue>>(
 }
 
 impl<Source: ReadWords<u32, Queue> + Drop> RangeDecoder<Source> {
+    ghost use Rattle.constriction_coders.specs.RangeDecoder.{held_by};
+
     /// The decoder of these words. Two are read; one that is missing is 0. An error is that of a read.
     pub fn from_compressed(words: Source) -> Result<Self, Source::ReadError>
         requires { Source.can_read words }
         ensures goes_on { IfOk result (λ decoder. Source.can_read decoder.words) }
-        ensures ok { IfOk result (λ decoder. IsStart Source.read_gives words (interval decoder.range decoder.offset) decoder.words) }
-        ensures begins { IfOk result (λ decoder. (known : List ℕ) → Source.tells_upcoming words known
-            → IsAt Source.tells_upcoming whole known (held_of decoder.range decoder.offset decoder.words)) }
+        ensures ok { IfOk result (λ decoder. IsStart Source.read_gives words (held_by decoder).held decoder.words) }
+        ensures begins { IfOk result (λ decoder. (known : List ℕ) → Source.tells_upcoming words known → IsAt Source.tells_upcoming whole
+            known (held_by decoder)) }
         ensures failed { (error : _) → result ≡ Err error → (reached left : Source) × Source.read_gives reached (Err error) left }
     {
         let mut words = words;
@@ -86,12 +87,14 @@ impl<Source: ReadWords<u32, Queue> + Drop> RangeDecoder<Source> {
 }
 
 impl<Source: ReadWords<u32, Queue>> RangeDecoder<Source> {
+    ghost use Rattle.constriction_coders.specs.RangeDecoder.{held_by};
+
     /// Whether all symbols may have been decoded. If nothing comes after the words of the message, `false` says that the decoder is not at
     /// its end. `true` may come before the end.
     pub fn maybe_exhausted(&self) -> bool
-        ensures near { IsTrue result → MayBeAtEnd (interval self.now.range self.now.offset) }
-        ensures left { OnFalse result (MayBeAtEnd (interval self.now.range self.now.offset)
-            → (words : List ℕ) → Source.tells_upcoming self.now.words words → words ≢ []) }
+        ensures near { IsTrue result → MayBeAtEnd (held_by self.now).held }
+        ensures left { OnFalse result (MayBeAtEnd (held_by self.now).held → (words : List ℕ) → Source.tells_upcoming self.now.words words
+            → words ≢ []) }
     {
         (self.range == u64::MAX || self.offset < (1 << 33) - 1) && self.words.maybe_exhausted()
     }
@@ -110,19 +113,12 @@ impl<Source: ReadWords<u32, Queue>> RangeDecoder<Source> {
         D::Symbol: Drop,
         requires { Source.can_read self.old.words }
         ensures goes_on { Source.can_read self.new.words }
-        ensures ok { IfOk result (λ symbol. IsRead D.stands_for (D.rows model.now) Source.read_gives PRECISION symbol
-            (held_of self.old.range self.old.offset self.old.words) (held_of self.new.range self.new.offset self.new.words)) }
-        ensures inside { IfOk result (λ _. self.new.offset < self.new.range) }
-        ensures invalid { result ≡ Err (CoderError.Frontend DecoderFrontendError.InvalidData)
-            → IsAboveAll PRECISION (interval self.old.range self.old.offset) }
-        ensures memory { result ≡ Err (CoderError.Frontend DecoderFrontendError.OutOfMemory) → (quantile : ℕ)
-            × HoldsPoint PRECISION quantile 1 (interval self.old.range self.old.offset)
-            × RowMayBeRefused D.may_refuse (D.rows model.now) quantile }
-        ensures failed { (error : _) → result ≡ Err (CoderError.Backend error)
-            → Source.read_gives self.old.words (Err error) self.new.words }
-        ensures range { OnErr result (self.new.range ≡ self.old.range) }
-        ensures offset { OnErr result (self.new.offset ≡ self.old.offset) }
-        ensures source { (fault : _) → result ≡ Err (CoderError.Frontend fault) → self.new.words ≡ self.old.words }
+        ensures ok { IfOk result (λ symbol. IsRead D.stands_for (D.rows model.now) Source.read_gives PRECISION symbol (held_by self.old)
+            (held_by self.new)) }
+        ensures inside { OnOk result (let interval = (held_by self.new).held in interval.offset < interval.range) }
+        ensures fault { IfErr result (λ error. IsReadingFault D.may_refuse (D.rows model.now) Source.read_gives PRECISION error
+            (held_by self.old) self.new.words) }
+        ensures same { OnErr result ((held_by self.new).held ≡ (held_by self.old).held) }
     {
         let unit = unit_of::<PRECISION>(self.range);
         let Some(quantile) = quantile_at::<PRECISION>(unit, self.offset) else {
@@ -170,10 +166,10 @@ impl<Source: ReadWords<u32, Queue>> RangeDecoder<Source> {
         requires { Source.can_read self.old.words }
         ensures goes_on { Source.can_read self.new.words }
         ensures ok { IfOk result (λ symbols. InTurn (IsRead D.stands_for (D.rows model.now) Source.read_gives PRECISION) symbols.items
-            (held_of self.old.range self.old.offset self.old.words) (held_of self.new.range self.new.offset self.new.words)) }
+            (held_by self.old) (held_by self.new)) }
         ensures count { IfOk result (λ symbols. length symbols.items ≡ count) }
         ensures err { IfErr result (λ error. ReadingStops D.stands_for D.may_refuse (D.rows model.now) Source.read_gives PRECISION count
-            error (held_of self.old.range self.old.offset self.old.words) (interval self.new.range self.new.offset) self.new.words) }
+            error (held_by self.old) (held_by self.new)) }
     {
         let Ok(mut symbols) = Vec::with_capacity(alloc, count) else {
             return Err(CoderError::Frontend(DecoderFrontendError::OutOfMemory));

@@ -1,7 +1,7 @@
 //! A range encoder: what is encoded first is decoded first.
 
 ghost use Rattle.std.specs.Prelude.{◌≡◌, ◌≢◌, ◌↔◌, ℕ, List, length, None, Err, IfOk, IfErr, OnErr, OnOk, IsTrue};
-ghost use Rattle.constriction_coders.specs.Intervals.{held_of};
+ghost use Rattle.constriction_coders.specs.RangeDecoder.{held_by};
 ghost use Rattle.constriction_coders.specs.RangeLaws.{IsAt};
 ghost use Rattle.constriction_coders.specs.Spans.{whole, IsNarrowed, IsNarrowingFault, NarrowingStops, IsSealed, LeadTo};
 ghost use Rattle.constriction.specs.Coding.{InTurn};
@@ -164,8 +164,8 @@ impl RangeEncoder {
 
     /// A decoder of what is encoded so far, while the encoder stays as it is. No memory is asked for, and no word is copied.
     pub fn decoder<'e>(&'e self) -> RangeDecoder<EncodedWords<'e>>
-        ensures { (words : List ℕ) × LeadTo self.now words
-            × IsAt ⟦<EncodedWords<'e> as ReadWords<u32, Queue>>⟧.tells_upcoming whole words (held_of result.range result.offset result.words) }
+        ensures { (words : List ℕ) × LeadTo self.now words × IsAt ⟦<EncodedWords<'e> as ReadWords<u32, Queue>>⟧.tells_upcoming whole words
+            (held_by result) }
     {
         let words = EncodedWords::new(self.words.as_slice(), self.lower);
         match RangeDecoder::from_compressed(words) {

@@ -1,16 +1,15 @@
 //! A stack coder, an asymmetric numeral system: what was encoded last is decoded first.
 
-ghost use Rattle.std.specs.Prelude.{◌≡◌, ◌≢◌, ◌+◌, ◌-◌, ◌*◌, ◌%◌, ◌^◌, ◌<◌, ◌≤◌, ◌⊎◌, ℕ, [], None, Err, IfOk, OnOk, OnErr};
-ghost use Rattle.constriction_coders.specs.States.{put, taken};
-ghost use Rattle.constriction_coders.specs.Steps.{content, IsWhole, Refills, IsOnTop, NeedsWord, IsEncoded, IsDecoded};
-ghost use Rattle.constriction.specs.Model.{RowMayBeRefused};
+ghost use Rattle.std.specs.Prelude.{◌≡◌, ◌≢◌, ◌+◌, ◌-◌, ◌*◌, ◌%◌, ◌^◌, ◌<◌, ◌≤◌, ℕ, [], None, Err, IfErr, IfOk, OnOk, OnErr, vec_capacity};
+ghost use Rattle.constriction_coders.specs.States.{put};
+ghost use Rattle.constriction_coders.specs.Steps.{backend_result, content, IsWhole, Refills, IsOnTop, NeedsWord, IsEncoded, IsDecoded, IsDecodingFault, ReadsAtMostOne, WritesAtMostOne};
 ghost use Rattle.constriction.specs.Rows.{entry_of};
 
 use crate::stack::state::{is_full_for, quantile_of, with_entry, without_entry};
 use constriction::backends::WordStack;
 use constriction::stream::model::{DecoderModel, EncoderModel};
 use constriction::{CoderError, DefaultEncoderFrontendError};
-use std::alloc::AllocError;
+use std::alloc::{AllocError, Global};
 
 /// A coder with a state of 64 bits over a stack of words of 32 bits, in the format of the Rust crate's `DefaultAnsCoder`.
 ///
@@ -21,6 +20,21 @@ pub struct AnsCoder<Backend: WordStack<u32>> {
     pub(crate) state: u64,
     pub(crate) words: Backend,
     ghost whole: { state < 2 ^ 32 → Backend.words_of words ≡ [] },
+}
+
+impl AnsCoder<Vec<u32>> {
+    ghost use Rattle.constriction_coders.specs.AnsCoder.{held_by};
+
+    /// A coder that holds nothing. No memory is asked for.
+    pub fn new(alloc: Global) -> Self
+        ensures empty { held_by result ≡ content 0 [] }
+        ensures capacity { vec_capacity result.words ≡ 0 }
+    {
+        AnsCoder {
+            state: 0,
+            words: Vec::new(alloc),
+        }
+    }
 }
 
 /// The state with room for a symbol of this weight. If it has no room, its low word is first moved to the stack.
@@ -38,8 +52,7 @@ fn with_room<Backend: WordStack<u32>, const PRECISION: usize>(
     ensures whole { IfOk result (λ kept. (left : ℕ) → left + weight ≤ 2 ^ PRECISION
         → IsWhole (put PRECISION left weight kept) (Backend.words_of words.new)) }
     ensures ok { IfOk result (λ kept. Refills kept (Backend.words_of words.new) (content state (Backend.words_of words.old))) }
-    ensures wrote { (words.new ≡ words.old) ⊎ ((word : ℕ) × (answer : _) × Backend.write_gives words.old word answer words.new) }
-    ensures failed { (error : _) → result ≡ Err error → (word : ℕ) × Backend.write_gives words.old word (Err error) words.new }
+    ensures wrote { WritesAtMostOne Backend.write_gives words.old result words.new }
     ensures err { OnErr result (Backend.words_of words.new ≡ Backend.words_of words.old) }
 {
     if !is_full_for::<PRECISION>(state, weight) {
@@ -60,10 +73,9 @@ fn refilled<Backend: WordStack<u32>>(
     requires some { state ≡ 0 → Backend.words_of words.old ≡ [] }
     ensures whole { IfOk result (λ new. IsWhole new (Backend.words_of words.new)) }
     ensures ok { IfOk result (λ new. Refills state (Backend.words_of words.old) (content new (Backend.words_of words.new))) }
-    ensures read { (words.new ≡ words.old) ⊎ ((answer : _) × Backend.read_gives words.old answer words.new) }
+    ensures read { ReadsAtMostOne Backend.read_gives words.old result words.new }
     ensures below { OnErr result (state < 2 ^ 32) }
     ensures left { OnErr result (Backend.words_of words.old ≢ []) }
-    ensures failed { (error : _) → result ≡ Err error → Backend.read_gives words.old (Err error) words.new }
     ensures err { OnErr result (Backend.words_of words.new ≡ Backend.words_of words.old) }
 {
     if state >= 1 << 32 {
@@ -77,6 +89,8 @@ fn refilled<Backend: WordStack<u32>>(
 }
 
 impl<Backend: WordStack<u32>> AnsCoder<Backend> {
+    ghost use Rattle.constriction_coders.specs.AnsCoder.{held_by};
+
     /// Puts a symbol of this entry on top.
     #[inline]
     pub(crate) fn put_entry<const PRECISION: usize>(
@@ -88,14 +102,9 @@ impl<Backend: WordStack<u32>> AnsCoder<Backend> {
         requires fits { PRECISION ≤ 32 }
         requires some { 0 < weight }
         requires within { left + weight ≤ 2 ^ PRECISION }
-        ensures ok { OnOk result (IsOnTop PRECISION left weight (content self.new.state (Backend.words_of self.new.words))
-            (content self.old.state (Backend.words_of self.old.words))) }
-        ensures wrote { (self.new.words ≡ self.old.words)
-            ⊎ ((word : ℕ) × (answer : _) × Backend.write_gives self.old.words word answer self.new.words) }
-        ensures failed { (error : _) → result ≡ Err error
-            → (word : ℕ) × Backend.write_gives self.old.words word (Err error) self.new.words }
-        ensures state { OnErr result (self.new.state ≡ self.old.state) }
-        ensures words { OnErr result (Backend.words_of self.new.words ≡ Backend.words_of self.old.words) }
+        ensures ok { OnOk result (IsOnTop PRECISION left weight (held_by self.new) (held_by self.old)) }
+        ensures wrote { WritesAtMostOne Backend.write_gives self.old.words result self.new.words }
+        ensures same { OnErr result (held_by self.new ≡ held_by self.old) }
     {
         match with_room::<Backend, PRECISION>(&mut self.words, self.state, weight) {
             Ok(kept) => {
@@ -118,14 +127,10 @@ impl<Backend: WordStack<u32>> AnsCoder<Backend> {
         requires within { left + weight ≤ 2 ^ PRECISION }
         requires from { left ≤ self.old.state % 2 ^ PRECISION }
         requires to { self.old.state % 2 ^ PRECISION < left + weight }
-        ensures ok { OnOk result (IsOnTop PRECISION left weight (content self.old.state (Backend.words_of self.old.words))
-            (content self.new.state (Backend.words_of self.new.words))) }
-        ensures read { (self.new.words ≡ self.old.words) ⊎ ((answer : _) × Backend.read_gives self.old.words answer self.new.words) }
-        ensures below { OnErr result (taken PRECISION left weight self.old.state < 2 ^ 32) }
-        ensures left { OnErr result (Backend.words_of self.old.words ≢ []) }
-        ensures failed { (error : _) → result ≡ Err error → Backend.read_gives self.old.words (Err error) self.new.words }
-        ensures state { OnErr result (self.new.state ≡ self.old.state) }
-        ensures words { OnErr result (Backend.words_of self.new.words ≡ Backend.words_of self.old.words) }
+        ensures ok { OnOk result (IsOnTop PRECISION left weight (held_by self.old) (held_by self.new)) }
+        ensures needs { OnErr result (NeedsWord PRECISION left weight (held_by self.old)) }
+        ensures read { ReadsAtMostOne Backend.read_gives self.old.words result self.new.words }
+        ensures same { OnErr result (held_by self.new ≡ held_by self.old) }
     {
         let state = without_entry::<PRECISION>(self.state, left, weight);
         match refilled(&mut self.words, state) {
@@ -148,16 +153,12 @@ impl<Backend: WordStack<u32>> AnsCoder<Backend> {
     ) -> Result<(), CoderError<DefaultEncoderFrontendError, Backend::WriteError>>
     where
         E: EncoderModel<PRECISION, Probability = u32>,
-        ensures ok { IfOk result (λ _. IsEncoded (entry_of E.symbol_eq (E.rows model.now)) PRECISION symbol.now
-            (content self.new.state (Backend.words_of self.new.words)) (content self.old.state (Backend.words_of self.old.words))) }
+        ensures ok { OnOk result (IsEncoded (entry_of E.symbol_eq (E.rows model.now)) PRECISION symbol.now (held_by self.new)
+            (held_by self.old)) }
         ensures impossible { (fault : _) → result ≡ Err (CoderError.Frontend fault)
             → entry_of E.symbol_eq (E.rows model.now) symbol.now ≡ None }
-        ensures wrote { (self.new.words ≡ self.old.words)
-            ⊎ ((word : ℕ) × (answer : _) × Backend.write_gives self.old.words word answer self.new.words) }
-        ensures failed { (error : _) → result ≡ Err (CoderError.Backend error)
-            → (word : ℕ) × Backend.write_gives self.old.words word (Err error) self.new.words }
-        ensures state { OnErr result (self.new.state ≡ self.old.state) }
-        ensures words { OnErr result (Backend.words_of self.new.words ≡ Backend.words_of self.old.words) }
+        ensures wrote { WritesAtMostOne Backend.write_gives self.old.words (backend_result result) self.new.words }
+        ensures same { OnErr result (held_by self.new ≡ held_by self.old) }
     {
         let Some((left, weight)) = model.left_cumulative_and_probability(symbol) else {
             return Err(CoderError::Frontend(DefaultEncoderFrontendError::ImpossibleSymbol));
@@ -179,16 +180,11 @@ impl<Backend: WordStack<u32>> AnsCoder<Backend> {
     where
         D: DecoderModel<PRECISION, Probability = u32>,
         D::Symbol: Drop,
-        ensures ok { IfOk result (λ symbol. IsDecoded D.stands_for (D.rows model.now) PRECISION symbol
-            (content self.old.state (Backend.words_of self.old.words)) (content self.new.state (Backend.words_of self.new.words))) }
-        ensures memory { (fault : _) → result ≡ Err (CoderError.Frontend fault)
-            → RowMayBeRefused D.may_refuse (D.rows model.now) (self.old.state % 2 ^ PRECISION) }
-        ensures read { (self.new.words ≡ self.old.words) ⊎ ((answer : _) × Backend.read_gives self.old.words answer self.new.words) }
-        ensures failed { (error : _) → result ≡ Err (CoderError.Backend error)
-            → NeedsWord (D.rows model.now) PRECISION (content self.old.state (Backend.words_of self.old.words))
-            × Backend.read_gives self.old.words (Err error) self.new.words }
-        ensures state { OnErr result (self.new.state ≡ self.old.state) }
-        ensures words { OnErr result (Backend.words_of self.new.words ≡ Backend.words_of self.old.words) }
+        ensures ok { IfOk result (λ symbol. IsDecoded D.stands_for (D.rows model.now) PRECISION symbol (held_by self.old)
+            (held_by self.new)) }
+        ensures fault { IfErr result (λ error. IsDecodingFault D.may_refuse (D.rows model.now) PRECISION error (held_by self.old)) }
+        ensures read { ReadsAtMostOne Backend.read_gives self.old.words (backend_result result) self.new.words }
+        ensures same { OnErr result (held_by self.new ≡ held_by self.old) }
     {
         let quantile = quantile_of::<PRECISION>(self.state);
         let (symbol, left, weight) = match model.quantile_function(quantile) {

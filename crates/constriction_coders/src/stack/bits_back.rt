@@ -10,7 +10,8 @@ ghost use Rattle.std.specs.Prelude.{◌≡◌, ◌+◌, ◌%◌, ◌^◌, ◌<�
 ghost use Rattle.std.specs.Fn.{FnReturnsAt};
 ghost use Rattle.constriction.specs.Rows.{Row, IsRowOf, entry_of};
 ghost use Rattle.constriction_coders.specs.BitsBack.{EncodesByLatent, DecodesByLatent, LacksEntry, LacksLatent};
-ghost use Rattle.constriction_coders.specs.Steps.{Content, content, MayBeHeld, IsOnTop};
+ghost use Rattle.constriction_coders.specs.AnsCoder.{held_by};
+ghost use Rattle.constriction_coders.specs.Steps.{Content, MayBeHeld, IsOnTop};
 
 use crate::laws::may_be_held;
 use crate::stack::ans_coder::AnsCoder;
@@ -65,8 +66,7 @@ fn take<const PRECISION: usize>(coder: &mut AnsCoder<Vec<u32>>, entry: Entry)
     requires within { entry.0 + entry.1 ≤ 2 ^ PRECISION }
     requires from { entry.0 ≤ coder.old.state % 2 ^ PRECISION }
     requires to { coder.old.state % 2 ^ PRECISION < entry.0 + entry.1 }
-    ensures under { IsOnTop PRECISION entry.0 entry.1 (content coder.old.state coder.old.words.items)
-        (content coder.new.state coder.new.words.items) }
+    ensures under { IsOnTop PRECISION entry.0 entry.1 (held_by coder.old) (held_by coder.new) }
     ensures len { length coder.new.words.items ≤ length coder.old.words.items }
     ensures capacity { vec_capacity coder.new.words ≡ vec_capacity coder.old.words }
 {
@@ -83,11 +83,10 @@ fn put<const PRECISION: usize>(coder: &mut AnsCoder<Vec<u32>>, entry: Entry)
     requires some { 0 < entry.1 }
     requires within { entry.0 + entry.1 ≤ 2 ^ PRECISION }
     requires room { length coder.old.words.items < vec_capacity coder.old.words }
-    ensures over { IsOnTop PRECISION entry.0 entry.1 (content coder.new.state coder.new.words.items)
-        (content coder.old.state coder.old.words.items) }
+    ensures over { IsOnTop PRECISION entry.0 entry.1 (held_by coder.new) (held_by coder.old) }
     ensures len { length coder.new.words.items ≤ length coder.old.words.items + 1 }
     ensures capacity { vec_capacity coder.new.words ≡ vec_capacity coder.old.words }
-    ensures held { MayBeHeld (content coder.new.state coder.new.words.items) }
+    ensures held { MayBeHeld (held_by coder.new) }
 {
     match coder.put_entry::<PRECISION>(entry.0, entry.1) {
         Ok(()) => {}
@@ -113,12 +112,9 @@ fn exchange<const PRECISION: usize>(
     requires coded_within { coded.0 + coded.1 ≤ 2 ^ PRECISION }
     requires paid_some { 0 < paid.1 }
     requires paid_within { paid.0 + paid.1 ≤ 2 ^ PRECISION }
-    ensures ok { OnOk result ((rest full : Content)
-        × IsOnTop PRECISION drawn.0 drawn.1 (content coder.old.state coder.old.words.items) rest
-        × IsOnTop PRECISION coded.0 coded.1 full rest
-        × IsOnTop PRECISION paid.0 paid.1 (content coder.new.state coder.new.words.items) full) }
-    ensures state { OnErr result (coder.new.state ≡ coder.old.state) }
-    ensures words { OnErr result (coder.new.words.items ≡ coder.old.words.items) }
+    ensures ok { OnOk result ((rest full : Content) × IsOnTop PRECISION drawn.0 drawn.1 (held_by coder.old) rest × IsOnTop PRECISION coded.0
+        coded.1 full rest × IsOnTop PRECISION paid.0 paid.1 (held_by coder.new) full) }
+    ensures same { OnErr result (held_by coder.new ≡ held_by coder.old) }
 {
     match coder.words.reserve(2) {
         Ok(()) => {}
@@ -154,14 +150,12 @@ pub fn encode<
     requires likelihood { Likelihood.IsAlwaysCallable likelihood }
     ensures ok { OnOk result (EncodesByLatent (FnReturnsAt Posterior.Fn posterior) (FnReturnsAt Likelihood.Fn likelihood) PRECISION
         PosteriorModel.stands_for PosteriorModel.rows (λ m. entry_of LikelihoodModel.symbol_eq (LikelihoodModel.rows m))
-        (entry_of Prior.symbol_eq (Prior.rows prior.now)) symbol.now
-        (content coder.old.state coder.old.words.items) (content coder.new.state coder.new.words.items)) }
+        (entry_of Prior.symbol_eq (Prior.rows prior.now)) symbol.now (held_by coder.old) (held_by coder.new)) }
     ensures impossible { (fault : _) → result ≡ Err (CoderError.Frontend fault)
         → LacksEntry (FnReturnsAt Posterior.Fn posterior) (FnReturnsAt Likelihood.Fn likelihood) PRECISION
         PosteriorModel.stands_for PosteriorModel.rows (λ m. entry_of LikelihoodModel.symbol_eq (LikelihoodModel.rows m))
-        (entry_of Prior.symbol_eq (Prior.rows prior.now)) symbol.now coder.old.state }
-    ensures state { OnErr result (coder.new.state ≡ coder.old.state) }
-    ensures words { OnErr result (coder.new.words.items ≡ coder.old.words.items) }
+        (entry_of Prior.symbol_eq (Prior.rows prior.now)) symbol.now (held_by coder.old) }
+    ensures same { OnErr result (held_by coder.new ≡ held_by coder.old) }
 {
     let chosen = posterior(symbol);
     let (latent, drawn) = match row::<PosteriorModel, PRECISION>(
@@ -206,15 +200,12 @@ pub fn decode<
     requires posterior { Posterior.IsAlwaysCallable posterior }
     requires likelihood { Likelihood.IsAlwaysCallable likelihood }
     ensures ok { IfOk result (λ symbol. DecodesByLatent (FnReturnsAt Posterior.Fn posterior) (FnReturnsAt Likelihood.Fn likelihood)
-        PRECISION Prior.stands_for (Prior.rows prior.now) LikelihoodModel.stands_for LikelihoodModel.rows
-        (λ m. entry_of PosteriorModel.symbol_eq (PosteriorModel.rows m)) symbol
-        (content coder.old.state coder.old.words.items) (content coder.new.state coder.new.words.items)) }
-    ensures impossible { (fault : _) → result ≡ Err (CoderError.Frontend fault)
-        → LacksLatent (FnReturnsAt Posterior.Fn posterior) (FnReturnsAt Likelihood.Fn likelihood)
-        PRECISION Prior.stands_for (Prior.rows prior.now) LikelihoodModel.stands_for LikelihoodModel.rows
-        (λ m. entry_of PosteriorModel.symbol_eq (PosteriorModel.rows m)) (content coder.old.state coder.old.words.items) }
-    ensures state { OnErr result (coder.new.state ≡ coder.old.state) }
-    ensures words { OnErr result (coder.new.words.items ≡ coder.old.words.items) }
+        PRECISION Prior.stands_for (Prior.rows prior.now) LikelihoodModel.stands_for LikelihoodModel.rows (λ m. entry_of
+        PosteriorModel.symbol_eq (PosteriorModel.rows m)) symbol (held_by coder.old) (held_by coder.new)) }
+    ensures impossible { (fault : _) → result ≡ Err (CoderError.Frontend fault) → LacksLatent (FnReturnsAt Posterior.Fn posterior)
+        (FnReturnsAt Likelihood.Fn likelihood) PRECISION Prior.stands_for (Prior.rows prior.now) LikelihoodModel.stands_for
+        LikelihoodModel.rows (λ m. entry_of PosteriorModel.symbol_eq (PosteriorModel.rows m)) (held_by coder.old) }
+    ensures same { OnErr result (held_by coder.new ≡ held_by coder.old) }
 {
     may_be_held(coder);
     let (latent, paid) = match row::<Prior, PRECISION>(

@@ -1,27 +1,14 @@
 //! A coder as words alone, and the coder of such words.
 
-ghost use Rattle.std.specs.Prelude.{◌≡◌, ◌≢◌, ◌↔◌, ◌<◌, ◌≤◌, ◌^◌, ◌++◌, ◌∷◌, [], List, ℕ, Err, IfOk, IsTrue, length, vec_capacity};
-ghost use Rattle.constriction_coders.specs.Compressed.{IsCompressed, ReadsState, WritesState};
+ghost use Rattle.std.specs.Prelude.{◌≡◌, ◌≢◌, ◌↔◌, ◌<◌, ◌≤◌, ◌^◌, ◌++◌, ◌∷◌, [], List, ℕ, Err, IfOk, IsTrue, length};
+ghost use Rattle.constriction_coders.specs.AnsCoder.{held_by, ReadsState, WritesState};
+ghost use Rattle.constriction_coders.specs.Compressed.{IsCompressed};
 ghost use Rattle.constriction_coders.specs.Steps.{content};
 
 use crate::stack::ans_coder::AnsCoder;
 use constriction::CoderError;
 use constriction::backends::WordStack;
 use std::alloc::{AllocError, Global};
-
-impl AnsCoder<Vec<u32>> {
-    /// A coder that holds nothing. No memory is asked for.
-    pub fn new(alloc: Global) -> Self
-        ensures state { result.state ≡ 0 }
-        ensures words { result.words.items ≡ [] }
-        ensures capacity { vec_capacity result.words ≡ 0 }
-    {
-        AnsCoder {
-            state: 0,
-            words: Vec::new(alloc),
-        }
-    }
-}
 
 /// How many words a state has.
 #[inline]
@@ -43,8 +30,7 @@ fn words_of_state(state: u64) -> usize
 impl<Backend: WordStack<u32>> AnsCoder<Backend> {
     /// Whether the coder holds nothing: its state is 0, and there are no words under it.
     pub fn is_empty(&self) -> bool
-        ensures state { IsTrue result ↔ (self.now.state ≡ 0) }
-        ensures words { IsTrue result → Backend.words_of self.now.words ≡ [] }
+        ensures { IsTrue result ↔ (held_by self.now ≡ content 0 []) }
     {
         self.state == 0
     }
@@ -55,7 +41,7 @@ impl<Backend: WordStack<u32> + Drop> AnsCoder<Backend> {
     ///
     /// At most two words are written. An error is that of a write, and the words are then dropped.
     pub fn into_compressed(self) -> Result<Backend, Backend::WriteError>
-        ensures ok { IfOk result (λ words. IsCompressed (content self.state (Backend.words_of self.words)) (Backend.words_of words)) }
+        ensures ok { IfOk result (λ words. IsCompressed (held_by self) (Backend.words_of words)) }
         ensures end { IfOk result (λ words. (others : List ℕ) → Backend.words_of words ≢ others ++ 0 ∷ []) }
         ensures wrote { WritesState self result }
     {
@@ -82,7 +68,7 @@ impl<Backend: WordStack<u32> + Drop> AnsCoder<Backend> {
     /// At most two words are read, the last one first. Words that end in 0 belong to no coder: they are handed back without
     /// that 0. All other words are accepted. No words at all make a coder that holds nothing.
     pub fn from_compressed(words: Backend) -> Result<Self, CoderError<Backend, Backend::ReadError>>
-        ensures ok { IfOk result (λ coder. IsCompressed (content coder.state (Backend.words_of coder.words)) (Backend.words_of words)) }
+        ensures ok { IfOk result (λ coder. IsCompressed (held_by coder) (Backend.words_of words)) }
         ensures refused { (left : _) → result ≡ Err (CoderError.Frontend left)
             → Backend.words_of words ≡ Backend.words_of left ++ 0 ∷ [] }
         ensures read { ReadsState words result }
@@ -109,7 +95,7 @@ impl AnsCoder<Vec<u32>> {
     /// How many words [`get_compressed`](Self::get_compressed) gives.
     #[tactic(auto, using(crate::proofs::Closing::counted))]
     pub fn num_words(&self) -> usize
-        ensures { (all : List ℕ) → IsCompressed (content self.now.state self.now.words.items) all → result ≡ length all }
+        ensures { (all : List ℕ) → IsCompressed (held_by self.now) all → result ≡ length all }
     {
         let words = self.words.as_slice();
         words.len() + words_of_state(self.state)
@@ -119,7 +105,7 @@ impl AnsCoder<Vec<u32>> {
     ///
     /// Memory for the copy is asked for once. It fails only if that is refused.
     pub fn get_compressed(&self, alloc: Global) -> Result<Vec<u32>, AllocError>
-        ensures ok { IfOk result (λ all. IsCompressed (content self.now.state self.now.words.items) all.items) }
+        ensures ok { IfOk result (λ all. IsCompressed (held_by self.now) all.items) }
         ensures end { IfOk result (λ all. (others : List ℕ) → all.items ≢ others ++ 0 ∷ []) }
     {
         let mut all = Vec::with_capacity(alloc, self.num_words())?;

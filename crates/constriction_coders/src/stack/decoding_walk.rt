@@ -3,7 +3,8 @@
 ghost use Rattle.std.specs.Prelude.{◌≡◌};
 ghost use Rattle.std.specs.Iterator.{at_most, size};
 ghost use Rattle.std.specs.Iterator.SizeHint.{IsExactHint};
-ghost use Rattle.constriction_coders.specs.Walks.{walk, StepsOn};
+ghost use Rattle.constriction_coders.specs.AnsCoder.{Decodes};
+ghost use Rattle.constriction_coders.specs.Walks.{StepsOn};
 
 use crate::stack::ans_coder::AnsCoder;
 use constriction::CoderError;
@@ -42,8 +43,7 @@ where
     type Item = Result<D::Symbol, CoderError<AllocError, Backend::ReadError>>;
 
     ghost next_gives = { λ s r t. (t.coder.ghost_name ≡ s.coder.ghost_name) × (t.model ≡ s.model)
-        × StepsOn Backend.words_of D.stands_for D.may_refuse Backend.read_gives (D.rows s.model.now) PRECISION
-        (walk s.left s.coder.now.state s.coder.now.words) r (walk t.left t.coder.now.state t.coder.now.words) };
+        × StepsOn (Decodes D.stands_for D.may_refuse (D.rows s.model.now) PRECISION) s.left s.coder.now r t.left t.coder.now };
 
     ghost remaining = { λ s. at_most s.left };
 

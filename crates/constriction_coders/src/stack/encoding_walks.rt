@@ -1,10 +1,12 @@
 //! Messages whose symbols an iterator gives.
 
-ghost use Rattle.std.specs.Prelude.{IfErr, OnOk};
+ghost use Rattle.std.specs.Prelude.{reverse};
 ghost use Rattle.std.specs.Iterator.{IsFiniteIterable};
+ghost use Rattle.constriction.specs.Coding.{InTurn};
 ghost use Rattle.constriction.specs.Rows.{entry_of};
-ghost use Rattle.constriction_coders.specs.Steps.{content};
-ghost use Rattle.constriction_coders.specs.Walks.{EncodesGiven, GivenStops};
+ghost use Rattle.constriction_backends.specs.Sink.{TakesItems};
+ghost use Rattle.constriction_coders.specs.AnsCoder.{held_by, StopsAt};
+ghost use Rattle.constriction_coders.specs.Steps.{IsEncoded};
 
 use crate::stack::ans_coder::AnsCoder;
 use constriction::backends::WordStack;
@@ -22,13 +24,11 @@ impl<Backend: WordStack<u32>> AnsCoder<Backend> {
         E: EncoderModel<PRECISION, Probability = u32>,
         E::Symbol: Drop,
         I: IntoIterator<Item = E::Symbol>,
-        requires ends { IsFiniteIterable I.into_iter_gives I.IntoIter.can_next I.IntoIter.remaining symbols }
-        ensures ok { OnOk result ((it : I.IntoIter) × I.into_iter_gives symbols it
-            × EncodesGiven I.IntoIter.next_gives (entry_of E.symbol_eq (E.rows model.now)) PRECISION it
-            (content self.old.state (Backend.words_of self.old.words)) (content self.new.state (Backend.words_of self.new.words))) }
-        ensures err { IfErr result (λ error. (it : I.IntoIter) × I.into_iter_gives symbols it
-            × GivenStops I.IntoIter.next_gives (entry_of E.symbol_eq (E.rows model.now)) Backend.words_of Backend.write_gives PRECISION it
-            error (content self.old.state (Backend.words_of self.old.words)) self.new.state self.new.words) }
+        requires { IsFiniteIterable I.into_iter_gives I.IntoIter.can_next I.IntoIter.remaining symbols }
+        ensures { (given : I.IntoIter) × I.into_iter_gives symbols given × TakesItems I.IntoIter.next_gives given result
+            (λ done. InTurn (IsEncoded (entry_of E.symbol_eq (E.rows model.now)) PRECISION) (reverse done) (held_by self.new)
+            (held_by self.old))
+            (λ done symbol error. StopsAt (entry_of E.symbol_eq (E.rows model.now)) PRECISION done symbol error (held_by self.old) self.new) }
     {
         let mut given = symbols.into_iter();
         'turns: while let Some(symbol) = given.next() {
@@ -51,21 +51,12 @@ impl<Backend: WordStack<u32>> AnsCoder<Backend> {
         E::Symbol: Drop,
         I: IntoIterator<Item = E::Symbol>,
         I::IntoIter: DoubleEndedIterator,
-        requires ends { IsFiniteIterable I.into_iter_gives I.IntoIter.can_next_back I.IntoIter.remaining symbols }
-        ensures ok { OnOk result ((it : I.IntoIter) × I.into_iter_gives symbols it
-            × EncodesGiven I.IntoIter.next_back_gives (entry_of E.symbol_eq (E.rows model.now)) PRECISION it
-            (content self.old.state (Backend.words_of self.old.words)) (content self.new.state (Backend.words_of self.new.words))) }
-        ensures err { IfErr result (λ error. (it : I.IntoIter) × I.into_iter_gives symbols it
-            × GivenStops I.IntoIter.next_back_gives (entry_of E.symbol_eq (E.rows model.now)) Backend.words_of Backend.write_gives
-            PRECISION it error (content self.old.state (Backend.words_of self.old.words)) self.new.state self.new.words) }
+        requires { IsFiniteIterable I.into_iter_gives I.IntoIter.can_next_back I.IntoIter.remaining symbols }
+        ensures { (given : I.IntoIter) × I.into_iter_gives symbols given × TakesItems I.IntoIter.next_back_gives given result
+            (λ done. InTurn (IsEncoded (entry_of E.symbol_eq (E.rows model.now)) PRECISION) (reverse done) (held_by self.new)
+            (held_by self.old))
+            (λ done symbol error. StopsAt (entry_of E.symbol_eq (E.rows model.now)) PRECISION done symbol error (held_by self.old) self.new) }
     {
-        let mut given = symbols.into_iter();
-        'turns: while let Some(symbol) = given.next_back() {
-            match self.encode_symbol::<E, PRECISION>(&symbol, model) {
-                Ok(()) => {}
-                Err(error) => return Err(error),
-            }
-        }
-        Ok(())
+        self.encode_iid_symbols(symbols.into_iter().rev(), model)
     }
 }

@@ -3,7 +3,7 @@
 ghost use Rattle.std.specs.Prelude.{◌≡◌, ◌↔◌, ◌^◌, ◌<◌, ◌≤◌, IsTrue};
 ghost use Rattle.constriction_backends.specs.Cursor.{buf_of};
 ghost use Rattle.constriction_coders.specs.Positions.{SeeksPlace};
-ghost use Rattle.constriction_coders.specs.Steps.{content};
+ghost use Rattle.constriction_coders.specs.AnsCoder.{held_by};
 
 use crate::stack::ans_coder::AnsCoder;
 use constriction::backends::{Cursor, SafeBuf, SafeBufMut, WordStack};
@@ -33,8 +33,7 @@ impl<Backend: WordStack<u32> + Pos> Pos for AnsCoder<Backend> {
 /// Goes back to a place that was noted, and drops what was encoded since. A place with more words than there are is refused, and so
 /// is one with words under a state below `2^32`.
 impl Seek for AnsCoder<Vec<u32>> {
-    ghost seek_gives = { λ old place r new. SeeksPlace old.words.items (content old.state old.words.items) place r
-        (content new.state new.words.items) };
+    ghost seek_gives = { λ old place r new. SeeksPlace old.words.items (held_by old) place r (held_by new) };
 
     #[inline]
     fn seek(&mut self, pos: (usize, u64)) -> Result<(), ()> {
@@ -51,9 +50,8 @@ impl Seek for AnsCoder<Vec<u32>> {
 /// Goes to a place that was noted, back or forth, as long as the words from then are still there. A place past the buffer's words is
 /// refused, and so is one with words under a state below `2^32`.
 impl<Buf: SafeBufMut<u32>> Seek for AnsCoder<Cursor<u32, Buf>> {
-    ghost seek_gives = { λ old place r new. SeeksPlace (Buf.words_of (buf_of old.words))
-        (content old.state (⟦<Cursor<u32, Buf> as WordStack<u32>>⟧.words_of old.words)) place r
-        (content new.state (⟦<Cursor<u32, Buf> as WordStack<u32>>⟧.words_of new.words)) × (buf_of new.words ≡ buf_of old.words) };
+    ghost seek_gives = { λ old place r new. SeeksPlace (Buf.words_of (buf_of old.words)) (held_by old) place r (held_by new)
+        × (buf_of new.words ≡ buf_of old.words) };
 
     #[inline]
     fn seek(&mut self, pos: (usize, u64)) -> Result<(), ()> {

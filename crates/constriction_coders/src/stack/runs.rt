@@ -1,7 +1,8 @@
 //! Messages of any number of symbols.
 
 ghost use Rattle.std.specs.Prelude.{◌≡◌, length, reverse, IfOk, IfErr, OnOk};
-ghost use Rattle.constriction_coders.specs.Steps.{content, IsEncoded, IsDecoded, EncodingStops, DecodingStops};
+ghost use Rattle.constriction_coders.specs.AnsCoder.{held_by, DecodingStops, EncodingStops};
+ghost use Rattle.constriction_coders.specs.Steps.{IsEncoded, IsDecoded};
 ghost use Rattle.constriction.specs.Coding.{InTurn};
 ghost use Rattle.constriction.specs.Rows.{entry_of};
 
@@ -21,10 +22,9 @@ impl<Backend: WordStack<u32>> AnsCoder<Backend> {
     where
         E: EncoderModel<PRECISION, Probability = u32>,
         ensures ok { OnOk result (InTurn (IsEncoded (entry_of E.symbol_eq (E.rows model.now)) PRECISION) (reverse symbols.now)
-            (content self.new.state (Backend.words_of self.new.words)) (content self.old.state (Backend.words_of self.old.words))) }
-        ensures err { IfErr result (λ error. EncodingStops Backend.words_of (entry_of E.symbol_eq (E.rows model.now))
-            Backend.write_gives PRECISION symbols.now error (content self.old.state (Backend.words_of self.old.words))
-            self.new.state self.new.words) }
+            (held_by self.new) (held_by self.old)) }
+        ensures err { IfErr result (λ error. EncodingStops (entry_of E.symbol_eq (E.rows model.now)) PRECISION symbols.now error
+            (held_by self.old) self.new) }
     {
         for symbol in symbols {
             match self.encode_symbol(symbol, model) {
@@ -43,11 +43,10 @@ impl<Backend: WordStack<u32>> AnsCoder<Backend> {
     ) -> Result<(), CoderError<DefaultEncoderFrontendError, Backend::WriteError>>
     where
         E: EncoderModel<PRECISION, Probability = u32>,
-        ensures ok { OnOk result (InTurn (IsEncoded (entry_of E.symbol_eq (E.rows model.now)) PRECISION) symbols.now
-            (content self.new.state (Backend.words_of self.new.words)) (content self.old.state (Backend.words_of self.old.words))) }
-        ensures err { IfErr result (λ error. EncodingStops Backend.words_of (entry_of E.symbol_eq (E.rows model.now))
-            Backend.write_gives PRECISION (reverse symbols.now) error (content self.old.state (Backend.words_of self.old.words))
-            self.new.state self.new.words) }
+        ensures ok { OnOk result (InTurn (IsEncoded (entry_of E.symbol_eq (E.rows model.now)) PRECISION) symbols.now (held_by self.new)
+            (held_by self.old)) }
+        ensures err { IfErr result (λ error. EncodingStops (entry_of E.symbol_eq (E.rows model.now)) PRECISION (reverse symbols.now) error
+            (held_by self.old) self.new) }
     {
         let count = symbols.len();
         for done in 0..count {
@@ -72,12 +71,11 @@ impl<Backend: WordStack<u32>> AnsCoder<Backend> {
     where
         D: DecoderModel<PRECISION, Probability = u32>,
         D::Symbol: Drop,
-        ensures ok { IfOk result (λ symbols. InTurn (IsDecoded D.stands_for (D.rows model.now) PRECISION) symbols.items
-            (content self.old.state (Backend.words_of self.old.words)) (content self.new.state (Backend.words_of self.new.words))) }
+        ensures ok { IfOk result (λ symbols. InTurn (IsDecoded D.stands_for (D.rows model.now) PRECISION) symbols.items (held_by self.old)
+            (held_by self.new)) }
         ensures count { IfOk result (λ symbols. length symbols.items ≡ count) }
-        ensures err { IfErr result (λ error. DecodingStops Backend.words_of D.stands_for D.may_refuse (D.rows model.now)
-            Backend.read_gives PRECISION count error (content self.old.state (Backend.words_of self.old.words))
-            self.new.state self.new.words) }
+        ensures err { IfErr result (λ error. DecodingStops D.stands_for D.may_refuse (D.rows model.now) PRECISION count error
+            (held_by self.old) self.new) }
     {
         let mut symbols = match Vec::with_capacity(alloc, count) {
             Ok(symbols) => symbols,

@@ -4,6 +4,7 @@ ghost use Rattle.std.specs.Prelude.{◌+◌, ◌%◌, ◌≡◌, Err, IfOk, IfSo
 ghost use Rattle.std.specs.List.{AllZip};
 ghost use Rattle.constriction.specs.Coding.{StandsForEqual};
 ghost use Rattle.constriction.specs.Rows.{entry_of, uniform_rows};
+ghost use Rattle.constriction_coders.specs.AnsCoder.{held_by};
 ghost use Rattle.constriction_coders.specs.StackMessages.{IsStackOf};
 
 use constriction::CoderError;
@@ -93,12 +94,12 @@ fn likelihood(latent: &usize) -> Numbers
 /// A number that is encoded by way of a latent one comes back, and so does what the coder held.
 pub fn by_a_latent_number(coder: &mut AnsCoder<Vec<u32>>, symbol: usize) -> Option<usize>
     ensures symbol { IfSome result (λ answer. answer ≡ symbol) }
-    ensures state { IfSome result (λ _. coder.new.state ≡ coder.old.state) }
-    ensures words { IfSome result (λ _. coder.new.words.items ≡ coder.old.words.items) }
+    ensures coder { IfSome result (λ _. held_by coder.new ≡ held_by coder.old) }
 {
     contiguous_symbols_differ();
     let prior = Numbers::new(4);
     bits_come_back(&posterior, &likelihood, &prior);
+    // The law requires of both contents that a coder may hold them.
     may_be_held(coder);
     match encode(coder, &symbol, posterior, likelihood, &prior) {
         Ok(()) => {}

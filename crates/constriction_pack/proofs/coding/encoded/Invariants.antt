@@ -2,6 +2,7 @@ use Rattle.std.proofs.Common.{◌-◌, [], drop, length, nat_eq}
 use Rattle.constriction.specs.Coding.{InTurn}
 use Rattle.constriction.specs.ModelRows.{contiguous_model_rows}
 use Rattle.constriction.specs.Rows.{entry_of}
+use Rattle.constriction_coders.specs.AnsCoder.{held_by}
 use Rattle.constriction_coders.specs.Steps.{content, IsEncoded}
 use Rattle.constriction_pack.proofs.coding.encoded.Given as goal
 
@@ -9,4 +10,4 @@ use Rattle.constriction_pack.proofs.coding.encoded.Given as goal
 abbrev pub invariant-loop-done : goal.invariant-loop-done
 invariant-loop-done l =
     InTurn (IsEncoded (entry_of nat_eq (contiguous_model_rows l.model)) 16) (drop (length l.bytes - l.done) l.bytes)
-    (content l.coder.state l.coder.words.items) (content 0 [])
+    (held_by l.coder) (content 0 [])

@@ -1,7 +1,7 @@
 use Rattle.std.proofs.Common.{◌≡◌, ◌++◌}
 use Rattle.constriction.specs.Rows.{entry_of}
 use Rattle.constriction.specs.declared.CoderError.TheVariants.{Frontend}
-use Rattle.constriction_coders.specs.Intervals.{interval, held_of}
+use Rattle.constriction_coders.specs.RangeDecoder.{held_by}
 use Rattle.constriction_coders.specs.Spans.{whole}
 use Rattle.constriction_coders.specs.declared.queue.range_decoder.DecoderFrontendError.TheVariants.{InvalidData}
 use Rattle.constriction_coders.proofs.Messages.{came-back, not-invalid}
@@ -14,7 +14,7 @@ returns-in-Ok-decode_symbols-clause-back g c = λ symbols words more long messag
     came-back g.D.DecoderModel.stands_for g.E.EncoderModel.symbol_eq
     (entry_of g.E.EncoderModel.symbol_eq (g.E.EntropyModel.rows c.args.encoder.now)) (g.D.EntropyModel.rows c.args.decoder.now)
     g.Source.ReadWords.read_gives g.Source.ReadWords.tells_upcoming g.row.PRECISION
-    (held_of c.in-Ok.opened.range c.in-Ok.opened.offset c.in-Ok.opened.words) c.args.count
+    (held_by c.in-Ok.opened) c.args.count
     c.range_symbols_come_back.ensures.back c.in-Ok-decode_symbols.answers.items _ c.in-Ok-decode_symbols.ensures.ok
     c.in-Ok-decode_symbols.ensures.count symbols (words ++ more) whole message.0 whole-reached long message.1
     (sealed-tell message.0 words more message.2 fit) (c.in-Ok.ensures.begins (words ++ more) known)
@@ -25,8 +25,7 @@ returns-clause-valid g c = λ is symbols words more long message fit known.
     not-invalid g.D.DecoderModel.stands_for g.E.EncoderModel.symbol_eq
     (entry_of g.E.EncoderModel.symbol_eq (g.E.EntropyModel.rows c.args.encoder.now)) (g.D.EntropyModel.rows c.args.decoder.now)
     g.Source.ReadWords.read_gives g.Source.ReadWords.tells_upcoming g.row.PRECISION
-    (held_of c.in-Ok.opened.range c.in-Ok.opened.offset c.in-Ok.opened.words) c.args.count
+    (held_by c.in-Ok.opened) c.args.count
     c.range_symbols_come_back.ensures.valid g.D.DecoderModel.may_refuse c.in-Err-decode_symbols.error
-    (interval c.decode_symbols.new.self.range c.decode_symbols.new.self.offset) c.decode_symbols.new.self.words
-    c.in-Err-decode_symbols.ensures.err same symbols (words ++ more) whole message.0 whole-reached long message.1
+    (held_by c.decode_symbols.new.self) c.in-Err-decode_symbols.ensures.err same symbols (words ++ more) whole message.0 whole-reached long message.1
     (sealed-tell message.0 words more message.2 fit) (c.in-Ok.ensures.begins (words ++ more) known)

@@ -1,20 +1,12 @@
-use Rattle.std.proofs.Common.{◌∙◌, ap, reverse, sym}
+use Rattle.std.proofs.Common.{◌∙◌, reverse, sym}
 use Rattle.std.proofs.lemmas.List.{length-reverse}
-use Rattle.constriction_coders.specs.Steps.{Content}
 use Rattle.constriction.specs.lemmas.Turns.{are-equal}
 use Rattle.constriction_coders.proofs.laws.stack.there_and_back.Goals as goal
 
-pub returns-in-Ok-decode_symbols-clause-state : goal.returns-in-Ok-decode_symbols-clause-state
-returns-in-Ok-decode_symbols-clause-state g c =
-    let same = c.symbols_come_back.ensures (reverse c.args.symbols.now) c.in-Ok-decode_symbols.answers.items _ _ _ c.in-Ok.ensures.ok
-    c.in-Ok-decode_symbols.ensures.ok (c.in-Ok-decode_symbols.ensures.count ∙ sym (length-reverse c.args.symbols.now)) in
-    ap (λ (x : Content). x.state) same.1
-
-pub returns-in-Ok-decode_symbols-clause-words : goal.returns-in-Ok-decode_symbols-clause-words
-returns-in-Ok-decode_symbols-clause-words g c =
-    let same = c.symbols_come_back.ensures (reverse c.args.symbols.now) c.in-Ok-decode_symbols.answers.items _ _ _ c.in-Ok.ensures.ok
-    c.in-Ok-decode_symbols.ensures.ok (c.in-Ok-decode_symbols.ensures.count ∙ sym (length-reverse c.args.symbols.now)) in
-    ap (λ (x : Content). x.words) same.1
+pub returns-in-Ok-decode_symbols-clause-same : goal.returns-in-Ok-decode_symbols-clause-same
+returns-in-Ok-decode_symbols-clause-same g c =
+    (c.symbols_come_back.ensures (reverse c.args.symbols.now) c.in-Ok-decode_symbols.answers.items _ _ _ c.in-Ok.ensures.ok
+    c.in-Ok-decode_symbols.ensures.ok (c.in-Ok-decode_symbols.ensures.count ∙ sym (length-reverse c.args.symbols.now))).1
 
 pub returns-in-Ok-decode_symbols-clause-equal : goal.returns-in-Ok-decode_symbols-clause-equal
 returns-in-Ok-decode_symbols-clause-equal g c = λ clones.

@@ -17,7 +17,4 @@ returns-in-Ok-clause-ok g c =
     refills-back c.args.state _ _ (omega (arith, c.ranges.state.fits)) c.in-Ok.ensures.pushes
 
 pub returns-in-Ok-clause-wrote : goal.returns-in-Ok-clause-wrote
-returns-in-Ok-clause-wrote g c = inr (_, _, c.in-Ok.ensures.gives)
-
-pub returns-in-Err-clause-wrote : goal.returns-in-Err-clause-wrote
-returns-in-Err-clause-wrote g c = inr (_, _, c.in-Err.ensures.gives)
+returns-in-Ok-clause-wrote g c = inr (_, c.in-Ok.ensures.gives)

@@ -1,6 +1,6 @@
 use Rattle.std.proofs.Common.{◌≡◌, ◌++◌, [], drop, ap}
 use Rattle.std.proofs.lemmas.List.{append-nil}
-use Rattle.constriction_coders.specs.Intervals.{held_of}
+use Rattle.constriction_coders.specs.RangeDecoder.{held_by}
 use Rattle.constriction_coders_tests.proofs.Pairs.{two-back}
 use Rattle.constriction_coders_tests.proofs.callers.queue.by_two_models.Goals as goal
 
@@ -13,6 +13,6 @@ returns-in-Ok-decode_symbol-2 g c =
     two-back _ _ _ _ _ _ _ _ _ _ _ _ c.range_symbol_comes_back.ensures.back c.range_symbol_comes_back.ensures.leaves
     c.range_symbol_comes_back-2.ensures.back c.range_symbol_comes_back-2.ensures.before c.range_symbol_comes_back-2.ensures.leaves
     _ _ _ _ _ _ _ words
-    (held_of c.in-Ok-from_compressed.opened.range c.in-Ok-from_compressed.opened.offset c.in-Ok-from_compressed.opened.words) _ _
+    (held_by c.in-Ok-from_compressed.opened) _ _
     c.new-coder.ensures c.in-Ok.ensures.ok c.in-Ok-encode_symbol.ensures.ok c.in-Ok-into_compressed.ensures.ok
     (c.in-Ok-from_compressed.ensures.begins (words ++ []) known) c.in-Ok-decode_symbol.ensures.ok c.in-Ok-decode_symbol-2.ensures.ok

@@ -1,7 +1,7 @@
 use Rattle.std.proofs.Common.{◌≡◌, ◌^◌, ◌<◌, ℕ, List, ◌++◌, [], refl, ap, sym, subst}
 use Rattle.std.proofs.lemmas.List.{append-nil}
 use Rattle.std.proofs.lemmas.List.Elements.{All-nil}
-use Rattle.constriction_coders.specs.Intervals.{held_of}
+use Rattle.constriction_coders.specs.RangeDecoder.{held_by}
 use Rattle.constriction_coders.specs.Spans.{LeadTo}
 use Rattle.constriction_coders.proofs.Messages.{came-back}
 use Rattle.constriction_coders_tests.proofs.callers.queue.from_a_place.Goals as goal
@@ -15,7 +15,7 @@ unreachable-requires g c =
     let there : start.words.buf.items ≡ words ++ [] =
     rw (opened.4.1, opened.3.1, ap (λ p. p.0) c.new_at_write_beginning.ensures) (sym (append-nil words)) in
     let back = c.range_place_comes_back.ensures c.args.second.now _ _ words [] start.words.buf.items
-    (held_of start.range start.offset start.words) (held_of new.range new.offset new.words) c.seek.result c.pos-place.ensures.reached
+    (held_by start) (held_by new) c.seek.result c.pos-place.ensures.reached
     c.in-Ok-encode_symbols.ensures.ok c.in-Ok-into_compressed.ensures.ok (All-nil (λ (w : ℕ). w < 2 ^ 32)) there
     (rw c.pos-place.ensures.place at c.seek.ensures.sought) in
     let failed = rw c.in-Err-seek.is at back.0 in cc
@@ -32,12 +32,12 @@ returns-in-Ok-decode_symbols g c =
     let noted = c.encode_symbols.new.self in
     let last = c.encode_symbols-2.new.self in
     let back = c.range_place_comes_back.ensures c.args.second.now noted last words [] start.words.buf.items
-    (held_of start.range start.offset start.words) (held_of new.range new.offset new.words) c.seek.result c.pos-place.ensures.reached
+    (held_by start) (held_by new) c.seek.result c.pos-place.ensures.reached
     c.in-Ok-encode_symbols.ensures.ok c.in-Ok-into_compressed.ensures.ok nil there
     (rw c.pos-place.ensures.place at c.seek.ensures.sought) in
     let told = subst (λ (ws : List ℕ). LeadTo last ws) (sym there)
     (c.sealed_words_tell.ensures last words [] c.in-Ok-into_compressed.ensures.ok nil) in
-    came-back _ _ _ _ _ _ g.row.PRECISION (held_of new.range new.offset new.words) _
+    came-back _ _ _ _ _ _ g.row.PRECISION (held_by new) _
     c.range_symbols_come_back.ensures.back c.in-Ok-decode_symbols.answers.items _ c.in-Ok-decode_symbols.ensures.ok
     c.in-Ok-decode_symbols.ensures.count c.args.second.now start.words.buf.items noted last c.pos-place.ensures.reached refl
     c.in-Ok-encode_symbols.ensures.ok told back.1

@@ -1,6 +1,5 @@
-use Rattle.std.proofs.Common.{◌∙◌, ap}
+use Rattle.std.proofs.Common.{◌∙◌}
 use Rattle.std.proofs.lemmas.Bool.{eqb-true}
-use Rattle.constriction_coders.specs.Steps.{Content}
 use Rattle.constriction_coders_tests.proofs.callers.stack.by_a_latent_number.Goals as goal
 
 pub returns-in-Ok-decode-clause-symbol : goal.returns-in-Ok-decode-clause-symbol
@@ -9,14 +8,7 @@ returns-in-Ok-decode-clause-symbol c =
     c.may_be_held-in-Ok-decode.ensures c.in-Ok.ensures.ok c.in-Ok-decode.ensures.ok in
     back.0.2 ∙ eqb-true back.0.0 c.args.symbol back.0.1
 
-pub returns-in-Ok-decode-clause-state : goal.returns-in-Ok-decode-clause-state
-returns-in-Ok-decode-clause-state c =
-    let back = c.bits_come_back.ensures c.args.symbol c.in-Ok-decode.answer _ _ _ c.may_be_held.ensures
-    c.may_be_held-in-Ok-decode.ensures c.in-Ok.ensures.ok c.in-Ok-decode.ensures.ok in
-    ap (λ (x : Content). x.state) back.1
-
-pub returns-in-Ok-decode-clause-words : goal.returns-in-Ok-decode-clause-words
-returns-in-Ok-decode-clause-words c =
-    let back = c.bits_come_back.ensures c.args.symbol c.in-Ok-decode.answer _ _ _ c.may_be_held.ensures
-    c.may_be_held-in-Ok-decode.ensures c.in-Ok.ensures.ok c.in-Ok-decode.ensures.ok in
-    ap (λ (x : Content). x.words) back.1
+pub returns-in-Ok-decode-clause-coder : goal.returns-in-Ok-decode-clause-coder
+returns-in-Ok-decode-clause-coder c =
+    (c.bits_come_back.ensures c.args.symbol c.in-Ok-decode.answer _ _ _ c.may_be_held.ensures c.may_be_held-in-Ok-decode.ensures
+    c.in-Ok.ensures.ok c.in-Ok-decode.ensures.ok).1

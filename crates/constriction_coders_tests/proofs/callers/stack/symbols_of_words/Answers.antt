@@ -1,5 +1,4 @@
-use Rattle.std.proofs.Common.{◌≡◌, ◌∙◌, Err, sym, ap}
-use Rattle.constriction_coders.specs.Steps.{Content}
+use Rattle.std.proofs.Common.{◌∙◌, Err, sym, ap}
 use Rattle.constriction_coders_tests.proofs.callers.stack.symbols_of_words.Goals as goal
 
 pub returns-in-Err-Frontend-clause-accepted : goal.returns-in-Err-Frontend-clause-accepted
@@ -11,8 +10,7 @@ pub returns-then-not-is_empty-clause-accepted : goal.returns-then-not-is_empty-c
 returns-then-not-is_empty-clause-accepted g c = λ _ symbols many stacked.
     let back = c.words_come_back.ensures.back symbols c.in-Ok-decode_symbols.answers.items c.args.words.items _ _ stacked
     c.in-Ok.ensures.ok c.in-Ok-decode_symbols.ensures.ok (c.in-Ok-decode_symbols.ensures.count ∙ sym many) in
-    let none : c.decode_symbols.new.self.state ≡ 0 = ap (λ (x : Content). x.state) back.1 in
-    let empty = c.is_empty.ensures.state.1 none in cc
+    let empty = c.is_empty.ensures.1 back.1 in cc
 
 pub returns-clause-back : goal.returns-clause-back
 returns-clause-back g c = λ symbols many stacked.

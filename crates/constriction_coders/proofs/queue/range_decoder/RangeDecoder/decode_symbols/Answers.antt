@@ -1,7 +1,7 @@
-use Rattle.std.proofs.Common.{◌∷◌, [], arith, ap, length, length-append}
+use Rattle.std.proofs.Common.{◌∷◌, [], arith, ap, inl, inr, refl, length, length-append}
 use Rattle.constriction.specs.lemmas.Turns.{turn-last}
 use Rattle.constriction_coders.specs.Intervals.{IsRead}
-use Rattle.constriction_coders.proofs.Intervals.{reading_stops}
+use Rattle.constriction_coders.specs.RangeDecoder.{held_by}
 use Rattle.constriction_coders.proofs.queue.range_decoder.RangeDecoder.decode_symbols.Goals as goal
 
 pub loop-done-preserved : goal.loop-done-preserved
@@ -21,10 +21,16 @@ loop-done-preserved g c = record {
 }
 
 pub returns-in-Err-clause-err : goal.returns-in-Err-clause-err
-returns-in-Err-clause-err g c =
-    reading_stops g.D.DecoderModel.stands_for g.D.DecoderModel.may_refuse (g.D.EntropyModel.rows c.args.model.now)
-    g.Source.ReadWords.read_gives g.row.PRECISION _ c.loop-done.self.range c.loop-done.self.offset c.loop-done.self.words
-    c.decode_symbol.new.self.range c.decode_symbol.new.self.offset c.decode_symbol.new.self.words c.in-Err.ensures.range
-    c.in-Err.ensures.offset c.loop-done.symbols.items c.args.count c.in-Err.error
-    (omega (arith, c.loop-done.invariant.counted)) c.loop-done.invariant.so_far c.in-Err.ensures.invalid
-    c.in-Err.ensures.memory c.in-Err.ensures.failed c.in-Err.ensures.source
+returns-in-Err-clause-err g c = record {
+  done = c.loop-done.symbols.items;
+  reached = held_by c.loop-done.self;
+  led = c.loop-done.invariant.so_far;
+  why = inl (
+    omega (arith, c.loop-done.invariant.counted),
+    record { ok = tt; fault = c.in-Err.ensures.fault; same = c.in-Err.ensures.same },
+  );
+}
+
+pub returns-in_default-clause-err : goal.returns-in_default-clause-err
+returns-in_default-clause-err g c =
+    record { done = []; reached = held_by c.args.self.now; led = refl; why = inr (refl, refl, refl) }

@@ -1,6 +1,7 @@
 use Rattle.std.proofs.Common.{◌≡◌, ◌≤◌, length, vec_capacity}
 use Rattle.constriction.specs.Coding.{InTurn}
-use Rattle.constriction_coders.specs.Intervals.{held_of, IsRead}
+use Rattle.constriction_coders.specs.Intervals.{IsRead}
+use Rattle.constriction_coders.specs.RangeDecoder.{held_by}
 use Rattle.constriction_coders.proofs.queue.range_decoder.RangeDecoder.decode_symbols.Given as goal
 
 -- as many symbols as turns were decoded
@@ -10,6 +11,5 @@ invariant-loop-done g l = record {
   counted : length l.symbols.items ≡ l.done;
   room : l.count ≤ vec_capacity l.symbols;
   so_far : InTurn (IsRead g.D.DecoderModel.stands_for (g.D.EntropyModel.rows l.model) g.Source.ReadWords.read_gives g.row.PRECISION)
-      l.symbols.items (held_of l.initial.self.range l.initial.self.offset l.initial.self.words)
-      (held_of l.self.range l.self.offset l.self.words);
+      l.symbols.items (held_by l.initial.self) (held_by l.self);
 }

@@ -1,6 +1,8 @@
 use Rattle.std.specs.Iterator.{IsFinite, size}
+use Rattle.constriction.specs.Coding.{InTurn}
 use Rattle.constriction.specs.Rows.{entry_of}
-use Rattle.constriction_coders.proofs.GivingSpans.{GivenSoFar}
+use Rattle.constriction_coders.specs.Spans.{IsNarrowed}
+use Rattle.constriction_coders.proofs.Giving.{GivenSoFar}
 use Rattle.constriction_coders.proofs.queue.range_encoder.RangeEncoder.encode_iid_symbols.Given as goal
 
 -- what was given so far was encoded
@@ -8,8 +10,9 @@ abbrev pub invariant-turns : goal.invariant-turns
 invariant-turns g l = record {
   next : g.I.IntoIter.Iterator.can_next l.given;
   ends : IsFinite (g.I.IntoIter.Iterator.remaining l.given);
-  so_far : GivenSoFar g.I.IntoIter.Iterator.next_gives (entry_of g.E.EncoderModel.symbol_eq (g.E.EntropyModel.rows l.model)) g.row.PRECISION
-      l.initial.given l.given l.initial.self l.self;
+  so_far : GivenSoFar g.I.IntoIter.Iterator.next_gives l.initial.given l.given
+      (λ done. InTurn (IsNarrowed (entry_of g.E.EncoderModel.symbol_eq (g.E.EntropyModel.rows l.model)) g.row.PRECISION) done
+      l.initial.self l.self);
 }
 
 -- how many symbols are left at most

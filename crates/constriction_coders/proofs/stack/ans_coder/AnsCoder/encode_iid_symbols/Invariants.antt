@@ -1,6 +1,9 @@
+use Rattle.std.proofs.Common.{reverse}
 use Rattle.std.specs.Iterator.{IsFinite, size}
+use Rattle.constriction.specs.Coding.{InTurn}
 use Rattle.constriction.specs.Rows.{entry_of}
-use Rattle.constriction_coders.specs.Steps.{content}
+use Rattle.constriction_coders.specs.AnsCoder.{held_by}
+use Rattle.constriction_coders.specs.Steps.{IsEncoded}
 use Rattle.constriction_coders.proofs.Giving.{GivenSoFar}
 use Rattle.constriction_coders.proofs.stack.ans_coder.AnsCoder.encode_iid_symbols.Given as goal
 
@@ -9,9 +12,9 @@ abbrev pub invariant-turns : goal.invariant-turns
 invariant-turns g l = record {
   next : g.I.IntoIter.Iterator.can_next l.given;
   ends : IsFinite (g.I.IntoIter.Iterator.remaining l.given);
-  so_far : GivenSoFar g.I.IntoIter.Iterator.next_gives (entry_of g.E.EncoderModel.symbol_eq (g.E.EntropyModel.rows l.model)) g.row.PRECISION
-      l.initial.given l.given (content l.initial.self.state (g.Backend.WordStack.words_of l.initial.self.words))
-      (content l.self.state (g.Backend.WordStack.words_of l.self.words));
+  so_far : GivenSoFar g.I.IntoIter.Iterator.next_gives l.initial.given l.given
+      (λ done. InTurn (IsEncoded (entry_of g.E.EncoderModel.symbol_eq (g.E.EntropyModel.rows l.model)) g.row.PRECISION) (reverse done)
+      (held_by l.self) (held_by l.initial.self));
 }
 
 -- how many symbols are left at most

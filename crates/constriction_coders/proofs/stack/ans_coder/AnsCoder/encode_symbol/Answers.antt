@@ -1,5 +1,5 @@
 use Rattle.constriction.specs.Rows.{entry_of}
-use Rattle.std.proofs.Common.{◌≡◌, Err, ap, sym}
+use Rattle.std.proofs.Common.{sym}
 use Rattle.constriction_coders.proofs.Steps.{encoded}
 use Rattle.constriction_coders.proofs.stack.ans_coder.AnsCoder.encode_symbol.Goals as goal
 
@@ -7,7 +7,3 @@ pub returns-in-Ok-clause-ok : goal.returns-in-Ok-clause-ok
 returns-in-Ok-clause-ok g c =
     encoded g.row.PRECISION c.in-Some.left c.get.result _ (entry_of g.E.EncoderModel.symbol_eq (g.E.EntropyModel.rows c.args.model.now))
     c.args.symbol.now _ _ (sym c.in-Some.ensures.entry) (sym c.get.ensures.value) c.in-Ok.ensures.ok
-
-pub returns-in-Err-clause-failed : goal.returns-in-Err-clause-failed
-returns-in-Err-clause-failed g c = λ error is.
-    let same : c.in-Err.error ≡ error = cc in c.in-Err.ensures.failed error (ap Err same)

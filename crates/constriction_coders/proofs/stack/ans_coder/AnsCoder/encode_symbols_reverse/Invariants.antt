@@ -1,7 +1,8 @@
 use Rattle.std.proofs.Common.{◌-◌, ◌≡◌, drop, length}
 use Rattle.constriction.specs.Coding.{InTurn}
 use Rattle.constriction.specs.Rows.{entry_of}
-use Rattle.constriction_coders.specs.Steps.{content, IsEncoded}
+use Rattle.constriction_coders.specs.AnsCoder.{held_by}
+use Rattle.constriction_coders.specs.Steps.{IsEncoded}
 use Rattle.constriction_coders.proofs.stack.ans_coder.AnsCoder.encode_symbols_reverse.Given as goal
 
 -- the last symbols were encoded
@@ -9,6 +10,6 @@ abbrev pub invariant-loop-done : goal.invariant-loop-done
 invariant-loop-done g l = record {
   counted : l.count ≡ length l.symbols;
   so_far : InTurn (IsEncoded (entry_of g.E.EncoderModel.symbol_eq (g.E.EntropyModel.rows l.model)) g.row.PRECISION)
-      (drop (length l.symbols - l.done) l.symbols) (content l.self.state (g.Backend.WordStack.words_of l.self.words))
-      (content l.initial.self.state (g.Backend.WordStack.words_of l.initial.self.words));
+      (drop (length l.symbols - l.done) l.symbols) (held_by l.self)
+      (held_by l.initial.self);
 }

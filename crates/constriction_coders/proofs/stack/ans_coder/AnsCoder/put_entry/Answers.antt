@@ -1,5 +1,5 @@
 use Rattle.std.proofs.Common.{arith}
-use Rattle.constriction_coders.specs.Steps.{content}
+use Rattle.constriction_coders.specs.AnsCoder.{held_by}
 use Rattle.constriction_coders.proofs.Steps.{put-on-top}
 use Rattle.constriction_coders.proofs.stack.ans_coder.AnsCoder.put_entry.Goals as goal
 
@@ -7,7 +7,7 @@ pub returns-in-Ok-clause-ok : goal.returns-in-Ok-clause-ok
 returns-in-Ok-clause-ok g c =
     put-on-top g.row.PRECISION c.args.left c.args.weight c.in-Ok.kept c.with_entry-self.result
     (g.Backend.WordStack.words_of c.with_room.new.words)
-    (content c.args.self.now.state (g.Backend.WordStack.words_of c.args.self.now.words))
+    (held_by c.args.self.now)
     c.requires.some c.requires.within c.with_entry-self.ensures c.in-Ok.ensures.ok
 
 pub invariant_of-self : goal.invariant_of-self
