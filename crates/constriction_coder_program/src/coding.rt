@@ -56,7 +56,7 @@ pub(crate) fn symbols_of(alloc: Global, numbers: &[u64]) -> Result<Vec<usize>, A
 }
 
 /// The model of these weights.
-fn model_of<const PRECISION: usize>(
+fn contiguous_model_of<const PRECISION: usize>(
     alloc: Global,
     weights: &[u64],
 ) -> Result<Model<PRECISION>, Refusal>
@@ -82,7 +82,7 @@ pub(crate) fn stack_encode<const PRECISION: usize>(
     requires positive { 0 < PRECISION }
     requires fits { PRECISION ≤ 32 }
 {
-    let model = model_of::<PRECISION>(alloc, weights)?;
+    let model = contiguous_model_of::<PRECISION>(alloc, weights)?;
     let mut coder = AnsCoder::new(alloc);
     match coder.encode_symbols_reverse(symbols, &model) {
         Ok(()) => {}
@@ -105,7 +105,7 @@ pub(crate) fn stack_decode<const PRECISION: usize>(
     requires positive { 0 < PRECISION }
     requires fits { PRECISION ≤ 32 }
 {
-    let model = model_of::<PRECISION>(alloc, weights)?;
+    let model = contiguous_model_of::<PRECISION>(alloc, weights)?;
     let mut coder = match AnsCoder::from_compressed(words) {
         Ok(coder) => coder,
         Err(_) => return Err(Refusal::EndsInZero),
@@ -125,7 +125,7 @@ pub(crate) fn queue_encode<const PRECISION: usize>(
     requires positive { 0 < PRECISION }
     requires fits { PRECISION ≤ 32 }
 {
-    let model = model_of::<PRECISION>(alloc, weights)?;
+    let model = contiguous_model_of::<PRECISION>(alloc, weights)?;
     let mut encoder = RangeEncoder::new(alloc);
     match encoder.encode_symbols(symbols, &model) {
         Ok(()) => {}
@@ -148,7 +148,7 @@ pub(crate) fn queue_decode<const PRECISION: usize>(
     requires positive { 0 < PRECISION }
     requires fits { PRECISION ≤ 32 }
 {
-    let model = model_of::<PRECISION>(alloc, weights)?;
+    let model = contiguous_model_of::<PRECISION>(alloc, weights)?;
     let mut decoder = match RangeDecoder::from_compressed(Cursor::new_at_write_beginning(words)) {
         Ok(decoder) => decoder,
         Err(_) => return Err(Refusal::Damaged),

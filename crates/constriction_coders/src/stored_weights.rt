@@ -51,25 +51,6 @@ pub type StoredModel<Symbol, const PRECISION: usize> = NonContiguousCategoricalD
     PRECISION,
 >;
 
-/// The next word.
-fn next_word<Source: ReadWords<u32, Queue>>(
-    source: &mut Source,
-) -> Result<u32, CoderError<ReadingError, Source::ReadError>>
-    requires { Source.can_read source.old }
-    ensures goes_on { Source.can_read source.new }
-    ensures ok { IfOk result (λ word. Source.read_gives source.old (Ok (Some word)) source.new) }
-    ensures too_few { result ≡ Err (CoderError.Frontend ReadingError.TooFewWords) → Source.read_gives source.old (Ok None) source.new }
-    ensures accepted { result ≢ Err (CoderError.Frontend ReadingError.NotAccepted) }
-    ensures memory { result ≢ Err (CoderError.Frontend ReadingError.OutOfMemory) }
-    ensures failed { (error : _) → result ≡ Err (CoderError.Backend error) → Source.read_gives source.old (Err error) source.new }
-{
-    match source.read() {
-        Ok(Some(word)) => Ok(word),
-        Ok(None) => Err(CoderError::Frontend(ReadingError::TooFewWords)),
-        Err(error) => Err(CoderError::Backend(error)),
-    }
-}
-
 /// Adds a weight that was read. A full list asks for room for as many weights as it has, and for at least four.
 fn push_weight(weights: &mut Vec<u32>, weight: u32) -> Result<(), AllocError>
     // There is room only for the weights that were read, as many again, and four.
@@ -103,10 +84,14 @@ pub fn read_weights<Source: ReadWords<u32, Queue>>(
     ensures failed { (error : _) → result ≡ Err (CoderError.Backend error)
         → EndsInWeights Source.read_gives source.old (Err error) source.new }
 {
-    let count = next_word(source)?;
+    let Some(count) = source.read()? else {
+        return Err(CoderError::Frontend(ReadingError::TooFewWords));
+    };
     let mut weights = Vec::new(alloc);
     for done in 0..count {
-        let weight = next_word(source)?;
+        let Some(weight) = source.read()? else {
+            return Err(CoderError::Frontend(ReadingError::TooFewWords));
+        };
         match push_weight(&mut weights, weight) {
             Ok(()) => {}
             Err(_) => return Err(CoderError::Frontend(ReadingError::OutOfMemory)),
@@ -142,7 +127,7 @@ pub fn write_weights<Sink: WriteWords<u32>>(
 }
 
 /// The model of these symbols and weights.
-fn model_of<Symbol: Eq + Drop, const PRECISION: usize>(
+fn stored_model_of<Symbol: Eq + Drop, const PRECISION: usize>(
     alloc: Global,
     symbols: Vec<Symbol>,
     weights: Vec<u32>,
@@ -188,14 +173,14 @@ pub fn read_model<Symbol: Eq + Drop, Source: ReadWords<u32, Queue>, const PRECIS
         → EndsInWeights Source.read_gives source.old (Err error) source.new }
 {
     let weights = read_weights(alloc, source)?;
-    match model_of(alloc, symbols, weights) {
+    match stored_model_of(alloc, symbols, weights) {
         Ok(table) => Ok(table),
         Err(fault) => Err(CoderError::Frontend(fault)),
     }
 }
 
 /// The weights of a model's rows, in order.
-fn weights_of<M, const PRECISION: usize>(alloc: Global, model: M) -> Result<Vec<u32>, AllocError>
+fn row_weights<M, const PRECISION: usize>(alloc: Global, model: M) -> Result<Vec<u32>, AllocError>
 where
     M: IterableEntropyModel<PRECISION, Probability = u32>,
     M::Symbol: Drop,
@@ -228,7 +213,7 @@ where
     ensures failed { (error : _) → result ≡ Err (CoderError.Backend error)
         → StopsAtWord Sink.write_gives sink.old (weights_as_words (map (λ r. r.weight) (M.rows model))) error sink.new }
 {
-    let Ok(weights) = weights_of(alloc, model) else {
+    let Ok(weights) = row_weights(alloc, model) else {
         return Err(CoderError::Frontend(StoringError::OutOfMemory));
     };
     write_weights(&weights, sink)

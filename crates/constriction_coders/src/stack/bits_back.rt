@@ -24,7 +24,7 @@ use std::alloc::AllocError;
 type Entry = (u32, u32);
 
 /// The entry of a symbol.
-fn entry<E, const PRECISION: usize>(model: &E, symbol: &E::Symbol) -> Option<Entry>
+fn entry_of_symbol<E, const PRECISION: usize>(model: &E, symbol: &E::Symbol) -> Option<Entry>
 where
     E: EncoderModel<PRECISION, Probability = u32>,
     ensures known { IfSome result (λ entry. entry_of E.symbol_eq (E.rows model.now) symbol.now ≡ Some (entry.0, entry.1)) }
@@ -39,7 +39,7 @@ where
 }
 
 /// The symbol of a quantile, and its entry.
-fn row<D, const PRECISION: usize>(
+fn symbol_and_entry<D, const PRECISION: usize>(
     model: &D,
     quantile: u32,
 ) -> Result<(D::Symbol, Entry), AllocError>
@@ -59,8 +59,8 @@ where
     }
 }
 
-/// Takes the symbol of this entry from the top.
-fn take<const PRECISION: usize>(coder: &mut AnsCoder<Vec<u32>>, entry: Entry)
+/// Takes the symbol of this entry from the top. A read of a `Vec` does not fail.
+fn take_from_vec<const PRECISION: usize>(coder: &mut AnsCoder<Vec<u32>>, entry: Entry)
     requires fits { PRECISION ≤ 32 }
     requires some { 0 < entry.1 }
     requires within { entry.0 + entry.1 ≤ 2 ^ PRECISION }
@@ -77,7 +77,7 @@ fn take<const PRECISION: usize>(coder: &mut AnsCoder<Vec<u32>>, entry: Entry)
 }
 
 /// Puts a symbol of this entry on top. There is room for a word.
-fn put<const PRECISION: usize>(coder: &mut AnsCoder<Vec<u32>>, entry: Entry)
+fn put_reserved<const PRECISION: usize>(coder: &mut AnsCoder<Vec<u32>>, entry: Entry)
     requires positive { 0 < PRECISION }
     requires fits { PRECISION ≤ 32 }
     requires some { 0 < entry.1 }
@@ -92,6 +92,7 @@ fn put<const PRECISION: usize>(coder: &mut AnsCoder<Vec<u32>>, entry: Entry)
         Ok(()) => {}
         Err(_) => unreachable!(),
     }
+    // What is encoded onto a content is unique only among contents that a coder may hold.
     may_be_held(coder);
 }
 
@@ -120,9 +121,9 @@ fn exchange<const PRECISION: usize>(
         Ok(()) => {}
         Err(error) => return Err(error),
     }
-    take::<PRECISION>(coder, drawn);
-    put::<PRECISION>(coder, coded);
-    put::<PRECISION>(coder, paid);
+    take_from_vec::<PRECISION>(coder, drawn);
+    put_reserved::<PRECISION>(coder, coded);
+    put_reserved::<PRECISION>(coder, paid);
     Ok(())
 }
 
@@ -158,7 +159,7 @@ pub fn encode<
     ensures same { OnErr result (held_by coder.new ≡ held_by coder.old) }
 {
     let chosen = posterior(symbol);
-    let (latent, drawn) = match row::<PosteriorModel, PRECISION>(
+    let (latent, drawn) = match symbol_and_entry::<PosteriorModel, PRECISION>(
         &chosen,
         quantile_of::<PRECISION>(coder.state),
     ) {
@@ -166,10 +167,10 @@ pub fn encode<
         Err(error) => return Err(CoderError::Backend(error)),
     };
     let given = likelihood(&latent);
-    let Some(coded) = entry::<LikelihoodModel, PRECISION>(&given, symbol) else {
+    let Some(coded) = entry_of_symbol::<LikelihoodModel, PRECISION>(&given, symbol) else {
         return Err(CoderError::Frontend(DefaultEncoderFrontendError::ImpossibleSymbol));
     };
-    let Some(paid) = entry::<Prior, PRECISION>(prior, &latent) else {
+    let Some(paid) = entry_of_symbol::<Prior, PRECISION>(prior, &latent) else {
         return Err(CoderError::Frontend(DefaultEncoderFrontendError::ImpossibleSymbol));
     };
     match exchange::<PRECISION>(coder, drawn, coded, paid) {
@@ -207,8 +208,9 @@ pub fn decode<
         LikelihoodModel.rows (λ m. entry_of PosteriorModel.symbol_eq (PosteriorModel.rows m)) (held_by coder.old) }
     ensures same { OnErr result (held_by coder.new ≡ held_by coder.old) }
 {
+    // If no symbol is decoded, putting the latent one back leaves what the coder holds now, which it may hold.
     may_be_held(coder);
-    let (latent, paid) = match row::<Prior, PRECISION>(
+    let (latent, paid) = match symbol_and_entry::<Prior, PRECISION>(
         prior,
         quantile_of::<PRECISION>(coder.state),
     ) {
@@ -219,24 +221,24 @@ pub fn decode<
         Ok(()) => {}
         Err(error) => return Err(CoderError::Backend(error)),
     }
-    take::<PRECISION>(coder, paid);
+    take_from_vec::<PRECISION>(coder, paid);
     let given = likelihood(&latent);
-    let (symbol, coded) = match row::<LikelihoodModel, PRECISION>(
+    let (symbol, coded) = match symbol_and_entry::<LikelihoodModel, PRECISION>(
         &given,
         quantile_of::<PRECISION>(coder.state),
     ) {
         Ok(answer) => answer,
         Err(error) => {
-            put::<PRECISION>(coder, paid);
+            put_reserved::<PRECISION>(coder, paid);
             return Err(CoderError::Backend(error));
         }
     };
     let chosen = posterior(&symbol);
-    let Some(returned) = entry::<PosteriorModel, PRECISION>(&chosen, &latent) else {
-        put::<PRECISION>(coder, paid);
+    let Some(returned) = entry_of_symbol::<PosteriorModel, PRECISION>(&chosen, &latent) else {
+        put_reserved::<PRECISION>(coder, paid);
         return Err(CoderError::Frontend(DefaultEncoderFrontendError::ImpossibleSymbol));
     };
-    take::<PRECISION>(coder, coded);
-    put::<PRECISION>(coder, returned);
+    take_from_vec::<PRECISION>(coder, coded);
+    put_reserved::<PRECISION>(coder, returned);
     Ok(symbol)
 }

@@ -5,28 +5,28 @@ use Rattle.constriction_coders.specs.Steps.{content, IsOnTop}
 use Rattle.constriction_coders.proofs.Exchanging.{decoded-row, undone}
 use Rattle.constriction_coders.proofs.stack.bits_back.decode.Goals as goal
 
-pub returns-in-Err-row-clause-same : goal.returns-in-Err-row-clause-same
-returns-in-Err-row-clause-same g c =
+pub returns-in-Err-symbol_and_entry-clause-same : goal.returns-in-Err-symbol_and_entry-clause-same
+returns-in-Err-symbol_and_entry-clause-same g c =
     undone g.row.PRECISION c.in-Ok.answer.1.0 c.in-Ok.answer.1.1 c.args.coder.now.state
-    c.args.coder.now.words.items c.reserve.new.self.items (held_by c.take.new.coder) (held_by c.put.new.coder)
+    c.args.coder.now.words.items c.reserve.new.self.items (held_by c.take_from_vec.new.coder) (held_by c.put_reserved.new.coder)
     (g.met.Prior.EntropyModel.precision_law c.args.prior.now).fits c.in-Ok.ensures.some c.in-Ok.ensures.within c.may_be_held.ensures
-    c.put.ensures.held c.reserve.ensures.items c.take.ensures.under c.put.ensures.over
+    c.put_reserved.ensures.held c.reserve.ensures.items c.take_from_vec.ensures.under c.put_reserved.ensures.over
 
 pub returns-in_default-clause-same : goal.returns-in_default-clause-same
 returns-in_default-clause-same g c =
     undone g.row.PRECISION c.in-Ok.answer.1.0 c.in-Ok.answer.1.1 c.args.coder.now.state
-    c.args.coder.now.words.items c.reserve.new.self.items (held_by c.take.new.coder) (held_by c.put-in_default.new.coder)
+    c.args.coder.now.words.items c.reserve.new.self.items (held_by c.take_from_vec.new.coder) (held_by c.put_reserved-in_default.new.coder)
     (g.met.Prior.EntropyModel.precision_law c.args.prior.now).fits c.in-Ok.ensures.some c.in-Ok.ensures.within c.may_be_held.ensures
-    c.put-in_default.ensures.held c.reserve.ensures.items c.take.ensures.under c.put-in_default.ensures.over
+    c.put_reserved-in_default.ensures.held c.reserve.ensures.items c.take_from_vec.ensures.under c.put_reserved-in_default.ensures.over
 
 pub returns-in_default-clause-impossible : goal.returns-in_default-clause-impossible
 returns-in_default-clause-impossible g c = λ fault is.
     let taken = subst (λ (ws : List ℕ). IsOnTop g.row.PRECISION c.in-Ok.answer.1.0 c.in-Ok.answer.1.1 (content c.args.coder.now.state ws)
-    (held_by c.take.new.coder)) c.reserve.ensures.items c.take.ensures.under in
-    let found = c.in-Ok-row.ensures.found in
+    (held_by c.take_from_vec.new.coder)) c.reserve.ensures.items c.take_from_vec.ensures.under in
+    let found = c.in-Ok-symbol_and_entry.ensures.found in
     record {
       latent = c.in-Ok.answer.0;
-      full = held_by c.take.new.coder;
+      full = held_by c.take_from_vec.new.coder;
       paid =
           decoded-row g.row.PRECISION c.in-Ok.answer.1.0 c.in-Ok.answer.1.1 c.quantile_of.result g.Prior.DecoderModel.stands_for
           (g.Prior.EntropyModel.rows c.args.prior.now) c.in-Ok.answer.0 _ _ c.quantile_of.ensures c.in-Ok.ensures.found taken;
@@ -34,7 +34,7 @@ returns-in_default-clause-impossible g c = λ fault is.
       given = says_at g.Likelihood.Fn c.likelihood-given.ensures refl;
       row = found.0;
       found = rw c.quantile_of-2.ensures at found.1;
-      symbol = c.in-Ok-row.answer.0;
+      symbol = c.in-Ok-symbol_and_entry.answer.0;
       stands = found.2;
       posterior = c.posterior-chosen.result;
       chosen = says_at g.Posterior.Fn c.posterior-chosen.ensures refl;
@@ -44,26 +44,26 @@ returns-in_default-clause-impossible g c = λ fault is.
 pub returns-clause-ok : goal.returns-clause-ok
 returns-clause-ok g c =
     let taken = subst (λ (ws : List ℕ). IsOnTop g.row.PRECISION c.in-Ok.answer.1.0 c.in-Ok.answer.1.1 (content c.args.coder.now.state ws)
-    (held_by c.take.new.coder)) c.reserve.ensures.items c.take.ensures.under in
+    (held_by c.take_from_vec.new.coder)) c.reserve.ensures.items c.take_from_vec.ensures.under in
     record {
       latent = c.in-Ok.answer.0;
-      full = held_by c.take.new.coder;
+      full = held_by c.take_from_vec.new.coder;
       paid =
           decoded-row g.row.PRECISION c.in-Ok.answer.1.0 c.in-Ok.answer.1.1 c.quantile_of.result g.Prior.DecoderModel.stands_for
           (g.Prior.EntropyModel.rows c.args.prior.now) c.in-Ok.answer.0 _ _ c.quantile_of.ensures c.in-Ok.ensures.found taken;
       likelihood = c.likelihood-given.result;
       given = says_at g.Likelihood.Fn c.likelihood-given.ensures refl;
-      rest = held_by c.take-2.new.coder;
+      rest = held_by c.take_from_vec-2.new.coder;
       coded =
-          decoded-row g.row.PRECISION c.in-Ok-row.answer.1.0 c.in-Ok-row.answer.1.1 c.quantile_of-2.result
-          g.LikelihoodModel.DecoderModel.stands_for (g.LikelihoodModel.EntropyModel.rows c.likelihood-given.result) c.in-Ok-row.answer.0
-          _ _ c.quantile_of-2.ensures c.in-Ok-row.ensures.found c.take-2.ensures.under;
+          decoded-row g.row.PRECISION c.in-Ok-symbol_and_entry.answer.1.0 c.in-Ok-symbol_and_entry.answer.1.1 c.quantile_of-2.result
+          g.LikelihoodModel.DecoderModel.stands_for (g.LikelihoodModel.EntropyModel.rows c.likelihood-given.result) c.in-Ok-symbol_and_entry.answer.0
+          _ _ c.quantile_of-2.ensures c.in-Ok-symbol_and_entry.ensures.found c.take_from_vec-2.ensures.under;
       posterior = c.posterior-chosen.result;
       chosen = says_at g.Posterior.Fn c.posterior-chosen.ensures refl;
       returned = record {
         left = c.in-Some.returned.0;
         weight = c.in-Some.returned.1;
         known = c.in-Some.ensures.known;
-        top = c.put-2.ensures.over;
+        top = c.put_reserved-2.ensures.over;
       };
     }

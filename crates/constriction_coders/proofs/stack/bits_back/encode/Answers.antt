@@ -18,8 +18,8 @@ returns-in_default-clause-impossible g c = λ fault is.
       lacks = inr (c.in_default.ensures.none refl);
     }
 
-pub returns-in_default-entry-clause-impossible : goal.returns-in_default-entry-clause-impossible
-returns-in_default-entry-clause-impossible g c = λ fault is.
+pub returns-in_default-entry_of_symbol-clause-impossible : goal.returns-in_default-entry_of_symbol-clause-impossible
+returns-in_default-entry_of_symbol-clause-impossible g c = λ fault is.
     let found = c.in-Ok.ensures.found in
     record {
       posterior = c.posterior-chosen.result;
@@ -30,7 +30,7 @@ returns-in_default-entry-clause-impossible g c = λ fault is.
       stands = found.2;
       likelihood = c.likelihood-given.result;
       given = says_at g.Likelihood.Fn c.likelihood-given.ensures refl;
-      lacks = inl (c.in_default-entry.ensures.none refl);
+      lacks = inl (c.in_default-entry_of_symbol.ensures.none refl);
     }
 
 pub returns-in-Ok-exchange-clause-ok : goal.returns-in-Ok-exchange-clause-ok
@@ -55,9 +55,9 @@ returns-in-Ok-exchange-clause-ok g c =
         top = moved.3;
       };
       paid = record {
-        left = c.in-Some-entry.paid.0;
-        weight = c.in-Some-entry.paid.1;
-        known = c.in-Some-entry.ensures.known;
+        left = c.in-Some-entry_of_symbol.paid.0;
+        weight = c.in-Some-entry_of_symbol.paid.1;
+        known = c.in-Some-entry_of_symbol.ensures.known;
         top = moved.4;
       };
     }

@@ -1,5 +1,5 @@
 use Rattle.std.proofs.Common.{refl, sym}
-use Rattle.constriction_coders.proofs.stack.bits_back.row.Goals as goal
+use Rattle.constriction_coders.proofs.stack.bits_back.symbol_and_entry.Goals as goal
 
 pub returns-in-Ok-clause-found : goal.returns-in-Ok-clause-found
 returns-in-Ok-clause-found g c =
