@@ -2,7 +2,17 @@ use Rattle.std.proofs.Common.{map, arith}
 use Rattle.std.proofs.lemmas.Grind.{common_steps}
 use Rattle.constriction_theorem.proofs.made.searching_from.Goals as goal
 
+pub returns-clause-accepted : goal.returns-clause-accepted
+returns-clause-accepted g c =
+    c.from_symbols_and_nonzero_fixed_point_probabilities.ensures.accepted c.args.symbols.items
+    (map g.Probability.WholeNumber.whole c.args.weights.items) (grind (arith, common_steps)) (grind (arith, common_steps))
+
 pub returns-clause-rows : goal.returns-clause-rows
 returns-clause-rows g c =
     c.from_symbols_and_nonzero_fixed_point_probabilities.ensures.rows c.args.symbols.items
+    (map g.Probability.WholeNumber.whole c.args.weights.items) (grind (arith, common_steps)) (grind (arith, common_steps))
+
+pub returns-clause-invalid : goal.returns-clause-invalid
+returns-clause-invalid g c =
+    c.from_symbols_and_nonzero_fixed_point_probabilities.ensures.invalid c.args.symbols.items
     (map g.Probability.WholeNumber.whole c.args.weights.items) (grind (arith, common_steps)) (grind (arith, common_steps))
