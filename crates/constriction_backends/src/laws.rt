@@ -18,9 +18,8 @@ pub fn reversal_twice<Word>()
     ensures { (s : State Word) → reversal (reversal s) ≡ s }
 {}
 
-/// To read a reversed state as a stack is to read the state as a queue, and the other way round. Its
-/// upcoming words in one order are the state's upcoming words in the other. So a
-/// [`Reverse`](crate::Reverse) of a cursor reads, and tells upcoming words, as the reversal of its state.
+/// A [`Reverse`](crate::Reverse) of a cursor reads, and tells upcoming words, as the reversal of its state: to
+/// read a reversed state as a stack is to read the state as a queue, and the other way round.
 pub fn reversal_reads<Word, ReadError>()
     ensures stack { (s : State Word) (r : Result (Option Word) ReadError) (t : State Word)
         → StackReads s r t ↔ QueueReads (reversal s) r (reversal t) }

@@ -54,8 +54,8 @@ MayGive ToItsEnd xs all = all ≡ xs
 MayGive {A} SoFar xs all = (ys : List A) × (all ≡ xs ++ ys)
 
 -- If there is a model, the weights were read to their end and are accepted, and `Tells` relates the model to them. The result is
--- InvalidTable only if the iterator, after what was read from it, can give no accepted list. `completes` makes the judged weights of the
--- numbers that are read.
+-- InvalidTable only if the iterator, after what was read from it, can give no accepted list. `completes` adds to the numbers that are read
+-- the weight that is inferred, if one is.
 pub record IsMadeOfWeights {Word Model : Type 0} (Accepted : List ℕ → Type 0) (completes : List ℕ → List ℕ)
     (Read : Reading → List Word → Type 0) (whole : Word → ℕ) (Tells : Model → List ℕ → Type 0) (result : Result Model ModelError)
     : Type 0 where
@@ -77,15 +77,15 @@ pub record IsMadeOfBoth {Symbol Word Model : Type 0} (Accepted : List Symbol →
 
 -- ---- constructors that are given a known list
 
--- Each iterator that a value becomes gives items that `value` takes to this list: those so far to a beginning of it, and all of them to all
--- of it. A caller with a `Vec`, an array or the copied items of a slice need not prove this: search finds it.
+-- each iterator that a value becomes gives items that `value` takes to this list: those so far to a beginning of it, and all of them to all
+-- of it
 abbrev pub GivesList : {J S A B : Type 0} → (A → B) → (J → S → Type 0) → (S → Option A → S → Type 0) → J → List B → Type 0
 GivesList {S = S} value becomes steps from list =
     (it : S) → becomes from it → EachRunFrom steps it (λ p. (p.len ≤ length list) × (p.whole ≡ true → map value p.items ≡ list)
     × ((k : ℕ) → k < p.len → IfSome (p.at k) (λ x. value x ≡ slice_index_or list k (value x))))
 
--- What a constructor says of its result: `made` whatever it reads, and the rest if what it reads is a known list. Then the list decides: a
--- model comes only if the list is accepted, and has its rows, and InvalidTable comes only if the list is not accepted.
+-- What a constructor says of its result: `made` whatever it reads, and the rest if it reads a known list, which then decides: `Tells` relates
+-- a model to the list.
 pub record IsDecidedByWeights {J S Word Model : Type 0} (Accepted : List ℕ → Type 0) (completes : List ℕ → List ℕ)
     (becomes : J → S → Type 0) (steps : S → Option Word → S → Type 0) (from : J) (whole : Word → ℕ) (Tells : Model → List ℕ → Type 0)
     (result : Result Model ModelError) : Type 0 where
@@ -108,8 +108,7 @@ pub record IsDecidedByBoth {J S K T Symbol Word Model : Type 0} (Accepted : List
   pub invalid : (symbols : List Symbol) (weights : List ℕ) → GivesList (λ s. s) becomes steps from symbols
       → GivesList whole other_becomes other_steps other weights → result ≡ Err InvalidTable → ¬ (Accepted symbols (completes weights))
 
--- Whichever iterator the argument becomes, no two of the symbols that it gives are equal. Of a `Vec`, an array or the copied items of a slice
--- whose symbols differ, search finds it.
+-- whichever iterator a value becomes, no two of the symbols that it gives are equal
 abbrev pub GivesDistinct : {J S Symbol : Type 0} → (J → S → Type 0) → (S → Option Symbol → S → Type 0)
     → (Symbol → Symbol → Bool) → J → Type 0
 GivesDistinct {S = S} becomes steps eq from =

@@ -15,16 +15,15 @@ pub fn uniform_row_count()
     ensures { (precision n : ℕ) → 0 < n → length (uniform_rows precision n) ≡ n }
 {}
 
-/// Each quantile below `2^PRECISION` has one row in a decoder model. This row ends at `2^PRECISION` or before, so
-/// its weight is at most that. What [`DecoderModel::quantile_function`] answers stands for this row.
+/// Each quantile below `2^PRECISION` has one row in a decoder model. What [`DecoderModel::quantile_function`] answers
+/// stands for this row.
 pub fn quantiles_have_one_row<M: DecoderModel<PRECISION>, const PRECISION: usize>()
     ensures { (m : M) (q : ℕ) → q < 2 ^ PRECISION → HasOneRow PRECISION (M.rows m) q }
 {}
 
 /// If no two symbols are equal, the quantiles below `2^PRECISION` correspond one to one to the pairs of a
 /// symbol that has an entry and an offset below its weight. A coder that decodes a quantile to a symbol
-/// and an offset gets the quantile back when it encodes these, and the other way round. The encoder has
-/// to have the entries of the decoder's rows.
+/// and an offset gets the quantile back when it encodes these, and the other way round.
 pub fn pairs_are_quantiles<D, E, const PRECISION: usize>()
 where
     D: DecoderModel<PRECISION>,

@@ -59,10 +59,7 @@ impl<Probability: WholeNumber, const PRECISION: usize> Clone
 }
 
 impl<Probability: WholeNumber, const PRECISION: usize> UniformModel<Probability, PRECISION> {
-    /// The model of the symbols `0..range`. It takes no memory and always succeeds.
-    ///
-    /// `range` is at least 2, and at most `2^PRECISION` so that each symbol has a quantile. `PRECISION`
-    /// is at most 64, and at most the width of the word. One division.
+    /// The model of the symbols `0..range`. It takes no memory and always succeeds. One division.
     #[inline]
     pub fn new(range: usize) -> Self
         requires precision { IsPrecision Probability.BITS PRECISION }

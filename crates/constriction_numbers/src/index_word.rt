@@ -4,11 +4,9 @@ ghost use Rattle.std.specs.Prelude.{◌≡◌, ◌<◌, ◌^◌, min};
 
 use crate::whole_number::WholeNumber;
 
-/// A word that is read as an index. All constructors of lookup models ask for one, except `with_table`.
+/// A word that is read as an index, as the constructors of lookup models ask, except `with_table`.
 ///
-/// A lookup table holds row indices as words, and a look-up begins with the number of a quantile. Both are below `2^63`, so a look-up
-/// itself needs only `to_number` and `from_number` of [`WholeNumber`]. The unsigned integers of std are index words, and a caller's own
-/// type needs only an empty `impl`.
+/// The unsigned integers of std are index words. A caller's own type needs only an empty `impl`.
 pub trait IndexWord: WholeNumber {
     /// The number of the word, or `usize::MAX` if that is less.
     #[inline]

@@ -8,11 +8,9 @@ ghost use Rattle.std.specs.Prelude.{◌≡◌, ◌↔◌, ◌+◌, ◌-◌, ◌*
 /// equal. `plus`, `minus` and `times` are exact, and require that the result is a word. Only
 /// `wrapping_minus` and `wrapping_pow2` are modulo `2^BITS`.
 ///
-/// Each `BitArray` of `constriction_words` is a `WholeNumber`. The traits are separate because generic code
-/// over a `BitArray` takes more than five times as long to check.
-/// A caller's own type may implement `WholeNumber` alone. It then serves for models, and for coders that
-/// need no other calls, such as a decoder that makes its quantiles by `from_number`. A coder that shifts
-/// left, or wraps its sums, asks for a `BitArray`.
+/// Each `BitArray` of `constriction_words` is a `WholeNumber`. A caller's own type may be one without being a
+/// `BitArray`: it serves for models, and for coders that neither shift left nor wrap sums. Generic code over a
+/// `BitArray` takes more than five times as long to check.
 pub trait WholeNumber: Copy {
     /// How many bits a word has.
     const BITS: usize;

@@ -22,14 +22,12 @@ pub fn pushed_is_popped<Word, WriteError, ReadError>()
         → (r ≡ Ok (Some w)) × (new ≡ old) }
 {}
 
-/// A word that was written to a stack is on top of its old words. In each state with the word there, a read
-/// answers the word and leaves the old words, or fails and leaves the word on top of them.
+/// A stack reads back what was written to it.
 pub fn written_is_read<Word, Backend: WordStack<Word>>()
     ensures { ReadsWhatWasWritten Backend.write_gives Backend.read_gives Backend.words_of }
 {}
 
-/// Writes a word to a stack and reads it back. The stack has its old words again, also if the write is
-/// refused. If the read fails, the word is still on top of them.
+/// Writes a word to a stack and reads it back.
 pub fn push_then_pop<Word, Backend: WordStack<Word>>(
     backend: &mut Backend,
     word: Word,
@@ -52,15 +50,13 @@ pub fn push_then_pop<Word, Backend: WordStack<Word>>(
     }
 }
 
-/// A seek goes to an earlier position of a stack, at which its words were `taken`. It succeeds if and only
-/// if the stack is no shorter now. If the stack still begins with those words, they are what is left.
+/// A seek goes to an earlier position of a stack, at which its words were `taken`, if the stack is no shorter now.
 pub fn seek_back<Word>()
     ensures { (taken old new : List Word) (r : Result (Unit {0}) (Unit {0})) → Rewinds old (length taken) r new
         → (IsOk r ↔ (length taken ≤ length old)) × ((later : List Word) → old ≡ taken ++ later → new ≡ taken) }
 {}
 
-/// Writes the words of an iterator in order to a sink that counts its free places. Each written word takes
-/// a place, and a word is refused only when no place is left.
+/// Writes the words of an iterator in order to a sink that counts its free places.
 pub fn extending_counts<Word, Sink: BoundedWriteWords<Word>, Words: Iterator<Item = Word>>(
     sink: &mut Sink,
     words: Words,

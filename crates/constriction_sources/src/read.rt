@@ -10,9 +10,7 @@ use std::fmt::Debug;
 /// A source of words, which are read in the order of `S`.
 ///
 /// At the end of the words a read answers `Ok(None)`, which is not an error. An implementer says which
-/// answers a read may give (`read_gives`), and may name the upcoming words (`tells_upcoming`). If there
-/// are any, a read then answers the first one and leaves the rest, or fails and leaves all. If there are
-/// none, it answers `Ok(None)`.
+/// answers a read may give (`read_gives`), and may name the upcoming words (`tells_upcoming`).
 pub trait ReadWords<Word, S: Semantics> {
     /// Why a read may fail. The end of the words is no failure.
     type ReadError: Debug;
@@ -46,10 +44,8 @@ pub trait ReadWords<Word, S: Semantics> {
 
 /// A source that knows how many items it still has: words, and errors in place of words.
 ///
-/// If its count is exact (`is_exact`), a read answers `Ok(None)` if and only if no item is left, any other
-/// answer takes one item, and the upcoming words are as many as the items. A source in memory counts
-/// exactly. A `Reverse` does if its backend does, and a source over an iterator does if the iterator's
-/// contract counts its items.
+/// A source in memory counts exactly (`is_exact`). A `Reverse` does if its backend does, and a source over an
+/// iterator does if the iterator's contract counts its items.
 pub trait BoundedReadWords<Word, S: Semantics>: ReadWords<Word, S> {
     // How many items are left.
     ghost items_left: { Self → ℕ };

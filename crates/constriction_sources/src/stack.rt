@@ -12,11 +12,8 @@ use std::default::MadeWith;
 
 /// A sink that is also a source, and reads the last written word first.
 ///
-/// The words are known, so a contract can name them, and an invariant can tie them to what else a coder
-/// holds: [`push`](Self::push) is a write and [`pop`](Self::pop) a read, with clauses about them. A stack may
-/// be written and read in every state, so a coder over it changes between both without a condition.
-///
-/// On a known `Vec` or `SmallVec`, `push` and `pop` are the calls of that type.
+/// The words are known, so a contract can name them: [`push`](Self::push) is a write and [`pop`](Self::pop) a
+/// read, with clauses about them. On a known `Vec` or `SmallVec`, `push` and `pop` are the calls of that type.
 pub trait WordStack<Word>: WriteWords<Word> + ReadWords<Word, Stack> {
     // The words, the one on top last.
     ghost words_of: { Self → List Word };

@@ -9,10 +9,8 @@ use std::fmt::Debug;
 
 /// A sink of words.
 ///
-/// An implementer says which answers a write may give (`write_gives`). It may name the written words
-/// (`tells_written`): a write that succeeds then appends its word to them, and a refused one keeps them.
-/// It may also say in which states it has room (`has_room`): a write then fails only if memory is refused
-/// (`lacks_memory`).
+/// An implementer says which answers a write may give (`write_gives`), and may name the written words
+/// (`tells_written`) and the states that have room for a word (`has_room`).
 pub trait WriteWords<Word> {
     /// Why a write may be refused.
     type WriteError: Debug;
@@ -74,8 +72,7 @@ pub trait WriteWords<Word> {
 
 /// A sink that knows how many words it still takes.
 ///
-/// A write succeeds if and only if a place is free, and takes it. So `extend_from_iter` is refused if and
-/// only if there are more words than free places.
+/// `extend_from_iter` is refused if and only if there are more words than free places.
 pub trait BoundedWriteWords<Word>: WriteWords<Word> {
     // How many places are free.
     ghost free_places: { Self → ℕ };

@@ -43,12 +43,10 @@ pub trait NonZeroBitArray: Copy + Display + Debug + Eq + Hash {
     ghost eq_law: { (a b : Self) → IsTrue (Self.eq a b) ↔ (base a ≡ base b) };
 }
 
-/// A word: an unsigned integer of a fixed number of bits.
+/// A word: an unsigned integer of a fixed number of bits, with the operators of Rust.
 ///
-/// A word stands for a whole number from 0 to `2^BITS - 1`, and words with the same number are equal.
-/// `==` and `<` compare the numbers. Sums, differences and products are exact, and require that the
-/// result is a word. Quotients and remainders require a divisor above 0, shifts fewer than `BITS`
-/// places. Left shifts and the wrapping calls are modulo `2^BITS`.
+/// `+`, `-` and `*` are exact, and require that the result is a word. Left shifts and the wrapping calls are
+/// modulo `2^BITS`.
 ///
 /// `u8`, `u16`, `u32`, `u64`, `usize` (64 bits) and `u128` are words. A caller's own type may be one too.
 pub trait BitArray: WholeNumber<NonZero: NonZeroBitArray<Base = Self>>

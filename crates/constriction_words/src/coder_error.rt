@@ -17,8 +17,7 @@ pub enum CoderError<FrontendError, BackendError> {
 }
 
 impl<FrontendError, BackendError> CoderError<FrontendError, BackendError> {
-    /// Applies `f` to a frontend error, and passes a backend error through. `f` has to be callable on
-    /// the frontend error alone, if there is one.
+    /// Applies `f` to a frontend error, and passes a backend error through.
     pub fn map_frontend<NewFrontendError, F: Fn(FrontendError) -> NewFrontendError + Drop>(
         self,
         f: F,
@@ -32,8 +31,7 @@ impl<FrontendError, BackendError> CoderError<FrontendError, BackendError> {
         }
     }
 
-    /// Applies `f` to a backend error, and passes a frontend error through. `f` has to be callable on
-    /// the backend error alone, if there is one.
+    /// Applies `f` to a backend error, and passes a frontend error through.
     pub fn map_backend<NewBackendError, F: Fn(BackendError) -> NewBackendError + Drop>(
         self,
         f: F,

@@ -17,8 +17,7 @@ pub struct FallibleCallbackWriteWords<Word, E, C: FnMut(Word) -> Result<(), E>> 
 }
 
 impl<Word, E, C: FnMut(Word) -> Result<(), E>> FallibleCallbackWriteWords<Word, E, C> {
-    /// A sink over the callback, which has to be callable on every word, in each state that its calls
-    /// lead to.
+    /// A sink over the callback.
     #[inline]
     pub fn new(write_callback: C) -> Self
         requires { C.IsAlwaysCallable write_callback }

@@ -18,8 +18,7 @@ pub struct InfallibleCallbackWriteWords<Word, C: FnMut(Word)> {
 }
 
 impl<Word, C: FnMut(Word)> InfallibleCallbackWriteWords<Word, C> {
-    /// A sink over the callback, which has to be callable on every word, in each state that its calls
-    /// lead to.
+    /// A sink over the callback.
     #[inline]
     pub fn new(write_callback: C) -> Self
         requires { C.IsAlwaysCallable write_callback }
