@@ -84,8 +84,8 @@ GivesList {S = S} value becomes steps from list =
     (it : S) → becomes from it → EachRunFrom steps it (λ p. (p.len ≤ length list) × (p.whole ≡ true → map value p.items ≡ list)
     × ((k : ℕ) → k < p.len → IfSome (p.at k) (λ x. value x ≡ slice_index_or list k (value x))))
 
--- What a constructor says of its result: `made` whatever it reads, and the rest if it reads a known list, which then decides: `Tells` relates
--- a model to the list.
+-- What a constructor says of its result: `made` whatever it reads, and the rest if it reads a known list, which then decides. `Tells`
+-- relates a model to the list.
 pub record IsDecidedByWeights {J S Word Model : Type 0} (Accepted : List ℕ → Type 0) (completes : List ℕ → List ℕ)
     (becomes : J → S → Type 0) (steps : S → Option Word → S → Type 0) (from : J) (whole : Word → ℕ) (Tells : Model → List ℕ → Type 0)
     (result : Result Model ModelError) : Type 0 where

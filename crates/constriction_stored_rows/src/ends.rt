@@ -168,8 +168,8 @@ fn cloned_row_ending_at<Word: WholeNumber, Symbol: Clone, const PRECISION: usize
     requires stored { IsStored Word.BITS PRECISION (map (λ x. Word.whole x.0) entries.now) }
     requires end { Word.whole end ≡ end_at Word.BITS PRECISION (map (λ x. Word.whole x.0) entries.now) index }
     requires in_bounds { index < length entries.now }
-    ensures { IsClonedRow Symbol.is_clone Symbol.is_infallible Word.whole Word.base PRECISION (rows_paired Word.whole PRECISION entries.now) index
-        result }
+    ensures { IsClonedRow Symbol.is_clone Symbol.is_infallible Word.whole Word.base PRECISION
+        (rows_paired Word.whole PRECISION entries.now) index result }
 {
     let (left, weight) = paired_row_ending_at::<Word, Symbol, PRECISION>(entries, end, index);
     match entries[index].1.clone() {
@@ -189,8 +189,8 @@ pub fn cloned_row_by_words<Word: WholeNumber, Symbol: Clone, const PRECISION: us
     requires stored { IsStored Word.BITS PRECISION (map (λ x. Word.whole x.0) entries.now) }
     requires end_words { AreEndWords Word.BITS PRECISION (map (λ x. Word.whole x.0) entries.now) (map Word.whole end_words.now) }
     requires in_bounds { index < length entries.now }
-    ensures { IsClonedRow Symbol.is_clone Symbol.is_infallible Word.whole Word.base PRECISION (rows_paired Word.whole PRECISION entries.now) index
-        result }
+    ensures { IsClonedRow Symbol.is_clone Symbol.is_infallible Word.whole Word.base PRECISION
+        (rows_paired Word.whole PRECISION entries.now) index result }
 {
     let end = end_by_words::<Word, Symbol, PRECISION>(entries, end_words, index);
     cloned_row_ending_at::<Word, Symbol, PRECISION>(entries, end, index)
@@ -208,8 +208,8 @@ pub fn cloned_row_in_cdf<Word: WholeNumber, Symbol: Clone, const PRECISION: usiz
     requires stored { IsStored Word.BITS PRECISION (map (λ x. Word.whole x.0) entries.now) }
     requires cdf { MayFollow Word.BITS PRECISION (map (λ x. Word.whole x.0) entries.now) (map Word.whole cdf.now) }
     requires in_bounds { index < length entries.now }
-    ensures { IsClonedRow Symbol.is_clone Symbol.is_infallible Word.whole Word.base PRECISION (rows_paired Word.whole PRECISION entries.now) index
-        result }
+    ensures { IsClonedRow Symbol.is_clone Symbol.is_infallible Word.whole Word.base PRECISION
+        (rows_paired Word.whole PRECISION entries.now) index result }
 {
     let end = end_in_cdf::<Word, Symbol, PRECISION>(entries, cdf, index);
     cloned_row_ending_at::<Word, Symbol, PRECISION>(entries, end, index)

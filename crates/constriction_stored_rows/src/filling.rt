@@ -149,7 +149,8 @@ fn is_end_of_given<Word: WholeNumber, Weights: Iterator<Item = Word>>(
     requires one { Word.whole one ≡ 1 }
     requires none_left { (Word.whole weight ≡ 0) ⊎ (Word.whole room < Word.whole weight) }
     requires goes { Weights.can_next rest.old }
-    ensures filled { IsTrue result → FillsAll Word.BITS (Word.whole weight) (Word.whole room) infer_last × Weights.next_gives rest.old None rest.new }
+    ensures filled { IsTrue result → FillsAll Word.BITS (Word.whole weight) (Word.whole room) infer_last
+        × Weights.next_gives rest.old None rest.new }
     ensures bad { result ≡ false → IsNoLast (Word.whole weight) (Word.whole room) infer_last
         ⊎ ((Word.whole room < Word.whole weight) × (more : Word) × Weights.next_gives rest.old (Some more) rest.new) }
 {

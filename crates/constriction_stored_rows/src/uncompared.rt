@@ -51,7 +51,8 @@ pub fn entries_read<
     requires symbols_end { IsFiniteIterable Symbols.into_iter_gives Symbols.IntoIter.can_next Symbols.IntoIter.remaining symbols }
     requires weights_end { IsFiniteIterable Weights.into_iter_gives Weights.IntoIter.can_next Weights.IntoIter.remaining weights }
     ensures { IsMadeOfBoth (AreAccepted (λ _ _. false) Word.BITS PRECISION) (completed PRECISION infer_last)
-        (WasReadOf Symbols.into_iter_gives Symbols.IntoIter.next_gives symbols) (WasReadOf Weights.into_iter_gives Weights.IntoIter.next_gives weights)
+        (WasReadOf Symbols.into_iter_gives Symbols.IntoIter.next_gives symbols)
+        (WasReadOf Weights.into_iter_gives Weights.IntoIter.next_gives weights)
         Word.whole (λ v ss ws. HoldsRows Word.whole v.items (rows_of ss ws)) result }
 {
     let symbols = symbols.into_iter();

@@ -78,7 +78,8 @@ impl<Probability: WholeNumber, const PRECISION: usize> Iterator
     ghost next_gives = { YieldsRow (λ s t. t ≡ s) (λ _. ⊥) Probability.whole Probability.base
         (λ t. rows_between t.from t.to (uniform_rows PRECISION (Probability.whole t.model.last_symbol + 1))) };
 
-    ghost remaining = { λ t. at_most (length (rows_between t.from t.to (uniform_rows PRECISION (Probability.whole t.model.last_symbol + 1)))) };
+    ghost remaining = { λ t. at_most (length (rows_between t.from t.to
+        (uniform_rows PRECISION (Probability.whole t.model.last_symbol + 1)))) };
 
     #[inline]
     fn next(&mut self) -> Option<Result<(usize, Probability, Weight<Probability>), AllocError>> {
