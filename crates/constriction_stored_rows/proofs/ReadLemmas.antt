@@ -12,7 +12,8 @@ use Rattle.constriction_stored_rows.specs.Ends.{FillsAll, IsNoCdf}
 use Rattle.constriction_stored_rows.specs.private.Reading.{IsRead, IsReadBadly, IsReadWell, TookRow, RefusedRow}
 use Rattle.constriction_model.specs.lemmas.Rows.{symbols-rows_from}
 use Rattle.constriction_model.specs.Rows.{Row, rows_from, rows_of, symbols_of}
-use Rattle.constriction_stored_rows.proofs.FillLemmas.{begun-more, given-accepted, inferred-accepted, yields-more}
+use Rattle.constriction_model.specs.lemmas.Walks.{yields-more}
+use Rattle.constriction_stored_rows.proofs.FillLemmas.{begun-more, given-accepted, inferred-accepted}
 
 -- ---- lists with two equal symbols
 

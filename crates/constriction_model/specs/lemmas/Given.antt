@@ -1,14 +1,14 @@
 -- A constructor's contract at a known list, from what it says of whatever it reads. A caller who makes models needs none of this.
-use Rattle.std.proofs.Common.{◌≡◌, ℕ, zero, suc, ◌+◌, ◌-◌, ◌^◌, ◌<◌, ◌≤◌, true, false, List, [], ◌∷◌, ◌++◌, length, get_or, map, sum, Option, Some, Result, Ok, Err, refl, ap, sym, subst, ◌∙◌, arith}
+use Rattle.std.proofs.Common.{◌≡◌, ℕ, zero, suc, ◌-◌, ◌^◌, ◌<◌, ◌≤◌, true, false, List, [], ◌∷◌, ◌++◌, length, get_or, map, sum, Option, Result, Ok, Err, refl, ap, sym, subst, ◌∙◌, arith}
 use Rattle.std.specs.Prelude.{Bool, IfOk, IfSome, All, slice_get}
-use Rattle.std.specs.Iterator.{Drains, DrainsIf}
+use Rattle.std.specs.Iterator.{DrainsIf}
 use Rattle.std.specs.List.{IsDistinct}
 use Rattle.std.proofs.iter.runs.Made.{run, seen, to_end}
+use Rattle.std.proofs.lemmas.Bool.{false≢true}
 use Rattle.std.proofs.lemmas.List.{map-append, map-id}
 use Rattle.std.proofs.lemmas.List.Elements.{All-head, All-tail}
-use Rattle.constriction_model.specs.Acceptance.{completed, IsAccepted, AreAccepted, Reading, ToItsEnd, SoFar, WasReadOf, MayGive, IsMadeOfWeights, IsMadeOfBoth, GivesList, GivesDistinct, IsDecidedByWeights, IsDecidedByBoth}
+use Rattle.constriction_model.specs.Acceptance.{completed, IsAccepted, Reading, ToItsEnd, SoFar, WasReadOf, MayGive, IsMadeOfWeights, IsMadeOfBoth, GivesList, GivesDistinct, IsDecidedByWeights, IsDecidedByBoth}
 use Rattle.constriction_model.specs.declared.error.ModelError.{ModelError}
-use Rattle.constriction_model.specs.declared.error.ModelError.TheVariants.{InvalidTable}
 
 -- the first items of a list, in order, are a beginning of it
 beginning : {A B : Type 0} (value : A → B) (xs : List A) (list : List B) → length xs ≤ length list
@@ -20,9 +20,6 @@ beginning value (x ∷ xs) (y ∷ ys) short same =
     let first : value x ≡ y = same 0 (omega arith) in
     let rest = beginning value xs ys (omega arith) (λ k h. same (suc k) (omega arith)) in
     (rest.0, ap (λ zs. y ∷ zs) rest.1 ∙ ap (λ z. z ∷ (map value xs ++ rest.0)) (sym first))
-
-false-is-true : false ≡ true → ⊥
-false-is-true e = cc
 
 module _ {J S A B : Type 0} (value : A → B) (becomes : J → S → Type 0) (steps : S → Option A → S → Type 0) (from : J) (list : List B)
     (gives : GivesList value becomes steps from list) where
@@ -38,7 +35,7 @@ module _ {J S A B : Type 0} (value : A → B) (becomes : J → S → Type 0) (st
       → (all : List A) × MayGive reading xs all × (map value all ≡ list)
   may-read items ToItsEnd xs read = (xs, refl, all-read xs read)
   may-read items SoFar xs read =
-      let drained : DrainsIf steps (false ≡ true) read.iterator xs = (read.was_read.0, read.was_read.1, λ e. absurd (false-is-true e)) in
+      let drained : DrainsIf steps (false ≡ true) read.iterator xs = (read.was_read.0, read.was_read.1, λ e. absurd (false≢true e)) in
       let given = gives read.iterator read.became (run steps read.iterator xs false drained) (seen (length xs)) refl in
       let cut = beginning value xs list given.0 given.2 in
       let more = items (map value xs) cut.0 cut.1 in

@@ -1,4 +1,4 @@
--- Walks through a symbol table: the items that its steps give.
+-- Walks: the items that the steps of an iterator give, and those of a symbol table.
 use Rattle.std.specs.Prelude.{◌≡◌, ℕ, ◌+◌, ◌-◌, ◌<◌, ◌≤◌, List, [], ◌∷◌, ◌++◌, length, map, Contains, Option, Some, None, Result, Ok, Err, IfOk}
 use Rattle.std.proofs.Common.{suc, zero, get_or, refl, ap, sym, subst, ◌∙◌, append-nil, arith}
 use Rattle.std.specs.Iterator.{Yields, Drains}
@@ -11,6 +11,12 @@ use Rattle.constriction_model.specs.lemmas.Coding.{one-row}
 use Rattle.constriction_model.specs.lemmas.Stand.{its-symbol, its-left, its-weight, same-rows, same-answer}
 use Rattle.constriction_model.specs.lemmas.UniformRows.{length-uniform_rows}
 use Rattle.constriction_model.specs.Laws.{AreRows, IsInTable}
+
+-- one more item
+pub yields-more : {S A : Type 0} (steps : S → Option A → S → Type 0) (s : S) (xs : List A) (t : S) (x : A) (u : S)
+    → Yields steps s xs t → steps t (Some x) u → Yields steps s (xs ++ x ∷ []) u
+yields-more steps s [] t x u e h = (u, (let P : _ → Type 0 = λ v. steps v (Some x) u in subst P (sym e) h), refl)
+yields-more steps s (y ∷ xs) t x u (j, k, r) h = (j, k, yields-more steps j xs t x u r h)
 
 -- if a relation holds of two lists place by place, each element of one has a partner in the other
 partner : {X Y : Type 0} (R : X → Y → Type 0) (xs : List X) (ys : List Y) (k : ℕ) (y : Y) → AllZip R xs ys

@@ -1,4 +1,4 @@
-use Rattle.std.proofs.Common.{◌≡◌, ℕ, ◌+◌, ◌*◌, ◌-◌, ◌/◌, ◌<◌, length, map, arith, rules}
+use Rattle.std.proofs.Common.{ℕ, ◌-◌, ◌/◌, ◌<◌, length, map, arith, rules}
 use Rattle.std.proofs.lemmas.Nat.{pow_pos}
 use Rattle.constriction_stored_rows.specs.Slots.{slot_width}
 use Rattle.constriction_stored_rows.proofs.SlotLemmas.{alone-within, alone-row, slot-alone, pair-within, pair-first, pair-last, slot-pair, slot-order}
