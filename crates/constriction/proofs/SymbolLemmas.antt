@@ -2,13 +2,9 @@
 use Rattle.std.proofs.Common.{◌≡◌, ℕ, ◌+◌, ◌<◌, ◌≤◌, List, length, get_or, take, Some, None, ap, ◌∙◌, arith, inr, nat_eq}
 use Rattle.std.specs.Prelude.{◌≢◌, sum}
 use Rattle.std.proofs.lemmas.List.FromFn.{length-range_with_len, get_or-range_with_len}
-use Rattle.constriction_model.specs.lemmas.Rows.{contiguous-at, contiguous-past, indices, length-rows_from, rows_from-at}
+use Rattle.constriction_model.specs.lemmas.Rows.{contiguous-at, contiguous-past, indices, rows_from-at}
 use Rattle.constriction_model.specs.Rows.{Row, contiguous_rows, entry_of}
-
--- there are as many rows as weights
-row-count : (weights : List ℕ) → length (contiguous_rows weights) ≡ length weights
-row-count weights =
-    length-rows_from 0 (indices (length weights)) weights (length-range_with_len 0 (length weights))
+use Rattle.constriction_stored_rows.specs.lemmas.StoredRows.{length-rows}
 
 -- a number below their count has an entry
 pub has-entry : (weights : List ℕ) (s : ℕ) → s < length (contiguous_rows weights)
@@ -16,19 +12,19 @@ pub has-entry : (weights : List ℕ) (s : ℕ) → s < length (contiguous_rows w
 has-entry weights s h none =
     let start : 0 + s ≡ s = omega arith in
     let entry : entry_of nat_eq (contiguous_rows weights) s ≡ Some (0 + sum (take s weights), get_or weights s 0) =
-    rw start at (contiguous-at 0 0 weights s (omega (arith, row-count weights))) in
+    rw start at (contiguous-at 0 0 weights s (omega (arith, length-rows weights))) in
     cc
 
 -- no other number has one
 pub no-entry : (weights : List ℕ) (s : ℕ) → length (contiguous_rows weights) ≤ s
     → entry_of nat_eq (contiguous_rows weights) s ≡ None
-no-entry weights s h = contiguous-past 0 0 weights s (inr (omega (arith, row-count weights)))
+no-entry weights s h = contiguous-past 0 0 weights s (inr (omega (arith, length-rows weights)))
 
 -- the symbol of a row is its index
 pub symbol-at : (weights : List ℕ) (k : ℕ) (d : Row ℕ) → k < length (contiguous_rows weights)
     → (get_or (contiguous_rows weights) k d).symbol ≡ k
 symbol-at weights k d h =
-    let here : k < length weights = omega (arith, row-count weights) in
+    let here : k < length weights = omega (arith, length-rows weights) in
     ap (λ (r : Row ℕ). r.symbol)
     (rows_from-at 0 (indices (length weights)) weights k d (length-range_with_len 0 (length weights)) here)
     ∙ get_or-range_with_len 0 (length weights) k d.symbol here ∙ (let start : 0 + k ≡ k = omega arith in start)

@@ -4,6 +4,7 @@ pub use Rattle.constriction_conversions.specs.EncoderRows
 pub use Rattle.constriction_model.specs.Entries
 pub use Rattle.constriction_conversions.specs.Hashed
 pub use Rattle.constriction_model.specs.Laws
+pub use Rattle.constriction_categorical.specs.Made
 pub use Rattle.constriction_model.specs.Model
 pub use Rattle.constriction_categorical.specs.ModelRows
 pub use Rattle.constriction_model.specs.Precision

@@ -46,7 +46,8 @@ module _ {Symbol Word Z : Type 0} (whole : Word → ℕ) (bits precision : ℕ) 
   -- symbols that were not compared, and no two of them are equal
   module _ (eq : Symbol → Symbol → Bool) (v : Vec (Word × Symbol) Z) (held : AreHeld (λ _ _. false) (Ok v)) where
     held-symbols : map (λ x. x.1) v.items ≡ held.ok.0
-    held-symbols = read-symbols eq whole bits precision v.items held.ok.0 (completed precision infer (map whole held.ok.1)) held.ok.4 held.ok.5
+    held-symbols =
+        read-symbols eq whole bits precision v.items held.ok.0 (completed precision infer (map whole held.ok.1)) held.ok.4 held.ok.5
 
     -- a further fact of the symbols, which acceptance asks for, holds
     pub judged-makes : (Good : List Symbol → Type 0) (Accepted : List Symbol → List ℕ → Type 0)
@@ -63,7 +64,8 @@ module _ {Symbol Word Z : Type 0} (whole : Word → ℕ) (bits precision : ℕ) 
         → ((ss : List Symbol) (ws : List ℕ) → Accepted ss ws → Good ss) → ¬ (Good (map (λ x. x.1) v.items))
         → BothBad ReadSymbols Read (λ ss ws. Accepted ss (completed precision infer (map whole ws)))
     judged-refused Good Accepted asks bad =
-        bad-at_end ReadSymbols Read (λ ss ws. Accepted ss (completed precision infer (map whole ws))) held.ok.0 held.ok.1 held.ok.2 held.ok.3
+        bad-at_end ReadSymbols Read (λ ss ws. Accepted ss (completed precision infer (map whole ws)))
+        held.ok.0 held.ok.1 held.ok.2 held.ok.3
         (λ accepted. bad (subst Good (sym held-symbols) (asks held.ok.0 (completed precision infer (map whole held.ok.1)) accepted)))
 
   -- what was refused as it was read

@@ -1,4 +1,5 @@
 pub mod InOrder
+pub mod Made
 pub mod ModelRows
 pub mod lemmas
 pub mod private

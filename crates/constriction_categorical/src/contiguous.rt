@@ -40,11 +40,11 @@ pub struct ContiguousCategoricalEntropyModel<
     ghost stored: { IsCdf Probability.BITS PRECISION (map Probability.whole (Cdf.words_of cdf)) },
 }
 
-/// The model over 24 bits of `u32`, which suits most uses.
+/// Over 24 bits of `u32`, for most uses.
 pub type DefaultContiguousCategoricalEntropyModel<Cdf = Vec<u32>> =
     ContiguousCategoricalEntropyModel<u32, Cdf, 24>;
 
-/// The model over 12 bits of `u16`, for few symbols.
+/// Over 12 bits of `u16`, for few symbols.
 pub type SmallContiguousCategoricalEntropyModel<Cdf = Vec<u16>> = ContiguousCategoricalEntropyModel<
     u16,
     Cdf,
@@ -58,18 +58,15 @@ impl<Probability: WholeNumber, const PRECISION: usize> ContiguousCategoricalEntr
 > {
     ghost use Rattle.constriction_categorical.specs.ModelRows.{contiguous_model_rows};
 
-    /// The model of these weights. If the last weight is inferred, it is what the given weights leave of
-    /// `2^PRECISION`, and there is one more symbol than given weights.
+    /// The model of these weights. If the last weight is inferred, it is what the given weights leave of `2^PRECISION`, and
+    /// there is one more symbol than given weights.
     ///
-    /// The weights are accepted if and only if all, with the inferred one, are positive, add up to
-    /// `2^PRECISION` and are words. So below the full width of the word the single weight `2^PRECISION` is
-    /// accepted, and so is the empty list if the last weight is inferred. At the full width neither is,
-    /// since `2^PRECISION` is no word. If the weights are not accepted, `InvalidTable` comes after the iterator
-    /// was read to its end, or as soon as no list with this beginning is accepted. `OutOfMemory` comes if
-    /// memory for the cdf is refused.
+    /// The weights are accepted if and only if all, with the inferred one, are positive, add up to `2^PRECISION` and are
+    /// words. So the single weight `2^PRECISION`, given or inferred, is accepted only below the full width of the word. If
+    /// the weights are not accepted, `InvalidTable` comes after the iterator was read to its end, or as soon as no list
+    /// with this beginning is accepted. `OutOfMemory` comes if memory for the cdf is refused.
     ///
-    /// One pass over the weights, one word of memory a symbol, and one allocation if the iterator
-    /// announces the number of weights.
+    /// One pass over the weights, one word of memory a symbol, and one allocation if the iterator announces their number.
     pub fn from_nonzero_fixed_point_probabilities<I: IntoIterator<Item = Probability>>(
         alloc: Global,
         probabilities: I,
@@ -161,11 +158,9 @@ impl<
         }
     }
 
-    /// A probe of the rows in question for a quantile, which are all rows, and the index of the first
-    /// one. This index plus what [`row_of_quantile`] answers on the probe is the index of the quantile's
+    /// A probe of the rows in question for a quantile, here all rows, and the index of the first one. This index plus
+    /// what [`row_of_quantile`](constriction_model::row_of_quantile) answers on the probe is the index of the quantile's
     /// row.
-    ///
-    /// [`row_of_quantile`]: constriction_model::row_of_quantile
     #[inline]
     pub fn quantile_probe<'m>(
         &'m self,

@@ -4,6 +4,7 @@ ghost use Rattle.std.specs.Prelude.{◌≡◌, ◌≤◌, map, IfOk};
 ghost use Rattle.std.specs.List.{IsDistinct};
 ghost use Rattle.constriction_model.specs.Model.{StandApart, ClonesRepeat};
 ghost use Rattle.constriction_stored_rows.specs.Stored.{IsStored, rows_paired};
+ghost use Rattle.constriction_categorical.specs.Made.{IsMadeIfApart};
 ghost use Rattle.constriction_categorical.specs.ModelRows.{decoder_model_rows, lookup_model_rows};
 
 use crate::convert::distinct::uncompared_entries_of_model;
@@ -81,22 +82,17 @@ where
     }
 }
 
-/// The decoder model with the rows of any model that can be walked through, in the same order and with the same weights.
+/// The decoder model with the rows of any model that can be walked through.
 ///
-/// Its symbols are the symbols that the walk gives, which are clones if the model owns its symbols. `InvalidTable` comes
-/// only if two symbols that a walk may give are equal. If each clone is equal to its symbol, then two symbols of the rows
-/// are equal, and no model is made of such rows. `OutOfMemory` comes if memory for the entries, or for a clone of a
-/// symbol, is refused.
+/// Its symbols are those that the walk gives: clones if the model owns its symbols. `InvalidTable` comes only if two
+/// symbols that a walk may give are equal, `OutOfMemory` if memory for the entries or for a clone is refused.
 ///
-/// If the model knows that its symbols differ, as each model of this library does, none are compared. If it does not,
-/// each is compared with all before it: `n * (n - 1) / 2` comparisons for `n` rows. Both take one walk, and only the walk
-/// clones symbols.
+/// One walk. If the model knows that its symbols differ, as each model of this library does, none are compared. If it
+/// does not, each is compared with all before it: `n * (n - 1) / 2` comparisons for `n` rows.
 ///
-/// For a model over any symbols, the call requires that a clone is equal to its symbol. If the symbols' type does not say
-/// so, take [`to_generic_decoder_model_by_comparison`], which requires nothing. If a caller knows that symbols differ, and
-/// the model does not, [`to_generic_decoder_model_of_distinct`] compares none.
-///
-/// [`to_generic_decoder_model_of_distinct`]: crate::to_generic_decoder_model_of_distinct
+/// A model over any symbols requires here that a clone is equal to its symbol. If the symbols' type does not say so, take
+/// [`to_generic_decoder_model_by_comparison`]. If the caller alone knows that symbols differ, take
+/// [`to_generic_decoder_model_of_distinct`](crate::to_generic_decoder_model_of_distinct).
 pub fn to_generic_decoder_model<M, const PRECISION: usize>(
     alloc: Global,
     model: M,
@@ -105,8 +101,7 @@ where
     M: IterableEntropyModel<PRECISION>,
     M::Symbol: Eq + Drop,
     requires { M.is_equality M.Symbol.eq }
-    ensures ok { IfOk result (λ d. StandApart M.Symbol.eq M.stands_for (decoder_model_rows d) (M.rows model)) }
-    ensures invalid { result ≡ Err ModelError.InvalidTable → ClonesRepeat M.Symbol.eq M.stands_for (M.rows model) }
+    ensures { IsMadeIfApart M.Symbol.eq M.stands_for decoder_model_rows (M.rows model) result }
 {
     match entries_of_model(alloc, model) {
         Ok(entries) => Ok(decoder_over(entries)),
@@ -114,8 +109,8 @@ where
     }
 }
 
-/// As [`to_generic_decoder_model`], for any model and any symbols. Each symbol that the walk gives is compared with all
-/// before it, whatever the model knows of its symbols.
+/// As [`to_generic_decoder_model`], but each symbol is compared with all before it, whatever the model knows. So it
+/// requires nothing.
 pub fn to_generic_decoder_model_by_comparison<M, const PRECISION: usize>(
     alloc: Global,
     model: M,
@@ -123,8 +118,7 @@ pub fn to_generic_decoder_model_by_comparison<M, const PRECISION: usize>(
 where
     M: IterableEntropyModel<PRECISION>,
     M::Symbol: Eq + Drop,
-    ensures ok { IfOk result (λ d. StandApart M.Symbol.eq M.stands_for (decoder_model_rows d) (M.rows model)) }
-    ensures invalid { result ≡ Err ModelError.InvalidTable → ClonesRepeat M.Symbol.eq M.stands_for (M.rows model) }
+    ensures { IsMadeIfApart M.Symbol.eq M.stands_for decoder_model_rows (M.rows model) result }
 {
     match compared_entries_of_model(alloc, model) {
         Ok(entries) => Ok(decoder_over(entries)),
@@ -132,15 +126,10 @@ where
     }
 }
 
-/// The lookup model with the rows of any model that can be walked through, in the same order and with the same weights.
+/// The lookup model of the decoder that [`to_generic_decoder_model`] makes. `OutOfMemory` comes also if memory for the
+/// lookup table is refused.
 ///
-/// It requires the same as [`to_generic_decoder_model`], and a `PRECISION` of at most 63. Its symbols are the symbols
-/// that the walk gives, which are clones if the model owns its symbols. `InvalidTable` comes only if two symbols that a
-/// walk may give are equal. If each clone is equal to its symbol, then two symbols of the rows are equal, and no model is
-/// made of such rows. `OutOfMemory` comes if memory for the entries, for a clone of a symbol, or for the lookup table is
-/// refused.
-///
-/// One walk, in which symbols are compared as [`to_generic_decoder_model`] does, and two passes over the rows.
+/// Two passes over the rows follow the walk.
 pub fn to_generic_lookup_decoder_model<M, const PRECISION: usize>(
     alloc: Global,
     model: M,
@@ -151,8 +140,7 @@ where
     M::Probability: IndexWord,
     requires narrow { PRECISION ≤ 63 }
     requires equality { M.is_equality M.Symbol.eq }
-    ensures ok { IfOk result (λ d. StandApart M.Symbol.eq M.stands_for (lookup_model_rows d) (M.rows model)) }
-    ensures invalid { result ≡ Err ModelError.InvalidTable → ClonesRepeat M.Symbol.eq M.stands_for (M.rows model) }
+    ensures { IsMadeIfApart M.Symbol.eq M.stands_for lookup_model_rows (M.rows model) result }
 {
     to_generic_slotted_lookup_decoder_model::<M, PRECISION, 8>(alloc, model)
 }
@@ -168,8 +156,7 @@ where
     M::Probability: IndexWord,
     requires narrow { PRECISION ≤ 63 }
     requires equality { M.is_equality M.Symbol.eq }
-    ensures ok { IfOk result (λ d. StandApart M.Symbol.eq M.stands_for (lookup_model_rows d) (M.rows model)) }
-    ensures invalid { result ≡ Err ModelError.InvalidTable → ClonesRepeat M.Symbol.eq M.stands_for (M.rows model) }
+    ensures { IsMadeIfApart M.Symbol.eq M.stands_for lookup_model_rows (M.rows model) result }
 {
     match to_generic_decoder_model::<M, PRECISION>(alloc, model) {
         Ok(searching) => lookup_over(alloc, searching),
@@ -188,8 +175,7 @@ impl<
         M: IterableEntropyModel<PRECISION>
             + EntropyModel<PRECISION, Symbol = Symbol, Probability = Probability>,
         requires { M.is_equality Symbol.eq }
-        ensures ok { IfOk result (λ d. StandApart Symbol.eq M.stands_for (decoder_model_rows d) (M.rows model)) }
-        ensures invalid { result ≡ Err ModelError.InvalidTable → ClonesRepeat Symbol.eq M.stands_for (M.rows model) }
+        ensures { IsMadeIfApart Symbol.eq M.stands_for decoder_model_rows (M.rows model) result }
     {
         to_generic_decoder_model::<M, PRECISION>(alloc, model)
     }
@@ -208,8 +194,7 @@ impl<
             + EntropyModel<PRECISION, Symbol = Symbol, Probability = Probability>,
         requires narrow { PRECISION ≤ 63 }
         requires equality { M.is_equality Symbol.eq }
-        ensures ok { IfOk result (λ d. StandApart Symbol.eq M.stands_for (lookup_model_rows d) (M.rows model)) }
-        ensures invalid { result ≡ Err ModelError.InvalidTable → ClonesRepeat Symbol.eq M.stands_for (M.rows model) }
+        ensures { IsMadeIfApart Symbol.eq M.stands_for lookup_model_rows (M.rows model) result }
     {
         to_generic_slotted_lookup_decoder_model::<M, PRECISION, SLOT_BITS>(alloc, model)
     }

@@ -37,8 +37,8 @@ fn entries_of_distinct<
     requires symbols_end { IsFiniteIterable Symbols.into_iter_gives Symbols.IntoIter.can_next Symbols.IntoIter.remaining symbols }
     requires weights_end { IsFiniteIterable Weights.into_iter_gives Weights.IntoIter.can_next Weights.IntoIter.remaining weights }
     requires distinct { GivesDistinct Symbols.into_iter_gives Symbols.IntoIter.next_gives Symbol.eq symbols }
-    ensures { MakesEntries Symbol.eq (AreAccepted Symbol.eq Probability.BITS PRECISION) Probability.whole Probability.BITS PRECISION infer_last
-        (WasReadOf Symbols.into_iter_gives Symbols.IntoIter.next_gives symbols)
+    ensures { MakesEntries Symbol.eq (AreAccepted Symbol.eq Probability.BITS PRECISION) Probability.whole Probability.BITS
+        PRECISION infer_last (WasReadOf Symbols.into_iter_gives Symbols.IntoIter.next_gives symbols)
         (WasReadOf Weights.into_iter_gives Weights.IntoIter.next_gives weights) result }
 {
     entries_read::<_, _, _, _, PRECISION>(alloc, symbols, weights, infer_last)
@@ -61,8 +61,8 @@ fn entries_hashed<
     requires precision { IsPrecision Probability.BITS PRECISION }
     requires symbols_end { IsFiniteIterable Symbols.into_iter_gives Symbols.IntoIter.can_next Symbols.IntoIter.remaining symbols }
     requires weights_end { IsFiniteIterable Weights.into_iter_gives Weights.IntoIter.can_next Weights.IntoIter.remaining weights }
-    ensures { MakesEntries Symbol.eq (AreAccepted Symbol.eq Probability.BITS PRECISION) Probability.whole Probability.BITS PRECISION infer_last
-        (WasReadOf Symbols.into_iter_gives Symbols.IntoIter.next_gives symbols)
+    ensures { MakesEntries Symbol.eq (AreAccepted Symbol.eq Probability.BITS PRECISION) Probability.whole Probability.BITS
+        PRECISION infer_last (WasReadOf Symbols.into_iter_gives Symbols.IntoIter.next_gives symbols)
         (WasReadOf Weights.into_iter_gives Weights.IntoIter.next_gives weights) result }
 {
     let entries = entries_read::<_, _, _, _, PRECISION>(alloc, symbols, weights, infer_last)?;
@@ -90,8 +90,8 @@ fn entries_in_order<
     requires precision { IsPrecision Probability.BITS PRECISION }
     requires symbols_end { IsFiniteIterable Symbols.into_iter_gives Symbols.IntoIter.can_next Symbols.IntoIter.remaining symbols }
     requires weights_end { IsFiniteIterable Weights.into_iter_gives Weights.IntoIter.can_next Weights.IntoIter.remaining weights }
-    ensures { MakesEntries Symbol.eq (AreInOrder Symbol.eq Symbol.cmp Probability.BITS PRECISION) Probability.whole Probability.BITS PRECISION infer_last
-        (WasReadOf Symbols.into_iter_gives Symbols.IntoIter.next_gives symbols)
+    ensures { MakesEntries Symbol.eq (AreInOrder Symbol.eq Symbol.cmp Probability.BITS PRECISION) Probability.whole Probability.BITS
+        PRECISION infer_last (WasReadOf Symbols.into_iter_gives Symbols.IntoIter.next_gives symbols)
         (WasReadOf Weights.into_iter_gives Weights.IntoIter.next_gives weights) result }
 {
     let entries = entries_read::<_, _, _, _, PRECISION>(alloc, symbols, weights, infer_last)?;
@@ -107,13 +107,8 @@ impl<
     Probability: WholeNumber,
     const PRECISION: usize,
 > NonContiguousCategoricalDecoderModel<Symbol, Probability, Vec<(Probability, Symbol)>, PRECISION> {
-    /// The model of these symbols and weights, for a caller who knows that no two of the symbols are equal. It
-    /// accepts and refuses the same as [`from_symbols_and_nonzero_fixed_point_probabilities`].
-    ///
-    /// One pass over both, one entry a symbol, and one allocation if the symbols' iterator announces their
-    /// number. No symbol is compared or cloned.
-    ///
-    /// [`from_symbols_and_nonzero_fixed_point_probabilities`]: Self::from_symbols_and_nonzero_fixed_point_probabilities
+    /// As [`Self::from_symbols_and_nonzero_fixed_point_probabilities`], for a caller who knows that no two of the symbols
+    /// are equal. None are compared.
     pub fn from_distinct_symbols_and_nonzero_fixed_point_probabilities<
         S: IntoIterator<Item = Symbol>,
         P: IntoIterator<Item = Probability>,
@@ -141,22 +136,13 @@ impl<
             Err(refused) => Err(refused),
         }
     }
-}
 
-impl<
-    Symbol: Hash + Eq + Drop,
-    Probability: WholeNumber,
-    const PRECISION: usize,
-> NonContiguousCategoricalDecoderModel<Symbol, Probability, Vec<(Probability, Symbol)>, PRECISION> {
-    /// The model of these symbols and weights, for symbols that have a hash. It accepts and refuses the same as
-    /// [`from_symbols_and_nonzero_fixed_point_probabilities`], but finds two equal symbols only after both
-    /// iterators were read to their ends. `OutOfMemory` comes if memory for the entries, or for a set of
-    /// references to the symbols, is refused.
+    /// As [`Self::from_symbols_and_nonzero_fixed_point_probabilities`], for symbols that have a hash. Two equal symbols
+    /// are found only after both iterators were read to their ends. `OutOfMemory` comes also if memory for a set of
+    /// references to the symbols is refused.
     ///
-    /// One pass over both, and then one hash a symbol. No symbol is cloned. The set has as many places as there
-    /// are symbols, and is dropped before the call returns.
-    ///
-    /// [`from_symbols_and_nonzero_fixed_point_probabilities`]: Self::from_symbols_and_nonzero_fixed_point_probabilities
+    /// One hash a symbol in place of the comparisons. The set has as many places as there are symbols, and is dropped before
+    /// the call returns.
     pub fn from_hashable_symbols_and_nonzero_fixed_point_probabilities<
         S: IntoIterator<Item = Symbol>,
         P: IntoIterator<Item = Probability>,
@@ -166,6 +152,8 @@ impl<
         probabilities: P,
         infer_last_probability: bool,
     ) -> Result<Self, ModelError>
+    where
+        Symbol: Hash,
         requires precision { IsPrecision Probability.BITS PRECISION }
         requires symbols_end { IsFiniteIterable S.into_iter_gives S.IntoIter.can_next S.IntoIter.remaining symbols }
         requires probabilities_end { IsFiniteIterable P.into_iter_gives P.IntoIter.can_next P.IntoIter.remaining probabilities }
@@ -190,14 +178,10 @@ impl<
     Probability: WholeNumber,
     const PRECISION: usize,
 > NonContiguousCategoricalDecoderModel<Symbol, Probability, Vec<(Probability, Symbol)>, PRECISION> {
-    /// The model of these symbols and weights, for symbols in increasing order. It then accepts and refuses the
-    /// same as [`from_symbols_and_nonzero_fixed_point_probabilities`]. If a symbol is not less than the next one,
-    /// it refuses them. So `InvalidTable` means that the lists are invalid or not in order, and in the second case
-    /// another constructor may accept them.
+    /// As [`Self::from_symbols_and_nonzero_fixed_point_probabilities`], for symbols in increasing order: a symbol that is
+    /// not less than the next one is refused. So after `InvalidTable` another constructor may accept the lists.
     ///
-    /// One pass over both, one entry a symbol, and then one comparison of each two neighbours. No symbol is cloned.
-    ///
-    /// [`from_symbols_and_nonzero_fixed_point_probabilities`]: Self::from_symbols_and_nonzero_fixed_point_probabilities
+    /// One comparison of each two neighbours.
     pub fn from_sorted_symbols_and_nonzero_fixed_point_probabilities<
         S: IntoIterator<Item = Symbol>,
         P: IntoIterator<Item = Probability>,

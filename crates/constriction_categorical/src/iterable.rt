@@ -13,18 +13,15 @@ ghost use Rattle.constriction_model.specs.Tables.{YieldsRow};
 use constriction_model::{EntropyModel, Weight};
 use std::alloc::AllocError;
 
-/// A model whose rows can be walked through.
-///
-/// It is implemented for references to models that a symbol table borrows from. It is also implemented for
-/// models that can be copied into their symbol table, and for references to these.
+/// A model whose rows can be walked through: a reference to a model that a symbol table borrows from, or a model that can
+/// be copied into its symbol table, and references to it.
 pub trait IterableEntropyModel<const PRECISION: usize>: EntropyModel<PRECISION> {
     /// The walk through the rows.
     type SymbolTable: Iterator<
         Item = Result<(Self::Symbol, Self::Probability, Weight<Self::Probability>), AllocError>,
     >;
 
-    // An item may have the second symbol for a row with the first one. In a symbol table of clones, this is what the symbols' type says
-    // of a clone. By default it is equality.
+    // An item may have the second symbol for a row with the first one, as an answer of a `DecoderModel`.
     ghost stands_for: { Self.Symbol → Self.Symbol → Type 0 } = { λ s t. t ≡ s };
 
     // Memory for a row with this symbol may be refused. By default it never is.
@@ -33,12 +30,12 @@ pub trait IterableEntropyModel<const PRECISION: usize>: EntropyModel<PRECISION> 
     // The rows that a symbol table has yet to give.
     ghost rows_left: { Self.SymbolTable → List (Row Self.Symbol) };
 
-    // The answer of `symbols_differ` holds for this equality of symbols. A caller who relies on it shows this fact of the equality. By
-    // default it holds for each equality. A model that answers `true` says for which, and may ask here that a clone equals its symbol.
+    // The answer of `symbols_differ` holds for this equality of symbols, by default for each. A model that answers `true` says for which,
+    // and may ask here that a clone equals its symbol.
     ghost is_equality: { (Self.Symbol → Self.Symbol → Bool) → Type 0 } = { λ _. ⊤ };
 
-    /// Whether it is known that no two symbols of the rows are equal, and no two that a walk gives. A caller
-    /// need not compare the walk's symbols then. A model that does not know answers `false`.
+    /// Whether it is known that no two symbols of the rows are equal, and no two that a walk gives, so that a caller need
+    /// not compare them. A model that does not know answers `false`.
     #[inline]
     fn symbols_differ(&self) -> bool
         ensures clones { IsTrue result → (eq : _) → is_equality eq → ClonesAreEqual eq stands_for }

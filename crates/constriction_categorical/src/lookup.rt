@@ -11,24 +11,19 @@ use constriction_model::{DecoderModel, EntropyModel, ModelError, Probe, Weight};
 use constriction_stored_rows::{CdfProbe, row_in_slot, slot_probe, table_of_slots, words_of_table};
 use std::alloc::{AllocError, Global};
 
-/// A searching model with a lookup table, for decoders. The lookup table says where to search for the row of a
-/// quantile.
+/// A searching model and a lookup table, for decoders: the lookup table says where to search for the row of a quantile.
 ///
-/// The quantiles are divided into `2^min(PRECISION, SLOT_BITS)` slots of equal width. The lookup table has two
-/// words a slot, the first and the last row that meet it, so a look-up searches only the rows from one to the
-/// other. Up to three rows take at most two comparisons, and in a model of few rows one row takes none.
+/// The quantiles are divided into `2^min(PRECISION, SLOT_BITS)` slots of equal width. The lookup table has two words a
+/// slot, the first and the last row that meet it, so a look-up searches only the rows from one to the other. Up to three
+/// rows take at most two comparisons, and in a model of few rows one row takes none.
 ///
-/// If `SLOT_BITS` is at least `PRECISION`, a slot holds one quantile. The lookup table then has one word a slot, the
-/// quantile's row, and a look-up searches nothing.
+/// If `SLOT_BITS` is at least `PRECISION`, a slot holds one quantile. It then has one word, the quantile's row, and a
+/// look-up searches nothing.
 ///
-/// In a model over any symbols the lookup table also has the left cumulatives and the total after its slots, so that a
-/// look-up finds the words of a row side by side.
+/// In a model over any symbols the left cumulatives and the total follow the slots, so that a look-up finds the words of a
+/// row side by side.
 ///
-/// [`ContiguousLookupDecoderModel`] and [`NonContiguousLookupDecoderModel`] are names of this type with 8
-/// `SLOT_BITS`. A caller's own model that [`StoresRows`] gets a lookup table by [`with_table`](Self::with_table).
-///
-/// [`ContiguousLookupDecoderModel`]: crate::ContiguousLookupDecoderModel
-/// [`NonContiguousLookupDecoderModel`]: crate::NonContiguousLookupDecoderModel
+/// A caller's own model that [`StoresRows`] gets a lookup table by [`with_table`](Self::with_table).
 #[derive(Debug, Drop)]
 pub struct LookupDecoderModel<Model, LookupTable, const PRECISION: usize, const SLOT_BITS: usize>
 where
@@ -69,8 +64,8 @@ impl<
 
     /// The model of the same rows, with a lookup table. It fails only if memory for the lookup table is refused.
     ///
-    /// One pass over the rows and one allocation, of two words a slot, or of one if a slot holds one quantile. Left cumulatives
-    /// and the total in the lookup table take a second pass, and in the same allocation one word a row and one more.
+    /// One pass over the rows and one allocation. Left cumulatives and the total in the lookup table take a second pass, and
+    /// in the same allocation one word a row and one more.
     pub fn with_table(alloc: Global, model: Model) -> Result<Self, AllocError>
     where
         Model: Drop,
@@ -145,12 +140,8 @@ where
         &self.lookup_table.words()[words_of_table::<PRECISION, SLOT_BITS>()..]
     }
 
-    /// A probe of the rows in question for a quantile, which are the rows that meet its slot, and the
-    /// index of the first one. This index plus what [`row_of_quantile`] answers on the probe is the index
-    /// of the quantile's row. If `m` rows meet the slot, the search asks as many questions as `m - 1` has
-    /// binary digits.
-    ///
-    /// [`row_of_quantile`]: constriction_model::row_of_quantile
+    /// As [`quantile_probe`](crate::ContiguousCategoricalEntropyModel::quantile_probe) of a contiguous model, but of the
+    /// rows that meet the quantile's slot. If they are `m`, the search asks as many questions as `m - 1` has binary digits.
     #[inline]
     pub fn quantile_probe<'m>(
         &'m self,
@@ -238,47 +229,22 @@ where
         } = self;
         model
     }
-}
-
-impl<Model, LookupTable, const PRECISION: usize, const SLOT_BITS: usize> LookupDecoderModel<
-    Model,
-    LookupTable,
-    PRECISION,
-    SLOT_BITS,
->
-where
-    Model: OfNumbers<PRECISION>,
-    LookupTable: SafeBuf<Model::Probability>,
-{
-    ghost use Rattle.constriction_categorical.specs.ModelRows.{lookup_model_rows};
-
     /// [`into_searching_model`](Self::into_searching_model), by the Rust crate's name.
     #[inline]
     pub fn into_contiguous_categorical(self) -> Model
     where
+        Model: OfNumbers<PRECISION>,
         LookupTable: Drop,
         ensures { Model.rows result ≡ lookup_model_rows self }
     {
         self.into_searching_model()
     }
-}
 
-impl<Model, LookupTable, const PRECISION: usize, const SLOT_BITS: usize> LookupDecoderModel<
-    Model,
-    LookupTable,
-    PRECISION,
-    SLOT_BITS,
->
-where
-    Model: OfAnySymbols<PRECISION>,
-    LookupTable: SafeBuf<Model::Probability>,
-{
-    ghost use Rattle.constriction_categorical.specs.ModelRows.{lookup_model_rows};
-
-    /// [`into_searching_model`](Self::into_searching_model), by the Rust crate's name.
+    /// The same.
     #[inline]
     pub fn into_non_contiguous_categorical(self) -> Model
     where
+        Model: OfAnySymbols<PRECISION>,
         LookupTable: Drop,
         ensures { Model.rows result ≡ lookup_model_rows self }
     {

@@ -7,6 +7,7 @@ ghost use Rattle.constriction_model.specs.Precision.{IsLookupPrecision};
 ghost use Rattle.constriction_model.specs.Rows.{contiguous_rows};
 ghost use Rattle.constriction_stored_rows.specs.lemmas.StoredRows.{stored-tiles};
 ghost use Rattle.constriction_stored_rows.specs.Stored.{rows_stored};
+ghost use Rattle.constriction_categorical.specs.Made.{IsMadeIfMemorySuffices};
 ghost use Rattle.constriction_categorical.specs.ModelRows.{contiguous_model_rows, lookup_model_rows};
 
 use crate::contiguous::ContiguousCategoricalEntropyModel;
@@ -19,11 +20,8 @@ use constriction_numbers::IndexWord;
 use constriction_stored_rows::copy_of;
 use std::alloc::{AllocError, Global};
 
-/// A model of the symbols 0, 1, .., given by their weights, for decoders: a lookup table of
-/// `2^min(PRECISION, SLOT_BITS)` slots says where to search for the row of a quantile.
-///
-/// Beside the lookup table of a [`LookupDecoderModel`] it stores the cdf of a
-/// [`ContiguousCategoricalEntropyModel`], one word a symbol and one more.
+/// A contiguous model with a lookup table of `2^min(PRECISION, SLOT_BITS)` slots, for decoders. Beside it the model stores
+/// a cdf, one word a symbol and one more.
 pub type SlottedContiguousLookupDecoderModel<
     Probability,
     Cdf,
@@ -37,27 +35,23 @@ pub type SlottedContiguousLookupDecoderModel<
     SLOT_BITS,
 >;
 
-/// The model with `2^min(PRECISION, 8)` slots. Its lookup table has at most 512 words.
+/// The same with `2^min(PRECISION, 8)` slots. The lookup table has at most 512 words.
 pub type ContiguousLookupDecoderModel<Probability, Cdf, LookupTable, const PRECISION: usize> =
     SlottedContiguousLookupDecoderModel<Probability, Cdf, LookupTable, PRECISION, 8>;
 
-/// The model over 12 bits of `u16`, for few symbols.
+/// Over 12 bits of `u16`, for few symbols.
 pub type SmallContiguousLookupDecoderModel<Cdf = Vec<u16>, LookupTable = Vec<u16>> =
     ContiguousLookupDecoderModel<u16, Cdf, LookupTable, 12>;
 
-/// The model over 12 bits of `u16` with a slot for each quantile. Its lookup table has 4,096 words, and a look-up
-/// searches nothing.
+/// Over 12 bits of `u16`, with a slot for each quantile: a lookup table of 4,096 words, where a look-up searches nothing.
 pub type SmallContiguousDirectLookupDecoderModel<Cdf = Vec<u16>, LookupTable = Vec<u16>> =
     SlottedContiguousLookupDecoderModel<u16, Cdf, LookupTable, 12, 12>;
 
-/// The model over 24 bits of `u32`, as [`DefaultContiguousCategoricalEntropyModel`], with 4,096 slots. Its lookup table has
-/// 8,192 words, 32 KiB, beside one word a symbol and one more.
+/// Over 24 bits of `u32`, for most uses, with 4,096 slots: a lookup table of 8,192 words, 32 KiB.
 ///
-/// A look-up takes a quarter to two fifths of the time that a search of all rows takes. The lookup table takes time to make:
-/// with 4,096 rows it pays after some 2,000 look-ups. To decode fewer symbols with one model, take the searching model. If
-/// memory counts, take [`ContiguousLookupDecoderModel`], with 512 words.
-///
-/// [`DefaultContiguousCategoricalEntropyModel`]: crate::DefaultContiguousCategoricalEntropyModel
+/// A look-up takes a quarter to two fifths of the time that a search of all rows takes. With 4,096 rows the lookup table
+/// pays after some 2,000 look-ups: to decode fewer symbols with one model, take the searching model. If memory counts, take
+/// [`ContiguousLookupDecoderModel`], with 512 words.
 pub type DefaultContiguousLookupDecoderModel<Cdf = Vec<u32>, LookupTable = Vec<u32>> =
     SlottedContiguousLookupDecoderModel<u32, Cdf, LookupTable, 24, 12>;
 
@@ -72,13 +66,10 @@ impl<
     PRECISION,
     SLOT_BITS,
 > {
-    /// The model of these weights. It accepts what
-    /// [`ContiguousCategoricalEntropyModel::from_nonzero_fixed_point_probabilities`] accepts, and
-    /// refuses all else with `InvalidTable` as soon as that is known, before it makes the lookup table.
-    /// `OutOfMemory` comes if memory for the rows or for the lookup table is refused.
+    /// As [`ContiguousCategoricalEntropyModel::from_nonzero_fixed_point_probabilities`], and with a lookup table.
+    /// `InvalidTable` comes before it is made, `OutOfMemory` also if memory for it is refused.
     ///
-    /// One pass over the weights and one over the rows. Beside the rows it takes one allocation for the
-    /// lookup table, of at most 512 words with 8 `SLOT_BITS`.
+    /// One pass over the rows and one allocation for the lookup table are added.
     #[tactic(auto, using(crate::proofs::Remade::error_of_weights))]
     pub fn from_nonzero_fixed_point_probabilities<I: IntoIterator<Item = Probability>>(
         alloc: Global,
@@ -133,10 +124,7 @@ impl<
     Cdf: SafeBuf<Probability>,
     const PRECISION: usize,
 > ContiguousCategoricalEntropyModel<Probability, Cdf, PRECISION> {
-    /// The lookup model of the same rows. The only error is `OutOfMemory`, if memory for a copy of the
-    /// rows or for the lookup table is refused.
-    ///
-    /// Two allocations, one copy of the rows and one pass over them.
+    /// The lookup model of the same rows. Two allocations, one copy of the rows and one pass over them.
     pub fn to_lookup_decoder_model(
         &self,
         alloc: Global,
@@ -145,8 +133,7 @@ impl<
         ModelError,
     >
         requires { PRECISION ≤ 63 }
-        ensures ok { IfOk result (λ m. lookup_model_rows m ≡ contiguous_model_rows self.now) }
-        ensures refused { IfErr result (λ e. e ≡ ModelError.OutOfMemory) }
+        ensures { IsMadeIfMemorySuffices (λ m. lookup_model_rows m ≡ contiguous_model_rows self.now) result }
     {
         self.to_slotted_lookup_decoder_model::<8>(alloc)
     }
@@ -167,8 +154,7 @@ impl<
         ModelError,
     >
         requires { PRECISION ≤ 63 }
-        ensures ok { IfOk result (λ m. lookup_model_rows m ≡ contiguous_model_rows self.now) }
-        ensures refused { IfErr result (λ e. e ≡ ModelError.OutOfMemory) }
+        ensures { IsMadeIfMemorySuffices (λ m. lookup_model_rows m ≡ contiguous_model_rows self.now) result }
     {
         match self.clone_in(alloc) {
             Ok(copy) => lookup_over(alloc, copy),
@@ -184,7 +170,7 @@ impl<
     const PRECISION: usize,
     const SLOT_BITS: usize,
 > SlottedContiguousLookupDecoderModel<Probability, Cdf, LookupTable, PRECISION, SLOT_BITS> {
-    /// A view of the model, which borrows its rows and its lookup table.
+    /// A view of the model, which borrows its cdf and its lookup table.
     #[inline]
     pub fn as_view<'m>(
         &'m self,

@@ -1,6 +1,6 @@
 //! Models of any symbols, which look up where to search for the row of a quantile.
 
-ghost use Rattle.std.specs.Prelude.{◌≡◌, ◌≤◌, IfOk, IfErr};
+ghost use Rattle.std.specs.Prelude.{◌≡◌, ◌≤◌, IfOk};
 ghost use Rattle.std.specs.Iterator.{IsFiniteIterable};
 ghost use Rattle.constriction_model.specs.Acceptance.{completed, AreAccepted, IsDecidedByBoth};
 ghost use Rattle.constriction_model.specs.Model.{StandForRows, ClonesAreEqual};
@@ -9,8 +9,10 @@ ghost use Rattle.constriction_model.specs.Rows.{rows_of};
 ghost use Rattle.constriction_stored_rows.specs.lemmas.SymbolRows.{paired-tiles};
 ghost use Rattle.constriction_stored_rows.specs.Stored.{rows_paired};
 ghost use Rattle.constriction_model.specs.Tables.{rows_between};
+ghost use Rattle.constriction_categorical.specs.Made.{IsMadeIfMemorySuffices};
 ghost use Rattle.constriction_categorical.specs.ModelRows.{decoder_model_rows, lookup_model_rows};
 
+use crate::convert::LookupMadeOf;
 use crate::iterable::IterableEntropyModel;
 use crate::lookup::{LookupDecoderModel, lookup_over};
 use crate::non_contiguous::NonContiguousCategoricalDecoderModel;
@@ -21,12 +23,8 @@ use constriction_numbers::IndexWord;
 use constriction_stored_rows::copy_of;
 use std::alloc::{AllocError, Global};
 
-/// A model of any distinct symbols, for decoders: a lookup table of `2^min(PRECISION, SLOT_BITS)` slots says where to
-/// search for the row of a quantile.
-///
-/// Beside the lookup table of a [`LookupDecoderModel`] it stores the entries of a
-/// [`NonContiguousCategoricalDecoderModel`], one a symbol. After its slots the lookup table has one word a symbol and one
-/// more.
+/// A model of any distinct symbols with a lookup table of `2^min(PRECISION, SLOT_BITS)` slots, for decoders. After its
+/// slots the lookup table has one word a symbol and one more. Beside it the model stores an entry a symbol.
 pub type SlottedNonContiguousLookupDecoderModel<
     Symbol,
     Probability,
@@ -41,7 +39,7 @@ pub type SlottedNonContiguousLookupDecoderModel<
     SLOT_BITS,
 >;
 
-/// The model with `2^min(PRECISION, 8)` slots, which take at most 512 words of its lookup table.
+/// The same with `2^min(PRECISION, 8)` slots, which take at most 512 words.
 pub type NonContiguousLookupDecoderModel<
     Symbol,
     Probability,
@@ -50,29 +48,22 @@ pub type NonContiguousLookupDecoderModel<
     const PRECISION: usize,
 > = SlottedNonContiguousLookupDecoderModel<Symbol, Probability, Cdf, LookupTable, PRECISION, 8>;
 
-/// The model over 12 bits of `u16`, for few symbols.
+/// Over 12 bits of `u16`, for few symbols.
 pub type SmallNonContiguousLookupDecoderModel<
     Symbol,
     Cdf = Vec<(u16, Symbol)>,
     LookupTable = Vec<u16>,
 > = NonContiguousLookupDecoderModel<Symbol, u16, Cdf, LookupTable, 12>;
 
-/// The model over 12 bits of `u16` with a slot for each quantile. The slots take 4,096 words of its lookup table, and a
-/// look-up searches nothing.
+/// Over 12 bits of `u16`, with a slot for each quantile: 4,096 words, and a look-up searches nothing.
 pub type SmallNonContiguousDirectLookupDecoderModel<
     Symbol,
     Cdf = Vec<(u16, Symbol)>,
     LookupTable = Vec<u16>,
 > = SlottedNonContiguousLookupDecoderModel<Symbol, u16, Cdf, LookupTable, 12, 12>;
 
-/// The model over 24 bits of `u32`, as [`DefaultNonContiguousCategoricalDecoderModel`], with 4,096 slots. The slots take
-/// 8,192 words of its lookup table, 32 KiB. After them it has one word a symbol and one more, and beside it an entry a
-/// symbol.
-///
-/// It pays from a few thousand symbols to decode on, as [`DefaultContiguousLookupDecoderModel`] does.
-///
-/// [`DefaultNonContiguousCategoricalDecoderModel`]: crate::DefaultNonContiguousCategoricalDecoderModel
-/// [`DefaultContiguousLookupDecoderModel`]: crate::DefaultContiguousLookupDecoderModel
+/// Over 24 bits of `u32`, for most uses, with 4,096 slots, which take 8,192 words, 32 KiB. It pays from a few thousand
+/// symbols to decode on.
 pub type DefaultNonContiguousLookupDecoderModel<
     Symbol,
     Cdf = Vec<(u32, Symbol)>,
@@ -101,15 +92,10 @@ impl<
     const PRECISION: usize,
     const SLOT_BITS: usize,
 > OwnLookupDecoderModel<Symbol, Probability, PRECISION, SLOT_BITS> {
-    /// The model of these symbols and weights. It accepts what
-    /// [`NonContiguousCategoricalDecoderModel::from_symbols_and_nonzero_fixed_point_probabilities`]
-    /// accepts, so only distinct symbols, and refuses all else with `InvalidTable` as soon as that is known,
-    /// before it makes the lookup table. `OutOfMemory` comes if memory for the rows or for the lookup table is
-    /// refused.
+    /// As [`NonContiguousCategoricalDecoderModel::from_symbols_and_nonzero_fixed_point_probabilities`], and with a lookup
+    /// table. `InvalidTable` comes before it is made, `OutOfMemory` also if memory for it is refused.
     ///
-    /// One pass over both, in which each symbol is compared with all before it, and two over the rows. No symbol is
-    /// cloned. Beside the rows it takes one allocation for the lookup table: with 8 `SLOT_BITS`, at most 512 words, one
-    /// word a symbol and one more.
+    /// Two passes over the rows and one allocation for the lookup table are added.
     #[tactic(auto, using(crate::proofs::Remade::error_of_both))]
     pub fn from_symbols_and_nonzero_fixed_point_probabilities<
         S: IntoIterator<Item = Symbol>,
@@ -175,28 +161,15 @@ impl<
     Cdf: SafeBuf<(Probability, Symbol)>,
     const PRECISION: usize,
 > NonContiguousCategoricalDecoderModel<Symbol, Probability, Cdf, PRECISION> {
-    /// The lookup model of the same rows, with clones of the symbols. A clone has to be equal to its symbol, so
-    /// that no two clones are equal. The only error is `OutOfMemory`, if memory for the rows, for a clone of a
-    /// symbol, or for the lookup table is refused.
-    ///
-    /// Two allocations, a clone of each symbol, and two passes over the rows. No symbols are compared.
+    /// The lookup model of the same rows, with clones of the symbols. Two allocations, a clone of each symbol, and two
+    /// passes over the rows.
     pub fn to_lookup_decoder_model(
         &self,
         alloc: Global,
-    ) -> Result<
-        NonContiguousLookupDecoderModel<
-            Symbol,
-            Probability,
-            Vec<(Probability, Symbol)>,
-            Vec<Probability>,
-            PRECISION,
-        >,
-        ModelError,
-    >
+    ) -> Result<LookupMadeOf<Self, PRECISION, 8>, ModelError>
         requires narrow { PRECISION ≤ 63 }
         requires clones { ClonesAreEqual Symbol.eq Symbol.is_clone }
-        ensures ok { IfOk result (λ m. StandForRows Symbol.is_clone (lookup_model_rows m) (decoder_model_rows self.now)) }
-        ensures refused { IfErr result (λ e. e ≡ ModelError.OutOfMemory) }
+        ensures { IsMadeIfMemorySuffices (λ m. StandForRows Symbol.is_clone (lookup_model_rows m) (decoder_model_rows self.now)) result }
     {
         self.to_slotted_lookup_decoder_model::<8>(alloc)
     }
@@ -206,21 +179,10 @@ impl<
     pub fn to_slotted_lookup_decoder_model<const SLOT_BITS: usize>(
         &self,
         alloc: Global,
-    ) -> Result<
-        SlottedNonContiguousLookupDecoderModel<
-            Symbol,
-            Probability,
-            Vec<(Probability, Symbol)>,
-            Vec<Probability>,
-            PRECISION,
-            SLOT_BITS,
-        >,
-        ModelError,
-    >
+    ) -> Result<LookupMadeOf<Self, PRECISION, SLOT_BITS>, ModelError>
         requires narrow { PRECISION ≤ 63 }
         requires clones { ClonesAreEqual Symbol.eq Symbol.is_clone }
-        ensures ok { IfOk result (λ m. StandForRows Symbol.is_clone (lookup_model_rows m) (decoder_model_rows self.now)) }
-        ensures refused { IfErr result (λ e. e ≡ ModelError.OutOfMemory) }
+        ensures { IsMadeIfMemorySuffices (λ m. StandForRows Symbol.is_clone (lookup_model_rows m) (decoder_model_rows self.now)) result }
     {
         match self.clone_in(alloc) {
             Ok(copy) => lookup_over(alloc, copy),
@@ -234,27 +196,14 @@ impl<
     Probability: IndexWord,
     const PRECISION: usize,
 > NonContiguousCategoricalDecoderModel<Symbol, Probability, Vec<(Probability, Symbol)>, PRECISION> {
-    /// The lookup model of the same rows, with the entries of this model. So each constructor of this type makes
-    /// lookup models too. The only error is `OutOfMemory`, if memory for the lookup table is refused, and then
-    /// this model is dropped.
-    ///
-    /// One allocation and two passes over the rows. No symbol is cloned or compared.
+    /// The lookup model of the same rows, with the entries of this model. One allocation and two passes over the rows. If
+    /// memory for the lookup table is refused, this model is dropped.
     pub fn into_lookup_decoder_model(
         self,
         alloc: Global,
-    ) -> Result<
-        NonContiguousLookupDecoderModel<
-            Symbol,
-            Probability,
-            Vec<(Probability, Symbol)>,
-            Vec<Probability>,
-            PRECISION,
-        >,
-        ModelError,
-    >
+    ) -> Result<LookupMadeOf<Self, PRECISION, 8>, ModelError>
         requires { PRECISION ≤ 63 }
-        ensures ok { IfOk result (λ m. lookup_model_rows m ≡ decoder_model_rows self) }
-        ensures refused { IfErr result (λ e. e ≡ ModelError.OutOfMemory) }
+        ensures { IsMadeIfMemorySuffices (λ m. lookup_model_rows m ≡ decoder_model_rows self) result }
     {
         lookup_over(alloc, self)
     }

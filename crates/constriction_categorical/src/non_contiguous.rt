@@ -28,8 +28,8 @@ use std::marker::PhantomData;
 
 /// A model of any distinct symbols, for decoders: it finds the row of a quantile.
 ///
-/// It stores one entry a symbol, the left cumulative and the symbol, in a buffer of the caller's choice. Two
-/// words beside the buffer serve to compute where a row ends.
+/// It stores one entry a symbol, the left cumulative and the symbol, in a buffer of the caller's choice. Two words beside
+/// the buffer serve to compute where a row ends.
 #[derive(Debug, Drop)]
 pub struct NonContiguousCategoricalDecoderModel<
     Symbol: Eq,
@@ -47,11 +47,11 @@ pub struct NonContiguousCategoricalDecoderModel<
     ghost distinct: { IsDistinct Symbol.eq (map (λ x. x.1) (Cdf.words_of cdf)) } by { Prim.hlevel props },
 }
 
-/// The model over 24 bits of `u32`, which suits most uses.
+/// Over 24 bits of `u32`, for most uses.
 pub type DefaultNonContiguousCategoricalDecoderModel<Symbol, Cdf = Vec<(u32, Symbol)>> =
     NonContiguousCategoricalDecoderModel<Symbol, u32, Cdf, 24>;
 
-/// The model over 12 bits of `u16`, for few symbols.
+/// Over 12 bits of `u16`, for few symbols.
 pub type SmallNonContiguousCategoricalDecoderModel<Symbol, Cdf = Vec<(u16, Symbol)>> =
     NonContiguousCategoricalDecoderModel<Symbol, u16, Cdf, 12>;
 
@@ -90,8 +90,8 @@ fn entries_compared<
     requires precision { IsPrecision Probability.BITS PRECISION }
     requires symbols_end { IsFiniteIterable Symbols.into_iter_gives Symbols.IntoIter.can_next Symbols.IntoIter.remaining symbols }
     requires weights_end { IsFiniteIterable Weights.into_iter_gives Weights.IntoIter.can_next Weights.IntoIter.remaining weights }
-    ensures { MakesEntries Symbol.eq (AreAccepted Symbol.eq Probability.BITS PRECISION) Probability.whole Probability.BITS PRECISION infer_last
-        (WasReadOf Symbols.into_iter_gives Symbols.IntoIter.next_gives symbols)
+    ensures { MakesEntries Symbol.eq (AreAccepted Symbol.eq Probability.BITS PRECISION) Probability.whole Probability.BITS
+        PRECISION infer_last (WasReadOf Symbols.into_iter_gives Symbols.IntoIter.next_gives symbols)
         (WasReadOf Weights.into_iter_gives Weights.IntoIter.next_gives weights) result }
 {
     let symbols = symbols.into_iter();
@@ -115,8 +115,9 @@ pub fn decoder_over<Symbol: Eq, Probability: WholeNumber, const PRECISION: usize
     requires precision { IsPrecision Probability.BITS PRECISION }
     requires stored { IsStored Probability.BITS PRECISION (map (λ x. Probability.whole x.0) entries.items) }
     requires distinct { IsDistinct Symbol.eq (map (λ x. x.1) entries.items) }
-    ensures { ⟦<NonContiguousCategoricalDecoderModel<Symbol, Probability, Vec<(Probability, Symbol)>, PRECISION> as EntropyModel<PRECISION>>⟧.rows result
-        ≡ rows_paired Probability.whole PRECISION entries.items }
+    ensures {
+        ⟦<NonContiguousCategoricalDecoderModel<Symbol, Probability, Vec<(Probability, Symbol)>, PRECISION>
+        as EntropyModel<PRECISION>>⟧.rows result ≡ rows_paired Probability.whole PRECISION entries.items }
 {
     let end_words = end_words_of::<Probability, Symbol, PRECISION>(&entries);
     NonContiguousCategoricalDecoderModel {
@@ -127,30 +128,23 @@ pub fn decoder_over<Symbol: Eq, Probability: WholeNumber, const PRECISION: usize
 }
 
 impl<
-    Symbol: Eq + Drop,
+    Symbol: Eq,
     Probability: WholeNumber,
     const PRECISION: usize,
 > NonContiguousCategoricalDecoderModel<Symbol, Probability, Vec<(Probability, Symbol)>, PRECISION> {
     ghost use Rattle.constriction_categorical.specs.ModelRows.{decoder_model_rows};
 
-    /// The model of these symbols and weights, one weight a symbol. If the last weight is inferred, it is
-    /// what the given weights leave of `2^PRECISION`, and there is one more symbol than given weights.
+    /// The model of these symbols and weights, of which the last may be inferred, as in a contiguous model.
     ///
-    /// They are accepted if and only if all weights, with the inferred one, are positive, add up to
-    /// `2^PRECISION` and are words, there is exactly one symbol for each weight, and no two symbols are
-    /// equal. If they are not, `InvalidTable` comes after both iterators were read to their ends, or as soon
-    /// as no lists with this beginning are accepted. `OutOfMemory` comes if memory for the entries is refused.
+    /// They are accepted if and only if a contiguous model accepts the weights, there is exactly one symbol for each, and
+    /// no two symbols are equal. If they are not, `InvalidTable` comes after both iterators were read to their ends, or as
+    /// soon as no lists with this beginning are accepted. `OutOfMemory` comes if memory for the entries is refused.
     ///
-    /// One pass over both, one entry a symbol, and one allocation if the symbols' iterator announces their
-    /// number. No symbol is cloned. Each symbol is compared with all before it, which takes no memory and
-    /// `n * (n - 1) / 2` comparisons for `n` symbols. If that is too much, take
-    /// [`from_hashable_symbols_and_nonzero_fixed_point_probabilities`],
-    /// [`from_sorted_symbols_and_nonzero_fixed_point_probabilities`], or, if symbols are known to differ,
-    /// [`from_distinct_symbols_and_nonzero_fixed_point_probabilities`].
-    ///
-    /// [`from_hashable_symbols_and_nonzero_fixed_point_probabilities`]: Self::from_hashable_symbols_and_nonzero_fixed_point_probabilities
-    /// [`from_sorted_symbols_and_nonzero_fixed_point_probabilities`]: Self::from_sorted_symbols_and_nonzero_fixed_point_probabilities
-    /// [`from_distinct_symbols_and_nonzero_fixed_point_probabilities`]: Self::from_distinct_symbols_and_nonzero_fixed_point_probabilities
+    /// One pass over both, one entry a symbol, and one allocation if the symbols' iterator announces their number. No
+    /// symbol is cloned. Each is compared with all before it: `n * (n - 1) / 2` comparisons for `n` symbols. If that is too
+    /// much, take [`Self::from_hashable_symbols_and_nonzero_fixed_point_probabilities`],
+    /// [`Self::from_sorted_symbols_and_nonzero_fixed_point_probabilities`], or, if symbols are known to differ,
+    /// [`Self::from_distinct_symbols_and_nonzero_fixed_point_probabilities`].
     pub fn from_symbols_and_nonzero_fixed_point_probabilities<
         S: IntoIterator<Item = Symbol>,
         P: IntoIterator<Item = Probability>,
@@ -160,6 +154,8 @@ impl<
         probabilities: P,
         infer_last_probability: bool,
     ) -> Result<Self, ModelError>
+    where
+        Symbol: Drop,
         requires precision { IsPrecision Probability.BITS PRECISION }
         requires symbols_end { IsFiniteIterable S.into_iter_gives S.IntoIter.can_next S.IntoIter.remaining symbols }
         requires probabilities_end { IsFiniteIterable P.into_iter_gives P.IntoIter.can_next P.IntoIter.remaining probabilities }
@@ -177,20 +173,13 @@ impl<
             Err(refused) => Err(refused),
         }
     }
-}
 
-impl<
-    Symbol: Eq + Clone,
-    Probability: WholeNumber,
-    const PRECISION: usize,
-> NonContiguousCategoricalDecoderModel<Symbol, Probability, Vec<(Probability, Symbol)>, PRECISION> {
-    ghost use Rattle.constriction_categorical.specs.ModelRows.{decoder_model_rows};
-
-    /// A copy of the model, with clones of the symbols. Its entries come from the allocator of this model's. A
-    /// clone has to be equal to its symbol, so that no two clones are equal.
+    /// A copy of the model, with clones of the symbols. Its entries come from the allocator of this model's.
     ///
     /// One allocation, and a clone of each symbol. The call fails if memory for one of these is refused.
     pub fn clone(&self) -> Result<Self, AllocError>
+    where
+        Symbol: Clone,
         requires { ClonesAreEqual Symbol.eq Symbol.is_clone }
         ensures { IfOk result (λ m. StandForRows Symbol.is_clone (decoder_model_rows m) (decoder_model_rows self.now)) }
     {
@@ -241,11 +230,7 @@ impl<
         }
     }
 
-    /// A probe of the rows in question for a quantile, which are all rows, and the index of the first
-    /// one. This index plus what [`row_of_quantile`] answers on the probe is the index of the quantile's
-    /// row.
-    ///
-    /// [`row_of_quantile`]: constriction_model::row_of_quantile
+    /// As [`quantile_probe`](crate::ContiguousCategoricalEntropyModel::quantile_probe) of a contiguous model.
     #[inline]
     pub fn quantile_probe<'m>(
         &'m self,

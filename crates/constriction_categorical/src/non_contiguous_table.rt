@@ -13,13 +13,9 @@ use constriction_stored_rows::{end_in_walk, paired_row_at, paired_row_ending_at}
 use std::alloc::AllocError;
 use std::iter::FusedIterator;
 
-/// The remaining rows of a [`NonContiguousCategoricalDecoderModel`], from either end.
+/// The remaining rows of a decoder over any symbols, from either end, each once and with a clone of its symbol.
 ///
-/// Each row is given once, from one end or the other, with a clone of its symbol. Both ends answer `None` if
-/// and only if no row is left. If memory for a clone is refused, the row's item is the refusal, and the walk
-/// goes on with the next row.
-///
-/// [`NonContiguousCategoricalDecoderModel`]: crate::NonContiguousCategoricalDecoderModel
+/// If memory for a clone is refused, the row's item is the refusal, and the walk goes on with the next row.
 #[derive(Debug, Drop)]
 pub struct NonContiguousSymbolTable<'m, Symbol, Probability: WholeNumber, const PRECISION: usize> {
     pub(crate) entries: &'m [(Probability, Symbol)],
@@ -59,7 +55,6 @@ impl<'m, Symbol: Clone, Probability: WholeNumber, const PRECISION: usize> Iterat
         }
     }
 
-    /// How many rows are left, exactly.
     #[inline]
     fn size_hint(&self) -> (usize, Option<usize>)
         ensures { IsExactHint result (size (⟦<Self as Iterator>⟧.remaining self.now)) }

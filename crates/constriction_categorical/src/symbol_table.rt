@@ -13,12 +13,9 @@ use constriction_stored_rows::cdf_row_at;
 use std::alloc::AllocError;
 use std::iter::FusedIterator;
 
-/// The remaining rows of a [`ContiguousCategoricalEntropyModel`], from either end.
+/// The remaining rows of a contiguous model, from either end, each once.
 ///
-/// Each row is given once, from one end or the other. Both ends answer `None` if and only if no row is left.
 /// Every item is `Ok`, since the walk takes no memory. A step reads two neighbours of the model's cdf.
-///
-/// [`ContiguousCategoricalEntropyModel`]: crate::ContiguousCategoricalEntropyModel
 #[derive(Debug, Drop)]
 pub struct ContiguousSymbolTable<'m, Probability: WholeNumber, const PRECISION: usize> {
     pub(crate) cdf: &'m [Probability],
@@ -50,7 +47,6 @@ impl<'m, Probability: WholeNumber, const PRECISION: usize> Iterator
         Some(Ok((index, left, weight)))
     }
 
-    /// How many rows are left, exactly.
     #[inline]
     fn size_hint(&self) -> (usize, Option<usize>)
         ensures { IsExactHint result (size (⟦<Self as Iterator>⟧.remaining self.now)) }

@@ -1,7 +1,7 @@
 //! Encoders that hash, made of any model that can be walked through.
 
-ghost use Rattle.std.specs.Prelude.{◌≡◌, IfOk, IfErr};
 ghost use Rattle.constriction_model.specs.Entries.{HoldsEntriesOf};
+ghost use Rattle.constriction_categorical.specs.Made.{IsMadeIfMemorySuffices};
 ghost use Rattle.constriction_conversions.specs.EncoderRows.{encoder_model_rows};
 
 use crate::hashed::NonContiguousCategoricalEncoderModel;
@@ -19,10 +19,8 @@ pub type EncoderMadeOf<M, const PRECISION: usize> = NonContiguousCategoricalEnco
     PRECISION,
 >;
 
-/// The encoder model with the entries of any model that can be walked through: for each symbol that the walk
-/// gives, the entry of its last row.
-///
-/// The only error is `OutOfMemory`, if memory for the hash table, or for a clone of a symbol, is refused.
+/// The encoder model with the entries of any model that can be walked through: for each symbol that the walk gives, the
+/// entry of its last row. `OutOfMemory` comes if memory for the hash table or for a clone of a symbol is refused.
 ///
 /// One walk, and one hash a row.
 pub fn to_generic_encoder_model<M, const PRECISION: usize>(
@@ -32,8 +30,7 @@ pub fn to_generic_encoder_model<M, const PRECISION: usize>(
 where
     M: IterableEntropyModel<PRECISION>,
     M::Symbol: Hash + Eq + Drop,
-    ensures entries { IfOk result (λ e. HoldsEntriesOf M.Symbol.eq M.stands_for (encoder_model_rows e) (M.rows model)) }
-    ensures refused { IfErr result (λ e. e ≡ ModelError.OutOfMemory) }
+    ensures { IsMadeIfMemorySuffices (λ e. HoldsEntriesOf M.Symbol.eq M.stands_for (encoder_model_rows e) (M.rows model)) result }
 {
     let table = table_walked::<_, _, _, _, PRECISION>(alloc, model.symbol_table())?;
     Ok(NonContiguousCategoricalEncoderModel { table })
@@ -49,8 +46,7 @@ impl<
     where
         M: IterableEntropyModel<PRECISION>
             + EntropyModel<PRECISION, Symbol = Symbol, Probability = Probability>,
-        ensures entries { IfOk result (λ e. HoldsEntriesOf Symbol.eq M.stands_for (encoder_model_rows e) (M.rows model)) }
-        ensures refused { IfErr result (λ e. e ≡ ModelError.OutOfMemory) }
+        ensures { IsMadeIfMemorySuffices (λ e. HoldsEntriesOf Symbol.eq M.stands_for (encoder_model_rows e) (M.rows model)) result }
     {
         to_generic_encoder_model::<M, PRECISION>(alloc, model)
     }

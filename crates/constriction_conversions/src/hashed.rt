@@ -21,8 +21,7 @@ use std::hash::Hash;
 
 /// A model of any symbols for encoders: it finds the entry of a symbol by its hash.
 ///
-/// It stores the entry of each symbol in a hash table. Its rows are these entries, in an order without
-/// meaning.
+/// Its rows are the entries of its hash table, in an order without meaning.
 #[derive(Drop)]
 #[derive_where(Debug; Symbol: Debug, Probability: Debug, Weight<Probability>: Debug)]
 pub struct NonContiguousCategoricalEncoderModel<
@@ -37,14 +36,14 @@ pub struct NonContiguousCategoricalEncoderModel<
         (λ e. (Probability.whole e.left, Probability.whole (Probability.base e.weight))) table.entries) },
 }
 
-/// The model over 24 bits of `u32`, which suits most uses.
+/// Over 24 bits of `u32`, for most uses.
 pub type DefaultNonContiguousCategoricalEncoderModel<Symbol> = NonContiguousCategoricalEncoderModel<
     Symbol,
     u32,
     24,
 >;
 
-/// The model over 12 bits of `u16`, for few symbols.
+/// Over 12 bits of `u16`, for few symbols.
 pub type SmallNonContiguousCategoricalEncoderModel<Symbol> = NonContiguousCategoricalEncoderModel<
     Symbol,
     u16,
@@ -90,7 +89,7 @@ impl<
     Probability: WholeNumber,
     const PRECISION: usize,
 > NonContiguousCategoricalEncoderModel<Symbol, Probability, PRECISION> {
-    ghost use Rattle.constriction_conversions.specs.EncoderRows.{encoder_model_rows};
+    ghost use Rattle.constriction_conversions.specs.EncoderRows.{encoder_model_rows, AreHashedRowsOf};
 
     /// How many symbols have an entry.
     #[inline]
@@ -99,25 +98,12 @@ impl<
     {
         self.table.len()
     }
-}
 
-impl<
-    Symbol: Hash + Eq + Drop,
-    Probability: WholeNumber,
-    const PRECISION: usize,
-> NonContiguousCategoricalEncoderModel<Symbol, Probability, PRECISION> {
-    ghost use Rattle.constriction_conversions.specs.EncoderRows.{encoder_model_rows, AreHashedRowsOf};
-
-    /// The model of these symbols and weights, one weight a symbol. If the last weight is inferred, it is
-    /// what the given weights leave of `2^PRECISION`, and there is one more symbol than given weights.
+    /// The model of these symbols and weights. They are accepted and refused as by the decoder's constructor of this name.
+    /// `OutOfMemory` comes if memory for the hash table is refused.
     ///
-    /// They are accepted if and only if all weights, with the inferred one, are positive, add up to
-    /// `2^PRECISION` and are words, there is exactly one symbol for each weight, and no two symbols are
-    /// equal. If they are not, `InvalidTable` comes after both iterators were read to their ends, or as soon
-    /// as no lists with this beginning are accepted. `OutOfMemory` comes if memory for the hash table is refused.
-    ///
-    /// One pass over both, and one hash a symbol. If the symbols' iterator announces their number, memory is
-    /// requested before the first symbol and not again: the hash table has four allocations.
+    /// One pass over both, and one hash a symbol. If the symbols' iterator announces their number, memory is requested
+    /// before the first symbol and not again: the hash table has four allocations.
     pub fn from_symbols_and_nonzero_fixed_point_probabilities<
         S: IntoIterator<Item = Symbol>,
         P: IntoIterator<Item = Probability>,
@@ -127,6 +113,8 @@ impl<
         probabilities: P,
         infer_last_probability: bool,
     ) -> Result<Self, ModelError>
+    where
+        Symbol: Drop,
         requires precision { IsPrecision Probability.BITS PRECISION }
         requires symbols_end { IsFiniteIterable S.into_iter_gives S.IntoIter.can_next S.IntoIter.remaining symbols }
         requires probabilities_end { IsFiniteIterable P.into_iter_gives P.IntoIter.can_next P.IntoIter.remaining probabilities }

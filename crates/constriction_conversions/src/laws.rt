@@ -16,33 +16,29 @@ use constriction_categorical::{
 use constriction_model::{DecoderModel, EntropyModel};
 use constriction_numbers::{IndexWord, WholeNumber};
 
-/// Steps of a symbol table give the first of the rows that are left, in order, and leave the others. If the
-/// model owns its symbols, the items have clones. If memory for a clone is refused, the row's item is the
-/// refusal.
+/// Steps of a symbol table give the first of the rows that are left, in order, and leave the others.
 pub fn table_walks_rows<M: IterableEntropyModel<PRECISION>, const PRECISION: usize>()
     ensures { (t : M.SymbolTable) (items : _) (u : M.SymbolTable) → Yields M.SymbolTable.next_gives t items u
         → (rows : List (Row M.Symbol)) × (M.rows_left t ≡ rows ++ M.rows_left u)
         × AreRows M.stands_for M.may_refuse M.Probability.whole M.Probability.base items rows }
 {}
 
-/// A walk to the end of a symbol table gives all rows that were left, in order and each once. These are all
-/// rows of the model if the symbol table is fresh. Without a refusal among the items, a reader has rows with
-/// clones of the symbols, which are the model's very rows if clones are the same values.
+/// A walk to the end of a symbol table gives all rows that were left, in order and each once: all rows of the model if the
+/// symbol table is fresh.
 pub fn table_gives_all_rows<M: IterableEntropyModel<PRECISION>, const PRECISION: usize>()
     ensures { (t : M.SymbolTable) (items : _) → Drains M.SymbolTable.next_gives t items
         → AreRows M.stands_for M.may_refuse M.Probability.whole M.Probability.base items (M.rows_left t) }
 {}
 
-/// A walk to the end of a symbol table gives as many items as rows were left, refusals counted. So a fresh
-/// symbol table has as many items as the model has symbols, a number that `support_size` answers.
+/// A walk to the end of a symbol table gives as many items as rows were left, refusals counted: `support_size` of the model
+/// if the symbol table is fresh.
 pub fn table_length<M: IterableEntropyModel<PRECISION>, const PRECISION: usize>()
     ensures { (t : M.SymbolTable) (items : _) → Drains M.SymbolTable.next_gives t items → length items ≡ length (M.rows_left t) }
 {}
 
-/// The row of a quantile, for which [`DecoderModel::quantile_function`] answers, is in the model's symbol
-/// table: in a walk to the end, an item or a refusal stands for the row, and no item that holds the quantile
-/// stands for another row. So a decoder may look quantiles up in a symbol table that was read before. If
-/// clones are the same values, it finds the answer itself.
+/// The row of a quantile is in the model's symbol table: in a walk to the end, an item or a refusal stands for the row, and
+/// no item that holds the quantile stands for another row. So a decoder may look quantiles up in a symbol table that was
+/// read before. If clones are the same values, it finds the very answer of [`DecoderModel::quantile_function`].
 pub fn answers_are_in_table<M, const PRECISION: usize>()
 where
     M: DecoderModel<PRECISION> + IterableEntropyModel<PRECISION>,
@@ -51,10 +47,9 @@ where
         → IsInTable M.IterableEntropyModel.stands_for M.IterableEntropyModel.may_refuse M.Probability.whole M.Probability.base items q r }
 {}
 
-/// If no two symbols of a model are equal, the constructors from symbols and weights, without inference, accept
-/// the symbols and the weights of its symbol table, and these give its rows again. So a symbol table can be
-/// stored as its symbols and weights. A decoder's `from_symbols_and_nonzero_fixed_point_probabilities` reads it
-/// back: it then answers a model of the same rows, or `OutOfMemory`.
+/// If no two symbols of a model are equal, the constructors from symbols and weights, without inference, accept those of
+/// its symbol table, and these give its rows again. So a symbol table can be stored as its symbols and weights, and a
+/// constructor that reads them answers a model of the same rows, or `OutOfMemory`.
 pub fn symbols_and_weights_rebuild<M, const PRECISION: usize>()
 where
     M: IterableEntropyModel<PRECISION>,
@@ -65,7 +60,7 @@ where
 {}
 
 /// No two symbols of a decoder over any symbols are equal, however it was made. So a hashed encoder that is made of it has
-/// the entry of each of its rows, and [`pairs_are_quantiles`](constriction_model::laws::pairs_are_quantiles) applies to both.
+/// the entry of each of its rows, and [`pairs_are_quantiles`](constriction_model::laws::pairs_are_quantiles) applies.
 pub fn non_contiguous_symbols_differ<Symbol, Probability, Cdf, const PRECISION: usize>()
 where
     Symbol: Eq,
@@ -107,5 +102,6 @@ where
     Cdf: SafeBuf<(Probability, Symbol)>,
     LookupTable: SafeBuf<Probability>,
     ensures { (m : _) → IsDistinct Symbol.eq (symbols_of
-        (⟦<SlottedNonContiguousLookupDecoderModel<Symbol, Probability, Cdf, LookupTable, PRECISION, SLOT_BITS> as EntropyModel<PRECISION>>⟧.rows m)) }
+        (⟦<SlottedNonContiguousLookupDecoderModel<Symbol, Probability, Cdf, LookupTable, PRECISION, SLOT_BITS>
+        as EntropyModel<PRECISION>>⟧.rows m)) }
 {}

@@ -36,7 +36,8 @@ module _ {Model LookupTable Symbol Word NonZero : Type 0} {precision slot_bits :
     {searching : model.Ghosts Model precision Symbol Word NonZero} {words : number.Ghosts Word NonZero}
     {table : buffer.Ghosts LookupTable Word} where
   pub lookup-precise : (Model → IsPrecision words.BITS precision)
-      → LookupDecoderModel Model LookupTable precision slot_bits Symbol Word NonZero searching words table → IsPrecision words.BITS precision
+      → LookupDecoderModel Model LookupTable precision slot_bits Symbol Word NonZero searching words table
+      → IsPrecision words.BITS precision
   lookup-precise law m = law m.model
 
   pub lookup-tiles : ((m : Model) → RowsTile words.BITS precision (searching.rows m))

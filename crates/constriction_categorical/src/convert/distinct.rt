@@ -5,6 +5,7 @@ ghost use Rattle.std.specs.List.{IsDistinct};
 ghost use Rattle.constriction_model.specs.Model.{StandApart, ClonesAreEqual};
 ghost use Rattle.constriction_model.specs.Rows.{symbols_of};
 ghost use Rattle.constriction_stored_rows.specs.Stored.{IsStored, rows_paired};
+ghost use Rattle.constriction_categorical.specs.Made.{IsMadeIfMemorySuffices};
 ghost use Rattle.constriction_categorical.specs.ModelRows.{decoder_model_rows, lookup_model_rows};
 
 use crate::convert::{DecoderMadeOf, LookupMadeOf};
@@ -36,15 +37,12 @@ where
     Ok(entries)
 }
 
-/// The decoder model with the rows of a model that can be walked through and has no two equal symbols. The
-/// functions of `laws` say so of each contiguous or uniform model, and of each decoder over any
-/// symbols. If the walk clones symbols, a clone has to be equal to its symbol.
+/// The decoder model with the rows of a model with no two equal symbols. The functions of `laws` say so of each
+/// contiguous or uniform model, and of each decoder over any symbols.
 ///
-/// Its symbols are the symbols that the walk gives. The only error is `OutOfMemory`, if memory for the entries,
-/// or for a clone of a symbol, is refused.
+/// Its symbols are those that the walk gives. `OutOfMemory` comes if memory for the entries or for a clone is refused.
 ///
-/// One walk, and one allocation if the walk announces the number of rows. No symbols are compared, and only the
-/// walk clones them.
+/// One walk, and one allocation if the walk announces the number of rows. No symbols are compared.
 pub fn to_generic_decoder_model_of_distinct<M, const PRECISION: usize>(
     alloc: Global,
     model: M,
@@ -54,8 +52,7 @@ where
     M::Symbol: Eq + Drop,
     requires clones { ClonesAreEqual M.Symbol.eq M.stands_for }
     requires distinct { IsDistinct M.Symbol.eq (symbols_of (M.rows model)) }
-    ensures ok { IfOk result (λ d. StandApart M.Symbol.eq M.stands_for (decoder_model_rows d) (M.rows model)) }
-    ensures refused { IfErr result (λ e. e ≡ ModelError.OutOfMemory) }
+    ensures { IsMadeIfMemorySuffices (λ d. StandApart M.Symbol.eq M.stands_for (decoder_model_rows d) (M.rows model)) result }
 {
     match uncompared_entries_of_model(alloc, model) {
         Ok(entries) => Ok(decoder_over(entries)),
@@ -63,13 +60,10 @@ where
     }
 }
 
-/// The lookup model with the rows of a model that can be walked through and has no two equal symbols. It
-/// requires the same as [`to_generic_decoder_model_of_distinct`], and a `PRECISION` of at most 63.
+/// The lookup model of the decoder that [`to_generic_decoder_model_of_distinct`] makes. `OutOfMemory` comes also if memory
+/// for the lookup table is refused.
 ///
-/// The only error is `OutOfMemory`, if memory for the entries, for a clone of a symbol, or for the lookup table is
-/// refused.
-///
-/// One walk, and two passes over the rows. No symbols are compared.
+/// Two passes over the rows follow the walk.
 pub fn to_generic_lookup_decoder_model_of_distinct<M, const PRECISION: usize>(
     alloc: Global,
     model: M,
@@ -81,8 +75,7 @@ where
     requires narrow { PRECISION ≤ 63 }
     requires clones { ClonesAreEqual M.Symbol.eq M.stands_for }
     requires distinct { IsDistinct M.Symbol.eq (symbols_of (M.rows model)) }
-    ensures ok { IfOk result (λ d. StandApart M.Symbol.eq M.stands_for (lookup_model_rows d) (M.rows model)) }
-    ensures refused { IfErr result (λ e. e ≡ ModelError.OutOfMemory) }
+    ensures { IsMadeIfMemorySuffices (λ d. StandApart M.Symbol.eq M.stands_for (lookup_model_rows d) (M.rows model)) result }
 {
     match to_generic_decoder_model_of_distinct::<M, PRECISION>(alloc, model) {
         Ok(searching) => searching.into_lookup_decoder_model(alloc),

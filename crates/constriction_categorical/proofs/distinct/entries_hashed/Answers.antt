@@ -14,7 +14,8 @@ returns-in_err-entries g c = record {
         read-refused g.Probability.WholeNumber.whole g.Probability.WholeNumber.BITS g.row.PRECISION c.args.infer_last
         (WasReadOf g.Symbols.IntoIterator.into_iter_gives g.Symbols.IntoIter.Iterator.next_gives c.args.symbols)
         (WasReadOf g.Weights.IntoIterator.into_iter_gives g.Weights.IntoIter.Iterator.next_gives c.args.weights)
-        g.Symbol.PartialEq.eq (AreAccepted g.Symbol.PartialEq.eq g.Probability.WholeNumber.BITS g.row.PRECISION) (λ ss ws good. good) c.entries_read.result c.entries_read.ensures e;
+        g.Symbol.PartialEq.eq (AreAccepted g.Symbol.PartialEq.eq g.Probability.WholeNumber.BITS g.row.PRECISION)
+        (λ ss ws good. good) c.entries_read.result c.entries_read.ensures e;
   };
   stored = search rules;
   distinct = search rules;

@@ -16,7 +16,8 @@ returns-in_err-entries g c = record {
         (WasReadOf g.Symbols.IntoIterator.into_iter_gives g.Symbols.IntoIter.Iterator.next_gives c.args.symbols)
         (WasReadOf g.Weights.IntoIterator.into_iter_gives g.Weights.IntoIter.Iterator.next_gives c.args.weights)
         g.Symbol.PartialEq.eq
-        (λ ss ws. AreAccepted g.Symbol.PartialEq.eq g.Probability.WholeNumber.BITS g.row.PRECISION ss ws × IsStrictlySortedBy g.Symbol.Ord.cmp ss)
+        (λ ss ws. AreAccepted g.Symbol.PartialEq.eq g.Probability.WholeNumber.BITS g.row.PRECISION ss ws
+        × IsStrictlySortedBy g.Symbol.Ord.cmp ss)
         (λ ss ws good. good.0) c.entries_read.result c.entries_read.ensures e;
   };
   stored = search rules;
@@ -32,7 +33,8 @@ returns-then-not-in_order g c = record {
         (WasReadOf g.Symbols.IntoIterator.into_iter_gives g.Symbols.IntoIter.Iterator.next_gives c.args.symbols)
         (WasReadOf g.Weights.IntoIterator.into_iter_gives g.Weights.IntoIter.Iterator.next_gives c.args.weights)
         g.Symbol.PartialEq.eq c.in_ok-entries.entries c.in_ok-entries.ensures (IsStrictlySortedBy g.Symbol.Ord.cmp)
-        (λ ss ws. AreAccepted g.Symbol.PartialEq.eq g.Probability.WholeNumber.BITS g.row.PRECISION ss ws × IsStrictlySortedBy g.Symbol.Ord.cmp ss)
+        (λ ss ws. AreAccepted g.Symbol.PartialEq.eq g.Probability.WholeNumber.BITS g.row.PRECISION ss ws
+        × IsStrictlySortedBy g.Symbol.Ord.cmp ss)
         (λ ss ws good. good.1)
         (λ good.
         let found : true ≡ false = sym (c.are_in_order-in_order.ensures.1 (rw c.deref.ensures.value good)) ∙ c.if-not-in_order.true
@@ -49,5 +51,7 @@ returns g c =
     (WasReadOf g.Symbols.IntoIterator.into_iter_gives g.Symbols.IntoIter.Iterator.next_gives c.args.symbols)
     (WasReadOf g.Weights.IntoIterator.into_iter_gives g.Weights.IntoIter.Iterator.next_gives c.args.weights)
     g.Symbol.PartialEq.eq c.in_ok-entries.entries c.in_ok-entries.ensures (IsStrictlySortedBy g.Symbol.Ord.cmp)
-    (λ ss ws. AreAccepted g.Symbol.PartialEq.eq g.Probability.WholeNumber.BITS g.row.PRECISION ss ws × IsStrictlySortedBy g.Symbol.Ord.cmp ss)
-    (λ ss ws good sorted. (good, sorted)) (sorted-distinct g.Symbol.PartialEq.eq g.Symbol.Ord.cmp g.met.Symbol.Ord.matches_eq _ sorted) sorted
+    (λ ss ws. AreAccepted g.Symbol.PartialEq.eq g.Probability.WholeNumber.BITS g.row.PRECISION ss ws
+    × IsStrictlySortedBy g.Symbol.Ord.cmp ss)
+    (λ ss ws good sorted. (good, sorted))
+    (sorted-distinct g.Symbol.PartialEq.eq g.Symbol.Ord.cmp g.met.Symbol.Ord.matches_eq _ sorted) sorted

@@ -14,4 +14,4 @@ their-entries rows others (Ok e) h =
 their-entries rows others (Err e) h = tt
 
 pub returns : goal.returns
-returns c = their-entries _ _ c.to_generic_encoder_model.result c.to_generic_encoder_model.ensures.entries
+returns c = their-entries _ _ c.to_generic_encoder_model.result c.to_generic_encoder_model.ensures.ok

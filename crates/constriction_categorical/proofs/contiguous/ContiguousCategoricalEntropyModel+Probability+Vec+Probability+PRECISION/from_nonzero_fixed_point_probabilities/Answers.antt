@@ -25,7 +25,8 @@ returns g c =
     let good = given.2.2 in
     let weights = completed g.row.PRECISION c.args.infer_last_probability (map whole given.2.0) in
     let table = cdf-of g.Probability.WholeNumber.BITS g.row.PRECISION (map whole c.in_ok-cdf.cdf.items) weights good.0 good.1 in
-    decided-by_weights g.Probability.WholeNumber.BITS g.row.PRECISION c.args.infer_last_probability g.met.Probability.WholeNumber.number_law _
+    decided-by_weights g.Probability.WholeNumber.BITS g.row.PRECISION c.args.infer_last_probability
+    g.met.Probability.WholeNumber.number_law _
     record {
       ok = (given.2.0, record { iterator = given.0; became = given.1; was_read = given.2.1 }, good.0, ap contiguous_rows table.1);
       invalid = λ e. absurd (made-unrefused _ _ e);
@@ -34,7 +35,8 @@ returns g c =
 pub returns-in_err-cdf : goal.returns-in_err-cdf
 returns-in_err-cdf g c =
     let whole = g.Probability.WholeNumber.whole in
-    decided-by_weights g.Probability.WholeNumber.BITS g.row.PRECISION c.args.infer_last_probability g.met.Probability.WholeNumber.number_law _
+    decided-by_weights g.Probability.WholeNumber.BITS g.row.PRECISION c.args.infer_last_probability
+    g.met.Probability.WholeNumber.number_law _
     record {
       ok = search rules;
       invalid = λ h.

@@ -7,13 +7,15 @@ use Rattle.constriction_categorical.proofs.distinct.NonContiguousCategoricalDeco
 
 pub returns-in-Ok : goal.returns-in-Ok
 returns-in-Ok g c =
-    decided-by_both (AreInOrder g.Symbol.PartialEq.eq g.Symbol.Ord.cmp g.Probability.WholeNumber.BITS g.row.PRECISION) g.Probability.WholeNumber.BITS
+    decided-by_both (AreInOrder g.Symbol.PartialEq.eq g.Symbol.Ord.cmp g.Probability.WholeNumber.BITS g.row.PRECISION)
+    g.Probability.WholeNumber.BITS
     g.row.PRECISION c.args.infer_last_probability g.met.Probability.WholeNumber.number_law (λ ss ns a. a.0.tile.fit) _
     (made_of_both _ _ _ _ _ _ (λ entries. rows_paired g.Probability.WholeNumber.whole g.row.PRECISION (vec_items entries)) _ _
     c.in-Ok.ensures.made c.decoder_over.ensures tt)
 
 pub returns-in-Err : goal.returns-in-Err
 returns-in-Err g c =
-    decided-by_both (AreInOrder g.Symbol.PartialEq.eq g.Symbol.Ord.cmp g.Probability.WholeNumber.BITS g.row.PRECISION) g.Probability.WholeNumber.BITS
+    decided-by_both (AreInOrder g.Symbol.PartialEq.eq g.Symbol.Ord.cmp g.Probability.WholeNumber.BITS g.row.PRECISION)
+    g.Probability.WholeNumber.BITS
     g.row.PRECISION c.args.infer_last_probability g.met.Probability.WholeNumber.number_law (λ ss ns a. a.0.tile.fit) _
     (refused_both _ _ _ _ _ _ _ _ c.in-Err.ensures.made)

@@ -29,7 +29,8 @@ returns-clause-row g c =
     let found = all-searched _ _ g.row.PRECISION _ _ _ _ _ (paired-tiles whole _ _ _ c.args.self.now.stored) c.requires.in_range
     c.quantile_probe.ensures c.row_in_probe-index.ensures in
     (row-answered g.Symbol.Clone.is_clone _ whole g.Probability.WholeNumber.base _ _ _ found c.cloned_row_by_words.result
-    (rw c.cdf_entries-entries.ensures at c.cloned_row_by_words.ensures.row) (rw c.cdf_entries-entries.ensures at c.cloned_row_by_words.ensures.refused)).0
+    (rw c.cdf_entries-entries.ensures at c.cloned_row_by_words.ensures.row)
+    (rw c.cdf_entries-entries.ensures at c.cloned_row_by_words.ensures.refused)).0
 
 pub returns-clause-refused : goal.returns-clause-refused
 returns-clause-refused g c =
@@ -37,4 +38,5 @@ returns-clause-refused g c =
     let found = all-searched _ _ g.row.PRECISION _ _ _ _ _ (paired-tiles whole _ _ _ c.args.self.now.stored) c.requires.in_range
     c.quantile_probe.ensures c.row_in_probe-index.ensures in
     (row-answered g.Symbol.Clone.is_clone _ whole g.Probability.WholeNumber.base _ _ _ found c.cloned_row_by_words.result
-    (rw c.cdf_entries-entries.ensures at c.cloned_row_by_words.ensures.row) (rw c.cdf_entries-entries.ensures at c.cloned_row_by_words.ensures.refused)).1
+    (rw c.cdf_entries-entries.ensures at c.cloned_row_by_words.ensures.row)
+    (rw c.cdf_entries-entries.ensures at c.cloned_row_by_words.ensures.refused)).1

@@ -41,4 +41,9 @@ returns-in-Err g c =
 pub invariant_of-self : goal.invariant_of-self
 invariant_of-self g c =
     let t = c.args.self.now in
-    record { precise = t.precise; stored = t.stored; in_order = omega (arith, t.in_order, c.if-self.false); in_bounds = omega (arith, t.in_bounds) }
+    record {
+      precise = t.precise;
+      stored = t.stored;
+      in_order = omega (arith, t.in_order, c.if-self.false);
+      in_bounds = omega (arith, t.in_bounds);
+    }

@@ -18,5 +18,6 @@ cloned_row_by_words-requires-clause-in_bounds g c =
 
 pub returns-clause-row : goal.returns-clause-row
 returns-clause-row g c =
-    row-stands _ _ _ _ _ c.args.index c.requires c.cloned_row_by_words.result (rw c.cdf_entries.ensures at c.cloned_row_by_words.ensures.row)
+    row-stands _ _ _ _ _ c.args.index c.requires c.cloned_row_by_words.result
+    (rw c.cdf_entries.ensures at c.cloned_row_by_words.ensures.row)
     (rw c.cdf_entries.ensures at c.cloned_row_by_words.ensures.refused)

@@ -55,7 +55,11 @@ returns g c =
           became = c.into_iter-symbols.ensures.into_iter_gives;
           was_read = given.2;
         },
-        record { iterator = c.into_iter-probabilities.result; became = c.into_iter-probabilities.ensures.into_iter_gives; was_read = given.3 },
+        record {
+          iterator = c.into_iter-probabilities.result;
+          became = c.into_iter-probabilities.ensures.into_iter_gives;
+          was_read = given.3;
+        },
         good.0,
         (
           (λ s. table-entry_of eq laws (λ e. (whole e.left, whole (base e.weight))) c.in_ok-read.read.table.entries s good.1.0
@@ -87,10 +91,12 @@ rows_read-requires-clause-symbols_end g c =
     (c.requires.symbols_end c.into_iter-symbols.result c.into_iter-symbols.ensures.into_iter_gives).1
 
 pub rows_read-requires-clause-weights_go : goal.rows_read-requires-clause-weights_go
-rows_read-requires-clause-weights_go g c = (c.requires.probabilities_end c.into_iter-probabilities.result c.into_iter-probabilities.ensures.into_iter_gives).0
+rows_read-requires-clause-weights_go g c =
+    (c.requires.probabilities_end c.into_iter-probabilities.result c.into_iter-probabilities.ensures.into_iter_gives).0
 
 pub rows_read-requires-clause-weights_end : goal.rows_read-requires-clause-weights_end
-rows_read-requires-clause-weights_end g c = (c.requires.probabilities_end c.into_iter-probabilities.result c.into_iter-probabilities.ensures.into_iter_gives).1
+rows_read-requires-clause-weights_end g c =
+    (c.requires.probabilities_end c.into_iter-probabilities.result c.into_iter-probabilities.ensures.into_iter_gives).1
 
 pub returns-in_err-read : goal.returns-in_err-read
 returns-in_err-read g c =
