@@ -115,9 +115,8 @@ pub fn decoder_over<Symbol: Eq, Probability: WholeNumber, const PRECISION: usize
     requires precision { IsPrecision Probability.BITS PRECISION }
     requires stored { IsStored Probability.BITS PRECISION (map (λ x. Probability.whole x.0) entries.items) }
     requires distinct { IsDistinct Symbol.eq (map (λ x. x.1) entries.items) }
-    ensures {
-        ⟦<NonContiguousCategoricalDecoderModel<Symbol, Probability, Vec<(Probability, Symbol)>, PRECISION>
-        as EntropyModel<PRECISION>>⟧.rows result ≡ rows_paired Probability.whole PRECISION entries.items }
+    ensures { ⟦<NonContiguousCategoricalDecoderModel<Symbol, Probability, Vec<(Probability, Symbol)>, PRECISION> as EntropyModel<PRECISION>>⟧.rows result
+        ≡ rows_paired Probability.whole PRECISION entries.items }
 {
     let end_words = end_words_of::<Probability, Symbol, PRECISION>(&entries);
     NonContiguousCategoricalDecoderModel {

@@ -102,6 +102,5 @@ where
     Cdf: SafeBuf<(Probability, Symbol)>,
     LookupTable: SafeBuf<Probability>,
     ensures { (m : _) → IsDistinct Symbol.eq (symbols_of
-        (⟦<SlottedNonContiguousLookupDecoderModel<Symbol, Probability, Cdf, LookupTable, PRECISION, SLOT_BITS>
-        as EntropyModel<PRECISION>>⟧.rows m)) }
+        (⟦<SlottedNonContiguousLookupDecoderModel<Symbol, Probability, Cdf, LookupTable, PRECISION, SLOT_BITS> as EntropyModel<PRECISION>>⟧.rows m)) }
 {}
