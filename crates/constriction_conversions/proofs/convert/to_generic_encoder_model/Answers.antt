@@ -32,8 +32,8 @@ invariant_of-result g c =
           (found.2 whole base));
     }
 
-pub returns-clause-entries : goal.returns-clause-entries
-returns-clause-entries g c =
+pub returns : goal.returns
+returns g c =
     let whole = g.M.Probability.WholeNumber.whole in
     let base = g.M.Probability.WholeNumber.base in
     let eq = g.M.Symbol.PartialEq.eq in
@@ -42,12 +42,15 @@ returns-clause-entries g c =
     let found = c.in_ok-table.ensures.found in
     let made = map (row_of whole base) found.0 in
     record {
-      made = made;
-      stand = walked-all g.M.IterableEntropyModel.stands_for g.M.IterableEntropyModel.may_refuse whole base
-          g.M.SymbolTable.Iterator.next_gives g.M.IterableEntropyModel.rows_left g.met.M.IterableEntropyModel.steps_law rows
-          c.symbol_table.result c.symbol_table.ensures.all found.0 found.1;
-      entries = table-same eq laws (λ e. (whole e.left, whole (base e.weight))) c.in_ok-table.table.entries made
-          c.in_ok-table.ensures.unique (found.2 whole base);
-      size = table-count eq laws (λ e. (whole e.left, whole (base e.weight))) c.in_ok-table.table.entries made
-          c.in_ok-table.ensures.unique (found.2 whole base);
+      ok = record {
+        made = made;
+        stand = walked-all g.M.IterableEntropyModel.stands_for g.M.IterableEntropyModel.may_refuse whole base
+            g.M.SymbolTable.Iterator.next_gives g.M.IterableEntropyModel.rows_left g.met.M.IterableEntropyModel.steps_law rows
+            c.symbol_table.result c.symbol_table.ensures.all found.0 found.1;
+        entries = table-same eq laws (λ e. (whole e.left, whole (base e.weight))) c.in_ok-table.table.entries made
+            c.in_ok-table.ensures.unique (found.2 whole base);
+        size = table-count eq laws (λ e. (whole e.left, whole (base e.weight))) c.in_ok-table.table.entries made
+            c.in_ok-table.ensures.unique (found.2 whole base);
+      };
+      refused = tt;
     }
