@@ -9,7 +9,7 @@ returns-clause-alike g c = λ s.
     let laws = g.met.M.Symbol.Eq.laws in
     let stands = g.M.IterableEntropyModel.stands_for in
     let rows = g.M.EntropyModel.rows c.args.model in
-    entries-of eq laws stands c.requires.clones _ rows c.in_ok-encoder.ensures.entries s
+    entries-of eq laws stands c.requires.clones _ rows c.in_ok-encoder.ensures.ok s
     ∙ sym (entries-made eq laws stands c.requires.clones _ rows c.in_ok-decoder.ensures.ok.0 s)
 
 pub returns-in_err-decoder-clause-invalid : goal.returns-in_err-decoder-clause-invalid
