@@ -3,7 +3,7 @@ use Rattle.std.proofs.Common.{refl, subst, ◌≡◌, ℕ, ◌<◌, ◌^◌, Boo
 use Rattle.std.specs.Option.{option_map, IfSome, IfNone}
 use Rattle.std.specs.Result.{IfOk}
 use Rattle.std.proofs.lemmas.Bool.{ltb-true, leb-true, ne_eqb, and_parts, or_parts}
-use Rattle.std.proofs.lemmas.Option.{cond_some, none-some, same_Some}
+use Rattle.std.proofs.lemmas.Option.{cond_some, none-some, option_and_then_some, same_Some}
 use Rattle.std.proofs.lemmas.List.Splits.{join_with_byte-slice_split, slice_split-cons_no, slice_split-cons_yes}
 use Rattle.std.proofs.lemmas.Str.Parse.{IsNumeralModel, numerals_by_value, tells_all_ascii_digits}
 use Rattle.std.specs.Char.{digit_value}
@@ -25,24 +25,13 @@ found_where : {X C : Type 0} (passes : Bool) (x found : X) (rest : Option X) →
 found_where true x found rest e here later = here refl (same_Some x found e)
 found_where false x found rest e here later = later e
 
--- what a search finds passes the test
-found_passes : {X : Type 0} (p : X → Bool) (xs : List X) (found : X) → find p xs ≡ Some found → p found ≡ true
-found_passes p [] found e = absurd (none-some _ e)
-found_passes p (x ∷ xs) found e =
-    found_where (p x) x found (find p xs) e (λ passes same. ap p (sym same) ∙ passes) (λ later. found_passes p xs found later)
-
--- what holds of each element holds of what a search finds
-found_holds : {X : Type 0} (p : X → Bool) (P : X → Type 0) (xs : List X) (found : X) → AllByRecursion P xs
-    → find p xs ≡ Some found → P found
-found_holds p P [] found all e = absurd (none-some _ e)
-found_holds p P (x ∷ xs) found all e =
-    found_where (p x) x found (find p xs) e (λ passes same. subst P same all.0) (λ later. found_holds p P xs found all.1 later)
-
--- the parts of a chain that found something
-bind_some : {A B : Type 0} (o : Option A) (f : A → Option B) (y : B) → (o >>= f) ≡ Some y
-    → (x : A) × (o ≡ Some x) × (f x ≡ Some y)
-bind_some None f y e = absurd (cc)
-bind_some (Some x) f y e = (x, refl, e)
+-- what a search finds passes the test, and what holds of each element holds of it
+found_one : {X : Type 0} (p : X → Bool) (P : X → Type 0) (xs : List X) (found : X) → AllByRecursion P xs
+    → find p xs ≡ Some found → (p found ≡ true) × P found
+found_one p P [] found all e = absurd (none-some _ e)
+found_one p P (x ∷ xs) found all e =
+    found_where (p x) x found (find p xs) e (λ passes same. (ap p (sym same) ∙ passes, subst P same all.0))
+    (λ later. found_one p P xs found all.1 later)
 
 -- Numbers.
 
@@ -75,10 +64,10 @@ unfolding read_numbers
 numbers_spelled [] [] e = tt
 numbers_spelled [] (n ∷ ns) e = absurd (cc)
 numbers_spelled (word ∷ words) ns e =
-    let p = bind_some (read_number word) (λ n. read_numbers words >>= λ ns. Some (n ∷ ns)) ns e in
-    let q = bind_some (read_numbers words) (λ ns. Some (p.0 ∷ ns)) ns p.2 in
     let P : List ℕ → Type 0 = λ l. AllZip IsNumber (word ∷ words) l in
-    subst P (same_Some _ _ q.2) (number_spelled word p.0 p.1, numbers_spelled words q.0 q.1)
+    option_and_then_some (λ n. read_numbers words >>= λ ns. Some (n ∷ ns)) (read_number word) ns e (λ n first others.
+    option_and_then_some (λ ns. Some (n ∷ ns)) (read_numbers words) ns others (λ rest more all.
+    subst P (same_Some _ _ all) (number_spelled word n first, numbers_spelled words rest more)))
 
 numbers_read : (words : List (List ℕ)) (ns : List ℕ) → AllZip IsNumber words ns → read_numbers words ≡ Some ns
 unfolding read_numbers
@@ -98,7 +87,7 @@ format_read U16Precision12 = refl
 format_spelled : (word : List ℕ) (format : Format) → read_format word ≡ Some format → word ≡ format_word format
 unfolding read_format
 format_spelled word format e = same_text word (format_word format) (sym
-    (found_passes (λ format. bytes_eq word (format_word format)) formats format e))
+    (found_one (λ format. bytes_eq word (format_word format)) (λ _. Unit {0}) formats format (tt, (tt, (tt, tt))) e).0)
 
 request_read : (request : Request) → read_request (keyword request) (format_of request) (numbers_of request) ≡ Some request
 unfolding read_request
@@ -148,18 +137,13 @@ all_are_of format [] = ((refl, refl), ((refl, refl), tt))
 all_are_of format (n ∷ []) = ((refl, refl), ((refl, refl), ((refl, refl), ((refl, refl), ((refl, refl), tt)))))
 all_are_of format (n ∷ m ∷ ns) = ((refl, refl), ((refl, refl), ((refl, refl), ((refl, refl), tt))))
 
-request_keyword : (word : List ℕ) (format : Format) (numbers : List ℕ) (request : Request)
-    → read_request word format numbers ≡ Some request → word ≡ keyword request
-unfolding read_request
-request_keyword word format numbers request e =
-    same_text word (keyword request) (sym (found_passes (λ request. bytes_eq word (keyword request)) (requests_of format numbers) request e))
-
 request_parts : (word : List ℕ) (format : Format) (numbers : List ℕ) (request : Request)
-    → read_request word format numbers ≡ Some request → IsOf format numbers request
+    → read_request word format numbers ≡ Some request → (word ≡ keyword request) × IsOf format numbers request
 unfolding read_request
 request_parts word format numbers request e =
-    found_holds (λ request. bytes_eq word (keyword request)) (IsOf format numbers) (requests_of format numbers) request
-    (all_are_of format numbers) e
+    let found = found_one (λ request. bytes_eq word (keyword request)) (IsOf format numbers) (requests_of format numbers) request
+    (all_are_of format numbers) e in
+    (same_text word (keyword request) (sym found.0), found.1)
 
 -- Words.
 
@@ -249,17 +233,17 @@ unfolding read_words
 words_spelled [] request e = absurd (none-some _ e)
 words_spelled (key ∷ []) request e = absurd (none-some _ e)
 words_spelled (key ∷ word ∷ words) request e =
-    let p = bind_some (read_format word) (λ format. read_numbers words >>= λ numbers. read_request key format numbers) request e in
-    let q = bind_some (read_numbers words) (λ numbers. read_request key p.0 numbers) request p.2 in
-    let parts = request_parts key p.0 q.0 request q.2 in
+    option_and_then_some (λ format. read_numbers words >>= λ numbers. read_request key format numbers) (read_format word) request e
+    (λ format named others. option_and_then_some (λ numbers. read_request key format numbers) (read_numbers words) request others
+    (λ numbers each asked.
+    let parts = request_parts key format numbers request asked in
     let P : List ℕ → Type 0 = λ numbers. AllZip IsNumber words numbers in
-    let format : word ≡ format_word (format_of request) = format_spelled word p.0 p.1 ∙ ap format_word parts.0 in
+    let same : word ≡ format_word (format_of request) = format_spelled word format named ∙ ap format_word parts.1.0 in
     spelled_from (join_with_byte 32 (key ∷ word ∷ words)) request (
       words,
-      subst P parts.1 (numbers_spelled words q.0 q.1),
-      ap (λ k. join_with_byte 32 (k ∷ word ∷ words)) (request_keyword key p.0 q.0 request q.2)
-          ∙ ap (λ f. join_with_byte 32 (keyword request ∷ f ∷ words)) format,
-    )
+      subst P parts.1.1 (numbers_spelled words numbers each),
+      ap (λ k. join_with_byte 32 (k ∷ word ∷ words)) parts.0 ∙ ap (λ f. join_with_byte 32 (keyword request ∷ f ∷ words)) same,
+    )))
 
 pub line_spelled : (line : List ℕ) (request : Request) → read_line line ≡ Some request → Spells line request
 unfolding read_line

@@ -7,7 +7,7 @@ use Rattle.constriction_text.specs.declared.line.Format.TheVariants.{U8Precision
 use Rattle.constriction_text.specs.declared.line.Command.{Command}
 use Rattle.constriction_text.specs.declared.line.Command.TheVariants as command
 
--- the word of a format: the type of its probabilities, and its precision
+-- the word of a format
 abbrev pub format_word : Format → List ℕ
 format_word U8Precision6 = codes "u8/6"
 format_word U8Precision8 = codes "u8/8"
@@ -25,8 +25,7 @@ precision_of U8Precision6 = 6
 precision_of U8Precision8 = 8
 precision_of U16Precision12 = 12
 
--- What a line asks for: all rows of weights, all rows if the last weight is inferred, the row of a quantile, the row of a symbol, or
--- all rows of a uniform model with a given number of symbols.
+-- what a line asks for: a `Command`, with a list in the place of each `Vec`
 pub data Request : Type 0 where
   table : Format → List ℕ → Request
   infer : Format → List ℕ → Request
@@ -42,7 +41,7 @@ format_of (quantile format q weights) = format
 format_of (symbol format s weights) = format
 format_of (uniform format n) = format
 
--- the request of a command: the same with lists in the place of a `Vec`
+-- the request of a command
 abbrev pub view : Command → Request
 view (command.Table format weights) = table format weights.items
 view (command.Infer format weights) = infer format weights.items
@@ -50,14 +49,14 @@ view (command.Quantile format q weights) = quantile format q weights.items
 view (command.Symbol format s weights) = symbol format s weights.items
 view (command.Uniform format n) = uniform format n
 
--- the word is one to twenty decimal digits, and spells this number, which is below 2 ^ 64
+-- the word spells the number
 pub record IsNumber (word : List ℕ) (number : ℕ) : Type 0 where
   pub digits : IsNumeral 10 word
   pub short : length word ≤ 20
   pub value : digits_value 10 word ≡ number
   pub small : number < 2 ^ 64
 
--- the line is the keyword, the word of the format and the numbers, with one space (byte 32) between each two
+-- the line is the keyword, the format and the numbers, with one space, byte 32, between each two
 abbrev pub IsLineOf : List ℕ → List ℕ → Format → List ℕ → Type 0
 IsLineOf line keyword format numbers =
     (words : List (List ℕ)) × AllZip IsNumber words numbers × (line ≡ join_with_byte 32 (keyword ∷ format_word format ∷ words))

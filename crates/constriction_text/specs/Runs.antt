@@ -1,6 +1,6 @@
 -- What a run reads and writes.
-use Rattle.std.specs.Prelude.{ℕ, ◌≡◌, List, ◌∷◌, ◌++◌, Option}
-use Rattle.std.specs.Io.KnownBytes.{Appends, Consumes}
+use Rattle.std.specs.Prelude.{ℕ, ◌≡◌, ◌≤◌, List, ◌∷◌, ◌++◌, length, Option}
+use Rattle.std.specs.Io.KnownBytes.{Appends, Consumes, IsAtEnd}
 use Rattle.constriction_text.specs.declared.fault.RunFault.{RunFault}
 use Rattle.constriction_text.specs.declared.fault.RunFault.TheVariants.{Read, Write, TooLong, OutOfMemory}
 use Rattle.constriction_text.specs.Text.{AreAnswers, lines_of}
@@ -19,6 +19,10 @@ status_of OutOfMemory = 3
 -- some bytes were read, and P holds of them
 abbrev pub HasRead : Option (List ℕ) → Option (List ℕ) → (List ℕ → Type 0) → Type 0
 HasRead old new P = (input : List ℕ) × Consumes old new input × P input
+
+-- all that the reader had was read, no more than the limit, and P holds of it
+abbrev pub HasReadAll : Option (List ℕ) → Option (List ℕ) → (List ℕ → Type 0) → Type 0
+HasReadAll old new P = HasRead old new (λ input. IsAtEnd new × (length input ≤ limit) × P input)
 
 -- a beginning of a text was written, and nothing else
 abbrev pub WritesBeginning : Option (List ℕ) → Option (List ℕ) → List ℕ → Type 0

@@ -28,8 +28,7 @@ row_text row = decimal row.symbol ++ codes " " ++ decimal row.left ++ codes " " 
 abbrev pub rows_text : List (Row ℕ) → List ℕ
 rows_text rows = flat_map row_text rows
 
--- the line of the row that holds a quantile below 2 ^ precision; if the rows tile, there is one, by the law
--- `each_quantile_in_range_has_a_row`
+-- the line of the row that holds a quantile below 2 ^ precision; if the rows tile, there is one
 abbrev pub quantile_text : ℕ → List (Row ℕ) → ℕ → List ℕ
 quantile_text precision rows q =
     if nat_lt q (2 ^ precision) then option_map_or row_text (find (holds q) rows) [] else codes "range\n"
@@ -40,18 +39,18 @@ symbol_text rows s =
     option_map_or (λ entry. row_text (record { symbol = s; left = entry.0; weight = entry.1 }))
     (entry_of nat_eq rows s) (codes "none\n")
 
--- the lines of a uniform model of n symbols, if n is at least 2 and at most the number of quantiles
+-- the lines of a uniform model of n symbols, if there is one
 abbrev pub uniform_text : ℕ → ℕ → List ℕ
 uniform_text precision n =
     if nat_le 2 n && nat_le n (2 ^ precision) then rows_text (uniform_rows precision n) else codes "range\n"
 
--- the text is that of the rows of these weights if they are accepted, and otherwise says that they are invalid
+-- the text is that of the rows of these weights, or says that they are invalid
 abbrev pub IsTextOfModel : Format → List ℕ → (List (Row ℕ) → List ℕ) → List ℕ → Type 0
 IsTextOfModel format weights text_of_rows text =
     (IsAccepted (bits_of format) (precision_of format) weights × (text ≡ text_of_rows (contiguous_rows weights)))
     ⊎ (¬ (IsAccepted (bits_of format) (precision_of format) weights) × (text ≡ codes "invalid\n"))
 
--- the text answers the request; only `infer` infers the last weight
+-- the text answers the request
 abbrev pub Answers : Request → List ℕ → Type 0
 Answers (table format weights) = IsTextOfModel format weights rows_text
 Answers (infer format weights) = IsTextOfModel format (completed (precision_of format) true weights) rows_text
@@ -59,7 +58,7 @@ Answers (quantile format q weights) = IsTextOfModel format weights (λ rows. qua
 Answers (symbol format s weights) = IsTextOfModel format weights (λ rows. symbol_text rows s)
 Answers (uniform format n) = λ text. text ≡ uniform_text (precision_of format) n
 
--- the text answers the request that the line spells, or the line spells none and the text says so
+-- the text answers the line
 abbrev pub IsAnswer : List ℕ → List ℕ → Type 0
 IsAnswer line text =
     ((request : Request) × Spells line request × Answers request text)

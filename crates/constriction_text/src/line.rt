@@ -29,7 +29,7 @@ pub enum Command {
         format: Format,
         weights: Vec<u64>,
     },
-    /// `infer FORMAT W..`: all rows of the weights and of one more weight, the remainder.
+    /// `infer FORMAT W..`: all rows of the weights and of the remainder.
     Infer {
         format: Format,
         weights: Vec<u64>,
@@ -94,7 +94,7 @@ const SPACE: u8 = b' ';
 /// The most digits of a number.
 const DIGITS: usize = 20;
 
-/// The number that a word spells, if it is one to twenty decimal digits and the number is below `2^64`. Zeros may lead it.
+/// The number that a word of one to twenty digits spells, if it is below `2^64`. Zeros may lead it.
 #[tactic(auto, unfolding(crate::specs::private::Reading::read_number))]
 pub fn parse_number(word: &[u8]) -> Option<u64>
     ensures { result ≡ read_number word.now }
@@ -251,16 +251,11 @@ fn parse_line(alloc: Global, line: &[u8]) -> Result<Option<Command>, AllocError>
     }
 }
 
-/// What a line asks for, or `None` if it spells no request.
+/// What a line asks for. The line is given without the byte 10 that ends it.
 ///
-/// The line is given without the byte 10 that ends it. A single space stands between two words, and
-/// a number is one to twenty decimal digits with a value below `2^64`; zeros may lead it. The words
-/// are read once, from left to right, and only the numbers take memory.
+/// The words are read once, from left to right, and only the numbers take memory.
 pub fn parse(alloc: Global, line: &[u8]) -> Result<Option<Command>, AllocError>
-    // The line spells what is found.
     ensures found { IfOk result (λ found. IfSome found (λ command. Spells line.now (view command))) }
-
-    // Nothing is found only if the line spells no request.
     ensures none { IfOk result (λ found. IfNone found ((request : Request) → ¬ (Spells line.now request))) }
 {
     parse_line(alloc, line)

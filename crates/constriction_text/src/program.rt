@@ -3,7 +3,7 @@
 ghost use Rattle.std.specs.Prelude.{◌≡◌, ◌≢◌, ◌<◌, ◌≤◌, ◌+◌, ◌++◌, ◌∷◌, ◌⊎◌, ℕ, List, Err, length};
 ghost use Rattle.std.specs.Prelude.{IfOk, IfErr, OnOk, OnErr, string_bytes};
 ghost use Rattle.std.specs.Io.KnownBytes.{Appends, Consumes, IsAtEnd, Keeps};
-ghost use Rattle.constriction_text.specs.Runs.{limit, HasRead, WritesBeginning, WritesAnswersBefore};
+ghost use Rattle.constriction_text.specs.Runs.{limit, HasRead, HasReadAll, WritesBeginning, WritesAnswersBefore};
 ghost use Rattle.constriction_text.specs.private.Collecting.{WritesFront};
 ghost use Rattle.constriction_text.specs.private.Answering.{answer_to};
 ghost use Rattle.constriction_text.specs.Text.{IsTextOf, lines_of};
@@ -52,10 +52,7 @@ fn read_turn<R: Read>(
     }
 }
 
-/// Reads to the end, or to one byte past the limit of 1,048,576 bytes.
-///
-/// It fails with `TooLong` if there are more bytes than the limit. After an error the reader is not called
-/// again.
+/// Reads to the end, or to one byte past the limit. After an error the reader is not called again.
 pub fn read_input<R: Read>(alloc: Global, reader: &mut R) -> Result<Vec<u8>, RunFault>
     ensures ok { IfOk result (λ input. (length input.items ≤ limit) × IsAtEnd (R.remaining reader.new)
         × Consumes (R.remaining reader.old) (R.remaining reader.new) input.items) }
@@ -77,9 +74,6 @@ pub fn read_input<R: Read>(alloc: Global, reader: &mut R) -> Result<Vec<u8>, Run
 }
 
 /// Writes all of the bytes, in as many calls as the writer needs.
-///
-/// It fails with `Write` if the writer answers an error or takes no byte; a beginning of the bytes was then
-/// written.
 pub fn write_whole<W: Write>(writer: &mut W, bytes: &[u8]) -> Result<(), RunFault>
     ensures ok { OnOk result (Appends (W.contents writer.old) (W.contents writer.new) bytes.now) }
     ensures err { OnErr result (WritesBeginning (W.contents writer.old) (W.contents writer.new) bytes.now) }
@@ -186,34 +180,20 @@ fn write_answers<W: Write>(alloc: Global, input: &[u8], writer: &mut W) -> Resul
 
 /// Reads an input to its end, and writes the answers to its lines.
 ///
-/// The writer is not flushed: give one that holds nothing back. An input has at most 1,048,576
-/// bytes; of a longer one, at most one byte more is read. After the reader or the writer answered an
-/// error, neither is called again.
+/// The writer is not flushed: give one that holds nothing back. After the reader or the writer answered
+/// an error, neither is called again.
 pub fn run<R: Read, W: Write>(alloc: Global, reader: &mut R, writer: &mut W) -> Result<(), RunFault>
-    // All that the reader had was read, and its text was written.
-    ensures ok { OnOk result (HasRead (R.remaining reader.old) (R.remaining reader.new) (λ input.
-        IsAtEnd (R.remaining reader.new) × (length input ≤ limit)
-        × ((text : List ℕ) × IsTextOf input text × Appends (W.contents writer.old) (W.contents writer.new) text))) }
-
+    ensures ok { OnOk result (HasReadAll (R.remaining reader.old) (R.remaining reader.new) (λ input.
+        (text : List ℕ) × IsTextOf input text × Appends (W.contents writer.old) (W.contents writer.new) text)) }
     ensures too_long { result ≡ Err RunFault.TooLong →
         HasRead (R.remaining reader.old) (R.remaining reader.new) (λ input. limit < length input) }
-
-    // Nothing is written before the input is read to its end.
     ensures nothing_written { IfErr result (λ fault. (fault ≡ RunFault.Read) ⊎ (fault ≡ RunFault.TooLong) →
         Keeps (W.contents writer.old) (W.contents writer.new)) }
-
-    // Nothing was written; or all that the reader had was read, and the answers to the lines before one were written, each whole.
     ensures out_of_memory { result ≡ Err RunFault.OutOfMemory → Keeps (W.contents writer.old) (W.contents writer.new)
-        ⊎ HasRead (R.remaining reader.old) (R.remaining reader.new) (λ input.
-        IsAtEnd (R.remaining reader.new) × (length input ≤ limit)
-        × WritesAnswersBefore (W.contents writer.old) (W.contents writer.new) input) }
-
-    // All that the reader had was read, and a beginning of its text was written.
-    ensures write { result ≡ Err RunFault.Write → HasRead (R.remaining reader.old) (R.remaining reader.new) (λ input.
-        IsAtEnd (R.remaining reader.new) × (length input ≤ limit)
-        × ((written rest : List ℕ) × IsTextOf input (written ++ rest) × Appends (W.contents writer.old) (W.contents writer.new) written)) }
-
-    // At most one byte past the limit is read.
+        ⊎ HasReadAll (R.remaining reader.old) (R.remaining reader.new)
+        (WritesAnswersBefore (W.contents writer.old) (W.contents writer.new)) }
+    ensures write { result ≡ Err RunFault.Write → HasReadAll (R.remaining reader.old) (R.remaining reader.new) (λ input.
+        (written rest : List ℕ) × IsTextOf input (written ++ rest) × Appends (W.contents writer.old) (W.contents writer.new) written) }
     ensures taken { HasRead (R.remaining reader.old) (R.remaining reader.new) (λ input. length input ≤ limit + 1) }
 {
     let input = read_input(alloc, reader)?;
