@@ -5,7 +5,7 @@ use Rattle.std.proofs.Math.Seq.{take-append_seam, drop-append_seam}
 use Rattle.constriction_words.specs.declared.coder_error.CoderError.TheVariants.{Frontend, Backend}
 use Rattle.constriction_buffers.specs.declared.buf.SafeBuf.{Ghosts}
 use Rattle.constriction_backends.specs.declared.cursor.Cursor.{Cursor}
-use Rattle.constriction_backends.specs.Cursor.{buf_of, state_of, WritesTo}
+use Rattle.constriction_backends.specs.Cursor.{state_of, OverwritesAll, WritesTo}
 use Rattle.constriction_backends.specs.CursorState.{QueueReads}
 use Rattle.constriction_backends.specs.Sink.{Writes}
 use Rattle.constriction_backends.specs.Source.{Reads}
@@ -27,15 +27,12 @@ module _ {Word Buf Error : Type 0} {g : Ghosts Buf Word} (with_words : Buf → L
 
   module _ {Symbol : Type 0} (entry : Symbol → Option (ℕ × ℕ)) (whole : Word → ℕ) (tells : Cursor Word Buf g → List Word → Type 0)
       (law : (c : Cursor Word Buf g) (words : List Word) (t : Cursor Word Buf g) → Writes gives_write c words t
-      → ((state_of t).before ≡ (state_of c).before ++ words)
-      × ((state_of t).after ≡ drop (length words) (state_of c).after)
-      × (buf_of t ≡ with_words (buf_of c) (g.words_of (buf_of t))))
+      → OverwritesAll with_words c words t)
       (c : Cursor Word Buf g) where
     pub items-placed : (items : List (Symbol × Word)) (t : Cursor Word Buf g)
         → WritesItems entry whole gives_write tells items c t → PlacesItems entry whole with_words c items t
     items-placed items t wrote =
-        let over = law c wrote.words t wrote.written in
-        record { words = wrote.words; quantiles = wrote.quantiles; before = over.0; after = over.1; buf = over.2 }
+        record { words = wrote.words; quantiles = wrote.quantiles; overwrote = law c wrote.words t wrote.written }
 
     pub fault-placed : (items : List (Symbol × Word)) (t : Cursor Word Buf g) (fault : QuantileFault)
         → StopsAtItem entry whole gives_write tells items c (Frontend fault) t
@@ -105,7 +102,7 @@ module _ {Symbol Word Buf : Type 0} {g : Ghosts Buf Word} (entry : Symbol → Op
         → c.pos ≤ length (g.words_of j.buf)
     in-range keeps_length =
         let long : length (g.words_of j.buf) ≡ length (g.words_of c.buf) =
-        ap (λ b. length (g.words_of b)) placed.buf ∙ keeps_length c.buf (g.words_of j.buf) in
+        ap (λ b. length (g.words_of b)) placed.overwrote.2 ∙ keeps_length c.buf (g.words_of j.buf) in
         let stood : c.pos ≤ length (g.words_of c.buf) = c.in_range in
         omega arith
 
@@ -118,8 +115,8 @@ module _ {Symbol Word Buf : Type 0} {g : Ghosts Buf Word} (entry : Symbol → Op
         let rest : List Word = words ++ drop (length words) (state_of c).after in
         let joined : g.words_of t.buf ≡ (state_of c).before ++ rest =
         ap g.words_of buf ∙ sym (take-append-drop j.pos (g.words_of j.buf))
-        ∙ ap (λ ws. ws ++ (state_of j).after) placed.before
-        ∙ ap (λ ws. ((state_of c).before ++ words) ++ ws) placed.after
+        ∙ ap (λ ws. ws ++ (state_of j).after) placed.overwrote.0
+        ∙ ap (λ ws. ((state_of c).before ++ words) ++ ws) placed.overwrote.1
         ∙ append_assoc (state_of c).before words (drop (length words) (state_of c).after) in
         let long : t.pos ≡ length (state_of c).before = pos ∙ sym (length-take-le c.pos (g.words_of c.buf) c.in_range) in (
           ap (λ n. take n (g.words_of t.buf)) long ∙ ap (take (length (state_of c).before)) joined
@@ -139,9 +136,11 @@ module _ {Symbol Word Buf : Type 0} {g : Ghosts Buf Word} (entry : Symbol → Op
       record {
         words = words;
         quantiles = placed.quantiles;
-        before = on.0 ∙ ap (λ xs. xs ++ words) at.0;
-        after = same-back words (state_of t).after (drop (length words) (state_of c).after) (sym on.1 ∙ at.1);
-        buf = same ∙ placed.buf ∙ ap (λ b. with_words c.buf (g.words_of b)) (sym same);
+        overwrote = (
+          on.0 ∙ ap (λ xs. xs ++ words) at.0,
+          same-back words (state_of t).after (drop (length words) (state_of c).after) (sym on.1 ∙ at.1),
+          same ∙ placed.overwrote.2 ∙ ap (λ b. with_words c.buf (g.words_of b)) (sym same),
+        );
       }
 
   -- if a cursor wrote words and was sought back, these are the next ones to come

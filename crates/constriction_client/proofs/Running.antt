@@ -3,9 +3,10 @@ use Rattle.std.specs.Prelude.{◌≡◌, ◌↔◌, ◌<◌, ℕ, ◌+◌, Bool,
 use Rattle.std.proofs.Common.{refl, sym, ◌∙◌, ap, subst, arith, get_or, length-append}
 use Rattle.std.proofs.lemmas.List.{take_more, same_from_push}
 use Rattle.std.proofs.Math.Seq.{take-append_seam, drop-append_seam}
-use Rattle.constriction_backends.specs.CursorState.{State, reversal, StackReads, QueueReads, Overwrites}
+use Rattle.constriction_backends.specs.CursorState.{State, reversal}
 use Rattle.constriction_backends.proofs.CursorRunLaws.{reversal-twice}
-use Rattle.constriction_client.specs.CursorCalls.{words, found, done, Seeks, RepliesTo, Runs}
+use Rattle.constriction_client.proofs.Stepping.{words}
+use Rattle.constriction_client.specs.CursorCalls.{RepliesTo, Runs}
 use Rattle.constriction_client.specs.declared.cursor_calls.CursorCall.{CursorCall}
 use Rattle.constriction_client.specs.declared.cursor_calls.CursorCall.TheVariants as call
 use Rattle.constriction_client.specs.declared.cursor_calls.CursorReply.{CursorReply}
@@ -37,8 +38,8 @@ module _ {W : Type 0} where
   same-state : (s t : State W) → t.before ≡ s.before → t.after ≡ s.after → t ≡ s
   same-state s t before after = λ i. record { before = before i; after = after i }
 
-  stack-once : (s : State W) (o p : Option W) (t u : State W) → StackReads s (found o) t
-      → StackReads s (found p) u → (p ≡ o) × (u ≡ t)
+  stack-once : (s : State W) (o p : Option W) (t u : State W) → RepliesTo s call.StackRead (reply.Word o) t
+      → RepliesTo s call.StackRead (reply.Word p) u → (p ≡ o) × (u ≡ t)
   stack-once s None None t u h k = (refl, k.1 ∙ sym h.1)
   stack-once s None (Some v) t u h k = absurd (omega (arith, ap length h.0, ap length k.0, length-append u.before (v ∷ [])))
   stack-once s (Some w) None t u h k = absurd (omega (arith, ap length k.0, ap length h.0, length-append t.before (w ∷ [])))
@@ -50,8 +51,8 @@ module _ {W : Type 0} where
   same-parts : (v w : W) (vs ws : List W) → v ∷ vs ≡ w ∷ ws → (v ≡ w) × (vs ≡ ws)
   same-parts v w vs ws e = (cc, cc)
 
-  queue-once : (s : State W) (o p : Option W) (t u : State W) → QueueReads s (found o) t
-      → QueueReads s (found p) u → (p ≡ o) × (u ≡ t)
+  queue-once : (s : State W) (o p : Option W) (t u : State W) → RepliesTo s call.QueueRead (reply.Word o) t
+      → RepliesTo s call.QueueRead (reply.Word p) u → (p ≡ o) × (u ≡ t)
   queue-once s None None t u h k = (refl, k.1 ∙ sym h.1)
   queue-once s None (Some v) t u h k = absurd (omega (arith, ap length h.0, ap length k.0))
   queue-once s (Some w) None t u h k = absurd (omega (arith, ap length k.0, ap length h.0))
@@ -59,12 +60,13 @@ module _ {W : Type 0} where
       let one = same-parts v w u.after t.after (sym k.0 ∙ h.0) in
       (ap Some one.0, same-state t u (k.1 ∙ ap (λ x. s.before ++ x ∷ []) one.0 ∙ sym h.1) one.1)
 
-  written-once : (s : State W) (w : W) (t u : State W) → Overwrites s w done t → Overwrites s w done u
-      → u ≡ t
+  written-once : (s : State W) (w : W) (t u : State W) → RepliesTo s (call.Write w) reply.Written t
+      → RepliesTo s (call.Write w) reply.Written u → u ≡ t
   written-once s w t u h k =
       same-state t u (k.0 ∙ sym h.0) (same-parts k.1.0 h.1.0 u.after t.after (sym k.1.1 ∙ h.1.1)).1
 
-  moved-once : (s : State W) (q : ℕ) (t u : State W) → Seeks s q done t → Seeks s q done u → u ≡ t
+  moved-once : (s : State W) (q : ℕ) (t u : State W) → RepliesTo s (call.Seek q) reply.Moved t
+      → RepliesTo s (call.Seek q) reply.Moved u → u ≡ t
   moved-once s q t u h k =
       let long : length u.before ≡ length t.before = k.1 ∙ sym h.1 in
       let all : words u ≡ words t = k.0 ∙ sym h.0 in

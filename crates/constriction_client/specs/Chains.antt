@@ -18,15 +18,13 @@ is_lookup_after before ToLookup = true
 is_lookup_after before Rebuild = before
 is_lookup_after before _ = false
 
--- a step leaves these rows of others: the same rows if it keeps the form's entries, or rows with clones of the symbols if it makes the form
--- anew
+-- a step leaves these rows of others, with clones of their symbols if it makes the form anew
 abbrev pub StepLeaves : {Symbol : Type 0} → (Symbol → Symbol → Type 0) → ChainStep → List (Row Symbol) → List (Row Symbol) → Type 0
 StepLeaves IsClone IntoSearch rows made = made ≡ rows
 StepLeaves IsClone _ rows made = StandForRows IsClone made rows
 
 -- steps in a row leave these rows of others
-abbrev pub ChainLeaves : {Symbol : Type 0} → (Symbol → Symbol → Type 0) → List ChainStep → List (Row Symbol) → List (Row Symbol)
-    → Type 0
+abbrev pub ChainLeaves : {Symbol : Type 0} → (Symbol → Symbol → Type 0) → List ChainStep → List (Row Symbol) → List (Row Symbol) → Type 0
 ChainLeaves IsClone [] rows made = made ≡ rows
 ChainLeaves {Symbol} IsClone (step ∷ steps) rows made =
     (between : List (Row Symbol)) × StepLeaves IsClone step rows between × ChainLeaves IsClone steps between made

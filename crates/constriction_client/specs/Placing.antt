@@ -1,32 +1,25 @@
 -- Items that are written to a cursor from its position on: which places their quantiles take, and what stands elsewhere.
-use Rattle.std.specs.Prelude.{◌≡◌, ℕ, List, [], ◌++◌, length, drop, Option}
+-- `with_words b ws` is the buffer b with the words ws in it, `entry` gives the entry of each symbol, and `whole` the number of each word.
+use Rattle.std.specs.Prelude.{◌≡◌, ℕ, List, [], Option}
 use Rattle.constriction_words.specs.declared.coder_error.CoderError.{CoderError}
 use Rattle.constriction_words.specs.declared.coder_error.CoderError.TheVariants.{Frontend, Backend}
 use Rattle.constriction_words.specs.declared.read_write_error.ReadWriteError.{ReadWriteError}
 use Rattle.constriction_words.specs.declared.read_write_error.ReadWriteError.TheVariants.{Read, Write}
 use Rattle.constriction_buffers.specs.declared.buf.SafeBuf.{Ghosts}
 use Rattle.constriction_backends.specs.declared.cursor.Cursor.{Cursor}
-use Rattle.constriction_backends.specs.Cursor.{buf_of, state_of}
+use Rattle.constriction_backends.specs.Cursor.{buf_of, state_of, OverwritesAll}
 use Rattle.constriction_client.specs.declared.quantiles.QuantileFault.{QuantileFault}
 use Rattle.constriction_client.specs.Quantiles.{IsQuantileOf, IsFaultOf, AreQuantiles, StopsAt}
 
--- Below, `with_words b ws` is the buffer b with the words ws in it, `entry` gives the entry of each symbol, and `whole` the
--- number of each word.
-
 module _ {Symbol Word Buf : Type 0} {g : Ghosts Buf Word} (entry : Symbol → Option (ℕ × ℕ)) (whole : Word → ℕ)
     (with_words : Buf → List Word → Buf) (c : Cursor Word Buf g) where
-  -- The quantiles of the items overwrote as many words from the position of the cursor c on, and t stands after them. All other words are
-  -- as in c, and the buffer is that of c with other words.
+  -- the quantiles of the items overwrote as many words from the position of the cursor c on, and t stands after them
   pub record PlacesItems (items : List (Symbol × Word)) (t : Cursor Word Buf g) : Type 0 where
     pub words : List Word
     pub quantiles : AreQuantiles entry whole items words
-    pub before : (state_of t).before ≡ (state_of c).before ++ words
-    pub after : (state_of t).after ≡ drop (length words) (state_of c).after
-    pub buf : buf_of t ≡ with_words (buf_of c) (g.words_of (buf_of t))
+    pub overwrote : OverwritesAll with_words c words t
 
-  -- What a fault leaves. At an item that has no quantile, the items before it were placed. At an item whose quantile found no
-  -- place, the items before it were placed, and no place is left. If memory was refused while the words were read, all items
-  -- were placed, and nothing is known of the position.
+  -- What a fault leaves. If memory was refused while the words were read, nothing is known of the position.
   abbrev pub EndsPlacing : {ReadError WriteError : Type 0} → List (Symbol × Word)
       → CoderError QuantileFault (ReadWriteError ReadError WriteError) → Cursor Word Buf g → Type 0
   EndsPlacing items (Frontend fault) t = StopsAt items (λ before item. PlacesItems before t × IsFaultOf entry whole item fault)

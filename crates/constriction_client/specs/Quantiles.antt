@@ -1,13 +1,13 @@
 -- Items as quantiles, and words as pairs. An item is a symbol and an offset: the place of its quantile among those of
 -- the symbol.
-use Rattle.std.specs.Prelude.{◌≡◌, ◌≢◌, ℕ, ◌+◌, ◌^◌, ◌<◌, ◌≤◌, ◌⊎◌, List, [], ◌∷◌, ◌++◌, length, All, Option, Some, None, Result, Ok, Err}
+use Rattle.std.specs.Prelude.{◌≡◌, ◌≢◌, ℕ, ◌+◌, ◌^◌, ◌<◌, ◌≤◌, ◌⊎◌, List, [], ◌∷◌, ◌++◌, length, Option, Some, None, Result, Ok, Err}
 use Rattle.std.specs.List.{AllZip}
 use Rattle.constriction_words.specs.declared.coder_error.CoderError.{CoderError}
 use Rattle.constriction_words.specs.declared.coder_error.CoderError.TheVariants.{Frontend, Backend}
 use Rattle.constriction_backends.specs.Sink.{Writes}
 use Rattle.constriction_backends.specs.Source.{Reads}
+use Rattle.constriction_backends.specs.declared.ReadWords as source
 use Rattle.constriction.specs.Laws.{IsQuantileAt}
-use Rattle.constriction.specs.Model.{RowMayBeRefused}
 use Rattle.constriction.specs.Rows.{Row, IsRowOf}
 use Rattle.constriction_client.specs.declared.quantiles.QuantileFault.{QuantileFault}
 use Rattle.constriction_client.specs.declared.quantiles.QuantileFault.TheVariants.{ImpossibleSymbol, OffsetTooLarge}
@@ -25,11 +25,11 @@ pub record StopsAt {Item : Type 0} (items : List Item) (IsSuch : List Item → I
   pub is_such : IsSuch before item
 
 module _ {Symbol Word : Type 0} (entry : Symbol → Option (ℕ × ℕ)) (whole : Word → ℕ) where
-  -- q is the quantile of the item: the left cumulative of its symbol plus its offset, which is below the symbol's weight
+  -- q is the quantile of the item
   abbrev pub IsQuantileOf : Symbol × Word → ℕ → Type 0
   IsQuantileOf item q = IsQuantileAt entry item.0 (whole item.1) q
 
-  -- this is why an item has no quantile: its symbol has no entry, or the offset is not below the weight
+  -- this is why an item has no quantile
   abbrev pub IsFaultOf : Symbol × Word → QuantileFault → Type 0
   IsFaultOf item ImpossibleSymbol = entry item.0 ≡ None
   IsFaultOf item OffsetTooLarge = (left weight : ℕ) × (entry item.0 ≡ Some (left, weight)) × (weight ≤ whole item.1)
@@ -39,21 +39,19 @@ module _ {Symbol Word : Type 0} (entry : Symbol → Option (ℕ × ℕ)) (whole 
   AreQuantiles items words = AllZip (λ item word. IsQuantileOf item (whole word)) items words
 
   module _ {Sink Error : Type 0} (gives : Sink → Word → Result (Unit {0}) Error → Sink → Type 0) where
-    -- The quantiles of the items were written in order, which leads from s to t. If s tells words, t tells them and
-    -- then these.
+    -- The quantiles of the items were written in order, which leads from s to t. If s tells words, t tells them and then these.
     pub record WritesItems (tells : Sink → List Word → Type 0) (items : List (Symbol × Word)) (s t : Sink) : Type 0 where
       pub words : List Word
       pub quantiles : AreQuantiles items words
       pub written : Writes gives s words t
       pub known : (old : List Word) → tells s old → tells t (old ++ words)
 
-    -- The item was refused, which leads from s to t: it has no quantile, and t is s, or the sink refused its quantile.
+    -- the item was refused, which leads from s to t: it has no quantile, or the sink refused it
     abbrev pub RefusesItem : Symbol × Word → Sink → CoderError QuantileFault Error → Sink → Type 0
     RefusesItem item s (Frontend fault) t = IsFaultOf item fault × (t ≡ s)
     RefusesItem item s (Backend e) t = (word : Word) × IsQuantileOf item (whole word) × gives s word (Err e) t
 
-    -- The quantiles of the items before one were written, and that item was refused. If s tells words, t tells them
-    -- and then these.
+    -- the quantiles of the items before one were written, and that item was refused
     abbrev pub StopsAtItem : (Sink → List Word → Type 0) → List (Symbol × Word) → Sink → CoderError QuantileFault Error → Sink → Type 0
     StopsAtItem tells items s fault t =
         StopsAt items (λ before item. (reached : Sink) × (wrote : WritesItems tells before s reached) × RefusesItem item reached fault t
@@ -72,42 +70,43 @@ module _ {Symbol Word : Type 0} (Stands : Symbol → Symbol → Type 0) (rows : 
   abbrev pub ArePairs : List Word → List (Symbol × Word) → Type 0
   ArePairs words pairs = AllZip IsPairOf words pairs
 
--- this is why a word q gave no pair: memory for the pair was refused, as it may be, or the word is no quantile
-abbrev pub IsReadFaultOf : ℕ → (ℕ → Type 0) → ℕ → ReadFault → Type 0
-IsReadFaultOf precision MayLackMemory q OutOfMemory = (q < 2 ^ precision) × MayLackMemory q
-IsReadFaultOf precision MayLackMemory q QuantileTooLarge = 2 ^ precision ≤ q
+  -- A word gives its pair, or memory for that was refused, as it may be. A word that is no quantile is too large.
+  abbrev pub GivesPair : ℕ → (ℕ → Type 0) → Word → Result (Symbol × Word) ReadFault → Type 0
+  GivesPair precision MayLackMemory word (Ok pair) = (whole word < 2 ^ precision) × IsPairOf word pair
+  GivesPair precision MayLackMemory word (Err OutOfMemory) = (whole word < 2 ^ precision) × MayLackMemory (whole word)
+  GivesPair precision MayLackMemory word (Err QuantileTooLarge) = 2 ^ precision ≤ whole word
 
-module _ {Word Source Error : Type 0} (precision : ℕ) (MayLackMemory : ℕ → Type 0) (whole : Word → ℕ)
-    (gives : Source → Result (Option Word) Error → Source → Type 0) (count : ℕ) where
-  -- Reading ends so after n pairs, which leads from s to t, and takes the words `more` after those of the pairs. It ends with as many
-  -- pairs as were asked for, or with fewer: because the source ended, at a word that gives no pair, or because a read failed.
-  abbrev pub EndsReading : ℕ → Source → Result ℕ (CoderError ReadFault Error) → List Word → Source → Type 0
-  EndsReading n s (Ok k) more t = (k ≡ n) × (more ≡ []) × (((n ≡ count) × (t ≡ s)) ⊎ ((n < count) × gives s (Ok None) t))
-  EndsReading n s (Err (Frontend fault)) more t =
-      (word : Word) × (n < count) × (more ≡ word ∷ []) × gives s (Ok (Some word)) t × IsReadFaultOf precision MayLackMemory (whole word) fault
-  EndsReading n s (Err (Backend e)) more t = (n < count) × (more ≡ []) × gives s (Err e) t
+module _ {Word Pair Order Source Error : Type 0} (reads : source.Ghosts Source Word Order Error)
+    (Gives : Word → Result Pair ReadFault → Type 0) where
+  -- Words were read in order, which leads from s to t, and the pair that each word gives was put after the old pairs.
+  pub record AddsPairs (s : Source) (old : List Pair) (t : Source) (new : List Pair) : Type 0 where
+    pub words : List Word
+    pub pairs : List Pair
+    pub of_words : AllZip (λ word pair. Gives word (Ok pair)) words pairs
+    pub added : new ≡ old ++ pairs
+    pub read : Reads reads.read_gives s words t
 
--- the words `rest` are still to come after that: none if the source ended, and at least one if a read failed
-abbrev pub LeavesWords : {Word Error : Type 0} → ℕ → Result ℕ (CoderError ReadFault Error) → List Word → Type 0
-LeavesWords count (Ok n) rest = n < count → rest ≡ []
-LeavesWords count (Err (Frontend fault)) rest = Unit {0}
-LeavesWords count (Err (Backend e)) rest = rest ≢ []
+  module _ (count : ℕ) where
+    -- Reading ends so after n pairs, which leads from s to t, and takes the words `more` after those of the pairs. There are as many pairs
+    -- as were asked for, or the source ended, a word gives no pair, or a read failed.
+    abbrev pub EndsReading : ℕ → Source → Result ℕ (CoderError ReadFault Error) → List Word → Source → Type 0
+    EndsReading n s (Ok k) more t = (k ≡ n) × (more ≡ []) × (((n ≡ count) × (t ≡ s)) ⊎ ((n < count) × reads.read_gives s (Ok None) t))
+    EndsReading n s (Err (Frontend fault)) more t =
+        (word : Word) × (n < count) × (more ≡ word ∷ []) × reads.read_gives s (Ok (Some word)) t × Gives word (Err fault)
+    EndsReading n s (Err (Backend e)) more t = (n < count) × (more ≡ []) × reads.read_gives s (Err e) t
 
--- Words were read in order, and their pairs were put after the old ones. If s tells upcoming words, t tells those that are left. Memory
--- for a pair was refused only if the model may refuse its row, by `MayRefuse`, or if the list of pairs fills its capacity.
-pub record ReadsPairs {Symbol Word Source Error : Type 0} (Stands : Symbol → Symbol → Type 0) (MayRefuse : Symbol → Type 0) (precision : ℕ)
-    (rows : List (Row Symbol)) (whole : Word → ℕ) (gives : Source → Result (Option Word) Error → Source → Type 0)
-    (tells : Source → List Word → Type 0) (count : ℕ) (s : Source) (old : List (Symbol × Word))
-    (result : Result ℕ (CoderError ReadFault Error)) (t : Source) (new : List (Symbol × Word)) (capacity : ℕ) : Type 0 where
-  pub words : List Word
-  pub pairs : List (Symbol × Word)
-  pub of_words : ArePairs Stands rows whole words pairs
-  pub in_range : All (λ word. whole word < 2 ^ precision) words
-  pub added : new ≡ old ++ pairs
-  pub reached : Source
-  pub read : Reads gives s words reached
-  pub more : List Word
-  pub ended : EndsReading precision (λ q. RowMayBeRefused MayRefuse rows q ⊎ (capacity ≤ length new)) whole gives count (length pairs)
-      reached result more t
-  pub known : (upcoming : List Word) → tells s upcoming
-      → (rest : List Word) × (upcoming ≡ words ++ (more ++ rest)) × tells t rest × LeavesWords count result rest
+    -- the words `rest` are still to come after that
+    abbrev pub LeavesWords : Result ℕ (CoderError ReadFault Error) → List Word → Type 0
+    LeavesWords (Ok n) rest = n < count → rest ≡ []
+    LeavesWords (Err (Frontend fault)) rest = Unit {0}
+    LeavesWords (Err (Backend e)) rest = rest ≢ []
+
+    -- Pairs were added until reading ended. If s tells upcoming words, t tells those that are left.
+    pub record ReadsPairs (s : Source) (old : List Pair) (result : Result ℕ (CoderError ReadFault Error)) (t : Source) (new : List Pair)
+        : Type 0 where
+      pub reached : Source
+      pub adds : AddsPairs s old reached new
+      pub more : List Word
+      pub ended : EndsReading (length adds.pairs) reached result more t
+      pub known : (upcoming : List Word) → reads.tells_upcoming s upcoming
+          → (rest : List Word) × (upcoming ≡ adds.words ++ (more ++ rest)) × reads.tells_upcoming t rest × LeavesWords result rest

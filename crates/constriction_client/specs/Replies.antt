@@ -17,8 +17,7 @@ in_numbers whole base (reply.Row symbol left weight) = reply.Row symbol (whole l
 in_numbers whole base reply.OutOfRange = reply.OutOfRange
 in_numbers whole base (reply.Entry entry) = reply.Entry (option_map (entry_in whole base) entry)
 
--- The reply to a query. For a quantile it is the first row that holds it, or `OutOfRange` if it is not below 2 ^ precision. (If the rows
--- tile, a row holds each quantile below that, by the law `each_quantile_in_range_has_a_row`.) For a symbol it is the symbol's entry.
+-- The reply to a query. If the rows tile, a row holds each quantile below 2 ^ precision, by the law `each_quantile_in_range_has_a_row`.
 abbrev pub reply_to_query : {Symbol Word : Type 0} → ℕ → (Word → ℕ) → List (Row Symbol) → (Symbol → Option (ℕ × ℕ))
     → Query Symbol Word → Reply Symbol ℕ ℕ
 reply_to_query precision whole rows entry (OfQuantile word) =
@@ -32,13 +31,12 @@ abbrev pub replies_by_scan : {Symbol Word : Type 0} → ℕ → (Word → ℕ) �
 replies_by_scan precision whole eq queries rows = map (reply_to_query precision whole rows (entry_of eq rows)) queries
 
 -- A reply stands for that of a scan: the two are the same, except that the symbol of a row in the reply may only stand for the scan's.
--- `Stands row_symbol answered` says that an answered symbol stands for a row's.
 abbrev pub StandsForReply : {Symbol : Type 0} → (Symbol → Symbol → Type 0) → Reply Symbol ℕ ℕ → Reply Symbol ℕ ℕ → Type 0
 StandsForReply {Symbol} Stands (reply.Row symbol left weight) scanned =
     (own : Symbol) × Stands own symbol × (scanned ≡ reply.Row own left weight)
 StandsForReply Stands given scanned = scanned ≡ given
 
--- The replies stand for those of a scan, one by one, and are the same if each symbol that stands for another is that symbol.
+-- the replies stand for those of a scan, one by one
 pub record AreRepliesOf {Symbol : Type 0} (Stands : Symbol → Symbol → Type 0) (scanned replies : List (Reply Symbol ℕ ℕ)) : Type 0 where
   pub stand : AllZip (StandsForReply Stands) replies scanned
   pub exact : ClonesAreSame Stands → replies ≡ scanned

@@ -11,16 +11,14 @@ abbrev pub AreItems : {Symbol Word : Type 0} → (Symbol → Symbol → Bool) �
     → Type 0
 AreItems eq items pairs = AllZip (λ item pair. IsTrue (eq pair.0 item.0) × (pair.1 ≡ item.1)) items pairs
 
--- The pairs stand for the items, one by one: each symbol stands for one that is equal to the item's, and the offsets are the same. If
--- each symbol that stands for another is equal to it, the pairs are the items.
+-- The pairs stand for the items, one by one: each symbol stands for one that is equal to the item's, and the offsets are the same.
 pub record StandForItems {Symbol Word : Type 0} (Stands : Symbol → Symbol → Type 0) (eq : Symbol → Symbol → Bool)
     (items pairs : List (Symbol × Word)) : Type 0 where
   pub stand : AllZip (λ item pair. ((own : Symbol) × IsTrue (eq own item.0) × Stands own pair.0) × (pair.1 ≡ item.1)) items pairs
   pub equal : ClonesAreEqual eq Stands → AreItems eq items pairs
 
--- The words of items, read in rows that tile, give pairs that are the items. The symbols of the pairs are those of the rows. If the words
--- are read in another order, as the last one first, the items come in that order. The entries that wrote the words are those of these
--- rows. Two words of one number are one word. Nothing is required of the equality of symbols, and rows may repeat a symbol.
+-- The words of items, read in an order, give pairs that are the items in that order. Nothing is required of the equality of symbols, and
+-- rows may repeat a symbol.
 abbrev pub ReadsBack : (Symbol Word : Type 0) → (List Word → List Word) → (List (Symbol × Word) → List (Symbol × Word)) → Type 0
 ReadsBack Symbol Word words_in_order items_in_order =
     (eq : Symbol → Symbol → Bool) (entry : Symbol → Option (ℕ × ℕ)) (whole : Word → ℕ) (bits precision : ℕ)

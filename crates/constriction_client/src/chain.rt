@@ -1,11 +1,12 @@
 //! Chains of conversions between the forms of a decoder.
 
-ghost use Rattle.std.specs.Prelude.{◌≡◌, ◌<◌, ◌≤◌, Bool, List, fold, map, true, false, IfOk, IfErr};
+ghost use Rattle.std.specs.Prelude.{◌≡◌, ◌≤◌, Bool, List, fold, map, true, false, IfOk, IfErr};
 ghost use Rattle.std.specs.Iterator.{Drains, IsFinite};
 ghost use Rattle.std.specs.List.{IsDistinct};
 ghost use Rattle.constriction.specs.Acceptance.{AreAccepted};
 ghost use Rattle.constriction.specs.Model.{StandForRows, ClonesAreSame, ClonesAreEqual};
 ghost use Rattle.constriction.specs.ModelRows.{decoder_model_rows};
+ghost use Rattle.constriction.specs.Precision.{IsPrecision};
 ghost use Rattle.constriction.specs.Rows.{Row, rows_of, symbols_of};
 ghost use Rattle.constriction_client.specs.Chains.{is_lookup, is_lookup_after, StepLeaves, ChainLeaves};
 ghost use Rattle.constriction_client.specs.FormRows.{form_rows};
@@ -24,13 +25,12 @@ use std::alloc::{AllocError, Global};
 pub enum ChainStep {
     /// To the form that searches all rows, by `to_generic_decoder_model_of_distinct`.
     ToSearch,
-    /// To the form with a lookup table, by `to_generic_decoder_model_of_distinct` and `into_lookup_decoder_model`.
+    /// To the form with a lookup table, by the same and `into_lookup_decoder_model`.
     ToLookup,
     /// To the form that searches all rows, by `into_non_contiguous_categorical`, which takes no memory. A
     /// form that already searches stays as it is.
     IntoSearch,
-    /// To a form of the same kind, made by `from_distinct_symbols_and_nonzero_fixed_point_probabilities` of
-    /// the symbols and the weights of the rows.
+    /// To a form of the same kind, by `from_distinct_symbols_and_nonzero_fixed_point_probabilities`.
     Rebuild,
 }
 
@@ -85,8 +85,7 @@ fn searching_of<Symbol: Eq + Drop, Probability: WholeNumber, const PRECISION: us
     symbols: Vec<Symbol>,
     weights: Vec<Probability>,
 ) -> Result<Searching<Symbol, Probability, PRECISION>, ModelError>
-    requires positive { 0 < PRECISION }
-    requires fits { PRECISION ≤ Probability.BITS }
+    requires precision { IsPrecision Probability.BITS PRECISION }
     requires accepted { AreAccepted Symbol.eq Probability.BITS PRECISION symbols.items (map Probability.whole weights.items) }
     ensures rows { IfOk result (λ m. decoder_model_rows m ≡ rows_of symbols.items (map Probability.whole weights.items)) }
     ensures refused { IfErr result (λ e. e ≡ ModelError.OutOfMemory) }
@@ -260,16 +259,10 @@ fn convert_by<Symbol, Form: Converts<Symbol> + Drop>(
     Ok(form)
 }
 
-/// Converts a decoder's model by each step in turn. Whatever the steps are, the model keeps its rows, and so
-/// answers alike. A step that makes the model anew clones its symbols, and a clone has to be equal to its
-/// symbol. The last step that is not [`ChainStep::Rebuild`] says which form the model ends in; without one it
-/// keeps the form that it had.
+/// Converts a decoder's model by each step in turn. A step that makes the model anew clones its symbols.
 ///
-/// The only refusal is `OutOfMemory`, if memory for a model, for the lists of a rebuilding or for a clone of
-/// a symbol is refused. The form is then dropped.
-///
-/// At most one more form is in memory at a time; a rebuilding also has a list of symbols and a list of
-/// weights. `PRECISION` is at most 63.
+/// If memory is refused, the form is dropped. At most one more form is in memory at a time; a rebuilding
+/// also has a list of symbols and a list of weights.
 pub fn convert_chain<Symbol: Eq + Clone + Drop, Probability: IndexWord, const PRECISION: usize>(
     alloc: Global,
     form: DecoderForm<Symbol, Probability, PRECISION>,

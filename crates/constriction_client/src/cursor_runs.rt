@@ -149,8 +149,7 @@ pub(crate) fn run_reversed_reserved<Word: Copy + Drop, Buf: SafeBufMut<Word>>(
 /// Runs calls on a cursor, in order, and answers a reply for each. A call that is refused, or that
 /// finds no word, leaves the cursor as it is, and the run goes on.
 ///
-/// Memory for the replies is asked for once, before the first call. If it is refused, no call was
-/// made. Of the buffer only its words change.
+/// Memory for the replies is asked for once, before the first call.
 pub fn run_cursor<Word: Copy + Drop, Buf: SafeBufMut<Word>>(
     alloc: Global,
     cursor: &mut Cursor<Word, Buf>,
@@ -165,11 +164,8 @@ pub fn run_cursor<Word: Copy + Drop, Buf: SafeBufMut<Word>>(
 }
 
 /// As [`run_cursor`], on a cursor that was turned round, as by `into_reversed`. It replies as the
-/// unreversed cursor would, and ends in the reversal of the state in which that cursor would end.
-///
-/// Positions are counted on the unreversed side. The reply to `Position` is the number of words less
-/// the inner position. `Seek(position)` moves to the number of words less `position`, or replies
-/// `NotMoved` if there are fewer words than `position`.
+/// unreversed cursor would. Positions are counted on the unreversed side: each is the number of words
+/// less the inner position.
 pub fn run_reversed<Word: Copy + Drop, Buf: SafeBufMut<Word>>(
     alloc: Global,
     reversed: &mut Reverse<Cursor<Word, Buf>>,

@@ -26,7 +26,7 @@ pub(crate) type Tabled<Symbol, Probability, const PRECISION: usize> =
         PRECISION,
     >;
 
-/// A model in one of two forms. It has the rows of the model in it, and answers as that does.
+/// A model in one of two forms.
 #[derive(Debug, Drop)]
 pub enum SearchOrLookup<Searching, Tabled> {
     /// It searches all rows.
@@ -35,7 +35,7 @@ pub enum SearchOrLookup<Searching, Tabled> {
     Lookup(Tabled),
 }
 
-/// A decoder's model over any symbols, in one of two forms. No two of its symbols are equal.
+/// A decoder's model over any symbols, in one of two forms.
 pub type DecoderForm<Symbol, Probability, const PRECISION: usize> = SearchOrLookup<
     Searching<Symbol, Probability, PRECISION>,
     Tabled<Symbol, Probability, PRECISION>,

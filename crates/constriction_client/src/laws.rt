@@ -22,8 +22,7 @@ pub fn reads_back<Symbol, Word>()
     ensures { ReadsBack Symbol Word (λ words. words) (λ items. items) }
 {}
 
-/// The words of items are read back as these items from the last to the first, in the order of a
-/// stack.
+/// The words of items are read back as these items, the last one first, in the order of a stack.
 pub fn reads_back_reversed<Symbol, Word>()
     ensures { ReadsBack Symbol Word reverse reverse }
 {}

@@ -1,11 +1,11 @@
 //! Items as quantiles into a sink, and words from a source as pairs.
 
-ghost use Rattle.std.specs.Prelude.{◌≡◌, ◌+◌, ◌^◌, ◌<◌, ◌≤◌, ℕ, IfOk, IfErr, OnOk};
+ghost use Rattle.std.specs.Prelude.{◌≡◌, ◌+◌, ◌^◌, ◌≤◌, ◌⊎◌, ℕ, IfOk, IfErr, OnOk};
 ghost use Rattle.std.specs.Prelude.{Option, Some, length, vec_capacity};
 ghost use Rattle.constriction.specs.Model.{RowMayBeRefused};
 ghost use Rattle.constriction.specs.Rows.{entry_of};
 ghost use Rattle.constriction_client.specs.Quantiles.{IsQuantileOf, IsFaultOf, WritesItems, StopsAtItem};
-ghost use Rattle.constriction_client.specs.Quantiles.{IsPairOf, IsReadFaultOf, ReadsPairs};
+ghost use Rattle.constriction_client.specs.Quantiles.{GivesPair, ReadsPairs};
 
 use constriction::stream::model::{DecoderModel, EncoderModel, is_quantile};
 use constriction_backends::{ReadWords, WriteWords};
@@ -82,10 +82,8 @@ fn pair_of<M, const PRECISION: usize>(
 ) -> Result<(M::Symbol, M::Probability), ReadFault>
 where
     M: DecoderModel<PRECISION>,
-    ensures ok { IfOk result (IsPairOf M.stands_for (M.rows model.now) M.Probability.whole word) }
-    ensures in_range { OnOk result (M.Probability.whole word < 2 ^ PRECISION) }
-    ensures err { IfErr result (IsReadFaultOf PRECISION (RowMayBeRefused M.may_refuse (M.rows model.now))
-        (M.Probability.whole word)) }
+    ensures { GivesPair M.stands_for (M.rows model.now) M.Probability.whole PRECISION
+        (RowMayBeRefused M.may_refuse (M.rows model.now)) word result }
 {
     if !is_quantile::<M::Probability, PRECISION>(word) {
         return Err(ReadFault::QuantileTooLarge);
@@ -100,8 +98,7 @@ where
 /// which says which of the symbol's quantiles is meant.
 ///
 /// It stops at the first item that is refused, with `Frontend` if the item has no quantile and
-/// with `Backend` if the sink refuses it. The words of the items before it stay written; the items
-/// after it are not looked at. It makes one pass over the items, and one write for each.
+/// with `Backend` if the sink refuses it. It makes one pass over the items, and one write for each.
 pub fn write_quantiles<E, W, const PRECISION: usize>(
     encoder: &E,
     items: &[(E::Symbol, E::Probability)],
@@ -130,14 +127,11 @@ where
     Ok(())
 }
 
-/// Reads up to `count` words, and adds the pair of each to `out`: the symbol of the word's row, and the offset,
-/// which is how far the word lies after the left cumulative of that row. If the model owns its symbols, the
-/// symbol is a clone.
+/// Reads up to `count` words, and adds the pair of each to `out`: the symbol of the word's row, or a clone if
+/// the model owns its symbols, and how far the word lies after the left cumulative of that row.
 ///
-/// It answers the number of pairs that were added. This is below `count` only if the source ended,
-/// which is no fault. It fails with `Frontend` at a word that is no quantile, and if memory for a
-/// pair is refused; that word has been read. It fails with `Backend` if a read fails. Either way
-/// `out` keeps its old pairs and the pairs of the words before, and reading may go on after the
+/// It answers the number of pairs that were added, which is below `count` if the source ended. It fails with
+/// `Frontend` at a word that gives no pair, and with `Backend` if a read fails. Reading may go on after a
 /// fault. It makes one look-up for each word, and takes memory only for the symbols and for `out`.
 pub fn read_symbols<S: Semantics, M, R, const PRECISION: usize>(
     model: &M,
@@ -150,10 +144,9 @@ where
     M::Symbol: Drop,
     R: ReadWords<M::Probability, S>,
     requires can_read { R.can_read source.old }
-    ensures pairs { ReadsPairs M.stands_for M.may_refuse PRECISION (M.rows model.now) M.Probability.whole R.read_gives R.tells_upcoming
-        count source.old out.old.items result source.new out.new.items (vec_capacity out.new) }
-
-    // While there is room for the pairs, no memory is asked for.
+    ensures pairs { ReadsPairs R.ReadWords (GivesPair M.stands_for (M.rows model.now) M.Probability.whole PRECISION
+        (λ q. RowMayBeRefused M.may_refuse (M.rows model.now) q ⊎ (vec_capacity out.new ≤ length out.new.items)))
+        count source.old out.old.items result source.new out.new.items }
     ensures capacity { length out.new.items ≤ vec_capacity out.old → vec_capacity out.new ≡ vec_capacity out.old }
     ensures goes_on { R.can_read source.new }
 {

@@ -62,12 +62,8 @@ where
     }
 }
 
-/// The replies to queries, in order. The decoder `form` answers quantiles, and the encoder, which is over the
-/// same symbols and words, answers symbols.
-///
-/// If the encoder has the entries of the decoder's rows, the replies are those that a scan of these rows
-/// gives; a decoder that owns its symbols answers clones of them. The decoder is not asked for a word that is
-/// no quantile.
+/// The replies to queries, in order. The decoder `form` answers quantiles, and the encoder answers symbols.
+/// The decoder is not asked for a word that is no quantile, and answers clones if it owns its symbols.
 ///
 /// Memory for the replies is asked for once, before the first query. The call fails if that is refused, or if
 /// memory for a clone of a symbol is.

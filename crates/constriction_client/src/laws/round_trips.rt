@@ -27,8 +27,7 @@ use std::alloc::{AllocError, Global};
 use std::convert::Infallible;
 use std::hash::Hash;
 
-/// Why items did not come back from a cursor: an item has no quantile, memory was refused when the
-/// items were read, or a quantile found no place.
+/// Why items did not come back from a cursor.
 pub type CursorError = CoderError<QuantileFault, ReadWriteError<AllocError, BoundedWriteError>>;
 
 /// A decoder model of some rows, and the encoder model of their entries.
@@ -65,10 +64,7 @@ where
 }
 
 /// Writes items to a stack in memory by the encoder, and reads them back by the decoder, the last
-/// one first. The encoder has the entries of the decoder's rows. The items come back with equal symbols, or,
-/// if the decoder owns its symbols, with clones of equal symbols.
-///
-/// It fails with the fault of the first item that has no quantile, or if memory is refused.
+/// one first.
 pub fn there_and_back_of_two<D, E, const PRECISION: usize>(
     alloc: Global,
     decoder: &D,
@@ -112,11 +108,8 @@ where
 }
 
 /// Makes the decoder model of a model's rows, and the hashed encoder model of its entries. If the model
-/// owns its symbols, both have clones of them, which have to be equal to them. The two agree, as
-/// [`there_and_back_of_two`] and [`there_and_back_in_a_cursor`] require.
-///
-/// `InvalidTable` comes only if two symbols of the rows are equal, `OutOfMemory` if memory is refused.
-/// The model is walked through twice.
+/// owns its symbols, both have clones of them. The two agree, as [`there_and_back_of_two`] and
+/// [`there_and_back_in_a_cursor`] require. The model is walked through twice.
 pub fn decoder_and_encoder<M, const PRECISION: usize>(
     alloc: Global,
     model: M,
@@ -166,12 +159,10 @@ where
 }
 
 /// Writes items to a cursor by the encoder, seeks back to where they begin, and reads them as a queue
-/// by the decoder. They come back in their order. The encoder has the entries of the decoder's rows.
+/// by the decoder. They come back in their order.
 ///
 /// It fails with `Frontend` at the first item that has no quantile, with `Write` at the first one
-/// whose quantile finds no place, and with `Read` if memory is refused. After `Frontend` or `Write`
-/// the words of the items before stay, and the cursor stands after them. After `Read` the words of
-/// all items stay, and nothing is known of the position. No other word of the buffer changes.
+/// whose quantile finds no place, and with `Read` if memory is refused.
 pub fn there_and_back_in_a_cursor<D, E, Buf, const PRECISION: usize>(
     alloc: Global,
     decoder: &D,

@@ -11,11 +11,10 @@ use constriction_backends::{Cursor, Reverse, SafeBufMut};
 use std::alloc::{AllocError, Global};
 
 /// Runs the same calls on a cursor and on one that was turned round, and answers the replies of
-/// both. If one is the reversal of the other, as after `into_reversed` of a cursor in the same
-/// state, the replies are the same, and each ends in the reversal of the other's state.
+/// both. They are the same if one is the reversal of the other, as after `into_reversed` of a cursor
+/// in the same state.
 ///
-/// Memory for the replies of both is asked for before the first call. If it is refused, no call was
-/// made on either.
+/// Memory for the replies of both is asked for before the first call.
 pub fn run_cursor_and_reversal<Word: Copy + Drop, Buf: SafeBufMut<Word>, Turned: SafeBufMut<Word>>(
     alloc: Global,
     cursor: &mut Cursor<Word, Buf>,
@@ -40,9 +39,7 @@ pub fn run_cursor_and_reversal<Word: Copy + Drop, Buf: SafeBufMut<Word>, Turned:
     Ok((replies, others))
 }
 
-/// A run of calls in a state and a run of the same calls in its reversal have the same replies, and
-/// end in a state and its reversal. So [`run_cursor`](crate::run_cursor) and
-/// [`run_reversed`](crate::run_reversed) are alike.
+/// [`run_cursor`](crate::run_cursor) and [`run_reversed`](crate::run_reversed) are alike.
 pub fn runs_are_alike<Word>()
     ensures { (calls : List (CursorCall Word)) (s t turned left : State Word) (replies others : List (CursorReply Word))
         → turned ≡ reversal s → Runs s calls replies t → Runs (reversal turned) calls others (reversal left)

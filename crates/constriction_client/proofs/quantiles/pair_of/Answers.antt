@@ -7,30 +7,21 @@ not-less : (a b : ℕ) (test : Bool) → test ≡ false → (a < b → test ≡ 
 not-less a b test failed is = elim (cases_lt a b) [ inl less ↦ let holds = is less in absurd (cc) | inr more ↦ more ]
 
 pub returns-then-not-is_quantile : goal.returns-then-not-is_quantile
-returns-then-not-is_quantile g c = record {
-  ok = tt;
-  in_range = tt;
-  err = not-less _ _ c.is_quantile.result c.if-not-is_quantile.true c.is_quantile.ensures.1;
-}
+returns-then-not-is_quantile g c = not-less _ _ c.is_quantile.result c.if-not-is_quantile.true c.is_quantile.ensures.1
 
 pub minus-requires : goal.minus-requires
 minus-requires g c = c.in-Ok.ensures.row.2.from
 
 pub returns-in-Ok : goal.returns-in-Ok
-returns-in-Ok g c = record {
-  ok = record {
+returns-in-Ok g c = (
+  c.is_quantile.ensures.0 c.if-not-is_quantile.false,
+  record {
     row = _;
     found = c.in-Ok.ensures.row.2;
     symbol = c.in-Ok.ensures.row.1;
     offset = omega (arith, c.minus.ensures, c.in-Ok.ensures.row.2.from);
-  };
-  in_range = c.is_quantile.ensures.0 c.if-not-is_quantile.false;
-  err = tt;
-}
+  },
+)
 
 pub returns-in-Err : goal.returns-in-Err
-returns-in-Err g c = record {
-  ok = tt;
-  in_range = tt;
-  err = (c.is_quantile.ensures.0 c.if-not-is_quantile.false, c.in-Err.ensures.refused);
-}
+returns-in-Err g c = (c.is_quantile.ensures.0 c.if-not-is_quantile.false, c.in-Err.ensures.refused)

@@ -13,7 +13,8 @@ loop-done-init g c = record {
 pub returns-in-Ok-None : goal.returns-in-Ok-None
 returns-in-Ok-None g c = record {
   pairs =
-      reading-ends _ _ _ _ _ _ _ g.met.R.ReadWords.reads_upcoming _ _ _ c.loop-done.done _ _ _ _ _ _ c.loop-done.invariant.so_far
+      reading-ends _ _ _ _ _ g.met.R.ReadWords.reads_upcoming g.M.DecoderModel.may_refuse (vec_capacity c.loop-done.out) _ _ _ _
+      c.loop-done.done _ _ _ _ c.loop-done.invariant.so_far
       (refl, refl, inr (c.loop-done-test.true, rw c.in-Ok-None.field-0-is at c.in-Ok-None.ensures.gives));
   capacity = c.loop-done.invariant.capacity;
   goes_on = c.read.ensures.goes_on;
@@ -22,7 +23,8 @@ returns-in-Ok-None g c = record {
 pub returns-in-Err : goal.returns-in-Err
 returns-in-Err g c = record {
   pairs =
-      reading-ends _ _ _ _ _ _ _ g.met.R.ReadWords.reads_upcoming _ _ _ c.loop-done.done _ _ _ _ _ _ c.loop-done.invariant.so_far
+      reading-ends _ _ _ _ _ g.met.R.ReadWords.reads_upcoming g.M.DecoderModel.may_refuse (vec_capacity c.loop-done.out) _ _ _ _
+      c.loop-done.done _ _ _ _ c.loop-done.invariant.so_far
       (c.loop-done-test.true, refl, c.in-Err.ensures.gives);
   capacity = c.loop-done.invariant.capacity;
   goes_on = c.read.ensures.goes_on;
@@ -31,13 +33,15 @@ returns-in-Err g c = record {
 pub returns-in-Err-pair_of : goal.returns-in-Err-pair_of
 returns-in-Err-pair_of g c = record {
   pairs =
-      reading-ends _ _ _ _ _ _ _ g.met.R.ReadWords.reads_upcoming _ _ _ c.loop-done.done _ _ _ _ _ _ c.loop-done.invariant.so_far (
+      reading-ends _ _ _ _ _ g.met.R.ReadWords.reads_upcoming g.M.DecoderModel.may_refuse (vec_capacity c.loop-done.out) _ _ _ _
+      c.loop-done.done _ _ _ _ c.loop-done.invariant.so_far (
         c.in-Ok-Some.word,
         c.loop-done-test.true,
         refl,
         rw c.in-Ok-Some.field-0-is at c.in-Ok-Some.ensures.gives,
-        also-full _ _ (RowMayBeRefused g.M.DecoderModel.may_refuse (g.M.EntropyModel.rows c.args.model.now))
-            (vec_capacity c.loop-done.out ≤ length c.loop-done.out.items) _ c.in-Err-pair_of.ensures.err,
+        also-full g.M.DecoderModel.stands_for (g.M.EntropyModel.rows c.args.model.now) g.M.Probability.WholeNumber.whole g.row.PRECISION
+            (RowMayBeRefused g.M.DecoderModel.may_refuse (g.M.EntropyModel.rows c.args.model.now))
+            (vec_capacity c.loop-done.out ≤ length c.loop-done.out.items) c.in-Ok-Some.word _ c.in-Err-pair_of.ensures,
       );
   capacity = c.loop-done.invariant.capacity;
   goes_on = c.read.ensures.goes_on;
@@ -49,13 +53,14 @@ returns-in-Err-write g c =
     let full = c.in-Err-write.ensures.gives.refused in
     record {
       pairs =
-          reading-ends _ _ _ _ _ _ _ g.met.R.ReadWords.reads_upcoming _ _ _ c.loop-done.done _ _ _ _ _ _
+          reading-ends _ _ _ _ _ g.met.R.ReadWords.reads_upcoming g.M.DecoderModel.may_refuse (vec_capacity c.write.new.self) _ _ _ _
+          c.loop-done.done _ _ _ _
           (rw same c.loop-done.invariant.so_far) (
             c.in-Ok-Some.word,
             c.loop-done-test.true,
             refl,
             rw c.in-Ok-Some.field-0-is at c.in-Ok-Some.ensures.gives,
-            (c.in-Ok.ensures.in_range, inr (omega (arith, full.0, full.1, ap length same))),
+            (c.in-Ok.ensures.0, inr (omega (arith, full.0, full.1, ap length same))),
           );
       capacity = stays-full _ _ _ _ _ same full.1 c.loop-done.invariant.capacity;
       goes_on = c.read.ensures.goes_on;
@@ -67,14 +72,14 @@ loop-done-preserved g c = record {
   capacity = has-room _ _ _ _ _ _ c.in-Ok-write.ensures.gives.pushes c.in-Ok-write.ensures.gives.keeps c.loop-done.invariant.capacity;
   so_far =
       read-more _ _ _ _ _ _ _ _ _ _ c.in-Ok-Some.word c.in-Ok.pair _ _ c.loop-done.invariant.so_far
-      (rw c.in-Ok-Some.field-0-is at c.in-Ok-Some.ensures.gives) c.in-Ok.ensures.in_range c.in-Ok.ensures.ok
-      c.in-Ok-write.ensures.gives.pushes;
+      (rw c.in-Ok-Some.field-0-is at c.in-Ok-Some.ensures.gives) c.in-Ok.ensures c.in-Ok-write.ensures.gives.pushes;
 }
 
 pub returns : goal.returns
 returns g c = record {
   pairs =
-      reading-ends _ _ _ _ _ _ _ g.met.R.ReadWords.reads_upcoming _ _ c.args.count c.loop-done.done _ _ _ _ _ _ c.loop-done.invariant.so_far
+      reading-ends _ _ _ _ _ g.met.R.ReadWords.reads_upcoming g.M.DecoderModel.may_refuse (vec_capacity c.loop-done.out) _ _ _
+      c.args.count c.loop-done.done _ _ _ _ c.loop-done.invariant.so_far
       (let all : c.loop-done.done ≡ c.args.count = omega (arith, c.loop-done.auto.done-end, c.loop-done-test.false) in
       (sym all, refl, inl (all, refl)));
   capacity = c.loop-done.invariant.capacity;

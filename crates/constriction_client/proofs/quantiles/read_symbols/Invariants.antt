@@ -7,6 +7,6 @@ abbrev pub invariant-loop-done : goal.invariant-loop-done
 invariant-loop-done g l = record {
   goes_on : g.R.ReadWords.can_read l.source;
   capacity : length l.out.items ≤ vec_capacity l.initial.out → vec_capacity l.out ≡ vec_capacity l.initial.out;
-  so_far : HasRead g.M.DecoderModel.stands_for g.row.PRECISION (g.M.EntropyModel.rows l.model) g.M.Probability.WholeNumber.whole g.R.ReadWords.read_gives
-      l.initial.source l.initial.out.items l.done l.source l.out.items;
+  so_far : HasRead g.M.DecoderModel.stands_for (g.M.EntropyModel.rows l.model) g.M.Probability.WholeNumber.whole g.row.PRECISION
+      g.R.ReadWords l.initial.source l.initial.out.items l.done l.source l.out.items;
 }
