@@ -1,16 +1,29 @@
 -- Models that are made of other models.
 use Rattle.std.proofs.Common.{◌≡◌, Bool, List, Result, Ok, Err}
-use Rattle.std.specs.Prelude.{IfOk}
+use Rattle.std.specs.Prelude.{IfOk, IfErr}
 use Rattle.std.specs.Cmp.{IsEquivalence}
 use Rattle.constriction.specs.Entries.{HoldsEntriesOf}
 use Rattle.constriction.specs.Model.{ClonesAreEqual}
 use Rattle.constriction.specs.Rows.{Row, entry_of}
+use Rattle.constriction.specs.declared.stream.model.ModelError.{ModelError}
+use Rattle.constriction.specs.declared.stream.model.ModelError.TheVariants.{InvalidTable, OutOfMemory}
 use Rattle.constriction.specs.lemmas.Stand.{entries-of}
+use Rattle.constriction_theorem.specs.Answers.{IsDecidedBy}
 
 -- what is known before a call is known of its value
 pub whatever-ok : {A E P : Type 0} (r : Result A E) → P → IfOk r (λ _. P)
 whatever-ok (Ok x) p = p
 whatever-ok (Err e) p = tt
+
+-- a call that refuses memory alone finds no list invalid
+pub never-invalid : {A P : Type 0} (r : Result A ModelError) → IfErr r (λ e. e ≡ OutOfMemory) → r ≡ Err InvalidTable → P
+never-invalid (Ok x) refused is = absurd (cc)
+never-invalid (Err e) refused is = absurd (cc)
+
+pub refused-decided : {Answers Accepted : Type 0} {Tells : Answers → Type 0} (r : Result Answers ModelError) → r ≡ Err OutOfMemory
+    → IsDecidedBy r Accepted Tells
+refused-decided (Ok x) is = absurd (cc)
+refused-decided (Err e) is = record { accepted = tt; answers = tt; invalid = λ wrong. absurd (cc) }
 
 -- a hashed encoder with clones of the symbols of rows has the entries of these rows
 pub entries-of-made : {Symbol Model Error : Type 0} (eq : Symbol → Symbol → Bool) → IsEquivalence eq

@@ -13,19 +13,14 @@ use constriction_client::{ChainStep, DecoderForm, Query, Reply, answer_queries, 
 use constriction_words::IndexWord;
 use std::alloc::Global;
 
-/// A decoder in the form that a chain of conversions left, and what it replied.
+/// A decoder in the form that steps left, and what it replied.
 pub type FormAndReplies<Symbol, Probability, const PRECISION: usize> = (
     DecoderForm<Symbol, Probability, PRECISION>,
     Vec<Reply<Symbol, Probability>>,
 );
 
 /// Converts a decoder by any steps, and answers queries by the form that they leave and by an encoder of the
-/// same entries. The form has the kind and the rows that the steps leave. The replies stand for those of a scan of
-/// its rows, as a clone stands for its symbol. If each clone is its symbol, the rows are those of before, and the
-/// replies are exactly those of a scan of them.
-///
-/// A clone has to be equal to its symbol, by the symbols' own equality and by the encoder's. The only refusal
-/// is `OutOfMemory`. The form is then dropped. `PRECISION` is at most 63.
+/// same entries. If memory is refused, the form is dropped.
 pub fn answer_by_form<Symbol: Eq + Clone + Drop, Probability: IndexWord, E, const PRECISION: usize>(
     alloc: Global,
     form: DecoderForm<Symbol, Probability, PRECISION>,

@@ -1,12 +1,13 @@
 //! Models that are made of lists and of other models, each by one call, with contracts over lists and rows.
 
-ghost use Rattle.std.specs.Prelude.{◌≡◌, ◌<◌, ◌≤◌, map, nat_eq, IfOk, IfErr};
+ghost use Rattle.std.specs.Prelude.{◌≡◌, map, nat_eq, IfOk, IfErr};
 ghost use Rattle.std.specs.List.{IsDistinct};
 ghost use Rattle.constriction.specs.Acceptance.{completed, IsAccepted, AreAccepted};
 ghost use Rattle.constriction.specs.EncoderRows.{encoder_model_rows};
 ghost use Rattle.constriction.specs.Entries.{HoldsEntriesOf, SameEntries};
 ghost use Rattle.constriction.specs.Model.{StandForRows, ClonesAreEqual};
 ghost use Rattle.constriction.specs.ModelRows.{contiguous_model_rows, decoder_model_rows};
+ghost use Rattle.constriction.specs.Precision.{IsPrecision};
 ghost use Rattle.constriction.specs.Rows.{contiguous_rows, rows_of, symbols_of};
 
 use constriction::laws::contiguous_symbols_differ;
@@ -43,8 +44,7 @@ pub(crate) fn searching_from<Symbol: Eq + Drop, Probability: WholeNumber, const 
     weights: Vec<Probability>,
     infer_last_probability: bool,
 ) -> Result<Searching<Symbol, Probability, PRECISION>, ModelError>
-    requires positive { 0 < PRECISION }
-    requires fits { PRECISION ≤ Probability.BITS }
+    requires { IsPrecision Probability.BITS PRECISION }
     ensures accepted { IfOk result (λ _. AreAccepted Symbol.eq Probability.BITS PRECISION symbols.items
         (completed PRECISION infer_last_probability (map Probability.whole weights.items))) }
     ensures rows { IfOk result (λ m. decoder_model_rows m
@@ -67,8 +67,7 @@ pub(crate) fn contiguous_from<Probability: WholeNumber, const PRECISION: usize>(
     weights: Vec<Probability>,
     infer_last_probability: bool,
 ) -> Result<Contiguous<Probability, PRECISION>, ModelError>
-    requires positive { 0 < PRECISION }
-    requires fits { PRECISION ≤ Probability.BITS }
+    requires { IsPrecision Probability.BITS PRECISION }
     ensures accepted { IfOk result (λ _. IsAccepted Probability.BITS PRECISION
         (completed PRECISION infer_last_probability (map Probability.whole weights.items))) }
     ensures rows { IfOk result (λ m. contiguous_model_rows m

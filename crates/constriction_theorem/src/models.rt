@@ -18,12 +18,7 @@ use std::alloc::Global;
 use std::hash::Hash;
 
 /// Makes the searching decoder and the hashed encoder of the rows of any model that can be walked through,
-/// converts the decoder by any steps, and answers queries by the form that they leave and by the encoder. If
-/// the walk gives the symbols of the rows themselves, and each clone is its symbol, the replies are those that a
-/// scan of the model's rows gives.
-///
-/// No two symbols of the rows are equal. The only refusal is `OutOfMemory`. The form has the kind that the
-/// steps leave. `PRECISION` is at most 63.
+/// converts the decoder by any steps, and answers queries by the form that they leave and by the encoder.
 pub fn answer_by_symbol_table<M, const PRECISION: usize>(
     alloc: Global,
     model: M,
@@ -53,22 +48,19 @@ where
     )
 }
 
-/// What a model replied, the form that a chain of conversions made of it, and what the form replied.
+/// What a model replied, the form that steps made of it, and what the form replied.
 #[derive(Drop)]
 pub struct AnswersOfModel<Symbol, Word: WholeNumber, Form> {
     /// The model's own replies.
     pub by_model: Vec<Reply<Symbol, Word>>,
     /// The decoder over any symbols after the steps.
     pub form: Form,
-    /// The replies of that form.
+    /// The form's replies.
     pub converted: Vec<Reply<Symbol, Word>>,
 }
 
-/// Answers queries by any decoder that can be walked through, and by the hashed encoder that is made of it. If the decoder
-/// answers the symbols of its rows themselves, the replies are those that a scan of its rows gives.
-///
-/// The only refusal is `OutOfMemory`. The call makes no lookup table, so it takes any word and any `PRECISION`. The decoder
-/// may search, divide or look up.
+/// Answers queries by any decoder that can be walked through, and by the hashed encoder that is made of it. The decoder
+/// may search, divide or look up. The call makes no lookup table, so it takes any word and any `PRECISION`.
 pub fn answer_beside_encoder<M, const PRECISION: usize>(
     alloc: Global,
     model: M,
@@ -88,13 +80,8 @@ where
     Ok(replies)
 }
 
-/// Answers queries by any decoder that can be walked through, and by the form that the steps make of it as in
-/// [`answer_by_symbol_table`], both beside the hashed encoder that is made of it. If the model answers the symbols
-/// of its rows themselves, and each clone is its symbol, the replies of both are those that a scan of the model's
-/// rows gives. The model may be the caller's own: the proof needs only the laws of its traits.
-///
-/// No two symbols of the rows are equal. The only refusal is `OutOfMemory`. `PRECISION` is at most 63;
-/// [`answer_beside_encoder`] takes any.
+/// Answers queries by a model as [`answer_beside_encoder`] does, and as [`answer_by_symbol_table`] does. The model
+/// may be the caller's own: the proof needs only the laws of its traits.
 pub fn answer_by_model<M, const PRECISION: usize>(
     alloc: Global,
     model: M,

@@ -3,8 +3,8 @@
 //! There is one function for each of `u8`, `u16`, `u32`, `u64` and `usize`. A generic one would hold a model of three
 //! words as a local, and nothing bounds the size of a generic word.
 
-ghost use Rattle.std.specs.Prelude.{◌≡◌, ◌^◌, ◌<◌, ◌≤◌, IfOk, IfErr};
-ghost use Rattle.constriction.specs.Precision.{IsPrecision};
+ghost use Rattle.std.specs.Prelude.{◌≡◌, ◌^◌, ◌≤◌, IfOk, IfErr};
+ghost use Rattle.constriction.specs.Precision.{IsPrecision, IsLookupPrecision};
 ghost use Rattle.constriction_client.specs.FormRows.{form_rows};
 ghost use Rattle.constriction_theorem.specs.Answers.{AnswersOfRange};
 
@@ -17,9 +17,6 @@ use std::alloc::Global;
 
 /// Makes the dividing model of `range` symbols over `u8`, makes the searching decoder of its rows, and converts that
 /// decoder by any steps. Answers queries by the model as decoder and encoder, and by the form beside the hashed encoder.
-/// The replies of each are those that a scan of the uniform rows gives.
-///
-/// `range` is at least 2 and at most `2^PRECISION`. The only refusal is `OutOfMemory`.
 pub fn answer_from_range_u8<const PRECISION: usize>(
     alloc: Global,
     range: usize,
@@ -91,15 +88,14 @@ pub fn answer_from_range_u32<const PRECISION: usize>(
     })
 }
 
-/// As [`answer_from_range_u8`], over `u64`. `PRECISION` is at most 63.
+/// As [`answer_from_range_u8`], over `u64`.
 pub fn answer_from_range_u64<const PRECISION: usize>(
     alloc: Global,
     range: usize,
     steps: &[ChainStep],
     queries: &[Query<usize, u64>],
 ) -> Result<AnswersOfModel<usize, u64, DecoderForm<usize, u64, PRECISION>>, ModelError>
-    requires positive { 0 < PRECISION }
-    requires narrow { PRECISION ≤ 63 }
+    requires precision { IsLookupPrecision 64 PRECISION }
     requires some { 2 ≤ range }
     requires within { range ≤ 2 ^ PRECISION }
     ensures answers { IfOk result (AnswersOfRange PRECISION range steps.now queries.now ⟦<u64 as WholeNumber>⟧.base form_rows) }
@@ -116,15 +112,14 @@ pub fn answer_from_range_u64<const PRECISION: usize>(
     })
 }
 
-/// As [`answer_from_range_u8`], over `usize`. `PRECISION` is at most 63.
+/// As [`answer_from_range_u8`], over `usize`.
 pub fn answer_from_range_usize<const PRECISION: usize>(
     alloc: Global,
     range: usize,
     steps: &[ChainStep],
     queries: &[Query<usize, usize>],
 ) -> Result<AnswersOfModel<usize, usize, DecoderForm<usize, usize, PRECISION>>, ModelError>
-    requires positive { 0 < PRECISION }
-    requires narrow { PRECISION ≤ 63 }
+    requires precision { IsLookupPrecision 64 PRECISION }
     requires some { 2 ≤ range }
     requires within { range ≤ 2 ^ PRECISION }
     ensures answers { IfOk result (AnswersOfRange PRECISION range steps.now queries.now ⟦<usize as WholeNumber>⟧.base form_rows) }

@@ -6,7 +6,7 @@ ghost use Rattle.constriction.specs.ModelRows.{contiguous_model_rows, decoder_mo
 ghost use Rattle.constriction.specs.Rows.{contiguous_rows};
 ghost use Rattle.constriction.specs.Precision.{IsPrecision};
 ghost use Rattle.constriction_client.specs.Replies.{in_numbers, replies_by_scan};
-ghost use Rattle.constriction_theorem.specs.Answers.{BothReplyAsScan};
+ghost use Rattle.constriction_theorem.specs.Answers.{BothReplyAsScan, IsDecidedBy};
 
 use crate::made::{Contiguous, Searching, both_of_contiguous, contiguous_from};
 use crate::weights::{RepliesByEncoder, asked_beside_both};
@@ -15,14 +15,14 @@ use constriction_client::Query;
 use constriction_words::WholeNumber;
 use std::alloc::Global;
 
-/// What the models without a lookup table, made of one list of weights, replied to the same queries.
+/// What two models of one list of weights, without lookup tables, replied to the same queries.
 #[derive(Drop)]
 pub struct AnswersBySearch<Word: WholeNumber, Decoder> {
     /// The model of the symbols 0, 1, .. that searches all rows.
     pub contiguous: RepliesByEncoder<Word>,
     /// The decoder over any symbols that is made of its rows.
     pub decoder: Decoder,
-    /// The replies of that decoder.
+    /// The decoder's replies.
     pub non_contiguous: RepliesByEncoder<Word>,
 }
 
@@ -33,8 +33,7 @@ fn asked_by_search<Probability: WholeNumber, const PRECISION: usize>(
     queries: &[Query<usize, Probability>],
 ) -> Result<AnswersBySearch<Probability, Searching<usize, Probability, PRECISION>>, ModelError>
     ensures ok { IfOk result (BothReplyAsScan (in_numbers Probability.whole Probability.base)
-        (replies_by_scan PRECISION Probability.whole nat_eq queries.now (contiguous_model_rows model.now))) }
-    ensures rows { IfOk result (λ answers. decoder_model_rows answers.decoder ≡ contiguous_model_rows model.now) }
+        (replies_by_scan PRECISION Probability.whole nat_eq queries.now) decoder_model_rows (contiguous_model_rows model.now)) }
     ensures refused { IfErr result (λ e. e ≡ ModelError.OutOfMemory) }
 {
     let (decoder, hashed) = both_of_contiguous(alloc, model)?;
@@ -47,10 +46,8 @@ fn asked_by_search<Probability: WholeNumber, const PRECISION: usize>(
     })
 }
 
-/// As [`answer_from_weights`](crate::answer_from_weights), by models without lookup tables and over any word.
-///
-/// It makes two models that search, the model of the symbols 0, 1, .. and the decoder over any symbols of its rows. It
-/// answers the same queries by each, beside the first model and beside the hashed encoder.
+/// As [`answer_from_weights`](crate::answer_from_weights), by models without lookup tables and over any word: the
+/// model of the symbols 0, 1, .. and the decoder over any symbols of its rows.
 pub fn answer_from_weights_by_search<Probability: WholeNumber, const PRECISION: usize>(
     alloc: Global,
     weights: Vec<Probability>,
@@ -69,15 +66,9 @@ pub fn answer_from_weights_by_search<Probability: WholeNumber, const PRECISION: 
     ModelError,
 >
     requires precision { IsPrecision Probability.BITS PRECISION }
-    ensures accepted { IfOk result (λ _. IsAccepted Probability.BITS PRECISION
-        (completed PRECISION infer_last_probability (map Probability.whole weights.items))) }
-    ensures invalid { result ≡ Err ModelError.InvalidTable → ¬ (IsAccepted Probability.BITS PRECISION
-        (completed PRECISION infer_last_probability (map Probability.whole weights.items))) }
-    ensures replies { IfOk result (BothReplyAsScan (in_numbers Probability.whole Probability.base)
-        (replies_by_scan PRECISION Probability.whole nat_eq queries.now
-        (contiguous_rows (completed PRECISION infer_last_probability (map Probability.whole weights.items))))) }
-    ensures rows { IfOk result (λ answers. decoder_model_rows answers.decoder
-        ≡ contiguous_rows (completed PRECISION infer_last_probability (map Probability.whole weights.items))) }
+    ensures { let all = completed PRECISION infer_last_probability (map Probability.whole weights.items) in
+        IsDecidedBy result (IsAccepted Probability.BITS PRECISION all) (BothReplyAsScan (in_numbers Probability.whole Probability.base)
+        (replies_by_scan PRECISION Probability.whole nat_eq queries.now) decoder_model_rows (contiguous_rows all)) }
 {
     let model = contiguous_from::<Probability, PRECISION>(alloc, weights, infer_last_probability)?;
     asked_by_search(alloc, &model, queries)

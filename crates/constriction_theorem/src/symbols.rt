@@ -1,6 +1,6 @@
 //! Symbols and weights, and what the models of them reply.
 
-ghost use Rattle.std.specs.Prelude.{◌≡◌, ◌<◌, map, false, IfOk};
+ghost use Rattle.std.specs.Prelude.{◌≡◌, map, false};
 ghost use Rattle.constriction.specs.Acceptance.{completed, AreAccepted};
 ghost use Rattle.constriction.specs.Model.{ClonesAreEqual};
 ghost use Rattle.constriction.specs.Rows.{rows_of};
@@ -8,7 +8,7 @@ ghost use Rattle.constriction.specs.Precision.{IsLookupPrecision};
 ghost use Rattle.constriction_client.specs.Chains.{is_lookup};
 ghost use Rattle.constriction_client.specs.FormRows.{form_rows};
 ghost use Rattle.constriction_client.specs.Replies.{in_numbers, replies_by_scan};
-ghost use Rattle.constriction_theorem.specs.Answers.{AnswersAfter};
+ghost use Rattle.constriction_theorem.specs.Answers.{AnswersAfter, IsDecidedBy};
 
 use crate::forms::{FormAndReplies, answer_by_form};
 use crate::made::{hashed_of, searching_from};
@@ -19,12 +19,7 @@ use std::alloc::Global;
 use std::hash::Hash;
 
 /// Makes the searching decoder of symbols and weights and the hashed encoder of the same rows, converts the
-/// decoder by any steps, and answers queries by the form that they leave and by the encoder. If each clone is its
-/// symbol, the replies are those that a scan of the rows of the symbols and the weights gives. If a clone is only
-/// equal to its symbol, as of a `String`, they are those of a scan of these rows with clones of the symbols.
-///
-/// `InvalidTable` comes only if the symbols and the weights, with the inferred one, are not accepted,
-/// `OutOfMemory` if memory is refused. The form has the kind that the steps leave. `PRECISION` is at most 63.
+/// decoder by any steps, and answers queries by the form that they leave and by the encoder.
 pub fn answer_from_symbols_and_weights<
     Symbol: Hash + Eq + Clone + Drop,
     Probability: IndexWord,
@@ -39,13 +34,11 @@ pub fn answer_from_symbols_and_weights<
 ) -> Result<FormAndReplies<Symbol, Probability, PRECISION>, ModelError>
     requires precision { IsLookupPrecision Probability.BITS PRECISION }
     requires clones { ClonesAreEqual Symbol.eq Symbol.is_clone }
-    ensures accepted { IfOk result (λ _. AreAccepted Symbol.eq Probability.BITS PRECISION symbols.items
-        (completed PRECISION infer_last_probability (map Probability.whole weights.items))) }
-    ensures invalid { result ≡ Err ModelError.InvalidTable → ¬ (AreAccepted Symbol.eq Probability.BITS PRECISION symbols.items
-        (completed PRECISION infer_last_probability (map Probability.whole weights.items))) }
-    ensures answers { let first = rows_of symbols.items (completed PRECISION infer_last_probability (map Probability.whole weights.items))
-        in IfOk result (λ x. AnswersAfter (λ s t. t ≡ s) Symbol.is_clone (replies_by_scan PRECISION Probability.whole Symbol.eq queries.now)
-        steps.now false first (is_lookup x.0) (form_rows x.0) (map (in_numbers Probability.whole Probability.base) x.1.items)) }
+    ensures { let all = completed PRECISION infer_last_probability (map Probability.whole weights.items) in
+        IsDecidedBy result (AreAccepted Symbol.eq Probability.BITS PRECISION symbols.items all)
+        (λ x. AnswersAfter (λ s t. t ≡ s) Symbol.is_clone (replies_by_scan PRECISION Probability.whole Symbol.eq queries.now)
+        steps.now false (rows_of symbols.items all) (is_lookup x.0) (form_rows x.0)
+        (map (in_numbers Probability.whole Probability.base) x.1.items)) }
 {
     let searching = searching_from::<Symbol, Probability, PRECISION>(
         alloc,

@@ -11,7 +11,7 @@ ghost use Rattle.constriction.specs.Precision.{IsLookupPrecision};
 ghost use Rattle.constriction_client.specs.Chains.{is_lookup, is_lookup_after};
 ghost use Rattle.constriction_client.specs.FormRows.{form_rows};
 ghost use Rattle.constriction_client.specs.Replies.{in_numbers, replies_by_scan};
-ghost use Rattle.constriction_theorem.specs.Answers.{AllReplyAsScan, ReplyAsScan};
+ghost use Rattle.constriction_theorem.specs.Answers.{AllReplyAsScan, IsDecidedBy, ReplyAsScan};
 
 use crate::made::{Contiguous, Searching, both_of_contiguous, contiguous_from};
 use constriction::stream::model::{
@@ -165,10 +165,8 @@ fn answers_of<Probability: IndexWord, const PRECISION: usize, const SLOT_BITS: u
     queries: &[Query<usize, Probability>],
 ) -> Result<AnswersOfWeights<Probability, DecoderForm<usize, Probability, PRECISION>>, ModelError>
     requires narrow { PRECISION ≤ 63 }
-    ensures replies { IfOk result (AllReplyAsScan (in_numbers Probability.whole Probability.base)
-        (replies_by_scan PRECISION Probability.whole nat_eq queries.now (contiguous_model_rows model.now))) }
-    ensures kind { IfOk result (λ answers. is_lookup answers.form ≡ fold is_lookup_after false steps.now) }
-    ensures rows { IfOk result (λ answers. form_rows answers.form ≡ contiguous_model_rows model.now) }
+    ensures ok { IfOk result (AllReplyAsScan (in_numbers Probability.whole Probability.base)
+        (replies_by_scan PRECISION Probability.whole nat_eq queries.now) steps.now form_rows (contiguous_model_rows model.now)) }
     ensures refused { IfErr result (λ e. e ≡ ModelError.OutOfMemory) }
 {
     let (form, hashed) = converted_from(alloc, model, steps)?;
@@ -185,12 +183,10 @@ fn answers_of<Probability: IndexWord, const PRECISION: usize, const SLOT_BITS: u
 
 /// Makes three models of a list of weights: one that searches, one with a lookup table of `2^min(PRECISION, SLOT_BITS)`
 /// slots, and a decoder over any symbols, which it converts by any steps. It answers the same queries by each, beside the
-/// model that searches and beside the hashed encoder. The replies of each are those that a scan of the rows of the
-/// weights gives.
+/// model that searches and beside the hashed encoder.
 ///
-/// `InvalidTable` comes only if the weights, with the inferred one, are not accepted, `OutOfMemory` if memory is refused.
-/// The lookup table takes two words a slot, or one if a slot is one quantile. `PRECISION` is at most 63;
-/// [`answer_from_weights_by_search`](crate::answer_from_weights_by_search) makes no lookup tables, and takes any.
+/// The lookup table takes two words a slot, or one if a slot is one quantile. At any `PRECISION`,
+/// [`answer_from_weights_by_search`](crate::answer_from_weights_by_search) makes no lookup tables.
 pub fn answer_from_weights<Probability: IndexWord, const PRECISION: usize, const SLOT_BITS: usize>(
     alloc: Global,
     weights: Vec<Probability>,
@@ -199,16 +195,9 @@ pub fn answer_from_weights<Probability: IndexWord, const PRECISION: usize, const
     queries: &[Query<usize, Probability>],
 ) -> Result<AnswersOfWeights<Probability, DecoderForm<usize, Probability, PRECISION>>, ModelError>
     requires precision { IsLookupPrecision Probability.BITS PRECISION }
-    ensures accepted { IfOk result (λ _. IsAccepted Probability.BITS PRECISION
-        (completed PRECISION infer_last_probability (map Probability.whole weights.items))) }
-    ensures invalid { result ≡ Err ModelError.InvalidTable → ¬ (IsAccepted Probability.BITS PRECISION
-        (completed PRECISION infer_last_probability (map Probability.whole weights.items))) }
-    ensures replies { IfOk result (AllReplyAsScan (in_numbers Probability.whole Probability.base)
-        (replies_by_scan PRECISION Probability.whole nat_eq queries.now
-        (contiguous_rows (completed PRECISION infer_last_probability (map Probability.whole weights.items))))) }
-    ensures kind { IfOk result (λ answers. is_lookup answers.form ≡ fold is_lookup_after false steps.now) }
-    ensures rows { IfOk result (λ answers. form_rows answers.form
-        ≡ contiguous_rows (completed PRECISION infer_last_probability (map Probability.whole weights.items))) }
+    ensures { let all = completed PRECISION infer_last_probability (map Probability.whole weights.items) in
+        IsDecidedBy result (IsAccepted Probability.BITS PRECISION all) (AllReplyAsScan (in_numbers Probability.whole Probability.base)
+        (replies_by_scan PRECISION Probability.whole nat_eq queries.now) steps.now form_rows (contiguous_rows all)) }
 {
     let model = contiguous_from::<Probability, PRECISION>(alloc, weights, infer_last_probability)?;
     answers_of::<_, PRECISION, SLOT_BITS>(alloc, &model, steps, queries)
