@@ -1,6 +1,6 @@
 //! The answer to a line.
 
-ghost use Rattle.std.specs.Prelude.{◌<◌, ◌≤◌};
+ghost use Rattle.constriction.specs.Precision.{IsPrecision};
 
 use crate::coding::{
     Refusal, queue_decode, queue_encode, stack_decode, stack_encode, symbols_of, words_of,
@@ -18,8 +18,7 @@ enum Answer {
 
 /// The words that a line asks for, at a precision.
 fn encoded_at<const PRECISION: usize>(alloc: Global, request: &Request) -> Result<Vec<u32>, Refusal>
-    requires positive { 0 < PRECISION }
-    requires fits { PRECISION ≤ 32 }
+    requires { IsPrecision 32 PRECISION }
 {
     let symbols = symbols_of(alloc, &request.numbers)?;
     if request.call == Call::StackEncode {
@@ -34,8 +33,7 @@ fn decoded_at<const PRECISION: usize>(
     alloc: Global,
     request: &Request,
 ) -> Result<Vec<usize>, Refusal>
-    requires positive { 0 < PRECISION }
-    requires fits { PRECISION ≤ 32 }
+    requires { IsPrecision 32 PRECISION }
 {
     let Some(words) = words_of(alloc, &request.numbers)? else {
         return Err(Refusal::BadLine);
@@ -49,8 +47,7 @@ fn decoded_at<const PRECISION: usize>(
 
 /// The answer at a precision.
 fn answer_at<const PRECISION: usize>(alloc: Global, request: &Request) -> Result<Answer, Refusal>
-    requires positive { 0 < PRECISION }
-    requires fits { PRECISION ≤ 32 }
+    requires { IsPrecision 32 PRECISION }
 {
     if request.call.is_decode() {
         let symbols = decoded_at::<PRECISION>(alloc, request)?;

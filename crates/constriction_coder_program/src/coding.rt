@@ -1,6 +1,6 @@
 //! Symbols and words by the coders of the library.
 
-ghost use Rattle.std.specs.Prelude.{◌<◌, ◌≤◌};
+ghost use Rattle.constriction.specs.Precision.{IsPrecision};
 
 use constriction::CoderError;
 use constriction::backends::Cursor;
@@ -60,8 +60,7 @@ fn contiguous_model_of<const PRECISION: usize>(
     alloc: Global,
     weights: &[u64],
 ) -> Result<Model<PRECISION>, Refusal>
-    requires positive { 0 < PRECISION }
-    requires fits { PRECISION ≤ 32 }
+    requires { IsPrecision 32 PRECISION }
 {
     let Some(weights) = words_of(alloc, weights)? else {
         return Err(Refusal::Invalid);
@@ -79,8 +78,7 @@ pub(crate) fn stack_encode<const PRECISION: usize>(
     weights: &[u64],
     symbols: &[usize],
 ) -> Result<Vec<u32>, Refusal>
-    requires positive { 0 < PRECISION }
-    requires fits { PRECISION ≤ 32 }
+    requires { IsPrecision 32 PRECISION }
 {
     let model = contiguous_model_of::<PRECISION>(alloc, weights)?;
     let mut coder = AnsCoder::new(alloc);
@@ -102,8 +100,7 @@ pub(crate) fn stack_decode<const PRECISION: usize>(
     count: usize,
     words: Vec<u32>,
 ) -> Result<Vec<usize>, Refusal>
-    requires positive { 0 < PRECISION }
-    requires fits { PRECISION ≤ 32 }
+    requires { IsPrecision 32 PRECISION }
 {
     let model = contiguous_model_of::<PRECISION>(alloc, weights)?;
     let mut coder = match AnsCoder::from_compressed(words) {
@@ -122,8 +119,7 @@ pub(crate) fn queue_encode<const PRECISION: usize>(
     weights: &[u64],
     symbols: &[usize],
 ) -> Result<Vec<u32>, Refusal>
-    requires positive { 0 < PRECISION }
-    requires fits { PRECISION ≤ 32 }
+    requires { IsPrecision 32 PRECISION }
 {
     let model = contiguous_model_of::<PRECISION>(alloc, weights)?;
     let mut encoder = RangeEncoder::new(alloc);
@@ -145,8 +141,7 @@ pub(crate) fn queue_decode<const PRECISION: usize>(
     count: usize,
     words: Vec<u32>,
 ) -> Result<Vec<usize>, Refusal>
-    requires positive { 0 < PRECISION }
-    requires fits { PRECISION ≤ 32 }
+    requires { IsPrecision 32 PRECISION }
 {
     let model = contiguous_model_of::<PRECISION>(alloc, weights)?;
     let mut decoder = match RangeDecoder::from_compressed(Cursor::new_at_write_beginning(words)) {

@@ -1,21 +1,24 @@
 -- What was encoded is decoded, symbol by symbol.
-use Rattle.std.proofs.Common.{◌≡◌, ℕ, ◌+◌, ◌%◌, ◌^◌, ◌<◌, ◌≤◌, Bool, List, [], ◌∷◌, ◌++◌, Option, Some, ap, sym, ◌∙◌, subst, arith}
+use Rattle.std.proofs.Common.{◌≡◌, ℕ, ◌+◌, ◌%◌, ◌^◌, ◌<◌, ◌≤◌, Bool, List, [], ◌∷◌, ◌++◌, Option, Some, length, ap, sym, ◌∙◌, subst, arith}
 use Rattle.std.proofs.lemmas.List.{length_push}
 use Rattle.std.specs.Prelude.{All}
 use Rattle.constriction.specs.lemmas.Coding.{entry-back, entry-positive, entry-within}
-use Rattle.constriction.specs.Coding.{InTurn}
+use Rattle.std.specs.List.{AllZip}
+use Rattle.constriction.specs.Coding.{InTurn, StandsForEqual}
 use Rattle.constriction.specs.Model.{LiesWithin}
 use Rattle.constriction.specs.Rows.{Row, RowsTile, entry_of}
-use Rattle.constriction_coders.specs.Laws.{SymbolComesBack, SymbolsComeBack, EncodedOnce}
 use Rattle.constriction_coders.specs.lemmas.Stack.{refills-once}
 use Rattle.constriction_coders.specs.States.{taken}
-use Rattle.constriction_coders.specs.Steps.{Content, IsWhole, MayBeHeld, IsOnTop, IsDecoded}
+use Rattle.constriction_coders.specs.Steps.{Content, IsWhole, MayBeHeld, IsOnTop, IsEncoded, IsDecoded}
+use Rattle.constriction_coders.proofs.Steps.{one-entry}
 use Rattle.constriction_coders.proofs.States.{put_taken, put_high, put_low}
 
 module _ {Symbol : Type 0} (Stands : Symbol → Symbol → Type 0) (eq : Symbol → Symbol → Bool) (entry : Symbol → Option (ℕ × ℕ))
     (rows : List (Row Symbol)) (bits precision : ℕ) (tile : RowsTile bits precision rows)
     (alike : (s : Symbol) → entry s ≡ entry_of eq rows s) where
-  pub symbol-back : SymbolComesBack Stands eq entry rows precision
+  -- what is decoded after a symbol was encoded stands for an equal one, and what was under it is left
+  pub symbol-back : (symbol answer : Symbol) (full rest under : Content) → IsEncoded entry precision symbol full rest
+      → IsDecoded Stands rows precision answer full under → StandsForEqual Stands eq symbol answer × (under ≡ rest)
   symbol-back symbol answer full rest under e d =
       let same = entry-back bits precision eq rows symbol e.left e.weight (full.state % 2 ^ precision) d.row tile
       (sym (alike symbol) ∙ e.known) e.top.from e.top.to d.found in (
@@ -23,7 +26,10 @@ module _ {Symbol : Type 0} (Stands : Symbol → Symbol → Type 0) (eq : Symbol 
         refills-once _ full.words under rest (rw (same.1, same.2) at d.top.under) e.top.under,
       )
 
-  pub symbols-back : SymbolsComeBack Stands eq entry rows precision
+  -- the same for as many symbols as were encoded
+  pub symbols-back : (symbols answers : List Symbol) (full rest under : Content) → InTurn (IsEncoded entry precision) symbols full rest
+      → InTurn (IsDecoded Stands rows precision) answers full under → length answers ≡ length symbols
+      → AllZip (StandsForEqual Stands eq) symbols answers × (under ≡ rest)
   symbols-back [] [] full rest under e d n = (tt, sym d ∙ e)
   symbols-back [] (a ∷ ts) full rest under e d n = absurd (omega arith)
   symbols-back (s ∷ ss) [] full rest under e d n = absurd (omega arith)
@@ -50,16 +56,12 @@ put-once precision left weight a b rest fits some within ha hb p q =
     let b-high = put_high precision left weight (under b.state) fits some within in
     grind (arith, p.under, q.under, length_push {X = ℕ})
 
-some-inj : {X : Type 0} (x y : X) → Some x ≡ Some y → x ≡ y
-some-inj x y e = cc
-
 -- so a symbol is encoded in one way by the entries of rows that lie within the quantiles
 pub encode-once : {Symbol : Type 0} (eq : Symbol → Symbol → Bool) (rows : List (Row Symbol)) (precision : ℕ) → precision ≤ 32
-    → All (LiesWithin precision) rows → EncodedOnce (entry_of eq rows) precision
+    → All (LiesWithin precision) rows → (symbol : Symbol) (a b rest : Content) → MayBeHeld a → MayBeHeld b
+    → IsEncoded (entry_of eq rows) precision symbol a rest → IsEncoded (entry_of eq rows) precision symbol b rest → a ≡ b
 encode-once eq rows precision fits within symbol a b rest ha hb p q =
-    let same : ◌≡◌ {A = ℕ × ℕ} (q.left, q.weight) (p.left, p.weight) = some-inj _ _ (sym q.known ∙ p.known) in
-    let lefts : q.left ≡ p.left = ap (λ (x : ℕ × ℕ). x.0) same in
-    let weights : q.weight ≡ p.weight = ap (λ (x : ℕ × ℕ). x.1) same in
+    let same = one-entry _ q.left q.weight p.left p.weight q.known p.known in
     put-once precision p.left p.weight a b rest fits
     (entry-positive precision eq rows symbol (p.left, p.weight) (sym p.known) within)
-    (entry-within precision eq rows symbol (p.left, p.weight) (sym p.known) within) ha hb p.top (rw (lefts, weights) at q.top)
+    (entry-within precision eq rows symbol (p.left, p.weight) (sym p.known) within) ha hb p.top (rw (same.0, same.1) at q.top)

@@ -11,7 +11,7 @@ use Rattle.constriction.specs.Rows.{Row, RowsTile, IsRowOf, entry_of}
 use Rattle.constriction_backends.specs.Source.{ReadsUpcoming}
 use Rattle.constriction_coders.specs.Intervals.{Interval, interval, part_of, word_or_zero, HoldsPoint, IsAboveAll, IsWidenedByRead, IsStart, Held, held_of, IsRead}
 use Rattle.constriction_coders.specs.Numbers.{number_first}
-use Rattle.constriction_coders.specs.RangeLaws.{IsAt, IsDecodedFrom, DecoderFollows, EndsThere, NeverAboveAll, RangeSymbolComesBack, RangeSymbolsComeBack}
+use Rattle.constriction_coders.specs.RangeLaws.{IsAt, IsDecodedFrom, FollowsEncoder}
 use Rattle.constriction_coders.specs.Spans.{Span, span, whole, part_in, IsWidened, IsNarrowed, LiesIn}
 use Rattle.constriction_coders.proofs.NumberLemmas.{first-more}
 use Rattle.constriction_coders.proofs.Once.{run-once}
@@ -90,8 +90,8 @@ module _ {S E : Type 0} (gives : S → Result (Option ℕ) E → S → Type 0) (
       let offset : i.offset * 2 ^ 32 + word_or_zero stretched.1
       ≡ number_first (part.written + 1 + 2) words - part.low * 2 ^ 32 =
       omega (arith, ap (λ (x : Interval). x.offset) is, read.0, more, low) in
-      let there : IsAt tells (span (part.low * 2 ^ 32) (part.size * 2 ^ 32) (part.written + 1)) words (record { held = held; source = to }) =
-      record {
+      let there : IsAt tells (span (part.low * 2 ^ 32) (part.size * 2 ^ 32) (part.written + 1)) words
+      (record { held = held; source = to }) = record {
         held = stretched.3 ∙ ap (λ n. interval n (i.offset * 2 ^ 32 + word_or_zero stretched.1)) range
             ∙ ap (λ n. interval (part.size * 2 ^ 32) n) offset;
         known = subst (λ n. tells to (drop n words)) sum read.1;
@@ -107,7 +107,8 @@ module _ {Symbol S E : Type 0} (Stands : Symbol → Symbol → Type 0) (eq : Sym
       fits-entry eq rows precision (rows-within bits precision rows tile) symbol left weight (sym (alike symbol) ∙ known)
 
   module _ (words : List ℕ) (fit : All (λ w. w < 2 ^ 32) words) where
-    lies-in : (symbols : List Symbol) (s last : Span) → InTurn (IsNarrowed entry precision) symbols s last → LiesIn last words → LiesIn s words
+    lies-in : (symbols : List Symbol) (s last : Span) → InTurn (IsNarrowed entry precision) symbols s last → LiesIn last words
+        → LiesIn s words
     lies-in = lies-run entry precision fits words fit
 
     -- ---- a symbol
@@ -165,12 +166,12 @@ module _ {Symbol S E : Type 0} (Stands : Symbol → Symbol → Type 0) (eq : Sym
         is-at-next =
             let stretched : IsWidenedByRead gives (interval (unit * e.weight) (offset - unit * e.left)) now.source later.held later.source =
             rw (same-entry.1, same-entry.2) at
-            (subst (λ (i : Interval). IsWidenedByRead gives (part_of precision d.row.left d.row.weight i) now.source later.held later.source)
-            here.held d.next) in
+            (subst (λ (i : Interval).
+            IsWidenedByRead gives (part_of precision d.row.left d.row.weight i) now.source later.held later.source) here.held d.next) in
             let away : offset - unit * e.left ≡ number_first (old.written + 2) words - (old.low + unit * e.left) =
             omega (arith, inside.0) in
-            is-at-part gives tells law part new words (interval (unit * e.weight) (offset - unit * e.left)) later.held now.source later.source
-            (ap (λ n. interval (unit * e.weight) n) away) inside.0 here.known stretched e.next
+            is-at-part gives tells law part new words (interval (unit * e.weight) (offset - unit * e.left)) later.held now.source
+            later.source (ap (λ n. interval (unit * e.weight) n) away) inside.0 here.known stretched e.next
 
     -- ---- a message
 
@@ -197,44 +198,49 @@ module _ {Symbol S E : Type 0} (Stands : Symbol → Symbol → Type 0) (eq : Sym
           λ fewer. rest.2 (omega (arith, fewer)),
         )
 
-  pub range-symbol-back : RangeSymbolComesBack Stands eq entry rows gives tells precision
-  range-symbol-back symbol answer old new words now later fit e lies here d =
-      (symbol-back words fit symbol old new now e lies here answer later d, is-at-next words fit symbol old new now e lies here answer later d)
+  pub range-symbol-back : (symbol answer : Symbol) (old new : Span) (words : List ℕ) (now later : Held S) → All (λ w. w < 2 ^ 32) words
+      → IsNarrowed entry precision symbol old new → LiesIn new words → IsAt tells old words now
+      → IsRead Stands rows gives precision answer now later → StandsForEqual Stands eq symbol answer × IsAt tells new words later
+  range-symbol-back symbol answer old new words now later fit e lies here d = (
+    symbol-back words fit symbol old new now e lies here answer later d,
+    is-at-next words fit symbol old new now e lies here answer later d,
+  )
 
   -- ---- a message, from a span of it on
 
-  module _ (positive : 0 < precision) where
-    back : (first : Span) (symbols answers : List Symbol) (words : List ℕ) (now : Held S)
-        → IsDecodedFrom Stands eq entry rows gives tells precision first symbols answers words now
+  module _ (positive : 0 < precision) (first last : Span) where
+    back : (symbols answers : List Symbol) (words : List ℕ) (now : Held S)
+        → IsDecodedFrom Stands eq entry rows gives tells precision first last symbols answers words now
         → AllZip (StandsForEqual Stands eq) (take (length answers) symbols) answers
         × ((mid : Span) × InTurn (IsNarrowed entry precision) (take (length answers) symbols) first mid × IsAt tells mid words now)
         × (length answers < length symbols → IsAboveAll precision now.held → ⊥)
-    back first [] [] words now h = (
+    back [] [] words now h = (
       tt,
       (first, refl, subst (λ (x : Held S). IsAt tells first words x) h.decoded h.begun),
       λ fewer. absurd (omega (arith, fewer)),
     )
-    back first [] (a ∷ ts) words now h = absurd (omega (arith, h.as_many))
-    back first (x ∷ xs) answers words now h =
-        run words h.message.fit (x ∷ xs) answers first h.last h.start now h.encoded
-        (h.message.lies (some-symbol entry precision fits positive x xs first h.last h.reached.fits h.encoded))
+    back [] (a ∷ ts) words now h = absurd (omega (arith, h.as_many))
+    back (x ∷ xs) answers words now h =
+        run words h.message.fit (x ∷ xs) answers first last h.start now h.encoded
+        (h.message.lies (some-symbol entry precision fits positive x xs first last h.reached.fits h.encoded))
         h.begun h.decoded h.as_many
 
-    pub range-symbols-back : RangeSymbolsComeBack Stands eq entry rows gives tells precision
-    range-symbols-back first symbols answers words now h = (back first symbols answers words now h).0
-
-    pub decoder-follows : DecoderFollows Stands eq entry rows gives tells precision
-    decoder-follows first symbols answers words now h = (back first symbols answers words now h).1
-
-    pub never-above : NeverAboveAll Stands eq entry rows gives tells precision
-    never-above first symbols answers words now h fewer = (back first symbols answers words now h).2 fewer
-
-    pub ends : EndsThere Stands eq entry rows gives tells precision
-    ends first last symbols answers words more now led sealed h many =
-        let there = decoder-follows first symbols answers (words ++ more) now h in
-        let all : take (length answers) symbols ≡ symbols = take_all (length answers) symbols (omega (arith, many)) in
-        let same : there.0 ≡ last =
-        run-once entry precision symbols first there.0 last
-        (subst (λ (ss : List Symbol). InTurn (IsNarrowed entry precision) ss first there.0) all there.1) led in
-        let at_last : IsAt tells last (words ++ more) now = subst (λ (s : Span). IsAt tells s (words ++ more) now) same there.2 in
-        ends-there last words more now.held h.message.fit sealed at_last.held
+    pub range-symbols-back : (symbols answers : List Symbol) (words : List ℕ) (now : Held S)
+        → IsDecodedFrom Stands eq entry rows gives tells precision first last symbols answers words now
+        → FollowsEncoder Stands eq entry rows gives tells precision first last symbols answers words now
+    range-symbols-back symbols answers words now h =
+        let both = back symbols answers words now h in record {
+          back = both.0;
+          follows = both.1;
+          valid = both.2;
+          ends = λ message more sealed is many.
+              let all : take (length answers) symbols ≡ symbols = take_all (length answers) symbols (omega (arith, many)) in
+              let same : both.1.0 ≡ last =
+              run-once entry precision symbols first both.1.0 last
+              (subst (λ (ss : List Symbol). InTurn (IsNarrowed entry precision) ss first both.1.0) all both.1.1) h.encoded in
+              let at_last : IsAt tells last words now = subst (λ (s : Span). IsAt tells s words now) same both.1.2 in
+              let there : IsAt tells last (message ++ more) now = subst (λ (ws : List ℕ). IsAt tells last ws now) is at_last in
+              let fit : All (λ w. w < 2 ^ 32) (message ++ more) =
+              subst (λ (ws : List ℕ). All (λ w. w < 2 ^ 32) ws) is h.message.fit in
+              ends-there last message more now.held fit sealed there.held;
+        }

@@ -9,7 +9,7 @@ use Rattle.constriction.specs.Rows.{Row}
 use Rattle.constriction_coders.specs.Intervals.{Held, IsRead, ReadingStops}
 use Rattle.constriction_coders.specs.declared.queue.range_decoder.DecoderFrontendError.{DecoderFrontendError}
 use Rattle.constriction_coders.specs.declared.queue.range_decoder.DecoderFrontendError.TheVariants.{InvalidData}
-use Rattle.constriction_coders.specs.RangeLaws.{IsAt, RangeSymbolsComeBack, NeverAboveAll}
+use Rattle.constriction_coders.specs.RangeLaws.{IsAt, RangeSymbolsComeBack}
 use Rattle.constriction_coders.specs.Spans.{Span, IsNarrowed, IsReached, LeadTo}
 
 module _ {Symbol S E : Type 0} (Stands : Symbol → Symbol → Type 0) (eq : Symbol → Symbol → Bool) (entry : Symbol → Option (ℕ × ℕ))
@@ -20,38 +20,37 @@ module _ {Symbol S E : Type 0} (Stands : Symbol → Symbol → Type 0) (eq : Sym
       → (symbols : List Symbol) (words : List ℕ) (first last : Span) → IsReached first → length symbols ≡ count
       → InTurn (IsNarrowed entry precision) symbols first last → LeadTo last words → IsAt tells first words start
       → AllZip (StandsForEqual Stands eq) symbols answers
-  came-back back answers now decoded many symbols words first last reached long encoded message begun =
-      subst (λ (ss : List Symbol). AllZip (StandsForEqual Stands eq) ss answers) (take_all (length answers) symbols (omega (arith, many, long)))
-      (back first symbols answers words now (record {
+  came-back law answers now decoded many symbols words first last reached long encoded message begun =
+      subst (λ (ss : List Symbol). AllZip (StandsForEqual Stands eq) ss answers)
+      (take_all (length answers) symbols (omega (arith, many, long)))
+      (law.symbols first last symbols answers words now (record {
         reached = reached;
-        last = last;
         encoded = encoded;
         message = message;
         start = start;
         begun = begun;
         decoded = decoded;
         as_many = omega (arith, many, long);
-      }))
+      })).back
 
-  pub not-invalid : NeverAboveAll Stands eq entry rows gives tells precision → (MayRefuse : Symbol → Type 0)
+  pub not-invalid : RangeSymbolsComeBack Stands eq entry rows gives tells precision → (MayRefuse : Symbol → Type 0)
       → (error : CoderError DecoderFrontendError E) (new : Held S)
       → ReadingStops Stands MayRefuse rows gives precision count error start new → error ≡ Frontend InvalidData
       → (symbols : List Symbol) (words : List ℕ) (first last : Span) → IsReached first → length symbols ≡ count
       → InTurn (IsNarrowed entry precision) symbols first last → LeadTo last words → IsAt tells first words start → ⊥
-  not-invalid valid MayRefuse error new stops is symbols words first last reached long encoded message begun =
+  not-invalid law MayRefuse error new stops is symbols words first last reached long encoded message begun =
       let invalid = subst (λ (e : CoderError DecoderFrontendError E). ReadingStops Stands MayRefuse rows gives precision count e start new)
       is stops in
       elim invalid.why [
         | inl fewer ↦
-            valid first symbols invalid.done words invalid.reached (record {
+            (law.symbols first last symbols invalid.done words invalid.reached (record {
               reached = reached;
-              last = last;
               encoded = encoded;
               message = message;
               start = start;
               begun = begun;
               decoded = invalid.led;
               as_many = omega (arith, fewer.0, long);
-            }) (omega (arith, fewer.0, long)) fewer.1.fault.0
+            })).valid (omega (arith, fewer.0, long)) fewer.1.fault.0
         | inr none ↦ cc (none.1)
       ]

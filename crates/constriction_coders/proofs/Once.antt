@@ -1,5 +1,5 @@
 -- Symbols have one message.
-use Rattle.std.proofs.Common.{◌≡◌, ℕ, suc, zero, ◌+◌, ◌*◌, ◌^◌, ◌<◌, ◌≤◌, ◌⊎◌, List, [], ◌∷◌, Option, Some, length, get_or, ap, sym, ◌∙◌, subst, arith, inl, inr}
+use Rattle.std.proofs.Common.{◌≡◌, ℕ, suc, zero, ◌+◌, ◌*◌, ◌^◌, ◌<◌, ◌≤◌, ◌⊎◌, List, [], ◌∷◌, Option, length, get_or, ap, sym, ◌∙◌, subst, arith, inl, inr}
 use Rattle.std.specs.Prelude.{All}
 use Rattle.std.proofs.lemmas.Bool.{cases_eq}
 use Rattle.std.proofs.lemmas.List.{ext_get_or}
@@ -8,9 +8,7 @@ use Rattle.constriction_coders.specs.Numbers.{number_first, number_of}
 use Rattle.constriction_coders.specs.RangeLaws.{MessageOnce}
 use Rattle.constriction_coders.specs.Spans.{Span, whole, part_in, IsWidened, IsNarrowed, IsPointOf, IsSealed}
 use Rattle.constriction_coders.proofs.NumberLemmas.{word-fits}
-
-some-inj : {X : Type 0} (x y : X) → Some x ≡ Some y → x ≡ y
-some-inj x y e = cc
+use Rattle.constriction_coders.proofs.Steps.{one-entry}
 
 widened-once : (s a b : Span) → IsWidened s a → IsWidened s b → a ≡ b
 widened-once s a b p q = grind arith
@@ -19,10 +17,8 @@ module _ {Symbol : Type 0} (entry : Symbol → Option (ℕ × ℕ)) (precision :
   narrowed-once : (symbol : Symbol) (old a b : Span) → IsNarrowed entry precision symbol old a → IsNarrowed entry precision symbol old b
       → a ≡ b
   narrowed-once symbol old a b p q =
-      let same : ◌≡◌ {A = ℕ × ℕ} (q.left, q.weight) (p.left, p.weight) = some-inj _ _ (sym q.known ∙ p.known) in
-      let lefts : q.left ≡ p.left = ap (λ (x : ℕ × ℕ). x.0) same in
-      let weights : q.weight ≡ p.weight = ap (λ (x : ℕ × ℕ). x.1) same in
-      widened-once (part_in precision p.left p.weight old) a b p.next (rw (lefts, weights) at q.next)
+      let same = one-entry (entry symbol) q.left q.weight p.left p.weight q.known p.known in
+      widened-once (part_in precision p.left p.weight old) a b p.next (rw (same.0, same.1) at q.next)
 
   pub run-once : (symbols : List Symbol) (s a b : Span) → InTurn (IsNarrowed entry precision) symbols s a
       → InTurn (IsNarrowed entry precision) symbols s b → a ≡ b

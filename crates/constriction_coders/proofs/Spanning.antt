@@ -6,7 +6,6 @@ use Rattle.constriction.specs.lemmas.Coding.{entry-within}
 use Rattle.constriction.specs.Model.{LiesWithin}
 use Rattle.constriction.specs.Rows.{Row, entry_of}
 use Rattle.constriction_coders.specs.Numbers.{number_first}
-use Rattle.constriction_coders.specs.RangeLaws.{LeavesWhole, LiesBefore}
 use Rattle.constriction_coders.specs.Spans.{Span, span, whole, part_in, IsWidened, IsNarrowed, IsReached, LiesIn}
 use Rattle.constriction_coders.proofs.Narrowing.{part-within, part-less, unit-within}
 use Rattle.constriction_coders.proofs.NumberLemmas.{word-fits, first-more}
@@ -40,7 +39,8 @@ fits-entry eq rows precision within symbol left weight known =
 
 module _ {Symbol : Type 0} (entry : Symbol → Option (ℕ × ℕ)) (precision : ℕ)
     (fits : (symbol : Symbol) (left weight : ℕ) → entry symbol ≡ Some (left, weight) → left + weight ≤ 2 ^ precision) where
-  pub lies-back : LiesBefore entry precision
+  pub lies-back : (symbol : Symbol) (old new : Span) (words : List ℕ) → All (λ w. w < 2 ^ 32) words
+      → IsNarrowed entry precision symbol old new → LiesIn new words → LiesIn old words
   lies-back symbol old new words fit e lies =
       lies-before words fit precision e.left e.weight old new (fits symbol e.left e.weight e.known) e.next lies
 
@@ -50,7 +50,8 @@ module _ {Symbol : Type 0} (entry : Symbol → Option (ℕ × ℕ)) (precision :
   lies-run words fit (x ∷ xs) s last e lies = lies-back x s e.0 words fit e.1 (lies-run words fit xs e.0 last e.2 lies)
 
   module _ (positive : 0 < precision) where
-    pub leaves-whole : LeavesWhole entry precision
+    pub leaves-whole : (symbol : Symbol) (old new : Span) → IsNarrowed entry precision symbol old new → old.size < 2 ^ 64
+        → new.size < 2 ^ 64 - 1
     leaves-whole symbol s new e bound = go e.next
       where
         go : IsWidened (part_in precision e.left e.weight s) new → new.size < 2 ^ 64 - 1

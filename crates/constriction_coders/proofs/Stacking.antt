@@ -1,14 +1,12 @@
 -- Words and symbols of a stack that held nothing before: symbols have one list of words, and come back from it.
-use Rattle.std.proofs.Common.{◌≡◌, ℕ, ◌+◌, ◌^◌, ◌<◌, ◌≤◌, Bool, List, [], ◌∷◌, Option, Some, sym, ◌∙◌, subst, arith}
+use Rattle.std.proofs.Common.{◌≡◌, ℕ, ◌+◌, ◌^◌, ◌<◌, ◌≤◌, List, [], ◌∷◌, Option, Some, sym, ◌∙◌, subst, arith}
 use Rattle.std.proofs.lemmas.List.{length_push}
 use Rattle.constriction.specs.Coding.{InTurn}
-use Rattle.constriction.specs.Rows.{Row}
-use Rattle.constriction_coders.specs.Compressed.{AreAllWordsOf}
-use Rattle.constriction_coders.specs.Laws.{EncodedOnce, SymbolsComeBack}
+use Rattle.constriction_coders.specs.Compressed.{AreAllWordsOf, IsCompressed}
 use Rattle.constriction_coders.specs.lemmas.Stack.{compressed-once}
-use Rattle.constriction_coders.specs.StackMessages.{WordsOnce, WordsComeBack, WordsEndAbove0}
+use Rattle.constriction_coders.specs.StackMessages.{IsStackOf}
 use Rattle.constriction_coders.specs.Steps.{Content, content, MayBeHeld, IsOnTop, IsEncoded}
-use Rattle.constriction_coders.proofs.Closing.{words-once, not-compressed}
+use Rattle.constriction_coders.proofs.Closing.{words-once}
 use Rattle.constriction_coders.proofs.States.{taken_at_most, taken_some}
 
 -- if a coder may hold a content, it may hold what is under the symbol on top
@@ -24,7 +22,8 @@ rest-held precision left weight full rest fits some within held top =
 
 module _ {Symbol : Type 0} (entry : Symbol → Option (ℕ × ℕ)) (precision : ℕ) (fits : precision ≤ 32)
     (lies : (s : Symbol) (left weight : ℕ) → entry s ≡ Some (left, weight) → (0 < weight) × (left + weight ≤ 2 ^ precision))
-    (once : EncodedOnce entry precision) where
+    (once : (s : Symbol) (a b rest : Content) → MayBeHeld a → MayBeHeld b → IsEncoded entry precision s a rest
+    → IsEncoded entry precision s b rest → a ≡ b) where
   under-held : (symbol : Symbol) (full rest : Content) → IsEncoded entry precision symbol full rest → MayBeHeld full → MayBeHeld rest
   under-held symbol full rest e held =
       let within = lies symbol e.left e.weight e.known in
@@ -38,20 +37,18 @@ module _ {Symbol : Type 0} (entry : Symbol → Option (ℕ × ℕ)) (precision :
       let same : p.0 ≡ q.0 = run-once ss p.0 q.0 last (under-held s a p.0 p.1 ha) (under-held s b q.0 q.1 hb) p.2 q.2 in
       once s a b q.0 ha hb (subst (λ (c : Content). IsEncoded entry precision s a c) same p.1) q.1
 
-  pub words-of-symbols-once : WordsOnce entry precision
+  pub words-of-symbols-once : (symbols : List Symbol) (words others : List ℕ) → IsStackOf entry precision symbols words
+      → IsStackOf entry precision symbols others → words ≡ others
   words-of-symbols-once symbols words others p q =
       let same : q.full ≡ p.full =
       run-once symbols q.full p.full (content 0 []) q.compressed.held p.compressed.held q.led p.led in
       words-once p.full words others p.compressed.words
       (subst (λ (c : Content). AreAllWordsOf c others) same q.compressed.words)
 
-pub words-end-above-0 : {Symbol : Type 0} (entry : Symbol → Option (ℕ × ℕ)) (precision : ℕ) → WordsEndAbove0 entry precision
-words-end-above-0 entry precision symbols words others p e = not-compressed p.full words others p.compressed e
-
-module _ {Symbol : Type 0} (Stands : Symbol → Symbol → Type 0) (eq : Symbol → Symbol → Bool) (entry : Symbol → Option (ℕ × ℕ))
-    (rows : List (Row Symbol)) (precision : ℕ) where
-  pub words-come-back : SymbolsComeBack Stands eq entry rows precision → WordsComeBack Stands eq entry rows precision
-  words-come-back law symbols answers words opened left stacked compressed decoded many =
-      let same : stacked.full ≡ opened = compressed-once stacked.full opened words stacked.compressed compressed in
-      law symbols answers opened (content 0 []) left
-      (subst (λ (c : Content). InTurn (IsEncoded entry precision) symbols c (content 0 [])) same stacked.led) decoded many
+-- if they have the same words, a coder of these holds what the encoder held
+pub opened-stack : {Symbol : Type 0} (entry : Symbol → Option (ℕ × ℕ)) (precision : ℕ) (symbols : List Symbol) (words : List ℕ)
+    (opened : Content) → IsStackOf entry precision symbols words → IsCompressed opened words
+    → InTurn (IsEncoded entry precision) symbols opened (content 0 [])
+opened-stack entry precision symbols words opened stacked compressed =
+    let same : stacked.full ≡ opened = compressed-once stacked.full opened words stacked.compressed compressed in
+    subst (λ (c : Content). InTurn (IsEncoded entry precision) symbols c (content 0 [])) same stacked.led

@@ -12,6 +12,16 @@ pub refills-back : (state : ℕ) (words all : List ℕ) → state < 2 ^ 64 → a
     → Refills (state / 2 ^ 32) all (content state words)
 refills-back state words all h is = inr (omega arith, state % 2 ^ 32, omega arith, is, sym (div-add-mod' state (2 ^ 32)))
 
+some-inj : {X : Type 0} (x y : X) → Some x ≡ Some y → x ≡ y
+some-inj x y e = cc
+
+-- a symbol has one entry
+pub one-entry : (entry : Option (ℕ × ℕ)) (left weight other_left other_weight : ℕ) → entry ≡ Some (left, weight)
+    → entry ≡ Some (other_left, other_weight) → (left ≡ other_left) × (weight ≡ other_weight)
+one-entry entry left weight other_left other_weight one other =
+    let same : ◌≡◌ {A = ℕ × ℕ} (left, weight) (other_left, other_weight) = some-inj _ _ (sym one ∙ other) in
+    (ap (λ (x : ℕ × ℕ). x.0) same, ap (λ (x : ℕ × ℕ). x.1) same)
+
 -- the row that was looked up is the row that needs a word
 pub needs-row : {Symbol : Type 0} (precision left weight other : ℕ) (c : Content) (quantile : ℕ) (rows : List (Row Symbol)) (own : Symbol)
     → quantile ≡ c.state % 2 ^ precision → IsRowOf rows quantile (record { symbol = own; left = left; weight = other }) → other ≡ weight

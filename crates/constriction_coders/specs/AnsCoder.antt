@@ -16,6 +16,13 @@ use Rattle.constriction_coders.specs.Steps.{Content, content, IsEncoded, IsDecod
 use Rattle.constriction_coders.specs.StoredWeights.{StopsAtWord}
 use Rattle.constriction_coders.specs.declared.stack.ans_coder.AnsCoder.{AnsCoder}
 
+-- no state was read: the word on top is 0, which belongs to no state; or the first or the second read failed
+abbrev pub ReadsNoState : {S E : Type 0} → (S → Result (Option ℕ) E → S → Type 0) → S → CoderError S E → Type 0
+ReadsNoState gives from (Frontend left) = GivesAnswers gives from (Ok (Some 0) ∷ []) left
+ReadsNoState {S} gives from (Backend error) =
+    (left : S)
+    × (GivesAnswers gives from (Err error ∷ []) left ⊎ ((high : ℕ) × GivesAnswers gives from (Ok (Some high) ∷ Err error ∷ []) left))
+
 module _ {S WriteError ReadError : Type 0} {words : stack.Ghosts S ℕ WriteError ReadError} {writes : sink.Ghosts S ℕ WriteError}
     {shows : shown.Ghosts WriteError} {reads : source.Ghosts S ℕ Stack ReadError} {shows_too : shown.Ghosts ReadError} where
   -- the state of a coder, and the words under it
@@ -67,8 +74,7 @@ module _ {S WriteError ReadError : Type 0} {words : stack.Ghosts S ℕ WriteErro
       (λ to. Writes writes.write_gives coder.words own to)
       (λ error. (left : S) × StopsAtWord writes.write_gives coder.words own error left)
 
-  -- The words of a coder's state were read from the top: two, or fewer and then the end. A word of 0 on top belongs to no state. Or the
-  -- first or the second read failed.
+  -- the words of a coder's state were read from the top: two, or fewer and then the end; or none were
   abbrev pub ReadsState : S → Result (AnsCoder S WriteError ReadError words writes shows reads shows_too) (CoderError S ReadError)
       → Type 0
   ReadsState from (Ok coder) =
@@ -77,8 +83,4 @@ module _ {S WriteError ReadError : Type 0} {words : stack.Ghosts S ℕ WriteErro
       × GivesAnswers reads.read_gives from (Ok (Some coder.state) ∷ Ok None ∷ []) coder.words)
       ⊎ ((high : ℕ) × (low : ℕ) × (0 < high) × (coder.state ≡ high * 2 ^ 32 + low)
       × GivesAnswers reads.read_gives from (Ok (Some high) ∷ Ok (Some low) ∷ []) coder.words)
-  ReadsState from (Err (Frontend left)) = GivesAnswers reads.read_gives from (Ok (Some 0) ∷ []) left
-  ReadsState from (Err (Backend error)) =
-      (left : S)
-      × (GivesAnswers reads.read_gives from (Err error ∷ []) left
-      ⊎ ((high : ℕ) × GivesAnswers reads.read_gives from (Ok (Some high) ∷ Err error ∷ []) left))
+  ReadsState from (Err error) = ReadsNoState reads.read_gives from error

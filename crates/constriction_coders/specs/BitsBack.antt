@@ -1,100 +1,65 @@
 -- Bits-back coding: a symbol is put on a stack by way of a latent symbol, which is decoded from what the coder holds.
-use Rattle.std.specs.Prelude.{◌≡◌, ℕ, ◌%◌, ◌^◌, ◌⊎◌, Bool, IsTrue, List, Option, None}
+use Rattle.std.specs.Prelude.{◌≡◌, ℕ, ◌%◌, ◌^◌, Bool, IsTrue, List}
 use Rattle.constriction.specs.Coding.{StandsForEqual}
 use Rattle.constriction.specs.Model.{ClonesAreEqual}
-use Rattle.constriction.specs.Rows.{Row, IsRowOf}
+use Rattle.constriction.specs.Rows.{Row, IsRowOf, entry_of}
 use Rattle.constriction_coders.specs.Laws.{IsInvertible}
 use Rattle.constriction_coders.specs.Steps.{Content, MayBeHeld, IsEncoded, IsDecoded}
 
--- `Posterior s m` says that m is a model of latent symbols that the symbol s chooses, and `Likelihood l m` that m is a model of symbols
--- that the latent symbol l chooses.
-module _ {Symbol Latent PosteriorModel LikelihoodModel : Type 0} (Posterior : Symbol → PosteriorModel → Type 0)
-    (Likelihood : Latent → LikelihoodModel → Type 0) (precision : ℕ) where
-  -- A latent symbol is decoded by the posterior, the symbol is encoded by the likelihood, and the latent symbol by its prior.
-  pub record EncodesByLatent (Stands : Latent → Latent → Type 0) (posterior_rows : PosteriorModel → List (Row Latent))
-      (likelihood_entry : LikelihoodModel → Symbol → Option (ℕ × ℕ)) (prior_entry : Latent → Option (ℕ × ℕ)) (symbol : Symbol)
-      (old new : Content) : Type 0 where
-    pub posterior : PosteriorModel
-    pub chosen : Posterior symbol posterior
-    pub latent : Latent
-    pub rest : Content
-    pub drawn : IsDecoded Stands (posterior_rows posterior) precision latent old rest
-    pub likelihood : LikelihoodModel
-    pub given : Likelihood latent likelihood
-    pub full : Content
-    pub coded : IsEncoded (likelihood_entry likelihood) precision symbol full rest
-    pub paid : IsEncoded prior_entry precision latent new full
+-- `full` has the symbol on `rest` by way of a latent one: `drawn` is `rest` without the latent symbol, by its posterior; `coded` has the
+-- symbol on top of that, by its likelihood; and `full` has the latent symbol on top of all, by its prior.
+pub record IsCodedByLatent {Symbol Latent : Type 0} (Posterior : Symbol → Latent → Content → Content → Type 0)
+    (Likelihood : Latent → Symbol → Content → Content → Type 0) (Prior : Latent → Content → Content → Type 0) (symbol : Symbol)
+    (full rest : Content) : Type 0 where
+  pub latent : Latent
+  pub drawn : Content
+  pub posterior : Posterior symbol latent rest drawn
+  pub coded : Content
+  pub likelihood : Likelihood latent symbol coded drawn
+  pub prior : Prior latent full coded
 
-  -- The inverse: the latent symbol is decoded by its prior, the symbol by the likelihood, and the latent symbol is encoded by the
-  -- posterior.
-  pub record DecodesByLatent (LatentStands : Latent → Latent → Type 0) (prior : List (Row Latent)) (Stands : Symbol → Symbol → Type 0)
-      (likelihood_rows : LikelihoodModel → List (Row Symbol)) (posterior_entry : PosteriorModel → Latent → Option (ℕ × ℕ))
-      (symbol : Symbol) (old new : Content) : Type 0 where
-    pub latent : Latent
-    pub full : Content
-    pub paid : IsDecoded LatentStands prior precision latent old full
-    pub likelihood : LikelihoodModel
-    pub given : Likelihood latent likelihood
-    pub rest : Content
-    pub coded : IsDecoded Stands (likelihood_rows likelihood) precision symbol full rest
-    pub posterior : PosteriorModel
-    pub chosen : Posterior symbol posterior
-    pub returned : IsEncoded (posterior_entry posterior) precision latent new rest
+-- `Chooses other model` says that another symbol chooses this model.
+module _ {Other Symbol Model : Type 0} (Chooses : Other → Model → Type 0) (rows : Model → List (Row Symbol)) (precision : ℕ) where
+  -- the symbol is encoded by a model that the other one chooses
+  abbrev pub IsEncodedByChosen : (eq : Symbol → Symbol → Bool) → Other → Symbol → Content → Content → Type 0
+  IsEncodedByChosen eq other symbol full rest =
+      (model : Model) × Chooses other model × IsEncoded (entry_of eq (rows model)) precision symbol full rest
 
-  -- The symbol is not encoded, because the latent symbol that the state chooses has no entry in the prior, or the symbol has none in the
-  -- likelihood.
-  pub record LacksEntry (Stands : Latent → Latent → Type 0) (posterior_rows : PosteriorModel → List (Row Latent))
-      (likelihood_entry : LikelihoodModel → Symbol → Option (ℕ × ℕ)) (prior_entry : Latent → Option (ℕ × ℕ)) (symbol : Symbol)
-      (old : Content) : Type 0 where
-    pub posterior : PosteriorModel
-    pub chosen : Posterior symbol posterior
-    pub row : Row Latent
-    pub found : IsRowOf (posterior_rows posterior) (old.state % 2 ^ precision) row
-    pub latent : Latent
-    pub stands : Stands row.symbol latent
-    pub likelihood : LikelihoodModel
-    pub given : Likelihood latent likelihood
-    pub lacks : (prior_entry latent ≡ None) ⊎ (likelihood_entry likelihood symbol ≡ None)
+  -- the symbol is decoded by such a model
+  abbrev pub IsDecodedByChosen : (Stands : Symbol → Symbol → Type 0) → Other → Symbol → Content → Content → Type 0
+  IsDecodedByChosen Stands other symbol full rest =
+      (model : Model) × Chooses other model × IsDecoded Stands (rows model) precision symbol full rest
 
-  -- No symbol is decoded, because the latent symbol has no entry in the posterior of the symbol; so no such symbol was encoded.
-  pub record LacksLatent (LatentStands : Latent → Latent → Type 0) (prior : List (Row Latent)) (Stands : Symbol → Symbol → Type 0)
-      (likelihood_rows : LikelihoodModel → List (Row Symbol)) (posterior_entry : PosteriorModel → Latent → Option (ℕ × ℕ))
-      (old : Content) : Type 0 where
-    pub latent : Latent
-    pub full : Content
-    pub paid : IsDecoded LatentStands prior precision latent old full
-    pub likelihood : LikelihoodModel
-    pub given : Likelihood latent likelihood
-    pub row : Row Symbol
-    pub found : IsRowOf (likelihood_rows likelihood) (full.state % 2 ^ precision) row
-    pub symbol : Symbol
-    pub stands : Stands row.symbol symbol
-    pub posterior : PosteriorModel
-    pub chosen : Posterior symbol posterior
-    pub lacks : posterior_entry posterior latent ≡ None
+  -- the state chooses the symbol among those of such a model
+  abbrev pub IsChosenByState : (Stands : Symbol → Symbol → Type 0) → Other → Symbol → Content → Type 0
+  IsChosenByState Stands other symbol full =
+      (model : Model) × Chooses other model × (row : Row Symbol) × IsRowOf (rows model) (full.state % 2 ^ precision) row
+      × Stands row.symbol symbol
 
+module _ {Symbol Latent PosteriorModel LikelihoodModel : Type 0}
+    (Posterior : Symbol → PosteriorModel → Type 0) (posterior_rows : PosteriorModel → List (Row Latent))
+    (posterior_eq : Latent → Latent → Bool) (PosteriorStands : Latent → Latent → Type 0)
+    (Likelihood : Latent → LikelihoodModel → Type 0) (likelihood_rows : LikelihoodModel → List (Row Symbol))
+    (likelihood_eq : Symbol → Symbol → Bool) (LikelihoodStands : Symbol → Symbol → Type 0)
+    (prior_eq : Latent → Latent → Bool) (PriorStands : Latent → Latent → Type 0) where
   -- The models fit together: equal symbols choose posteriors of the same rows, and equal latent symbols likelihoods of the same rows;
   -- latent symbols that are equal by the prior are equal by the posteriors; and what stands for a symbol is equal to it.
-  pub record FitTogether (LatentStands : Latent → Latent → Type 0) (prior_eq posterior_eq : Latent → Latent → Bool)
-      (DrawnStands : Latent → Latent → Type 0) (posterior_rows : PosteriorModel → List (Row Latent))
-      (Stands : Symbol → Symbol → Type 0) (eq : Symbol → Symbol → Bool) (likelihood_rows : LikelihoodModel → List (Row Symbol))
-      : Type 0 where
-    pub posteriors : (s t : Symbol) (m n : PosteriorModel) → IsTrue (eq s t) → Posterior s m → Posterior t n
+  pub record FitTogether : Type 0 where
+    pub posteriors : (s t : Symbol) (m n : PosteriorModel) → IsTrue (likelihood_eq s t) → Posterior s m → Posterior t n
         → posterior_rows m ≡ posterior_rows n
     pub likelihoods : (l k : Latent) (m n : LikelihoodModel) → IsTrue (prior_eq l k) → Likelihood l m → Likelihood k n
         → likelihood_rows m ≡ likelihood_rows n
     pub latents : (l k : Latent) → IsTrue (prior_eq l k) → IsTrue (posterior_eq l k)
-    pub invertible : (s : Symbol) (m : PosteriorModel) → Posterior s m → IsInvertible posterior_eq DrawnStands (posterior_rows m)
-    pub latent_clones : ClonesAreEqual prior_eq LatentStands
-    pub clones : ClonesAreEqual eq Stands
+    pub invertible : (s : Symbol) (m : PosteriorModel) → Posterior s m → IsInvertible posterior_eq PosteriorStands (posterior_rows m)
+    pub latent_clones : ClonesAreEqual prior_eq PriorStands
+    pub clones : ClonesAreEqual likelihood_eq LikelihoodStands
 
   -- What is decoded after a symbol was encoded stands for an equal one, and the coder holds what it held before.
-  abbrev pub BitsComeBack : (LatentStands : Latent → Latent → Type 0) → (prior : List (Row Latent)) → (prior_entry : Latent → Option (ℕ × ℕ))
-      → (DrawnStands : Latent → Latent → Type 0) → (posterior_rows : PosteriorModel → List (Row Latent))
-      → (posterior_entry : PosteriorModel → Latent → Option (ℕ × ℕ)) → (Stands : Symbol → Symbol → Type 0) → (eq : Symbol → Symbol → Bool)
-      → (likelihood_rows : LikelihoodModel → List (Row Symbol)) → (likelihood_entry : LikelihoodModel → Symbol → Option (ℕ × ℕ)) → Type 0
-  BitsComeBack LatentStands prior prior_entry DrawnStands posterior_rows posterior_entry Stands eq likelihood_rows likelihood_entry =
+  abbrev pub BitsComeBack : (prior : List (Row Latent)) → (precision : ℕ) → Type 0
+  BitsComeBack prior precision =
       (symbol answer : Symbol) (old full new : Content) → MayBeHeld old → MayBeHeld new
-      → EncodesByLatent DrawnStands posterior_rows likelihood_entry prior_entry symbol old full
-      → DecodesByLatent LatentStands prior Stands likelihood_rows posterior_entry answer full new
-      → StandsForEqual Stands eq symbol answer × (new ≡ old)
+      → IsCodedByLatent (IsDecodedByChosen Posterior posterior_rows precision PosteriorStands)
+      (IsEncodedByChosen Likelihood likelihood_rows precision likelihood_eq) (IsEncoded (entry_of prior_eq prior) precision) symbol full old
+      → IsCodedByLatent (IsEncodedByChosen Posterior posterior_rows precision posterior_eq)
+      (IsDecodedByChosen Likelihood likelihood_rows precision LikelihoodStands) (IsDecoded PriorStands prior precision) answer full new
+      → StandsForEqual LikelihoodStands likelihood_eq symbol answer × (new ≡ old)

@@ -2,8 +2,7 @@
 use Rattle.std.specs.Prelude.{◌≡◌, ℕ, ◌/◌, ◌%◌, ◌^◌, ◌<◌, ◌≤◌, ◌⊎◌, List, [], ◌∷◌, ◌++◌}
 use Rattle.constriction_coders.specs.Steps.{Content, MayBeHeld}
 
--- All words of a content: those under the state, and then those of the state, the lower one first and without a leading zero: none for 0,
--- one for a state below 2 ^ 32, and two for any other.
+-- all words of a content: those under the state, and then those of the state, the lower one first and without a leading zero
 abbrev pub AreAllWordsOf : Content → List ℕ → Type 0
 AreAllWordsOf c all =
     ((c.state ≡ 0) × (all ≡ c.words))

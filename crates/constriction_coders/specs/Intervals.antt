@@ -76,8 +76,7 @@ pub record IsRead {Symbol S E : Type 0} (Stands : Symbol → Symbol → Type 0) 
   pub holds : HoldsPoint precision row.left row.weight old.held
   pub next : IsWidenedByRead gives (part_of precision row.left row.weight old.held) old.source new.held new.source
 
--- This is why a symbol was not decoded: the point lies above all quantiles, or memory for the row in which it lies was refused, and
--- nothing was read; or a read answered the error.
+-- this is why a symbol was not decoded, and what that left of the source
 abbrev pub IsReadingFault : {Symbol S E : Type 0} → (Symbol → Type 0) → List (Row Symbol) → (S → Result (Option ℕ) E → S → Type 0)
     → (precision : ℕ) → CoderError DecoderFrontendError E → Held S → S → Type 0
 IsReadingFault MayRefuse rows gives precision (Frontend InvalidData) at left = IsAboveAll precision at.held × (left ≡ at.source)

@@ -17,36 +17,16 @@ pub record IsAt {S : Type 0} (tells : S → List ℕ → Type 0) (s : Span) (wor
 abbrev pub SealedWordsTell : Type 0
 SealedWordsTell = (s : Span) (words more : List ℕ) → IsSealed s words → All (λ w. w < 2 ^ 32) more → LeadTo s (words ++ more)
 
-module _ {Symbol : Type 0} (entry : Symbol → Option (ℕ × ℕ)) (precision : ℕ) where
-  -- a number in the span after a symbol is in the span before it
-  abbrev pub LiesBefore : Type 0
-  LiesBefore =
-      (symbol : Symbol) (old new : Span) (words : List ℕ) → All (λ w. w < 2 ^ 32) words → IsNarrowed entry precision symbol old new
-      → LiesIn new words → LiesIn old words
-
-  -- a symbol does not lead to the span of no symbol
-  abbrev pub LeavesWhole : Type 0
-  LeavesWhole =
-      (symbol : Symbol) (old new : Span) → IsNarrowed entry precision symbol old new → old.size < 2 ^ 64 → new.size < 2 ^ 64 - 1
-
-  -- symbols have one message
-  abbrev pub MessageOnce : Type 0
-  MessageOnce = (symbols : List Symbol) (a b : List ℕ) → IsMessageOf entry precision symbols a → IsMessageOf entry precision symbols b → a ≡ b
+-- symbols have one message
+abbrev pub MessageOnce : {Symbol : Type 0} → (Symbol → Option (ℕ × ℕ)) → (precision : ℕ) → Type 0
+MessageOnce {Symbol} entry precision =
+    (symbols : List Symbol) (a b : List ℕ) → IsMessageOf entry precision symbols a → IsMessageOf entry precision symbols b → a ≡ b
 
 module _ {Symbol S E : Type 0} (Stands : Symbol → Symbol → Type 0) (eq : Symbol → Symbol → Bool) (entry : Symbol → Option (ℕ × ℕ))
     (rows : List (Row Symbol)) (gives : S → Result (Option ℕ) E → S → Type 0) (tells : S → List ℕ → Type 0) (precision : ℕ) where
-  -- If a decoder is at the span before a symbol, and the number of its words is in the span after it, what it decodes stands for the
-  -- symbol, and then it is at the span after it.
-  abbrev pub RangeSymbolComesBack : Type 0
-  RangeSymbolComesBack =
-      (symbol answer : Symbol) (old new : Span) (words : List ℕ) (now later : Held S) → All (λ w. w < 2 ^ 32) words
-      → IsNarrowed entry precision symbol old new → LiesIn new words → IsAt tells old words now
-      → IsRead Stands rows gives precision answer now later → StandsForEqual Stands eq symbol answer × IsAt tells new words later
-
-  -- Symbols were encoded from a span on, and a decoder of their words that was at this span decoded no more symbols than there are.
-  pub record IsDecodedFrom (first : Span) (symbols answers : List Symbol) (words : List ℕ) (now : Held S) : Type 0 where
+  -- symbols were encoded from a span on, and a decoder of their words that was at this span decoded no more symbols than there are
+  pub record IsDecodedFrom (first last : Span) (symbols answers : List Symbol) (words : List ℕ) (now : Held S) : Type 0 where
     pub reached : IsReached first
-    pub last : Span
     pub encoded : InTurn (IsNarrowed entry precision) symbols first last
     pub message : LeadTo last words
     pub start : Held S
@@ -54,27 +34,26 @@ module _ {Symbol S E : Type 0} (Stands : Symbol → Symbol → Type 0) (eq : Sym
     pub decoded : InTurn (IsRead Stands rows gives precision) answers start now
     pub as_many : length answers ≤ length symbols
 
-  -- it is at the span of as many symbols as it decoded
-  abbrev pub DecoderFollows : Type 0
-  DecoderFollows =
-      (first : Span) (symbols answers : List Symbol) (words : List ℕ) (now : Held S) → IsDecodedFrom first symbols answers words now
-      → (s : Span) × InTurn (IsNarrowed entry precision) (take (length answers) symbols) first s × IsAt tells s words now
+  -- What was decoded stands for equal symbols, and the decoder is at the span of as many symbols. If a symbol is left, the point is in its
+  -- part: the words are never invalid. If none is left, and only other words follow the message, the decoder may be at the end.
+  pub record FollowsEncoder (first last : Span) (symbols answers : List Symbol) (words : List ℕ) (now : Held S) : Type 0 where
+    pub back : AllZip (StandsForEqual Stands eq) (take (length answers) symbols) answers
+    pub follows : (s : Span) × InTurn (IsNarrowed entry precision) (take (length answers) symbols) first s × IsAt tells s words now
+    pub valid : length answers < length symbols → ¬ (IsAboveAll precision now.held)
+    pub ends : (message more : List ℕ) → IsSealed last message → words ≡ message ++ more → length answers ≡ length symbols
+        → MayBeAtEnd now.held
 
-  -- what was decoded stands for equal symbols
-  abbrev pub RangeSymbolsComeBack : Type 0
-  RangeSymbolsComeBack =
-      (first : Span) (symbols answers : List Symbol) (words : List ℕ) (now : Held S) → IsDecodedFrom first symbols answers words now
-      → AllZip (StandsForEqual Stands eq) (take (length answers) symbols) answers
-
-  -- if a symbol is left, the point is in its part: the words are never invalid
-  abbrev pub NeverAboveAll : Type 0
-  NeverAboveAll =
-      (first : Span) (symbols answers : List Symbol) (words : List ℕ) (now : Held S) → IsDecodedFrom first symbols answers words now
-      → length answers < length symbols → ¬ (IsAboveAll precision now.held)
-
-  -- if no symbol is left, and the words are those of the message with others after them, the decoder may be at the end
-  abbrev pub EndsThere : Type 0
-  EndsThere =
-      (first last : Span) (symbols answers : List Symbol) (words more : List ℕ) (now : Held S)
-      → InTurn (IsNarrowed entry precision) symbols first last → IsSealed last words
-      → IsDecodedFrom first symbols answers (words ++ more) now → length answers ≡ length symbols → MayBeAtEnd now.held
+  -- what follows for symbols that are encoded by these entries and decoded by these rows, if they have the same entries
+  pub record RangeSymbolsComeBack : Type 0 where
+    -- a number in the span after a symbol is in the span before it
+    pub before : (symbol : Symbol) (old new : Span) (words : List ℕ) → All (λ w. w < 2 ^ 32) words
+        → IsNarrowed entry precision symbol old new → LiesIn new words → LiesIn old words
+    -- a symbol does not lead to the span of no symbol
+    pub leaves : (symbol : Symbol) (old new : Span) → IsNarrowed entry precision symbol old new → old.size < 2 ^ 64 → new.size < 2 ^ 64 - 1
+    -- If a decoder is at the span before a symbol, and the number of its words is in the span after it, what it decodes stands for the
+    -- symbol, and then it is at the span after it.
+    pub symbol : (symbol answer : Symbol) (old new : Span) (words : List ℕ) (now later : Held S) → All (λ w. w < 2 ^ 32) words
+        → IsNarrowed entry precision symbol old new → LiesIn new words → IsAt tells old words now
+        → IsRead Stands rows gives precision answer now later → StandsForEqual Stands eq symbol answer × IsAt tells new words later
+    pub symbols : (first last : Span) (symbols answers : List Symbol) (words : List ℕ) (now : Held S)
+        → IsDecodedFrom first last symbols answers words now → FollowsEncoder first last symbols answers words now

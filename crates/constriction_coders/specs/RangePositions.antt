@@ -25,8 +25,7 @@ pub record IsPlaceIn (words : List ℕ) (place : ℕ × RangeCoderState) : Type 
   pub inside : distance_at place words ≤ place.1.range
 
 -- A seek of a decoder to a place, where these are all words: it holds as many numbers as were noted, with the point so far above the lower
--- end, and the words after the two are still to come. It is refused where fewer words are there, or fewer than 2 ^ 32 numbers were noted, or
--- the point lies above the upper end, and then nothing changes.
+-- end, and the words after the two are still to come. It is refused if no decoder may stand there, and then nothing changes.
 abbrev pub SeeksSpan : {S : Type 0} → (S → List ℕ → Type 0) → List ℕ → Held S → ℕ × RangeCoderState → Result (Unit {0}) (Unit {0}) → Held S
     → Type 0
 SeeksSpan tells words old place r new =
@@ -34,8 +33,8 @@ SeeksSpan tells words old place r new =
     (λ _. IsPlaceIn words place × (new.held ≡ interval place.1.range (distance_at place words)) × tells new.source (drop (place.0 + 2) words))
     (λ _. ((length words < place.0) ⊎ (place.1.range < 2 ^ 32) ⊎ (place.1.range < distance_at place words)) × (new ≡ old))
 
--- A place was noted, and symbols were encoded from there to the last span of a message. Over the words of the message, whatever words come
--- after them, a seek to the place succeeds, and the decoder is at the span that was noted.
+-- A place was noted, and symbols were encoded from there to the last span of a message. Over its words, whatever words come after them, a
+-- seek to the place succeeds, and the decoder is at the span that was noted.
 abbrev pub RangePlaceComesBack : {Symbol S : Type 0} → (Symbol → Option (ℕ × ℕ)) → ℕ → (S → List ℕ → Type 0) → Type 0
 RangePlaceComesBack {Symbol} {S} entry precision tells =
     (symbols : List Symbol) (noted last : Span) (words more there : List ℕ) (old new : Held S) (r : Result (Unit {0}) (Unit {0}))

@@ -48,7 +48,7 @@ pub record IsReached (s : Span) : Type 0 where
   pub within : s.low + s.size < 2 ^ (32 * (s.written + 2))
   pub begun : s.size ≡ 2 ^ 64 - 1 → s ≡ whole
 
--- this is why a symbol was not encoded: it has no entry, or its part needs a word and memory for that was refused
+-- this is why a symbol was not encoded
 abbrev pub IsNarrowingFault : {Symbol Fault E : Type 0} → (Symbol → Option (ℕ × ℕ)) → (precision : ℕ) → CoderError Fault E → Symbol
     → Span → Type 0
 IsNarrowingFault entry precision (Frontend fault) symbol s = entry symbol ≡ None

@@ -55,8 +55,7 @@ pub record IsDecoded {Symbol : Type 0} (Stands : Symbol → Symbol → Type 0) (
 abbrev pub NeedsWord : (precision left weight : ℕ) → Content → Type 0
 NeedsWord precision left weight c = (taken precision left weight c.state < 2 ^ 32) × (c.words ≢ [])
 
--- This is why a symbol was not decoded: memory for the row of the state's quantile was refused, as it may be; or a read failed, and without
--- that row the state needs a word.
+-- this is why a symbol was not decoded
 abbrev pub IsDecodingFault : {Symbol Fault E : Type 0} → (Symbol → Type 0) → List (Row Symbol) → (precision : ℕ) → CoderError Fault E
     → Content → Type 0
 IsDecodingFault MayRefuse rows precision (Frontend fault) c = RowMayBeRefused MayRefuse rows (c.state % 2 ^ precision)

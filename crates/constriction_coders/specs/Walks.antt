@@ -1,8 +1,8 @@
 -- An iterator over decoded symbols.
 use Rattle.std.specs.Prelude.{◌≡◌, ℕ, ◌+◌, Option, Some, None}
 
--- A step of this iterator, which has `left` answers yet to give and `rest` after it: an answer of the coder; or nothing, if no answer is left,
--- and then nothing changes. An error stands in the place of a symbol and counts as an answer.
+-- A step of this iterator, which has `left` answers yet to give and `rest` after it: an answer of the coder, which may be an error; or
+-- nothing, if no answer is left, and then nothing changes.
 abbrev pub StepsOn : {Coder Answer : Type 0} → (Answers : Coder → Answer → Coder → Type 0) → (left : ℕ) → Coder → Option Answer → (rest : ℕ)
     → Coder → Type 0
 StepsOn Answers left old None rest new = (left ≡ 0) × (rest ≡ 0) × (new ≡ old)

@@ -12,14 +12,13 @@ pub enum BytesError {
     /// Their number is no multiple of 4.
     #[error("The last word was cut.")]
     CutWord,
-    /// Memory for the words was refused.
     #[error("Memory for the words was refused.")]
     OutOfMemory,
 }
 
 /// Adds the bytes of words, four each.
 ///
-/// Memory is asked for at most once. If it is refused, the bytes stay.
+/// Memory is asked for at most once.
 pub fn push_words(bytes: &mut Vec<u8>, words: &[u32]) -> Result<(), AllocError>
     ensures ok { OnOk result (bytes.new.items ≡ bytes.old.items ++ bytes_of_words words.now) }
     ensures err { OnErr result (bytes.new.items ≡ bytes.old.items) }

@@ -11,16 +11,13 @@ use thiserror::Error;
 /// Why counts have no weights.
 #[derive(Debug, PartialEq, Eq, Drop, Error)]
 pub enum CountsError {
-    /// No count is above 0.
     #[error("No symbol occurs.")]
     NothingOccurs,
-    /// More counts are above 0 than there are quantiles.
     #[error("More symbols occur than there are quantiles.")]
     TooManySymbols,
     /// Only one count is above 0, at 32 bits: its weight would be `2^32`, which is no word.
     #[error("The weight of the only symbol that occurs is no word.")]
     WeightIsNoWord,
-    /// Memory for the weights was refused.
     #[error("Memory for the weights was refused.")]
     OutOfMemory,
 }
@@ -90,11 +87,11 @@ fn shares_of(
     Ok(weights)
 }
 
-/// Weights over `2^PRECISION` in proportion to counts, one for each count. A weight is 0 if its count is 0, and otherwise at least 1.
+/// Weights over `2^PRECISION` in proportion to counts, one for each count.
 ///
-/// A model accepts the weights that are not 0. The weight of a symbol that occurs differs by less than 1 from 1 plus its share of the
-/// quantiles that are left when each symbol that occurs has one. The counts may have any sum. There are two passes over the counts, with
-/// a division for each count, and memory is asked for once.
+/// The weight of a symbol that occurs differs by less than 1 from 1 plus its share of the quantiles that are left when each symbol that
+/// occurs has one. The counts may have any sum. There are two passes over the counts, with a division for each count, and memory is asked
+/// for once.
 pub fn weights_of<const PRECISION: usize>(
     alloc: Global,
     counts: &[u64],

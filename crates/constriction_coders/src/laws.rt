@@ -7,21 +7,18 @@ mod stack;
 
 pub use self::queue::{
     message_comes_back, message_from, message_of, one_message, published_message,
-    range_place_comes_back, range_symbol_comes_back, range_symbols_come_back, sealed_words_tell,
+    range_place_comes_back, range_symbols_come_back, sealed_words_tell,
 };
 pub use self::stack::{
     back_and_there, bits_come_back, compressed_comes_back, compressed_once, decoded_goes_back,
-    encoded_once, may_be_held, place_comes_back, symbol_comes_back, symbols_come_back,
-    there_and_back, words_come_back, words_once,
+    encoded_once, may_be_held, symbols_come_back, there_and_back,
 };
 
 /// Why a message did not come back.
 #[derive(Debug, Drop, Error)]
 pub enum MessageError<EncodingError, DecodingError> {
-    /// A symbol was not encoded.
     #[error("A symbol was not encoded.")]
     Encoding(EncodingError),
-    /// A symbol was not decoded.
     #[error("A symbol was not decoded.")]
     Decoding(DecodingError),
 }

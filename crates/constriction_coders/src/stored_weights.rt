@@ -1,13 +1,12 @@
 //! Stored weights: the number of weights and then the weights, as words.
 
-ghost use Rattle.std.specs.Prelude.{◌≡◌, ◌≢◌, [], ◌∷◌, ◌++◌, ◌+◌, ◌*◌, ◌^◌, ◌<◌, ◌≤◌, ℕ, List, length, map, Some, None, Ok, Err, IfOk, OnOk, vec_capacity};
+ghost use Rattle.std.specs.Prelude.{◌≡◌, ◌≢◌, [], ◌∷◌, ◌++◌, ◌+◌, ◌*◌, ◌^◌, ◌≤◌, length, map, Err, IfOk, IfErr, OnOk, vec_capacity};
 ghost use Rattle.std.specs.List.{IsDistinct};
 ghost use Rattle.constriction.specs.Acceptance.{AreAccepted};
 ghost use Rattle.constriction.specs.ModelRows.{decoder_model_rows};
 ghost use Rattle.constriction.specs.Rows.{rows_of, symbols_of};
-ghost use Rattle.constriction_backends.specs.Sink.{Writes};
-ghost use Rattle.constriction_backends.specs.Source.{Reads};
-ghost use Rattle.constriction_coders.specs.StoredWeights.{weights_as_words, BeginsWeights, EndsInWeights, StaysInWeights, ReadsWeights, ReadsModel, StopsAtWord};
+ghost use Rattle.constriction.specs.Precision.{IsPrecision};
+ghost use Rattle.constriction_coders.specs.StoredWeights.{ReadsModel, ReadsWeights, StopsReadingWeights, StopsWritingWeights, WritesWeights};
 
 use constriction::backends::{Cursor, ReadWords, ReadWriteError, WriteWords};
 use constriction::stream::model::{
@@ -21,13 +20,10 @@ use thiserror::Error;
 /// Why no model was read.
 #[derive(Debug, PartialEq, Eq, Drop, Error)]
 pub enum ReadingError {
-    /// The words end before the weights do.
     #[error("The words end before the weights do.")]
     TooFewWords,
-    /// No model has these weights for these symbols.
     #[error("No model has these weights for these symbols.")]
     NotAccepted,
-    /// Memory for the model was refused.
     #[error("Memory for the model was refused.")]
     OutOfMemory,
 }
@@ -35,10 +31,8 @@ pub enum ReadingError {
 /// Why no weights were written.
 #[derive(Debug, PartialEq, Eq, Drop, Error)]
 pub enum StoringError {
-    /// The number of weights is no word.
     #[error("There are too many weights.")]
     TooManyWeights,
-    /// Memory for a row of the model was refused.
     #[error("Memory for a row of the model was refused.")]
     OutOfMemory,
 }
@@ -65,8 +59,8 @@ fn push_weight(weights: &mut Vec<u32>, weight: u32) -> Result<(), AllocError>
     Ok(())
 }
 
-/// Reads stored weights, and no word after them. Memory is asked for only for the weights that were read, as many again,
-/// and four, whatever number of weights is announced.
+/// Reads stored weights, and no word after them. Memory is asked for only for the weights that were read, as many again, and four,
+/// whatever number of weights is announced.
 pub fn read_weights<Source: ReadWords<u32, Queue>>(
     alloc: Global,
     source: &mut Source,
@@ -74,15 +68,9 @@ pub fn read_weights<Source: ReadWords<u32, Queue>>(
     requires { Source.can_read source.old }
     ensures goes_on { Source.can_read source.new }
     ensures ok { IfOk result (λ weights. ReadsWeights Source.read_gives Source.tells_upcoming source.old weights.items source.new) }
-    ensures too_few { result ≡ Err (CoderError.Frontend ReadingError.TooFewWords)
-        → EndsInWeights Source.read_gives source.old (Ok None) source.new }
-    ensures short { result ≡ Err (CoderError.Frontend ReadingError.TooFewWords)
-        → (words : List ℕ) → Source.tells_upcoming source.old words → BeginsWeights words }
-    ensures memory { result ≡ Err (CoderError.Frontend ReadingError.OutOfMemory)
-        → (words : List ℕ) × StaysInWeights words × Reads Source.read_gives source.old words source.new }
-    ensures accepted { result ≢ Err (CoderError.Frontend ReadingError.NotAccepted) }
-    ensures failed { (error : _) → result ≡ Err (CoderError.Backend error)
-        → EndsInWeights Source.read_gives source.old (Err error) source.new }
+    // No weights are refused.
+    ensures err { IfErr result (λ error. StopsReadingWeights Source.read_gives Source.tells_upcoming (λ _. ⊥) source.old error
+        source.new) }
 {
     let Some(count) = source.read()? else {
         return Err(CoderError::Frontend(ReadingError::TooFewWords));
@@ -107,14 +95,9 @@ pub fn write_weights<Sink: WriteWords<u32>>(
 ) -> Result<(), CoderError<StoringError, Sink::WriteError>>
     requires { Sink.can_write sink.old }
     ensures goes_on { Sink.can_write sink.new }
-    ensures ok { OnOk result (Writes Sink.write_gives sink.old (weights_as_words weights.now) sink.new) }
-    ensures written { OnOk result ((words : List ℕ) → Sink.tells_written sink.old words
-        → Sink.tells_written sink.new (words ++ weights_as_words weights.now)) }
-    ensures too_many { result ≡ Err (CoderError.Frontend StoringError.TooManyWeights) → 2 ^ 32 ≤ length weights.now }
+    ensures ok { OnOk result (WritesWeights Sink.write_gives Sink.tells_written sink.old weights.now sink.new) }
+    ensures err { IfErr result (λ error. StopsWritingWeights Sink.write_gives sink.old weights.now error sink.new) }
     ensures memory { result ≢ Err (CoderError.Frontend StoringError.OutOfMemory) }
-    ensures unwritten { (fault : _) → result ≡ Err (CoderError.Frontend fault) → sink.new ≡ sink.old }
-    ensures failed { (error : _) → result ≡ Err (CoderError.Backend error)
-        → StopsAtWord Sink.write_gives sink.old (weights_as_words weights.now) error sink.new }
 {
     if weights.len() > u32::MAX as usize {
         return Err(CoderError::Frontend(StoringError::TooManyWeights));
@@ -132,8 +115,7 @@ fn stored_model_of<Symbol: Eq + Drop, const PRECISION: usize>(
     symbols: Vec<Symbol>,
     weights: Vec<u32>,
 ) -> Result<StoredModel<Symbol, PRECISION>, ReadingError>
-    requires positive { 0 < PRECISION }
-    requires fits { PRECISION ≤ 32 }
+    requires precision { IsPrecision 32 PRECISION }
     ensures accepted { IfOk result (λ _. AreAccepted Symbol.eq 32 PRECISION symbols.items weights.items) }
     ensures rows { IfOk result (λ model. decoder_model_rows model ≡ rows_of symbols.items weights.items) }
     ensures not_accepted { result ≡ Err ReadingError.NotAccepted → ¬ (AreAccepted Symbol.eq 32 PRECISION symbols.items weights.items) }
@@ -154,25 +136,18 @@ pub fn read_model<Symbol: Eq + Drop, Source: ReadWords<u32, Queue>, const PRECIS
     symbols: Vec<Symbol>,
     source: &mut Source,
 ) -> Result<StoredModel<Symbol, PRECISION>, CoderError<ReadingError, Source::ReadError>>
-    requires positive { 0 < PRECISION }
-    requires fits { PRECISION ≤ 32 }
+    requires precision { IsPrecision 32 PRECISION }
     requires can_read { Source.can_read source.old }
     ensures goes_on { Source.can_read source.new }
     ensures ok { IfOk result (λ model. ReadsModel Source.read_gives Source.tells_upcoming Symbol.eq PRECISION symbols.items
         source.old (decoder_model_rows model) source.new) }
-    ensures not_accepted { result ≡ Err (CoderError.Frontend ReadingError.NotAccepted)
-        → (weights : List ℕ) × ReadsWeights Source.read_gives Source.tells_upcoming source.old weights source.new
-        × ¬ (AreAccepted Symbol.eq 32 PRECISION symbols.items weights) }
-    ensures too_few { result ≡ Err (CoderError.Frontend ReadingError.TooFewWords)
-        → EndsInWeights Source.read_gives source.old (Ok None) source.new }
-    ensures short { result ≡ Err (CoderError.Frontend ReadingError.TooFewWords)
-        → (words : List ℕ) → Source.tells_upcoming source.old words → BeginsWeights words }
-    ensures memory { result ≡ Err (CoderError.Frontend ReadingError.OutOfMemory)
-        → (words : List ℕ) × StaysInWeights words × Reads Source.read_gives source.old words source.new }
-    ensures failed { (error : _) → result ≡ Err (CoderError.Backend error)
-        → EndsInWeights Source.read_gives source.old (Err error) source.new }
+    ensures err { IfErr result (λ error. StopsReadingWeights Source.read_gives Source.tells_upcoming
+        (λ weights. ¬ (AreAccepted Symbol.eq 32 PRECISION symbols.items weights)) source.old error source.new) }
 {
-    let weights = read_weights(alloc, source)?;
+    let weights = match read_weights(alloc, source) {
+        Ok(weights) => weights,
+        Err(error) => return Err(error),
+    };
     match stored_model_of(alloc, symbols, weights) {
         Ok(table) => Ok(table),
         Err(fault) => Err(CoderError::Frontend(fault)),
@@ -205,13 +180,9 @@ where
     M::Symbol: Drop,
     requires { Sink.can_write sink.old }
     ensures goes_on { Sink.can_write sink.new }
-    ensures ok { OnOk result (Writes Sink.write_gives sink.old (weights_as_words (map (λ r. r.weight) (M.rows model))) sink.new) }
-    ensures written { OnOk result ((words : List ℕ) → Sink.tells_written sink.old words
-        → Sink.tells_written sink.new (words ++ weights_as_words (map (λ r. r.weight) (M.rows model)))) }
-    ensures too_many { result ≡ Err (CoderError.Frontend StoringError.TooManyWeights) → 2 ^ 32 ≤ length (M.rows model) }
-    ensures unwritten { (fault : _) → result ≡ Err (CoderError.Frontend fault) → sink.new ≡ sink.old }
-    ensures failed { (error : _) → result ≡ Err (CoderError.Backend error)
-        → StopsAtWord Sink.write_gives sink.old (weights_as_words (map (λ r. r.weight) (M.rows model))) error sink.new }
+    ensures ok { OnOk result (WritesWeights Sink.write_gives Sink.tells_written sink.old (map (λ r. r.weight) (M.rows model)) sink.new) }
+    ensures err { IfErr result (λ error. StopsWritingWeights Sink.write_gives sink.old (map (λ r. r.weight) (M.rows model)) error
+        sink.new) }
 {
     let Ok(weights) = row_weights(alloc, model) else {
         return Err(CoderError::Frontend(StoringError::OutOfMemory));
@@ -219,7 +190,7 @@ where
     write_weights(&weights, sink)
 }
 
-/// Writes the weights of a model and reads them with the symbols of its rows: the rows come back.
+/// Writes the weights of a model and reads them with the symbols of its rows.
 pub fn model_comes_back<M, const PRECISION: usize>(
     alloc: Global,
     model: M,

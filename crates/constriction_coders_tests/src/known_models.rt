@@ -1,9 +1,10 @@
 //! What contracts tell callers that make models of plain lists, and callers that encode numbers below `support_size`. Only `of_a_vec` has
 //! written answers, which are the constructor's clause at its list.
 
-ghost use Rattle.std.specs.Prelude.{◌≡◌, ◌<◌, ◌≤◌, Err, IfOk, IfSome, length, nat_eq};
+ghost use Rattle.std.specs.Prelude.{◌≡◌, ◌<◌, Err, IfOk, IfSome, length, nat_eq};
 ghost use Rattle.constriction.specs.Acceptance.{AreAccepted, IsAccepted};
 ghost use Rattle.constriction.specs.ModelRows.{contiguous_model_rows, decoder_model_rows};
+ghost use Rattle.constriction.specs.Precision.{IsPrecision};
 ghost use Rattle.constriction.specs.Rows.{contiguous_rows, rows_of};
 
 use crate::checks::same;
@@ -28,8 +29,7 @@ fn of_a_vec<const PRECISION: usize>(
     alloc: Global,
     weights: Vec<u32>,
 ) -> Result<Model<PRECISION>, ModelError>
-    requires positive { 0 < PRECISION }
-    requires fits { PRECISION ≤ 32 }
+    requires { IsPrecision 32 PRECISION }
     ensures accepted { IfOk result (λ _. IsAccepted 32 PRECISION weights.items) }
     ensures rows { IfOk result (λ model. contiguous_model_rows model ≡ contiguous_rows weights.items) }
     ensures invalid { result ≡ Err ModelError.InvalidTable → ¬ (IsAccepted 32 PRECISION weights.items) }
@@ -42,8 +42,7 @@ fn of_a_slice<const PRECISION: usize>(
     alloc: Global,
     weights: &[u32],
 ) -> Result<Model<PRECISION>, ModelError>
-    requires positive { 0 < PRECISION }
-    requires fits { PRECISION ≤ 32 }
+    requires { IsPrecision 32 PRECISION }
     ensures accepted { IfOk result (λ _. IsAccepted 32 PRECISION weights.now) }
     ensures rows { IfOk result (λ model. contiguous_model_rows model ≡ contiguous_rows weights.now) }
     ensures invalid { result ≡ Err ModelError.InvalidTable → ¬ (IsAccepted 32 PRECISION weights.now) }

@@ -3,7 +3,7 @@
 use crate::checks::{holds, same};
 use constriction::stream::model::DefaultUniformModel;
 use constriction_coders::laws::{
-    compressed_once, may_be_held, place_comes_back, words_come_back, words_once,
+    compressed_once, encoded_once, may_be_held, symbols_come_back,
 };
 use constriction_coders::stack::AnsCoder;
 
@@ -18,9 +18,8 @@ fn a_message_of_seven_symbols(rt: HostRuntime) {
     may_be_held(&coder);
     let words = coder.into_compressed().expect(&rt, "memory");
     holds(&rt, &words, &[18_104_627, 2_332_123_633, 206_639]);
-    words_once(&model);
-    words_come_back(&model, &model);
-    place_comes_back(&model);
+    encoded_once(&model);
+    symbols_come_back(&model, &model);
     compressed_once();
     let mut opened = AnsCoder::from_compressed(words).expect(&rt, "the coder");
     let answers = opened

@@ -16,7 +16,7 @@ use Rattle.constriction.specs.lemmas.Pairs.{has-row}
 use Rattle.constriction.specs.lemmas.Rows.{symbols-rows_from, weights-rows_from}
 use Rattle.constriction.specs.Rows.{Row, RowsTile, contiguous_rows, entry_of}
 use Rattle.constriction_coders.specs.Compressed.{AreAllWordsOf, IsCompressed}
-use Rattle.constriction_coders.specs.StackMessages.{IsStackOf, SymbolsOnce}
+use Rattle.constriction_coders.specs.StackMessages.{IsStackOf}
 use Rattle.constriction_coders.specs.States.{taken}
 use Rattle.constriction_coders.specs.Steps.{Content, content, Refills, IsEncoded}
 
@@ -47,7 +47,7 @@ compressed-is c all h = go h.words
 pub compressed-once : (a b : Content) (all : List ℕ) → IsCompressed a all → IsCompressed b all → a ≡ b
 compressed-once a b all p q = compressed-is a all p ∙ sym (compressed-is b all q)
 
-module _ {Symbol : Type 0} (Stands : Symbol → Symbol → Type 0) (eq : Symbol → Symbol → Bool) (entry : Symbol → Option (ℕ × ℕ))
+module _ {Symbol : Type 0} (eq : Symbol → Symbol → Bool) (entry : Symbol → Option (ℕ × ℕ))
     (rows : List (Row Symbol)) (precision bits : ℕ) (tile : RowsTile bits precision rows) (laws : IsEquivalence eq)
     (alike : (s : Symbol) → entry s ≡ entry_of eq rows s) where
   -- two symbols on top of one content are equal, and have the same under them
@@ -77,7 +77,9 @@ module _ {Symbol : Type 0} (Stands : Symbol → Symbol → Type 0) (eq : Symbol 
             (omega arith),
       )
 
-  pub symbols-once : SymbolsOnce Stands eq entry rows precision
+  -- two lists of as many symbols with the same words have equal symbols
+  pub symbols-once : (symbols others : List Symbol) (words : List ℕ) → IsStackOf entry precision symbols words
+      → IsStackOf entry precision others words → length symbols ≡ length others → AllZip (λ s t. IsTrue (eq s t)) symbols others
   symbols-once symbols others words p q many =
       let same : q.full ≡ p.full = compressed-once q.full p.full words q.compressed p.compressed in
       one-run symbols others p.full (content 0 []) p.led
@@ -91,7 +93,7 @@ numbers-once precision ws numbers others words accepted p q many =
     let long = length-range_with_len 0 (length ws) in
     let tile : RowsTile 32 precision (contiguous_rows ws) =
     record { accepted = rw weights-rows_from accepted; in_order = rw (weights-rows_from, symbols-rows_from) refl } in
-    let equal = symbols-once (λ s t. t ≡ s) nat_eq _ _ precision 32 tile nat_eq_equiv (λ s. refl) numbers others words p q many in
+    let equal = symbols-once nat_eq _ _ precision 32 tile nat_eq_equiv (λ s. refl) numbers others words p q many in
     sym (same_from_all_zip (λ s t. IsTrue (nat_eq s t)) numbers others equal (λ s t h. sym (eqb-true s t h)))
 
 -- a symbol adds at most one word

@@ -3,7 +3,7 @@
 ghost use Rattle.std.specs.Prelude.{◌≡◌, ◌≢◌, ◌++◌, ◌^◌, ◌<◌, ℕ, List, length, All, Some, None, Err, IsTrue, Contains, IfOk};
 ghost use Rattle.std.specs.List.{AllZip};
 ghost use Rattle.constriction_coders.specs.Published.{published_entries, published_words};
-ghost use Rattle.constriction_coders.specs.RangeLaws.{DecoderFollows, EndsThere, LeavesWhole, LiesBefore, MessageOnce, NeverAboveAll, RangeSymbolComesBack, RangeSymbolsComeBack, SealedWordsTell};
+ghost use Rattle.constriction_coders.specs.RangeLaws.{MessageOnce, RangeSymbolsComeBack, SealedWordsTell};
 ghost use Rattle.constriction_coders.specs.RangePositions.{RangePlaceComesBack};
 ghost use Rattle.constriction_coders.specs.Spans.{IsMessageOf};
 ghost use Rattle.constriction.specs.Coding.{StandsForEqual};
@@ -19,42 +19,19 @@ use constriction::{CoderError, DefaultEncoderFrontendError, Queue};
 use std::alloc::{AllocError, Global};
 use std::convert::Infallible;
 
-/// A symbol that is encoded by one model and decoded by the other comes back, whatever models the symbols before and after it have, if
-/// the decoder is at the span before it and the number of the words is in the span after it. Then the decoder is at the span after it.
-/// A number in the span after it is in the span before it.
-pub fn range_symbol_comes_back<D, E, Source, const PRECISION: usize>(decoder: &D, encoder: &E)
-where
-    D: DecoderModel<PRECISION, Probability = u32>,
-    E: EncoderModel<PRECISION, Symbol = D::Symbol, Probability = u32>,
-    Source: ReadWords<u32, Queue>,
-    requires { SameEntries E.symbol_eq (E.rows encoder.now) (D.rows decoder.now) }
-    ensures back { RangeSymbolComesBack D.stands_for E.symbol_eq (entry_of E.symbol_eq (E.rows encoder.now)) (D.rows decoder.now)
-        Source.read_gives Source.tells_upcoming PRECISION }
-    ensures before { LiesBefore (entry_of E.symbol_eq (E.rows encoder.now)) PRECISION }
-    ensures leaves { LeavesWhole (entry_of E.symbol_eq (E.rows encoder.now)) PRECISION }
-{}
-
-/// From any source that tells the words of a message, and from any span of the message on, what is decoded stands for what was encoded,
-/// in order, and the decoder is at the span of as many symbols. The words are never invalid before all symbols are decoded. Then the
-/// decoder may be at the end.
+/// What is decoded after symbols were encoded stands for what was encoded, in order, from any source that tells the words of the message:
+/// symbol by symbol, whatever models the symbols before and after it have, or as a run by one model, from any span of the message on.
 pub fn range_symbols_come_back<D, E, Source, const PRECISION: usize>(decoder: &D, encoder: &E)
 where
     D: DecoderModel<PRECISION, Probability = u32>,
     E: EncoderModel<PRECISION, Symbol = D::Symbol, Probability = u32>,
     Source: ReadWords<u32, Queue>,
     requires { SameEntries E.symbol_eq (E.rows encoder.now) (D.rows decoder.now) }
-    ensures back { RangeSymbolsComeBack D.stands_for E.symbol_eq (entry_of E.symbol_eq (E.rows encoder.now)) (D.rows decoder.now)
-        Source.read_gives Source.tells_upcoming PRECISION }
-    ensures follows { DecoderFollows D.stands_for E.symbol_eq (entry_of E.symbol_eq (E.rows encoder.now)) (D.rows decoder.now)
-        Source.read_gives Source.tells_upcoming PRECISION }
-    ensures valid { NeverAboveAll D.stands_for E.symbol_eq (entry_of E.symbol_eq (E.rows encoder.now)) (D.rows decoder.now)
-        Source.read_gives Source.tells_upcoming PRECISION }
-    ensures ends { EndsThere D.stands_for E.symbol_eq (entry_of E.symbol_eq (E.rows encoder.now)) (D.rows decoder.now)
+    ensures { RangeSymbolsComeBack D.stands_for E.symbol_eq (entry_of E.symbol_eq (E.rows encoder.now)) (D.rows decoder.now)
         Source.read_gives Source.tells_upcoming PRECISION }
 {}
 
-/// If a place was noted and symbols were encoded since, a decoder over the words of the message, whatever words come after them, goes to
-/// the place and is at the span that was noted, although a carry may have changed words since.
+/// A decoder goes to a place that was noted while the message was encoded, although a carry may have changed words since.
 pub fn range_place_comes_back<E, Source, const PRECISION: usize>(encoder: &E)
 where
     E: EncoderModel<PRECISION, Probability = u32>,
@@ -79,9 +56,7 @@ pub fn published_message()
     ensures { IsMessageOf (λ e. Some e) 24 published_entries published_words }
 {}
 
-/// The words of these symbols.
-///
-/// A symbol with no entry is not encoded. Otherwise it fails only if memory is refused.
+/// The words of these symbols. It fails only if a symbol has no entry, or if memory is refused.
 pub fn message_of<E, const PRECISION: usize>(
     alloc: Global,
     encoder: &E,
@@ -104,8 +79,7 @@ where
     }
 }
 
-/// Decodes a message of `count` symbols from a source. If the source tells the words of that many symbols, and any words after them, the
-/// symbols come back in order, and the words are not invalid.
+/// Decodes a message of `count` symbols from a source, which may have other words after it.
 pub fn message_from<D, E, Source, const PRECISION: usize>(
     alloc: Global,
     source: Source,
@@ -139,10 +113,7 @@ where
     }
 }
 
-/// Encodes the symbols and decodes as many: they come back in order.
-///
-/// What comes back stands for equal symbols. If the decoder owns its symbols, it is a clone; if a clone equals its symbol, it is equal to
-/// what was encoded. A symbol with no entry is not encoded. Otherwise it fails only if memory is refused.
+/// Encodes the symbols and decodes as many. It fails only if a symbol has no entry, or if memory is refused.
 pub fn message_comes_back<D, E, const PRECISION: usize>(
     alloc: Global,
     decoder: &D,

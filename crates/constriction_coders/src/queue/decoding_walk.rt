@@ -15,8 +15,7 @@ use std::iter::FusedIterator;
 
 /// Symbols of a decoder, each of which is decoded when it is asked for.
 ///
-/// It gives as many answers as were asked for and then `None`. An error stands in the place of a symbol and counts as an answer: it
-/// leaves what is held, and the next answer tries again. What was not asked for stays in the decoder.
+/// An error stands in the place of a symbol, and the next answer tries again. What was not asked for stays in the decoder.
 #[derive(Drop)]
 pub struct DecodeIidSymbols<
     'c,
@@ -60,7 +59,6 @@ where
         Some(self.decoder.decode_symbol::<D, PRECISION>(self.model))
     }
 
-    /// How many answers are left, exactly.
     fn size_hint(&self) -> (usize, Option<usize>)
         ensures { IsExactHint result (size (⟦<Self as Iterator>⟧.remaining self.now)) }
     {

@@ -12,7 +12,7 @@ use constriction::{CoderError, DefaultEncoderFrontendError};
 use std::alloc::AllocError;
 
 impl RangeEncoder {
-    /// Encodes what an iterator gives, until it ends or a symbol is not encoded. An error leaves the symbols before that one.
+    /// Encodes what an iterator gives, until it ends or a symbol is not encoded.
     pub fn encode_iid_symbols<E, I, const PRECISION: usize>(
         &mut self,
         symbols: I,

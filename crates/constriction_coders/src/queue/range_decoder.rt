@@ -20,16 +20,14 @@ pub enum DecoderFrontendError {
     /// The point belongs to no quantile, so these are not the words of a range encoder for such models.
     #[error("The compressed data is invalid.")]
     InvalidData,
-    /// Memory for the symbol was refused.
     #[error("Memory for the symbol was refused.")]
     OutOfMemory,
 }
 
 /// A range decoder over words of 32 bits, in the format of the Rust crate's `DefaultRangeDecoder`.
 ///
-/// It holds how many numbers its interval has, and how far the point lies above its lower end. Decoding depends only on
-/// these, and not on where the interval lies, so nothing ever wraps. The interval has at least `2^32` numbers. The point
-/// lies in it or, at the start, possibly just above it.
+/// Decoding does not depend on where the interval lies, so nothing ever wraps. The interval has at least `2^32` numbers. The point lies in
+/// it or, at the start, possibly just above it.
 #[derive(Drop)]
 pub struct RangeDecoder<Source: ReadWords<u32, Queue>> {
     pub(crate) range: u64,
@@ -102,8 +100,7 @@ impl<Source: ReadWords<u32, Queue>> RangeDecoder<Source> {
     /// Decodes the next symbol. If all were decoded, it still decodes a symbol, or the data is invalid.
     ///
     /// It fails with `InvalidData` only if the point lies above all quantiles, with `OutOfMemory` only if the model may refuse the
-    /// row in which it lies, and with the backend's error only if a read answered that. An error leaves what is held, and only a
-    /// read that failed may change the source.
+    /// row in which it lies, and with the backend's error only if a read answered that. Only a read that failed may change the source.
     pub fn decode_symbol<D, const PRECISION: usize>(
         &mut self,
         model: &D,
@@ -152,7 +149,7 @@ impl<Source: ReadWords<u32, Queue>> RangeDecoder<Source> {
 
     /// Decodes `count` symbols, the one that was encoded first first.
     ///
-    /// Memory for all of them is asked for at once, before the first one is decoded. If `count` comes from outside, use
+    /// Memory for all of them is asked for first. If `count` comes from outside, use
     /// [`decode_iid_symbols`](Self::decode_iid_symbols), which asks for none.
     pub fn decode_symbols<D, const PRECISION: usize>(
         &mut self,

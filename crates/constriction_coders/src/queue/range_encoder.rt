@@ -19,12 +19,9 @@ use std::marker::Model;
 
 /// A range encoder over words of 32 bits, in the format of the Rust crate's `DefaultRangeEncoder`.
 ///
-/// It holds a span of numbers, and each symbol leaves a part of it. At the end any number of the span stands for the message.
-/// The least one is the words with `lower` after them, and there are `range` of them. A carry goes into the words that are
-/// written already, so no word is held back. A symbol costs two multiplications, and at most one word is written. If the lower
-/// end of its part carries, words of all ones are cleared, up to one that is not.
-///
-/// Clauses see the span.
+/// Clauses see the span of numbers that it holds, each of which stands for the message. A carry goes into the words that are written
+/// already, so no word is held back. A symbol costs two multiplications, and at most one word is written. If the lower end of its part
+/// carries, words of all ones are cleared, up to one that is not.
 #[derive(Drop)]
 pub struct RangeEncoder {
     pub(crate) words: Vec<u32>,
@@ -88,7 +85,7 @@ impl RangeEncoder {
     /// Encodes a symbol.
     ///
     /// It fails with `ImpossibleSymbol` only if the model has no entry for the symbol, and with `AllocError` only if a word is to be
-    /// written. An error leaves the encoder as it was.
+    /// written.
     pub fn encode_symbol<E, const PRECISION: usize>(
         &mut self,
         symbol: &E::Symbol,
@@ -124,7 +121,7 @@ impl RangeEncoder {
         Ok(())
     }
 
-    /// Encodes the symbols, the first one first. An error leaves those before the symbol that was not encoded.
+    /// Encodes the symbols, the first one first.
     pub fn encode_symbols<E, const PRECISION: usize>(
         &mut self,
         symbols: &[E::Symbol],
@@ -146,9 +143,7 @@ impl RangeEncoder {
         Ok(())
     }
 
-    /// A copy of the words that [`into_compressed`](Self::into_compressed) gives. The encoder stays as it is.
-    ///
-    /// Memory for them is asked for once, if there are any. It fails only if that is refused.
+    /// A copy of the words that [`into_compressed`](Self::into_compressed) gives. Memory for them is asked for once, if there are any.
     pub fn get_compressed(&self, alloc: Global) -> Result<Vec<u32>, AllocError>
         ensures ok { IfOk result (λ words. IsSealed self.now words.items) }
         ensures memory { OnErr result (self.now ≢ whole) }
@@ -174,10 +169,7 @@ impl RangeEncoder {
         }
     }
 
-    /// The words of the message: none if no symbol is encoded, and otherwise one or two more than were written.
-    ///
-    /// They are decoded alike whatever words come after them. It fails only if memory for these words is refused; the encoder is then
-    /// dropped.
+    /// The words of the message, at most two more than were written. They are decoded alike whatever words come after them.
     pub fn into_compressed(self) -> Result<Vec<u32>, AllocError>
         ensures ok { IfOk result (λ words. IsSealed self words.items) }
         ensures memory { OnErr result (self ≢ whole) }

@@ -3,6 +3,7 @@
 ghost use Rattle.std.specs.Prelude.{◌≡◌, ◌≢◌, ◌+◌, ◌-◌, ◌*◌, ◌%◌, ◌^◌, ◌<◌, ◌≤◌, ℕ, [], None, Err, IfErr, IfOk, OnOk, OnErr, vec_capacity};
 ghost use Rattle.constriction_coders.specs.States.{put};
 ghost use Rattle.constriction_coders.specs.Steps.{backend_result, content, IsWhole, Refills, IsOnTop, NeedsWord, IsEncoded, IsDecoded, IsDecodingFault, ReadsAtMostOne, WritesAtMostOne};
+ghost use Rattle.constriction.specs.Precision.{IsPrecision};
 ghost use Rattle.constriction.specs.Rows.{entry_of};
 
 use crate::stack::state::{is_full_for, quantile_of, with_entry, without_entry};
@@ -44,8 +45,7 @@ fn with_room<Backend: WordStack<u32>, const PRECISION: usize>(
     state: u64,
     weight: u32,
 ) -> Result<u64, Backend::WriteError>
-    requires positive { 0 < PRECISION }
-    requires fits { PRECISION ≤ 32 }
+    requires precision { IsPrecision 32 PRECISION }
     requires some { 0 < weight }
     requires whole { IsWhole state (Backend.words_of words.old) }
     ensures room { IfOk result (λ kept. kept < weight * 2 ^ (64 - PRECISION)) }
@@ -98,8 +98,7 @@ impl<Backend: WordStack<u32>> AnsCoder<Backend> {
         left: u32,
         weight: u32,
     ) -> Result<(), Backend::WriteError>
-        requires positive { 0 < PRECISION }
-        requires fits { PRECISION ≤ 32 }
+        requires precision { IsPrecision 32 PRECISION }
         requires some { 0 < weight }
         requires within { left + weight ≤ 2 ^ PRECISION }
         ensures ok { OnOk result (IsOnTop PRECISION left weight (held_by self.new) (held_by self.old)) }
@@ -145,7 +144,7 @@ impl<Backend: WordStack<u32>> AnsCoder<Backend> {
     /// Encodes a symbol.
     ///
     /// It fails with `ImpossibleSymbol` only if the model has no entry for the symbol, and with the backend's error only if a write
-    /// answered that. An error leaves the state and the words.
+    /// answered that.
     pub fn encode_symbol<E, const PRECISION: usize>(
         &mut self,
         symbol: &E::Symbol,
@@ -172,7 +171,7 @@ impl<Backend: WordStack<u32>> AnsCoder<Backend> {
     /// Decodes the symbol that was encoded last. If nothing was encoded, it still decodes a symbol.
     ///
     /// Memory is refused only if the model may refuse the row of the state's quantile. The backend's error comes only if the state
-    /// needs a word and a read answered that error. An error leaves the state and the words.
+    /// needs a word and a read answered that error.
     pub fn decode_symbol<D, const PRECISION: usize>(
         &mut self,
         model: &D,

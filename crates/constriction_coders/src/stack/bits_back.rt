@@ -6,12 +6,13 @@
 //!
 //! Decoding undoes these steps, the last one first. So step 1 costs nothing: what it took from the coder comes back.
 
-ghost use Rattle.std.specs.Prelude.{◌≡◌, ◌+◌, ◌%◌, ◌^◌, ◌<◌, ◌≤◌, None, Some, Err, IfOk, IfSome, OnOk, OnErr, length, vec_capacity};
+ghost use Rattle.std.specs.Prelude.{◌≡◌, ◌+◌, ◌%◌, ◌^◌, ◌<◌, ◌≤◌, ◌⊎◌, None, Some, Err, IfOk, IfSome, OnOk, OnErr, length, vec_capacity};
 ghost use Rattle.std.specs.Fn.{FnReturnsAt};
 ghost use Rattle.constriction.specs.Rows.{Row, IsRowOf, entry_of};
-ghost use Rattle.constriction_coders.specs.BitsBack.{EncodesByLatent, DecodesByLatent, LacksEntry, LacksLatent};
+ghost use Rattle.constriction_coders.specs.BitsBack.{IsCodedByLatent, IsEncodedByChosen, IsDecodedByChosen, IsChosenByState};
 ghost use Rattle.constriction_coders.specs.AnsCoder.{held_by};
-ghost use Rattle.constriction_coders.specs.Steps.{Content, MayBeHeld, IsOnTop};
+ghost use Rattle.constriction_coders.specs.Steps.{Content, MayBeHeld, IsOnTop, IsEncoded, IsDecoded};
+ghost use Rattle.constriction.specs.Precision.{IsPrecision};
 
 use crate::laws::may_be_held;
 use crate::stack::ans_coder::AnsCoder;
@@ -78,8 +79,7 @@ fn take_from_vec<const PRECISION: usize>(coder: &mut AnsCoder<Vec<u32>>, entry: 
 
 /// Puts a symbol of this entry on top. There is room for a word.
 fn put_reserved<const PRECISION: usize>(coder: &mut AnsCoder<Vec<u32>>, entry: Entry)
-    requires positive { 0 < PRECISION }
-    requires fits { PRECISION ≤ 32 }
+    requires precision { IsPrecision 32 PRECISION }
     requires some { 0 < entry.1 }
     requires within { entry.0 + entry.1 ≤ 2 ^ PRECISION }
     requires room { length coder.old.words.items < vec_capacity coder.old.words }
@@ -103,8 +103,7 @@ fn exchange<const PRECISION: usize>(
     coded: Entry,
     paid: Entry,
 ) -> Result<(), AllocError>
-    requires positive { 0 < PRECISION }
-    requires fits { PRECISION ≤ 32 }
+    requires precision { IsPrecision 32 PRECISION }
     requires drawn_some { 0 < drawn.1 }
     requires drawn_within { drawn.0 + drawn.1 ≤ 2 ^ PRECISION }
     requires from { drawn.0 ≤ coder.old.state % 2 ^ PRECISION }
@@ -130,7 +129,7 @@ fn exchange<const PRECISION: usize>(
 /// Encodes a symbol by a latent one, which is decoded from what the coder holds.
 ///
 /// It fails with `ImpossibleSymbol` if the latent symbol has no entry in its prior, or the symbol has none in the likelihood. It also
-/// fails if memory is refused, for a clone of the latent symbol or for two words. An error leaves the state and the words.
+/// fails if memory is refused, for a clone of the latent symbol or for two words.
 pub fn encode<
     Symbol,
     Latent: Drop,
@@ -149,13 +148,15 @@ pub fn encode<
 ) -> Result<(), CoderError<DefaultEncoderFrontendError, AllocError>>
     requires posterior { Posterior.IsAlwaysCallable posterior }
     requires likelihood { Likelihood.IsAlwaysCallable likelihood }
-    ensures ok { OnOk result (EncodesByLatent (FnReturnsAt Posterior.Fn posterior) (FnReturnsAt Likelihood.Fn likelihood) PRECISION
-        PosteriorModel.stands_for PosteriorModel.rows (λ m. entry_of LikelihoodModel.symbol_eq (LikelihoodModel.rows m))
-        (entry_of Prior.symbol_eq (Prior.rows prior.now)) symbol.now (held_by coder.old) (held_by coder.new)) }
-    ensures impossible { (fault : _) → result ≡ Err (CoderError.Frontend fault)
-        → LacksEntry (FnReturnsAt Posterior.Fn posterior) (FnReturnsAt Likelihood.Fn likelihood) PRECISION
-        PosteriorModel.stands_for PosteriorModel.rows (λ m. entry_of LikelihoodModel.symbol_eq (LikelihoodModel.rows m))
-        (entry_of Prior.symbol_eq (Prior.rows prior.now)) symbol.now (held_by coder.old) }
+    ensures ok { OnOk result (IsCodedByLatent
+        (IsDecodedByChosen (FnReturnsAt Posterior.Fn posterior) PosteriorModel.rows PRECISION PosteriorModel.stands_for)
+        (IsEncodedByChosen (FnReturnsAt Likelihood.Fn likelihood) LikelihoodModel.rows PRECISION LikelihoodModel.symbol_eq)
+        (IsEncoded (entry_of Prior.symbol_eq (Prior.rows prior.now)) PRECISION) symbol.now (held_by coder.new) (held_by coder.old)) }
+    ensures impossible { (fault : _) → result ≡ Err (CoderError.Frontend fault) → (latent : Latent) × IsChosenByState
+        (FnReturnsAt Posterior.Fn posterior) PosteriorModel.rows PRECISION PosteriorModel.stands_for symbol.now latent (held_by coder.old)
+        × (given : LikelihoodModel) × FnReturnsAt Likelihood.Fn likelihood latent given
+        × ((entry_of Prior.symbol_eq (Prior.rows prior.now) latent ≡ None)
+        ⊎ (entry_of LikelihoodModel.symbol_eq (LikelihoodModel.rows given) symbol.now ≡ None)) }
     ensures same { OnErr result (held_by coder.new ≡ held_by coder.old) }
 {
     let chosen = posterior(symbol);
@@ -182,7 +183,7 @@ pub fn encode<
 /// Decodes a symbol that [`encode`] encoded by a latent one, and puts the latent one back on the coder.
 ///
 /// It fails with `ImpossibleSymbol` if the posterior of the symbol has no entry for the latent one; then no such symbol was encoded. It
-/// also fails if memory is refused, for a clone of either symbol or for a word. An error leaves the state and the words.
+/// also fails if memory is refused, for a clone of either symbol or for a word.
 pub fn decode<
     Symbol: Drop,
     Latent: Drop,
@@ -200,12 +201,15 @@ pub fn decode<
 ) -> Result<Symbol, CoderError<DefaultEncoderFrontendError, AllocError>>
     requires posterior { Posterior.IsAlwaysCallable posterior }
     requires likelihood { Likelihood.IsAlwaysCallable likelihood }
-    ensures ok { IfOk result (λ symbol. DecodesByLatent (FnReturnsAt Posterior.Fn posterior) (FnReturnsAt Likelihood.Fn likelihood)
-        PRECISION Prior.stands_for (Prior.rows prior.now) LikelihoodModel.stands_for LikelihoodModel.rows (λ m. entry_of
-        PosteriorModel.symbol_eq (PosteriorModel.rows m)) symbol (held_by coder.old) (held_by coder.new)) }
-    ensures impossible { (fault : _) → result ≡ Err (CoderError.Frontend fault) → LacksLatent (FnReturnsAt Posterior.Fn posterior)
-        (FnReturnsAt Likelihood.Fn likelihood) PRECISION Prior.stands_for (Prior.rows prior.now) LikelihoodModel.stands_for
-        LikelihoodModel.rows (λ m. entry_of PosteriorModel.symbol_eq (PosteriorModel.rows m)) (held_by coder.old) }
+    ensures ok { IfOk result (λ symbol. IsCodedByLatent
+        (IsEncodedByChosen (FnReturnsAt Posterior.Fn posterior) PosteriorModel.rows PRECISION PosteriorModel.symbol_eq)
+        (IsDecodedByChosen (FnReturnsAt Likelihood.Fn likelihood) LikelihoodModel.rows PRECISION LikelihoodModel.stands_for)
+        (IsDecoded Prior.stands_for (Prior.rows prior.now) PRECISION) symbol (held_by coder.old) (held_by coder.new)) }
+    ensures impossible { (fault : _) → result ≡ Err (CoderError.Frontend fault) → (latent : Latent) × (full : Content)
+        × IsDecoded Prior.stands_for (Prior.rows prior.now) PRECISION latent (held_by coder.old) full × (symbol : Symbol) × IsChosenByState
+        (FnReturnsAt Likelihood.Fn likelihood) LikelihoodModel.rows PRECISION LikelihoodModel.stands_for latent symbol full
+        × (chosen : PosteriorModel) × FnReturnsAt Posterior.Fn posterior symbol chosen
+        × (entry_of PosteriorModel.symbol_eq (PosteriorModel.rows chosen) latent ≡ None) }
     ensures same { OnErr result (held_by coder.new ≡ held_by coder.old) }
 {
     // If no symbol is decoded, putting the latent one back leaves what the coder holds now, which it may hold.

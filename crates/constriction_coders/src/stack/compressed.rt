@@ -28,7 +28,7 @@ fn words_of_state(state: u64) -> usize
 }
 
 impl<Backend: WordStack<u32>> AnsCoder<Backend> {
-    /// Whether the coder holds nothing: its state is 0, and there are no words under it.
+    /// Whether the coder holds nothing.
     pub fn is_empty(&self) -> bool
         ensures { IsTrue result ↔ (held_by self.now ≡ content 0 []) }
     {
@@ -39,7 +39,7 @@ impl<Backend: WordStack<u32>> AnsCoder<Backend> {
 impl<Backend: WordStack<u32> + Drop> AnsCoder<Backend> {
     /// The words with those of the state on top, from which [`from_compressed`](Self::from_compressed) makes the coder again.
     ///
-    /// At most two words are written. An error is that of a write, and the words are then dropped.
+    /// At most two words are written. If a write fails, the words are dropped.
     pub fn into_compressed(self) -> Result<Backend, Backend::WriteError>
         ensures ok { IfOk result (λ words. IsCompressed (held_by self) (Backend.words_of words)) }
         ensures end { IfOk result (λ words. (others : List ℕ) → Backend.words_of words ≢ others ++ 0 ∷ []) }
@@ -65,8 +65,7 @@ impl<Backend: WordStack<u32> + Drop> AnsCoder<Backend> {
 
     /// The coder of such words.
     ///
-    /// At most two words are read, the last one first. Words that end in 0 belong to no coder: they are handed back without
-    /// that 0. All other words are accepted. No words at all make a coder that holds nothing.
+    /// At most two words are read. Words that end in 0 belong to no coder: they are handed back without that 0.
     pub fn from_compressed(words: Backend) -> Result<Self, CoderError<Backend, Backend::ReadError>>
         ensures ok { IfOk result (λ coder. IsCompressed (held_by coder) (Backend.words_of words)) }
         ensures refused { (left : _) → result ≡ Err (CoderError.Frontend left)
@@ -101,9 +100,7 @@ impl AnsCoder<Vec<u32>> {
         words.len() + words_of_state(self.state)
     }
 
-    /// A copy of the words with those of the state on top. The coder stays as it is.
-    ///
-    /// Memory for the copy is asked for once. It fails only if that is refused.
+    /// A copy of the words with those of the state on top. Memory for it is asked for once.
     pub fn get_compressed(&self, alloc: Global) -> Result<Vec<u32>, AllocError>
         ensures ok { IfOk result (λ all. IsCompressed (held_by self.now) all.items) }
         ensures end { IfOk result (λ all. (others : List ℕ) → all.items ≢ others ++ 0 ∷ []) }

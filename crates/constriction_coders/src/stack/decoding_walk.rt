@@ -15,8 +15,7 @@ use std::iter::FusedIterator;
 
 /// Symbols of a coder, each of which is decoded when it is asked for.
 ///
-/// It gives as many answers as were asked for and then `None`. An error stands in the place of a symbol and counts as an answer. It
-/// leaves the state and the words, and the next answer tries again. Symbols that are not asked for stay in the coder.
+/// An error stands in the place of a symbol, and the next answer tries again. What was not asked for stays in the coder.
 #[derive(Drop)]
 pub struct DecodeIidSymbols<
     'c,
@@ -55,7 +54,6 @@ where
         Some(self.coder.decode_symbol::<D, PRECISION>(self.model))
     }
 
-    /// How many answers are left, exactly.
     fn size_hint(&self) -> (usize, Option<usize>)
         ensures { IsExactHint result (size (⟦<Self as Iterator>⟧.remaining self.now)) }
     {

@@ -60,7 +60,7 @@ impl<Backend: WordStack<u32>> AnsCoder<Backend> {
 
     /// Decodes `count` symbols, the one that was encoded last first.
     ///
-    /// Memory for all of them is asked for at once, before the first one is decoded. If `count` comes from outside, use
+    /// Memory for all of them is asked for first. If `count` comes from outside, use
     /// [`decode_iid_symbols`](Self::decode_iid_symbols), which asks for none.
     pub fn decode_symbols<D, const PRECISION: usize>(
         &mut self,

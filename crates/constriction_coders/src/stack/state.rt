@@ -2,6 +2,7 @@
 
 ghost use Rattle.std.specs.Prelude.{◌≡◌, ◌↔◌, ◌+◌, ◌-◌, ◌*◌, ◌%◌, ◌^◌, ◌<◌, ◌≤◌, IsTrue};
 ghost use Rattle.constriction_coders.specs.States.{put, taken};
+ghost use Rattle.constriction.specs.Precision.{IsPrecision};
 
 /// The quantile of the state, which says which symbol is on top.
 #[inline]
@@ -17,8 +18,7 @@ pub(crate) fn quantile_of<const PRECISION: usize>(state: u64) -> u32
 #[inline]
 #[tactic(auto, using(crate::proofs::States::full_is, crate::proofs::States::not_full_is))]
 pub(crate) fn is_full_for<const PRECISION: usize>(state: u64, weight: u32) -> bool
-    requires positive { 0 < PRECISION }
-    requires fits { PRECISION ≤ 32 }
+    requires precision { IsPrecision 32 PRECISION }
     ensures { IsTrue result ↔ (weight * 2 ^ (64 - PRECISION) ≤ state) }
 {
     (state >> (64 - PRECISION)) >= weight as u64

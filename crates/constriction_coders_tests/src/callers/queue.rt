@@ -8,8 +8,8 @@ use constriction::Pos;
 use constriction::backends::Cursor;
 use constriction::stream::model::{DecoderModel, EncoderModel};
 use constriction_coders::laws::{
-    message_comes_back, message_from, message_of, range_place_comes_back, range_symbol_comes_back,
-    range_symbols_come_back, sealed_words_tell,
+    message_comes_back, message_from, message_of, range_place_comes_back, range_symbols_come_back,
+    sealed_words_tell,
 };
 use constriction_coders::queue::{EncodedWords, RangeDecoder, RangeEncoder};
 use std::alloc::Global;
@@ -136,8 +136,8 @@ where
     ensures { IfSome result (λ answers. StandsForEqual M.stands_for M.symbol_eq symbol.now answers.0
         × StandsForEqual N.stands_for N.symbol_eq other.now answers.1) }
 {
-    range_symbol_comes_back::<M, M, Cursor<u32, Vec<u32>>, FIRST>(first, first);
-    range_symbol_comes_back::<N, N, Cursor<u32, Vec<u32>>, SECOND>(second, second);
+    range_symbols_come_back::<M, M, Cursor<u32, Vec<u32>>, FIRST>(first, first);
+    range_symbols_come_back::<N, N, Cursor<u32, Vec<u32>>, SECOND>(second, second);
     let mut coder = RangeEncoder::new(alloc);
     match coder.encode_symbol::<M, FIRST>(symbol, first) {
         Ok(()) => {}

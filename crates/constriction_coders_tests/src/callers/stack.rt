@@ -10,7 +10,7 @@ ghost use Rattle.constriction_coders.specs.StackMessages.{IsStackOf};
 use constriction::CoderError;
 use constriction::laws::contiguous_symbols_differ;
 use constriction::stream::model::{DecoderModel, EncoderModel, EntropyModel, UniformModel};
-use constriction_coders::laws::{bits_come_back, may_be_held, words_come_back, words_once};
+use constriction_coders::laws::{bits_come_back, encoded_once, may_be_held, symbols_come_back};
 use constriction_coders::stack::AnsCoder;
 use constriction_coders::stack::bits_back::{decode, encode};
 use std::alloc::Global;
@@ -58,8 +58,8 @@ where
     ensures accepted { result ≡ Err WordsError.OtherWords → (symbols : List M.Symbol) → length symbols ≡ count
         → ¬ (IsStackOf (entry_of M.symbol_eq (M.rows model.now)) PRECISION symbols words.items) }
 {
-    words_once::<M, PRECISION>(model);
-    words_come_back::<M, M, PRECISION>(model, model);
+    encoded_once::<M, PRECISION>(model);
+    symbols_come_back::<M, M, PRECISION>(model, model);
     let mut coder = match AnsCoder::from_compressed(words) {
         Ok(coder) => coder,
         Err(CoderError::Frontend(_)) => return Err(WordsError::OtherWords),

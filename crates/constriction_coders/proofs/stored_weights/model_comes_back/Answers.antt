@@ -1,12 +1,20 @@
-use Rattle.std.proofs.Common.{◌≡◌, ◌<◌, Err, length, map, drop, ap, sym, ◌∙◌, arith}
+use Rattle.std.proofs.Common.{◌≡◌, ◌<◌, length, map, drop, ap, sym, ◌∙◌, arith}
+use Rattle.std.proofs.lemmas.List.{length-map}
 use Rattle.constriction.specs.Acceptance.{AreAccepted}
 use Rattle.constriction.specs.Rows.{Row, rows_of}
 use Rattle.constriction.specs.lemmas.Stand.{tiling-rebuilds}
 use Rattle.constriction.specs.declared.CoderError.{CoderError}
 use Rattle.constriction_coders.specs.StoredWeights.{weights_as_words}
 use Rattle.constriction_coders.specs.declared.stored_weights.ReadingError.TheVariants.{TooFewWords, NotAccepted}
+use Rattle.constriction_coders.specs.declared.stored_weights.StoringError.TheVariants.{TooManyWeights}
 use Rattle.constriction_coders.proofs.StoredWeightsLemmas.{same-weights}
 use Rattle.constriction_coders.proofs.stored_weights.model_comes_back.Goals as goal
+
+pub returns-in-Err-clause-too_many : goal.returns-in-Err-clause-too_many
+returns-in-Err-clause-too_many g c = λ is.
+    let same : c.in-Err.error ≡ CoderError.Frontend TooManyWeights = cc in
+    let stops = rw same at c.in-Err.ensures.err in
+    omega (arith, stops.0, length-map (g.M.EntropyModel.rows c.args.model) (λ (r : Row g.row.M-Symbol.Denot). r.weight))
 
 pub returns-in-Ok-read_model-clause-rows : goal.returns-in-Ok-read_model-clause-rows
 returns-in-Ok-read_model-clause-rows g c =
@@ -14,7 +22,7 @@ returns-in-Ok-read_model-clause-rows g c =
     let weights = map (λ (r : Row g.row.M-Symbol.Denot). r.weight) rows in
     let source = c.new_at_write_beginning-source in
     let coming : weights_as_words weights ≡ drop source.result.pos source.result.buf.items =
-    rw (ap (λ p. p.1) source.ensures, ap (λ p. p.0) source.ensures) (c.in-Ok.ensures.written _ (sym c.new-words.ensures.items)) in
+    rw (ap (λ p. p.1) source.ensures, ap (λ p. p.0) source.ensures) (c.in-Ok.ensures.ok.known _ (sym c.new-words.ensures.items)) in
     let table = c.in-Ok-read_model.ensures.ok in
     let read = table.reads.known (weights_as_words weights) coming in
     let same : table.weights ≡ weights = same-weights weights table.weights read.0 read.1 in
@@ -27,9 +35,10 @@ returns-clause-whole g c = λ is.
     let weights = map (λ (r : Row g.row.M-Symbol.Denot). r.weight) (g.M.EntropyModel.rows c.args.model) in
     let source = c.new_at_write_beginning-source in
     let coming : weights_as_words weights ≡ drop source.result.pos source.result.buf.items =
-    rw (ap (λ p. p.1) source.ensures, ap (λ p. p.0) source.ensures) (c.in-Ok.ensures.written _ (sym c.new-words.ensures.items)) in
+    rw (ap (λ p. p.1) source.ensures, ap (λ p. p.0) source.ensures) (c.in-Ok.ensures.ok.known _ (sym c.new-words.ensures.items)) in
     let same : c.in-Err-read_model.error ≡ CoderError.Frontend TooFewWords = cc in
-    let short : length weights < length weights = c.in-Err-read_model.ensures.short (ap Err same) (weights_as_words weights) coming in
+    let stops = rw same at c.in-Err-read_model.ensures.err in
+    let short : length weights < length weights = stops.1 (weights_as_words weights) coming in
     absurd (omega arith)
 
 pub returns-clause-accepted : goal.returns-clause-accepted
@@ -38,9 +47,9 @@ returns-clause-accepted g c = λ is distinct.
     let weights = map (λ (r : Row g.row.M-Symbol.Denot). r.weight) rows in
     let source = c.new_at_write_beginning-source in
     let coming : weights_as_words weights ≡ drop source.result.pos source.result.buf.items =
-    rw (ap (λ p. p.1) source.ensures, ap (λ p. p.0) source.ensures) (c.in-Ok.ensures.written _ (sym c.new-words.ensures.items)) in
+    rw (ap (λ p. p.1) source.ensures, ap (λ p. p.0) source.ensures) (c.in-Ok.ensures.ok.known _ (sym c.new-words.ensures.items)) in
     let same : c.in-Err-read_model.error ≡ CoderError.Frontend NotAccepted = cc in
-    let table = c.in-Err-read_model.ensures.not_accepted (ap Err same) in
+    let table = rw same at c.in-Err-read_model.ensures.err in
     let read = table.1.known (weights_as_words weights) coming in
     let weights_are : table.0 ≡ weights = same-weights weights table.0 read.0 read.1 in
     let given = rw c.requires at distinct in

@@ -3,12 +3,23 @@ use Rattle.std.proofs.lemmas.Result.{err_from_is_err_and}
 use Rattle.constriction_backends.specs.Source.{Reads}
 use Rattle.constriction_backends.specs.lemmas.Source.{reads_more, reads_upcoming_all}
 use Rattle.constriction_coders.specs.StoredWeights.{weights_as_words}
-use Rattle.constriction_coders.proofs.StoredWeightsLemmas.{short-weights}
+use Rattle.constriction_coders.proofs.StoredWeightsLemmas.{too-few}
 use Rattle.constriction_coders.proofs.stored_weights.read_weights.Goals as goal
 
-pub returns-in_default-clause-short : goal.returns-in_default-clause-short
-returns-in_default-clause-short g c = λ is.
-    short-weights g.Source.ReadWords.read_gives g.Source.ReadWords.tells_upcoming g.met.Source.ReadWords.reads_upcoming _ c.read.new.self
+pub returns-in_err-count-clause-err : goal.returns-in_err-count-clause-err
+returns-in_err-count-clause-err g c =
+    let p = err_from_is_err_and c.from_residual.result c.from_residual.ensures.1 in
+    rw (p.1, p.2) (record {
+      words = [];
+      begins = tt;
+      reached = c.args.source.now;
+      read = refl;
+      answered = c.in_err-count.ensures.gives;
+    })
+
+pub returns-in_default-clause-err : goal.returns-in_default-clause-err
+returns-in_default-clause-err g c =
+    too-few g.Source.ReadWords.read_gives g.Source.ReadWords.tells_upcoming g.met.Source.ReadWords.reads_upcoming c.args.source.now _
     (record {
       words = [];
       begins = tt;
@@ -17,31 +28,27 @@ returns-in_default-clause-short g c = λ is.
       answered = rw c.in_default.is at c.in_ok-count.ensures.gives;
     })
 
-pub returns-in_default-2-clause-too_few : goal.returns-in_default-2-clause-too_few
-returns-in_default-2-clause-too_few g c = λ is. record {
-  words = c.in-Some.count ∷ c.loop-done.weights.items;
-  begins = omega (arith, c.loop-done.invariant.counted);
-  reached = c.loop-done.source;
-  read = c.loop-done.invariant.so_far;
-  answered = rw c.in_default-2.is at c.in_ok-weight.ensures.gives;
-}
-
-pub returns-in_default-2-clause-short : goal.returns-in_default-2-clause-short
-returns-in_default-2-clause-short g c = λ is.
-    short-weights g.Source.ReadWords.read_gives g.Source.ReadWords.tells_upcoming g.met.Source.ReadWords.reads_upcoming c.args.source.now
-    c.read-in-loop-done.new.self (returns-in_default-2-clause-too_few g c is)
-
-pub returns-in_err-weight-clause-failed : goal.returns-in_err-weight-clause-failed
-returns-in_err-weight-clause-failed g c = λ error is.
-    let p = err_from_is_err_and c.from_residual-in_err-weight.result c.from_residual-in_err-weight.ensures.1 in
-    let same : c.in_err-weight.field-0.0 ≡ error = cc (p.1, p.2) in
-    record {
+pub returns-in_default-2-clause-err : goal.returns-in_default-2-clause-err
+returns-in_default-2-clause-err g c =
+    too-few g.Source.ReadWords.read_gives g.Source.ReadWords.tells_upcoming g.met.Source.ReadWords.reads_upcoming c.args.source.now _
+    (record {
       words = c.in-Some.count ∷ c.loop-done.weights.items;
       begins = omega (arith, c.loop-done.invariant.counted);
       reached = c.loop-done.source;
       read = c.loop-done.invariant.so_far;
-      answered = rw same at c.in_err-weight.ensures.gives;
-    }
+      answered = rw c.in_default-2.is at c.in_ok-weight.ensures.gives;
+    })
+
+pub returns-in_err-weight-clause-err : goal.returns-in_err-weight-clause-err
+returns-in_err-weight-clause-err g c =
+    let p = err_from_is_err_and c.from_residual-in_err-weight.result c.from_residual-in_err-weight.ensures.1 in
+    rw (p.1, p.2) (record {
+      words = c.in-Some.count ∷ c.loop-done.weights.items;
+      begins = omega (arith, c.loop-done.invariant.counted);
+      reached = c.loop-done.source;
+      read = c.loop-done.invariant.so_far;
+      answered = c.in_err-weight.ensures.gives;
+    })
 
 pub loop-done-preserved : goal.loop-done-preserved
 loop-done-preserved g c = record {
@@ -72,8 +79,8 @@ returns-clause-ok g c =
           c.args.source.now (weights_as_words c.loop-done.weights.items) c.loop-done.source read;
     }
 
-pub returns-in-Err-clause-memory : goal.returns-in-Err-clause-memory
-returns-in-Err-clause-memory g c = λ is. (
+pub returns-in-Err-clause-err : goal.returns-in-Err-clause-err
+returns-in-Err-clause-err g c = (
   c.in-Some.count ∷ (c.loop-done.weights.items ++ c.in-Some-2.weight ∷ []),
   omega (
     arith,

@@ -15,7 +15,7 @@ returns-in-Ok-decode_symbols-clause-back g c = λ symbols words more long messag
     (entry_of g.E.EncoderModel.symbol_eq (g.E.EntropyModel.rows c.args.encoder.now)) (g.D.EntropyModel.rows c.args.decoder.now)
     g.Source.ReadWords.read_gives g.Source.ReadWords.tells_upcoming g.row.PRECISION
     (held_by c.in-Ok.opened) c.args.count
-    c.range_symbols_come_back.ensures.back c.in-Ok-decode_symbols.answers.items _ c.in-Ok-decode_symbols.ensures.ok
+    c.range_symbols_come_back.ensures c.in-Ok-decode_symbols.answers.items _ c.in-Ok-decode_symbols.ensures.ok
     c.in-Ok-decode_symbols.ensures.count symbols (words ++ more) whole message.0 whole-reached long message.1
     (sealed-tell message.0 words more message.2 fit) (c.in-Ok.ensures.begins (words ++ more) known)
 
@@ -26,6 +26,6 @@ returns-clause-valid g c = λ is symbols words more long message fit known.
     (entry_of g.E.EncoderModel.symbol_eq (g.E.EntropyModel.rows c.args.encoder.now)) (g.D.EntropyModel.rows c.args.decoder.now)
     g.Source.ReadWords.read_gives g.Source.ReadWords.tells_upcoming g.row.PRECISION
     (held_by c.in-Ok.opened) c.args.count
-    c.range_symbols_come_back.ensures.valid g.D.DecoderModel.may_refuse c.in-Err-decode_symbols.error
-    (held_by c.decode_symbols.new.self) c.in-Err-decode_symbols.ensures.err same symbols (words ++ more) whole message.0 whole-reached long message.1
-    (sealed-tell message.0 words more message.2 fit) (c.in-Ok.ensures.begins (words ++ more) known)
+    c.range_symbols_come_back.ensures g.D.DecoderModel.may_refuse c.in-Err-decode_symbols.error
+    (held_by c.decode_symbols.new.self) c.in-Err-decode_symbols.ensures.err same symbols (words ++ more) whole message.0
+    whole-reached long message.1 (sealed-tell message.0 words more message.2 fit) (c.in-Ok.ensures.begins (words ++ more) known)

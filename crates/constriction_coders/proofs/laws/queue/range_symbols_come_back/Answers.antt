@@ -1,31 +1,23 @@
 use Rattle.constriction.specs.Rows.{entry_of}
-use Rattle.constriction_coders.proofs.Decoding.{range-symbols-back, decoder-follows, never-above, ends}
+use Rattle.constriction_coders.proofs.Decoding.{range-symbol-back, range-symbols-back}
+use Rattle.constriction_coders.proofs.Spanning.{fits-entry, lies-back, leaves-whole}
 use Rattle.constriction_coders.proofs.laws.queue.range_symbols_come_back.Goals as goal
 
-pub returns-clause-back : goal.returns-clause-back
-returns-clause-back g c = range-symbols-back g.D.DecoderModel.stands_for g.E.EncoderModel.symbol_eq
-    (entry_of g.E.EncoderModel.symbol_eq (g.E.EntropyModel.rows c.args.encoder.now)) (g.D.EntropyModel.rows c.args.decoder.now)
-    g.Source.ReadWords.read_gives g.Source.ReadWords.tells_upcoming 32 g.row.PRECISION
-    (g.met.D.DecoderModel.tile_law c.args.decoder.now) c.requires g.met.Source.ReadWords.reads_upcoming
-    (g.met.D.EntropyModel.precision_law c.args.decoder.now).positive
-
-pub returns-clause-follows : goal.returns-clause-follows
-returns-clause-follows g c = decoder-follows g.D.DecoderModel.stands_for g.E.EncoderModel.symbol_eq
-    (entry_of g.E.EncoderModel.symbol_eq (g.E.EntropyModel.rows c.args.encoder.now)) (g.D.EntropyModel.rows c.args.decoder.now)
-    g.Source.ReadWords.read_gives g.Source.ReadWords.tells_upcoming 32 g.row.PRECISION
-    (g.met.D.DecoderModel.tile_law c.args.decoder.now) c.requires g.met.Source.ReadWords.reads_upcoming
-    (g.met.D.EntropyModel.precision_law c.args.decoder.now).positive
-
-pub returns-clause-valid : goal.returns-clause-valid
-returns-clause-valid g c = never-above g.D.DecoderModel.stands_for g.E.EncoderModel.symbol_eq
-    (entry_of g.E.EncoderModel.symbol_eq (g.E.EntropyModel.rows c.args.encoder.now)) (g.D.EntropyModel.rows c.args.decoder.now)
-    g.Source.ReadWords.read_gives g.Source.ReadWords.tells_upcoming 32 g.row.PRECISION
-    (g.met.D.DecoderModel.tile_law c.args.decoder.now) c.requires g.met.Source.ReadWords.reads_upcoming
-    (g.met.D.EntropyModel.precision_law c.args.decoder.now).positive
-
-pub returns-clause-ends : goal.returns-clause-ends
-returns-clause-ends g c = ends g.D.DecoderModel.stands_for g.E.EncoderModel.symbol_eq
-    (entry_of g.E.EncoderModel.symbol_eq (g.E.EntropyModel.rows c.args.encoder.now)) (g.D.EntropyModel.rows c.args.decoder.now)
-    g.Source.ReadWords.read_gives g.Source.ReadWords.tells_upcoming 32 g.row.PRECISION
-    (g.met.D.DecoderModel.tile_law c.args.decoder.now) c.requires g.met.Source.ReadWords.reads_upcoming
-    (g.met.D.EntropyModel.precision_law c.args.decoder.now).positive
+pub returns : goal.returns
+returns g c =
+    let eq = g.E.EncoderModel.symbol_eq in
+    let coded = g.E.EntropyModel.rows c.args.encoder.now in
+    let entry = entry_of eq coded in
+    let rows = g.D.EntropyModel.rows c.args.decoder.now in
+    let Stands = g.D.DecoderModel.stands_for in
+    let gives = g.Source.ReadWords.read_gives in
+    let tells = g.Source.ReadWords.tells_upcoming in
+    let fits = fits-entry eq coded g.row.PRECISION (g.met.E.EncoderModel.within_law c.args.encoder.now) in
+    let positive = (g.met.D.EntropyModel.precision_law c.args.decoder.now).positive in
+    let tile = g.met.D.DecoderModel.tile_law c.args.decoder.now in
+    let law = g.met.Source.ReadWords.reads_upcoming in record {
+      before = lies-back entry g.row.PRECISION fits;
+      leaves = leaves-whole entry g.row.PRECISION fits positive;
+      symbol = range-symbol-back Stands eq entry rows gives tells 32 g.row.PRECISION tile c.requires law;
+      symbols = range-symbols-back Stands eq entry rows gives tells 32 g.row.PRECISION tile c.requires law positive;
+    }

@@ -4,11 +4,13 @@ use Rattle.constriction_coders.proofs.laws.stack.bits_come_back.Goals as goal
 
 pub returns : goal.returns
 returns g c =
-    bits-come-back (FnReturnsAt g.Posterior.Fn c.args.posterior.now) (FnReturnsAt g.Likelihood.Fn c.args.likelihood.now) g.row.PRECISION
-    (g.met.Prior.EntropyModel.precision_law c.args.prior.now).fits
-    g.Prior.DecoderModel.stands_for g.Prior.EncoderModel.symbol_eq g.PosteriorModel.EncoderModel.symbol_eq
-    (g.Prior.EntropyModel.rows c.args.prior.now) g.PosteriorModel.DecoderModel.stands_for g.PosteriorModel.EntropyModel.rows
-    g.LikelihoodModel.DecoderModel.stands_for g.LikelihoodModel.EncoderModel.symbol_eq g.LikelihoodModel.EntropyModel.rows
+    bits-come-back
+    (FnReturnsAt g.Posterior.Fn c.args.posterior.now) g.PosteriorModel.EntropyModel.rows
+    g.PosteriorModel.EncoderModel.symbol_eq g.PosteriorModel.DecoderModel.stands_for
+    (FnReturnsAt g.Likelihood.Fn c.args.likelihood.now) g.LikelihoodModel.EntropyModel.rows
+    g.LikelihoodModel.EncoderModel.symbol_eq g.LikelihoodModel.DecoderModel.stands_for
+    g.Prior.EncoderModel.symbol_eq g.Prior.DecoderModel.stands_for c.requires
+    (g.Prior.EntropyModel.rows c.args.prior.now) g.row.PRECISION (g.met.Prior.EntropyModel.precision_law c.args.prior.now).fits
     (g.met.Prior.DecoderModel.tile_law c.args.prior.now) g.met.PosteriorModel.DecoderModel.tile_law
     g.met.PosteriorModel.EncoderModel.within_law g.met.LikelihoodModel.DecoderModel.tile_law g.met.Prior.EncoderModel.equality_law
-    g.met.PosteriorModel.EncoderModel.equality_law g.met.LikelihoodModel.EncoderModel.equality_law c.requires
+    g.met.PosteriorModel.EncoderModel.equality_law g.met.LikelihoodModel.EncoderModel.equality_law

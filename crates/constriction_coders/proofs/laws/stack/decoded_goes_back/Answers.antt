@@ -1,6 +1,6 @@
 use Rattle.constriction.specs.lemmas.Pairs.{one-to-one}
 use Rattle.constriction.specs.Rows.{entry_of}
-use Rattle.constriction_coders.proofs.GoingBack.{goes-back, has-entry, words-go-back}
+use Rattle.constriction_coders.proofs.GoingBack.{goes-back}
 use Rattle.constriction_coders.proofs.laws.stack.decoded_goes_back.Goals as goal
 
 pub returns : goal.returns
@@ -8,8 +8,5 @@ returns g c =
     let eq = g.E.EncoderModel.symbol_eq in
     let entry = entry_of eq (g.E.EntropyModel.rows c.args.encoder.now) in
     let one = one-to-one eq entry 32 g.row.PRECISION _ (g.met.D.DecoderModel.tile_law c.args.decoder.now) c.requires.alike
-    g.met.E.EncoderModel.equality_law c.requires.invertible.distinct in record {
-      known = has-entry _ eq entry _ _ one c.requires.invertible.clones;
-      back = goes-back _ eq entry _ _ one c.requires.invertible.clones c.encoded_once.ensures;
-      words = words-go-back _ eq entry _ _ one c.requires.invertible.clones;
-    }
+    g.met.E.EncoderModel.equality_law c.requires.invertible.distinct in
+    goes-back _ eq entry _ _ one c.requires.invertible.clones c.encoded_once.ensures.once

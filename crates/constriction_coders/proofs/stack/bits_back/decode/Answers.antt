@@ -23,47 +23,49 @@ pub returns-in_default-clause-impossible : goal.returns-in_default-clause-imposs
 returns-in_default-clause-impossible g c = λ fault is.
     let taken = subst (λ (ws : List ℕ). IsOnTop g.row.PRECISION c.in-Ok.answer.1.0 c.in-Ok.answer.1.1 (content c.args.coder.now.state ws)
     (held_by c.take_from_vec.new.coder)) c.reserve.ensures.items c.take_from_vec.ensures.under in
-    let found = c.in-Ok-symbol_and_entry.ensures.found in
-    record {
-      latent = c.in-Ok.answer.0;
-      full = held_by c.take_from_vec.new.coder;
-      paid =
-          decoded-row g.row.PRECISION c.in-Ok.answer.1.0 c.in-Ok.answer.1.1 c.quantile_of.result g.Prior.DecoderModel.stands_for
-          (g.Prior.EntropyModel.rows c.args.prior.now) c.in-Ok.answer.0 _ _ c.quantile_of.ensures c.in-Ok.ensures.found taken;
-      likelihood = c.likelihood-given.result;
-      given = says_at g.Likelihood.Fn c.likelihood-given.ensures refl;
-      row = found.0;
-      found = rw c.quantile_of-2.ensures at found.1;
-      symbol = c.in-Ok-symbol_and_entry.answer.0;
-      stands = found.2;
-      posterior = c.posterior-chosen.result;
-      chosen = says_at g.Posterior.Fn c.posterior-chosen.ensures refl;
-      lacks = c.in_default.ensures.none refl;
-    }
+    let found = c.in-Ok-symbol_and_entry.ensures.found in (
+      c.in-Ok.answer.0,
+      held_by c.take_from_vec.new.coder,
+      decoded-row g.row.PRECISION c.in-Ok.answer.1.0 c.in-Ok.answer.1.1 c.quantile_of.result g.Prior.DecoderModel.stands_for
+          (g.Prior.EntropyModel.rows c.args.prior.now) c.in-Ok.answer.0 _ _ c.quantile_of.ensures c.in-Ok.ensures.found taken,
+      c.in-Ok-symbol_and_entry.answer.0,
+      (
+        c.likelihood-given.result,
+        says_at g.Likelihood.Fn c.likelihood-given.ensures refl,
+        found.0,
+        rw c.quantile_of-2.ensures at found.1,
+        found.2,
+      ),
+      c.posterior-chosen.result,
+      says_at g.Posterior.Fn c.posterior-chosen.ensures refl,
+      c.in_default.ensures.none refl,
+    )
 
 pub returns-clause-ok : goal.returns-clause-ok
 returns-clause-ok g c =
     let taken = subst (λ (ws : List ℕ). IsOnTop g.row.PRECISION c.in-Ok.answer.1.0 c.in-Ok.answer.1.1 (content c.args.coder.now.state ws)
     (held_by c.take_from_vec.new.coder)) c.reserve.ensures.items c.take_from_vec.ensures.under in
+    let coded =
+    decoded-row g.row.PRECISION c.in-Ok-symbol_and_entry.answer.1.0 c.in-Ok-symbol_and_entry.answer.1.1 c.quantile_of-2.result
+    g.LikelihoodModel.DecoderModel.stands_for (g.LikelihoodModel.EntropyModel.rows c.likelihood-given.result)
+    c.in-Ok-symbol_and_entry.answer.0 _ _ c.quantile_of-2.ensures c.in-Ok-symbol_and_entry.ensures.found
+    c.take_from_vec-2.ensures.under in
     record {
       latent = c.in-Ok.answer.0;
-      full = held_by c.take_from_vec.new.coder;
-      paid =
+      drawn = held_by c.take_from_vec-2.new.coder;
+      posterior = (
+        c.posterior-chosen.result,
+        says_at g.Posterior.Fn c.posterior-chosen.ensures refl,
+        record {
+          left = c.in-Some.returned.0;
+          weight = c.in-Some.returned.1;
+          known = c.in-Some.ensures.known;
+          top = c.put_reserved-2.ensures.over;
+        },
+      );
+      coded = held_by c.take_from_vec.new.coder;
+      likelihood = (c.likelihood-given.result, says_at g.Likelihood.Fn c.likelihood-given.ensures refl, coded);
+      prior =
           decoded-row g.row.PRECISION c.in-Ok.answer.1.0 c.in-Ok.answer.1.1 c.quantile_of.result g.Prior.DecoderModel.stands_for
           (g.Prior.EntropyModel.rows c.args.prior.now) c.in-Ok.answer.0 _ _ c.quantile_of.ensures c.in-Ok.ensures.found taken;
-      likelihood = c.likelihood-given.result;
-      given = says_at g.Likelihood.Fn c.likelihood-given.ensures refl;
-      rest = held_by c.take_from_vec-2.new.coder;
-      coded =
-          decoded-row g.row.PRECISION c.in-Ok-symbol_and_entry.answer.1.0 c.in-Ok-symbol_and_entry.answer.1.1 c.quantile_of-2.result
-          g.LikelihoodModel.DecoderModel.stands_for (g.LikelihoodModel.EntropyModel.rows c.likelihood-given.result) c.in-Ok-symbol_and_entry.answer.0
-          _ _ c.quantile_of-2.ensures c.in-Ok-symbol_and_entry.ensures.found c.take_from_vec-2.ensures.under;
-      posterior = c.posterior-chosen.result;
-      chosen = says_at g.Posterior.Fn c.posterior-chosen.ensures refl;
-      returned = record {
-        left = c.in-Some.returned.0;
-        weight = c.in-Some.returned.1;
-        known = c.in-Some.ensures.known;
-        top = c.put_reserved-2.ensures.over;
-      };
     }

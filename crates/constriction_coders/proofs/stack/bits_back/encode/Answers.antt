@@ -5,56 +5,59 @@ use Rattle.constriction_coders.proofs.stack.bits_back.encode.Goals as goal
 
 pub returns-in_default-clause-impossible : goal.returns-in_default-clause-impossible
 returns-in_default-clause-impossible g c = λ fault is.
-    let found = c.in-Ok.ensures.found in
-    record {
-      posterior = c.posterior-chosen.result;
-      chosen = says_at g.Posterior.Fn c.posterior-chosen.ensures refl;
-      row = found.0;
-      found = rw c.quantile_of.ensures at found.1;
-      latent = c.in-Ok.answer.0;
-      stands = found.2;
-      likelihood = c.likelihood-given.result;
-      given = says_at g.Likelihood.Fn c.likelihood-given.ensures refl;
-      lacks = inr (c.in_default.ensures.none refl);
-    }
+    let found = c.in-Ok.ensures.found in (
+      c.in-Ok.answer.0,
+      (
+        c.posterior-chosen.result,
+        says_at g.Posterior.Fn c.posterior-chosen.ensures refl,
+        found.0,
+        rw c.quantile_of.ensures at found.1,
+        found.2,
+      ),
+      c.likelihood-given.result,
+      says_at g.Likelihood.Fn c.likelihood-given.ensures refl,
+      inr (c.in_default.ensures.none refl),
+    )
 
 pub returns-in_default-entry_of_symbol-clause-impossible : goal.returns-in_default-entry_of_symbol-clause-impossible
 returns-in_default-entry_of_symbol-clause-impossible g c = λ fault is.
-    let found = c.in-Ok.ensures.found in
-    record {
-      posterior = c.posterior-chosen.result;
-      chosen = says_at g.Posterior.Fn c.posterior-chosen.ensures refl;
-      row = found.0;
-      found = rw c.quantile_of.ensures at found.1;
-      latent = c.in-Ok.answer.0;
-      stands = found.2;
-      likelihood = c.likelihood-given.result;
-      given = says_at g.Likelihood.Fn c.likelihood-given.ensures refl;
-      lacks = inl (c.in_default-entry_of_symbol.ensures.none refl);
-    }
+    let found = c.in-Ok.ensures.found in (
+      c.in-Ok.answer.0,
+      (
+        c.posterior-chosen.result,
+        says_at g.Posterior.Fn c.posterior-chosen.ensures refl,
+        found.0,
+        rw c.quantile_of.ensures at found.1,
+        found.2,
+      ),
+      c.likelihood-given.result,
+      says_at g.Likelihood.Fn c.likelihood-given.ensures refl,
+      inl (c.in_default-entry_of_symbol.ensures.none refl),
+    )
 
 pub returns-in-Ok-exchange-clause-ok : goal.returns-in-Ok-exchange-clause-ok
 returns-in-Ok-exchange-clause-ok g c =
     let moved = c.in-Ok-exchange.ensures.ok in
+    let drawn =
+    decoded-row g.row.PRECISION c.in-Ok.answer.1.0 c.in-Ok.answer.1.1 c.quantile_of.result g.PosteriorModel.DecoderModel.stands_for
+    (g.PosteriorModel.EntropyModel.rows c.posterior-chosen.result) c.in-Ok.answer.0 _ _ c.quantile_of.ensures c.in-Ok.ensures.found
+    moved.2 in
     record {
-      posterior = c.posterior-chosen.result;
-      chosen = says_at g.Posterior.Fn c.posterior-chosen.ensures refl;
       latent = c.in-Ok.answer.0;
-      rest = moved.0;
-      drawn =
-          decoded-row g.row.PRECISION c.in-Ok.answer.1.0 c.in-Ok.answer.1.1 c.quantile_of.result g.PosteriorModel.DecoderModel.stands_for
-          (g.PosteriorModel.EntropyModel.rows c.posterior-chosen.result) c.in-Ok.answer.0 _ _ c.quantile_of.ensures c.in-Ok.ensures.found
-          moved.2;
-      likelihood = c.likelihood-given.result;
-      given = says_at g.Likelihood.Fn c.likelihood-given.ensures refl;
-      full = moved.1;
-      coded = record {
-        left = c.in-Some.coded.0;
-        weight = c.in-Some.coded.1;
-        known = c.in-Some.ensures.known;
-        top = moved.3;
-      };
-      paid = record {
+      drawn = moved.0;
+      posterior = (c.posterior-chosen.result, says_at g.Posterior.Fn c.posterior-chosen.ensures refl, drawn);
+      coded = moved.1;
+      likelihood = (
+        c.likelihood-given.result,
+        says_at g.Likelihood.Fn c.likelihood-given.ensures refl,
+        record {
+          left = c.in-Some.coded.0;
+          weight = c.in-Some.coded.1;
+          known = c.in-Some.ensures.known;
+          top = moved.3;
+        },
+      );
+      prior = record {
         left = c.in-Some-entry_of_symbol.paid.0;
         weight = c.in-Some-entry_of_symbol.paid.1;
         known = c.in-Some-entry_of_symbol.ensures.known;

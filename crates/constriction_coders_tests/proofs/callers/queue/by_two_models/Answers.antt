@@ -10,9 +10,7 @@ returns-in-Ok-decode_symbol-2 g c =
     let words = c.in-Ok-into_compressed.words.items in
     let known : words ++ [] ≡ drop source.result.pos source.result.buf.items =
     rw (ap (λ p. p.1) source.ensures, ap (λ p. p.0) source.ensures) (append-nil words) in
-    two-back _ _ _ _ _ _ _ _ _ _ _ _ c.range_symbol_comes_back.ensures.back c.range_symbol_comes_back.ensures.leaves
-    c.range_symbol_comes_back-2.ensures.back c.range_symbol_comes_back-2.ensures.before c.range_symbol_comes_back-2.ensures.leaves
-    _ _ _ _ _ _ _ words
+    two-back _ _ _ _ _ _ _ _ _ _ _ _ c.range_symbols_come_back.ensures c.range_symbols_come_back-2.ensures _ _ _ _ _ _ _ words
     (held_by c.in-Ok-from_compressed.opened) _ _
     c.new-coder.ensures c.in-Ok.ensures.ok c.in-Ok-encode_symbol.ensures.ok c.in-Ok-into_compressed.ensures.ok
     (c.in-Ok-from_compressed.ensures.begins (words ++ []) known) c.in-Ok-decode_symbol.ensures.ok c.in-Ok-decode_symbol-2.ensures.ok
