@@ -149,7 +149,7 @@ pub(crate) fn run_reversed_reserved<Word: Copy + Drop, Buf: SafeBufMut<Word>>(
 /// Runs calls on a cursor, in order, and answers a reply for each. A call that is refused, or that
 /// finds no word, leaves the cursor as it is, and the run goes on.
 ///
-/// Memory for the replies is asked for once, before the first call.
+/// Memory for the replies is asked for once, before the first call. If it is refused, no call was made.
 pub fn run_cursor<Word: Copy + Drop, Buf: SafeBufMut<Word>>(
     alloc: Global,
     cursor: &mut Cursor<Word, Buf>,

@@ -98,7 +98,8 @@ where
 /// which says which of the symbol's quantiles is meant.
 ///
 /// It stops at the first item that is refused, with `Frontend` if the item has no quantile and
-/// with `Backend` if the sink refuses it. It makes one pass over the items, and one write for each.
+/// with `Backend` if the sink refuses it. The words of the items before it stay written. It makes one
+/// pass over the items, and one write for each.
 pub fn write_quantiles<E, W, const PRECISION: usize>(
     encoder: &E,
     items: &[(E::Symbol, E::Probability)],
@@ -130,9 +131,10 @@ where
 /// Reads up to `count` words, and adds the pair of each to `out`: the symbol of the word's row, or a clone if
 /// the model owns its symbols, and how far the word lies after the left cumulative of that row.
 ///
-/// It answers the number of pairs that were added, which is below `count` if the source ended. It fails with
-/// `Frontend` at a word that gives no pair, and with `Backend` if a read fails. Reading may go on after a
-/// fault. It makes one look-up for each word, and takes memory only for the symbols and for `out`.
+/// It answers the number of pairs that were added, which is below `count` only if the source ended. It fails
+/// with `Frontend` at a word that gives no pair, which has then been read, and with `Backend` if a read fails.
+/// Either way `out` keeps the pairs of the words before, and reading may go on. It makes one look-up for each
+/// word, and takes memory only for the symbols and for `out`.
 pub fn read_symbols<S: Semantics, M, R, const PRECISION: usize>(
     model: &M,
     source: &mut R,

@@ -18,7 +18,7 @@ pub enum BytesError {
 
 /// Adds the bytes of words, four each.
 ///
-/// Memory is asked for at most once.
+/// Memory is asked for at most once. If it is refused, the bytes stay.
 pub fn push_words(bytes: &mut Vec<u8>, words: &[u32]) -> Result<(), AllocError>
     ensures ok { OnOk result (bytes.new.items ≡ bytes.old.items ++ bytes_of_words words.now) }
     ensures err { OnErr result (bytes.new.items ≡ bytes.old.items) }

@@ -251,7 +251,7 @@ fn parse_line(alloc: Global, line: &[u8]) -> Result<Option<Command>, AllocError>
     }
 }
 
-/// What a line asks for. The line is given without the byte 10 that ends it.
+/// What a line asks for, or `None` if it spells no request. The line is given without the byte 10 that ends it.
 ///
 /// The words are read once, from left to right, and only the numbers take memory.
 pub fn parse(alloc: Global, line: &[u8]) -> Result<Option<Command>, AllocError>

@@ -52,7 +52,8 @@ fn read_turn<R: Read>(
     }
 }
 
-/// Reads to the end, or to one byte past the limit. After an error the reader is not called again.
+/// Reads to the end, or to one byte past the limit of 1,048,576 bytes, and then fails with `TooLong`. After an
+/// error the reader is not called again.
 pub fn read_input<R: Read>(alloc: Global, reader: &mut R) -> Result<Vec<u8>, RunFault>
     ensures ok { IfOk result (λ input. (length input.items ≤ limit) × IsAtEnd (R.remaining reader.new)
         × Consumes (R.remaining reader.old) (R.remaining reader.new) input.items) }
@@ -74,6 +75,9 @@ pub fn read_input<R: Read>(alloc: Global, reader: &mut R) -> Result<Vec<u8>, Run
 }
 
 /// Writes all of the bytes, in as many calls as the writer needs.
+///
+/// It fails with `Write` if the writer answers an error or takes no byte; a beginning of the bytes was then
+/// written.
 pub fn write_whole<W: Write>(writer: &mut W, bytes: &[u8]) -> Result<(), RunFault>
     ensures ok { OnOk result (Appends (W.contents writer.old) (W.contents writer.new) bytes.now) }
     ensures err { OnErr result (WritesBeginning (W.contents writer.old) (W.contents writer.new) bytes.now) }
@@ -180,8 +184,9 @@ fn write_answers<W: Write>(alloc: Global, input: &[u8], writer: &mut W) -> Resul
 
 /// Reads an input to its end, and writes the answers to its lines.
 ///
-/// The writer is not flushed: give one that holds nothing back. After the reader or the writer answered
-/// an error, neither is called again.
+/// The writer is not flushed: give one that holds nothing back. An input has at most 1,048,576 bytes; of a
+/// longer one, at most one byte more is read. After the reader or the writer answered an error, neither is
+/// called again.
 pub fn run<R: Read, W: Write>(alloc: Global, reader: &mut R, writer: &mut W) -> Result<(), RunFault>
     ensures ok { OnOk result (HasReadAll (R.remaining reader.old) (R.remaining reader.new) (λ input.
         (text : List ℕ) × IsTextOf input text × Appends (W.contents writer.old) (W.contents writer.new) text)) }

@@ -162,7 +162,9 @@ where
 /// by the decoder. They come back in their order.
 ///
 /// It fails with `Frontend` at the first item that has no quantile, with `Write` at the first one
-/// whose quantile finds no place, and with `Read` if memory is refused.
+/// whose quantile finds no place, and with `Read` if memory is refused. After `Frontend` or `Write`
+/// the words of the items before stay, and the cursor stands after them. After `Read` the words of
+/// all items stay, and nothing is known of the position.
 pub fn there_and_back_in_a_cursor<D, E, Buf, const PRECISION: usize>(
     alloc: Global,
     decoder: &D,

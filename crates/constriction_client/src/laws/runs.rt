@@ -14,7 +14,8 @@ use std::alloc::{AllocError, Global};
 /// both. They are the same if one is the reversal of the other, as after `into_reversed` of a cursor
 /// in the same state.
 ///
-/// Memory for the replies of both is asked for before the first call.
+/// Memory for the replies of both is asked for before the first call. If it is refused, no call was made on
+/// either.
 pub fn run_cursor_and_reversal<Word: Copy + Drop, Buf: SafeBufMut<Word>, Turned: SafeBufMut<Word>>(
     alloc: Global,
     cursor: &mut Cursor<Word, Buf>,

@@ -73,6 +73,9 @@ fn distance_at_place(words: &[u32], place: usize, state: RangeCoderState) -> u64
 
 impl<Buf: SafeBuf<u32>> RangeDecoder<Cursor<u32, Buf>> {
     /// Goes to a place that was noted while the message was encoded, back or forth.
+    ///
+    /// A place past the words is refused, and so is one whose span has fewer than `2^32` numbers, or has its upper end below the point. A
+    /// refusal leaves the decoder as it was.
     pub fn seek(&mut self, pos: (usize, RangeCoderState)) -> Result<(), ()>
         ensures sought { SeeksSpan ⟦<Cursor<u32, Buf> as ReadWords<u32, Queue>>⟧.tells_upcoming (Buf.words_of (buf_of self.old.words))
             (held_by self.old) pos result (held_by self.new) }

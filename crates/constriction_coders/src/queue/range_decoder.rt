@@ -100,7 +100,8 @@ impl<Source: ReadWords<u32, Queue>> RangeDecoder<Source> {
     /// Decodes the next symbol. If all were decoded, it still decodes a symbol, or the data is invalid.
     ///
     /// It fails with `InvalidData` only if the point lies above all quantiles, with `OutOfMemory` only if the model may refuse the
-    /// row in which it lies, and with the backend's error only if a read answered that. Only a read that failed may change the source.
+    /// row in which it lies, and with the backend's error only if a read answered that. An error leaves what is held, and only a
+    /// read that failed may change the source.
     pub fn decode_symbol<D, const PRECISION: usize>(
         &mut self,
         model: &D,

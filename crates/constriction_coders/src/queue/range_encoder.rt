@@ -85,7 +85,7 @@ impl RangeEncoder {
     /// Encodes a symbol.
     ///
     /// It fails with `ImpossibleSymbol` only if the model has no entry for the symbol, and with `AllocError` only if a word is to be
-    /// written.
+    /// written. An error leaves the encoder as it was.
     pub fn encode_symbol<E, const PRECISION: usize>(
         &mut self,
         symbol: &E::Symbol,
@@ -121,7 +121,7 @@ impl RangeEncoder {
         Ok(())
     }
 
-    /// Encodes the symbols, the first one first.
+    /// Encodes the symbols, the first one first. An error leaves those before the symbol that was not encoded.
     pub fn encode_symbols<E, const PRECISION: usize>(
         &mut self,
         symbols: &[E::Symbol],
@@ -170,6 +170,8 @@ impl RangeEncoder {
     }
 
     /// The words of the message, at most two more than were written. They are decoded alike whatever words come after them.
+    ///
+    /// If memory for these words is refused, the encoder is dropped.
     pub fn into_compressed(self) -> Result<Vec<u32>, AllocError>
         ensures ok { IfOk result (λ words. IsSealed self words.items) }
         ensures memory { OnErr result (self ≢ whole) }

@@ -144,7 +144,7 @@ impl<Backend: WordStack<u32>> AnsCoder<Backend> {
     /// Encodes a symbol.
     ///
     /// It fails with `ImpossibleSymbol` only if the model has no entry for the symbol, and with the backend's error only if a write
-    /// answered that.
+    /// answered that. An error leaves the state and the words.
     pub fn encode_symbol<E, const PRECISION: usize>(
         &mut self,
         symbol: &E::Symbol,
@@ -171,7 +171,7 @@ impl<Backend: WordStack<u32>> AnsCoder<Backend> {
     /// Decodes the symbol that was encoded last. If nothing was encoded, it still decodes a symbol.
     ///
     /// Memory is refused only if the model may refuse the row of the state's quantile. The backend's error comes only if the state
-    /// needs a word and a read answered that error.
+    /// needs a word and a read answered that error. An error leaves the state and the words.
     pub fn decode_symbol<D, const PRECISION: usize>(
         &mut self,
         model: &D,

@@ -129,7 +129,7 @@ fn exchange<const PRECISION: usize>(
 /// Encodes a symbol by a latent one, which is decoded from what the coder holds.
 ///
 /// It fails with `ImpossibleSymbol` if the latent symbol has no entry in its prior, or the symbol has none in the likelihood. It also
-/// fails if memory is refused, for a clone of the latent symbol or for two words.
+/// fails if memory is refused, for a clone of the latent symbol or for two words. An error leaves the state and the words.
 pub fn encode<
     Symbol,
     Latent: Drop,
@@ -183,7 +183,7 @@ pub fn encode<
 /// Decodes a symbol that [`encode`] encoded by a latent one, and puts the latent one back on the coder.
 ///
 /// It fails with `ImpossibleSymbol` if the posterior of the symbol has no entry for the latent one; then no such symbol was encoded. It
-/// also fails if memory is refused, for a clone of either symbol or for a word.
+/// also fails if memory is refused, for a clone of either symbol or for a word. An error leaves the state and the words.
 pub fn decode<
     Symbol: Drop,
     Latent: Drop,
