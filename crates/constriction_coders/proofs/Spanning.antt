@@ -67,7 +67,8 @@ module _ {Symbol : Type 0} (entry : Symbol → Option (ℕ × ℕ)) (precision :
     size-run (x ∷ xs) s last less e = size-run xs e.0 last (leaves-whole x s e.0 e.1 (omega (arith, less))) e.2
 
     -- symbols do not lead to the span of none
-    pub some-symbol : (x : Symbol) (xs : List Symbol) (s last : Span) → s.size < 2 ^ 64 → InTurn (IsNarrowed entry precision) (x ∷ xs) s last
+    pub some-symbol : (x : Symbol) (xs : List Symbol) (s last : Span) → s.size < 2 ^ 64
+        → InTurn (IsNarrowed entry precision) (x ∷ xs) s last
         → last ≡ whole → ⊥
     some-symbol x xs s last bound e all =
         let less = size-run xs e.0 last (leaves-whole x s e.0 e.1 bound) e.2 in

@@ -29,10 +29,10 @@ module _ {S WriteError ReadError : Type 0} {words : stack.Ghosts S ℕ WriteErro
   abbrev pub held_by : AnsCoder S WriteError ReadError words writes shows reads shows_too → Content
   held_by coder = content coder.state (words.words_of coder.words)
 
-  -- Symbols were encoded onto `old`, the first one first, and the next one was not: it has no entry, or a write answered the error. That left
-  -- what the coder held.
+  -- symbols were encoded onto `old`, the first one first, and the next one was not, which left what the coder held
   pub record StopsAt {Symbol Fault : Type 0} (entry : Symbol → Option (ℕ × ℕ)) (precision : ℕ) (done : List Symbol) (symbol : Symbol)
-      (error : CoderError Fault WriteError) (old : Content) (new : AnsCoder S WriteError ReadError words writes shows reads shows_too) : Type 0 where
+      (error : CoderError Fault WriteError) (old : Content) (new : AnsCoder S WriteError ReadError words writes shows reads shows_too)
+      : Type 0 where
     pub reached : AnsCoder S WriteError ReadError words writes shows reads shows_too
     pub led : InTurn (IsEncoded entry precision) (reverse done) (held_by reached) old
     pub impossible : (fault : Fault) → error ≡ Frontend fault → entry symbol ≡ None

@@ -30,7 +30,8 @@ abbrev pub SeeksSpan : {S : Type 0} → (S → List ℕ → Type 0) → List ℕ
     → Type 0
 SeeksSpan tells words old place r new =
     MatchResult r
-    (λ _. IsPlaceIn words place × (new.held ≡ interval place.1.range (distance_at place words)) × tells new.source (drop (place.0 + 2) words))
+    (λ _. IsPlaceIn words place × (new.held ≡ interval place.1.range (distance_at place words))
+    × tells new.source (drop (place.0 + 2) words))
     (λ _. ((length words < place.0) ⊎ (place.1.range < 2 ^ 32) ⊎ (place.1.range < distance_at place words)) × (new ≡ old))
 
 -- A place was noted, and symbols were encoded from there to the last span of a message. Over its words, whatever words come after them, a

@@ -19,8 +19,8 @@ use constriction::{CoderError, DefaultEncoderFrontendError, Queue};
 use std::alloc::{AllocError, Global};
 use std::convert::Infallible;
 
-/// What is decoded after symbols were encoded stands for what was encoded, in order, from any source that tells the words of the message:
-/// symbol by symbol, whatever models the symbols before and after it have, or as a run by one model, from any span of the message on.
+/// What is encoded by one model and decoded by the other comes back: a symbol, whatever models the symbols before and after it have, and
+/// symbols from any span of a message on.
 pub fn range_symbols_come_back<D, E, Source, const PRECISION: usize>(decoder: &D, encoder: &E)
 where
     D: DecoderModel<PRECISION, Probability = u32>,

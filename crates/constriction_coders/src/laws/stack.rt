@@ -21,8 +21,7 @@ use constriction::stream::model::{DecoderModel, EncoderModel};
 use constriction::{CoderError, DefaultEncoderFrontendError};
 use std::alloc::{AllocError, Global};
 
-/// What is decoded after symbols were encoded, a symbol, a run of symbols or all words of a message, stands for what was encoded, whoever
-/// encoded it.
+/// What is encoded by one model and decoded by the other comes back, whoever encoded it.
 pub fn symbols_come_back<D, E, const PRECISION: usize>(decoder: &D, encoder: &E)
 where
     D: DecoderModel<PRECISION, Probability = u32>,
@@ -31,8 +30,8 @@ where
     ensures { SymbolsComeBack (entry_of E.symbol_eq (E.rows encoder.now)) PRECISION D.stands_for (D.rows decoder.now) E.symbol_eq }
 {}
 
-/// What a coder holds after symbols follows from what it held before, so their words are the same whoever encoded them, and
-/// [`from_compressed`](AnsCoder::from_compressed) accepts these. A coder that is sought to a place from before them decodes from there.
+/// What a coder holds after symbols follows from what it held before, so their words are the same whoever encoded them. A coder that is
+/// sought to a place from before them decodes from there.
 pub fn encoded_once<E, const PRECISION: usize>(encoder: &E)
 where
     E: EncoderModel<PRECISION, Probability = u32>,
@@ -146,8 +145,8 @@ where
     }
 }
 
-/// If the models fit together, a symbol that [`encode`](crate::stack::bits_back::encode) encoded and
-/// [`decode`](crate::stack::bits_back::decode) decoded comes back, and the coder holds what it held before.
+/// A symbol that [`encode`](crate::stack::bits_back::encode) encoded and [`decode`](crate::stack::bits_back::decode) decoded comes back, if
+/// the models fit together.
 pub fn bits_come_back<
     Symbol,
     Latent,

@@ -87,8 +87,7 @@ impl<Source: ReadWords<u32, Queue> + Drop> RangeDecoder<Source> {
 impl<Source: ReadWords<u32, Queue>> RangeDecoder<Source> {
     ghost use Rattle.constriction_coders.specs.RangeDecoder.{held_by};
 
-    /// Whether all symbols may have been decoded. If nothing comes after the words of the message, `false` says that the decoder is not at
-    /// its end. `true` may come before the end.
+    /// Whether all symbols may have been decoded. If nothing comes after the words of the message, `false` says that some are left.
     pub fn maybe_exhausted(&self) -> bool
         ensures near { IsTrue result → MayBeAtEnd (held_by self.now).held }
         ensures left { OnFalse result (MayBeAtEnd (held_by self.now).held → (words : List ℕ) → Source.tells_upcoming self.now.words words

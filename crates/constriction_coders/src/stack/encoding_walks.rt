@@ -28,7 +28,8 @@ impl<Backend: WordStack<u32>> AnsCoder<Backend> {
         ensures { (given : I.IntoIter) × I.into_iter_gives symbols given × TakesItems I.IntoIter.next_gives given result
             (λ done. InTurn (IsEncoded (entry_of E.symbol_eq (E.rows model.now)) PRECISION) (reverse done) (held_by self.new)
             (held_by self.old))
-            (λ done symbol error. StopsAt (entry_of E.symbol_eq (E.rows model.now)) PRECISION done symbol error (held_by self.old) self.new) }
+            (λ done symbol error. StopsAt (entry_of E.symbol_eq (E.rows model.now)) PRECISION done symbol error (held_by self.old)
+            self.new) }
     {
         let mut given = symbols.into_iter();
         'turns: while let Some(symbol) = given.next() {
@@ -55,7 +56,8 @@ impl<Backend: WordStack<u32>> AnsCoder<Backend> {
         ensures { (given : I.IntoIter) × I.into_iter_gives symbols given × TakesItems I.IntoIter.next_back_gives given result
             (λ done. InTurn (IsEncoded (entry_of E.symbol_eq (E.rows model.now)) PRECISION) (reverse done) (held_by self.new)
             (held_by self.old))
-            (λ done symbol error. StopsAt (entry_of E.symbol_eq (E.rows model.now)) PRECISION done symbol error (held_by self.old) self.new) }
+            (λ done symbol error. StopsAt (entry_of E.symbol_eq (E.rows model.now)) PRECISION done symbol error (held_by self.old)
+            self.new) }
     {
         self.encode_iid_symbols(symbols.into_iter().rev(), model)
     }

@@ -12,7 +12,8 @@ returns-then-words-place-lt4294967295 c =
     let there : place < length words = omega (arith, c.loop-place-test.true) in
     let long : length (set words place word) ≡ length words = length-set words place word in
     let raised : get_or (set words place word) place 0 ≡ get_or old place 0 + 1 =
-    get_or-set_same words place word 0 there ∙ ap (λ n. n + 1) (c.loop-place.invariant.front place (omega (arith, c.loop-place-test.true))) in
+    get_or-set_same words place word 0 there
+    ∙ ap (λ n. n + 1) (c.loop-place.invariant.front place (omega (arith, c.loop-place-test.true))) in
     let others = λ (j : ℕ) (h : j ≢ place). get_or-set_other words place j word 0 h in
     ap (λ n. number_first n (set words place word)) long
     ∙ carried old (set words place word) place

@@ -10,7 +10,8 @@ returns-in-Ok-clause-room g c =
 pub returns-in-Ok-clause-whole : goal.returns-in-Ok-clause-whole
 returns-in-Ok-clause-whole g c = λ left within below.
     let full : c.args.weight * 2 ^ (64 - g.row.PRECISION) ≤ c.args.state = search rules in
-    absurd (omega (arith, below, least_after g.row.PRECISION left c.args.weight c.args.state c.requires.precision.fits c.requires.some full))
+    let least = least_after g.row.PRECISION left c.args.weight c.args.state c.requires.precision.fits c.requires.some full in
+    absurd (omega (arith, below, least))
 
 pub returns-in-Ok-clause-ok : goal.returns-in-Ok-clause-ok
 returns-in-Ok-clause-ok g c =

@@ -21,7 +21,8 @@ turns-preserved g c =
       so_far = record {
         done = h.done ++ c.in-Some.symbol ∷ [];
         given =
-            yields-more g.I.IntoIter.Iterator.next_gives c.into_iter-given.result h.done c.turns.given c.in-Some.symbol c.next.new.self h.given
+            yields-more g.I.IntoIter.Iterator.next_gives c.into_iter-given.result h.done c.turns.given c.in-Some.symbol c.next.new.self
+            h.given
             c.in-Some.ensures.steps;
         so_far =
             turn-last (IsNarrowed (entry_of g.E.EncoderModel.symbol_eq (g.E.EntropyModel.rows c.args.model.now)) g.row.PRECISION) h.done
@@ -47,8 +48,11 @@ returns-in-Err g c =
         c.in-Some.symbol,
         c.next.new.self,
         (c.turns.given, h.given, c.in-Some.ensures.steps),
-        subst (λ (s : Span). InTurn (IsNarrowed (entry_of g.E.EncoderModel.symbol_eq (g.E.EntropyModel.rows c.args.model.now)) g.row.PRECISION) h.done c.args.self.now s
-            × IsNarrowingFault (entry_of g.E.EncoderModel.symbol_eq (g.E.EntropyModel.rows c.args.model.now)) g.row.PRECISION c.in-Err.error c.in-Some.symbol s)
+        subst (λ (s : Span).
+            InTurn (IsNarrowed (entry_of g.E.EncoderModel.symbol_eq (g.E.EntropyModel.rows c.args.model.now)) g.row.PRECISION) h.done
+            c.args.self.now s
+            × IsNarrowingFault (entry_of g.E.EncoderModel.symbol_eq (g.E.EntropyModel.rows c.args.model.now)) g.row.PRECISION
+            c.in-Err.error c.in-Some.symbol s)
             (sym c.in-Err.ensures.err) (h.so_far, c.in-Err.ensures.fault),
       ),
     )

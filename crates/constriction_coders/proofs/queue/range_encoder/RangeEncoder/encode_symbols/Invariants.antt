@@ -7,5 +7,6 @@ use Rattle.constriction_coders.proofs.queue.range_encoder.RangeEncoder.encode_sy
 -- the symbols so far were encoded
 abbrev pub invariant-loop-symbol : goal.invariant-loop-symbol
 invariant-loop-symbol g l =
-    InTurn (IsNarrowed (entry_of g.E.EncoderModel.symbol_eq (g.E.EntropyModel.rows l.model)) g.row.PRECISION) (take l.symbol-index l.symbols)
+    InTurn (IsNarrowed (entry_of g.E.EncoderModel.symbol_eq (g.E.EntropyModel.rows l.model)) g.row.PRECISION)
+    (take l.symbol-index l.symbols)
     l.initial.self l.self

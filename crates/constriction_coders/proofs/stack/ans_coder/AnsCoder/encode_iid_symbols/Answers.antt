@@ -19,7 +19,8 @@ turns-preserved g c =
       so_far = record {
         done = h.done ++ c.in-Some.symbol ∷ [];
         given =
-            yields-more g.I.IntoIter.Iterator.next_gives c.into_iter-given.result h.done c.turns.given c.in-Some.symbol c.next.new.self h.given
+            yields-more g.I.IntoIter.Iterator.next_gives c.into_iter-given.result h.done c.turns.given c.in-Some.symbol c.next.new.self
+            h.given
             c.in-Some.ensures.steps;
         so_far =
             turn-before (IsEncoded (entry_of g.E.EncoderModel.symbol_eq (g.E.EntropyModel.rows c.args.model.now)) g.row.PRECISION) h.done
