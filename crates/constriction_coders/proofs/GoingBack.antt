@@ -1,5 +1,5 @@
 -- What was decoded is encoded by the entry of its row.
-use Rattle.std.proofs.Common.{◌≡◌, ℕ, ◌%◌, ◌^◌, Bool, List, [], ◌∷◌, Option, sym, ◌∙◌}
+use Rattle.std.proofs.Common.{ℕ, ◌%◌, ◌^◌, Bool, List, [], ◌∷◌, Option, sym, ◌∙◌}
 use Rattle.constriction.specs.Coding.{InTurn}
 use Rattle.constriction.specs.Laws.{IsOneToOne}
 use Rattle.constriction.specs.Model.{ClonesAreEqual}

@@ -1,5 +1,5 @@
 -- Stored weights: words are those of one list of weights, and why none are read.
-use Rattle.std.proofs.Common.{◌≡◌, ℕ, List, [], ◌∷◌, ◌++◌, append-nil, Option, None, Result, Ok, Err, length, refl, ap, sym, ◌∙◌, subst, arith, length-append}
+use Rattle.std.proofs.Common.{◌≡◌, ℕ, List, [], ◌∷◌, ◌++◌, append-nil, Option, None, Result, Ok, length, refl, ap, sym, ◌∙◌, subst, arith, length-append}
 use Rattle.constriction.specs.declared.CoderError.{CoderError}
 use Rattle.constriction.specs.declared.CoderError.TheVariants.{Frontend, Backend}
 use Rattle.constriction_backends.specs.Source.{ReadsUpcoming}
