@@ -5,12 +5,6 @@ use Rattle.std.specs.Iterator.{Yields}
 use Rattle.constriction.specs.Coding.{InTurn}
 use Rattle.constriction_backends.specs.Sink.{TakesItems}
 
--- one call more
-pub yields-more : {S A : Type 0} (steps : S → Option A → S → Type 0) (s : S) (xs : List A) (t : S) (x : A) (u : S)
-    → Yields steps s xs t → steps t (Some x) u → Yields steps s (xs ++ x ∷ []) u
-yields-more steps s [] t x u e h = (u, (let P : _ → Type 0 = λ v. steps v (Some x) u in subst P (sym e) h), refl)
-yields-more steps s (y ∷ xs) t x u (j, k, r) h = (j, k, yields-more steps j xs t x u r h)
-
 -- what was given so far, of which P holds
 pub record GivenSoFar {Symbol I : Type 0} (steps : I → Option Symbol → I → Type 0) (symbols rest : I) (P : List Symbol → Type 0)
     : Type 0 where

@@ -1,9 +1,9 @@
 use Rattle.std.proofs.Common.{[], ◌∷◌, ◌++◌, refl, sym, subst}
 use Rattle.constriction.specs.Coding.{InTurn}
 use Rattle.constriction.specs.lemmas.Turns.{turn-last}
+use Rattle.constriction.specs.lemmas.Walks.{yields-more}
 use Rattle.constriction.specs.Rows.{entry_of}
 use Rattle.constriction_coders.specs.Spans.{Span, IsNarrowed, IsNarrowingFault}
-use Rattle.constriction_coders.proofs.Giving.{yields-more}
 use Rattle.constriction_coders.proofs.queue.range_encoder.RangeEncoder.encode_iid_symbols.Goals as goal
 
 pub turns-init : goal.turns-init

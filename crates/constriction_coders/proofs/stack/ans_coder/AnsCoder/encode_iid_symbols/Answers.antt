@@ -1,7 +1,8 @@
 use Rattle.std.proofs.Common.{[], ◌∷◌, ◌++◌, Err, refl, ap}
+use Rattle.constriction.specs.lemmas.Walks.{yields-more}
 use Rattle.constriction.specs.Rows.{entry_of}
 use Rattle.constriction_coders.specs.Steps.{IsEncoded}
-use Rattle.constriction_coders.proofs.Giving.{turn-before, yields-more}
+use Rattle.constriction_coders.proofs.Giving.{turn-before}
 use Rattle.constriction_coders.proofs.stack.ans_coder.AnsCoder.encode_iid_symbols.Goals as goal
 
 pub turns-init : goal.turns-init
