@@ -108,8 +108,8 @@ module _ {W : Type 0} where
 
   -- ---- a run has one outcome
 
-  pub runs-once : (s : State W) (calls : List (CursorCall W)) (replies others : List (CursorReply W)) (t u : State W) → Runs s calls replies t
-      → Runs s calls others u → (others ≡ replies) × (u ≡ t)
+  pub runs-once : (s : State W) (calls : List (CursorCall W)) (replies others : List (CursorReply W)) (t u : State W)
+      → Runs s calls replies t → Runs s calls others u → (others ≡ replies) × (u ≡ t)
   runs-once s [] [] [] t u h k = (refl, sym k ∙ h)
   runs-once s (c ∷ cs) (r ∷ rs) (o ∷ os) t u h k =
       let one = replies-once s c r o h.0 k.0 h.1 k.1 in

@@ -1,6 +1,7 @@
 //! How many words a lookup table has, and which stored entries a model lends.
 
-ghost use Rattle.std.specs.Prelude.{◌<◌, ◌≤◌, length};
+ghost use Rattle.std.specs.Prelude.{◌<◌, length};
+ghost use Rattle.constriction.specs.Precision.{IsPrecision};
 
 use crate::checks::{same, shows};
 use constriction::stream::model::{
@@ -50,8 +51,7 @@ fn has_words<const PRECISION: usize, const SLOT_BITS: usize>(
     weights: [u8; 2],
     words: &str,
 )
-    requires positive { 0 < PRECISION }
-    requires fits { PRECISION ≤ 8 }
+    requires { IsPrecision 8 PRECISION }
 {
     let made = Slotted::<PRECISION, SLOT_BITS>::from_nonzero_fixed_point_probabilities(
         alloc, weights, false,

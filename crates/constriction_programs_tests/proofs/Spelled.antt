@@ -1,15 +1,15 @@
 -- What some lines spell, and their answers.
-use Rattle.std.proofs.Common.{suc, zero, refl, ◌≡◌, ℕ, ◌<◌, ◌≤◌, ◌^◌, List, [], ◌∷◌, ◌++◌, length, get_or, Option, Some, None, Result, Ok, Err, ap, sym, subst, ◌∙◌, append-nil, arith, codes, inl, inr}
+use Rattle.std.proofs.Common.{suc, zero, refl, ◌≡◌, ℕ, ◌<◌, ◌^◌, List, [], ◌∷◌, ◌++◌, get_or, Option, Some, None, Result, Ok, Err, ap, sym, subst, ◌∙◌, append-nil, arith, codes, inl, inr}
 use Rattle.std.specs.Prelude.{IsNone}
 use Rattle.std.specs.Option.{option_map, IfSome, IfNone}
 use Rattle.std.specs.Result.{IfOk, OnOk}
-use Rattle.std.specs.Io.KnownBytes.{Appends, IsAtEnd}
+use Rattle.std.specs.Io.KnownBytes.{Appends}
 use Rattle.std.specs.Fmt.{digits}
 use Rattle.constriction_text.specs.declared.line.Command.{Command}
 use Rattle.constriction_text.specs.declared.line.Format.TheVariants.{U8Precision6, U8Precision8}
 use Rattle.constriction_text.specs.Grammar.{Request, table, uniform, view, IsNumber, Spells}
 use Rattle.constriction_text.specs.private.Reading.{read_line, read_words, read_format, read_numbers, read_number, read_request}
-use Rattle.constriction_text.specs.Runs.{limit, HasRead}
+use Rattle.constriction_text.specs.Runs.{HasReadAll}
 use Rattle.constriction_text.specs.Text.{IsAnswer, IsTextOf}
 use Rattle.constriction_text.proofs.Exactly.{spells_none}
 
@@ -52,8 +52,7 @@ answered bytes line text (Err e) is alone h = tt
 -- if an input has one text alone, this is written at its end
 pub written : {T E : Type 0} (input rest old new text : List ℕ) (r : Result T E) → IsTextOf input text
     → ((whole one other : List ℕ) → IsTextOf whole one → IsTextOf whole other → one ≡ other)
-    → OnOk r (HasRead (Some input) (Some rest) (λ read. IsAtEnd (Some rest) × (length read ≤ limit)
-    × ((made : List ℕ) × IsTextOf read made × Appends (Some old) (Some new) made)))
+    → OnOk r (HasReadAll (Some input) (Some rest) (λ read. (made : List ℕ) × IsTextOf read made × Appends (Some old) (Some new) made))
     → OnOk r (new ≡ old ++ text)
 written input rest old new text (Ok x) is alone h =
     let all : h.0 ≡ input = sym (append-nil h.0) ∙ ap (λ more. h.0 ++ more) (sym h.2.0) ∙ sym h.1 in

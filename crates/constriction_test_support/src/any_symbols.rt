@@ -1,6 +1,6 @@
 //! Models of given letters and weights.
 
-ghost use Rattle.std.specs.Prelude.{◌<◌, ◌≤◌};
+ghost use Rattle.constriction.specs.Precision.{IsPrecision};
 
 use constriction::stream::model::{
     EncoderModel, ModelError, NonContiguousCategoricalDecoderModel,
@@ -40,8 +40,7 @@ pub fn decoder<const PRECISION: usize>(
     weights: &[u8],
     infer: bool,
 ) -> Result<Decoder<PRECISION>, ModelError>
-    requires positive { 0 < PRECISION }
-    requires fits { PRECISION ≤ 8 }
+    requires { IsPrecision 8 PRECISION }
 {
     Decoder::from_symbols_and_nonzero_fixed_point_probabilities(
         alloc,
@@ -58,8 +57,7 @@ pub fn encoder<const PRECISION: usize>(
     weights: &[u8],
     infer: bool,
 ) -> Result<Encoder<PRECISION>, ModelError>
-    requires positive { 0 < PRECISION }
-    requires fits { PRECISION ≤ 8 }
+    requires { IsPrecision 8 PRECISION }
 {
     Encoder::from_symbols_and_nonzero_fixed_point_probabilities(
         alloc,

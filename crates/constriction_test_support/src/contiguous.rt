@@ -1,6 +1,6 @@
 //! The contiguous model of given weights.
 
-ghost use Rattle.std.specs.Prelude.{◌<◌, ◌≤◌};
+ghost use Rattle.constriction.specs.Precision.{IsPrecision};
 
 use constriction::stream::model::{ContiguousCategoricalEntropyModel, ModelError};
 use std::alloc::Global;
@@ -23,8 +23,7 @@ pub fn weighted<const PRECISION: usize>(
     weights: &[u8],
     infer: bool,
 ) -> Result<Weighted<PRECISION>, ModelError>
-    requires positive { 0 < PRECISION }
-    requires fits { PRECISION ≤ 8 }
+    requires { IsPrecision 8 PRECISION }
 {
     Weighted::from_nonzero_fixed_point_probabilities(alloc, weights.iter().copied(), infer)
 }

@@ -1,6 +1,6 @@
 //! The lookup model of given letters and weights.
 
-ghost use Rattle.std.specs.Prelude.{◌<◌, ◌≤◌};
+ghost use Rattle.constriction.specs.Precision.{IsPrecision};
 
 use constriction::stream::model::{ModelError, NonContiguousLookupDecoderModel};
 use std::alloc::Global;
@@ -21,8 +21,7 @@ pub fn lookup<const PRECISION: usize>(
     weights: &[u8],
     infer: bool,
 ) -> Result<Lookup<char, PRECISION>, ModelError>
-    requires positive { 0 < PRECISION }
-    requires fits { PRECISION ≤ 8 }
+    requires { IsPrecision 8 PRECISION }
 {
     Lookup::from_symbols_and_nonzero_fixed_point_probabilities(
         alloc,

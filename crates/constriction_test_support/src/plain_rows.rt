@@ -1,6 +1,6 @@
 //! The rows that symbol tables and look-ups give, with weights as plain words.
 
-ghost use Rattle.std.specs.Prelude.{◌<◌, ◌≤◌};
+ghost use Rattle.constriction.specs.Precision.{IsPrecision};
 
 use constriction::stream::model::{DecoderModel, Weight, is_quantile};
 use constriction_words::WholeNumber;
@@ -21,8 +21,7 @@ pub fn row<Word: WholeNumber>(step: Step<Word>) -> Option<(usize, Word, Word)> {
 pub fn look_up<M, const PRECISION: usize>(model: &M, quantile: u8) -> Option<(usize, u8, u8)>
 where
     M: DecoderModel<PRECISION, Symbol = usize, Probability = u8>,
-    requires positive { 0 < PRECISION }
-    requires fits { PRECISION ≤ 8 }
+    requires { IsPrecision 8 PRECISION }
 {
     if is_quantile::<u8, PRECISION>(quantile) {
         row(Some(model.quantile_function(quantile)))

@@ -1,6 +1,6 @@
 //! Contiguous models of given weights, over words of each width.
 
-ghost use Rattle.std.specs.Prelude.{◌<◌, ◌≤◌};
+ghost use Rattle.constriction.specs.Precision.{IsPrecision};
 
 use constriction::stream::model::{ContiguousCategoricalEntropyModel, ModelError};
 use constriction_words::WholeNumber;
@@ -19,8 +19,7 @@ pub fn model_of<Word: WholeNumber, const PRECISION: usize>(
     weights: &[Word],
     infer_last: bool,
 ) -> Result<Model<Word, PRECISION>, ModelError>
-    requires positive { 0 < PRECISION }
-    requires fits { PRECISION ≤ Word.BITS }
+    requires { IsPrecision Word.BITS PRECISION }
 {
     Model::<Word, PRECISION>::from_nonzero_fixed_point_probabilities(
         alloc,

@@ -15,8 +15,8 @@ use Rattle.constriction_theorem.specs.declared.searches.AnswersBySearch.{Answers
 use Rattle.constriction_theorem.specs.declared.weights.AnswersOfWeights.{AnswersOfWeights}
 use Rattle.constriction_theorem.specs.declared.weights.RepliesByEncoder.{RepliesByEncoder}
 
--- The result of a call that makes models of lists. It is answers only if the lists are accepted, and `Tells` is true of them. It is
--- `InvalidTable` only if they are not accepted.
+-- The result of a call that makes models of lists. There are answers only if the lists are accepted, and `Tells` is true of the answers.
+-- The result is `InvalidTable` only if the lists are not accepted.
 pub record IsDecidedBy {Answers : Type 0} (result : Result Answers ModelError) (Accepted : Type 0) (Tells : Answers → Type 0)
     : Type 0 where
   pub accepted : IfOk result (λ _. Accepted)

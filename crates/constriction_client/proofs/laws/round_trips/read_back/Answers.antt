@@ -17,7 +17,8 @@ returns-in-Ok g c = record {
   ok =
       all-read g.D.DecoderModel.stands_for (g.D.EntropyModel.rows c.args.decoder.now) g.D.Probability.WholeNumber.whole
       g.row.PRECISION g.D.DecoderModel.may_refuse (vec_capacity c.read_symbols.new.out) g.R.ReadWords c.args.count
-      c.args.source.now c.read_symbols.new.source c.read_symbols.new.out.items c.in-Ok.field-0 (rw c.new-pairs.ensures.items at c.in-Ok.ensures.pairs);
+      c.args.source.now c.read_symbols.new.source c.read_symbols.new.out.items c.in-Ok.field-0
+      (rw c.new-pairs.ensures.items at c.in-Ok.ensures.pairs);
   err = tt;
 }
 
