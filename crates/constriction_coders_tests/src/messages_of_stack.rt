@@ -2,9 +2,7 @@
 
 use crate::checks::{holds, same};
 use constriction::stream::model::DefaultUniformModel;
-use constriction_coders::laws::{
-    compressed_once, encoded_once, may_be_held, symbols_come_back,
-};
+use constriction_coders::laws::{compressed_once, encoded_once, may_be_held, symbols_come_back};
 use constriction_coders::stack::AnsCoder;
 
 /// The words of seven symbols are computed from the format's formulas.
