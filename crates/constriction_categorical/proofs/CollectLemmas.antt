@@ -14,7 +14,7 @@ use Rattle.constriction_model.specs.Tables.{YieldsRow}
 use Rattle.constriction_stored_rows.specs.Stored.{rows_paired}
 use Rattle.constriction_categorical.specs.private.Walked.{WalkedGood, WalkedBad}
 use Rattle.constriction_model.specs.lemmas.Walks.{gives-all-rows, walks-rows}
-use Rattle.constriction_stored_rows.proofs.FillLemmas.{yields-more}
+use Rattle.constriction_model.specs.lemmas.Walks.{yields-more}
 use Rattle.constriction_stored_rows.proofs.PairedLemmas.{paired-of_rows}
 use Rattle.constriction_stored_rows.proofs.ReadLemmas.{not-distinct, none-distinct, distinct-push, never-any}
 
