@@ -1,5 +1,6 @@
 pub use Rattle.constriction_model.specs.lemmas.Coding
 pub use Rattle.constriction_categorical.specs.lemmas.ModelRows
+pub use Rattle.constriction_model.specs.lemmas.Hints
 pub use Rattle.constriction_model.specs.lemmas.Pairs
 pub use Rattle.constriction_model.specs.lemmas.Rows
 pub use Rattle.constriction_model.specs.lemmas.Stand

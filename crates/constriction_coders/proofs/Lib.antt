@@ -22,4 +22,3 @@ pub mod States
 pub mod Steps
 pub mod Stopping
 pub mod StoredWeightsLemmas
-pub mod Walking
