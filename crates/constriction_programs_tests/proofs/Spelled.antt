@@ -8,7 +8,8 @@ use Rattle.std.specs.Fmt.{digits}
 use Rattle.constriction_text.specs.declared.line.Command.{Command}
 use Rattle.constriction_text.specs.declared.line.Format.TheVariants.{U8Precision6, U8Precision8}
 use Rattle.constriction_text.specs.Grammar.{Request, table, uniform, view, IsNumber, Spells}
-use Rattle.constriction_text.specs.private.Reading.{read_line, read_words, read_format, read_numbers, read_number, read_request}
+use Rattle.constriction_text.specs.Words.{read_number}
+use Rattle.constriction_text.specs.private.Reading.{read_line, read_words, read_format, read_numbers, read_request}
 use Rattle.constriction_text.specs.Runs.{HasReadAll}
 use Rattle.constriction_text.specs.Text.{IsAnswer, IsTextOf}
 use Rattle.constriction_text.proofs.Exactly.{spells_none}

@@ -16,7 +16,8 @@ use Rattle.constriction_text.specs.declared.line.Format.{Format}
 use Rattle.constriction_text.specs.declared.line.Format.TheVariants.{U8Precision6, U8Precision8, U16Precision12}
 use Rattle.constriction_text.specs.Grammar.{Request, table, infer, quantile, symbol, uniform, format_of, format_word, view, IsNumber, IsLineOf, Spells}
 use Rattle.constriction_text.specs.private.Parts.{only_number}
-use Rattle.constriction_text.specs.private.Reading.{keyword, numbers_of, formats, requests_of, read_number, read_numbers, read_format, read_request, read_words, read_line, ◌>>=◌}
+use Rattle.constriction_text.specs.Words.{read_number}
+use Rattle.constriction_text.specs.private.Reading.{keyword, numbers_of, formats, requests_of, read_numbers, read_format, read_request, read_words, read_line, ◌>>=◌}
 use Rattle.constriction_text.proofs.Numbers.{read_number-some}
 
 -- a search that found something found it here or further down

@@ -8,7 +8,8 @@ use Rattle.std.specs.Str.{all_ascii_digits}
 use Rattle.std.specs.Char.{digit_value}
 use Rattle.std.specs.Str.Parse.{digits_value, digits_value_after}
 use Rattle.constriction_text.specs.private.Parts.{only_number}
-use Rattle.constriction_text.specs.private.Reading.{read_number, read_numbers, ◌>>=◌}
+use Rattle.constriction_text.specs.Words.{read_number}
+use Rattle.constriction_text.specs.private.Reading.{read_numbers, ◌>>=◌}
 
 -- more digits make no smaller number
 value_grows : (n : ℕ) (ds : List ℕ) → n ≤ digits_value_after 10 n ds

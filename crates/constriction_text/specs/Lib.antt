@@ -1,4 +1,5 @@
 pub mod Grammar
 pub mod Runs
 pub mod Text
+pub mod Words
 pub mod private

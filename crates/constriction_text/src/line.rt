@@ -4,9 +4,10 @@ ghost use Rattle.std.specs.Prelude.{◌≡◌, ◌==◌, ◌∷◌, ◌<◌, IfO
 ghost use Rattle.std.specs.List.{slice_split};
 ghost use Rattle.std.specs.Option.{option_copied, option_map};
 ghost use Rattle.constriction_text.specs.Grammar.{Request, Spells, format_of, view};
-ghost use Rattle.constriction_text.specs.private.Parts.{parts_of, first_and_others, only_number};
+ghost use Rattle.constriction_text.specs.Words.{parts_of, read_number};
+ghost use Rattle.constriction_text.specs.private.Parts.{first_and_others, only_number};
 ghost use Rattle.constriction_text.specs.private.Reading.{read_format, read_line};
-ghost use Rattle.constriction_text.specs.private.Reading.{read_number, read_numbers, read_request};
+ghost use Rattle.constriction_text.specs.private.Reading.{read_numbers, read_request};
 
 use std::alloc::{AllocError, Global};
 
@@ -95,7 +96,7 @@ const SPACE: u8 = b' ';
 const DIGITS: usize = 20;
 
 /// The number that a word of one to twenty digits spells, if it is below `2^64`. Zeros may lead it.
-#[tactic(auto, unfolding(crate::specs::private::Reading::read_number))]
+#[tactic(auto, unfolding(crate::specs::Words::read_number))]
 pub fn parse_number(word: &[u8]) -> Option<u64>
     ensures { result ≡ read_number word.now }
 {

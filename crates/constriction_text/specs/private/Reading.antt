@@ -1,13 +1,12 @@
 -- How a line is read: its words, and the request that they make.
-use Rattle.std.specs.Prelude.{ℕ, ◌^◌, List, [], ◌∷◌, codes, length, find, Option, Some, None, option_and_then}
-use Rattle.std.specs.Prelude.{nat_lt, nat_le, ◌==◌, ◌&&◌, if◌then◌else◌}
+use Rattle.std.specs.Prelude.{ℕ, List, [], ◌∷◌, codes, find, Option, Some, None, option_and_then, ◌==◌}
 use Rattle.std.specs.List.{slice_split}
-use Rattle.std.specs.Str.{all_ascii_digits, bytes_eq}
-use Rattle.std.specs.Str.Parse.{digits_value}
+use Rattle.std.specs.Str.{bytes_eq}
 use Rattle.constriction_text.specs.declared.line.Format.{Format}
 use Rattle.constriction_text.specs.declared.line.Format.TheVariants.{U8Precision6, U8Precision8, U16Precision12}
 use Rattle.constriction_text.specs.Grammar.{Request, table, infer, quantile, symbol, uniform}
 use Rattle.constriction_text.specs.Grammar.{format_word}
+use Rattle.constriction_text.specs.Words.{read_number}
 
 infixl 10 ◌>>=◌
 -- the next step, if the one before found something
@@ -29,12 +28,6 @@ numbers_of (infer format weights) = weights
 numbers_of (quantile format q weights) = q ∷ weights
 numbers_of (symbol format s weights) = s ∷ weights
 numbers_of (uniform format n) = n ∷ []
-
--- the number that a word spells
-unfoldable pub read_number : List ℕ → Option ℕ
-read_number word =
-    if nat_lt (digits_value 10 word) (2 ^ 64) && all_ascii_digits word && nat_lt 0 (length word) && nat_le (length word) 20
-    then Some (digits_value 10 word) else None
 
 -- the numbers of words, if each spells one
 unfoldable pub read_numbers : List (List ℕ) → Option (List ℕ)

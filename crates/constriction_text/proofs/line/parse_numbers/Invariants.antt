@@ -1,6 +1,6 @@
 use Rattle.std.proofs.Common.{◌≡◌, ◌+◌, length}
 use Rattle.std.specs.Option.{option_copied, option_map_or}
-use Rattle.constriction_text.specs.private.Parts.{parts_of}
+use Rattle.constriction_text.specs.Words.{parts_of}
 use Rattle.constriction_text.specs.private.Reading.{read_numbers}
 use Rattle.constriction_text.proofs.Numbers.{after}
 use Rattle.constriction_text.proofs.line.parse_numbers.Given as goal
