@@ -1,9 +1,8 @@
 -- A symbol that was encoded by way of a latent one comes back, and so does what the coder held.
 use Rattle.std.proofs.Common.{◌≡◌, ℕ, ◌≤◌, refl, sym, ◌∙◌, subst, Bool, true, List, Option}
 use Rattle.std.specs.Cmp.{IsEquivalence}
-use Rattle.std.specs.Prelude.{All}
 use Rattle.constriction.specs.Coding.{StandsForEqual}
-use Rattle.constriction.specs.Model.{ClonesAreEqual, LiesWithin}
+use Rattle.constriction.specs.Model.{ClonesAreEqual}
 use Rattle.constriction.specs.lemmas.Pairs.{one-to-one}
 use Rattle.constriction.specs.Rows.{Row, RowsTile, entry_of}
 use Rattle.constriction_coders.specs.BitsBack.{FitTogether, BitsComeBack}
@@ -25,7 +24,6 @@ module _ {Symbol Latent PosteriorModel LikelihoodModel : Type 0}
     (fit : FitTogether Posterior posterior_rows posterior_eq PosteriorStands Likelihood likelihood_rows likelihood_eq LikelihoodStands
     prior_eq PriorStands) (prior : List (Row Latent)) (precision : ℕ) (fits : precision ≤ 32)
     (prior_tile : RowsTile 32 precision prior) (posterior_tile : (m : PosteriorModel) → RowsTile 32 precision (posterior_rows m))
-    (posterior_within : (m : PosteriorModel) → All (LiesWithin precision) (posterior_rows m))
     (likelihood_tile : (m : LikelihoodModel) → RowsTile 32 precision (likelihood_rows m))
     (prior_laws : IsEquivalence prior_eq) (posterior_laws : IsEquivalence posterior_eq) (laws : IsEquivalence likelihood_eq)
   where
@@ -86,5 +84,4 @@ module _ {Symbol Latent PosteriorModel LikelihoodModel : Type 0}
             }
 
         again : new ≡ old
-        again = encode-once posterior_eq (posterior_rows e.posterior.0) precision fits (posterior_within e.posterior.0) d.latent new old
-            e.drawn holds held returned drawn
+        again = encode-once entry precision fits d.latent new old e.drawn holds held returned drawn

@@ -1,11 +1,9 @@
 -- What was encoded is decoded, symbol by symbol.
-use Rattle.std.proofs.Common.{◌≡◌, ℕ, ◌+◌, ◌%◌, ◌^◌, ◌<◌, ◌≤◌, Bool, List, [], ◌∷◌, ◌++◌, Option, length, sym, ◌∙◌, subst, arith}
+use Rattle.std.proofs.Common.{◌≡◌, ℕ, ◌%◌, ◌^◌, ◌<◌, ◌≤◌, Bool, List, [], ◌∷◌, ◌++◌, Option, length, sym, ◌∙◌, subst, arith}
 use Rattle.std.proofs.lemmas.List.{length_push}
-use Rattle.std.specs.Prelude.{All}
-use Rattle.constriction.specs.lemmas.Coding.{entry-back, entry-positive, entry-within}
+use Rattle.constriction.specs.lemmas.Coding.{entry-back}
 use Rattle.std.specs.List.{AllZip}
 use Rattle.constriction.specs.Coding.{InTurn, StandsForEqual}
-use Rattle.constriction.specs.Model.{LiesWithin}
 use Rattle.constriction.specs.Rows.{Row, RowsTile, entry_of}
 use Rattle.constriction_coders.specs.lemmas.Stack.{refills-once}
 use Rattle.constriction_coders.specs.States.{taken}
@@ -43,10 +41,16 @@ module _ {Symbol : Type 0} (Stands : Symbol → Symbol → Type 0) (eq : Symbol 
 pub not-below : (c : Content) (under : List ℕ) (word : ℕ) → c.words ≡ under ++ word ∷ [] → IsWhole c.state c.words → 2 ^ 32 ≤ c.state
 not-below c under word is whole = grind (arith, length_push {X = ℕ})
 
+-- an entry that is on top has quantiles
+pub on-top-some : (precision left weight : ℕ) (full rest : Content) → IsOnTop precision left weight full rest → 0 < weight
+on-top-some precision left weight full rest top = omega (arith, top.from, top.to)
+
 -- a symbol is put on a content in one way, if a coder may hold the result
-pub put-once : (precision left weight : ℕ) (a b rest : Content) → precision ≤ 32 → 0 < weight → left + weight ≤ 2 ^ precision
-    → MayBeHeld a → MayBeHeld b → IsOnTop precision left weight a rest → IsOnTop precision left weight b rest → a ≡ b
-put-once precision left weight a b rest fits some within ha hb p q =
+pub put-once : (precision left weight : ℕ) (a b rest : Content) → precision ≤ 32 → MayBeHeld a → MayBeHeld b
+    → IsOnTop precision left weight a rest → IsOnTop precision left weight b rest → a ≡ b
+put-once precision left weight a b rest fits ha hb p q =
+    let within = p.within in
+    let some = on-top-some precision left weight a rest p in
     let under : ℕ → ℕ = taken precision left weight in
     let a-is = put_taken precision left weight a.state some within p.from p.to in
     let b-is = put_taken precision left weight b.state some within q.from q.to in
@@ -56,12 +60,10 @@ put-once precision left weight a b rest fits some within ha hb p q =
     let b-high = put_high precision left weight (under b.state) fits some within in
     grind (arith, p.under, q.under, length_push {X = ℕ})
 
--- so a symbol is encoded in one way by the entries of rows that lie within the quantiles
-pub encode-once : {Symbol : Type 0} (eq : Symbol → Symbol → Bool) (rows : List (Row Symbol)) (precision : ℕ) → precision ≤ 32
-    → All (LiesWithin precision) rows → (symbol : Symbol) (a b rest : Content) → MayBeHeld a → MayBeHeld b
-    → IsEncoded (entry_of eq rows) precision symbol a rest → IsEncoded (entry_of eq rows) precision symbol b rest → a ≡ b
-encode-once eq rows precision fits within symbol a b rest ha hb p q =
-    let same = one-entry _ q.left q.weight p.left p.weight q.known p.known in
-    put-once precision p.left p.weight a b rest fits
-    (entry-positive precision eq rows symbol (p.left, p.weight) (sym p.known) within)
-    (entry-within precision eq rows symbol (p.left, p.weight) (sym p.known) within) ha hb p.top (rw (same.0, same.1) at q.top)
+-- so a symbol is encoded in one way
+pub encode-once : {Symbol : Type 0} (entry : Symbol → Option (ℕ × ℕ)) (precision : ℕ) → precision ≤ 32
+    → (symbol : Symbol) (a b rest : Content) → MayBeHeld a → MayBeHeld b → IsEncoded entry precision symbol a rest
+    → IsEncoded entry precision symbol b rest → a ≡ b
+encode-once entry precision fits symbol a b rest ha hb p q =
+    let same = one-entry (entry symbol) q.left q.weight p.left p.weight q.known p.known in
+    put-once precision p.left p.weight a b rest fits ha hb p.top (rw (same.0, same.1) at q.top)

@@ -6,7 +6,7 @@ use Rattle.std.proofs.lemmas.Bool.{cases_lt}
 use Rattle.std.proofs.lemmas.List.{get_or-drop, drop-drop, take_all}
 use Rattle.std.proofs.lemmas.Nat.{mul-le, le-div, div_below}
 use Rattle.constriction.specs.Coding.{InTurn, StandsForEqual}
-use Rattle.constriction.specs.lemmas.Coding.{entry-back, rows-within}
+use Rattle.constriction.specs.lemmas.Coding.{entry-back}
 use Rattle.constriction.specs.Rows.{Row, RowsTile, IsRowOf, entry_of}
 use Rattle.constriction_backends.specs.Source.{ReadsUpcoming}
 use Rattle.constriction_coders.specs.Intervals.{Interval, interval, part_of, word_or_zero, HoldsPoint, IsAboveAll, IsWidenedByRead, IsStart, Held, held_of, IsRead}
@@ -16,7 +16,7 @@ use Rattle.constriction_coders.specs.Spans.{Span, span, whole, part_in, IsWidene
 use Rattle.constriction_coders.proofs.NumberLemmas.{first-more}
 use Rattle.constriction_coders.proofs.Once.{run-once}
 use Rattle.constriction_coders.proofs.Sealing.{ends-there}
-use Rattle.constriction_coders.proofs.Spanning.{fits-entry, lies-run, lies-unwidened, some-symbol}
+use Rattle.constriction_coders.proofs.Spanning.{lies-run, lies-unwidened, some-symbol}
 
 -- a point in the part of some quantiles is in the part of one of them
 module _ (unit offset left weight : ℕ) (from : unit * left ≤ offset) (to : offset < unit * (left + weight)) where
@@ -102,14 +102,10 @@ module _ {Symbol S E : Type 0} (Stands : Symbol → Symbol → Type 0) (eq : Sym
     (rows : List (Row Symbol)) (gives : S → Result (Option ℕ) E → S → Type 0) (tells : S → List ℕ → Type 0) (bits precision : ℕ)
     (tile : RowsTile bits precision rows) (alike : (s : Symbol) → entry s ≡ entry_of eq rows s)
     (law : (s : S) (r : Result (Option ℕ) E) (t : S) → gives s r t → (ws : List ℕ) → tells s ws → ReadsUpcoming tells ws r t) where
-  fits : (symbol : Symbol) (left weight : ℕ) → entry symbol ≡ Some (left, weight) → left + weight ≤ 2 ^ precision
-  fits symbol left weight known =
-      fits-entry eq rows precision (rows-within bits precision rows tile) symbol left weight (sym (alike symbol) ∙ known)
-
   module _ (words : List ℕ) (fit : All (λ w. w < 2 ^ 32) words) where
     lies-in : (symbols : List Symbol) (s last : Span) → InTurn (IsNarrowed entry precision) symbols s last → LiesIn last words
         → LiesIn s words
-    lies-in = lies-run entry precision fits words fit
+    lies-in = lies-run entry precision words fit
 
     -- ---- a symbol
 
@@ -136,12 +132,7 @@ module _ {Symbol S E : Type 0} (Stands : Symbol → Symbol → Type 0) (eq : Sym
       not-above : IsAboveAll precision now.held → ⊥
       not-above above =
           let over : unit * 2 ^ precision ≤ offset = subst (λ (i : Interval). IsAboveAll precision i) here.held above in
-          omega (
-            arith,
-            over,
-            to,
-            mul-le unit (e.left + e.weight) unit (2 ^ precision) (omega arith) (fits symbol e.left e.weight e.known),
-          )
+          omega (arith, over, to, mul-le unit (e.left + e.weight) unit (2 ^ precision) (omega arith) e.within)
 
       module _ (answer : Symbol) (later : Held S) (d : IsRead Stands rows gives precision answer now later) where
         holds : HoldsPoint precision d.row.left d.row.weight (interval old.size offset)
@@ -222,7 +213,7 @@ module _ {Symbol S E : Type 0} (Stands : Symbol → Symbol → Type 0) (eq : Sym
     back [] (a ∷ ts) words now h = absurd (omega (arith, h.as_many))
     back (x ∷ xs) answers words now h =
         run words h.message.fit (x ∷ xs) answers first last h.start now h.encoded
-        (h.message.lies (some-symbol entry precision fits positive x xs first last h.reached.fits h.encoded))
+        (h.message.lies (some-symbol entry precision positive x xs first last h.reached.fits h.encoded))
         h.begun h.decoded h.as_many
 
     pub range-symbols-back : (symbols answers : List Symbol) (words : List ℕ) (now : Held S)

@@ -1,5 +1,5 @@
 -- Symbols that were looked up before their entries were taken or put.
-use Rattle.std.proofs.Common.{◌≡◌, ℕ, ◌+◌, ◌%◌, ◌^◌, ◌<◌, ◌≤◌, List, subst}
+use Rattle.std.proofs.Common.{◌≡◌, ℕ, ◌%◌, ◌^◌, ◌≤◌, List, subst}
 use Rattle.constriction.specs.Rows.{Row, IsRowOf}
 use Rattle.constriction_coders.specs.Steps.{Content, content, MayBeHeld, IsOnTop, IsDecoded}
 use Rattle.constriction_coders.proofs.ComingBack.{put-once}
@@ -13,10 +13,10 @@ decoded-row precision left weight quantile Stands rows symbol full rest same fou
     record { row = found.0; found = rw same at found.1; stands = found.2; top = rw (found.3, found.4) top }
 
 -- an entry that is taken and put again leaves the content as it was
-pub undone : (precision left weight state : ℕ) (words reserved : List ℕ) (rest again : Content) → precision ≤ 32 → 0 < weight
-    → left + weight ≤ 2 ^ precision → MayBeHeld (content state words) → MayBeHeld again → reserved ≡ words
+pub undone : (precision left weight state : ℕ) (words reserved : List ℕ) (rest again : Content) → precision ≤ 32
+    → MayBeHeld (content state words) → MayBeHeld again → reserved ≡ words
     → IsOnTop precision left weight (content state reserved) rest → IsOnTop precision left weight again rest
     → again ≡ content state words
-undone precision left weight state words reserved rest again fits some within held holds same taken put =
-    put-once precision left weight again (content state words) rest fits some within holds held put
+undone precision left weight state words reserved rest again fits held holds same taken put =
+    put-once precision left weight again (content state words) rest fits holds held put
     (subst (λ (ws : List ℕ). IsOnTop precision left weight (content state ws) rest) same taken)

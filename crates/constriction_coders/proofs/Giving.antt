@@ -1,5 +1,5 @@
 -- Symbols that an iterator gives, and that are encoded as they come.
-use Rattle.std.proofs.Common.{List, [], ◌∷◌, ◌++◌, Option, Result, Ok, Err, reverse, refl, ap, sym, subst}
+use Rattle.std.proofs.Common.{List, [], ◌∷◌, ◌++◌, Option, Result, Ok, Err, reverse, ap, sym, subst}
 use Rattle.std.proofs.lemmas.List.{reverse-append}
 use Rattle.std.specs.Iterator.{Yields}
 use Rattle.constriction.specs.Coding.{InTurn}

@@ -1,6 +1,6 @@
 -- A place keeps its meaning: whatever is encoded after it, the number of the message lies in the span that was noted, though a carry may
 -- have changed the words before the place.
-use Rattle.std.proofs.Common.{◌≡◌, ℕ, ◌+◌, ◌-◌, ◌*◌, ◌^◌, ◌<◌, ◌≤◌, List, [], ◌∷◌, length, get_or, Option, Some, Result, Ok, Err, refl, ap, sym, ◌∙◌, subst, arith, inl, inr}
+use Rattle.std.proofs.Common.{◌≡◌, ℕ, ◌+◌, ◌-◌, ◌*◌, ◌^◌, ◌<◌, ◌≤◌, List, [], ◌∷◌, length, get_or, Option, Result, Ok, Err, refl, ap, sym, ◌∙◌, subst, arith, inl, inr}
 use Rattle.std.specs.Prelude.{All, IsOk}
 use Rattle.std.proofs.lemmas.List.{length-append}
 use Rattle.constriction.specs.Coding.{InTurn}
@@ -40,40 +40,39 @@ written-sealed s words (inl none) = omega (arith, ap (λ (x : Span). x.written) 
 written-sealed s words (inr point) =
     elim point.1.is [ inl short ↦ omega (arith, short.2) | inr rest ↦ omega (arith, rest.2) ]
 
-module _ {Symbol S : Type 0} (entry : Symbol → Option (ℕ × ℕ)) (precision : ℕ) (positive : 0 < precision)
-    (fits : (symbol : Symbol) (left weight : ℕ) → entry symbol ≡ Some (left, weight) → left + weight ≤ 2 ^ precision)
-    (tells : S → List ℕ → Type 0) where
-  written-run : (symbols : List Symbol) (s last : Span) → InTurn (IsNarrowed entry precision) symbols s last → s.written ≤ last.written
-  written-run [] s last same = omega (arith, ap (λ (x : Span). x.written) same)
-  written-run (x ∷ xs) s last e =
-      let rest = written-run xs e.0 last e.2 in
-      elim e.1.next [
-        | inl same ↦ omega (arith, rest, ap (λ (x : Span). x.written) same.1)
-        | inr wider ↦ omega (arith, rest, ap (λ (x : Span). x.written) wider.1)
-      ]
+module _ {Symbol S : Type 0} (entry : Symbol → Option (ℕ × ℕ)) (precision : ℕ) (positive : 0 < precision) (tells : S → List ℕ → Type 0)
+  where
+    written-run : (symbols : List Symbol) (s last : Span) → InTurn (IsNarrowed entry precision) symbols s last → s.written ≤ last.written
+    written-run [] s last same = omega (arith, ap (λ (x : Span). x.written) same)
+    written-run (x ∷ xs) s last e =
+        let rest = written-run xs e.0 last e.2 in
+        elim e.1.next [
+          | inl same ↦ omega (arith, rest, ap (λ (x : Span). x.written) same.1)
+          | inr wider ↦ omega (arith, rest, ap (λ (x : Span). x.written) wider.1)
+        ]
 
-  -- no symbol was encoded: any words have a number of the whole
-  in-whole : (words : List ℕ) → All (λ w. w < 2 ^ 32) words → number_first 2 words ≤ 2 ^ 64 - 1
-  in-whole words fit = omega (arith, first-two-more 0 words, word-fits words fit 0, word-fits words fit 1)
+    -- no symbol was encoded: any words have a number of the whole
+    in-whole : (words : List ℕ) → All (λ w. w < 2 ^ 32) words → number_first 2 words ≤ 2 ^ 64 - 1
+    in-whole words fit = omega (arith, first-two-more 0 words, word-fits words fit 0, word-fits words fit 1)
 
-  near : (symbols : List Symbol) (noted last : Span) (words : List ℕ) → noted.size < 2 ^ 64 → All (λ w. w < 2 ^ 32) words
-      → InTurn (IsNarrowed entry precision) symbols noted last → last ≡ whole
-      → (noted.low ≤ number_first (noted.written + 2) words) × (number_first (noted.written + 2) words ≤ noted.low + noted.size)
-  near [] noted last words bound fit same none =
-      subst (λ (s : Span). (s.low ≤ number_first (s.written + 2) words) × (number_first (s.written + 2) words ≤ s.low + s.size))
-      (sym (same ∙ none)) (omega arith, in-whole words fit)
-  near (x ∷ xs) noted last words bound fit e none = absurd (some-symbol entry precision fits positive x xs noted last bound e none)
+    near : (symbols : List Symbol) (noted last : Span) (words : List ℕ) → noted.size < 2 ^ 64 → All (λ w. w < 2 ^ 32) words
+        → InTurn (IsNarrowed entry precision) symbols noted last → last ≡ whole
+        → (noted.low ≤ number_first (noted.written + 2) words) × (number_first (noted.written + 2) words ≤ noted.low + noted.size)
+    near [] noted last words bound fit same none =
+        subst (λ (s : Span). (s.low ≤ number_first (s.written + 2) words) × (number_first (s.written + 2) words ≤ s.low + s.size))
+        (sym (same ∙ none)) (omega arith, in-whole words fit)
+    near (x ∷ xs) noted last words bound fit e none = absurd (some-symbol entry precision positive x xs noted last bound e none)
 
-  pub range-place-back : RangePlaceComesBack entry precision tells
-  range-place-back symbols noted last words more there old new r reached led sealed fit is moved =
-      let told : LeadTo last there = rw is (sealed-tell last words more sealed fit) in
-      let far : noted.written ≤ length there =
-      omega (arith, written-run symbols noted last led, written-sealed last words sealed, ap length is, length-append words more) in
-      elim sealed [
-        | inl none ↦
-            let lies = near symbols noted last there reached.fits told.fit led none.0 in
-            sought noted there reached.fits lies.0 lies.1 tells old new r reached.wide far moved
-        | inr point ↦
-            let lies = lies-run entry precision fits there told.fit symbols noted last led (told.lies point.0) in
-            sought noted there reached.fits lies.0 (omega (arith, lies.1)) tells old new r reached.wide far moved
-      ]
+    pub range-place-back : RangePlaceComesBack entry precision tells
+    range-place-back symbols noted last words more there old new r reached led sealed fit is moved =
+        let told : LeadTo last there = rw is (sealed-tell last words more sealed fit) in
+        let far : noted.written ≤ length there =
+        omega (arith, written-run symbols noted last led, written-sealed last words sealed, ap length is, length-append words more) in
+        elim sealed [
+          | inl none ↦
+              let lies = near symbols noted last there reached.fits told.fit led none.0 in
+              sought noted there reached.fits lies.0 lies.1 tells old new r reached.wide far moved
+          | inr point ↦
+              let lies = lies-run entry precision there told.fit symbols noted last led (told.lies point.0) in
+              sought noted there reached.fits lies.0 (omega (arith, lies.1)) tells old new r reached.wide far moved
+        ]

@@ -1,10 +1,7 @@
 -- The number of the words of a message is in each of its spans, and a message with a symbol leaves the span of none.
-use Rattle.std.proofs.Common.{◌≡◌, ℕ, ◌+◌, ◌-◌, ◌*◌, ◌/◌, ◌^◌, ◌<◌, ◌≤◌, Bool, List, [], ◌∷◌, get_or, Option, Some, refl, ap, sym, ◌∙◌, subst, arith, inl, inr}
+use Rattle.std.proofs.Common.{◌≡◌, ℕ, ◌+◌, ◌-◌, ◌*◌, ◌/◌, ◌^◌, ◌<◌, ◌≤◌, List, [], ◌∷◌, get_or, Option, refl, ap, sym, ◌∙◌, subst, arith, inl, inr}
 use Rattle.std.specs.Prelude.{All}
 use Rattle.constriction.specs.Coding.{InTurn}
-use Rattle.constriction.specs.lemmas.Coding.{entry-within}
-use Rattle.constriction.specs.Model.{LiesWithin}
-use Rattle.constriction.specs.Rows.{Row, entry_of}
 use Rattle.constriction_coders.specs.Numbers.{number_first}
 use Rattle.constriction_coders.specs.Spans.{Span, span, whole, part_in, IsWidened, IsNarrowed, IsReached, LiesIn}
 use Rattle.constriction_coders.proofs.Narrowing.{part-within, part-less, unit-within}
@@ -30,19 +27,10 @@ module _ (words : List ℕ) (fit : All (λ w. w < 2 ^ 32) words) where
       let within = part-within precision s.size (s.size / 2 ^ precision) left weight (unit-within s.size precision) fits in
       (omega (arith, part.0), omega (arith, part.1, within))
 
--- the quantiles of an entry are below 2 ^ precision
-pub fits-entry : {Symbol : Type 0} (eq : Symbol → Symbol → Bool) (rows : List (Row Symbol)) (precision : ℕ)
-    → All (LiesWithin precision) rows → (symbol : Symbol) (left weight : ℕ) → entry_of eq rows symbol ≡ Some (left, weight)
-    → left + weight ≤ 2 ^ precision
-fits-entry eq rows precision within symbol left weight known =
-    entry-within precision eq rows symbol (left, weight) (sym known) within
-
-module _ {Symbol : Type 0} (entry : Symbol → Option (ℕ × ℕ)) (precision : ℕ)
-    (fits : (symbol : Symbol) (left weight : ℕ) → entry symbol ≡ Some (left, weight) → left + weight ≤ 2 ^ precision) where
+module _ {Symbol : Type 0} (entry : Symbol → Option (ℕ × ℕ)) (precision : ℕ) where
   pub lies-back : (symbol : Symbol) (old new : Span) (words : List ℕ) → All (λ w. w < 2 ^ 32) words
       → IsNarrowed entry precision symbol old new → LiesIn new words → LiesIn old words
-  lies-back symbol old new words fit e lies =
-      lies-before words fit precision e.left e.weight old new (fits symbol e.left e.weight e.known) e.next lies
+  lies-back symbol old new words fit e lies = lies-before words fit precision e.left e.weight old new e.within e.next lies
 
   pub lies-run : (words : List ℕ) → All (λ w. w < 2 ^ 32) words → (symbols : List Symbol) (s last : Span)
       → InTurn (IsNarrowed entry precision) symbols s last → LiesIn last words → LiesIn s words
@@ -57,7 +45,7 @@ module _ {Symbol : Type 0} (entry : Symbol → Option (ℕ × ℕ)) (precision :
         go : IsWidened (part_in precision e.left e.weight s) new → new.size < 2 ^ 64 - 1
         go (inl same) =
             let less = part-less precision s.size (s.size / 2 ^ precision) e.left e.weight positive (unit-within s.size precision) bound
-            (fits symbol e.left e.weight e.known) in
+            e.within in
             omega (arith, less, ap (λ (x : Span). x.size) same.1)
         go (inr wider) = omega (arith, wider.0, ap (λ (x : Span). x.size) wider.1)
 

@@ -42,6 +42,7 @@ put-on-top precision left weight state next words other some within is refills =
     record {
       from = omega arith;
       to = omega (arith, mod_below state weight some);
+      within = within;
       under = subst (λ n. Refills n words other) (sym under_is) refills;
     }
 

@@ -39,6 +39,7 @@ pub record IsNarrowed {Symbol : Type 0} (entry : Symbol → Option (ℕ × ℕ))
   pub left : ℕ
   pub weight : ℕ
   pub known : entry symbol ≡ Some (left, weight)
+  pub within : left + weight ≤ 2 ^ precision
   pub next : IsWidened (part_in precision left weight old) new
 
 -- what holds of each span of a message

@@ -33,6 +33,7 @@ Refills state words new =
 pub record IsOnTop (precision left weight : ℕ) (full rest : Content) : Type 0 where
   pub from : left ≤ full.state % 2 ^ precision
   pub to : full.state % 2 ^ precision < left + weight
+  pub within : left + weight ≤ 2 ^ precision
   pub under : Refills (taken precision left weight full.state) full.words rest
 
 -- `full` has the symbol on top of `rest`, by the entry of that symbol

@@ -16,7 +16,7 @@ fn a_message_of_seven_symbols(rt: HostRuntime) {
     may_be_held(&coder);
     let words = coder.into_compressed().expect(&rt, "memory");
     holds(&rt, &words, &[18_104_627, 2_332_123_633, 206_639]);
-    encoded_once(&model);
+    encoded_once::<usize, 24>();
     symbols_come_back(&model, &model);
     compressed_once();
     let mut opened = AnsCoder::from_compressed(words).expect(&rt, "the coder");

@@ -1,6 +1,6 @@
 //! What comes back from a range coder, each law the contract of a function.
 
-ghost use Rattle.std.specs.Prelude.{◌≡◌, ◌≢◌, ◌++◌, ◌^◌, ◌<◌, ℕ, List, length, All, Some, None, Err, IsTrue, Contains, IfOk};
+ghost use Rattle.std.specs.Prelude.{◌≡◌, ◌≢◌, ◌++◌, ◌^◌, ◌<◌, ℕ, List, length, All, Option, Some, None, Err, IsTrue, Contains, IfOk};
 ghost use Rattle.std.specs.List.{AllZip};
 ghost use Rattle.constriction_coders.specs.Published.{published_entries, published_words};
 ghost use Rattle.constriction_coders.specs.RangeLaws.{MessageOnce, RangeSymbolsComeBack, SealedWordsTell};
@@ -32,11 +32,11 @@ where
 {}
 
 /// A decoder goes to a place that was noted while the message was encoded, although a carry may have changed words since.
-pub fn range_place_comes_back<E, Source, const PRECISION: usize>(encoder: &E)
+pub fn range_place_comes_back<Symbol, Source, const PRECISION: usize>()
 where
-    E: EncoderModel<PRECISION, Probability = u32>,
     Source: ReadWords<u32, Queue>,
-    ensures { RangePlaceComesBack (entry_of E.symbol_eq (E.rows encoder.now)) PRECISION Source.tells_upcoming }
+    requires { 0 < PRECISION }
+    ensures { (entry : Symbol → Option (ℕ × ℕ)) → RangePlaceComesBack entry PRECISION Source.tells_upcoming }
 {}
 
 /// The words of an encoder are words of its message, whatever words come after them.
@@ -45,10 +45,8 @@ pub fn sealed_words_tell()
 {}
 
 /// Symbols have one message, whoever encoded them.
-pub fn one_message<E, const PRECISION: usize>(encoder: &E)
-where
-    E: EncoderModel<PRECISION, Probability = u32>,
-    ensures { MessageOnce (entry_of E.symbol_eq (E.rows encoder.now)) PRECISION }
+pub fn one_message<Symbol, const PRECISION: usize>()
+    ensures { (entry : Symbol → Option (ℕ × ℕ)) → MessageOnce entry PRECISION }
 {}
 
 /// The words that the Rust crate publishes are those of their symbols, by the definitions alone.

@@ -1,6 +1,6 @@
 //! What comes back from a stack coder, each law the contract of a function.
 
-ghost use Rattle.std.specs.Prelude.{◌≡◌, ◌≢◌, ℕ, List, Ok, Err, IsTrue, length, reverse, IfOk, OnOk};
+ghost use Rattle.std.specs.Prelude.{◌≡◌, ◌≢◌, ◌≤◌, ℕ, List, Option, Ok, Err, IsTrue, length, reverse, IfOk, OnOk};
 ghost use Rattle.std.specs.Fn.{FnReturnsAt};
 ghost use Rattle.std.specs.List.{AllZip};
 ghost use Rattle.constriction_coders.specs.AnsCoder.{held_by, EncodingStops, DecodingStops, ReadsNoState, WritesState};
@@ -32,11 +32,10 @@ where
 
 /// What a coder holds after symbols follows from what it held before, so their words are the same whoever encoded them. A coder that is
 /// sought to a place from before them decodes from there.
-pub fn encoded_once<E, const PRECISION: usize>(encoder: &E)
-where
-    E: EncoderModel<PRECISION, Probability = u32>,
-    ensures once { EncodedOnce (entry_of E.symbol_eq (E.rows encoder.now)) PRECISION }
-    ensures place { PlaceComesBack (entry_of E.symbol_eq (E.rows encoder.now)) PRECISION }
+pub fn encoded_once<Symbol, const PRECISION: usize>()
+    requires { PRECISION ≤ 32 }
+    ensures once { (entry : Symbol → Option (ℕ × ℕ)) → EncodedOnce entry PRECISION }
+    ensures place { (entry : Symbol → Option (ℕ × ℕ)) → PlaceComesBack entry PRECISION }
 {}
 
 /// What a coder holds, it may hold. Other laws require this of each content.
@@ -61,7 +60,7 @@ where
     requires invertible { IsInvertible E.symbol_eq D.stands_for (D.rows decoder.now) }
     ensures { DecodedGoesBack (entry_of E.symbol_eq (E.rows encoder.now)) PRECISION D.stands_for (D.rows decoder.now) }
 {
-    encoded_once::<E, PRECISION>(encoder);
+    encoded_once::<E::Symbol, PRECISION>();
 }
 
 /// Encodes the symbols and decodes as many again, in reverse.

@@ -90,7 +90,7 @@ where
     M::Symbol: Drop,
     ensures { IfSome result (λ answers. AllZip (StandsForEqual M.stands_for M.symbol_eq) second.now answers.items) }
 {
-    range_place_comes_back::<M, Cursor<u32, Vec<u32>>, PRECISION>(model);
+    range_place_comes_back::<M::Symbol, Cursor<u32, Vec<u32>>, PRECISION>();
     range_symbols_come_back::<M, M, Cursor<u32, Vec<u32>>, PRECISION>(model, model);
     sealed_words_tell();
     let mut coder = RangeEncoder::new(alloc);

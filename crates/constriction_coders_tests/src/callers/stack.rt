@@ -58,7 +58,7 @@ where
     ensures accepted { result ≡ Err WordsError.OtherWords → (symbols : List M.Symbol) → length symbols ≡ count
         → ¬ (IsStackOf (entry_of M.symbol_eq (M.rows model.now)) PRECISION symbols words.items) }
 {
-    encoded_once::<M, PRECISION>(model);
+    encoded_once::<M::Symbol, PRECISION>();
     symbols_come_back::<M, M, PRECISION>(model, model);
     let mut coder = match AnsCoder::from_compressed(words) {
         Ok(coder) => coder,

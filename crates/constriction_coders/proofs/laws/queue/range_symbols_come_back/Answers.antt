@@ -1,23 +1,21 @@
 use Rattle.constriction.specs.Rows.{entry_of}
 use Rattle.constriction_coders.proofs.Decoding.{range-symbol-back, range-symbols-back}
-use Rattle.constriction_coders.proofs.Spanning.{fits-entry, lies-back, leaves-whole}
+use Rattle.constriction_coders.proofs.Spanning.{lies-back, leaves-whole}
 use Rattle.constriction_coders.proofs.laws.queue.range_symbols_come_back.Goals as goal
 
 pub returns : goal.returns
 returns g c =
     let eq = g.E.EncoderModel.symbol_eq in
-    let coded = g.E.EntropyModel.rows c.args.encoder.now in
-    let entry = entry_of eq coded in
+    let entry = entry_of eq (g.E.EntropyModel.rows c.args.encoder.now) in
     let rows = g.D.EntropyModel.rows c.args.decoder.now in
     let Stands = g.D.DecoderModel.stands_for in
     let gives = g.Source.ReadWords.read_gives in
     let tells = g.Source.ReadWords.tells_upcoming in
-    let fits = fits-entry eq coded g.row.PRECISION (g.met.E.EncoderModel.within_law c.args.encoder.now) in
     let positive = (g.met.D.EntropyModel.precision_law c.args.decoder.now).positive in
     let tile = g.met.D.DecoderModel.tile_law c.args.decoder.now in
     let law = g.met.Source.ReadWords.reads_upcoming in record {
-      before = lies-back entry g.row.PRECISION fits;
-      leaves = leaves-whole entry g.row.PRECISION fits positive;
+      before = lies-back entry g.row.PRECISION;
+      leaves = leaves-whole entry g.row.PRECISION positive;
       symbol = range-symbol-back Stands eq entry rows gives tells 32 g.row.PRECISION tile c.requires law;
       symbols = range-symbols-back Stands eq entry rows gives tells 32 g.row.PRECISION tile c.requires law positive;
     }

@@ -12,5 +12,5 @@ returns g c =
     g.Prior.EncoderModel.symbol_eq g.Prior.DecoderModel.stands_for c.requires
     (g.Prior.EntropyModel.rows c.args.prior.now) g.row.PRECISION (g.met.Prior.EntropyModel.precision_law c.args.prior.now).fits
     (g.met.Prior.DecoderModel.tile_law c.args.prior.now) g.met.PosteriorModel.DecoderModel.tile_law
-    g.met.PosteriorModel.EncoderModel.within_law g.met.LikelihoodModel.DecoderModel.tile_law g.met.Prior.EncoderModel.equality_law
+    g.met.LikelihoodModel.DecoderModel.tile_law g.met.Prior.EncoderModel.equality_law
     g.met.PosteriorModel.EncoderModel.equality_law g.met.LikelihoodModel.EncoderModel.equality_law

@@ -9,14 +9,14 @@ pub returns-in-Err-symbol_and_entry-clause-same : goal.returns-in-Err-symbol_and
 returns-in-Err-symbol_and_entry-clause-same g c =
     undone g.row.PRECISION c.in-Ok.answer.1.0 c.in-Ok.answer.1.1 c.args.coder.now.state
     c.args.coder.now.words.items c.reserve.new.self.items (held_by c.take_from_vec.new.coder) (held_by c.put_reserved.new.coder)
-    (g.met.Prior.EntropyModel.precision_law c.args.prior.now).fits c.in-Ok.ensures.some c.in-Ok.ensures.within c.may_be_held.ensures
+    (g.met.Prior.EntropyModel.precision_law c.args.prior.now).fits c.may_be_held.ensures
     c.put_reserved.ensures.held c.reserve.ensures.items c.take_from_vec.ensures.under c.put_reserved.ensures.over
 
 pub returns-in_default-clause-same : goal.returns-in_default-clause-same
 returns-in_default-clause-same g c =
     undone g.row.PRECISION c.in-Ok.answer.1.0 c.in-Ok.answer.1.1 c.args.coder.now.state
     c.args.coder.now.words.items c.reserve.new.self.items (held_by c.take_from_vec.new.coder) (held_by c.put_reserved-in_default.new.coder)
-    (g.met.Prior.EntropyModel.precision_law c.args.prior.now).fits c.in-Ok.ensures.some c.in-Ok.ensures.within c.may_be_held.ensures
+    (g.met.Prior.EntropyModel.precision_law c.args.prior.now).fits c.may_be_held.ensures
     c.put_reserved-in_default.ensures.held c.reserve.ensures.items c.take_from_vec.ensures.under c.put_reserved-in_default.ensures.over
 
 pub returns-in_default-clause-impossible : goal.returns-in_default-clause-impossible

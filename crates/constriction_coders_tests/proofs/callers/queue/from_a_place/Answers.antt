@@ -14,7 +14,7 @@ unreachable-requires g c =
     let opened = c.in-Ok-from_compressed.ensures.ok in
     let there : start.words.buf.items ≡ words ++ [] =
     rw (opened.4.1, opened.3.1, ap (λ p. p.0) c.new_at_write_beginning.ensures) (sym (append-nil words)) in
-    let back = c.range_place_comes_back.ensures c.args.second.now _ _ words [] start.words.buf.items
+    let back = c.range_place_comes_back.ensures _ c.args.second.now _ _ words [] start.words.buf.items
     (held_by start) (held_by new) c.seek.result c.pos-place.ensures.reached
     c.in-Ok-encode_symbols.ensures.ok c.in-Ok-into_compressed.ensures.ok (All-nil (λ (w : ℕ). w < 2 ^ 32)) there
     (rw c.pos-place.ensures.place at c.seek.ensures.sought) in
@@ -31,7 +31,7 @@ returns-in-Ok-decode_symbols g c =
     let nil = All-nil (λ (w : ℕ). w < 2 ^ 32) in
     let noted = c.encode_symbols.new.self in
     let last = c.encode_symbols-2.new.self in
-    let back = c.range_place_comes_back.ensures c.args.second.now noted last words [] start.words.buf.items
+    let back = c.range_place_comes_back.ensures _ c.args.second.now noted last words [] start.words.buf.items
     (held_by start) (held_by new) c.seek.result c.pos-place.ensures.reached
     c.in-Ok-encode_symbols.ensures.ok c.in-Ok-into_compressed.ensures.ok nil there
     (rw c.pos-place.ensures.place at c.seek.ensures.sought) in

@@ -3,7 +3,7 @@ use Rattle.constriction_coders_tests.proofs.callers.stack.symbols_of_words.Goals
 
 pub returns-in-Err-Frontend-clause-accepted : goal.returns-in-Err-Frontend-clause-accepted
 returns-in-Err-Frontend-clause-accepted g c = λ _ symbols many stacked.
-    c.encoded_once.ensures.once.end symbols c.args.words.items _ stacked
+    (c.encoded_once.ensures.once _).end symbols c.args.words.items _ stacked
     (c.in-Err-Frontend.ensures.refused c.in-Err-Frontend.field-0-0 (ap Err c.in-Err-Frontend.field-0-is))
 
 pub returns-then-not-is_empty-clause-accepted : goal.returns-then-not-is_empty-clause-accepted

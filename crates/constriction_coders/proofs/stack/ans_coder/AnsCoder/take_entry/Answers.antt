@@ -14,6 +14,7 @@ pub returns-in-Ok-clause-ok : goal.returns-in-Ok-clause-ok
 returns-in-Ok-clause-ok g c = record {
   from = c.requires.from;
   to = c.requires.to;
+  within = c.requires.within;
   under =
       subst (λ n. Refills n (g.Backend.WordStack.words_of c.args.self.now.words)
       (content c.in-Ok.state (g.Backend.WordStack.words_of c.refilled.new.words))) c.without_entry-state.ensures.value
