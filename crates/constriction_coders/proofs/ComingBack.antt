@@ -1,13 +1,12 @@
 -- What was encoded is decoded, symbol by symbol.
-use Rattle.std.proofs.Common.{◌≡◌, ℕ, ◌%◌, ◌^◌, ◌<◌, ◌≤◌, Bool, List, [], ◌∷◌, ◌++◌, Option, length, sym, ◌∙◌, subst, arith}
+use Rattle.std.proofs.Common.{◌≡◌, ℕ, ◌%◌, ◌^◌, ◌<◌, ◌≤◌, Bool, List, Option, sym, ◌∙◌, arith}
 use Rattle.std.proofs.lemmas.List.{length_push}
 use Rattle.constriction.specs.lemmas.Coding.{entry-back}
-use Rattle.std.specs.List.{AllZip}
-use Rattle.constriction.specs.Coding.{InTurn, StandsForEqual}
+use Rattle.constriction.specs.Coding.{StandsForEqual}
 use Rattle.constriction.specs.Rows.{Row, RowsTile, entry_of}
 use Rattle.constriction_coders.specs.lemmas.Stack.{refills-once}
 use Rattle.constriction_coders.specs.States.{taken}
-use Rattle.constriction_coders.specs.Steps.{Content, IsWhole, MayBeHeld, IsOnTop, IsEncoded, IsDecoded}
+use Rattle.constriction_coders.specs.Steps.{Content, MayBeHeld, IsOnTop, IsEncoded, IsDecoded}
 use Rattle.constriction_coders.proofs.Steps.{one-entry}
 use Rattle.constriction_coders.proofs.States.{put_taken, put_high, put_low}
 
@@ -23,23 +22,6 @@ module _ {Symbol : Type 0} (Stands : Symbol → Symbol → Type 0) (eq : Symbol 
         (d.row.symbol, same.0, d.stands),
         refills-once _ full.words under rest (rw (same.1, same.2) at d.top.under) e.top.under,
       )
-
-  -- the same for as many symbols as were encoded
-  pub symbols-back : (symbols answers : List Symbol) (full rest under : Content) → InTurn (IsEncoded entry precision) symbols full rest
-      → InTurn (IsDecoded Stands rows precision) answers full under → length answers ≡ length symbols
-      → AllZip (StandsForEqual Stands eq) symbols answers × (under ≡ rest)
-  symbols-back [] [] full rest under e d n = (tt, sym d ∙ e)
-  symbols-back [] (a ∷ ts) full rest under e d n = absurd (omega arith)
-  symbols-back (s ∷ ss) [] full rest under e d n = absurd (omega arith)
-  symbols-back (s ∷ ss) (a ∷ ts) full rest under e d n =
-      let first = symbol-back s a full e.0 d.0 e.1 d.1 in
-      let others = symbols-back ss ts e.0 rest under e.2
-      (subst (λ (c : Content). InTurn (IsDecoded Stands rows precision) ts c under) first.1 d.2) (omega arith) in
-      ((first.0, others.0), others.1)
-
--- with a word under it, the state of a whole content is at least 2 ^ 32
-pub not-below : (c : Content) (under : List ℕ) (word : ℕ) → c.words ≡ under ++ word ∷ [] → IsWhole c.state c.words → 2 ^ 32 ≤ c.state
-not-below c under word is whole = grind (arith, length_push {X = ℕ})
 
 -- an entry that is on top has quantiles
 pub on-top-some : (precision left weight : ℕ) (full rest : Content) → IsOnTop precision left weight full rest → 0 < weight

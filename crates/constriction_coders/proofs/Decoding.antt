@@ -1,22 +1,19 @@
 -- What was encoded is decoded: a decoder holds how far the number of the words lies above the least number of each span in turn.
-use Rattle.std.proofs.Common.{◌≡◌, ℕ, ◌+◌, ◌-◌, ◌*◌, ◌/◌, ◌^◌, ◌<◌, ◌≤◌, Bool, true, List, [], ◌∷◌, ◌++◌, length, get_or, take, drop, Option, Some, None, Result, Ok, refl, ap, sym, ◌∙◌, subst, arith, inl, inr}
+use Rattle.std.proofs.Common.{◌≡◌, ℕ, ◌+◌, ◌-◌, ◌*◌, ◌/◌, ◌^◌, ◌<◌, ◌≤◌, Bool, true, List, [], get_or, drop, Option, Some, None, Result, Ok, ap, sym, ◌∙◌, subst, arith, inl, inr}
 use Rattle.std.specs.Prelude.{All}
-use Rattle.std.specs.List.{AllZip}
 use Rattle.std.proofs.lemmas.Bool.{cases_lt}
-use Rattle.std.proofs.lemmas.List.{get_or-drop, drop-drop, take_all}
+use Rattle.std.proofs.lemmas.List.{get_or-drop, drop-drop}
 use Rattle.std.proofs.lemmas.Nat.{mul-le, le-div, div_below}
-use Rattle.constriction.specs.Coding.{InTurn, StandsForEqual}
+use Rattle.constriction.specs.Coding.{StandsForEqual}
 use Rattle.constriction.specs.lemmas.Coding.{entry-back}
 use Rattle.constriction.specs.Rows.{Row, RowsTile, IsRowOf, entry_of}
 use Rattle.constriction_backends.specs.Source.{ReadsUpcoming}
-use Rattle.constriction_coders.specs.Intervals.{Interval, interval, part_of, word_or_zero, HoldsPoint, IsAboveAll, IsWidenedByRead, IsStart, Held, held_of, IsRead}
+use Rattle.constriction_coders.specs.Intervals.{Interval, interval, part_of, word_or_zero, HoldsPoint, IsWidenedByRead, IsStart, Held, held_of, IsRead}
 use Rattle.constriction_coders.specs.Numbers.{number_first}
-use Rattle.constriction_coders.specs.RangeLaws.{IsAt, IsDecodedFrom, FollowsEncoder}
+use Rattle.constriction_coders.specs.RangeLaws.{IsAt}
 use Rattle.constriction_coders.specs.Spans.{Span, span, whole, part_in, IsWidened, IsNarrowed, LiesIn}
 use Rattle.constriction_coders.proofs.NumberLemmas.{first-more}
-use Rattle.constriction_coders.proofs.Once.{run-once}
-use Rattle.constriction_coders.proofs.Sealing.{ends-there}
-use Rattle.constriction_coders.proofs.Spanning.{lies-run, lies-unwidened, some-symbol}
+use Rattle.constriction_coders.proofs.Spanning.{lies-unwidened}
 
 -- a point in the part of some quantiles is in the part of one of them
 module _ (unit offset left weight : ℕ) (from : unit * left ≤ offset) (to : offset < unit * (left + weight)) where
@@ -102,136 +99,53 @@ module _ {Symbol S E : Type 0} (Stands : Symbol → Symbol → Type 0) (eq : Sym
     (rows : List (Row Symbol)) (gives : S → Result (Option ℕ) E → S → Type 0) (tells : S → List ℕ → Type 0) (bits precision : ℕ)
     (tile : RowsTile bits precision rows) (alike : (s : Symbol) → entry s ≡ entry_of eq rows s)
     (law : (s : S) (r : Result (Option ℕ) E) (t : S) → gives s r t → (ws : List ℕ) → tells s ws → ReadsUpcoming tells ws r t) where
-  module _ (words : List ℕ) (fit : All (λ w. w < 2 ^ 32) words) where
-    lies-in : (symbols : List Symbol) (s last : Span) → InTurn (IsNarrowed entry precision) symbols s last → LiesIn last words
-        → LiesIn s words
-    lies-in = lies-run entry precision words fit
+  -- what is decoded after a symbol was encoded stands for an equal one, and the decoder goes on to the next span
+  module _ (symbol answer : Symbol) (old new : Span) (words : List ℕ) (now later : Held S) (fit : All (λ w. w < 2 ^ 32) words)
+      (e : IsNarrowed entry precision symbol old new) (lies : LiesIn new words) (here : IsAt tells old words now)
+      (d : IsRead Stands rows gives precision answer now later) where
+    abbrev part : Span
+    part = part_in precision e.left e.weight old
 
-    -- ---- a symbol
+    abbrev unit : ℕ
+    unit = old.size / 2 ^ precision
 
-    module _ (symbol : Symbol) (old new : Span) (now : Held S) (e : IsNarrowed entry precision symbol old new)
-        (lies : LiesIn new words) (here : IsAt tells old words now) where
-      abbrev part : Span
-      part = part_in precision e.left e.weight old
+    abbrev offset : ℕ
+    offset = number_first (old.written + 2) words - old.low
 
-      abbrev unit : ℕ
-      unit = old.size / 2 ^ precision
+    inside : LiesIn part words
+    inside = lies-unwidened words fit part new e.next lies
 
-      abbrev offset : ℕ
-      offset = number_first (old.written + 2) words - old.low
+    from : unit * e.left ≤ offset
+    from = omega (arith, inside.0)
 
-      inside : LiesIn part words
-      inside = lies-unwidened words fit part new e.next lies
+    to : offset < unit * (e.left + e.weight)
+    to = omega (arith, inside.0, inside.1)
 
-      from : unit * e.left ≤ offset
-      from = omega (arith, inside.0)
+    holds : HoldsPoint precision d.row.left d.row.weight (interval old.size offset)
+    holds = subst (λ (i : Interval). HoldsPoint precision d.row.left d.row.weight i) here.held d.holds
 
-      to : offset < unit * (e.left + e.weight)
-      to = omega (arith, inside.0, inside.1)
+    found : IsRowOf rows (offset / unit) d.row
+    found = record {
+      among = d.among;
+      from = quantile-from unit offset d.row.left d.row.weight holds.from holds.to;
+      to = quantile-to unit offset d.row.left d.row.weight holds.from holds.to;
+    }
 
-      not-above : IsAboveAll precision now.held → ⊥
-      not-above above =
-          let over : unit * 2 ^ precision ≤ offset = subst (λ (i : Interval). IsAboveAll precision i) here.held above in
-          omega (arith, over, to, mul-le unit (e.left + e.weight) unit (2 ^ precision) (omega arith) e.within)
+    same-entry : (eq d.row.symbol symbol ≡ true) × (d.row.left ≡ e.left) × (d.row.weight ≡ e.weight)
+    same-entry =
+        entry-back bits precision eq rows symbol e.left e.weight (offset / unit) d.row tile (sym (alike symbol) ∙ e.known)
+        (quantile-from unit offset e.left e.weight from to) (quantile-to unit offset e.left e.weight from to) found
 
-      module _ (answer : Symbol) (later : Held S) (d : IsRead Stands rows gives precision answer now later) where
-        holds : HoldsPoint precision d.row.left d.row.weight (interval old.size offset)
-        holds = subst (λ (i : Interval). HoldsPoint precision d.row.left d.row.weight i) here.held d.holds
+    is-at-next : IsAt tells new words later
+    is-at-next =
+        let stretched : IsWidenedByRead gives (interval (unit * e.weight) (offset - unit * e.left)) now.source later.held later.source =
+        rw (same-entry.1, same-entry.2) at
+        (subst (λ (i : Interval).
+        IsWidenedByRead gives (part_of precision d.row.left d.row.weight i) now.source later.held later.source) here.held d.next) in
+        let away : offset - unit * e.left ≡ number_first (old.written + 2) words - (old.low + unit * e.left) =
+        omega (arith, inside.0) in
+        is-at-part gives tells law part new words (interval (unit * e.weight) (offset - unit * e.left)) later.held now.source
+        later.source (ap (λ n. interval (unit * e.weight) n) away) inside.0 here.known stretched e.next
 
-        found : IsRowOf rows (offset / unit) d.row
-        found = record {
-          among = d.among;
-          from = quantile-from unit offset d.row.left d.row.weight holds.from holds.to;
-          to = quantile-to unit offset d.row.left d.row.weight holds.from holds.to;
-        }
-
-        same-entry : (eq d.row.symbol symbol ≡ true) × (d.row.left ≡ e.left) × (d.row.weight ≡ e.weight)
-        same-entry =
-            entry-back bits precision eq rows symbol e.left e.weight (offset / unit) d.row tile (sym (alike symbol) ∙ e.known)
-            (quantile-from unit offset e.left e.weight from to) (quantile-to unit offset e.left e.weight from to) found
-
-        symbol-back : StandsForEqual Stands eq symbol answer
-        symbol-back = (d.row.symbol, same-entry.0, d.stands)
-
-        is-at-next : IsAt tells new words later
-        is-at-next =
-            let stretched : IsWidenedByRead gives (interval (unit * e.weight) (offset - unit * e.left)) now.source later.held later.source =
-            rw (same-entry.1, same-entry.2) at
-            (subst (λ (i : Interval).
-            IsWidenedByRead gives (part_of precision d.row.left d.row.weight i) now.source later.held later.source) here.held d.next) in
-            let away : offset - unit * e.left ≡ number_first (old.written + 2) words - (old.low + unit * e.left) =
-            omega (arith, inside.0) in
-            is-at-part gives tells law part new words (interval (unit * e.weight) (offset - unit * e.left)) later.held now.source
-            later.source (ap (λ n. interval (unit * e.weight) n) away) inside.0 here.known stretched e.next
-
-    -- ---- a message
-
-    run : (symbols answers : List Symbol) (s last : Span) (now later : Held S) → InTurn (IsNarrowed entry precision) symbols s last
-        → LiesIn last words → IsAt tells s words now → InTurn (IsRead Stands rows gives precision) answers now later
-        → length answers ≤ length symbols
-        → AllZip (StandsForEqual Stands eq) (take (length answers) symbols) answers
-        × ((mid : Span) × InTurn (IsNarrowed entry precision) (take (length answers) symbols) s mid × IsAt tells mid words later)
-        × (length answers < length symbols → IsAboveAll precision later.held → ⊥)
-    run [] [] s last now later e lies here d few =
-        (tt, (s, refl, subst (λ (h : Held S). IsAt tells s words h) d here), λ fewer. absurd (omega (arith, fewer)))
-    run [] (a ∷ ts) s last now later e lies here d few = absurd (omega (arith, few))
-    run (x ∷ xs) [] s last now later e lies here d few = (
-      tt,
-      (s, refl, subst (λ (h : Held S). IsAt tells s words h) d here),
-      λ fewer above. not-above x s e.0 now e.1 (lies-in xs e.0 last e.2 lies) here
-          (subst (λ (h : Held S). IsAboveAll precision h.held) (sym d) above),
-    )
-    run (x ∷ xs) (a ∷ ts) s last now later e lies here d few =
-        let there = lies-in xs e.0 last e.2 lies in
-        let rest = run xs ts e.0 last d.0 later e.2 lies (is-at-next x s e.0 now e.1 there here a d.0 d.1) d.2 (omega (arith, few)) in (
-          (symbol-back x s e.0 now e.1 there here a d.0 d.1, rest.0),
-          (rest.1.0, (e.0, e.1, rest.1.1), rest.1.2),
-          λ fewer. rest.2 (omega (arith, fewer)),
-        )
-
-  pub range-symbol-back : (symbol answer : Symbol) (old new : Span) (words : List ℕ) (now later : Held S) → All (λ w. w < 2 ^ 32) words
-      → IsNarrowed entry precision symbol old new → LiesIn new words → IsAt tells old words now
-      → IsRead Stands rows gives precision answer now later → StandsForEqual Stands eq symbol answer × IsAt tells new words later
-  range-symbol-back symbol answer old new words now later fit e lies here d = (
-    symbol-back words fit symbol old new now e lies here answer later d,
-    is-at-next words fit symbol old new now e lies here answer later d,
-  )
-
-  -- ---- a message, from a span of it on
-
-  module _ (positive : 0 < precision) (first last : Span) where
-    back : (symbols answers : List Symbol) (words : List ℕ) (now : Held S)
-        → IsDecodedFrom Stands eq entry rows gives tells precision first last symbols answers words now
-        → AllZip (StandsForEqual Stands eq) (take (length answers) symbols) answers
-        × ((mid : Span) × InTurn (IsNarrowed entry precision) (take (length answers) symbols) first mid × IsAt tells mid words now)
-        × (length answers < length symbols → IsAboveAll precision now.held → ⊥)
-    back [] [] words now h = (
-      tt,
-      (first, refl, subst (λ (x : Held S). IsAt tells first words x) h.decoded h.begun),
-      λ fewer. absurd (omega (arith, fewer)),
-    )
-    back [] (a ∷ ts) words now h = absurd (omega (arith, h.as_many))
-    back (x ∷ xs) answers words now h =
-        run words h.message.fit (x ∷ xs) answers first last h.start now h.encoded
-        (h.message.lies (some-symbol entry precision positive x xs first last h.reached.fits h.encoded))
-        h.begun h.decoded h.as_many
-
-    pub range-symbols-back : (symbols answers : List Symbol) (words : List ℕ) (now : Held S)
-        → IsDecodedFrom Stands eq entry rows gives tells precision first last symbols answers words now
-        → FollowsEncoder Stands eq entry rows gives tells precision first last symbols answers words now
-    range-symbols-back symbols answers words now h =
-        let both = back symbols answers words now h in record {
-          back = both.0;
-          follows = both.1;
-          valid = both.2;
-          ends = λ message more sealed is many.
-              let all : take (length answers) symbols ≡ symbols = take_all (length answers) symbols (omega (arith, many)) in
-              let same : both.1.0 ≡ last =
-              run-once entry precision symbols first both.1.0 last
-              (subst (λ (ss : List Symbol). InTurn (IsNarrowed entry precision) ss first both.1.0) all both.1.1) h.encoded in
-              let at_last : IsAt tells last words now = subst (λ (s : Span). IsAt tells s words now) same both.1.2 in
-              let there : IsAt tells last (message ++ more) now = subst (λ (ws : List ℕ). IsAt tells last ws now) is at_last in
-              let fit : All (λ w. w < 2 ^ 32) (message ++ more) =
-              subst (λ (ws : List ℕ). All (λ w. w < 2 ^ 32) ws) is h.message.fit in
-              ends-there last message more now.held fit sealed there.held;
-        }
+    pub range-symbol-back : StandsForEqual Stands eq symbol answer × IsAt tells new words later
+    range-symbol-back = ((d.row.symbol, same-entry.0, d.stands), is-at-next)

@@ -12,6 +12,7 @@ pub mod Narrowing
 pub mod NarrowingStops
 pub mod NumberLemmas
 pub mod Once
+pub mod PlacesComingBack
 pub mod Placing
 pub mod PublishedWords
 pub mod RangePlacing

@@ -1,5 +1,5 @@
 -- The number of the words of a message is in each of its spans, and a message with a symbol leaves the span of none.
-use Rattle.std.proofs.Common.{◌≡◌, ℕ, ◌+◌, ◌-◌, ◌*◌, ◌/◌, ◌^◌, ◌<◌, ◌≤◌, List, [], ◌∷◌, get_or, Option, refl, ap, sym, ◌∙◌, subst, arith, inl, inr}
+use Rattle.std.proofs.Common.{◌≡◌, ℕ, ◌+◌, ◌-◌, ◌*◌, ◌/◌, ◌^◌, ◌<◌, List, [], ◌∷◌, get_or, Option, refl, ap, sym, ◌∙◌, subst, arith, inl, inr}
 use Rattle.std.specs.Prelude.{All}
 use Rattle.constriction.specs.Coding.{InTurn}
 use Rattle.constriction_coders.specs.Numbers.{number_first}
@@ -20,17 +20,13 @@ module _ (words : List ℕ) (fit : All (λ w. w < 2 ^ 32) words) where
       let word = word-fits words fit (part.written + 2) in
       (omega (arith, there.0, more, word), omega (arith, there.1, more, word))
 
-  pub lies-before : (precision left weight : ℕ) (s new : Span) → left + weight ≤ 2 ^ precision
-      → IsWidened (part_in precision left weight s) new → LiesIn new words → LiesIn s words
-  lies-before precision left weight s new fits next lies =
-      let part = lies-unwidened (part_in precision left weight s) new next lies in
-      let within = part-within precision s.size (s.size / 2 ^ precision) left weight (unit-within s.size precision) fits in
-      (omega (arith, part.0), omega (arith, part.1, within))
-
 module _ {Symbol : Type 0} (entry : Symbol → Option (ℕ × ℕ)) (precision : ℕ) where
   pub lies-back : (symbol : Symbol) (old new : Span) (words : List ℕ) → All (λ w. w < 2 ^ 32) words
       → IsNarrowed entry precision symbol old new → LiesIn new words → LiesIn old words
-  lies-back symbol old new words fit e lies = lies-before words fit precision e.left e.weight old new e.within e.next lies
+  lies-back symbol old new words fit e lies =
+      let part = lies-unwidened words fit (part_in precision e.left e.weight old) new e.next lies in
+      let within = part-within precision old.size (old.size / 2 ^ precision) e.left e.weight (unit-within old.size precision) e.within in
+      (omega (arith, part.0), omega (arith, part.1, within))
 
   pub lies-run : (words : List ℕ) → All (λ w. w < 2 ^ 32) words → (symbols : List Symbol) (s last : Span)
       → InTurn (IsNarrowed entry precision) symbols s last → LiesIn last words → LiesIn s words

@@ -1,9 +1,8 @@
--- Words and symbols of a stack that held nothing before: symbols have one list of words, and come back from it.
+-- Symbols on a stack that held nothing before have one list of words.
 use Rattle.std.proofs.Common.{◌≡◌, ℕ, ◌≤◌, List, [], ◌∷◌, Option, sym, ◌∙◌, subst, arith}
 use Rattle.std.proofs.lemmas.List.{length_push}
 use Rattle.constriction.specs.Coding.{InTurn}
-use Rattle.constriction_coders.specs.Compressed.{AreAllWordsOf, IsCompressed}
-use Rattle.constriction_coders.specs.lemmas.Stack.{compressed-once}
+use Rattle.constriction_coders.specs.Compressed.{AreAllWordsOf}
 use Rattle.constriction_coders.specs.StackMessages.{IsStackOf}
 use Rattle.constriction_coders.specs.Steps.{Content, content, MayBeHeld, IsOnTop, IsEncoded}
 use Rattle.constriction_coders.proofs.Closing.{words-once}
@@ -39,11 +38,3 @@ module _ {Symbol : Type 0} (entry : Symbol → Option (ℕ × ℕ)) (precision :
       run-once symbols q.full p.full (content 0 []) q.compressed.held p.compressed.held q.led p.led in
       words-once p.full words others p.compressed.words
       (subst (λ (c : Content). AreAllWordsOf c others) same q.compressed.words)
-
--- if they have the same words, a coder of these holds what the encoder held
-pub opened-stack : {Symbol : Type 0} (entry : Symbol → Option (ℕ × ℕ)) (precision : ℕ) (symbols : List Symbol) (words : List ℕ)
-    (opened : Content) → IsStackOf entry precision symbols words → IsCompressed opened words
-    → InTurn (IsEncoded entry precision) symbols opened (content 0 [])
-opened-stack entry precision symbols words opened stacked compressed =
-    let same : stacked.full ≡ opened = compressed-once stacked.full opened words stacked.compressed compressed in
-    subst (λ (c : Content). InTurn (IsEncoded entry precision) symbols c (content 0 [])) same stacked.led

@@ -12,6 +12,17 @@ use Rattle.constriction_coders.specs.Steps.{Content, content, MayBeHeld, IsEncod
 abbrev pub EncodesThen : {Symbol : Type 0} → (Symbol → Option (ℕ × ℕ)) → ℕ → List Symbol → Content → (Content → Type 0) → Type 0
 EncodesThen entry precision symbols old P = (full : Content) × InTurn (IsEncoded entry precision) symbols full old × P full
 
+-- Symbols are coded in their places, which have the entries and say how to decode. By one model, a symbol is its own place.
+pub record StackComesBack {Symbol Place : Type 0} (places : List Symbol → List Place) (entry : Place → Option (ℕ × ℕ)) (precision : ℕ)
+    (Decodes : Place → Content → Content → Type 0) (Back : Symbol → Symbol → Type 0) : Type 0 where
+  -- as many symbols come back as were encoded, and what was under them is left
+  pub symbols : (symbols answers : List Symbol) (full rest under : Content) → InTurn (IsEncoded entry precision) (places symbols) full rest
+      → InTurn Decodes (places answers) full under → length answers ≡ length symbols → AllZip Back symbols answers × (under ≡ rest)
+  -- the same from their words: then nothing is left
+  pub words : (symbols answers : List Symbol) (words : List ℕ) (opened left : Content) → IsStackOf entry precision (places symbols) words
+      → IsCompressed opened words → InTurn Decodes (places answers) opened left → length answers ≡ length symbols
+      → AllZip Back symbols answers × (left ≡ content 0 [])
+
 module _ {Symbol : Type 0} (entry : Symbol → Option (ℕ × ℕ)) (precision : ℕ) where
   -- what follows for symbols that are encoded by these entries
   pub record EncodedOnce : Type 0 where
@@ -30,14 +41,7 @@ module _ {Symbol : Type 0} (entry : Symbol → Option (ℕ × ℕ)) (precision :
       -- what is decoded after a symbol was encoded stands for an equal one, and what was under it is left
       pub symbol : (symbol answer : Symbol) (full rest under : Content) → IsEncoded entry precision symbol full rest
           → IsDecoded Stands rows precision answer full under → StandsForEqual Stands eq symbol answer × (under ≡ rest)
-      -- the same for as many symbols as were encoded
-      pub symbols : (symbols answers : List Symbol) (full rest under : Content) → InTurn (IsEncoded entry precision) symbols full rest
-          → InTurn (IsDecoded Stands rows precision) answers full under → length answers ≡ length symbols
-          → AllZip (StandsForEqual Stands eq) symbols answers × (under ≡ rest)
-      -- the same from their words: then nothing is left
-      pub words : (symbols answers : List Symbol) (words : List ℕ) (opened left : Content) → IsStackOf entry precision symbols words
-          → IsCompressed opened words → InTurn (IsDecoded Stands rows precision) answers opened left
-          → length answers ≡ length symbols → AllZip (StandsForEqual Stands eq) symbols answers × (left ≡ content 0 [])
+      pub all : StackComesBack (λ ss. ss) entry precision (IsDecoded Stands rows precision) (StandsForEqual Stands eq)
       -- two lists of as many symbols with the same words have equal symbols
       pub one : (symbols others : List Symbol) (words : List ℕ) → IsStackOf entry precision symbols words
           → IsStackOf entry precision others words → length symbols ≡ length others → AllZip (λ s t. IsTrue (eq s t)) symbols others

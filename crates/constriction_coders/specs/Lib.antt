@@ -7,6 +7,7 @@ pub mod EncodedWords
 pub mod Intervals
 pub mod Laws
 pub mod Numbers
+pub mod Places
 pub mod Positions
 pub mod Published
 pub mod RangeDecoder

@@ -1,4 +1,4 @@
--- What was encoded by a range encoder is decoded: a symbol, whatever the model of each, and the symbols of one model.
+-- What was encoded by a range encoder is decoded: a symbol, whatever the models of the others, and symbols in their places.
 use Rattle.std.specs.Prelude.{◌≡◌, ℕ, ◌+◌, ◌-◌, ◌<◌, ◌≤◌, ◌^◌, List, ◌++◌, All, Bool, Option, Result, length, take, drop}
 use Rattle.std.specs.List.{AllZip}
 use Rattle.constriction.specs.Coding.{StandsForEqual, InTurn}
@@ -22,38 +22,47 @@ abbrev pub MessageOnce : {Symbol : Type 0} → (Symbol → Option (ℕ × ℕ)) 
 MessageOnce {Symbol} entry precision =
     (symbols : List Symbol) (a b : List ℕ) → IsMessageOf entry precision symbols a → IsMessageOf entry precision symbols b → a ≡ b
 
-module _ {Symbol S E : Type 0} (Stands : Symbol → Symbol → Type 0) (eq : Symbol → Symbol → Bool) (entry : Symbol → Option (ℕ × ℕ))
-    (rows : List (Row Symbol)) (gives : S → Result (Option ℕ) E → S → Type 0) (tells : S → List ℕ → Type 0) (precision : ℕ) where
+-- symbols are coded in their places, as on a stack
+module _ {Symbol Place S : Type 0} (places : List Symbol → List Place) (entry : Place → Option (ℕ × ℕ)) (precision : ℕ)
+    (Reads : Place → Held S → Held S → Type 0) (tells : S → List ℕ → Type 0) where
   -- symbols were encoded from a span on, and a decoder of their words that was at this span decoded no more symbols than there are
   pub record IsDecodedFrom (first last : Span) (symbols answers : List Symbol) (words : List ℕ) (now : Held S) : Type 0 where
     pub reached : IsReached first
-    pub encoded : InTurn (IsNarrowed entry precision) symbols first last
+    pub encoded : InTurn (IsNarrowed entry precision) (places symbols) first last
     pub message : LeadTo last words
     pub start : Held S
     pub begun : IsAt tells first words start
-    pub decoded : InTurn (IsRead Stands rows gives precision) answers start now
+    pub decoded : InTurn Reads (places answers) start now
     pub as_many : length answers ≤ length symbols
 
-  -- What was decoded stands for equal symbols, and the decoder is at the span of as many symbols. If a symbol is left, the point is in its
-  -- part: the words are never invalid. If none is left, and only other words follow the message, the decoder may be at the end.
-  pub record FollowsEncoder (first last : Span) (symbols answers : List Symbol) (words : List ℕ) (now : Held S) : Type 0 where
-    pub back : AllZip (StandsForEqual Stands eq) (take (length answers) symbols) answers
-    pub follows : (s : Span) × InTurn (IsNarrowed entry precision) (take (length answers) symbols) first s × IsAt tells s words now
+  -- What was decoded is what comes back, and the decoder is at the span of as many symbols. If a symbol is left, the point is in its part:
+  -- the words are never invalid. If none is left, and only other words follow the message, the decoder may be at the end.
+  pub record FollowsEncoder (Back : Symbol → Symbol → Type 0) (first last : Span) (symbols answers : List Symbol) (words : List ℕ)
+      (now : Held S) : Type 0 where
+    pub back : AllZip Back (take (length answers) symbols) answers
+    pub follows : (s : Span) × InTurn (IsNarrowed entry precision) (places (take (length answers) symbols)) first s × IsAt tells s words now
     pub valid : length answers < length symbols → ¬ (IsAboveAll precision now.held)
     pub ends : (message more : List ℕ) → IsSealed last message → words ≡ message ++ more → length answers ≡ length symbols
         → MayBeAtEnd now.held
 
-  -- what follows for symbols that are encoded by these entries and decoded by these rows, if they have the same entries
-  pub record RangeSymbolsComeBack : Type 0 where
-    -- a number in the span after a symbol is in the span before it
-    pub before : (symbol : Symbol) (old new : Span) (words : List ℕ) → All (λ w. w < 2 ^ 32) words
-        → IsNarrowed entry precision symbol old new → LiesIn new words → LiesIn old words
-    -- a symbol does not lead to the span of no symbol
-    pub leaves : (symbol : Symbol) (old new : Span) → IsNarrowed entry precision symbol old new → old.size < 2 ^ 64 → new.size < 2 ^ 64 - 1
-    -- If a decoder is at the span before a symbol, and the number of its words is in the span after it, what it decodes stands for the
-    -- symbol, and then it is at the span after it.
-    pub symbol : (symbol answer : Symbol) (old new : Span) (words : List ℕ) (now later : Held S) → All (λ w. w < 2 ^ 32) words
-        → IsNarrowed entry precision symbol old new → LiesIn new words → IsAt tells old words now
-        → IsRead Stands rows gives precision answer now later → StandsForEqual Stands eq symbol answer × IsAt tells new words later
-    pub symbols : (first last : Span) (symbols answers : List Symbol) (words : List ℕ) (now : Held S)
-        → IsDecodedFrom first last symbols answers words now → FollowsEncoder first last symbols answers words now
+  -- symbols that were encoded come back, from any span of a message on
+  abbrev pub RangeMessageComesBack : (Symbol → Symbol → Type 0) → Type 0
+  RangeMessageComesBack Back =
+      (first last : Span) (symbols answers : List Symbol) (words : List ℕ) (now : Held S)
+      → IsDecodedFrom first last symbols answers words now → FollowsEncoder Back first last symbols answers words now
+
+-- what follows for symbols that are encoded by these entries and decoded by these rows, if they have the same entries
+pub record RangeSymbolsComeBack {Symbol S E : Type 0} (Stands : Symbol → Symbol → Type 0) (eq : Symbol → Symbol → Bool)
+    (entry : Symbol → Option (ℕ × ℕ)) (rows : List (Row Symbol)) (gives : S → Result (Option ℕ) E → S → Type 0)
+    (tells : S → List ℕ → Type 0) (precision : ℕ) : Type 0 where
+  -- a number in the span after a symbol is in the span before it
+  pub before : (symbol : Symbol) (old new : Span) (words : List ℕ) → All (λ w. w < 2 ^ 32) words
+      → IsNarrowed entry precision symbol old new → LiesIn new words → LiesIn old words
+  -- a symbol does not lead to the span of no symbol
+  pub leaves : (symbol : Symbol) (old new : Span) → IsNarrowed entry precision symbol old new → old.size < 2 ^ 64 → new.size < 2 ^ 64 - 1
+  -- If a decoder is at the span before a symbol, and the number of its words is in the span after it, what it decodes stands for the
+  -- symbol, and then it is at the span after it.
+  pub symbol : (symbol answer : Symbol) (old new : Span) (words : List ℕ) (now later : Held S) → All (λ w. w < 2 ^ 32) words
+      → IsNarrowed entry precision symbol old new → LiesIn new words → IsAt tells old words now
+      → IsRead Stands rows gives precision answer now later → StandsForEqual Stands eq symbol answer × IsAt tells new words later
+  pub symbols : RangeMessageComesBack (λ ss. ss) entry precision (IsRead Stands rows gives precision) tells (StandsForEqual Stands eq)

@@ -1,15 +1,17 @@
 //! What comes back from a range coder, each law the contract of a function.
 
-ghost use Rattle.std.specs.Prelude.{◌≡◌, ◌≢◌, ◌++◌, ◌^◌, ◌<◌, ℕ, List, length, All, Option, Some, None, Err, IsTrue, Contains, IfOk};
+ghost use Rattle.std.specs.Prelude.{◌≡◌, ◌≢◌, ◌++◌, ◌^◌, ◌<◌, ℕ, Bool, List, length, All, Option, Some, None, Err, IsTrue, Contains, IfOk};
 ghost use Rattle.std.specs.List.{AllZip};
 ghost use Rattle.constriction_coders.specs.Published.{published_entries, published_words};
-ghost use Rattle.constriction_coders.specs.RangeLaws.{MessageOnce, RangeSymbolsComeBack, SealedWordsTell};
+ghost use Rattle.constriction_coders.specs.Intervals.{IsRead};
+ghost use Rattle.constriction_coders.specs.Places.{placed, entry_at, IsDecodedAt};
+ghost use Rattle.constriction_coders.specs.RangeLaws.{MessageOnce, RangeMessageComesBack, RangeSymbolsComeBack, SealedWordsTell};
 ghost use Rattle.constriction_coders.specs.RangePositions.{RangePlaceComesBack};
 ghost use Rattle.constriction_coders.specs.Spans.{IsMessageOf};
 ghost use Rattle.constriction.specs.Coding.{StandsForEqual};
 ghost use Rattle.constriction.specs.Model.{ClonesAreEqual};
 ghost use Rattle.constriction.specs.Entries.{SameEntries};
-ghost use Rattle.constriction.specs.Rows.{entry_of};
+ghost use Rattle.constriction.specs.Rows.{Row, entry_of};
 
 use crate::laws::MessageError;
 use crate::queue::{DecoderFrontendError, RangeDecoder, RangeEncoder};
@@ -29,6 +31,21 @@ where
     requires { SameEntries E.symbol_eq (E.rows encoder.now) (D.rows decoder.now) }
     ensures { RangeSymbolsComeBack D.stands_for E.symbol_eq (entry_of E.symbol_eq (E.rows encoder.now)) (D.rows decoder.now)
         Source.read_gives Source.tells_upcoming PRECISION }
+{}
+
+/// Symbols that are encoded and decoded in states come back, if `next` leads encoder and decoder from state to state: each symbol by a model
+/// of its own, which may depend on those before it.
+pub fn range_places_come_back<State, D, Source, const PRECISION: usize>()
+where
+    D: DecoderModel<PRECISION, Probability = u32>,
+    Source: ReadWords<u32, Queue>,
+    requires { 0 < PRECISION }
+    ensures { (eq : D.Symbol → D.Symbol → Bool) (entry : State → D.Symbol → Option (ℕ × ℕ)) (rows : State → List (Row D.Symbol))
+        (next : State → D.Symbol → State) (first : State)
+        → ((state : State) (s t : D.Symbol) → StandsForEqual D.stands_for eq s t → next state t ≡ next state s)
+        → RangeMessageComesBack (placed next first) (entry_at entry) PRECISION
+        (IsDecodedAt eq entry rows PRECISION (λ own. IsRead D.stands_for own Source.read_gives PRECISION)) Source.tells_upcoming
+        (StandsForEqual D.stands_for eq) }
 {}
 
 /// A decoder goes to a place that was noted while the message was encoded, although a carry may have changed words since.

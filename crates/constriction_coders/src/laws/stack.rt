@@ -1,18 +1,19 @@
 //! What comes back from a stack coder, each law the contract of a function.
 
-ghost use Rattle.std.specs.Prelude.{◌≡◌, ◌≢◌, ◌≤◌, ℕ, List, Option, Ok, Err, IsTrue, length, reverse, IfOk, OnOk};
+ghost use Rattle.std.specs.Prelude.{◌≡◌, ◌≢◌, ◌≤◌, ℕ, Bool, List, Option, Ok, Err, IsTrue, length, reverse, IfOk, OnOk};
 ghost use Rattle.std.specs.Fn.{FnReturnsAt};
 ghost use Rattle.std.specs.List.{AllZip};
 ghost use Rattle.constriction_coders.specs.AnsCoder.{held_by, EncodingStops, DecodingStops, ReadsNoState, WritesState};
 ghost use Rattle.constriction_coders.specs.BitsBack.{FitTogether, BitsComeBack};
 ghost use Rattle.constriction_coders.specs.Compressed.{IsCompressed};
-ghost use Rattle.constriction_coders.specs.Laws.{SymbolsComeBack, EncodedOnce, EncodesThen, IsInvertible, DecodedGoesBack};
+ghost use Rattle.constriction_coders.specs.Laws.{SymbolsComeBack, StackComesBack, EncodedOnce, EncodesThen, IsInvertible, DecodedGoesBack};
+ghost use Rattle.constriction_coders.specs.Places.{placed, entry_at, IsDecodedAt};
 ghost use Rattle.constriction_coders.specs.Positions.{PlaceComesBack};
 ghost use Rattle.constriction_coders.specs.Steps.{Content, MayBeHeld, IsDecoded};
 ghost use Rattle.constriction.specs.Coding.{InTurn, StandsForEqual};
 ghost use Rattle.constriction.specs.Model.{ClonesAreEqual};
 ghost use Rattle.constriction.specs.Entries.{SameEntries};
-ghost use Rattle.constriction.specs.Rows.{entry_of};
+ghost use Rattle.constriction.specs.Rows.{Row, entry_of};
 
 use crate::laws::MessageError;
 use crate::stack::AnsCoder;
@@ -28,6 +29,17 @@ where
     E: EncoderModel<PRECISION, Symbol = D::Symbol, Probability = u32>,
     requires { SameEntries E.symbol_eq (E.rows encoder.now) (D.rows decoder.now) }
     ensures { SymbolsComeBack (entry_of E.symbol_eq (E.rows encoder.now)) PRECISION D.stands_for (D.rows decoder.now) E.symbol_eq }
+{}
+
+/// Symbols that are encoded and decoded in states come back, the first one on top, if `next` leads from state to state.
+pub fn places_come_back<State, D, const PRECISION: usize>()
+where
+    D: DecoderModel<PRECISION, Probability = u32>,
+    ensures { (eq : D.Symbol → D.Symbol → Bool) (entry : State → D.Symbol → Option (ℕ × ℕ)) (rows : State → List (Row D.Symbol))
+        (next : State → D.Symbol → State) (first : State)
+        → ((state : State) (s t : D.Symbol) → StandsForEqual D.stands_for eq s t → next state t ≡ next state s)
+        → StackComesBack (placed next first) (entry_at entry) PRECISION
+        (IsDecodedAt eq entry rows PRECISION (λ own. IsDecoded D.stands_for own PRECISION)) (StandsForEqual D.stands_for eq) }
 {}
 
 /// What a coder holds after symbols follows from what it held before, so their words are the same whoever encoded them. A coder that is

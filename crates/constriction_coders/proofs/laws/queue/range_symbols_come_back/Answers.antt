@@ -1,5 +1,9 @@
+use Rattle.std.proofs.Common.{refl}
+use Rattle.constriction.specs.Coding.{StandsForEqual}
 use Rattle.constriction.specs.Rows.{entry_of}
-use Rattle.constriction_coders.proofs.Decoding.{range-symbol-back, range-symbols-back}
+use Rattle.constriction_coders.specs.Intervals.{IsRead}
+use Rattle.constriction_coders.proofs.Decoding.{range-symbol-back}
+use Rattle.constriction_coders.proofs.PlacesComingBack.{range-back}
 use Rattle.constriction_coders.proofs.Spanning.{lies-back, leaves-whole}
 use Rattle.constriction_coders.proofs.laws.queue.range_symbols_come_back.Goals as goal
 
@@ -13,9 +17,12 @@ returns g c =
     let tells = g.Source.ReadWords.tells_upcoming in
     let positive = (g.met.D.EntropyModel.precision_law c.args.decoder.now).positive in
     let tile = g.met.D.DecoderModel.tile_law c.args.decoder.now in
-    let law = g.met.Source.ReadWords.reads_upcoming in record {
+    let law = g.met.Source.ReadWords.reads_upcoming in
+    let back = range-symbol-back Stands eq entry rows gives tells 32 g.row.PRECISION tile c.requires law in record {
       before = lies-back entry g.row.PRECISION;
       leaves = leaves-whole entry g.row.PRECISION positive;
-      symbol = range-symbol-back Stands eq entry rows gives tells 32 g.row.PRECISION tile c.requires law;
-      symbols = range-symbols-back Stands eq entry rows gives tells 32 g.row.PRECISION tile c.requires law positive;
+      symbol = back;
+      symbols = range-back {State = Unit {0}} (λ state symbols. symbols) (λ state symbol. symbol) (λ state symbol. tt) (λ state. refl)
+          (λ state x xs. refl) entry g.row.PRECISION (StandsForEqual Stands eq) (λ state symbol answer same. refl)
+          (IsRead Stands rows gives g.row.PRECISION) tells positive (λ state. back) tt;
     }

@@ -37,7 +37,6 @@ returns-in-Ok-decode_symbols g c =
     (rw c.pos-place.ensures.place at c.seek.ensures.sought) in
     let told = subst (λ (ws : List ℕ). LeadTo last ws) (sym there)
     (c.sealed_words_tell.ensures last words [] c.in-Ok-into_compressed.ensures.ok nil) in
-    came-back _ _ _ _ _ _ g.row.PRECISION (held_by new) _
-    c.range_symbols_come_back.ensures c.in-Ok-decode_symbols.answers.items _ c.in-Ok-decode_symbols.ensures.ok
-    c.in-Ok-decode_symbols.ensures.count c.args.second.now start.words.buf.items noted last c.pos-place.ensures.reached refl
-    c.in-Ok-encode_symbols.ensures.ok told back.1
+    came-back (λ ss. ss) _ _ _ _ _ c.range_symbols_come_back.ensures.symbols (held_by new) _ c.in-Ok-decode_symbols.answers.items _
+    c.in-Ok-decode_symbols.ensures.ok c.args.second.now start.words.buf.items noted last c.pos-place.ensures.reached refl
+    c.in-Ok-encode_symbols.ensures.ok told back.1 c.in-Ok-decode_symbols.ensures.count

@@ -11,9 +11,8 @@ pub returns-in-Ok-decode_symbols : goal.returns-in-Ok-decode_symbols
 returns-in-Ok-decode_symbols g c =
     let start = c.decoder-decoder.result in
     let words = c.decoder-decoder.ensures.0 in
-    came-back _ _ _ _ _ _ g.row.PRECISION (held_by start) _ c.range_symbols_come_back.ensures
-    c.in-Ok-decode_symbols.answers.items _ c.in-Ok-decode_symbols.ensures.ok c.in-Ok-decode_symbols.ensures.count
-    c.args.symbols.now words _ _ whole-reached refl
+    came-back (λ ss. ss) _ _ _ _ _ c.range_symbols_come_back.ensures.symbols (held_by start) _ c.in-Ok-decode_symbols.answers.items _
+    c.in-Ok-decode_symbols.ensures.ok c.args.symbols.now words _ _ whole-reached refl
     (subst (λ (s : Span). InTurn (IsNarrowed (entry_of g.M.EncoderModel.symbol_eq (g.M.EntropyModel.rows c.args.model.now)) g.row.PRECISION)
     c.args.symbols.now s c.encode_symbols.new.self) c.new-coder.ensures c.in-Ok.ensures.ok)
-    c.decoder-decoder.ensures.1 c.decoder-decoder.ensures.2
+    c.decoder-decoder.ensures.1 c.decoder-decoder.ensures.2 c.in-Ok-decode_symbols.ensures.count
