@@ -77,11 +77,11 @@ pub record IsMadeOfBoth {Symbol Word Model : Type 0} (Accepted : List Symbol →
 
 -- ---- constructors that are given a known list
 
--- each iterator that a value becomes gives items that `value` takes to this list: those so far to a beginning of it, and all of them to all
--- of it
+-- each iterator that a value becomes gives items that `value` takes to the elements of this list, place by place, and to its end as many as
+-- there are
 abbrev pub GivesList : {J S A B : Type 0} → (A → B) → (J → S → Type 0) → (S → Option A → S → Type 0) → J → List B → Type 0
 GivesList {S = S} value becomes steps from list =
-    (it : S) → becomes from it → EachRunFrom steps it (λ p. (p.len ≤ length list) × (p.whole ≡ true → map value p.items ≡ list)
+    (it : S) → becomes from it → EachRunFrom steps it (λ p. (p.len ≤ length list) × (p.whole ≡ true → p.len ≡ length list)
     × ((k : ℕ) → k < p.len → IfSome (p.at k) (λ x. value x ≡ slice_index_or list k (value x))))
 
 -- What a constructor says of its result: `made` whatever it reads, and the rest if it reads a known list, which then decides. `Tells`

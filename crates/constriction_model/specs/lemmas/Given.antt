@@ -21,13 +21,24 @@ beginning value (x ∷ xs) (y ∷ ys) short same =
     let rest = beginning value xs ys (omega arith) (λ k h. same (suc k) (omega arith)) in
     (rest.0, ap (λ zs. y ∷ zs) rest.1 ∙ ap (λ z. z ∷ (map value xs ++ rest.0)) (sym first))
 
+-- as many as the list has are the list
+all-of : {A B : Type 0} (value : A → B) (xs : List A) (list : List B) → length xs ≡ length list
+    → ((k : ℕ) → k < length xs → IfSome (slice_get xs k) (λ x. value x ≡ get_or list k (value x))) → map value xs ≡ list
+all-of value [] [] long same = refl
+all-of value [] (y ∷ ys) long same = absurd (omega arith)
+all-of value (x ∷ xs) [] long same = absurd (omega arith)
+all-of value (x ∷ xs) (y ∷ ys) long same =
+    ap (λ z. z ∷ map value xs) (same 0 (omega arith))
+    ∙ ap (λ zs. y ∷ zs) (all-of value xs ys (omega arith) (λ k h. same (suc k) (omega arith)))
+
 module _ {J S A B : Type 0} (value : A → B) (becomes : J → S → Type 0) (steps : S → Option A → S → Type 0) (from : J) (list : List B)
     (gives : GivesList value becomes steps from list) where
   -- what is read from it to its end is the list
   all-read : (xs : List A) → WasReadOf becomes steps from ToItsEnd xs → map value xs ≡ list
   all-read xs read =
       let p = run steps read.iterator xs true (to_end steps read.iterator xs read.was_read) in
-      (gives read.iterator read.became p (seen (length xs)) refl).1 refl
+      let given = gives read.iterator read.became p (seen (length xs)) refl in
+      all-of value xs list (given.1 refl) given.2
 
   -- whatever was read from it, it may give items of this list, if the rest of the list stands for items
   may-read : ((first rest : List B) → list ≡ first ++ rest → (ys : List A) × (map value ys ≡ rest))
