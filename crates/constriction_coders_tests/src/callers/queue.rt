@@ -8,8 +8,8 @@ use constriction::Pos;
 use constriction::backends::Cursor;
 use constriction::stream::model::{DecoderModel, EncoderModel};
 use constriction_coders::laws::{
-    message_comes_back, message_from, message_of, range_place_comes_back, range_symbols_come_back,
-    sealed_words_tell,
+    message_comes_back, message_from, message_of, range_place_comes_back, range_places_come_back,
+    range_symbols_come_back, sealed_words_tell,
 };
 use constriction_coders::queue::{EncodedWords, RangeDecoder, RangeEncoder};
 use std::alloc::Global;
@@ -157,6 +157,45 @@ where
         return None;
     };
     match opened.decode_symbol::<N, SECOND>(second) {
+        Ok(last) => Some((answer, last)),
+        Err(_) => None,
+    }
+}
+
+/// A message of two symbols, each by a model of its own, from the law of places: the state says whether the first symbol is to come.
+pub fn in_two_states<M, const PRECISION: usize>(
+    alloc: Global,
+    first: &M,
+    second: &M,
+    symbol: &M::Symbol,
+    other: &M::Symbol,
+) -> Option<(M::Symbol, M::Symbol)>
+where
+    M: EncoderModel<PRECISION, Probability = u32> + DecoderModel<PRECISION, Probability = u32>,
+    M::Symbol: Drop,
+    ensures { IfSome result (λ answers. StandsForEqual M.stands_for M.symbol_eq symbol.now answers.0
+        × StandsForEqual M.stands_for M.symbol_eq other.now answers.1) }
+{
+    range_places_come_back::<bool, M, Cursor<u32, Vec<u32>>, PRECISION>();
+    let mut coder = RangeEncoder::new(alloc);
+    match coder.encode_symbol::<M, PRECISION>(symbol, first) {
+        Ok(()) => {}
+        Err(_) => return None,
+    }
+    match coder.encode_symbol::<M, PRECISION>(other, second) {
+        Ok(()) => {}
+        Err(_) => return None,
+    }
+    let Ok(words) = coder.into_compressed() else {
+        return None;
+    };
+    let Ok(mut opened) = RangeDecoder::from_compressed(Cursor::new_at_write_beginning(words)) else {
+        return None;
+    };
+    let Ok(answer) = opened.decode_symbol::<M, PRECISION>(first) else {
+        return None;
+    };
+    match opened.decode_symbol::<M, PRECISION>(second) {
         Ok(last) => Some((answer, last)),
         Err(_) => None,
     }
