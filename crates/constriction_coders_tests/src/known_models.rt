@@ -1,5 +1,5 @@
-//! What contracts tell callers that make models of plain lists, and callers that encode numbers below `support_size`. Only `of_a_vec` has
-//! written answers, which are the constructor's clause at its list.
+//! What contracts tell callers that make models of plain lists, and callers that encode numbers below `support_size`. No caller here has a
+//! written answer.
 
 ghost use Rattle.std.specs.Prelude.{◌≡◌, ◌<◌, Err, IfOk, IfSome, length, nat_eq};
 ghost use Rattle.constriction.specs.Acceptance.{AreAccepted, IsAccepted};
