@@ -1,6 +1,5 @@
 -- Models that are made anew of the symbols and the weights of a table.
-use Rattle.std.proofs.Common.{◌≡◌, ℕ, Bool, List, [], ◌∷◌, ◌++◌, Option, Result, Ok, Err, false, map, refl, ap, sym, subst, ◌∙◌}
-use Rattle.std.specs.Prelude.{IfOk, IfErr}
+use Rattle.std.proofs.Common.{◌≡◌, ℕ, Bool, List, [], ◌∷◌, ◌++◌, Option, Result, Ok, map, refl, ap, sym, subst, ◌∙◌}
 use Rattle.std.specs.Cmp.{IsEquivalence}
 use Rattle.std.specs.Iterator.{Drains}
 use Rattle.std.specs.List.{IsDistinct}
@@ -11,19 +10,6 @@ use Rattle.constriction.specs.Laws.{AreRows}
 use Rattle.constriction.specs.Model.{row_of, StandForRows, ClonesAreEqual}
 use Rattle.constriction.specs.Rows.{Row, RowsTile, rows_of, symbols_of}
 use Rattle.constriction.specs.lemmas.Stand.{tile-made, distinct-made, tiling-rebuilds}
-use Rattle.constriction_model.specs.declared.error.ModelError.{ModelError}
-use Rattle.constriction_model.specs.declared.error.ModelError.TheVariants.{InvalidTable, OutOfMemory}
-
--- an error that is not `InvalidTable` is `OutOfMemory`
-memory-alone : (e : ModelError) → (e ≡ InvalidTable → ⊥) → e ≡ OutOfMemory
-memory-alone OutOfMemory h = refl
-memory-alone InvalidTable h = absurd (h refl)
-
-pub only-memory : {A : Type 0} (r : Result A ModelError) → (r ≡ Err InvalidTable → ⊥) → IfErr r (λ e. e ≡ OutOfMemory)
-only-memory (Ok x) h = tt
-only-memory (Err e) h = memory-alone e (λ is. h (ap Err is))
-
--- ---- the symbols and the weights of a table
 
 -- no item is a refusal, and these are the symbols and the weights of the items' rows
 pub record Parted {Symbol Word Weight Refusal : Type 0} (base : Weight → Word)

@@ -1,13 +1,13 @@
-use Rattle.std.proofs.Common.{map, arith, rules}
+use Rattle.std.proofs.Common.{map, arith}
 use Rattle.std.proofs.lemmas.Grind.{common_steps}
 use Rattle.constriction_client_tests.proofs.known_models.lookup_of.Goals as goal
 
 pub returns-clause-rows : goal.returns-clause-rows
 returns-clause-rows c =
     c.from_symbols_and_nonzero_fixed_point_probabilities.ensures.rows c.args.symbols (map (λ w. w) c.args.weights)
-    (first_of (grind (arith, common_steps), search rules)) (first_of (grind (arith, common_steps), search rules))
+    (grind (arith, common_steps)) (grind (arith, common_steps))
 
 pub returns-clause-invalid : goal.returns-clause-invalid
 returns-clause-invalid c =
     c.from_symbols_and_nonzero_fixed_point_probabilities.ensures.invalid c.args.symbols (map (λ w. w) c.args.weights)
-    (first_of (grind (arith, common_steps), search rules)) (first_of (grind (arith, common_steps), search rules))
+    (grind (arith, common_steps)) (grind (arith, common_steps))
