@@ -13,7 +13,8 @@ use Rattle.constriction_stored_rows.specs.Stored.{lefts_from}
 use Rattle.constriction_stored_rows.specs.private.Filling.{IsRowEnd, IsFilled, IsCdfBegun}
 use Rattle.constriction_stored_rows.specs.Ends.{FillsAll, IsNoLast, IsNoneInferred, AndTotal, IsCdfOf, IsNoCdf}
 
-lefts_from-push : (l : ℕ) (ws : List ℕ) (w : ℕ) → lefts_from l (ws ++ w ∷ []) ≡ lefts_from l ws ++ (l + sum ws) ∷ []
+-- one left cumulative more
+pub lefts_from-push : (l : ℕ) (ws : List ℕ) (w : ℕ) → lefts_from l (ws ++ w ∷ []) ≡ lefts_from l ws ++ (l + sum ws) ∷ []
 lefts_from-push l [] w = ap (λ x. x ∷ []) (omega arith)
 lefts_from-push l (v ∷ ws) w =
     ap (λ xs. l ∷ xs)

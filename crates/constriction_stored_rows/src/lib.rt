@@ -10,8 +10,10 @@ mod apart;
 mod cdf_probe;
 mod ends;
 mod filling;
+mod judging;
 mod paired;
 mod reading;
+mod refilling;
 mod slots;
 mod stored;
 mod uncompared;
@@ -23,8 +25,10 @@ pub use crate::ends::{
     paired_row_ending_at, with_cdf,
 };
 pub use crate::filling::{cdf_of, copy_of, entries_announced, rows_announced, with_item};
+pub use crate::judging::is_cdf;
 pub use crate::paired::{entries_cloned, has_symbol};
 pub use crate::reading::{TakesRows, rows_read};
+pub use crate::refilling::refill_cdf;
 pub use crate::slots::{row_in_slot, slot_probe, table_of_slots, words_of_table};
 pub use crate::stored::{cdf_row_at, contiguous_row_at};
 pub use crate::uncompared::entries_read;

@@ -37,6 +37,7 @@ pub fn contiguous_row_at<Word: WholeNumber, const PRECISION: usize>(
     ensures row { slice_index_or (contiguous_rows (weights_of PRECISION (lefts_in (map Word.whole cdf.now)))) index
         (row_of Word.whole Word.base result) ≡ row_of Word.whole Word.base result }
     ensures within { LiesWithin PRECISION (row_of Word.whole Word.base result) }
+    ensures symbol { result.0 ≡ index }
 {
     let (left, weight) = cdf_row_at::<Word, PRECISION>(cdf, index);
     (index, left, weight)

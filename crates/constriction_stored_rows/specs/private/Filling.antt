@@ -27,6 +27,11 @@ pub record IsFilled {Word : Type 0} (whole : Word → ℕ) (bits precision : ℕ
   pub is : filled_to whole precision end ≡ sum (map whole weights)
   pub below : IfSome end (λ next. whole next < 2 ^ precision)
 
+-- rows of these weights are not empty, and leave `room` quantiles after the first one of a next row
+pub record LeavesRoom (precision : ℕ) (weights : List ℕ) (room : ℕ) : Type 0 where
+  pub positive : All (λ w. 0 < w) weights
+  pub rest : sum weights + room + 1 ≡ 2 ^ precision
+
 -- the iterator gave these weights so far, which fill the cdf, and leave `room` quantiles after the one at `left`
 pub record IsCdfBegun {S Word : Type 0} (steps : S → Option Word → S → Type 0) (it : S) (whole : Word → ℕ) (bits precision : ℕ)
     (weights : List Word) (cdf : List Word) (s : S) (left : Word) (room : ℕ) : Type 0 where

@@ -1,4 +1,4 @@
-use Rattle.std.proofs.Common.{◌+◌, ◌<◌, length, map, arith}
+use Rattle.std.proofs.Common.{◌+◌, ◌<◌, length, map, refl, arith}
 use Rattle.std.proofs.lemmas.List.{length-map}
 use Rattle.constriction_stored_rows.proofs.StoredSteps.{stored-here}
 use Rattle.constriction_stored_rows.proofs.CdfLemmas.{cdf-row}
@@ -16,4 +16,5 @@ returns g c =
           stored-here bits g.row.PRECISION cdf c.requires.cdf c.args.index (whole c.cdf_row_at-left.result.0)
           (whole (g.Word.WholeNumber.base c.cdf_row_at-left.result.1)) within c.cdf_row_at-left.ensures.left c.cdf_row_at-left.ensures.weight;
       within = rw (c.cdf_row_at-left.ensures.left, c.cdf_row_at-left.ensures.weight) (row.positive, row.within);
+      symbol = refl;
     }
