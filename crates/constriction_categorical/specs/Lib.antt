@@ -1,3 +1,4 @@
+pub mod Cdf
 pub mod InOrder
 pub mod Made
 pub mod ModelRows

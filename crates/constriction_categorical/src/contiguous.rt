@@ -1,15 +1,17 @@
 //! Models of the symbols 0, 1, .., which find the row of a quantile by a search.
 
-ghost use Rattle.std.specs.Prelude.{◌≡◌, ◌+◌, ◌^◌, ◌<◌, length, map, nat_eq, IfOk, ⊤};
+ghost use Rattle.std.specs.Prelude.{◌≡◌, ◌+◌, ◌^◌, ◌<◌, ℕ, List, length, map, nat_eq, IfErr, IfOk, IsOkAnd, OnErr, OnOk, ⊤};
 ghost use Rattle.std.specs.Iterator.{IsFiniteIterable};
 ghost use Rattle.constriction_model.specs.Acceptance.{completed, IsAccepted, IsDecidedByWeights};
 ghost use Rattle.std.specs.Cmp.{nat_eq_equiv};
+ghost use Rattle.constriction_model.specs.Model.{row_of, AnswersQuantile, LiesWithin, RowMayBeRefused};
 ghost use Rattle.constriction_model.specs.Precision.{IsPrecision};
 ghost use Rattle.constriction_model.specs.Probe.{IsProbeFor};
 ghost use Rattle.constriction_model.specs.Rows.{contiguous_rows};
 ghost use Rattle.constriction_stored_rows.specs.Stored.{IsCdf, lefts_in};
 ghost use Rattle.constriction_stored_rows.specs.lemmas.StoredRows.{stored-within, stored-tiles};
 ghost use Rattle.constriction_stored_rows.specs.Stored.{rows_stored};
+ghost use Rattle.constriction_categorical.specs.Cdf.{IsCdfOfWeights};
 
 use crate::iterable::IterableEntropyModel;
 use crate::symbol_table::ContiguousSymbolTable;
@@ -19,7 +21,7 @@ use constriction_model::{
 };
 use constriction_numbers::WholeNumber;
 use constriction_stored_rows::{
-    CdfProbe, Cumulative, cdf_of, cdf_row_at, contiguous_row_at, copy_of,
+    CdfProbe, Cumulative, cdf_of, cdf_row_at, contiguous_row_at, copy_of, is_cdf, refill_cdf,
 };
 use std::alloc::{AllocError, Global};
 use std::marker::PhantomData;
@@ -88,6 +90,34 @@ impl<Probability: WholeNumber, const PRECISION: usize> ContiguousCategoricalEntr
             probability: PhantomData,
         })
     }
+
+    /// Gives the model other weights, and as many symbols as these are for. If the last weight is inferred, it is what the
+    /// given weights leave of `2^PRECISION`.
+    ///
+    /// The weights are accepted if and only if
+    /// [`from_nonzero_fixed_point_probabilities`](Self::from_nonzero_fixed_point_probabilities) accepts them. If they are
+    /// not (`InvalidTable`), or if memory is refused, the model keeps its rows. Memory is requested only if the model never
+    /// had as many symbols.
+    ///
+    /// Two passes over the weights: one judges them, and one writes the cdf in its place.
+    pub fn set_weights(
+        &mut self,
+        weights: &[Probability],
+        infer_last_probability: bool,
+    ) -> Result<(), ModelError>
+        ensures accepted { OnOk result (IsAccepted Probability.BITS PRECISION
+            (completed PRECISION infer_last_probability (map Probability.whole weights.now))) }
+        ensures rows { OnOk result (contiguous_model_rows self.new
+            ≡ contiguous_rows (completed PRECISION infer_last_probability (map Probability.whole weights.now))) }
+        ensures invalid { result ≡ Err ModelError.InvalidTable → ¬ (IsAccepted Probability.BITS PRECISION
+            (completed PRECISION infer_last_probability (map Probability.whole weights.now))) }
+        // Memory is refused only if there are more symbols than before.
+        ensures memory { result ≡ Err ModelError.OutOfMemory → length (contiguous_model_rows self.old)
+            < length (completed PRECISION infer_last_probability (map Probability.whole weights.now)) }
+        ensures err { OnErr result (contiguous_model_rows self.new ≡ contiguous_model_rows self.old) }
+    {
+        refill_cdf::<Probability, PRECISION>(&mut self.cdf, weights, infer_last_probability)
+    }
 }
 
 impl<Probability: WholeNumber, const PRECISION: usize> Clone
@@ -110,6 +140,29 @@ impl<
     const PRECISION: usize,
 > ContiguousCategoricalEntropyModel<Probability, Cdf, PRECISION> {
     ghost use Rattle.constriction_categorical.specs.ModelRows.{contiguous_model_rows};
+
+    /// The model over a buffer that is its cdf already: the left cumulatives of its symbols in order, and after them the
+    /// total, `2^PRECISION`, or 0 if that is no word.
+    ///
+    /// One pass over the words, and no copy. If they are the cdf of no accepted weights, the buffer comes back, so its memory
+    /// serves for another try.
+    pub fn from_cdf(cdf: Cdf) -> Result<Self, Cdf>
+        requires precision { IsPrecision Probability.BITS PRECISION }
+        ensures accepted { IfOk result (λ _. (weights : List ℕ)
+            × IsCdfOfWeights Probability.BITS PRECISION weights (map Probability.whole (Cdf.words_of cdf))) }
+        ensures rows { (weights : List ℕ)
+            → IsCdfOfWeights Probability.BITS PRECISION weights (map Probability.whole (Cdf.words_of cdf))
+            → IsOkAnd result (λ m. contiguous_model_rows m ≡ contiguous_rows weights) }
+        ensures refused { IfErr result (λ buffer. buffer ≡ cdf) }
+    {
+        if !is_cdf::<Probability, PRECISION>(cdf.words()) {
+            return Err(cdf);
+        }
+        Ok(Self {
+            cdf,
+            probability: PhantomData,
+        })
+    }
 
     /// How many symbols the model has.
     #[inline]
@@ -214,12 +267,21 @@ impl<Probability: WholeNumber, Cdf: SafeBuf<Probability>, const PRECISION: usize
 impl<Probability: WholeNumber, Cdf: SafeBuf<Probability>, const PRECISION: usize> DecoderModel<
     PRECISION,
 > for ContiguousCategoricalEntropyModel<Probability, Cdf, PRECISION> {
+    ghost use Rattle.constriction_categorical.specs.ModelRows.{contiguous_model_rows};
+
     /// The row of a quantile, by a search. It takes no memory and always succeeds.
     #[inline(always)]
     fn quantile_function(
         &self,
         quantile: Probability,
-    ) -> Result<(usize, Probability, Weight<Probability>), AllocError> {
+    ) -> Result<(usize, Probability, Weight<Probability>), AllocError>
+        requires in_range { Probability.whole quantile < 2 ^ PRECISION }
+        ensures row { IfOk result (AnswersQuantile (λ s t. t ≡ s) Probability.whole Probability.base
+            (contiguous_model_rows self.now) (Probability.whole quantile)) }
+        ensures within { IfOk result (λ x. LiesWithin PRECISION (row_of Probability.whole Probability.base x)) }
+        ensures refused { IfErr result (λ _. RowMayBeRefused (λ _. ⊥) (contiguous_model_rows self.now) (Probability.whole quantile)) }
+        ensures known { IfOk result (λ x. x.0 < length (contiguous_model_rows self.now)) }
+    {
         let cdf = self.cdf.words();
         let (_, rows) = self.quantile_probe(quantile);
         let index = row_in_probe::<_, 2>(rows, quantile);

@@ -26,3 +26,9 @@ returns-clause-row g c =
     c.quantile_probe.ensures c.row_in_probe-index.ensures in
     let answer = row_of g.Probability.WholeNumber.whole g.Probability.WholeNumber.base c.contiguous_row_at.result in
     (c.contiguous_row_at.result.0, refl, rw (rw c.words-cdf.ensures at c.contiguous_row_at.ensures.row) at (found.row answer))
+
+pub returns-clause-known : goal.returns-clause-known
+returns-clause-known g c =
+    let found = all-searched _ _ g.row.PRECISION _ _ _ _ _ (stored-tiles _ _ _ c.args.self.now.stored.stored) c.requires.in_range
+    c.quantile_probe.ensures c.row_in_probe-index.ensures in
+    omega (arith, c.contiguous_row_at.ensures.symbol, found.in_bounds)
