@@ -1,15 +1,15 @@
 -- Shares of quantiles.
-use Rattle.std.proofs.Common.{◌≡◌, ℕ, ◌+◌, ◌*◌, ◌/◌, ◌%◌, ◌^◌, ◌<◌, ◌≤◌, true, List, [], ◌∷◌, ◌++◌, length, get_or, take, refl, ◌∙◌, arith}
+use Rattle.std.proofs.Common.{◌≡◌, ℕ, ◌+◌, ◌*◌, ◌/◌, ◌%◌, ◌^◌, ◌<◌, ◌≤◌, true, List, [], ◌∷◌, ◌++◌, length, get_or, take, refl, sym, suc, ◌∙◌, arith}
 use Rattle.std.proofs.lemmas.Bool.{ltb-true}
 use Rattle.std.proofs.lemmas.Grind.{common_steps}
 use Rattle.std.proofs.lemmas.Nat.{mul-le, same_from_place, div-add-mod', div_below, mod_below}
 use Rattle.std.proofs.Math.Nat.{mul-div_cancel_left}
 use Rattle.std.proofs.lemmas.List.{take_all, take-append-le, length_push}
 use Rattle.std.proofs.lemmas.List.Elements.{All-filter, All-weaker, filter_passes}
-use Rattle.std.proofs.lemmas.List.Sums.{sum_by_push, sum_by_more}
+use Rattle.std.proofs.lemmas.List.Sums.{sum_by-cons, sum_by_push, sum_by_more}
 use Rattle.std.specs.Prelude.{All, cond, filter, nat_lt, sum}
 use Rattle.constriction.specs.Acceptance.{IsAccepted}
-use Rattle.constriction_coders.specs.Counts.{occurring}
+use Rattle.constriction_coders.specs.Counts.{AreWeightsOf, occurring}
 
 -- a share fits 128 bits
 pub share_fits : (count shared carried total : ℕ) → count < 2 ^ 64 → shared + 1 < 2 ^ 32 → total < 2 ^ 127 → carried < total
@@ -91,3 +91,20 @@ positive_accepted precision ws e fits = record {
   };
   fit = All-filter (λ w. nat_lt 0 w) (λ w. w < 2 ^ 32) ws fits;
 }
+
+-- ---- counts have one list of weights
+
+-- lists whose numbers before each place have the same sum are the same
+same_sums : (ws vs : List ℕ) → length ws ≡ length vs → ((place : ℕ) → sum (take place ws) ≡ sum (take place vs)) → ws ≡ vs
+same_sums [] [] long same = refl
+same_sums [] (v ∷ vs) long same = absurd (omega arith)
+same_sums (w ∷ ws) [] long same = absurd (omega arith)
+same_sums (w ∷ ws) (v ∷ vs) long same =
+    let first : w ≡ v = omega (arith, same 1) in
+    let rest : ws ≡ vs = same_sums ws vs (omega arith) (λ place.
+    omega (arith, same (suc place), first, sum_by-cons (λ x. x) w (take place ws), sum_by-cons (λ x. x) v (take place vs))) in
+    cc
+
+pub one_list : (precision : ℕ) (counts ws vs : List ℕ) → AreWeightsOf precision counts ws → AreWeightsOf precision counts vs → ws ≡ vs
+one_list precision counts ws vs t u =
+    same_sums ws vs (t.as_many ∙ sym u.as_many) (λ place. t.before place ∙ sym (u.before place))

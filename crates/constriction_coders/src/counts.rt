@@ -1,11 +1,12 @@
 //! Weights in proportion to counts.
 
-ghost use Rattle.std.specs.Prelude.{◌≡◌, ◌↔◌, ◌+◌, ◌-◌, ◌*◌, ◌/◌, ◌^◌, ◌<◌, ◌≤◌, ℕ, All, Err, IfOk, filter, length, nat_lt, slice_index, sum, take};
+ghost use Rattle.std.specs.Prelude.{◌≡◌, ◌↔◌, ◌+◌, ◌-◌, ◌*◌, ◌/◌, ◌^◌, ◌<◌, ◌≤◌, ℕ, All, Err, IfOk, List, OnErr, OnOk, filter, length, nat_lt, slice_index, sum, take};
 ghost use Rattle.std.specs.Prelude.{if◌then◌else◌};
+ghost use Rattle.std.specs.Vec.{vec_capacity};
 ghost use Rattle.constriction.specs.Acceptance.{IsAccepted};
 ghost use Rattle.constriction_coders.specs.Counts.{AreWeightsOf, occurring};
 
-use std::alloc::{AllocError, Global};
+use std::alloc::Global;
 use thiserror::Error;
 
 /// Why counts have no weights.
@@ -56,54 +57,57 @@ fn weight_of(count: u64, shared: u64, carried: u128, total: u128) -> (u32, u128)
         return (0, carried);
     }
     let share = count as u128 * shared as u128 + carried;
+    // A division of numbers of 128 bits takes several times as long.
+    if share <= u64::MAX as u128 && total <= u64::MAX as u128 {
+        let (share, total) = (share as u64, total as u64);
+        return ((1 + share / total) as u32, (share % total) as u128);
+    }
     ((1 + share / total) as u32, share % total)
 }
 
-/// Gives each symbol that occurs one quantile and its share of the others. The remainder of a share is carried to the next symbol.
-fn shares_of(
-    alloc: Global,
-    counts: &[u64],
-    shared: u64,
-    total: u128,
-) -> Result<Vec<u32>, AllocError>
+/// Gives each symbol that occurs one quantile and its share of the others, in a list with room for them. The remainder of a share is
+/// carried to the next symbol.
+fn share_out(weights: &mut Vec<u32>, counts: &[u64], shared: u64, total: u128)
+    requires places { length counts.now ≤ vec_capacity weights.old }
     requires total { total ≡ sum counts.now }
     requires some { 0 < total }
     requires bounded { total < 2 ^ 127 }
     requires room { shared + 1 < 2 ^ 32 }
-    ensures as_many { IfOk result (λ weights. length weights.items ≡ length counts.now) }
-    ensures fit { IfOk result (λ weights. All (λ w. w < 2 ^ 32) weights.items) }
-    ensures before { IfOk result (λ weights. (place : ℕ) → sum (take place weights.items)
-        ≡ occurring (take place counts.now) + sum (take place counts.now) * shared / sum counts.now) }
-    ensures some { IfOk result (λ weights. (place : ℕ) → 0 < slice_index counts.now place → 0 < slice_index weights.items place) }
-    ensures none { IfOk result (λ weights. (place : ℕ) → slice_index counts.now place ≡ 0 → slice_index weights.items place ≡ 0) }
+    ensures as_many { length weights.new.items ≡ length counts.now }
+    ensures fit { All (λ w. w < 2 ^ 32) weights.new.items }
+    ensures before { (place : ℕ) → sum (take place weights.new.items)
+        ≡ occurring (take place counts.now) + sum (take place counts.now) * shared / sum counts.now }
+    ensures some { (place : ℕ) → 0 < slice_index counts.now place → 0 < slice_index weights.new.items place }
+    ensures none { (place : ℕ) → slice_index counts.now place ≡ 0 → slice_index weights.new.items place ≡ 0 }
 {
-    let mut weights = Vec::with_capacity(alloc, counts.len())?;
+    weights.clear();
     let mut carried = 0u128;
     for count in counts {
         let (weight, left) = weight_of(*count, shared, carried, total);
-        weights.push(weight)?;
+        weights.push_reserved(weight);
         carried = left;
     }
-    Ok(weights)
 }
 
-/// Weights over `2^PRECISION` in proportion to counts, one for each count.
+/// Weights over `2^PRECISION` in proportion to counts, one for each count, in place of what a list has.
 ///
 /// The weight of a symbol that occurs differs by less than 1 from 1 plus its share of the quantiles that are left when each symbol that
-/// occurs has one. The counts may have any sum. There are two passes over the counts, with a division for each count, and memory is asked
-/// for once.
-pub fn weights_of<const PRECISION: usize>(
-    alloc: Global,
+/// occurs has one. The counts may have any sum. There are two passes over the counts, with a division for each count. Memory is asked for
+/// only if the list has no room for as many weights as counts. If it fails, the list keeps what it has.
+pub fn weigh<const PRECISION: usize>(
     counts: &[u64],
-) -> Result<Vec<u32>, CountsError>
+    weights: &mut Vec<u32>,
+) -> Result<(), CountsError>
     requires { PRECISION ≤ 32 }
-    ensures ok { IfOk result (λ weights. AreWeightsOf PRECISION counts.now weights.items) }
-    ensures total { IfOk result (λ weights. sum weights.items ≡ 2 ^ PRECISION) }
-    ensures occur { IfOk result (λ weights. (place : ℕ) → (0 < slice_index weights.items place) ↔ (0 < slice_index counts.now place)) }
-    ensures accepted { IfOk result (λ weights. IsAccepted 32 PRECISION (filter (λ w. nat_lt 0 w) weights.items)) }
+    ensures ok { OnOk result (AreWeightsOf PRECISION counts.now weights.new.items) }
+    ensures total { OnOk result (sum weights.new.items ≡ 2 ^ PRECISION) }
+    ensures occur { OnOk result ((place : ℕ) → (0 < slice_index weights.new.items place) ↔ (0 < slice_index counts.now place)) }
+    ensures accepted { OnOk result (IsAccepted 32 PRECISION (filter (λ w. nat_lt 0 w) weights.new.items)) }
     ensures nothing { (result ≡ Err CountsError.NothingOccurs) ↔ (occurring counts.now ≡ 0) }
     ensures too_many { (result ≡ Err CountsError.TooManySymbols) ↔ (2 ^ PRECISION < occurring counts.now) }
     ensures no_word { (result ≡ Err CountsError.WeightIsNoWord) ↔ ((PRECISION ≡ 32) × (occurring counts.now ≡ 1)) }
+    ensures memory { result ≡ Err CountsError.OutOfMemory → vec_capacity weights.old < length counts.now }
+    ensures err { OnErr result (weights.new.items ≡ weights.old.items) }
 {
     let size = 1u64 << PRECISION;
     let (total, occurring) = tally(counts);
@@ -117,8 +121,39 @@ pub fn weights_of<const PRECISION: usize>(
     if shared >= u32::MAX as u64 {
         return Err(CountsError::WeightIsNoWord);
     }
-    match shares_of(alloc, counts, shared, total) {
-        Ok(weights) => Ok(weights),
-        Err(_) => Err(CountsError::OutOfMemory),
+    if weights
+        .reserve_exact(counts.len().saturating_sub(weights.len()))
+        .is_err()
+    {
+        return Err(CountsError::OutOfMemory);
+    }
+    share_out(weights, counts, shared, total);
+    Ok(())
+}
+
+/// As [`weigh`], in a list of its own. Memory is asked for once.
+pub fn weights_of<const PRECISION: usize>(
+    alloc: Global,
+    counts: &[u64],
+) -> Result<Vec<u32>, CountsError>
+    requires { PRECISION ≤ 32 }
+    ensures ok { IfOk result (λ weights. AreWeightsOf PRECISION counts.now weights.items) }
+    ensures total { IfOk result (λ weights. sum weights.items ≡ 2 ^ PRECISION) }
+    ensures occur { IfOk result (λ weights. (place : ℕ) → (0 < slice_index weights.items place) ↔ (0 < slice_index counts.now place)) }
+    ensures accepted { IfOk result (λ weights. IsAccepted 32 PRECISION (filter (λ w. nat_lt 0 w) weights.items)) }
+    ensures nothing { (result ≡ Err CountsError.NothingOccurs) ↔ (occurring counts.now ≡ 0) }
+    ensures too_many { (result ≡ Err CountsError.TooManySymbols) ↔ (2 ^ PRECISION < occurring counts.now) }
+    ensures no_word { (result ≡ Err CountsError.WeightIsNoWord) ↔ ((PRECISION ≡ 32) × (occurring counts.now ≡ 1)) }
+{
+    let mut weights = Vec::new(alloc);
+    match weigh::<PRECISION>(counts, &mut weights) {
+        Ok(()) => Ok(weights),
+        Err(fault) => Err(fault),
     }
 }
+
+/// Counts have one list of weights.
+pub fn counts_have_one_list<const PRECISION: usize>()
+    ensures { (counts weights others : List ℕ) → AreWeightsOf PRECISION counts weights → AreWeightsOf PRECISION counts others
+        → weights ≡ others }
+{}

@@ -2,13 +2,13 @@ use Rattle.std.proofs.Common.{◌<◌, ◌^◌, length, arith, ap}
 use Rattle.std.proofs.lemmas.List.{length_push}
 use Rattle.std.proofs.lemmas.List.Elements.{All-push}
 use Rattle.constriction_coders.proofs.CountsLemmas.{shares_more, before_more, before_all, some_more, none_more}
-use Rattle.constriction_coders.proofs.counts.shares_of.Goals as goal
+use Rattle.constriction_coders.proofs.counts.share_out.Goals as goal
 
 pub loop-count-preserved : goal.loop-count-preserved
 loop-count-preserved c =
     let l = c.loop-count in
     let w = c.weight_of-weight in
-    let pushed = c.in_ok-push.ensures.items in
+    let pushed = c.push_reserved.ensures.items in
     let given = shares_more l.weights.items c.args.counts.now l.count-index w.result.0 _ _ _ _ (omega arith) w.ensures.given
     l.invariant.given in record {
       as_many = omega (arith, ap length pushed, length_push l.weights.items w.result.0);

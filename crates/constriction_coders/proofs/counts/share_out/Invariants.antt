@@ -1,7 +1,7 @@
 use Rattle.std.proofs.Common.{◌≡◌, ◌+◌, ◌*◌, ◌/◌, ◌^◌, ◌<◌, ◌≤◌, ℕ, length, get_or, take}
 use Rattle.std.specs.Prelude.{All, sum}
 use Rattle.constriction_coders.specs.Counts.{occurring}
-use Rattle.constriction_coders.proofs.counts.shares_of.Given as goal
+use Rattle.constriction_coders.proofs.counts.share_out.Given as goal
 
 -- the weights so far have what is due to the counts so far, except for what is carried
 abbrev pub invariant-loop-count : goal.invariant-loop-count
