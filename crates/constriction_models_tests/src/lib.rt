@@ -34,6 +34,8 @@ mod own_number;
 #[cfg(test)]
 mod own_searching_model;
 #[cfg(test)]
+mod reweighted;
+#[cfg(test)]
 mod search;
 #[cfg(test)]
 mod slot_bits;
