@@ -1,12 +1,14 @@
 -- A symbol that was encoded by way of a latent one comes back, and so does what the coder held.
-use Rattle.std.proofs.Common.{◌≡◌, ℕ, ◌≤◌, refl, sym, ◌∙◌, subst, Bool, true, List, Option}
+use Rattle.std.proofs.Common.{◌≡◌, ℕ, ◌%◌, ◌^◌, ◌≤◌, refl, sym, ◌∙◌, ap, subst, Bool, true, List, [], ◌∷◌, length, Option, None, arith}
 use Rattle.std.specs.Cmp.{IsEquivalence}
-use Rattle.constriction.specs.Coding.{StandsForEqual}
+use Rattle.std.specs.List.{AllZip}
+use Rattle.constriction.specs.Coding.{StandsForEqual, InTurn}
 use Rattle.constriction.specs.Model.{ClonesAreEqual}
+use Rattle.constriction.specs.lemmas.Coding.{entry-back}
 use Rattle.constriction.specs.lemmas.Pairs.{one-to-one}
-use Rattle.constriction.specs.Rows.{Row, RowsTile, entry_of}
-use Rattle.constriction_coders.specs.BitsBack.{FitTogether, BitsComeBack}
-use Rattle.constriction_coders.specs.Steps.{Content, IsEncoded, IsDecoded}
+use Rattle.constriction.specs.Rows.{Row, RowsTile, IsRowOf, entry_of}
+use Rattle.constriction_coders.specs.BitsBack.{FitTogether, IsChosenByState, IsEncodedByLatent, IsDecodedByLatent, BitsComeBack}
+use Rattle.constriction_coders.specs.Steps.{Content, MayBeHeld, IsEncoded, IsDecoded}
 use Rattle.constriction_coders.proofs.ComingBack.{encode-once, symbol-back}
 use Rattle.constriction_coders.proofs.GoingBack.{is-encoded}
 
@@ -27,26 +29,65 @@ module _ {Symbol Latent PosteriorModel LikelihoodModel : Type 0}
     (likelihood_tile : (m : LikelihoodModel) → RowsTile 32 precision (likelihood_rows m))
     (prior_laws : IsEquivalence prior_eq) (posterior_laws : IsEquivalence posterior_eq) (laws : IsEquivalence likelihood_eq)
   where
-    pub bits-come-back : BitsComeBack Posterior posterior_rows posterior_eq PosteriorStands Likelihood likelihood_rows likelihood_eq
+    abbrev Back : Type 0
+    Back = BitsComeBack Posterior posterior_rows posterior_eq PosteriorStands Likelihood likelihood_rows likelihood_eq LikelihoodStands
+        prior_eq PriorStands prior precision
+
+    abbrev Encodes : Symbol → Content → Content → Type 0
+    Encodes = IsEncodedByLatent Posterior posterior_rows posterior_eq PosteriorStands Likelihood likelihood_rows likelihood_eq
         LikelihoodStands prior_eq PriorStands prior precision
-    bits-come-back symbol answer old full new held holds e d = (coded.0, again)
+
+    abbrev Decodes : Symbol → Content → Content → Type 0
+    Decodes = IsDecodedByLatent Posterior posterior_rows posterior_eq PosteriorStands Likelihood likelihood_rows likelihood_eq
+        LikelihoodStands prior_eq PriorStands prior precision
+
+    module _ (symbol : Symbol) (full old : Content) (e : Encodes symbol full old) where
+      abbrev entry : Latent → Option (ℕ × ℕ)
+      entry = entry_of posterior_eq (posterior_rows e.posterior.0)
+
+      -- the latent symbol comes back
+      latent-back : (latent : Latent) (coded : Content) → IsDecoded PriorStands prior precision latent full coded
+          → (prior_eq e.latent latent ≡ true) × (coded ≡ e.coded)
+      latent-back latent coded d =
+          let paid = symbol-back PriorStands prior_eq (entry_of prior_eq prior) prior 32 precision prior_tile (λ s. refl)
+          e.latent latent full e.coded coded e.prior d in
+          (equal-to PriorStands prior_eq prior_laws fit.latent_clones e.latent latent paid.0, paid.1)
+
+      -- so it chooses the likelihood again
+      likelihood-back : (latent : Latent) (given : LikelihoodModel) → prior_eq e.latent latent ≡ true → Likelihood latent given
+          → likelihood_rows given ≡ likelihood_rows e.likelihood.0
+      likelihood-back latent given same chooses = sym (fit.likelihoods e.latent latent e.likelihood.0 given same e.likelihood.1 chooses)
+
+      -- and an equal symbol the posterior
+      posterior-back : (answer : Symbol) (chosen : PosteriorModel) → likelihood_eq symbol answer ≡ true → Posterior answer chosen
+          → posterior_rows chosen ≡ posterior_rows e.posterior.0
+      posterior-back answer chosen same chooses = sym (fit.posteriors symbol answer e.posterior.0 chosen same e.posterior.1 chooses)
+
+      -- by which the latent symbol was encoded on what was left when it was decoded
+      drawn : (latent : Latent) → prior_eq e.latent latent ≡ true → IsEncoded entry precision latent old e.drawn
+      drawn latent same =
+          let invertible = fit.invertible symbol e.posterior.0 e.posterior.1 in
+          let one = one-to-one posterior_eq entry 32 precision (posterior_rows e.posterior.0) (posterior_tile e.posterior.0) (λ s. refl)
+          posterior_laws invertible.distinct in
+          let own = is-encoded PosteriorStands posterior_eq entry _ precision one invertible.clones e.latent old e.drawn
+          e.posterior.2 in record {
+            left = own.left;
+            weight = own.weight;
+            known = sym (one.same e.latent latent (fit.latents e.latent latent same)) ∙ own.known;
+            top = own.top;
+          }
+
+    symbol-back-by-latent : (symbol answer : Symbol) (old full new : Content) → MayBeHeld old → MayBeHeld new → Encodes symbol full old
+        → Decodes answer full new → StandsForEqual LikelihoodStands likelihood_eq symbol answer × (new ≡ old)
+    symbol-back-by-latent symbol answer old full new held holds e d = (coded.0, again)
       where
-        -- the latent symbol comes back
-        paid : StandsForEqual PriorStands prior_eq e.latent d.latent × (d.coded ≡ e.coded)
-        paid = symbol-back PriorStands prior_eq (entry_of prior_eq prior) prior 32 precision prior_tile (λ s. refl)
-            e.latent d.latent full e.coded d.coded e.prior d.prior
-
-        same_latent : prior_eq e.latent d.latent ≡ true
-        same_latent = equal-to PriorStands prior_eq prior_laws fit.latent_clones e.latent d.latent paid.0
-
-        -- so it chooses the likelihood again, and the symbol comes back
-        same_likelihood : likelihood_rows d.likelihood.0 ≡ likelihood_rows e.likelihood.0
-        same_likelihood =
-            sym (fit.likelihoods e.latent d.latent e.likelihood.0 d.likelihood.0 same_latent e.likelihood.1 d.likelihood.1)
+        paid : (prior_eq e.latent d.latent ≡ true) × (d.coded ≡ e.coded)
+        paid = latent-back symbol full old e d.latent d.coded d.prior
 
         decoded : IsDecoded LikelihoodStands (likelihood_rows e.likelihood.0) precision answer e.coded d.drawn
         decoded =
-            subst (λ (rs : List (Row Symbol)). IsDecoded LikelihoodStands rs precision answer e.coded d.drawn) same_likelihood
+            subst (λ (rs : List (Row Symbol)). IsDecoded LikelihoodStands rs precision answer e.coded d.drawn)
+            (likelihood-back symbol full old e d.latent d.likelihood.0 paid.0 d.likelihood.1)
             (subst (λ (c : Content). IsDecoded LikelihoodStands (likelihood_rows d.likelihood.0) precision answer c d.drawn) paid.1
             d.likelihood.2)
 
@@ -55,33 +96,52 @@ module _ {Symbol Latent PosteriorModel LikelihoodModel : Type 0}
             (likelihood_rows e.likelihood.0) 32 precision (likelihood_tile e.likelihood.0) (λ s. refl) symbol answer e.coded e.drawn
             d.drawn e.likelihood.2 decoded
 
-        -- so it chooses the posterior again, by which the latent symbol is encoded to what it was decoded from
         same_posterior : posterior_rows d.posterior.0 ≡ posterior_rows e.posterior.0
         same_posterior =
-            sym (fit.posteriors symbol answer e.posterior.0 d.posterior.0
-            (equal-to LikelihoodStands likelihood_eq laws fit.clones symbol answer coded.0) e.posterior.1 d.posterior.1)
+            posterior-back symbol full old e answer d.posterior.0
+            (equal-to LikelihoodStands likelihood_eq laws fit.clones symbol answer coded.0) d.posterior.1
 
-        entry : Latent → Option (ℕ × ℕ)
-        entry = entry_of posterior_eq (posterior_rows e.posterior.0)
-
-        returned : IsEncoded entry precision d.latent new e.drawn
+        returned : IsEncoded (entry symbol full old e) precision d.latent new e.drawn
         returned =
             subst (λ (rs : List (Row Latent)). IsEncoded (entry_of posterior_eq rs) precision d.latent new e.drawn) same_posterior
             (subst (λ (c : Content). IsEncoded (entry_of posterior_eq (posterior_rows d.posterior.0)) precision d.latent new c) coded.1
             d.posterior.2)
 
-        drawn : IsEncoded entry precision d.latent old e.drawn
-        drawn =
-            let invertible = fit.invertible symbol e.posterior.0 e.posterior.1 in
-            let one = one-to-one posterior_eq entry 32 precision (posterior_rows e.posterior.0) (posterior_tile e.posterior.0) (λ s. refl)
-            posterior_laws invertible.distinct in
-            let own = is-encoded PosteriorStands posterior_eq entry _ precision one invertible.clones e.latent old e.drawn
-            e.posterior.2 in record {
-              left = own.left;
-              weight = own.weight;
-              known = sym (one.same e.latent d.latent (fit.latents e.latent d.latent same_latent)) ∙ own.known;
-              top = own.top;
-            }
-
         again : new ≡ old
-        again = encode-once entry precision fits d.latent new old e.drawn holds held returned drawn
+        again = encode-once (entry symbol full old e) precision fits d.latent new old e.drawn holds held returned
+            (drawn symbol full old e d.latent paid.0)
+
+    symbols-back-by-latent : (symbols answers : List Symbol) (full old new : Content)
+        → InTurn (λ s above under. Encodes s above under × MayBeHeld under) symbols full old
+        → InTurn (λ s above under. Decodes s above under × MayBeHeld under) answers full new
+        → length answers ≡ length symbols → AllZip (StandsForEqual LikelihoodStands likelihood_eq) symbols answers × (new ≡ old)
+    symbols-back-by-latent [] [] full old new e d n = (tt, sym d ∙ e)
+    symbols-back-by-latent [] (t ∷ ts) full old new e d n = absurd (omega arith)
+    symbols-back-by-latent (s ∷ ss) [] full old new e d n = absurd (omega arith)
+    symbols-back-by-latent (s ∷ ss) (t ∷ ts) full old new e d n =
+        let first = symbol-back-by-latent s t e.0 full d.0 e.1.1 d.1.1 e.1.0 d.1.0 in
+        let others = symbols-back-by-latent ss ts e.0 old new e.2
+        (subst (λ (c : Content). InTurn (λ s above under. Decodes s above under × MayBeHeld under) ts c new) first.1 d.2) (omega arith) in
+        ((first.0, others.0), others.1)
+
+    -- the posterior that was chosen has an entry for the latent symbol
+    latent-known : (symbol answer : Symbol) (latent : Latent) (full old coded : Content) (chosen : PosteriorModel) → Encodes symbol full old
+        → IsDecoded PriorStands prior precision latent full coded
+        → IsChosenByState Likelihood likelihood_rows precision LikelihoodStands latent answer coded → Posterior answer chosen
+        → entry_of posterior_eq (posterior_rows chosen) latent ≡ None → ⊥
+    latent-known symbol answer latent full old coded chosen e d given chooses none =
+        let paid = latent-back symbol full old e latent coded d in
+        let quantile : coded.state % 2 ^ precision ≡ e.coded.state % 2 ^ precision =
+        ap (λ (c : Content). c.state % 2 ^ precision) paid.1 in
+        let row : IsRowOf (likelihood_rows e.likelihood.0) (e.coded.state % 2 ^ precision) given.2 =
+        rw (likelihood-back symbol full old e latent given.0 paid.0 given.1, quantile) at given.3 in
+        let own = e.likelihood.2 in
+        let equal = entry-back 32 precision likelihood_eq (likelihood_rows e.likelihood.0) symbol own.left own.weight _ given.2
+        (likelihood_tile e.likelihood.0) own.known own.top.from own.top.to row in
+        let same = equal-to LikelihoodStands likelihood_eq laws fit.clones symbol answer (given.2.symbol, equal.0, given.4) in
+        let known = (drawn symbol full old e latent paid.0).known in
+        let posterior = posterior-back symbol full old e answer chosen same chooses in
+        absurd (let lacks = rw posterior at none in cc)
+
+    pub bits-come-back : Back
+    bits-come-back = record { symbol = symbol-back-by-latent; symbols = symbols-back-by-latent; known = latent-known }

@@ -1,6 +1,7 @@
 -- Bits-back coding: a symbol is put on a stack by way of a latent symbol, which is decoded from what the coder holds.
-use Rattle.std.specs.Prelude.{◌≡◌, ℕ, ◌%◌, ◌^◌, Bool, IsTrue, List}
-use Rattle.constriction.specs.Coding.{StandsForEqual}
+use Rattle.std.specs.Prelude.{◌≡◌, ◌≢◌, ℕ, ◌%◌, ◌^◌, Bool, IsTrue, List, None, length}
+use Rattle.std.specs.List.{AllZip}
+use Rattle.constriction.specs.Coding.{StandsForEqual, InTurn}
 use Rattle.constriction.specs.Model.{ClonesAreEqual}
 use Rattle.constriction.specs.Rows.{Row, IsRowOf, entry_of}
 use Rattle.constriction_coders.specs.Laws.{IsInvertible}
@@ -54,12 +55,31 @@ module _ {Symbol Latent PosteriorModel LikelihoodModel : Type 0}
     pub latent_clones : ClonesAreEqual prior_eq PriorStands
     pub clones : ClonesAreEqual likelihood_eq LikelihoodStands
 
-  -- What is decoded after a symbol was encoded stands for an equal one, and the coder holds what it held before.
-  abbrev pub BitsComeBack : (prior : List (Row Latent)) → (precision : ℕ) → Type 0
-  BitsComeBack prior precision =
-      (symbol answer : Symbol) (old full new : Content) → MayBeHeld old → MayBeHeld new
-      → IsCodedByLatent (IsDecodedByChosen Posterior posterior_rows precision PosteriorStands)
-      (IsEncodedByChosen Likelihood likelihood_rows precision likelihood_eq) (IsEncoded (entry_of prior_eq prior) precision) symbol full old
-      → IsCodedByLatent (IsEncodedByChosen Posterior posterior_rows precision posterior_eq)
-      (IsDecodedByChosen Likelihood likelihood_rows precision LikelihoodStands) (IsDecoded PriorStands prior precision) answer full new
-      → StandsForEqual LikelihoodStands likelihood_eq symbol answer × (new ≡ old)
+  module _ (prior : List (Row Latent)) (precision : ℕ) where
+    -- the symbol is encoded, and the latent one decoded before and encoded after it
+    abbrev pub IsEncodedByLatent : Symbol → (full rest : Content) → Type 0
+    IsEncodedByLatent =
+        IsCodedByLatent (IsDecodedByChosen Posterior posterior_rows precision PosteriorStands)
+        (IsEncodedByChosen Likelihood likelihood_rows precision likelihood_eq) (IsEncoded (entry_of prior_eq prior) precision)
+
+    -- the symbol is decoded, and the latent one decoded before and encoded after it
+    abbrev pub IsDecodedByLatent : Symbol → (full rest : Content) → Type 0
+    IsDecodedByLatent =
+        IsCodedByLatent (IsEncodedByChosen Posterior posterior_rows precision posterior_eq)
+        (IsDecodedByChosen Likelihood likelihood_rows precision LikelihoodStands) (IsDecoded PriorStands prior precision)
+
+    -- what follows for symbols that were encoded so
+    pub record BitsComeBack : Type 0 where
+      -- what is decoded after a symbol was encoded stands for an equal one, and the coder holds what it held before
+      pub symbol : (symbol answer : Symbol) (old full new : Content) → MayBeHeld old → MayBeHeld new → IsEncodedByLatent symbol full old
+          → IsDecodedByLatent answer full new → StandsForEqual LikelihoodStands likelihood_eq symbol answer × (new ≡ old)
+      -- so do several symbols, the one that was encoded last first
+      pub symbols : (symbols answers : List Symbol) (full old new : Content)
+          → InTurn (λ s above under. IsEncodedByLatent s above under × MayBeHeld under) symbols full old
+          → InTurn (λ s above under. IsDecodedByLatent s above under × MayBeHeld under) answers full new
+          → length answers ≡ length symbols → AllZip (StandsForEqual LikelihoodStands likelihood_eq) symbols answers × (new ≡ old)
+      -- the posterior of what is decoded after a symbol was encoded has an entry for the latent symbol
+      pub known : (symbol answer : Symbol) (latent : Latent) (full old coded : Content) (chosen : PosteriorModel)
+          → IsEncodedByLatent symbol full old → IsDecoded PriorStands prior precision latent full coded
+          → IsChosenByState Likelihood likelihood_rows precision LikelihoodStands latent answer coded → Posterior answer chosen
+          → entry_of posterior_eq (posterior_rows chosen) latent ≢ None

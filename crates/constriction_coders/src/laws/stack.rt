@@ -156,8 +156,8 @@ where
     }
 }
 
-/// A symbol that [`encode`](crate::stack::bits_back::encode) encoded and [`decode`](crate::stack::bits_back::decode) decoded comes back, if
-/// the models fit together.
+/// Symbols that [`encode`](crate::stack::bits_back::encode) encoded and [`decode`](crate::stack::bits_back::decode) decoded come back, if
+/// the models fit together. `decode` then fails only if memory is refused.
 pub fn bits_come_back<
     Symbol,
     Latent,

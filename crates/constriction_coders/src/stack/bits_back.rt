@@ -182,8 +182,9 @@ pub fn encode<
 
 /// Decodes a symbol that [`encode`] encoded by a latent one, and puts the latent one back on the coder.
 ///
-/// It fails with `ImpossibleSymbol` if the posterior of the symbol has no entry for the latent one; then no such symbol was encoded. It
-/// also fails if memory is refused, for a clone of either symbol or for a word. An error leaves the state and the words.
+/// It fails with `ImpossibleSymbol` if the posterior of the symbol has no entry for the latent one, which never comes after
+/// [`encode`] by models that fit together (`known` of [`bits_come_back`](crate::laws::bits_come_back)). It also fails if memory is
+/// refused, for a clone of either symbol or for a word. An error leaves the state and the words.
 pub fn decode<
     Symbol: Drop,
     Latent: Drop,

@@ -110,6 +110,7 @@ pub fn by_a_latent_number(coder: &mut AnsCoder<Vec<u32>>, symbol: usize) -> Opti
             may_be_held(coder);
             Some(answer)
         }
-        Err(_) => None,
+        Err(CoderError::Frontend(_)) => unreachable!(),
+        Err(CoderError::Backend(_)) => None,
     }
 }
