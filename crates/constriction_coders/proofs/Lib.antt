@@ -1,3 +1,4 @@
+pub mod Bits
 pub mod BitsComingBack
 pub mod Closing
 pub mod ComingBack

@@ -1,5 +1,5 @@
 -- A coder as words alone.
-use Rattle.std.specs.Prelude.{◌≡◌, ℕ, ◌/◌, ◌%◌, ◌^◌, ◌<◌, ◌≤◌, ◌⊎◌, List, [], ◌∷◌, ◌++◌}
+use Rattle.std.specs.Prelude.{◌≡◌, ℕ, ◌+◌, ◌*◌, ◌/◌, ◌%◌, ◌^◌, ◌<◌, ◌≤◌, ◌⊎◌, List, [], ◌∷◌, ◌++◌, length}
 use Rattle.constriction_coders.specs.Steps.{Content, MayBeHeld}
 
 -- all words of a content: those under the state, and then those of the state, the lower one first and without a leading zero
@@ -13,3 +13,13 @@ AreAllWordsOf c all =
 pub record IsCompressed (c : Content) (all : List ℕ) : Type 0 where
   pub held : MayBeHeld c
   pub words : AreAllWordsOf c all
+
+-- the coder holds the bits of these words, and a one-bit on top of them
+abbrev pub IsBinary : Content → List ℕ → Type 0
+IsBinary c words = IsCompressed c (words ++ 1 ∷ [])
+
+-- so many bits lie below the highest one-bit of a content; one without such a bit has none
+abbrev pub HasValidBits : Content → ℕ → Type 0
+HasValidBits c bits =
+    ((c.state ≡ 0) × (bits ≡ 0))
+    ⊎ ((top : ℕ) × (2 ^ top ≤ c.state) × (c.state < 2 * 2 ^ top) × (bits ≡ 32 * length c.words + top))

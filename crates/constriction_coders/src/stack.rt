@@ -1,6 +1,7 @@
 //! A stack coder over any stack of words: what was encoded last is decoded first.
 
 mod ans_coder;
+mod binary;
 pub mod bits_back;
 mod compressed;
 mod decoding_walk;

@@ -1,15 +1,15 @@
 //! What comes back from a stack coder, each law the contract of a function.
 
-ghost use Rattle.std.specs.Prelude.{◌≡◌, ◌≢◌, ◌≤◌, ℕ, Bool, List, Option, Ok, Err, IsTrue, length, reverse, IfOk, OnOk};
+ghost use Rattle.std.specs.Prelude.{◌≡◌, ◌≢◌, ◌*◌, ◌%◌, ◌≤◌, ℕ, Bool, List, [], Option, Ok, Err, IsTrue, length, reverse, IfOk, OnOk};
 ghost use Rattle.std.specs.Fn.{FnReturnsAt};
 ghost use Rattle.std.specs.List.{AllZip};
 ghost use Rattle.constriction_coders.specs.AnsCoder.{held_by, EncodingStops, DecodingStops, ReadsNoState, WritesState};
 ghost use Rattle.constriction_coders.specs.BitsBack.{FitTogether, BitsComeBack};
-ghost use Rattle.constriction_coders.specs.Compressed.{IsCompressed};
+ghost use Rattle.constriction_coders.specs.Compressed.{IsCompressed, IsBinary, HasValidBits};
 ghost use Rattle.constriction_coders.specs.Laws.{SymbolsComeBack, StackComesBack, EncodedOnce, EncodesThen, IsInvertible, DecodedGoesBack};
 ghost use Rattle.constriction_coders.specs.Places.{placed, entry_at, IsDecodedAt};
 ghost use Rattle.constriction_coders.specs.Positions.{PlaceComesBack};
-ghost use Rattle.constriction_coders.specs.Steps.{Content, MayBeHeld, IsDecoded};
+ghost use Rattle.constriction_coders.specs.Steps.{Content, content, MayBeHeld, IsDecoded};
 ghost use Rattle.constriction.specs.Coding.{InTurn, StandsForEqual};
 ghost use Rattle.constriction.specs.Model.{ClonesAreEqual};
 ghost use Rattle.constriction.specs.Entries.{SameEntries};
@@ -61,6 +61,17 @@ pub fn may_be_held<Backend: WordStack<u32>>(coder: &AnsCoder<Backend>)
 /// Words are those of at most one coder.
 pub fn compressed_once()
     ensures { (a b : Content) (all : List ℕ) → IsCompressed a all → IsCompressed b all → a ≡ b }
+{}
+
+/// A coder holds the bits of at most one list of words. So [`into_binary`](AnsCoder::into_binary) gives the words of which
+/// [`from_binary`](AnsCoder::from_binary) made the coder, also if symbols were decoded and encoded again in between. It holds those of
+/// some words if it holds something and its bits fill words.
+pub fn binary_comes_back()
+    ensures once { (held : Content) (words others : List ℕ) → IsBinary held words → IsBinary held others → words ≡ others }
+    ensures filled { (held : Content) (words : List ℕ) (bits : ℕ) → HasValidBits held bits → IsBinary held words
+        → bits ≡ 32 * length words }
+    ensures words { (held : Content) (bits : ℕ) → MayBeHeld held → HasValidBits held bits → bits % 32 ≡ 0 → held ≢ content 0 []
+        → (words : List ℕ) × IsBinary held words }
 {}
 
 /// A symbol that was decoded goes back, if the symbols of the rows differ and clones equal their symbols.

@@ -10,7 +10,9 @@ ghost use Rattle.constriction_coders.specs.StackMessages.{IsStackOf};
 use constriction::CoderError;
 use constriction::laws::contiguous_symbols_differ;
 use constriction::stream::model::{DecoderModel, EncoderModel, EntropyModel, UniformModel};
-use constriction_coders::laws::{bits_come_back, encoded_once, may_be_held, symbols_come_back};
+use constriction_coders::laws::{
+    back_and_there, binary_comes_back, bits_come_back, encoded_once, may_be_held, symbols_come_back,
+};
 use constriction_coders::stack::AnsCoder;
 use constriction_coders::stack::bits_back::{decode, encode};
 use std::alloc::Global;
@@ -112,5 +114,27 @@ pub fn by_a_latent_number(coder: &mut AnsCoder<Vec<u32>>, symbol: usize) -> Opti
         }
         Err(CoderError::Frontend(_)) => unreachable!(),
         Err(CoderError::Backend(_)) => None,
+    }
+}
+
+/// A number is decoded from any words and encoded again, and the words come back.
+pub fn through_a_number(words: Vec<u32>) -> Option<Vec<u32>>
+    ensures { IfSome result (λ again. again.items ≡ words.items) }
+{
+    contiguous_symbols_differ();
+    binary_comes_back();
+    let model = Numbers::new(3);
+    let mut coder = match AnsCoder::from_binary(words) {
+        Ok(coder) => coder,
+        Err(error) => match error {},
+    };
+    match back_and_there(&mut coder, &model, &model) {
+        Ok(_) => {}
+        Err(_) => return None,
+    }
+    match coder.into_binary() {
+        Ok(again) => Some(again),
+        Err(Some(_)) => None,
+        Err(None) => unreachable!(),
     }
 }
