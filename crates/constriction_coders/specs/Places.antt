@@ -2,6 +2,8 @@
 -- beforehand, the state is the list of those that are left; if they are learned, it is what was learned; of one model there is one state.
 use Rattle.std.specs.Prelude.{◌≡◌, ℕ, List, [], ◌∷◌, Bool, Option}
 use Rattle.constriction.specs.Rows.{Row, RowsTile, entry_of}
+use Rattle.constriction_coders.specs.Spans.{IsMessageOf}
+use Rattle.constriction_coders.specs.StackMessages.{IsStackOf}
 
 module _ {State Symbol : Type 0} where
   -- the symbols, each with the state in which it is coded
@@ -12,6 +14,16 @@ module _ {State Symbol : Type 0} where
   -- the entry of a symbol in its state
   abbrev pub entry_at : (State → Symbol → Option (ℕ × ℕ)) → State × Symbol → Option (ℕ × ℕ)
   entry_at entry place = entry place.0 place.1
+
+  module _ (entry : State → Symbol → Option (ℕ × ℕ)) (next : State → Symbol → State) (precision : ℕ) (first : State)
+      (symbols : List Symbol) (words : List ℕ) where
+    -- these are the words of these symbols in a range coder, the first one in the first state
+    abbrev pub IsMessageFrom : Type 0
+    IsMessageFrom = IsMessageOf (entry_at entry) precision (placed next first symbols) words
+
+    -- the same on a stack, with the first symbol on top
+    abbrev pub IsStackFrom : Type 0
+    IsStackFrom = IsStackOf (entry_at entry) precision (placed next first symbols) words
 
 -- a symbol is decoded by the rows of its state, which tile the quantiles and have its entries
 pub record IsDecodedAt {State Symbol Content : Type 0} (eq : Symbol → Symbol → Bool) (entry : State → Symbol → Option (ℕ × ℕ))

@@ -91,9 +91,12 @@ fn refilled<Backend: WordStack<u32>>(
 impl<Backend: WordStack<u32>> AnsCoder<Backend> {
     ghost use Rattle.constriction_coders.specs.AnsCoder.{held_by};
 
-    /// Puts a symbol of this entry on top.
+    /// Puts on top a symbol that has this left cumulative and weight. [`encode_symbol`](Self::encode_symbol) asks a model for them; symbols
+    /// whose entries are known before they are encoded need no model any more.
+    ///
+    /// The error is that of a write. It leaves the state and the words.
     #[inline]
-    pub(crate) fn put_entry<const PRECISION: usize>(
+    pub fn put_entry<const PRECISION: usize>(
         &mut self,
         left: u32,
         weight: u32,
