@@ -1,0 +1,4 @@
+pub mod Bits
+pub mod Entries
+pub mod Rows
+pub mod Runs

@@ -1,0 +1,107 @@
+-- Runs of symbols in their states: they grow at the end, are joined, and stop.
+use Rattle.std.proofs.Common.{◌≡◌, ℕ, ◌+◌, ◌<◌, suc, Bool, List, [], ◌∷◌, ◌++◌, fold, length, take, drop, get_or, Some, refl, ap, sym, ◌∙◌, subst}
+use Rattle.std.specs.List.{AllZip}
+use Rattle.std.proofs.lemmas.List.{take_more}
+use Rattle.std.proofs.lemmas.List.Sums.{fold-append}
+use Rattle.constriction.specs.Coding.{InTurn}
+use Rattle.constriction.specs.Rows.{Row, RowsTile, entry_of}
+use Rattle.constriction_coders.specs.Places.{placed, entry_at, IsDecodedAt}
+use Rattle.constriction_coders.specs.Spans.{Span, IsNarrowed}
+use Rattle.constriction_coders.proofs.Stopping.{split-at-symbol}
+use Rattle.constriction_adaptive.specs.Predicted.{entry_in, AreCoded, DecodingStops, EncodingStops}
+
+module _ {State Symbol : Type 0} (next : State → Symbol → State) where
+  pub placed-append : (first : State) (xs ys : List Symbol) → placed next first (xs ++ ys) ≡ placed next first xs ++ placed next (fold next first xs) ys
+  placed-append first [] ys = refl
+  placed-append first (x ∷ xs) ys = ap (λ (ps : List (State × Symbol)). (first, x) ∷ ps) (placed-append (next first x) xs ys)
+
+  module _ {C : Type 0} (Step : State × Symbol → C → C → Type 0) where
+    turn-append : (first : State) (xs ys : List Symbol) (a b c : C) → InTurn Step (placed next first xs) a b
+        → InTurn Step (placed next (fold next first xs) ys) b c → InTurn Step (placed next first (xs ++ ys)) a c
+    turn-append first [] ys a b c p q = subst (λ (x : C). InTurn Step (placed next first ys) x c) (sym p) q
+    turn-append first (x ∷ xs) ys a b c p q = (p.0, p.1, turn-append (next first x) xs ys p.0 b c p.2 q)
+
+    -- symbols after other symbols
+    pub coded-append : (xs ys : List Symbol) (first : State) (old : C) (between : State) (mid : C) (last : State) (new : C)
+        → AreCoded next Step xs first old between mid → AreCoded next Step ys between mid last new
+        → AreCoded next Step (xs ++ ys) first old last new
+    coded-append xs ys first old between mid last new p q = record {
+      led =
+          turn-append first xs ys old mid new p.led
+          (subst (λ (s : State). InTurn Step (placed next s ys) mid new) p.learned q.led);
+      learned = q.learned ∙ ap (λ (s : State). fold next s ys) p.learned ∙ sym (fold-append next first xs ys);
+    }
+
+    -- one symbol more
+    pub coded-push : (xs : List Symbol) (x : Symbol) (first : State) (old : C) (between : State) (mid : C) (last : State) (new : C)
+        → AreCoded next Step xs first old between mid → Step (between, x) mid new → last ≡ next between x
+        → AreCoded next Step (xs ++ x ∷ []) first old last new
+    coded-push xs x first old between mid last new p step learned =
+        coded-append xs (x ∷ []) first old between mid last new p (record { led = (new, step, refl); learned = learned })
+
+    module _ (xs : List Symbol) (i : ℕ) (x : Symbol) (less : i < length xs) (is : x ≡ get_or xs i x) (first : State) (old : C)
+        (between : State) (mid : C) (coded : AreCoded next Step (take i xs) first old between mid) where
+      -- the next one of some symbols
+      pub coded-take : (last : State) (new : C) → Step (between, x) mid new → last ≡ next between x
+          → AreCoded next Step (take (i + 1) xs) first old last new
+      coded-take last new step learned =
+          let more : take (i + 1) xs ≡ take i xs ++ x ∷ [] = take_more xs i x less ∙ ap (λ y. take i xs ++ y ∷ []) (sym is) in
+          subst (λ (ys : List Symbol). AreCoded next Step ys first old last new) (sym more)
+          (coded-push (take i xs) x first old between mid last new coded step learned)
+
+      -- or it is not coded, and nothing changes
+      pub encoding-stops : (Fault : State × Symbol → C → Type 0) (last : State) (new : C) → Fault (between, x) mid → last ≡ between
+          → new ≡ mid → EncodingStops next Step Fault xs first old last new
+      encoding-stops Fault last new fault unlearned same =
+          subst (λ (s : State). EncodingStops next Step Fault xs first old s new) (sym unlearned)
+          (subst (λ (c : C). EncodingStops next Step Fault xs first old between c) (sym same) (record {
+            done = take i xs;
+            symbol = x;
+            after = drop (suc i) xs;
+            split = split-at-symbol xs i x less is;
+            coded = coded;
+            fault = fault;
+          }))
+
+    pub decoding-stops : (Fault : C → C → Type 0) (count : ℕ) (xs : List Symbol) (first : State) (old : C) (between : State) (mid : C)
+        (last : State) (new : C) → AreCoded next Step xs first old between mid → length xs < count → Fault mid new → last ≡ between
+        → DecodingStops next Step Fault count first old last new
+    decoding-stops Fault count xs first old between mid last new coded fewer fault unlearned = record {
+      done = xs;
+      reached = mid;
+      coded = record { led = coded.led; learned = unlearned ∙ coded.learned };
+      fewer = fewer;
+      fault = fault;
+    }
+
+  -- what comes back leads to the same state
+  pub same-state : (Back : Symbol → Symbol → Type 0) → ((s : State) (x a : Symbol) → Back x a → next s a ≡ next s x) → (first : State)
+      (symbols answers : List Symbol) → AllZip Back symbols answers → fold next first answers ≡ fold next first symbols
+  same-state Back same first [] [] h = refl
+  same-state Back same first [] (a ∷ ts) h = absurd h
+  same-state Back same first (x ∷ xs) [] h = absurd h
+  same-state Back same first (x ∷ xs) (a ∷ ts) h =
+      ap (λ (s : State). fold next s ts) (same first x a h.0) ∙ same-state Back same (next first x) xs ts h.1
+
+-- ---- a symbol that is coded by a model with the rows of a state
+
+module _ {State Symbol : Type 0} (rows : State → List (Row Symbol)) (eq : Symbol → Symbol → Bool) (precision : ℕ)
+    (made : List (Row Symbol)) (state : State) (is : made ≡ rows state) where
+  pub narrowed-in : (symbol : Symbol) (old new : Span) → IsNarrowed (entry_of eq made) precision symbol old new
+      → IsNarrowed (entry_at (entry_in rows eq)) precision (state, symbol) old new
+  narrowed-in symbol old new step = record {
+    left = step.left;
+    weight = step.weight;
+    known = subst (λ (r : List (Row Symbol)). entry_of eq r symbol ≡ Some (step.left, step.weight)) is step.known;
+    within = step.within;
+    next = step.next;
+  }
+
+  pub decoded-in : {C : Type 0} (Step : List (Row Symbol) → Symbol → C → C → Type 0) (symbol : Symbol) (old new : C)
+      → RowsTile 32 precision made → Step made symbol old new
+      → IsDecodedAt eq (entry_in rows eq) rows precision Step (state, symbol) old new
+  decoded-in {C = C} Step symbol old new tile step = record {
+    tile = subst (λ (r : List (Row Symbol)). RowsTile 32 precision r) is tile;
+    alike = λ s. refl;
+    step = subst (λ (r : List (Row Symbol)). Step r symbol old new) is step;
+  }

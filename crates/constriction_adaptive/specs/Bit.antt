@@ -1,0 +1,18 @@
+-- A model of one bit.
+use Rattle.std.specs.Prelude.{ℕ, ◌-◌, List, [], ◌∷◌, Bool, true, false}
+use Rattle.std.proofs.Common.{suc, zero}
+use Rattle.constriction.specs.Rows.{Row, rows_of}
+
+-- the rows of a bit that is 0 with this weight out of 2 ^ 16
+abbrev pub bit_rows : ℕ → List (Row Bool)
+bit_rows weight = rows_of (false ∷ true ∷ []) (weight ∷ (65536 - weight) ∷ [])
+
+-- a weight, but 1 for 0
+abbrev pub at_least_one : ℕ → ℕ
+at_least_one zero = 1
+at_least_one (suc n) = suc n
+
+-- a bit as a number
+abbrev pub bit_number : Bool → ℕ
+bit_number false = 0
+bit_number true = 1

@@ -1,0 +1,103 @@
+-- Symbols that are predicted: each is coded in a state, by the rows that the state predicts, and leads to the next state.
+use Rattle.std.specs.Prelude.{◌≡◌, ℕ, ◌*◌, ◌^◌, ◌<◌, Bool, List, ◌∷◌, ◌++◌, fold, length, Option, Some, None, Result, Err}
+use Rattle.constriction.specs.Coding.{InTurn}
+use Rattle.constriction.specs.declared.CoderError.{CoderError}
+use Rattle.constriction.specs.declared.CoderError.TheVariants.{Frontend, Backend}
+use Rattle.constriction.specs.Rows.{Row, entry_of}
+use Rattle.constriction_coders.specs.Intervals.{Held, IsRead, IsAboveAll, unit_of}
+use Rattle.constriction_coders.specs.Places.{placed, entry_at, IsDecodedAt}
+use Rattle.constriction_coders.specs.Spans.{Span}
+use Rattle.constriction_coders.specs.Steps.{Content, IsDecoded, IsEncoded}
+use Rattle.constriction_coders.specs.declared.queue.range_decoder.DecoderFrontendError.{DecoderFrontendError}
+use Rattle.constriction_coders.specs.declared.queue.range_decoder.DecoderFrontendError.TheVariants as decoding
+use Rattle.constriction_adaptive.specs.declared.error.EncoderFrontendError.{EncoderFrontendError}
+use Rattle.constriction_adaptive.specs.declared.error.EncoderFrontendError.TheVariants as encoding
+
+-- ---- a symbol in its state
+
+module _ {State Symbol : Type 0} (rows : State → List (Row Symbol)) where
+  -- the entry of a symbol by the rows of a state
+  abbrev pub entry_in : (Symbol → Symbol → Bool) → State → Symbol → Option (ℕ × ℕ)
+  entry_in eq state = entry_of eq (rows state)
+
+  module _ (Stands : Symbol → Symbol → Type 0) (eq : Symbol → Symbol → Bool) (precision : ℕ) where
+    -- a symbol is decoded from a range coder by the rows of its state
+    abbrev pub IsReadIn : {S E : Type 0} → (S → Result (Option ℕ) E → S → Type 0) → State × Symbol → Held S → Held S → Type 0
+    IsReadIn gives = IsDecodedAt eq (entry_in eq) rows precision (λ own. IsRead Stands own gives precision)
+
+    -- the same from a stack
+    abbrev pub IsTakenIn : State × Symbol → Content → Content → Type 0
+    IsTakenIn = IsDecodedAt eq (entry_in eq) rows precision (λ own. IsDecoded Stands own precision)
+
+-- ---- why a symbol was not coded
+
+-- The symbol of a place has no entry; memory to learn it was refused; or memory was refused to a word that was to be written.
+abbrev pub IsEncodingFault : {Place E : Type 0} → (Place → Option (ℕ × ℕ)) → (precision : ℕ) → CoderError EncoderFrontendError E → Place
+    → Span → Type 0
+IsEncodingFault entry precision (Frontend encoding.ImpossibleSymbol) place s = entry place ≡ None
+IsEncodingFault entry precision (Frontend encoding.OutOfMemory) place s = Unit {0}
+IsEncodingFault entry precision (Backend error) place s =
+    (left weight : ℕ) × (entry place ≡ Some (left, weight)) × (unit_of precision s.size * weight < 2 ^ 32)
+
+-- The point of a range decoder lies above all parts; memory was refused, to the symbol or to learn it; or a read failed, which alone
+-- changes the source.
+abbrev pub IsReadingFault : {S E : Type 0} → (S → Result (Option ℕ) E → S → Type 0) → (precision : ℕ) → CoderError DecoderFrontendError E
+    → Held S → S → Type 0
+IsReadingFault gives precision (Frontend decoding.InvalidData) at left = IsAboveAll precision at.held × (left ≡ at.source)
+IsReadingFault gives precision (Frontend decoding.OutOfMemory) at left = left ≡ at.source
+IsReadingFault gives precision (Backend error) at left = gives at.source (Err error) left
+
+-- ---- several symbols
+
+module _ {State Symbol C : Type 0} (next : State → Symbol → State) (Step : State × Symbol → C → C → Type 0) where
+  -- the symbols were coded and learned, the first one in the state `first`
+  pub record AreCoded (symbols : List Symbol) (first : State) (old : C) (last : State) (new : C) : Type 0 where
+    pub led : InTurn Step (placed next first symbols) old new
+    pub learned : last ≡ fold next first symbols
+
+  -- the symbols before one were coded and learned, and that one was neither
+  pub record EncodingStops (Fault : State × Symbol → C → Type 0) (symbols : List Symbol) (first : State) (old : C) (last : State) (new : C)
+      : Type 0 where
+    pub done : List Symbol
+    pub symbol : Symbol
+    pub after : List Symbol
+    pub split : symbols ≡ done ++ symbol ∷ after
+    pub coded : AreCoded done first old last new
+    pub fault : Fault (last, symbol) new
+
+  -- fewer than `count` symbols were coded and learned, and the next one was neither
+  pub record DecodingStops (Fault : C → C → Type 0) (count : ℕ) (first : State) (old : C) (last : State) (new : C) : Type 0 where
+    pub done : List Symbol
+    pub reached : C
+    pub coded : AreCoded done first old last reached
+    pub fewer : length done < count
+    pub fault : Fault reached new
+
+-- Symbols up to one were learned, and nothing was encoded: that one has no entry, or memory was refused.
+abbrev pub StopsPredicting : {State Symbol : Type 0} → (State → Symbol → State) → (State → Symbol → Option (ℕ × ℕ)) → List Symbol
+    → EncoderFrontendError → State → State → Type 0
+StopsPredicting {Symbol = Symbol} next entry symbols encoding.ImpossibleSymbol first last =
+    (done : List Symbol) × (symbol : Symbol) × (after : List Symbol) × (symbols ≡ done ++ symbol ∷ after) × (last ≡ fold next first done)
+    × (entry last symbol ≡ None)
+StopsPredicting {Symbol = Symbol} next entry symbols encoding.OutOfMemory first last =
+    (done : List Symbol) × (after : List Symbol) × (symbols ≡ done ++ after) × (last ≡ fold next first done)
+
+-- ---- on a stack, where symbols are encoded from the last one to the first
+
+module _ {State Symbol : Type 0} (next : State → Symbol → State) where
+  -- the symbols were learned and then encoded, so that the first one is on top
+  pub record AreStacked (entry : State × Symbol → Option (ℕ × ℕ)) (precision : ℕ) (symbols : List Symbol) (first : State) (old : Content)
+      (last : State) (new : Content) : Type 0 where
+    pub led : InTurn (IsEncoded entry precision) (placed next first symbols) new old
+    pub learned : last ≡ fold next first symbols
+
+  -- Nothing was encoded, since a symbol has no entry or memory was refused; or all symbols were learned, and a write failed after those
+  -- after a symbol were encoded.
+  abbrev pub StackingStops : {E : Type 0} → (State → Symbol → Option (ℕ × ℕ)) → (precision : ℕ) → List Symbol
+      → CoderError EncoderFrontendError E → State → Content → State → Content → Type 0
+  StackingStops entry precision symbols (Frontend error) first old last new =
+      StopsPredicting next entry symbols error first last × (new ≡ old)
+  StackingStops entry precision symbols (Backend error) first old last new =
+      (done : List Symbol) × (symbol : Symbol) × (after : List Symbol) × (symbols ≡ done ++ symbol ∷ after)
+      × (last ≡ fold next first symbols)
+      × InTurn (IsEncoded (entry_at entry) precision) (placed next (next (fold next first done) symbol) after) new old

@@ -1,0 +1,131 @@
+//! Several symbols, and what comes back from a stack.
+
+ghost use Rattle.std.specs.Prelude.{◌≡◌, ◌⊎◌, OnOk, IfOk, IfErr, length};
+ghost use Rattle.std.specs.List.{AllZip};
+ghost use Rattle.constriction.specs.Coding.{StandsForEqual};
+ghost use Rattle.constriction_coders.specs.AnsCoder.{held_by};
+ghost use Rattle.constriction_coders.specs.Laws.{StackComesBack};
+ghost use Rattle.constriction_coders.specs.Places.{placed, entry_at};
+ghost use Rattle.constriction_coders.specs.Steps.{IsEncoded};
+ghost use Rattle.constriction_adaptive.specs.Predicted.{entry_in, AreCoded, AreStacked, DecodingStops, IsTakenIn, StackingStops};
+
+use crate::error::EncoderFrontendError;
+use crate::predictor::Predictor;
+use crate::stack::entries::entries_of;
+use crate::stack::next::decode_next;
+use constriction::CoderError;
+use constriction::backends::WordStack;
+use constriction_coders::laws::MessageError;
+use constriction_coders::stack::AnsCoder;
+use std::alloc::{AllocError, Global};
+
+/// What is encoded from a state on comes back to a decoder whose predictor begins in that state.
+pub fn symbols_come_back<P, const PRECISION: usize>()
+where
+    P: Predictor<PRECISION>,
+    ensures { (first : P.State) → StackComesBack (placed P.next first) (entry_at (entry_in P.rows P.Model.symbol_eq)) PRECISION
+        (IsTakenIn P.rows P.Model.stands_for P.Model.symbol_eq PRECISION) (StandsForEqual P.Model.stands_for P.Model.symbol_eq) }
+{}
+
+/// Predicts the symbols from the first to the last, and encodes them from the last to the first, so that decoding gives them in order.
+///
+/// Eight bytes a symbol are asked for until they are encoded. If a symbol has no entry, or memory is refused, nothing is encoded, and the
+/// symbols before that one were learned. If a write fails, the symbols after one are encoded, and all were learned.
+pub fn encode_adaptively<P, Backend, const PRECISION: usize>(
+    alloc: Global,
+    predictor: &mut P,
+    symbols: &[P::Symbol],
+    coder: &mut AnsCoder<Backend>,
+) -> Result<(), CoderError<EncoderFrontendError, Backend::WriteError>>
+where
+    P: Predictor<PRECISION>,
+    Backend: WordStack<u32>,
+    ensures ok { OnOk result (AreStacked P.next (entry_at (entry_in P.rows P.Model.symbol_eq)) PRECISION symbols.now
+        (P.state predictor.old) (held_by coder.old) (P.state predictor.new) (held_by coder.new)) }
+    ensures err { IfErr result (λ error. StackingStops P.next (entry_in P.rows P.Model.symbol_eq) PRECISION symbols.now error
+        (P.state predictor.old) (held_by coder.old) (P.state predictor.new) (held_by coder.new)) }
+{
+    let model = predictor.model();
+    let entries = match entries_of(alloc, predictor, symbols) {
+        Ok(entries) => entries,
+        Err(error) => return Err(CoderError::Frontend(error)),
+    };
+    let count = entries.len();
+    for done in 0..count {
+        let (left, weight) = entries[count - 1 - done];
+        match coder.put_entry::<PRECISION>(left, weight) {
+            Ok(()) => {}
+            Err(error) => return Err(CoderError::Backend(error)),
+        }
+    }
+    Ok(())
+}
+
+/// Decodes `count` symbols, the one on top first, each by the model that the predictor has for it.
+///
+/// Memory for all of them is asked for first: if `count` comes from outside, use [`decode_next`](crate::stack::decode_next). The symbols
+/// before one that is not decoded are dropped, but stay decoded and learned.
+pub fn decode_adaptively<P, Backend, const PRECISION: usize>(
+    alloc: Global,
+    predictor: &mut P,
+    count: usize,
+    coder: &mut AnsCoder<Backend>,
+) -> Result<Vec<P::Symbol>, CoderError<AllocError, Backend::ReadError>>
+where
+    P: Predictor<PRECISION>,
+    P::Symbol: Drop,
+    Backend: WordStack<u32>,
+    ensures ok { IfOk result (λ answers. AreCoded P.next (IsTakenIn P.rows P.Model.stands_for P.Model.symbol_eq PRECISION) answers.items
+        (P.state predictor.old) (held_by coder.old) (P.state predictor.new) (held_by coder.new)) }
+    ensures count { IfOk result (λ answers. length answers.items ≡ count) }
+    ensures err { IfErr result (λ error. DecodingStops P.next (IsTakenIn P.rows P.Model.stands_for P.Model.symbol_eq PRECISION)
+        (λ reached new. new ≡ reached) count (P.state predictor.old) (held_by coder.old) (P.state predictor.new) (held_by coder.new)
+        ⊎ ((P.state predictor.new ≡ P.state predictor.old) × (held_by coder.new ≡ held_by coder.old))) }
+{
+    let mut answers = match Vec::with_capacity(alloc, count) {
+        Ok(answers) => answers,
+        Err(error) => return Err(CoderError::Frontend(error)),
+    };
+    for done in 0..count {
+        match decode_next(predictor, coder) {
+            Ok(symbol) => answers.push_reserved(symbol),
+            Err(error) => return Err(error),
+        }
+    }
+    Ok(answers)
+}
+
+/// Encodes the symbols and decodes as many. If both predictors begin in one state, the symbols come back, whatever is predicted, both end in
+/// one state, and the coder holds what it held.
+pub fn there_and_back<P, Backend, const PRECISION: usize>(
+    alloc: Global,
+    encoding: &mut P,
+    decoding: &mut P,
+    symbols: &[P::Symbol],
+    coder: &mut AnsCoder<Backend>,
+) -> Result<
+    Vec<P::Symbol>,
+    MessageError<
+        CoderError<EncoderFrontendError, Backend::WriteError>,
+        CoderError<AllocError, Backend::ReadError>,
+    >,
+>
+where
+    P: Predictor<PRECISION>,
+    P::Symbol: Drop,
+    Backend: WordStack<u32>,
+    requires { P.state decoding.old ≡ P.state encoding.old }
+    ensures back { IfOk result (λ answers. AllZip (StandsForEqual P.Model.stands_for P.Model.symbol_eq) symbols.now answers.items) }
+    ensures learned { OnOk result (P.state decoding.new ≡ P.state encoding.new) }
+    ensures same { OnOk result (held_by coder.new ≡ held_by coder.old) }
+{
+    symbols_come_back::<P, PRECISION>();
+    match encode_adaptively(alloc, encoding, symbols, coder) {
+        Ok(()) => {}
+        Err(error) => return Err(MessageError::Encoding(error)),
+    }
+    match decode_adaptively(alloc, decoding, symbols.len(), coder) {
+        Ok(answers) => Ok(answers),
+        Err(error) => Err(MessageError::Decoding(error)),
+    }
+}
