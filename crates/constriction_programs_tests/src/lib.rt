@@ -11,6 +11,8 @@ mod checks;
 #[cfg(test)]
 mod known;
 #[cfg(test)]
+mod learned;
+#[cfg(test)]
 mod packing;
 #[cfg(test)]
 mod runs;
