@@ -82,7 +82,7 @@ pub(crate) fn stack_encode<const PRECISION: usize>(
 {
     let model = contiguous_model_of::<PRECISION>(alloc, weights)?;
     let mut coder = AnsCoder::new(alloc);
-    match coder.encode_symbols_reverse(symbols, &model) {
+    match coder.encode_iid_slice_reverse(symbols, &model) {
         Ok(()) => {}
         Err(CoderError::Frontend(_)) => return Err(Refusal::ImpossibleSymbol),
         Err(CoderError::Backend(_)) => return Err(Refusal::OutOfMemory),
@@ -107,7 +107,7 @@ pub(crate) fn stack_decode<const PRECISION: usize>(
         Ok(coder) => coder,
         Err(_) => return Err(Refusal::EndsInZero),
     };
-    match coder.decode_symbols(alloc, count, &model) {
+    match coder.decode_iid_vec(alloc, count, &model) {
         Ok(symbols) => Ok(symbols),
         Err(_) => Err(Refusal::OutOfMemory),
     }
@@ -123,7 +123,7 @@ pub(crate) fn queue_encode<const PRECISION: usize>(
 {
     let model = contiguous_model_of::<PRECISION>(alloc, weights)?;
     let mut encoder = RangeEncoder::new(alloc);
-    match encoder.encode_symbols(symbols, &model) {
+    match encoder.encode_iid_slice(symbols, &model) {
         Ok(()) => {}
         Err(CoderError::Frontend(_)) => return Err(Refusal::ImpossibleSymbol),
         Err(CoderError::Backend(_)) => return Err(Refusal::OutOfMemory),
@@ -148,7 +148,7 @@ pub(crate) fn queue_decode<const PRECISION: usize>(
         Ok(decoder) => decoder,
         Err(_) => return Err(Refusal::Damaged),
     };
-    match decoder.decode_symbols(alloc, count, &model) {
+    match decoder.decode_iid_vec(alloc, count, &model) {
         Ok(symbols) => Ok(symbols),
         Err(CoderError::Frontend(DecoderFrontendError::OutOfMemory)) => Err(Refusal::OutOfMemory),
         Err(_) => Err(Refusal::Damaged),

@@ -1,7 +1,8 @@
 -- Symbols that an iterator gives, and that are encoded as they come.
-use Rattle.std.proofs.Common.{List, [], ◌∷◌, ◌++◌, Option, Result, Ok, Err, reverse, ap, sym, subst}
-use Rattle.std.proofs.lemmas.List.{reverse-append}
+use Rattle.std.proofs.Common.{◌≡◌, List, [], ◌∷◌, ◌++◌, Option, Some, None, Result, Ok, Err, map, reverse, refl, ap, sym, ◌∙◌, subst}
+use Rattle.std.proofs.lemmas.List.{map-append, reverse-append}
 use Rattle.std.specs.Iterator.{Yields}
+use Rattle.std.specs.Prelude.{MatchOption}
 use Rattle.constriction.specs.Coding.{InTurn}
 use Rattle.constriction_backends.specs.Sink.{TakesItems}
 
@@ -32,3 +33,59 @@ module _ {Symbol I R : Type 0} (inner : R → I) (steps : I → Option Symbol �
       (done, (inner last, (inner rest, inner-yields s done rest given, end)), all)
   inner-takes s (Err e) OfAll OfThose (done, symbol, last, (rest, given, step), those) =
       (done, symbol, inner last, (inner rest, inner-yields s done rest given, step), those)
+
+-- ---- symbols that are given with the same model
+
+map-reverse : {A B : Type 0} (f : A → B) (xs : List A) → reverse (map f xs) ≡ map f (reverse xs)
+map-reverse f [] = refl
+map-reverse f (x ∷ xs) =
+    reverse-append (f x ∷ []) (map f xs) ∙ ap (λ ys. ys ++ f x ∷ []) (map-reverse f xs) ∙ sym (map-append f (reverse xs) (x ∷ []))
+    ∙ ap (map f) (sym (reverse-append (x ∷ []) xs))
+
+-- a step at a place that is made of a symbol is a step at the symbol
+module _ {Symbol Place C : Type 0} (Step : Place → C → C → Type 0) (Own : Symbol → C → C → Type 0) (place : Symbol → Place)
+    (so : (x : Symbol) (a b : C) → Step (place x) a b → Own x a b) where
+  pub turns-own : (xs : List Symbol) (a b : C) → InTurn Step (map place xs) a b → InTurn Own xs a b
+  turns-own [] a b same = same
+  turns-own (x ∷ xs) a b (j, step, others) = (j, so x a j step, turns-own xs j b others)
+
+  pub turns-own-back : (xs : List Symbol) (a b : C) → InTurn Step (reverse (map place xs)) a b → InTurn Own (reverse xs) a b
+  turns-own-back xs a b led =
+      turns-own (reverse xs) a b (subst (λ (ps : List Place). InTurn Step ps a b) (map-reverse place xs) led)
+
+-- an iterator that gives what another inside it gives, each time with its model
+module _ {Symbol Model I W : Type 0} (inner : W → I) (model : W → Model) (steps : I → Option Symbol → I → Type 0) where
+  abbrev Gives : W → Option (Symbol × Model) → W → Type 0
+  Gives s r t =
+      (model t ≡ model s) × MatchOption r (steps (inner s) None (inner t))
+      (λ pair. steps (inner s) (Some pair.0) (inner t) × (pair.1 ≡ model s))
+
+  given-with : (m : Model) (s : W) (pairs : List (Symbol × Model)) (t : W) → model s ≡ m → Yields Gives s pairs t
+      → (xs : List Symbol) × (pairs ≡ map (λ x. (x, m)) xs) × Yields steps (inner s) xs (inner t) × (model t ≡ m)
+  given-with m s [] t is e = ([], refl, ap inner e, sym (ap model e) ∙ is)
+  given-with m s (p ∷ ps) t is (j, step, others) =
+      let rest = given-with m j ps t (step.0 ∙ is) others in (
+        p.0 ∷ rest.0,
+        ap (λ n. (p.0, n) ∷ ps) (step.1.1 ∙ is) ∙ ap (λ (qs : List (Symbol × Model)). (p.0, m) ∷ qs) rest.1,
+        (inner j, step.1.0, rest.2),
+        rest.3,
+      )
+
+  pub taken-with : {E : Type 0} (m : Model) (s : W) (r : Result (Unit {0}) E) (OfPairs : List (Symbol × Model) → Type 0)
+      (OfThosePairs : List (Symbol × Model) → Symbol × Model → E → Type 0) (OfAll : List Symbol → Type 0)
+      (OfThose : List Symbol → Symbol → E → Type 0) → model s ≡ m → ((xs : List Symbol) → OfPairs (map (λ x. (x, m)) xs) → OfAll xs)
+      → ((xs : List Symbol) (x : Symbol) (e : E) → OfThosePairs (map (λ x. (x, m)) xs) (x, m) e → OfThose xs x e)
+      → TakesItems Gives s r OfPairs OfThosePairs → TakesItems steps (inner s) r OfAll OfThose
+  taken-with m s (Ok x) OfPairs OfThosePairs OfAll OfThose is all those (pairs, (last, (rest, given, end)), of) =
+      let told = given-with m s pairs rest is given in
+      (told.0, (inner last, (inner rest, told.2, end.1)), all told.0 (subst OfPairs told.1 of))
+  taken-with m s (Err e) OfPairs OfThosePairs OfAll OfThose is all those (pairs, pair, last, (rest, given, step), of) =
+      let told = given-with m s pairs rest is given in
+      let by : pair.1 ≡ m = step.1.1 ∙ told.3 in (
+        told.0,
+        pair.0,
+        inner last,
+        (inner rest, told.2, step.1.0),
+        those told.0 pair.0 e (subst (λ n. OfThosePairs (map (λ x. (x, m)) told.0) (pair.0, n) e) by
+            (subst (λ (ps : List (Symbol × Model)). OfThosePairs ps pair e) told.1 of)),
+      )

@@ -13,10 +13,12 @@ pub mod Narrowing
 pub mod NarrowingStops
 pub mod NumberLemmas
 pub mod Once
+pub mod PairsComingBack
 pub mod PlacesComingBack
 pub mod Placing
 pub mod PublishedWords
 pub mod RangePlacing
+pub mod SameEntry
 pub mod Sealing
 pub mod Spanning
 pub mod Stacking

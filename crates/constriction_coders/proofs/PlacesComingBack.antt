@@ -15,6 +15,17 @@ use Rattle.constriction_coders.specs.Steps.{Content, content, IsEncoded}
 use Rattle.constriction_coders.proofs.Sealing.{ends-there}
 use Rattle.constriction_coders.proofs.Spanning.{lies-run, lies-unwidened, some-symbol}
 
+-- if a symbol is to come, the point is not above all parts
+pub not-above : {Place S : Type 0} (entry : Place → Option (ℕ × ℕ)) (precision : ℕ) (tells : S → List ℕ → Type 0) (words : List ℕ)
+    (place : Place) (old new : Span) (now : Held S) → All (λ w. w < 2 ^ 32) words → IsNarrowed entry precision place old new
+    → LiesIn new words → IsAt tells old words now → IsAboveAll precision now.held → ⊥
+not-above entry precision tells words place old new now fit e lies here above =
+    let unit = old.size / 2 ^ precision in
+    let inside = lies-unwidened words fit (part_in precision e.left e.weight old) new e.next lies in
+    let over : unit * 2 ^ precision ≤ number_first (old.written + 2) words - old.low =
+    subst (λ (i : Interval). IsAboveAll precision i) here.held above in
+    omega (arith, over, inside.0, inside.1, mul-le unit (e.left + e.weight) unit (2 ^ precision) (omega arith) e.within)
+
 module _ {State Symbol Place : Type 0} (places : State → List Symbol → List Place) (put : State → Symbol → Place)
     (next : State → Symbol → State) (none : (state : State) → places state [] ≡ [])
     (more : (state : State) (x : Symbol) (xs : List Symbol) → places state (x ∷ xs) ≡ put state x ∷ places (next state x) xs)
@@ -67,15 +78,6 @@ module _ {State Symbol Place : Type 0} (places : State → List Symbol → List 
         × (length answers ≡ length symbols → s ≡ last))
         × (length answers < length symbols → IsAboveAll precision now.held → ⊥)
 
-    not-above : (words : List ℕ) (place : Place) (old new : Span) (now : Held S) → All (λ w. w < 2 ^ 32) words
-        → IsNarrowed entry precision place old new → LiesIn new words → IsAt tells old words now → IsAboveAll precision now.held → ⊥
-    not-above words place old new now fit e lies here above =
-        let unit = old.size / 2 ^ precision in
-        let inside = lies-unwidened words fit (part_in precision e.left e.weight old) new e.next lies in
-        let over : unit * 2 ^ precision ≤ number_first (old.written + 2) words - old.low =
-        subst (λ (i : Interval). IsAboveAll precision i) here.held above in
-        omega (arith, over, inside.0, inside.1, mul-le unit (e.left + e.weight) unit (2 ^ precision) (omega arith) e.within)
-
     follows : (symbols answers : List Symbol) (state : State) (first last : Span) (words : List ℕ) (now later : Held S)
         → All (λ w. w < 2 ^ 32) words → InTurn (IsNarrowed entry precision) (places state symbols) first last
         → (0 < length symbols → LiesIn last words) → IsAt tells first words now → InTurn Reads (places state answers) now later
@@ -99,7 +101,7 @@ module _ {State Symbol Place : Type 0} (places : State → List Symbol → List 
             subst (λ (h : Held S). IsAt tells first words h) kept here,
             λ many. absurd (omega (arith, many)),
           ),
-          λ fewer above. not-above words (put state x) first led.0 now fit led.1 there here
+          λ fewer above. not-above entry precision tells words (put state x) first led.0 now fit led.1 there here
               (subst (λ (h : Held S). IsAboveAll precision h.held) (sym kept) above),
         )
     follows (x ∷ xs) (a ∷ ts) state first last words now later fit e lies here d few =

@@ -2,9 +2,11 @@
 use Rattle.std.specs.Prelude.{◌≡◌, ◌≢◌, ℕ, List, [], ◌∷◌, ◌++◌, length, Bool, IsTrue, Option, None}
 use Rattle.std.specs.List.{AllZip, IsDistinct}
 use Rattle.constriction.specs.Coding.{StandsForEqual, InTurn}
+use Rattle.constriction.specs.Entries.{SameEntries}
 use Rattle.constriction.specs.Model.{ClonesAreEqual}
 use Rattle.constriction.specs.Rows.{Row, symbols_of}
 use Rattle.constriction_coders.specs.Compressed.{IsCompressed}
+use Rattle.constriction_coders.specs.Places.{entry_by}
 use Rattle.constriction_coders.specs.StackMessages.{IsStackOf}
 use Rattle.constriction_coders.specs.Steps.{Content, content, MayBeHeld, IsEncoded, IsDecoded}
 
@@ -22,6 +24,28 @@ pub record StackComesBack {Symbol Place : Type 0} (places : List Symbol → List
   pub words : (symbols answers : List Symbol) (words : List ℕ) (opened left : Content) → IsStackOf entry precision (places symbols) words
       → IsCompressed opened words → InTurn Decodes (places answers) opened left → length answers ≡ length symbols
       → AllZip Back symbols answers × (left ≡ content 0 [])
+
+-- Each symbol is coded by a model of its own, and place by place the models that encode and decode have the same entries.
+module _ {Symbol Model Other : Type 0} (eq : Symbol → Symbol → Bool) (rows : Model → List (Row Symbol)) (Stands : Symbol → Symbol → Type 0)
+    (other_rows : Other → List (Row Symbol)) where
+  abbrev pub HaveSameEntries : List (Symbol × Model) → List (Symbol × Other) → Type 0
+  HaveSameEntries = AllZip (λ pair other. SameEntries eq (rows pair.1) (other_rows other.1))
+
+  -- what was decoded stands for symbols equal to those that were encoded
+  abbrev pub StandForPairs : List (Symbol × Model) → List (Symbol × Other) → Type 0
+  StandForPairs = AllZip (λ pair other. StandsForEqual Stands eq pair.0 other.0)
+
+  pub record PairsComeBack (precision : ℕ) : Type 0 where
+    -- as many symbols come back as were encoded, and what was under them is left
+    pub symbols : (pairs : List (Symbol × Model)) (others : List (Symbol × Other)) (full rest under : Content)
+        → InTurn (IsEncoded (entry_by eq rows) precision) pairs full rest
+        → InTurn (λ other. IsDecoded Stands (other_rows other.1) precision other.0) others full under → HaveSameEntries pairs others
+        → StandForPairs pairs others × (under ≡ rest)
+    -- the same from their words: then nothing is left
+    pub words : (pairs : List (Symbol × Model)) (others : List (Symbol × Other)) (words : List ℕ) (opened left : Content)
+        → IsStackOf (entry_by eq rows) precision pairs words → IsCompressed opened words
+        → InTurn (λ other. IsDecoded Stands (other_rows other.1) precision other.0) others opened left → HaveSameEntries pairs others
+        → StandForPairs pairs others × (left ≡ content 0 [])
 
 module _ {Symbol : Type 0} (entry : Symbol → Option (ℕ × ℕ)) (precision : ℕ) where
   -- what follows for symbols that are encoded by these entries

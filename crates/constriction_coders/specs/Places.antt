@@ -25,6 +25,10 @@ module _ {State Symbol : Type 0} where
     abbrev pub IsStackFrom : Type 0
     IsStackFrom = IsStackOf (entry_at entry) precision (placed next first symbols) words
 
+-- the entry of a symbol by the model that is given with it
+abbrev pub entry_by : {Symbol Model : Type 0} → (Symbol → Symbol → Bool) → (Model → List (Row Symbol)) → Symbol × Model → Option (ℕ × ℕ)
+entry_by eq rows pair = entry_of eq (rows pair.1) pair.0
+
 -- a symbol is decoded by the rows of its state, which tile the quantiles and have its entries
 pub record IsDecodedAt {State Symbol Content : Type 0} (eq : Symbol → Symbol → Bool) (entry : State → Symbol → Option (ℕ × ℕ))
     (rows : State → List (Row Symbol)) (precision : ℕ) (Step : List (Row Symbol) → Symbol → Content → Content → Type 0)

@@ -4,7 +4,9 @@ use Rattle.std.specs.List.{AllZip}
 use Rattle.constriction.specs.Coding.{StandsForEqual, InTurn}
 use Rattle.constriction.specs.Rows.{Row}
 use Rattle.constriction_coders.specs.Intervals.{Held, interval, IsRead, IsAboveAll, MayBeAtEnd}
+use Rattle.constriction_coders.specs.Laws.{HaveSameEntries, StandForPairs}
 use Rattle.constriction_coders.specs.Numbers.{number_first}
+use Rattle.constriction_coders.specs.Places.{entry_by}
 use Rattle.constriction_coders.specs.Spans.{Span, IsNarrowed, IsReached, LiesIn, LeadTo, IsSealed, IsMessageOf}
 
 -- A decoder is at a span: it holds how many numbers that has, and how far the number of the words, as many as the span's numbers have,
@@ -50,6 +52,21 @@ module _ {Symbol Place S : Type 0} (places : List Symbol → List Place) (entry 
   RangeMessageComesBack Back =
       (first last : Span) (symbols answers : List Symbol) (words : List ℕ) (now : Held S)
       → IsDecodedFrom first last symbols answers words now → FollowsEncoder Back first last symbols answers words now
+
+-- Symbols were encoded from a span on, each by a model of its own, and others after them. A decoder of their words that was at this span
+-- decoded as many, by models that have the same entries place by place. They come back, and the decoder is at the span after them. If a
+-- symbol is left, the words are not invalid.
+abbrev pub RangePairsComeBack : {Symbol Model Other S E : Type 0} → (Symbol → Symbol → Bool) → (Model → List (Row Symbol))
+    → (Symbol → Symbol → Type 0) → (Other → List (Row Symbol)) → (S → Result (Option ℕ) E → S → Type 0) → (S → List ℕ → Type 0)
+    → (precision : ℕ) → Type 0
+RangePairsComeBack {Symbol} {Model} {Other} {S} eq rows Stands other_rows gives tells precision =
+    (pairs after : List (Symbol × Model)) (others : List (Symbol × Other)) (first mid last : Span) (words : List ℕ) (start now : Held S)
+    → IsReached first → InTurn (IsNarrowed (entry_by eq rows) precision) pairs first mid
+    → InTurn (IsNarrowed (entry_by eq rows) precision) after mid last → LeadTo last words → IsAt tells first words start
+    → InTurn (λ other. IsRead Stands (other_rows other.1) gives precision other.0) others start now
+    → HaveSameEntries eq rows Stands other_rows pairs others
+    → StandForPairs eq rows Stands other_rows pairs others × IsAt tells mid words now
+    × (0 < length after → ¬ (IsAboveAll precision now.held))
 
 -- what follows for symbols that are encoded by these entries and decoded by these rows, if they have the same entries
 pub record RangeSymbolsComeBack {Symbol S E : Type 0} (Stands : Symbol → Symbol → Type 0) (eq : Symbol → Symbol → Bool)

@@ -11,3 +11,4 @@ pub mod laws;
 pub mod queue;
 pub mod stack;
 pub mod stored_weights;
+mod with_model;

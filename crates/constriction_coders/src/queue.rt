@@ -1,6 +1,7 @@
 //! A range coder: what was encoded first is decoded first.
 
 mod carrying;
+mod decoding_by_models;
 mod decoding_walk;
 mod encoded_words;
 mod encoding_walk;
@@ -9,6 +10,7 @@ mod positions;
 mod range_decoder;
 mod range_encoder;
 
+pub use self::decoding_by_models::DecodeSymbols;
 pub use self::decoding_walk::DecodeIidSymbols;
 pub use self::encoded_words::EncodedWords;
 pub use self::positions::RangeCoderState;

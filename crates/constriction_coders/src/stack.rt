@@ -4,6 +4,7 @@ mod ans_coder;
 mod binary;
 pub mod bits_back;
 mod compressed;
+mod decoding_by_models;
 mod decoding_walk;
 mod encoding_walks;
 mod positions;
@@ -11,4 +12,5 @@ mod runs;
 mod state;
 
 pub use self::ans_coder::AnsCoder;
+pub use self::decoding_by_models::DecodeSymbols;
 pub use self::decoding_walk::DecodeIidSymbols;

@@ -56,11 +56,11 @@ where
     ensures { IfSome result (λ answers. AllZip (StandsForEqual M.stands_for M.symbol_eq) symbols.now answers.items) }
 {
     symbols_come_back::<M, M, PRECISION>(model, model);
-    match coder.encode_symbols_reverse::<M, PRECISION>(symbols, model) {
+    match coder.encode_iid_slice_reverse::<M, PRECISION>(symbols, model) {
         Ok(()) => {}
         Err(_) => return None,
     }
-    match coder.decode_symbols::<M, PRECISION>(alloc, symbols.len(), model) {
+    match coder.decode_iid_vec::<M, PRECISION>(alloc, symbols.len(), model) {
         Ok(answers) => Some(answers),
         Err(_) => None,
     }

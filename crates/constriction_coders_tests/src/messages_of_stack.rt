@@ -12,7 +12,11 @@ fn a_message_of_seven_symbols(rt: HostRuntime) {
     let model = DefaultUniformModel::new(1000);
     let symbols = [5, 42, 79, 116, 153, 190, 227];
     let mut coder = AnsCoder::new(alloc);
-    same(&rt, coder.encode_symbols_reverse(&symbols, &model), Ok(()));
+    same(
+        &rt,
+        coder.encode_iid_slice_reverse(&symbols, &model),
+        Ok(()),
+    );
     may_be_held(&coder);
     let words = coder.into_compressed().expect(&rt, "memory");
     holds(&rt, &words, &[18_104_627, 2_332_123_633, 206_639]);
@@ -21,7 +25,7 @@ fn a_message_of_seven_symbols(rt: HostRuntime) {
     compressed_once();
     let mut opened = AnsCoder::from_compressed(words).expect(&rt, "the coder");
     let answers = opened
-        .decode_symbols(alloc, 7, &model)
+        .decode_iid_vec(alloc, 7, &model)
         .expect(&rt, "the symbols");
     holds(&rt, &answers, &symbols);
     same(&rt, opened.is_empty(), true);

@@ -51,7 +51,7 @@ fn symbols_of(rt: &impl Abort, alloc: Global, middle: usize, last: Option<usize>
 /// Encodes the symbols, and checks all calls that say something of the words.
 fn encodes(rt: &impl Abort, alloc: Global, model: &Quarters, symbols: &[usize], words: &[u32]) {
     let mut coder = RangeEncoder::new(alloc);
-    same(rt, coder.encode_symbols(symbols, model), Ok(()));
+    same(rt, coder.encode_iid_slice(symbols, model), Ok(()));
     same(rt, coder.is_empty(), words.is_empty());
     same(rt, coder.num_words(), words.len());
     let copy = coder.get_compressed(alloc).expect(rt, "memory");
@@ -67,7 +67,7 @@ fn decodes(rt: &impl Abort, alloc: Global, model: &Quarters, symbols: &[usize], 
     for words in [words, more.as_slice()] {
         let source = Cursor::<u32, &[u32]>::new_at_write_beginning(words);
         let mut coder = RangeDecoder::from_compressed(source).expect(rt, "no read fails");
-        let found = coder.decode_symbols(alloc, symbols.len(), model);
+        let found = coder.decode_iid_vec(alloc, symbols.len(), model);
         holds(rt, &found.expect(rt, "the symbols"), symbols);
     }
 }
@@ -166,7 +166,7 @@ fn words_of_no_message_are_decoded_or_invalid(rt: HostRuntime) {
     for (words, symbols) in &OTHER_MESSAGES {
         let source = Cursor::<u32, &[u32]>::new_at_write_beginning(words);
         let mut coder = RangeDecoder::from_compressed(source).expect(&rt, "no read fails");
-        let found = coder.decode_symbols(alloc, 10, &model);
+        let found = coder.decode_iid_vec(alloc, 10, &model);
         holds(&rt, &found.expect(&rt, "the symbols"), symbols);
     }
     let source = Cursor::<u32, [u32; 3]>::new_at_write_beginning([u32::MAX; 3]);
@@ -176,6 +176,28 @@ fn words_of_no_message_are_decoded_or_invalid(rt: HostRuntime) {
         same(&rt, coder.decode_symbol(&model), Err(invalid));
         same(&rt, coder.maybe_exhausted(), false);
     }
+}
+
+/// Each symbol is coded by a model of its own. One that its model lacks ends the encoding, and the encoder goes on from there. A walk
+/// ends when its models do.
+#[test]
+fn each_symbol_is_coded_by_its_own_model(rt: HostRuntime) {
+    let models = [10, 1000, 3].map(DefaultUniformModel::new);
+    let mut coder = RangeEncoder::new(rt.alloc());
+    let mut pairs = [7, 1000, 2].iter().copied().zip(models.iter());
+    let impossible = CoderError::Frontend(DefaultEncoderFrontendError::ImpossibleSymbol);
+    same(&rt, coder.encode_symbols(&mut pairs), Err(impossible));
+    let pairs = [990, 2].iter().copied().zip(models[1..].iter());
+    same(&rt, coder.encode_symbols(pairs), Ok(()));
+    let mut decoder = coder.decoder();
+    let mut walk = decoder.decode_symbols(models[..2].iter());
+    same(&rt, walk.size_hint(), (2, Some(2)));
+    same(&rt, walk.next(), Some(Ok(7)));
+    same(&rt, walk.next(), Some(Ok(990)));
+    same(&rt, walk.next(), None);
+    let mut rest = decoder.decode_symbols(models[2..].iter());
+    same(&rt, rest.next(), Some(Ok(2)));
+    same(&rt, decoder.maybe_exhausted(), true);
 }
 
 /// Messages encoded and decoded by the calls of `laws`.

@@ -51,7 +51,7 @@ fn encoded(rt: &impl Abort, alloc: Global, model: &Texts) -> Vec<u32> {
     let mut coder = AnsCoder::new(alloc);
     same(
         rt,
-        coder.encode_symbols_reverse(&message, &encoder).is_ok(),
+        coder.encode_iid_slice_reverse(&message, &encoder).is_ok(),
         true,
     );
     coder.into_compressed().expect(rt, "memory")
@@ -75,7 +75,7 @@ fn a_message_by_stored_weights(rt: HostRuntime) {
     let words = encoded(&rt, alloc, &model);
     let mut coder = AnsCoder::from_compressed(words).expect(&rt, "the coder");
     let symbols = coder
-        .decode_symbols(alloc, MESSAGE.len(), &model)
+        .decode_iid_vec(alloc, MESSAGE.len(), &model)
         .expect(&rt, "the symbols");
     same(&rt, symbols, owned(&rt, alloc, &MESSAGE));
     same(&rt, coder.is_empty(), true);

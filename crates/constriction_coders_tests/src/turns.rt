@@ -73,7 +73,7 @@ const SYMBOLS: usize = 40;
 /// A coder over the thirteen words of a message. It has read two of them.
 fn opened(rt: &impl Abort, alloc: Global, model: &DefaultUniformModel) -> AnsCoder<Counted> {
     let mut coder = AnsCoder::new(alloc);
-    same(rt, coder.encode_symbols(&[7; SYMBOLS], model), Ok(()));
+    same(rt, coder.encode_iid_slice(&[7; SYMBOLS], model), Ok(()));
     let words = coder.into_compressed().expect(rt, "memory");
     same(rt, words.len(), 13);
     let Ok(coder) = AnsCoder::from_compressed(Counted { words, reads: 0 }) else {
@@ -95,7 +95,7 @@ fn reads_to_the_end(rt: &impl Abort, coder: AnsCoder<Counted>) -> usize {
 fn a_symbol_takes_one_read_at_the_end_of_the_stack(rt: HostRuntime) {
     let model = DefaultUniformModel::new(1000);
     let mut coder = opened(&rt, rt.alloc(), &model);
-    let symbols = coder.decode_symbols(rt.alloc(), SYMBOLS, &model);
+    let symbols = coder.decode_iid_vec(rt.alloc(), SYMBOLS, &model);
     same(&rt, symbols.expect(&rt, "the symbols").len(), SYMBOLS);
     same(&rt, reads_to_the_end(&rt, coder), 16);
     let mut coder = opened(&rt, rt.alloc(), &model);

@@ -54,8 +54,46 @@ fn an_impossible_symbol_ends_a_message_and_none_after_it_is_asked_for(rt: HostRu
     );
     same(&rt, (given.next(), given.next_back()), (Some(6), Some(7)));
     let symbols = coder
-        .decode_symbols(alloc, 2, &model)
+        .decode_iid_vec(alloc, 2, &model)
         .expect(&rt, "the symbols");
     same(&rt, symbols.as_slice(), [8, 5].as_slice());
+    same(&rt, coder.is_empty(), true);
+}
+
+/// Models of three ranges.
+fn ranges() -> [DefaultUniformModel; 3] {
+    [10, 1000, 3].map(DefaultUniformModel::new)
+}
+
+/// Each symbol is coded by a model of its own. A walk ends when its models do, and the other symbols stay.
+#[test]
+fn each_symbol_is_coded_by_its_own_model(rt: HostRuntime) {
+    let mut coder = AnsCoder::new(rt.alloc());
+    let models = ranges();
+    let pairs = [7, 990, 2].iter().copied().zip(models.iter());
+    same(&rt, coder.encode_symbols_reverse(pairs).is_ok(), true);
+    let mut walk = coder.decode_symbols(models[..2].iter());
+    same(&rt, walk.size_hint(), (2, Some(2)));
+    same(&rt, walk.next(), Some(Ok(7)));
+    same(&rt, walk.next(), Some(Ok(990)));
+    same(&rt, walk.next(), None);
+    same(&rt, walk.size_hint(), (0, Some(0)));
+    let mut rest = coder.decode_symbols(models[2..].iter());
+    same(&rt, rest.next(), Some(Ok(2)));
+    same(&rt, coder.is_empty(), true);
+}
+
+/// A symbol that its own model lacks ends the encoding, although the next model has it.
+#[test]
+fn a_symbol_that_its_model_lacks_ends_a_message(rt: HostRuntime) {
+    let mut coder = AnsCoder::new(rt.alloc());
+    let models = ranges();
+    let mut pairs = [7, 1000, 2].iter().copied().zip(models.iter());
+    let impossible = Err(CoderError::Frontend(DefaultEncoderFrontendError::ImpossibleSymbol));
+    same(&rt, coder.encode_symbols(&mut pairs), impossible);
+    same(&rt, coder.encode_symbols(pairs), Ok(()));
+    for (model, expected) in [(&models[2], 2), (&models[0], 7)] {
+        same(&rt, coder.decode_symbol(model), Ok(expected));
+    }
     same(&rt, coder.is_empty(), true);
 }

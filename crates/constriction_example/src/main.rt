@@ -19,22 +19,22 @@ fn main(host: HostRuntime) -> anyhow::Result<()> {
 
     // What was encoded last is decoded first.
     let mut encoder = AnsCoder::new(alloc);
-    encoder.encode_symbols_reverse(&message, &model)?;
+    encoder.encode_iid_slice_reverse(&message, &model)?;
     let words = encoder.into_compressed()?;
     println!(host; "stack: {words:?}")?;
     let Ok(mut decoder) = AnsCoder::from_compressed(words) else {
         anyhow::bail!("these words end in 0");
     };
-    let symbols = decoder.decode_symbols(alloc, message.len(), &model)?;
+    let symbols = decoder.decode_iid_vec(alloc, message.len(), &model)?;
     println!(host; "{symbols:?}")?;
 
     // What was encoded first is decoded first.
     let mut encoder = RangeEncoder::new(alloc);
-    encoder.encode_symbols(&message, &model)?;
+    encoder.encode_iid_slice(&message, &model)?;
     let words = encoder.into_compressed()?;
     println!(host; "queue: {words:?}")?;
     let mut decoder = RangeDecoder::from_compressed(Cursor::new_at_write_beginning(words))?;
-    let symbols = decoder.decode_symbols(alloc, message.len(), &model)?;
+    let symbols = decoder.decode_iid_vec(alloc, message.len(), &model)?;
     println!(host; "{symbols:?}")?;
 
     let (symbol, left, weight) = model.quantile_function(3000)?;

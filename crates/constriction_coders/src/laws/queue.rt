@@ -5,7 +5,7 @@ ghost use Rattle.std.specs.List.{AllZip};
 ghost use Rattle.constriction_coders.specs.Published.{published_entries, published_words};
 ghost use Rattle.constriction_coders.specs.Intervals.{IsRead};
 ghost use Rattle.constriction_coders.specs.Places.{placed, entry_at, IsDecodedAt};
-ghost use Rattle.constriction_coders.specs.RangeLaws.{MessageOnce, RangeMessageComesBack, RangeSymbolsComeBack, SealedWordsTell};
+ghost use Rattle.constriction_coders.specs.RangeLaws.{MessageOnce, RangeMessageComesBack, RangePairsComeBack, RangeSymbolsComeBack, SealedWordsTell};
 ghost use Rattle.constriction_coders.specs.RangePositions.{RangePlaceComesBack};
 ghost use Rattle.constriction_coders.specs.Spans.{IsMessageOf};
 ghost use Rattle.constriction.specs.Coding.{StandsForEqual};
@@ -48,6 +48,15 @@ where
         (StandsForEqual D.stands_for eq) }
 {}
 
+/// Symbols that are encoded by models, a model each, come back by models with the same entries, from any span of a message on.
+pub fn range_pairs_come_back<D, E, Source, const PRECISION: usize>()
+where
+    D: DecoderModel<PRECISION, Probability = u32>,
+    E: EncoderModel<PRECISION, Symbol = D::Symbol, Probability = u32>,
+    Source: ReadWords<u32, Queue>,
+    ensures { RangePairsComeBack E.symbol_eq E.rows D.stands_for D.rows Source.read_gives Source.tells_upcoming PRECISION }
+{}
+
 /// A decoder goes to a place that was noted while the message was encoded, although a carry may have changed words since.
 pub fn range_place_comes_back<Symbol, Source, const PRECISION: usize>()
 where
@@ -84,7 +93,7 @@ where
         → (symbol : E.Symbol) × Contains symbols.now symbol × (entry_of E.symbol_eq (E.rows encoder.now) symbol ≡ None) }
 {
     let mut coder = RangeEncoder::new(alloc);
-    match coder.encode_symbols(symbols, encoder) {
+    match coder.encode_iid_slice(symbols, encoder) {
         Ok(()) => {}
         Err(error) => return Err(error),
     }
@@ -122,7 +131,7 @@ where
         Ok(opened) => opened,
         Err(error) => return Err(CoderError::Backend(error)),
     };
-    match opened.decode_symbols(alloc, count, decoder) {
+    match opened.decode_iid_vec(alloc, count, decoder) {
         Ok(answers) => Ok(answers),
         Err(error) => Err(error),
     }

@@ -6,7 +6,7 @@ ghost use Rattle.std.specs.List.{AllZip};
 ghost use Rattle.constriction_coders.specs.AnsCoder.{held_by, EncodingStops, DecodingStops, ReadsNoState, WritesState};
 ghost use Rattle.constriction_coders.specs.BitsBack.{FitTogether, BitsComeBack};
 ghost use Rattle.constriction_coders.specs.Compressed.{IsCompressed, IsBinary, HasValidBits};
-ghost use Rattle.constriction_coders.specs.Laws.{SymbolsComeBack, StackComesBack, EncodedOnce, EncodesThen, IsInvertible, DecodedGoesBack};
+ghost use Rattle.constriction_coders.specs.Laws.{SymbolsComeBack, PairsComeBack, StackComesBack, EncodedOnce, EncodesThen, IsInvertible, DecodedGoesBack};
 ghost use Rattle.constriction_coders.specs.Places.{placed, entry_at, IsDecodedAt};
 ghost use Rattle.constriction_coders.specs.Positions.{PlaceComesBack};
 ghost use Rattle.constriction_coders.specs.Steps.{Content, content, MayBeHeld, IsDecoded};
@@ -40,6 +40,14 @@ where
         → ((state : State) (s t : D.Symbol) → StandsForEqual D.stands_for eq s t → next state t ≡ next state s)
         → StackComesBack (placed next first) (entry_at entry) PRECISION
         (IsDecodedAt eq entry rows PRECISION (λ own. IsDecoded D.stands_for own PRECISION)) (StandsForEqual D.stands_for eq) }
+{}
+
+/// Symbols that are encoded by models, a model each, come back by models with the same entries.
+pub fn pairs_come_back<D, E, const PRECISION: usize>()
+where
+    D: DecoderModel<PRECISION, Probability = u32>,
+    E: EncoderModel<PRECISION, Symbol = D::Symbol, Probability = u32>,
+    ensures { PairsComeBack E.symbol_eq E.rows D.stands_for D.rows PRECISION }
 {}
 
 /// What a coder holds after symbols follows from what it held before, so their words are the same whoever encoded them. A coder that is
@@ -120,11 +128,11 @@ where
         (λ full. DecodingStops D.stands_for D.may_refuse (D.rows decoder.now) PRECISION (length symbols.now) error full coder.new) }
 {
     symbols_come_back::<D, E, PRECISION>(decoder, encoder);
-    match coder.encode_symbols(symbols, encoder) {
+    match coder.encode_iid_slice(symbols, encoder) {
         Ok(()) => {}
         Err(error) => return Err(MessageError::Encoding(error)),
     }
-    match coder.decode_symbols(alloc, symbols.len(), decoder) {
+    match coder.decode_iid_vec(alloc, symbols.len(), decoder) {
         Ok(answers) => Ok(answers),
         Err(error) => Err(MessageError::Decoding(error)),
     }

@@ -151,7 +151,7 @@ impl<Source: ReadWords<u32, Queue>> RangeDecoder<Source> {
     ///
     /// Memory for all of them is asked for first. If `count` comes from outside, use
     /// [`decode_iid_symbols`](Self::decode_iid_symbols), which asks for none.
-    pub fn decode_symbols<D, const PRECISION: usize>(
+    pub fn decode_iid_vec<D, const PRECISION: usize>(
         &mut self,
         alloc: Global,
         count: usize,

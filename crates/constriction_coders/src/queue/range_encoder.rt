@@ -122,7 +122,7 @@ impl RangeEncoder {
     }
 
     /// Encodes the symbols, the first one first. An error leaves those before the symbol that was not encoded.
-    pub fn encode_symbols<E, const PRECISION: usize>(
+    pub fn encode_iid_slice<E, const PRECISION: usize>(
         &mut self,
         symbols: &[E::Symbol],
         model: &E,

@@ -14,7 +14,7 @@ use std::alloc::{AllocError, Global};
 
 impl<Backend: WordStack<u32>> AnsCoder<Backend> {
     /// Encodes the symbols, the first one first.
-    pub fn encode_symbols<E, const PRECISION: usize>(
+    pub fn encode_iid_slice<E, const PRECISION: usize>(
         &mut self,
         symbols: &[E::Symbol],
         model: &E,
@@ -36,7 +36,7 @@ impl<Backend: WordStack<u32>> AnsCoder<Backend> {
     }
 
     /// Encodes the symbols, the last one first, so that decoding gives them in order.
-    pub fn encode_symbols_reverse<E, const PRECISION: usize>(
+    pub fn encode_iid_slice_reverse<E, const PRECISION: usize>(
         &mut self,
         symbols: &[E::Symbol],
         model: &E,
@@ -62,7 +62,7 @@ impl<Backend: WordStack<u32>> AnsCoder<Backend> {
     ///
     /// Memory for all of them is asked for first. If `count` comes from outside, use
     /// [`decode_iid_symbols`](Self::decode_iid_symbols), which asks for none.
-    pub fn decode_symbols<D, const PRECISION: usize>(
+    pub fn decode_iid_vec<D, const PRECISION: usize>(
         &mut self,
         alloc: Global,
         count: usize,

@@ -67,12 +67,12 @@ where
 {
     range_symbols_come_back::<M, M, EncodedWords, PRECISION>(model, model);
     let mut coder = RangeEncoder::new(alloc);
-    match coder.encode_symbols::<M, PRECISION>(symbols, model) {
+    match coder.encode_iid_slice::<M, PRECISION>(symbols, model) {
         Ok(()) => {}
         Err(_) => return None,
     }
     let mut decoder = coder.decoder();
-    match decoder.decode_symbols::<M, PRECISION>(alloc, symbols.len(), model) {
+    match decoder.decode_iid_vec::<M, PRECISION>(alloc, symbols.len(), model) {
         Ok(answers) => Some(answers),
         Err(_) => None,
     }
@@ -94,12 +94,12 @@ where
     range_symbols_come_back::<M, M, Cursor<u32, Vec<u32>>, PRECISION>(model, model);
     sealed_words_tell();
     let mut coder = RangeEncoder::new(alloc);
-    match coder.encode_symbols::<M, PRECISION>(first, model) {
+    match coder.encode_iid_slice::<M, PRECISION>(first, model) {
         Ok(()) => {}
         Err(_) => return None,
     }
     let place = coder.pos();
-    match coder.encode_symbols::<M, PRECISION>(second, model) {
+    match coder.encode_iid_slice::<M, PRECISION>(second, model) {
         Ok(()) => {}
         Err(_) => return None,
     }
@@ -114,7 +114,7 @@ where
         Ok(()) => {}
         Err(()) => unreachable!(),
     }
-    match decoder.decode_symbols::<M, PRECISION>(alloc, second.len(), model) {
+    match decoder.decode_iid_vec::<M, PRECISION>(alloc, second.len(), model) {
         Ok(answers) => Some(answers),
         Err(_) => None,
     }

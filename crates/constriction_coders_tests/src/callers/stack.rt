@@ -37,7 +37,7 @@ where
     ensures { IfSome result (λ words. IsStackOf (entry_of E.symbol_eq (E.rows encoder.now)) PRECISION symbols.now words.items) }
 {
     let mut coder = AnsCoder::new(alloc);
-    match coder.encode_symbols_reverse(symbols, encoder) {
+    match coder.encode_iid_slice_reverse(symbols, encoder) {
         Ok(()) => {}
         Err(_) => return None,
     }
@@ -67,7 +67,7 @@ where
         Err(CoderError::Frontend(_)) => return Err(WordsError::OtherWords),
         Err(CoderError::Backend(error)) => match error {},
     };
-    let Ok(answers) = coder.decode_symbols(alloc, count, model) else {
+    let Ok(answers) = coder.decode_iid_vec(alloc, count, model) else {
         return Err(WordsError::OutOfMemory);
     };
     if !coder.is_empty() {

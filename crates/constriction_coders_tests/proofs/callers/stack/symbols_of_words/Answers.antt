@@ -8,11 +8,11 @@ returns-in-Err-Frontend-clause-accepted g c = λ _ symbols many stacked.
 
 pub returns-then-not-is_empty-clause-accepted : goal.returns-then-not-is_empty-clause-accepted
 returns-then-not-is_empty-clause-accepted g c = λ _ symbols many stacked.
-    let back = c.symbols_come_back.ensures.all.words symbols c.in-Ok-decode_symbols.answers.items c.args.words.items _ _ stacked
-    c.in-Ok.ensures.ok c.in-Ok-decode_symbols.ensures.ok (c.in-Ok-decode_symbols.ensures.count ∙ sym many) in
+    let back = c.symbols_come_back.ensures.all.words symbols c.in-Ok-decode_iid_vec.answers.items c.args.words.items _ _ stacked
+    c.in-Ok.ensures.ok c.in-Ok-decode_iid_vec.ensures.ok (c.in-Ok-decode_iid_vec.ensures.count ∙ sym many) in
     let empty = c.is_empty.ensures.1 back.1 in cc
 
 pub returns-clause-back : goal.returns-clause-back
 returns-clause-back g c = λ symbols many stacked.
-    (c.symbols_come_back.ensures.all.words symbols c.in-Ok-decode_symbols.answers.items c.args.words.items _ _ stacked
-    c.in-Ok.ensures.ok c.in-Ok-decode_symbols.ensures.ok (c.in-Ok-decode_symbols.ensures.count ∙ sym many)).0
+    (c.symbols_come_back.ensures.all.words symbols c.in-Ok-decode_iid_vec.answers.items c.args.words.items _ _ stacked
+    c.in-Ok.ensures.ok c.in-Ok-decode_iid_vec.ensures.ok (c.in-Ok-decode_iid_vec.ensures.count ∙ sym many)).0

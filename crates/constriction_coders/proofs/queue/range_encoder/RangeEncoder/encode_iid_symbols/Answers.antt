@@ -1,61 +1,27 @@
-use Rattle.std.proofs.Common.{[], ◌∷◌, ◌++◌, refl, sym, subst}
-use Rattle.constriction.specs.Coding.{InTurn}
-use Rattle.constriction.specs.lemmas.Turns.{turn-last}
-use Rattle.constriction.specs.lemmas.Walks.{yields-more}
+use Rattle.std.proofs.Common.{refl, ap, sym, subst}
 use Rattle.constriction.specs.Rows.{entry_of}
-use Rattle.constriction_coders.specs.Spans.{Span, IsNarrowed, IsNarrowingFault}
+use Rattle.constriction_coders.specs.Places.{entry_by}
+use Rattle.constriction_coders.specs.Spans.{IsNarrowed}
+use Rattle.constriction_coders.proofs.Giving.{taken-with, turns-own}
+use Rattle.constriction_coders.proofs.SameEntry.{same-narrowed, same-fault}
 use Rattle.constriction_coders.proofs.queue.range_encoder.RangeEncoder.encode_iid_symbols.Goals as goal
-
-pub turns-init : goal.turns-init
-turns-init g c =
-    let ends = c.requires c.into_iter-given.result c.into_iter-given.ensures.into_iter_gives in
-    record { next = ends.0; ends = ends.1; so_far = record { done = []; given = refl; so_far = refl } }
-
-pub turns-preserved : goal.turns-preserved
-turns-preserved g c =
-    let goes = c.in-Some.ensures.goes.on c.turns.invariant.ends in
-    let h = c.turns.invariant.so_far in
-    record {
-      next = goes.0;
-      ends = goes.1;
-      so_far = record {
-        done = h.done ++ c.in-Some.symbol ∷ [];
-        given =
-            yields-more g.I.IntoIter.Iterator.next_gives c.into_iter-given.result h.done c.turns.given c.in-Some.symbol c.next.new.self
-            h.given
-            c.in-Some.ensures.steps;
-        so_far =
-            turn-last (IsNarrowed (entry_of g.E.EncoderModel.symbol_eq (g.E.EntropyModel.rows c.args.model.now)) g.row.PRECISION) h.done
-            c.in-Some.symbol _ _ _ h.so_far c.in-Ok.ensures.ok;
-      };
-    }
 
 pub returns : goal.returns
 returns g c =
-    let h = c.turns.invariant.so_far in (
-      c.into_iter-given.result,
-      c.into_iter-given.ensures.into_iter_gives,
-      (h.done, (c.next.new.self, (c.turns.given, h.given, c.in_default.ensures.steps)), h.so_far),
+    let took = c.encode_symbols.ensures in
+    let model = c.args.model in
+    let eq = g.E.EncoderModel.symbol_eq in
+    let rows = g.E.EntropyModel.rows in
+    let turns = turns-own (IsNarrowed (entry_by eq (λ m. rows m.now)) g.row.PRECISION)
+    (IsNarrowed (entry_of eq (rows model.now)) g.row.PRECISION) (λ x. (x, model))
+    (λ x a b e. same-narrowed (entry_of eq (rows model.now)) x e refl) in (
+      took.0.symbols,
+      subst (λ it. g.I.IntoIterator.into_iter_gives c.args.symbols it) (sym (ap (λ s. s.symbols) took.1))
+          c.into_iter-symbols.ensures.into_iter_gives,
+      taken-with (λ s. s.symbols) (λ s. s.model) g.I.IntoIter.Iterator.next_gives model took.0 c.encode_symbols.result _ _ _ _
+          (ap (λ s. s.model) took.1) (λ xs led. turns xs _ _ led)
+          (λ xs x e stops. (
+            turns xs _ _ stops.0,
+            same-fault (entry_by eq (λ m. rows m.now)) (entry_of eq (rows model.now)) g.row.PRECISION e (x, model) x _ refl stops.1,
+          )) took.2,
     )
-
-pub returns-in-Err : goal.returns-in-Err
-returns-in-Err g c =
-    let h = c.turns.invariant.so_far in (
-      c.into_iter-given.result,
-      c.into_iter-given.ensures.into_iter_gives,
-      (
-        h.done,
-        c.in-Some.symbol,
-        c.next.new.self,
-        (c.turns.given, h.given, c.in-Some.ensures.steps),
-        subst (λ (s : Span).
-            InTurn (IsNarrowed (entry_of g.E.EncoderModel.symbol_eq (g.E.EntropyModel.rows c.args.model.now)) g.row.PRECISION) h.done
-            c.args.self.now s
-            × IsNarrowingFault (entry_of g.E.EncoderModel.symbol_eq (g.E.EntropyModel.rows c.args.model.now)) g.row.PRECISION
-            c.in-Err.error c.in-Some.symbol s)
-            (sym c.in-Err.ensures.err) (h.so_far, c.in-Err.ensures.fault),
-      ),
-    )
-
-pub turns-smaller : goal.turns-smaller
-turns-smaller g c = (c.in-Some.ensures.goes.on c.turns.invariant.ends).2

@@ -1,12 +1,20 @@
-use Rattle.std.proofs.Common.{take}
+use Rattle.std.specs.Iterator.{IsFinite, size}
 use Rattle.constriction.specs.Coding.{InTurn}
-use Rattle.constriction.specs.Rows.{entry_of}
+use Rattle.constriction_coders.specs.Places.{entry_by}
 use Rattle.constriction_coders.specs.Spans.{IsNarrowed}
+use Rattle.constriction_coders.proofs.Giving.{GivenSoFar}
 use Rattle.constriction_coders.proofs.queue.range_encoder.RangeEncoder.encode_symbols.Given as goal
 
--- the symbols so far were encoded
-abbrev pub invariant-loop-symbol : goal.invariant-loop-symbol
-invariant-loop-symbol g l =
-    InTurn (IsNarrowed (entry_of g.E.EncoderModel.symbol_eq (g.E.EntropyModel.rows l.model)) g.row.PRECISION)
-    (take l.symbol-index l.symbols)
-    l.initial.self l.self
+-- what was given so far was encoded
+abbrev pub invariant-turns : goal.invariant-turns
+invariant-turns g l = record {
+  next : g.I.IntoIter.Iterator.can_next l.given;
+  ends : IsFinite (g.I.IntoIter.Iterator.remaining l.given);
+  so_far : GivenSoFar g.I.IntoIter.Iterator.next_gives l.initial.given l.given
+      (λ done. InTurn (IsNarrowed (entry_by g.E.EncoderModel.symbol_eq g.E.EntropyModel.rows) g.row.PRECISION) done
+      l.initial.self l.self);
+}
+
+-- how many symbols are left at most
+abbrev pub decreases-turns : goal.decreases-turns
+decreases-turns g l = size (g.I.IntoIter.Iterator.remaining l.given)

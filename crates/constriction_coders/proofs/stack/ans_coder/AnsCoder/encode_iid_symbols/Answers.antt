@@ -1,61 +1,30 @@
-use Rattle.std.proofs.Common.{[], ◌∷◌, ◌++◌, Err, refl, ap}
-use Rattle.constriction.specs.lemmas.Walks.{yields-more}
+use Rattle.std.proofs.Common.{refl, ap, sym, subst}
 use Rattle.constriction.specs.Rows.{entry_of}
+use Rattle.constriction_coders.specs.Places.{entry_by}
 use Rattle.constriction_coders.specs.Steps.{IsEncoded}
-use Rattle.constriction_coders.proofs.Giving.{turn-before}
+use Rattle.constriction_coders.proofs.Giving.{taken-with, turns-own-back}
+use Rattle.constriction_coders.proofs.SameEntry.{same-encoded}
 use Rattle.constriction_coders.proofs.stack.ans_coder.AnsCoder.encode_iid_symbols.Goals as goal
-
-pub turns-init : goal.turns-init
-turns-init g c =
-    let ends = c.requires c.into_iter-given.result c.into_iter-given.ensures.into_iter_gives in
-    record { next = ends.0; ends = ends.1; so_far = record { done = []; given = refl; so_far = refl } }
-
-pub turns-preserved : goal.turns-preserved
-turns-preserved g c =
-    let goes = c.in-Some.ensures.goes.on c.turns.invariant.ends in
-    let h = c.turns.invariant.so_far in
-    record {
-      next = goes.0;
-      ends = goes.1;
-      so_far = record {
-        done = h.done ++ c.in-Some.symbol ∷ [];
-        given =
-            yields-more g.I.IntoIter.Iterator.next_gives c.into_iter-given.result h.done c.turns.given c.in-Some.symbol c.next.new.self
-            h.given
-            c.in-Some.ensures.steps;
-        so_far =
-            turn-before (IsEncoded (entry_of g.E.EncoderModel.symbol_eq (g.E.EntropyModel.rows c.args.model.now)) g.row.PRECISION) h.done
-            c.in-Some.symbol _ _ _ c.in-Ok.ensures.ok h.so_far;
-      };
-    }
 
 pub returns : goal.returns
 returns g c =
-    let h = c.turns.invariant.so_far in (
-      c.into_iter-given.result,
-      c.into_iter-given.ensures.into_iter_gives,
-      (h.done, (c.next.new.self, (c.turns.given, h.given, c.in_default.ensures.steps)), h.so_far),
+    let took = c.encode_symbols.ensures in
+    let model = c.args.model in
+    let eq = g.E.EncoderModel.symbol_eq in
+    let rows = g.E.EntropyModel.rows in
+    let back = turns-own-back (IsEncoded (entry_by eq (λ m. rows m.now)) g.row.PRECISION)
+    (IsEncoded (entry_of eq (rows model.now)) g.row.PRECISION) (λ x. (x, model))
+    (λ x a b e. same-encoded (entry_of eq (rows model.now)) x e refl) in (
+      took.0.symbols,
+      subst (λ it. g.I.IntoIterator.into_iter_gives c.args.symbols it) (sym (ap (λ s. s.symbols) took.1))
+          c.into_iter-symbols.ensures.into_iter_gives,
+      taken-with (λ s. s.symbols) (λ s. s.model) g.I.IntoIter.Iterator.next_gives model took.0 c.encode_symbols.result _ _ _ _
+          (ap (λ s. s.model) took.1) (λ xs led. back xs _ _ led)
+          (λ xs x e stops. record {
+            reached = stops.reached;
+            led = back xs _ _ stops.led;
+            impossible = stops.impossible;
+            wrote = stops.wrote;
+            same = stops.same;
+          }) took.2,
     )
-
-pub returns-in-Err : goal.returns-in-Err
-returns-in-Err g c =
-    let h = c.turns.invariant.so_far in (
-      c.into_iter-given.result,
-      c.into_iter-given.ensures.into_iter_gives,
-      (
-        h.done,
-        c.in-Some.symbol,
-        c.next.new.self,
-        (c.turns.given, h.given, c.in-Some.ensures.steps),
-        record {
-          reached = c.turns.self;
-          led = h.so_far;
-          impossible = λ fault is. c.in-Err.ensures.impossible fault (ap Err is);
-          wrote = c.in-Err.ensures.wrote;
-          same = c.in-Err.ensures.same;
-        },
-      ),
-    )
-
-pub turns-smaller : goal.turns-smaller
-turns-smaller g c = (c.in-Some.ensures.goes.on c.turns.invariant.ends).2

@@ -1,23 +1,63 @@
-use Rattle.std.proofs.Common.{Err, suc, drop, take, ap}
-use Rattle.constriction.specs.lemmas.Turns.{turn-first}
-use Rattle.constriction_coders.proofs.Stopping.{split-at-symbol}
+use Rattle.std.proofs.Common.{[], ◌∷◌, ◌++◌, Err, refl, ap}
+use Rattle.constriction.specs.lemmas.Walks.{yields-more}
+use Rattle.constriction_coders.specs.Places.{entry_by}
+use Rattle.constriction_coders.specs.Steps.{IsEncoded}
+use Rattle.constriction_coders.proofs.Giving.{turn-before}
+use Rattle.constriction_coders.proofs.SameEntry.{same-encoded}
 use Rattle.constriction_coders.proofs.stack.ans_coder.AnsCoder.encode_symbols.Goals as goal
 
-pub loop-symbol-preserved : goal.loop-symbol-preserved
-loop-symbol-preserved g c =
-    turn-first _ _ _ _ _ _ _ c.loop-symbol-test.true c.symbol-item.is c.in-Ok.ensures.ok c.loop-symbol.invariant
+pub turns-init : goal.turns-init
+turns-init g c =
+    let ends = c.requires c.into_iter-given.result c.into_iter-given.ensures.into_iter_gives in
+    record { next = ends.0; ends = ends.1; so_far = record { done = []; given = refl; so_far = refl } }
 
-pub returns-in-Err-clause-err : goal.returns-in-Err-clause-err
-returns-in-Err-clause-err g c = (
-  take c.loop-symbol.symbol-index c.args.symbols.now,
-  c.symbol-item.result,
-  drop (suc c.loop-symbol.symbol-index) c.args.symbols.now,
-  split-at-symbol c.args.symbols.now c.loop-symbol.symbol-index c.symbol-item.result c.loop-symbol-test.true c.symbol-item.is,
-  record {
-    reached = c.loop-symbol.self;
-    led = c.loop-symbol.invariant;
-    impossible = λ fault is. c.in-Err.ensures.impossible fault (ap Err is);
-    wrote = c.in-Err.ensures.wrote;
-    same = c.in-Err.ensures.same;
-  },
-)
+pub turns-preserved : goal.turns-preserved
+turns-preserved g c =
+    let goes = c.in-Some.ensures.goes.on c.turns.invariant.ends in
+    let h = c.turns.invariant.so_far in
+    record {
+      next = goes.0;
+      ends = goes.1;
+      so_far = record {
+        done = h.done ++ c.in-Some.pair ∷ [];
+        given =
+            yields-more g.I.IntoIter.Iterator.next_gives c.into_iter-given.result h.done c.turns.given c.in-Some.pair c.next.new.self
+            h.given
+            c.in-Some.ensures.steps;
+        so_far =
+            turn-before (IsEncoded (entry_by g.E.EncoderModel.symbol_eq g.E.EntropyModel.rows) g.row.PRECISION) h.done
+            c.in-Some.pair _ _ _
+            (same-encoded (entry_by g.E.EncoderModel.symbol_eq g.E.EntropyModel.rows) c.in-Some.pair c.in-Ok.ensures.ok refl) h.so_far;
+      };
+    }
+
+pub returns : goal.returns
+returns g c =
+    let h = c.turns.invariant.so_far in (
+      c.into_iter-given.result,
+      c.into_iter-given.ensures.into_iter_gives,
+      (h.done, (c.next.new.self, (c.turns.given, h.given, c.in_default.ensures.steps)), h.so_far),
+    )
+
+pub returns-in-Err : goal.returns-in-Err
+returns-in-Err g c =
+    let h = c.turns.invariant.so_far in (
+      c.into_iter-given.result,
+      c.into_iter-given.ensures.into_iter_gives,
+      (
+        h.done,
+        c.in-Some.pair,
+        c.next.new.self,
+        (c.turns.given, h.given, c.in-Some.ensures.steps),
+        record {
+          reached = c.turns.self;
+          led = h.so_far;
+          impossible = λ fault is. c.in-Err.ensures.impossible fault (ap Err is);
+          wrote = c.in-Err.ensures.wrote;
+          same = c.in-Err.ensures.same;
+        },
+      ),
+    )
+
+pub turns-smaller : goal.turns-smaller
+turns-smaller g c = (c.in-Some.ensures.goes.on c.turns.invariant.ends).2

@@ -1,31 +1,13 @@
-use Rattle.std.proofs.Common.{◌≡◌, ◌-◌, ℕ, List, Err, suc, drop, length, reverse, take, subst, sym, ap, arith}
-use Rattle.std.proofs.lemmas.List.{reverse-reverse}
-use Rattle.constriction.specs.Coding.{InTurn}
-use Rattle.constriction.specs.Rows.{entry_of}
-use Rattle.constriction_coders.specs.AnsCoder.{held_by}
-use Rattle.constriction_coders.specs.Steps.{IsEncoded}
-use Rattle.constriction_coders.proofs.Stopping.{split-back}
+use Rattle.std.proofs.Common.{◌≡◌, ap, sym, subst, ◌∙◌}
+use Rattle.std.specs.Iterator.Adapters.{rev_source}
+use Rattle.constriction_coders.proofs.Giving.{inner-takes}
 use Rattle.constriction_coders.proofs.stack.ans_coder.AnsCoder.encode_symbols_reverse.Goals as goal
 
-pub returns-in-Err-clause-err : goal.returns-in-Err-clause-err
-returns-in-Err-clause-err g c =
-    let symbols = c.args.symbols.now in
-    let at : ℕ = length symbols - 1 - c.loop-done.done in
-    let next : length symbols - c.loop-done.done ≡ suc at = omega (arith, c.loop-done-test.true) in (
-      reverse (drop (suc at) symbols),
-      c.index-symbols-count.result,
-      reverse (take at symbols),
-      split-back symbols at c.index-symbols-count.result (omega (arith, c.loop-done-test.true)) c.index-symbols-count.is,
-      record {
-        reached = c.loop-done.self;
-        led =
-            subst (λ (ys : List g.row.E-Symbol.Denot).
-            InTurn (IsEncoded (entry_of g.E.EncoderModel.symbol_eq (g.E.EntropyModel.rows c.args.model.now)) g.row.PRECISION) ys
-            (held_by c.loop-done.self) (held_by c.args.self.now)) (sym (reverse-reverse (drop (suc at) symbols)))
-            (subst (λ n. InTurn (IsEncoded (entry_of g.E.EncoderModel.symbol_eq (g.E.EntropyModel.rows c.args.model.now)) g.row.PRECISION)
-            (drop n symbols) (held_by c.loop-done.self) (held_by c.args.self.now)) next c.loop-done.invariant.so_far);
-        impossible = λ fault is. c.in-Err.ensures.impossible fault (ap Err is);
-        wrote = c.in-Err.ensures.wrote;
-        same = c.in-Err.ensures.same;
-      },
+pub returns : goal.returns
+returns g c =
+    let took = c.encode_symbols.ensures in
+    let same : rev_source took.0 ≡ c.into_iter.result = ap rev_source took.1 ∙ c.rev.ensures.source in (
+      rev_source took.0,
+      subst (λ it. g.I.IntoIterator.into_iter_gives c.args.symbols_and_models it) (sym same) c.into_iter.ensures.into_iter_gives,
+      inner-takes rev_source g.I.IntoIter.DoubleEndedIterator.next_back_gives took.0 c.encode_symbols.result _ _ took.2,
     )

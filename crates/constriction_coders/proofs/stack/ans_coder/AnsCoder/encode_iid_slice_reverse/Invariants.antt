@@ -3,7 +3,7 @@ use Rattle.constriction.specs.Coding.{InTurn}
 use Rattle.constriction.specs.Rows.{entry_of}
 use Rattle.constriction_coders.specs.AnsCoder.{held_by}
 use Rattle.constriction_coders.specs.Steps.{IsEncoded}
-use Rattle.constriction_coders.proofs.stack.ans_coder.AnsCoder.encode_symbols_reverse.Given as goal
+use Rattle.constriction_coders.proofs.stack.ans_coder.AnsCoder.encode_iid_slice_reverse.Given as goal
 
 -- the last symbols were encoded
 abbrev pub invariant-loop-done : goal.invariant-loop-done

@@ -2,7 +2,7 @@ use Rattle.std.proofs.Common.{◌≡◌, ◌≤◌, length, vec_capacity}
 use Rattle.constriction.specs.Coding.{InTurn}
 use Rattle.constriction_coders.specs.Intervals.{IsRead}
 use Rattle.constriction_coders.specs.RangeDecoder.{held_by}
-use Rattle.constriction_coders.proofs.queue.range_decoder.RangeDecoder.decode_symbols.Given as goal
+use Rattle.constriction_coders.proofs.queue.range_decoder.RangeDecoder.decode_iid_vec.Given as goal
 
 -- as many symbols as turns were decoded
 abbrev pub invariant-loop-done : goal.invariant-loop-done

@@ -2,7 +2,7 @@ use Rattle.std.proofs.Common.{◌∷◌, [], arith, ap, inl, inr, refl, length, 
 use Rattle.constriction.specs.lemmas.Turns.{turn-last}
 use Rattle.constriction_coders.specs.Intervals.{IsRead}
 use Rattle.constriction_coders.specs.RangeDecoder.{held_by}
-use Rattle.constriction_coders.proofs.queue.range_decoder.RangeDecoder.decode_symbols.Goals as goal
+use Rattle.constriction_coders.proofs.queue.range_decoder.RangeDecoder.decode_iid_vec.Goals as goal
 
 pub loop-done-preserved : goal.loop-done-preserved
 loop-done-preserved g c = record {
