@@ -70,33 +70,15 @@ fn becomes<const PRECISION: usize>(
     shows(rt, alloc, &*model, cdf);
 }
 
+const INVALID: Result<(), ModelError> = Err(ModelError::InvalidTable);
+
 /// Weights, whether the last is inferred, the answer, and the cdf after it.
 const SIX_BITS: [(&[u8], bool, Result<(), ModelError>, &str); 8] = [
     (&[10, 20, 34], false, Ok(()), "[0, 10, 30, 64]"),
-    (
-        &[10, 20, 35],
-        false,
-        Err(ModelError::InvalidTable),
-        "[0, 10, 30, 64]",
-    ),
-    (
-        &[64, 64, 192],
-        false,
-        Err(ModelError::InvalidTable),
-        "[0, 10, 30, 64]",
-    ),
-    (
-        &[10, 0, 54],
-        false,
-        Err(ModelError::InvalidTable),
-        "[0, 10, 30, 64]",
-    ),
-    (
-        &[63, 1],
-        true,
-        Err(ModelError::InvalidTable),
-        "[0, 10, 30, 64]",
-    ),
+    (&[10, 20, 35], false, INVALID, "[0, 10, 30, 64]"),
+    (&[64, 64, 192], false, INVALID, "[0, 10, 30, 64]"),
+    (&[10, 0, 54], false, INVALID, "[0, 10, 30, 64]"),
+    (&[63, 1], true, INVALID, "[0, 10, 30, 64]"),
     (&[1, 1, 1, 1, 1], true, Ok(()), "[0, 1, 2, 3, 4, 5, 64]"),
     (&[], true, Ok(()), "[0, 64]"),
     (&[64], false, Ok(()), "[0, 64]"),
@@ -106,42 +88,23 @@ const SIX_BITS: [(&[u8], bool, Result<(), ModelError>, &str); 8] = [
 fn other_weights_are_written_in_place_and_refused_ones_are_not(rt: HostRuntime) {
     let mut model = small(&rt, rt.alloc());
     for (weights, infer, answer, cdf) in &SIX_BITS {
-        becomes::<6>(&rt, rt.alloc(), &mut model, *weights, *infer, *answer, *cdf);
+        becomes(&rt, rt.alloc(), &mut model, *weights, *infer, *answer, *cdf);
     }
 }
 
 /// Over 8 bits of `u8` the total is no word.
+const EIGHT_BITS: [(&[u8], bool, Result<(), ModelError>, &str); 3] = [
+    (&[200, 56], false, Ok(()), "[0, 200, 0]"),
+    (&[], true, INVALID, "[0, 200, 0]"),
+    (&[7, 8], true, Ok(()), "[0, 7, 15, 0]"),
+];
+
 #[test]
 fn other_weights_of_the_full_width_are_set(rt: HostRuntime) {
     let mut model = weighted::<8>(rt.alloc(), &[1, 255], false).expect(&rt, "accepted");
-    becomes(
-        &rt,
-        rt.alloc(),
-        &mut model,
-        &[200, 56],
-        false,
-        Ok(()),
-        "[0, 200, 0]",
-    );
-    let invalid = Err(ModelError::InvalidTable);
-    becomes(
-        &rt,
-        rt.alloc(),
-        &mut model,
-        &[],
-        true,
-        invalid,
-        "[0, 200, 0]",
-    );
-    becomes(
-        &rt,
-        rt.alloc(),
-        &mut model,
-        &[7, 8],
-        true,
-        Ok(()),
-        "[0, 7, 15, 0]",
-    );
+    for (weights, infer, answer, cdf) in &EIGHT_BITS {
+        becomes(&rt, rt.alloc(), &mut model, *weights, *infer, *answer, *cdf);
+    }
 }
 
 #[test]

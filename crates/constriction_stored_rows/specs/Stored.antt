@@ -1,5 +1,5 @@
 -- How models store their rows: as left cumulatives, with a symbol beside each or with the total after them. No public clause cites this
--- module. The definitions of the rows of these models do, and ghost fields of models and of symbol tables.
+-- module. The definitions of the rows and of the cdf of these models do, and ghost fields of models and of symbol tables.
 use Rattle.std.specs.Prelude.{◌≡◌, ℕ, ◌+◌, ◌-◌, ◌%◌, ◌^◌, ◌<◌, ◌≤◌, List, [], ◌∷◌, ◌++◌, length, map, take, slice_index, slice_index_or}
 use Rattle.constriction_model.specs.Acceptance.{IsAccepted}
 use Rattle.constriction_model.specs.Rows.{Row, contiguous_rows, rows_of}

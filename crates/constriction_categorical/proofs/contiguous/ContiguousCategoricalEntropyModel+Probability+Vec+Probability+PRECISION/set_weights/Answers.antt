@@ -8,11 +8,13 @@ use Rattle.constriction_categorical.proofs.contiguous.ContiguousCategoricalEntro
 pub invariant_of-self : goal.invariant_of-self
 invariant_of-self g c =
     let whole = g.Probability.WholeNumber.whole in
+    let old = c.args.self.now.cdf.items in
+    let new = c.refill_cdf.new.cdf.items in
     let weights = completed g.row.PRECISION c.args.infer_last_probability (map whole c.args.weights.now) in
     record {
       precise = c.args.self.now.precise;
-      stored = refilled-cdf whole g.Probability.WholeNumber.BITS g.row.PRECISION c.args.self.now.cdf.items c.refill_cdf.new.cdf.items weights
-          c.refill_cdf.result c.args.self.now.stored c.refill_cdf.ensures.accepted c.refill_cdf.ensures.ok c.refill_cdf.ensures.err;
+      stored = refilled-cdf whole g.Probability.WholeNumber.BITS g.row.PRECISION old new weights c.refill_cdf.result c.args.self.now.stored
+          c.refill_cdf.ensures.accepted c.refill_cdf.ensures.ok c.refill_cdf.ensures.err;
     }
 
 pub returns-clause-rows : goal.returns-clause-rows
