@@ -1,3 +1,4 @@
+mod OwnModels
 mod Pairs
 mod Shown
 mod TwoStates
