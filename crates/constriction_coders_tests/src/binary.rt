@@ -15,7 +15,7 @@ fn coder_of(rt: &impl Abort, alloc: Global, words: &[u32]) -> AnsCoder<Vec<u32>>
 
 /// Asserts that a coder turns into these words.
 fn turns_into(rt: &impl Abort, coder: AnsCoder<Vec<u32>>, words: &[u32]) {
-    same(rt, coder.num_valid_bits(), 32 * words.len());
+    same(rt, coder.num_valid_bits(), words.len().saturating_mul(32));
     match coder.into_binary() {
         Ok(again) => holds(rt, &again, words),
         Err(_) => panic!(rt; "the words did not come back"),
