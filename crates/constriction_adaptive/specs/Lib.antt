@@ -2,5 +2,8 @@ pub mod Bit
 pub mod Bytes
 pub mod Contexts
 pub mod Entries
+pub mod Mixer
+pub mod Mixing
+pub mod Past
 pub mod Predicted
 pub mod lemmas

@@ -1,0 +1,28 @@
+-- Bounds of the numbers of logistic mixing.
+use Rattle.std.proofs.Common.{◌≡◌, ℕ, suc, ◌+◌, ◌-◌, ◌*◌, ◌/◌, ◌^◌, ◌<◌, ◌≤◌, arith, inl, inr}
+use Rattle.std.proofs.Math.Nat.{pow-suc}
+use Rattle.std.proofs.Math.Pow.{pow_mono}
+use Rattle.std.proofs.lemmas.Bool.{cases_lt}
+use Rattle.std.proofs.lemmas.Nat.{leading_top, div_below, pow_pos}
+use Rattle.constriction_adaptive.specs.Mixing.{logarithm}
+
+-- a power of 2 below 2 ^ 13
+power_below : (j x : ℕ) → 2 ^ j ≤ x → x < 8192 → j < 13
+power_below j x from below =
+    elim (cases_lt j 13) [
+      | inl h ↦ h
+      | inr h ↦ absurd (let m : 2 ^ 13 ≤ 2 ^ j = pow_mono h in omega arith)
+    ]
+
+-- a logarithm whose whole part is j
+at_place : (c j x : ℕ) → c + suc j ≡ 32 → 2 ^ j ≤ x → x < 2 ^ suc j → x < 8192 → 128 * (31 - c) + 128 * x / 2 ^ (31 - c) - 128 < 2048
+at_place c j x place from to below =
+    let e : 31 - c ≡ j = omega arith in
+    let few : j < 13 = power_below j x from below in
+    let double : 2 ^ suc j ≡ 2 ^ j * 2 = pow-suc 2 j in
+    let part : 128 * x / 2 ^ j < 256 = div_below (128 * x) (2 ^ j) 256 (pow_pos j) (omega arith) in
+    rw e (omega arith)
+
+pub logarithm-below : (x : ℕ) → 0 < x → x < 8192 → logarithm x < 2048
+logarithm-below x some below =
+    let t = leading_top 32 x some (omega (arith, below)) in at_place _ t.0 x t.1 t.2 t.3 below

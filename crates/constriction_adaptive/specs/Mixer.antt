@@ -1,0 +1,63 @@
+-- A mixer of hashed contexts, which predicts the bits of bytes.
+use Rattle.std.specs.Prelude.{◌+◌, ◌*◌, ℕ, List, [], length, map, replicate, Bool, slice_index, slice_index_or, slice_set}
+use Rattle.constriction_adaptive.specs.Contexts.{even_weights}
+use Rattle.constriction_adaptive.specs.Mixing.{for_one, for_zero, mixed, place, slots_moved, squash, weights_after}
+use Rattle.constriction_adaptive.specs.Past.{PastState, followed, past_after, past_begun}
+
+pub record MixerState : Type 0 where
+  -- how many of the last bytes each context sees; 0 sees what is foretold
+  pub contexts : List ℕ
+  -- weights of 0, in groups of 16 for the bits of half a byte in a context
+  pub groups : ℕ
+  pub slots : List ℕ
+  -- how much each context counts, by how many bytes in a row were foretold
+  pub weights : List (List ℕ)
+  pub past : PastState
+
+abbrev pub state_of : (contexts : List ℕ) (groups : ℕ) (slots : List ℕ) (weights : List (List ℕ)) (past : PastState) → MixerState
+state_of contexts groups slots weights past = record { contexts = contexts; groups = groups; slots = slots; weights = weights; past = past }
+
+-- the first slot of each context
+abbrev pub places_in : (groups : ℕ) → PastState → (contexts : List ℕ) → List ℕ
+places_in groups past contexts = map (place groups past.history past.half (followed past)) contexts
+
+abbrev pub places_of : MixerState → List ℕ
+places_of m = places_in m.groups m.past m.contexts
+
+-- how strongly each context speaks for 0, and for 1
+abbrev pub zeros_of : MixerState → List ℕ
+zeros_of m = map (λ p. for_zero (slice_index m.slots (p + m.past.path))) (places_of m)
+
+abbrev pub ones_of : MixerState → List ℕ
+ones_of m = map (λ p. for_one (slice_index m.slots (p + m.past.path))) (places_of m)
+
+abbrev pub row : MixerState → List ℕ
+row m = slice_index_or m.weights m.past.told []
+
+-- the weight of 0 for the next bit
+abbrev pub predicted : MixerState → ℕ
+predicted m = squash (mixed (row m) (zeros_of m)) (mixed (row m) (ones_of m))
+
+-- the state after a bit
+abbrev pub mixer_after : MixerState → Bool → MixerState
+mixer_after m bit = record {
+  contexts = m.contexts;
+  groups = m.groups;
+  slots = slots_moved bit m.past.path (places_of m) m.slots;
+  weights = slice_set m.weights m.past.told (weights_after bit (predicted m) (zeros_of m) (ones_of m) (row m));
+  past = past_after bit m.past;
+}
+
+-- the weights of so many inputs, before they learned anything, for each number of bytes in a row that were foretold
+unfoldable pub even_rows : ℕ → List (List ℕ)
+even_rows inputs = replicate 16 (replicate inputs 16384)
+
+-- nothing was learned
+abbrev pub mixer_begun : (contexts : List ℕ) → (groups followers reach : ℕ) → MixerState
+mixer_begun contexts groups followers reach = record {
+  contexts = contexts;
+  groups = groups;
+  slots = even_weights (16 * groups);
+  weights = even_rows (length contexts);
+  past = past_begun followers reach;
+}

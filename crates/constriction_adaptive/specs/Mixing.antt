@@ -1,0 +1,76 @@
+-- Logistic mixing of predictions in whole numbers. The weight of a bit is how much of 2 ^ 16 stands for 0.
+use Rattle.std.specs.Prelude.{◌+◌, ◌-◌, ◌*◌, ◌/◌, ◌%◌, ◌^◌, ℕ, List, [], ◌∷◌, map, length, Bool, true, false, if◌then◌else◌, nat_lt, min, slice_index, slice_set, sum}
+use Rattle.std.specs.List.{range_with_len}
+use Rattle.std.specs.Int.{w32, leading_zeros}
+
+-- the place of the highest bit
+abbrev pub highest : ℕ → ℕ
+highest x = 31 - leading_zeros w32 x
+
+-- 128 times the logarithm of base 2, linear between powers of 2
+abbrev pub logarithm : ℕ → ℕ
+logarithm x = 128 * highest x + 128 * x / 2 ^ highest x - 128
+
+-- how strongly a slot speaks for 0, and for 1: the logarithm of its odds, or 0
+abbrev pub for_zero : ℕ → ℕ
+for_zero slot = logarithm (2 * (slot / 16) + 1) - logarithm (8191 - 2 * (slot / 16))
+
+abbrev pub for_one : ℕ → ℕ
+for_one slot = logarithm (8191 - 2 * (slot / 16)) - logarithm (2 * (slot / 16) + 1)
+
+-- the weight of a bit that the other bit beats by odds of 2 ^ (strength / 128), linear between powers of 2
+abbrev pub tail : ℕ → ℕ
+tail strength = 8388608 / ((128 + strength % 128) * 2 ^ (strength / 128) + 128)
+
+-- the weight of 0, where what speaks for 0 and for 1 was summed with weights of 2 ^ 16 for once
+abbrev pub squash : ℕ → ℕ → ℕ
+squash speaks_zero speaks_one =
+    if nat_lt speaks_zero speaks_one then tail (min 2047 ((speaks_one - speaks_zero) / 65536)) else 65536 - tail (min 2047 ((speaks_zero - speaks_one) / 65536))
+
+-- a slot moves towards the bit by an eighth of the way, at first by half of it
+abbrev pub pace : ℕ → ℕ
+pace slot = if nat_lt slot 32768 then 8 else (if nat_lt 32768 slot then 8 else 2)
+
+abbrev pub slot_after : Bool → ℕ → ℕ
+slot_after false slot = slot + (65535 - slot) / pace slot
+slot_after true slot = slot - slot / pace slot
+
+-- an input counts more if it spoke for the bit that came, and less if it spoke against it, from 0 to 4 times
+abbrev pub adjusted : (error right wrong weight : ℕ) → ℕ
+adjusted error right wrong weight = min 262144 (weight + right * error / 131072) - wrong * error / 131072
+
+-- one of `count` places for a number below 2 ^ 64
+abbrev pub spread : (count key : ℕ) → ℕ
+spread count key = key * 11400714819323198485 % 2 ^ 64 / 2 ^ 32 * count / 2 ^ 32
+
+-- the last bytes of what came, at the top of 64 bits
+abbrev pub recent : (bytes history : ℕ) → ℕ
+recent bytes history = history * 2 ^ (64 - 8 * bytes) % 2 ^ 64
+
+-- what a context sees: so many of the last bytes, or for none what was followed
+abbrev pub seen : (history followed bytes : ℕ) → ℕ
+seen history followed bytes = if nat_lt 0 bytes then recent bytes history else followed * 256
+
+-- the first of the 16 slots of a context for the bits of half a byte
+abbrev pub place : (groups history half followed bytes : ℕ) → ℕ
+place groups history half followed bytes = 16 * spread groups ((seen history followed bytes + (half * 8 + bytes)) % 2 ^ 64)
+
+-- the slot at each place moves
+abbrev pub slots_moved : Bool → (path : ℕ) (places slots : List ℕ) → List ℕ
+slots_moved bit path [] slots = slots
+slots_moved bit path (p ∷ ps) slots =
+    slots_moved bit path ps (slice_set slots (p + path) (slot_after bit (slice_index slots (p + path))))
+
+-- each input counts more or less
+abbrev pub weights_adjusted : ℕ → (right wrong weights : List ℕ) → List ℕ
+weights_adjusted error right wrong weights =
+    map (λ i. adjusted error (slice_index right i) (slice_index wrong i) (slice_index weights i)) (range_with_len 0 (length weights))
+
+-- the bit came that had this weight: what spoke for it counts more, and what spoke against it less
+abbrev pub weights_after : Bool → (weight : ℕ) (zeros ones weights : List ℕ) → List ℕ
+weights_after false weight zeros ones weights = weights_adjusted (65536 - weight) zeros ones weights
+weights_after true weight zeros ones weights = weights_adjusted weight ones zeros weights
+
+-- what the inputs say together
+abbrev pub mixed : (weights strengths : List ℕ) → ℕ
+mixed weights strengths = sum (map (λ i. slice_index weights i * slice_index strengths i) (range_with_len 0 (length weights)))
