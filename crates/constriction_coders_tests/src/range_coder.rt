@@ -182,7 +182,11 @@ fn words_of_no_message_are_decoded_or_invalid(rt: HostRuntime) {
 /// ends when its models do.
 #[test]
 fn each_symbol_is_coded_by_its_own_model(rt: HostRuntime) {
-    let models = [10, 1000, 3].map(DefaultUniformModel::new);
+    let models = [
+        DefaultUniformModel::new(10),
+        DefaultUniformModel::new(1000),
+        DefaultUniformModel::new(3),
+    ];
     let mut coder = RangeEncoder::new(rt.alloc());
     let mut pairs = [7, 1000, 2].iter().copied().zip(models.iter());
     let impossible = CoderError::Frontend(DefaultEncoderFrontendError::ImpossibleSymbol);

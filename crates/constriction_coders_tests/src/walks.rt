@@ -62,7 +62,11 @@ fn an_impossible_symbol_ends_a_message_and_none_after_it_is_asked_for(rt: HostRu
 
 /// Models of three ranges.
 fn ranges() -> [DefaultUniformModel; 3] {
-    [10, 1000, 3].map(DefaultUniformModel::new)
+    [
+        DefaultUniformModel::new(10),
+        DefaultUniformModel::new(1000),
+        DefaultUniformModel::new(3),
+    ]
 }
 
 /// Each symbol is coded by a model of its own. A walk ends when its models do, and the other symbols stay.
