@@ -9,7 +9,7 @@ use constriction::backends::Cursor;
 use constriction::stream::model::{ContiguousCategoricalEntropyModel, EntropyModel};
 use constriction_adaptive::bytes::{decode_bytes, encode_bytes};
 use constriction_adaptive::{
-    Bit, EncoderFrontendError, HashedContexts, OrderOne, Predictor, queue, stack,
+    Bit, EncoderFrontendError, HashedContexts, Mixer, OrderOne, Predictor, queue, stack,
 };
 use constriction_coders::queue::{DecoderFrontendError, RangeDecoder, RangeEncoder};
 use constriction_coders::stack::AnsCoder;
@@ -238,5 +238,22 @@ fn a_text_comes_back_by_hashed_contexts(rt: HostRuntime) {
         alloc,
         HashedContexts::<7>::new(alloc),
         HashedContexts::<7>::new(alloc),
+    );
+}
+
+#[test]
+fn a_text_comes_back_by_a_mixer(rt: HostRuntime) {
+    let alloc = rt.alloc();
+    comes_back(
+        &rt,
+        alloc,
+        Mixer::new(alloc, [1, 2, 3, 4, 6, 0], 1024, 256, 5),
+        Mixer::new(alloc, [1, 2, 3, 4, 6, 0], 1024, 256, 5),
+    );
+    comes_back(
+        &rt,
+        alloc,
+        Mixer::new(alloc, [0, 8], 1, 1, 8),
+        Mixer::new(alloc, [0, 8], 1, 1, 8),
     );
 }
