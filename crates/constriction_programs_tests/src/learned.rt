@@ -7,7 +7,7 @@ use crate::checks::{holds, prints, same};
 use constriction::CoderError;
 use constriction::backends::Cursor;
 use constriction::stream::model::{ContiguousCategoricalEntropyModel, EntropyModel};
-use constriction_adaptive::bytes::{decode_bytes, encode_bytes};
+use constriction_adaptive::bytes::{decode_byte, decode_bytes, encode_byte, encode_bytes};
 use constriction_adaptive::{
     Bit, EncoderFrontendError, HashedContexts, Mixer, OrderOne, Predictor, queue, stack,
 };
@@ -115,6 +115,85 @@ fn letters_come_back_from_a_stack(rt: HostRuntime) {
         Err(_) => panic!(rt; "nothing came back"),
     }
     same(&rt, coder.is_empty(), true);
+}
+
+#[test]
+fn letters_are_coded_one_at_a_time(rt: HostRuntime) {
+    let alloc = rt.alloc();
+    let this = letters(&rt, alloc, [1, 2, 61]);
+    let other = letters(&rt, alloc, [40, 20, 4]);
+    let mut encoding = ByTurns {
+        this: &this,
+        other: &other,
+        room: 2,
+    };
+    let mut encoder = RangeEncoder::new(alloc);
+    let encoded = queue::encode_next(&mut encoding, &2, &mut encoder);
+    same(&rt, encoded, Ok(()));
+    let encoded = queue::encode_next(&mut encoding, &0, &mut encoder);
+    same(&rt, encoded, Ok(()));
+    let refused = queue::encode_next(&mut encoding, &1, &mut encoder);
+    same(
+        &rt,
+        refused,
+        Err(CoderError::Frontend(EncoderFrontendError::OutOfMemory)),
+    );
+    let words = encoder.into_compressed().expect(&rt, "memory");
+    let Ok(mut decoder) = RangeDecoder::from_compressed(Cursor::new_at_write_beginning(words))
+    else {
+        panic!(rt; "a read failed");
+    };
+    encoding.room = 2;
+    for letter in [2, 0] {
+        match queue::decode_next(&mut encoding, &mut decoder) {
+            Ok(decoded) => same(&rt, decoded, letter),
+            Err(_) => panic!(rt; "a letter was not decoded"),
+        }
+    }
+}
+
+#[test]
+fn a_letter_is_taken_from_a_stack(rt: HostRuntime) {
+    let alloc = rt.alloc();
+    let this = letters(&rt, alloc, [1, 2, 61]);
+    let mut encoding = ByTurns {
+        this: &this,
+        other: &this,
+        room: 1,
+    };
+    let mut coder = AnsCoder::new(alloc);
+    let encoded = stack::encode_adaptively(alloc, &mut encoding, &[1], &mut coder);
+    same(&rt, encoded.is_ok(), true);
+    let refused = stack::decode_next(&mut encoding, &mut coder);
+    same(&rt, refused.is_err(), true);
+    encoding.room = 1;
+    match stack::decode_next(&mut encoding, &mut coder) {
+        Ok(decoded) => same(&rt, decoded, 1),
+        Err(_) => panic!(rt; "the letter was not decoded"),
+    }
+}
+
+#[test]
+fn bytes_are_coded_one_at_a_time(rt: HostRuntime) {
+    let alloc = rt.alloc();
+    let (Ok(mut encoding), Ok(mut decoding)) = (OrderOne::new(alloc), OrderOne::new(alloc)) else {
+        panic!(rt; "memory was refused");
+    };
+    let mut encoder = RangeEncoder::new(alloc);
+    for byte in [b'a', 0, 255] {
+        same(&rt, encode_byte(&mut encoding, byte, &mut encoder), Ok(()));
+    }
+    let words = encoder.into_compressed().expect(&rt, "memory");
+    let Ok(mut decoder) = RangeDecoder::from_compressed(Cursor::new_at_write_beginning(words))
+    else {
+        panic!(rt; "a read failed");
+    };
+    for byte in [b'a', 0, 255] {
+        match decode_byte(&mut decoding, &mut decoder) {
+            Ok(decoded) => same(&rt, decoded, byte),
+            Err(_) => panic!(rt; "a byte was not decoded"),
+        }
+    }
 }
 
 #[test]
