@@ -4,5 +4,6 @@ pub use constriction_backends::{
     AsReadWords, AsSeekReadWords, BoundedReadWords, BoundedWriteError, BoundedWriteWords, Cursor,
     FallibleCallbackWriteWords, FallibleIteratorReadWords, FusedWords,
     InfallibleCallbackWriteWords, InfallibleIteratorReadWords, IntoReadWords, IntoSeekReadWords,
-    ReadWords, ReadWriteError, Reverse, SafeBuf, SafeBufMut, WordStack, WriteWords, laws,
+    ReadWords, ReadWriteError, Reverse, SafeBuf, SafeBufMut, StackSource, WordStack, WriteWords,
+    laws,
 };

@@ -16,7 +16,7 @@ pub use crate::reverse::Reverse;
 pub use constriction_buffers::{SafeBuf, SafeBufMut};
 pub use constriction_sources::{
     BoundedReadWords, BoundedWriteWords, FallibleCallbackWriteWords, FallibleIteratorReadWords,
-    FusedWords, InfallibleCallbackWriteWords, InfallibleIteratorReadWords, ReadWords, WordStack,
-    WriteWords,
+    FusedWords, InfallibleCallbackWriteWords, InfallibleIteratorReadWords, ReadWords, StackSource,
+    WordStack, WriteWords,
 };
 pub use constriction_words::ReadWriteError;

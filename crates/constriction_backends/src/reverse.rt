@@ -11,8 +11,10 @@ ghost use Rattle.constriction_sources.specs.lemmas.Sink.{free_is_taken};
 
 use crate::cursor::Cursor;
 use crate::error::BoundedWriteError;
-use constriction_buffers::SafeBufMut;
-use constriction_sources::{BoundedReadWords, BoundedWriteWords, ReadWords, WordStack, WriteWords};
+use constriction_buffers::{SafeBuf, SafeBufMut};
+use constriction_sources::{
+    BoundedReadWords, BoundedWriteWords, ReadWords, StackSource, WordStack, WriteWords,
+};
 use constriction_words::{Pos, PosSeek, Queue, Seek, Stack};
 
 /// A backend with the other order of reading: a stack is read as a queue, and a queue as a stack.
@@ -214,18 +216,20 @@ impl<Word: Drop, Buf: SafeBufMut<Word>> BoundedWriteWords<Word> for Reverse<Curs
     ghost room_counts = { λ _ h. h };
 }
 
-impl<Word: Copy, Buf: SafeBufMut<Word>> WordStack<Word> for Reverse<Cursor<Word, Buf>> {
+impl<Word: Copy, Buf: SafeBuf<Word>> StackSource<Word> for Reverse<Cursor<Word, Buf>> {
     ghost words_of = { λ s. (reversal (state_of s.0)).before };
-
-    ghost tells_words = { λ s. refl };
-
-    ghost tells_no_others = { λ s words known. sym known };
 
     ghost words_come = { λ s. reverse-reverse (state_of s.0).after };
 
     ghost no_others_come = { λ s words known. known ∙ sym (reverse-reverse (state_of s.0).after) };
 
-    ghost always_writable = { λ s. tt };
-
     ghost always_readable = { λ s. tt };
+}
+
+impl<Word: Copy, Buf: SafeBufMut<Word>> WordStack<Word> for Reverse<Cursor<Word, Buf>> {
+    ghost tells_words = { λ s. refl };
+
+    ghost tells_no_others = { λ s words known. sym known };
+
+    ghost always_writable = { λ s. tt };
 }

@@ -3,7 +3,7 @@
 ghost use Rattle.std.specs.Prelude.{◌≡◌, ◌<◌, [], Some, None, Ok, IfSome, IsOk, length, vec_capacity};
 
 use crate::checks::{holds, same, vec_of};
-use constriction_backends::{Cursor, ReadWords, Reverse, WordStack, WriteWords, laws};
+use constriction_backends::{Cursor, ReadWords, Reverse, StackSource, WordStack, WriteWords, laws};
 use constriction_words::{Queue, ReadWriteError, Stack};
 use smallvec::SmallVec;
 use std::alloc::{AllocError, Global};
@@ -56,8 +56,8 @@ fn there_and_back_in_a_vec(words: &mut Vec<u8>, word: u8) -> Result<Option<u8>, 
     }
 }
 
-/// Reads any stack. The contract says that an empty one gives `None` and stays empty.
-fn read_once<Backend: WordStack<u8>>(
+/// Reads any source of a stack. The contract says that an empty one gives `None` and stays empty.
+fn read_once<Backend: StackSource<u8>>(
     backend: &mut Backend,
 ) -> Result<Option<u8>, Backend::ReadError>
     ensures { Backend.words_of backend.old ≡ [] → (result ≡ Ok None) × (Backend.words_of backend.new ≡ []) }

@@ -8,7 +8,7 @@ use Rattle.constriction_coders.specs.Intervals.{Held, IsAboveAll, IsRead}
 use Rattle.constriction_coders.specs.Laws.{HaveSameEntries, StandForPairs, PairsComeBack}
 use Rattle.constriction_coders.specs.Places.{entry_by}
 use Rattle.constriction_coders.specs.RangeLaws.{IsAt, RangePairsComeBack}
-use Rattle.constriction_coders.specs.Spans.{Span, whole, IsNarrowed, LiesIn, LeadTo}
+use Rattle.constriction_coders.specs.Spans.{Span, whole, IsNarrowed, LiesIn}
 use Rattle.constriction_coders.specs.Steps.{Content, content, IsEncoded, IsDecoded}
 use Rattle.constriction_coders.specs.lemmas.Stack.{compressed-once}
 use Rattle.constriction_coders.proofs.ComingBack.{symbol-back}

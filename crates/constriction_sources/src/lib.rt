@@ -17,6 +17,6 @@ mod write;
 pub use crate::callbacks::{FallibleCallbackWriteWords, InfallibleCallbackWriteWords};
 pub use crate::iterators::{FallibleIteratorReadWords, FusedWords, InfallibleIteratorReadWords};
 pub use crate::read::{BoundedReadWords, ReadWords};
-pub use crate::stack::WordStack;
+pub use crate::stack::{StackSource, WordStack};
 pub use crate::write::{BoundedWriteWords, WriteWords};
 pub use constriction_words::ReadWriteError;

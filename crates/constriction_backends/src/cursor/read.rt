@@ -1,6 +1,6 @@
 //! A cursor as a source, which is read backwards as a stack and forwards as a queue, and counts its words in that direction.
 
-ghost use Rattle.std.specs.Prelude.{◌≡◌, ◌↔◌, [], length, reverse, IsTrue};
+ghost use Rattle.std.specs.Prelude.{◌≡◌, ◌↔◌, [], length, refl, reverse, IsTrue};
 ghost use Rattle.std.proofs.Common.{ap, sym, ◌∙◌};
 ghost use Rattle.std.proofs.lemmas.List.{length-reverse};
 ghost use Rattle.constriction_backends.specs.Cursor.{buf_of, state_of};
@@ -9,7 +9,7 @@ ghost use Rattle.constriction_backends.specs.lemmas.Cursor.{StackReads-upcoming,
 
 use crate::cursor::Cursor;
 use constriction_buffers::SafeBuf;
-use constriction_sources::{BoundedReadWords, ReadWords};
+use constriction_sources::{BoundedReadWords, ReadWords, StackSource};
 use constriction_words::{Queue, Stack};
 use std::convert::Infallible;
 
@@ -38,6 +38,16 @@ impl<Word: Copy, Buf: SafeBuf<Word>> ReadWords<Word, Stack> for Cursor<Word, Buf
     }
 
     ghost reads_upcoming = { λ s r t h. StackReads-upcoming state_of s r t h.0 };
+}
+
+impl<Word: Copy, Buf: SafeBuf<Word>> StackSource<Word> for Cursor<Word, Buf> {
+    ghost words_of = { λ s. (state_of s).before };
+
+    ghost words_come = { λ s. refl };
+
+    ghost no_others_come = { λ s words known. known };
+
+    ghost always_readable = { λ s. tt };
 }
 
 impl<Word: Copy, Buf: SafeBuf<Word>> ReadWords<Word, Queue> for Cursor<Word, Buf> {

@@ -59,17 +59,9 @@ impl<Word: Drop, Buf: SafeBufMut<Word>> BoundedWriteWords<Word> for Cursor<Word,
 }
 
 impl<Word: Copy, Buf: SafeBufMut<Word>> WordStack<Word> for Cursor<Word, Buf> {
-    ghost words_of = { λ s. (state_of s).before };
-
     ghost tells_words = { λ s. refl };
 
     ghost tells_no_others = { λ s words known. sym known };
 
-    ghost words_come = { λ s. refl };
-
-    ghost no_others_come = { λ s words known. known };
-
     ghost always_writable = { λ s. tt };
-
-    ghost always_readable = { λ s. tt };
 }

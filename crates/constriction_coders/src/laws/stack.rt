@@ -17,7 +17,7 @@ ghost use Rattle.constriction.specs.Rows.{Row, entry_of};
 
 use crate::laws::MessageError;
 use crate::stack::AnsCoder;
-use constriction::backends::{ReadWriteError, WordStack};
+use constriction::backends::{ReadWriteError, StackSource, WordStack};
 use constriction::stream::model::{DecoderModel, EncoderModel};
 use constriction::{CoderError, DefaultEncoderFrontendError};
 use std::alloc::{AllocError, Global};
@@ -59,7 +59,7 @@ pub fn encoded_once<Symbol, const PRECISION: usize>()
 {}
 
 /// What a coder holds, it may hold. Other laws require this of each content.
-pub fn may_be_held<Backend: WordStack<u32>>(coder: &AnsCoder<Backend>)
+pub fn may_be_held<Backend: StackSource<u32>>(coder: &AnsCoder<Backend>)
     ensures { MayBeHeld (held_by coder.now) }
 {
     // A read of the state says that it has 64 bits.
@@ -122,7 +122,8 @@ where
         (held_by coder.new))) }
     ensures same { OnOk result (held_by coder.new ≡ held_by coder.old) }
     ensures encoding { (error : _) → result ≡ Err (MessageError.Encoding error)
-        → EncodingStops (entry_of E.symbol_eq (E.rows encoder.now)) PRECISION symbols.now error (held_by coder.old) coder.new }
+        → EncodingStops Backend.write_gives (entry_of E.symbol_eq (E.rows encoder.now)) PRECISION symbols.now error
+        (held_by coder.old) coder.new }
     ensures decoding { (error : _) → result ≡ Err (MessageError.Decoding error)
         → EncodesThen (entry_of E.symbol_eq (E.rows encoder.now)) PRECISION (reverse symbols.now) (held_by coder.old)
         (λ full. DecodingStops D.stands_for D.may_refuse (D.rows decoder.now) PRECISION (length symbols.now) error full coder.new) }
@@ -210,9 +211,9 @@ pub fn compressed_comes_back<Backend: WordStack<u32> + Drop>(
     ensures same { IfOk result (λ again. held_by again ≡ held_by coder) }
     ensures between { IfOk result (λ _. (between : Backend) × IsCompressed (held_by coder) (Backend.words_of between)) }
     ensures accepted { (left : _) → result ≢ Err (ReadWriteError.Read (CoderError.Frontend left)) }
-    ensures unwritten { (error : _) → result ≡ Err (ReadWriteError.Write error) → WritesState coder (Err error) }
-    ensures unread { (error : _) → result ≡ Err (ReadWriteError.Read error) → (between : Backend) × WritesState coder (Ok between)
-        × ReadsNoState Backend.read_gives between error }
+    ensures unwritten { (error : _) → result ≡ Err (ReadWriteError.Write error) → WritesState Backend.write_gives coder (Err error) }
+    ensures unread { (error : _) → result ≡ Err (ReadWriteError.Read error) → (between : Backend)
+        × WritesState Backend.write_gives coder (Ok between) × ReadsNoState Backend.read_gives between error }
 {
     match coder.into_compressed() {
         Ok(words) => match AnsCoder::from_compressed(words) {

@@ -7,17 +7,18 @@ ghost use Rattle.constriction.specs.Precision.{IsPrecision};
 ghost use Rattle.constriction.specs.Rows.{entry_of};
 
 use crate::stack::state::{is_full_for, quantile_of, with_entry, without_entry};
-use constriction::backends::WordStack;
+use constriction::backends::{StackSource, WordStack};
 use constriction::stream::model::{DecoderModel, EncoderModel};
 use constriction::{CoderError, DefaultEncoderFrontendError};
 use std::alloc::{AllocError, Global};
 
 /// A coder with a state of 64 bits over a stack of words of 32 bits, in the format of the Rust crate's `DefaultAnsCoder`.
 ///
+/// It decodes from any source of a stack, as from a `Cursor` over words that are only lent, and encodes if its backend is a [`WordStack`].
 /// If the state is below `2^32`, there is no word under it. A symbol costs a division to encode and a multiplication to decode,
 /// and at most one word is written or read.
 #[derive(Drop)]
-pub struct AnsCoder<Backend: WordStack<u32>> {
+pub struct AnsCoder<Backend: StackSource<u32>> {
     pub(crate) state: u64,
     pub(crate) words: Backend,
     ghost whole: { state < 2 ^ 32 → Backend.words_of words ≡ [] },
@@ -66,7 +67,7 @@ fn with_room<Backend: WordStack<u32>, const PRECISION: usize>(
 
 /// The state, which takes a word if it is below `2^32` and there is one.
 #[inline]
-fn refilled<Backend: WordStack<u32>>(
+fn refilled<Backend: StackSource<u32>>(
     words: &mut Backend,
     state: u64,
 ) -> Result<u64, Backend::ReadError>
@@ -117,33 +118,6 @@ impl<Backend: WordStack<u32>> AnsCoder<Backend> {
         }
     }
 
-    /// Takes the symbol of this entry from the top. The entry holds the quantile of the state.
-    #[inline]
-    pub(crate) fn take_entry<const PRECISION: usize>(
-        &mut self,
-        left: u32,
-        weight: u32,
-    ) -> Result<(), Backend::ReadError>
-        requires fits { PRECISION ≤ 32 }
-        requires some { 0 < weight }
-        requires within { left + weight ≤ 2 ^ PRECISION }
-        requires from { left ≤ self.old.state % 2 ^ PRECISION }
-        requires to { self.old.state % 2 ^ PRECISION < left + weight }
-        ensures ok { OnOk result (IsOnTop PRECISION left weight (held_by self.old) (held_by self.new)) }
-        ensures needs { OnErr result (NeedsWord PRECISION left weight (held_by self.old)) }
-        ensures read { ReadsAtMostOne Backend.read_gives self.old.words result self.new.words }
-        ensures same { OnErr result (held_by self.new ≡ held_by self.old) }
-    {
-        let state = without_entry::<PRECISION>(self.state, left, weight);
-        match refilled(&mut self.words, state) {
-            Ok(state) => {
-                self.state = state;
-                Ok(())
-            }
-            Err(error) => Err(error),
-        }
-    }
-
     /// Encodes a symbol.
     ///
     /// It fails with `ImpossibleSymbol` only if the model has no entry for the symbol, and with the backend's error only if a write
@@ -168,6 +142,37 @@ impl<Backend: WordStack<u32>> AnsCoder<Backend> {
         match self.put_entry::<PRECISION>(left, weight.get()) {
             Ok(()) => Ok(()),
             Err(error) => Err(CoderError::Backend(error)),
+        }
+    }
+}
+
+impl<Backend: StackSource<u32>> AnsCoder<Backend> {
+    ghost use Rattle.constriction_coders.specs.AnsCoder.{held_by};
+
+    /// Takes the symbol of this entry from the top. The entry holds the quantile of the state.
+    #[inline]
+    pub(crate) fn take_entry<const PRECISION: usize>(
+        &mut self,
+        left: u32,
+        weight: u32,
+    ) -> Result<(), Backend::ReadError>
+        requires fits { PRECISION ≤ 32 }
+        requires some { 0 < weight }
+        requires within { left + weight ≤ 2 ^ PRECISION }
+        requires from { left ≤ self.old.state % 2 ^ PRECISION }
+        requires to { self.old.state % 2 ^ PRECISION < left + weight }
+        ensures ok { OnOk result (IsOnTop PRECISION left weight (held_by self.old) (held_by self.new)) }
+        ensures needs { OnErr result (NeedsWord PRECISION left weight (held_by self.old)) }
+        ensures read { ReadsAtMostOne Backend.read_gives self.old.words result self.new.words }
+        ensures same { OnErr result (held_by self.new ≡ held_by self.old) }
+    {
+        let state = without_entry::<PRECISION>(self.state, left, weight);
+        match refilled(&mut self.words, state) {
+            Ok(state) => {
+                self.state = state;
+                Ok(())
+            }
+            Err(error) => Err(error),
         }
     }
 

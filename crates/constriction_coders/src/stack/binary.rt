@@ -7,9 +7,9 @@ ghost use Rattle.constriction_coders.specs.Steps.{WritesAtMostOne};
 
 use crate::stack::ans_coder::AnsCoder;
 use constriction::Stack;
-use constriction::backends::{BoundedReadWords, WordStack};
+use constriction::backends::{BoundedReadWords, StackSource, WordStack};
 
-impl<Backend: WordStack<u32> + Drop> AnsCoder<Backend> {
+impl<Backend: StackSource<u32> + Drop> AnsCoder<Backend> {
     /// The coder that holds the bits of these words, whatever they are, also if they end in 0.
     ///
     /// Symbols can be decoded from it as from random bits. If they are encoded again, [`into_binary`](Self::into_binary) gives the words
@@ -30,7 +30,9 @@ impl<Backend: WordStack<u32> + Drop> AnsCoder<Backend> {
             Err(error) => Err(error),
         }
     }
+}
 
+impl<Backend: WordStack<u32> + Drop> AnsCoder<Backend> {
     /// The words whose bits the coder holds, from which [`from_binary`](Self::from_binary) makes it again.
     ///
     /// It fails with `None` if there are no such words: the coder holds nothing, or its
@@ -57,7 +59,7 @@ impl<Backend: WordStack<u32> + Drop> AnsCoder<Backend> {
     }
 }
 
-impl<Backend: WordStack<u32> + BoundedReadWords<u32, Stack>> AnsCoder<Backend> {
+impl<Backend: StackSource<u32> + BoundedReadWords<u32, Stack>> AnsCoder<Backend> {
     /// How many bits the coder has below its highest one-bit, and `usize::MAX` if they are more. A coder that holds nothing has none.
     pub fn num_valid_bits(&self) -> usize
         requires { Backend.is_exact self.now.words }

@@ -7,7 +7,7 @@ ghost use Rattle.constriction_coders.specs.Steps.{content};
 
 use crate::stack::ans_coder::AnsCoder;
 use constriction::CoderError;
-use constriction::backends::WordStack;
+use constriction::backends::{StackSource, WordStack};
 use std::alloc::{AllocError, Global};
 
 /// How many words a state has.
@@ -27,7 +27,7 @@ fn words_of_state(state: u64) -> usize
     }
 }
 
-impl<Backend: WordStack<u32>> AnsCoder<Backend> {
+impl<Backend: StackSource<u32>> AnsCoder<Backend> {
     /// Whether the coder holds nothing.
     pub fn is_empty(&self) -> bool
         ensures { IsTrue result ↔ (held_by self.now ≡ content 0 []) }
@@ -43,7 +43,7 @@ impl<Backend: WordStack<u32> + Drop> AnsCoder<Backend> {
     pub fn into_compressed(self) -> Result<Backend, Backend::WriteError>
         ensures ok { IfOk result (λ words. IsCompressed (held_by self) (Backend.words_of words)) }
         ensures end { IfOk result (λ words. (others : List ℕ) → Backend.words_of words ≢ others ++ 0 ∷ []) }
-        ensures wrote { WritesState self result }
+        ensures wrote { WritesState Backend.write_gives self result }
     {
         let state = self.state;
         let mut words = self.words;
@@ -62,7 +62,9 @@ impl<Backend: WordStack<u32> + Drop> AnsCoder<Backend> {
             Err(error) => Err(error),
         }
     }
+}
 
+impl<Backend: StackSource<u32> + Drop> AnsCoder<Backend> {
     /// The coder of such words.
     ///
     /// At most two words are read. Words that end in 0 belong to no coder: they are handed back without that 0.

@@ -8,7 +8,7 @@ ghost use Rattle.constriction_coders.specs.Walks.{StepsByModel};
 
 use crate::stack::ans_coder::AnsCoder;
 use constriction::CoderError;
-use constriction::backends::WordStack;
+use constriction::backends::StackSource;
 use constriction::stream::model::DecoderModel;
 use std::alloc::AllocError;
 use std::iter::{Fuse, FusedIterator};
@@ -18,12 +18,12 @@ use std::iter::{Fuse, FusedIterator};
 /// It ends when the models do, and asks for none after that. An error stands in the place of a symbol, and the next answer is by the next
 /// model. What was not asked for stays in the coder.
 #[derive(Drop)]
-pub struct DecodeSymbols<'c, Backend: WordStack<u32>, Models, const PRECISION: usize> {
+pub struct DecodeSymbols<'c, Backend: StackSource<u32>, Models, const PRECISION: usize> {
     pub(crate) coder: &'c mut AnsCoder<Backend>,
     pub(crate) models: Fuse<Models>,
 }
 
-impl<'c, Backend: WordStack<u32>, D, Models, const PRECISION: usize> Iterator
+impl<'c, Backend: StackSource<u32>, D, Models, const PRECISION: usize> Iterator
     for DecodeSymbols<'c, Backend, Models, PRECISION>
 where
     D: DecoderModel<PRECISION, Probability = u32> + Drop,
@@ -52,7 +52,7 @@ where
     }
 }
 
-impl<'c, Backend: WordStack<u32>, D, Models, const PRECISION: usize> FusedIterator
+impl<'c, Backend: StackSource<u32>, D, Models, const PRECISION: usize> FusedIterator
     for DecodeSymbols<'c, Backend, Models, PRECISION>
 where
     D: DecoderModel<PRECISION, Probability = u32> + Drop,
@@ -60,7 +60,7 @@ where
     Models: Iterator<Item = D>,
 {}
 
-impl<Backend: WordStack<u32>> AnsCoder<Backend> {
+impl<Backend: StackSource<u32>> AnsCoder<Backend> {
     /// A walk through the next symbols, the one that was encoded last first, each by a model of its own. It decodes nothing before it is
     /// asked.
     pub fn decode_symbols<'c, D, I, const PRECISION: usize>(

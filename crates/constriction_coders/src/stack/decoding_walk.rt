@@ -8,7 +8,7 @@ ghost use Rattle.constriction_coders.specs.Walks.{StepsOn};
 
 use crate::stack::ans_coder::AnsCoder;
 use constriction::CoderError;
-use constriction::backends::WordStack;
+use constriction::backends::StackSource;
 use constriction::stream::model::DecoderModel;
 use std::alloc::AllocError;
 use std::iter::FusedIterator;
@@ -20,7 +20,7 @@ use std::iter::FusedIterator;
 pub struct DecodeIidSymbols<
     'c,
     'm,
-    Backend: WordStack<u32>,
+    Backend: StackSource<u32>,
     D: DecoderModel<PRECISION, Probability = u32>,
     const PRECISION: usize,
 > {
@@ -32,7 +32,7 @@ pub struct DecodeIidSymbols<
 impl<
     'c,
     'm,
-    Backend: WordStack<u32>,
+    Backend: StackSource<u32>,
     D: DecoderModel<PRECISION, Probability = u32>,
     const PRECISION: usize,
 > Iterator for DecodeIidSymbols<'c, 'm, Backend, D, PRECISION>
@@ -65,7 +65,7 @@ where
 impl<
     'c,
     'm,
-    Backend: WordStack<u32>,
+    Backend: StackSource<u32>,
     D: DecoderModel<PRECISION, Probability = u32>,
     const PRECISION: usize,
 > ExactSizeIterator for DecodeIidSymbols<'c, 'm, Backend, D, PRECISION>
@@ -81,7 +81,7 @@ where
 impl<
     'c,
     'm,
-    Backend: WordStack<u32>,
+    Backend: StackSource<u32>,
     D: DecoderModel<PRECISION, Probability = u32>,
     const PRECISION: usize,
 > FusedIterator for DecodeIidSymbols<'c, 'm, Backend, D, PRECISION>
@@ -89,7 +89,7 @@ where
     D::Symbol: Drop,
 {}
 
-impl<Backend: WordStack<u32>> AnsCoder<Backend> {
+impl<Backend: StackSource<u32>> AnsCoder<Backend> {
     /// A walk through the next `count` symbols, the one that was encoded last first. It decodes nothing before it is asked.
     pub fn decode_iid_symbols<'c, 'm, D, const PRECISION: usize>(
         &'c mut self,

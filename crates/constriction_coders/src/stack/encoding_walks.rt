@@ -28,7 +28,8 @@ impl<Backend: WordStack<u32>> AnsCoder<Backend> {
         requires { IsFiniteIterable I.into_iter_gives I.IntoIter.can_next I.IntoIter.remaining symbols_and_models }
         ensures { (given : I.IntoIter) × I.into_iter_gives symbols_and_models given × TakesItems I.IntoIter.next_gives given result
             (λ done. InTurn (IsEncoded (entry_by E.symbol_eq E.rows) PRECISION) (reverse done) (held_by self.new) (held_by self.old))
-            (λ done pair error. StopsAt (entry_by E.symbol_eq E.rows) PRECISION done pair error (held_by self.old) self.new) }
+            (λ done pair error. StopsAt Backend.write_gives (entry_by E.symbol_eq E.rows) PRECISION done pair error (held_by self.old)
+            self.new) }
     {
         let mut given = symbols_and_models.into_iter();
         'turns: while let Some(pair) = given.next() {
@@ -53,7 +54,8 @@ impl<Backend: WordStack<u32>> AnsCoder<Backend> {
         requires { IsFiniteIterable I.into_iter_gives I.IntoIter.can_next_back I.IntoIter.remaining symbols_and_models }
         ensures { (given : I.IntoIter) × I.into_iter_gives symbols_and_models given × TakesItems I.IntoIter.next_back_gives given result
             (λ done. InTurn (IsEncoded (entry_by E.symbol_eq E.rows) PRECISION) (reverse done) (held_by self.new) (held_by self.old))
-            (λ done pair error. StopsAt (entry_by E.symbol_eq E.rows) PRECISION done pair error (held_by self.old) self.new) }
+            (λ done pair error. StopsAt Backend.write_gives (entry_by E.symbol_eq E.rows) PRECISION done pair error (held_by self.old)
+            self.new) }
     {
         self.encode_symbols::<E, _, PRECISION>(symbols_and_models.into_iter().rev())
     }
@@ -72,8 +74,8 @@ impl<Backend: WordStack<u32>> AnsCoder<Backend> {
         ensures { (given : I.IntoIter) × I.into_iter_gives symbols given × TakesItems I.IntoIter.next_gives given result
             (λ done. InTurn (IsEncoded (entry_of E.symbol_eq (E.rows model.now)) PRECISION) (reverse done) (held_by self.new)
             (held_by self.old))
-            (λ done symbol error. StopsAt (entry_of E.symbol_eq (E.rows model.now)) PRECISION done symbol error (held_by self.old)
-            self.new) }
+            (λ done symbol error. StopsAt Backend.write_gives (entry_of E.symbol_eq (E.rows model.now)) PRECISION done symbol error
+            (held_by self.old) self.new) }
     {
         let symbols = symbols.into_iter();
         self.encode_symbols::<&E, _, PRECISION>(WithModel { symbols, model })
@@ -94,8 +96,8 @@ impl<Backend: WordStack<u32>> AnsCoder<Backend> {
         ensures { (given : I.IntoIter) × I.into_iter_gives symbols given × TakesItems I.IntoIter.next_back_gives given result
             (λ done. InTurn (IsEncoded (entry_of E.symbol_eq (E.rows model.now)) PRECISION) (reverse done) (held_by self.new)
             (held_by self.old))
-            (λ done symbol error. StopsAt (entry_of E.symbol_eq (E.rows model.now)) PRECISION done symbol error (held_by self.old)
-            self.new) }
+            (λ done symbol error. StopsAt Backend.write_gives (entry_of E.symbol_eq (E.rows model.now)) PRECISION done symbol error
+            (held_by self.old) self.new) }
     {
         self.encode_iid_symbols(symbols.into_iter().rev(), model)
     }

@@ -6,7 +6,7 @@ ghost use Rattle.constriction_coders.specs.Positions.{SeeksPlace};
 ghost use Rattle.constriction_coders.specs.AnsCoder.{held_by};
 
 use crate::stack::ans_coder::AnsCoder;
-use constriction::backends::{Cursor, SafeBuf, SafeBufMut, WordStack};
+use constriction::backends::{Cursor, SafeBuf, StackSource};
 use constriction::{Pos, PosSeek, Seek};
 
 /// Whether a coder may be at this place: there are words under the state only if it is at least `2^32`.
@@ -17,13 +17,13 @@ fn is_place(words: usize, state: u64) -> bool
     words == 0 || state >= 1 << 32
 }
 
-impl<Backend: WordStack<u32> + PosSeek> PosSeek for AnsCoder<Backend> {
+impl<Backend: StackSource<u32> + PosSeek> PosSeek for AnsCoder<Backend> {
     type Position = (Backend::Position, u64);
 
     ghost position = { λ s. (Backend.position s.words, s.state) };
 }
 
-impl<Backend: WordStack<u32> + Pos> Pos for AnsCoder<Backend> {
+impl<Backend: StackSource<u32> + Pos> Pos for AnsCoder<Backend> {
     #[inline]
     fn pos(&self) -> (Backend::Position, u64) {
         (self.words.pos(), self.state)
@@ -49,7 +49,7 @@ impl Seek for AnsCoder<Vec<u32>> {
 
 /// Goes to a place that was noted, back or forth, as long as the words from then are still there. A place past the buffer's words is
 /// refused, and so is one with words under a state below `2^32`.
-impl<Buf: SafeBufMut<u32>> Seek for AnsCoder<Cursor<u32, Buf>> {
+impl<Buf: SafeBuf<u32>> Seek for AnsCoder<Cursor<u32, Buf>> {
     ghost seek_gives = { λ old place r new. SeeksPlace (Buf.words_of (buf_of old.words)) (held_by old) place r (held_by new)
         × (buf_of new.words ≡ buf_of old.words) };
 

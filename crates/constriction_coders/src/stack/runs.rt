@@ -7,7 +7,7 @@ ghost use Rattle.constriction.specs.Coding.{InTurn};
 ghost use Rattle.constriction.specs.Rows.{entry_of};
 
 use crate::stack::ans_coder::AnsCoder;
-use constriction::backends::WordStack;
+use constriction::backends::{StackSource, WordStack};
 use constriction::stream::model::{DecoderModel, EncoderModel};
 use constriction::{CoderError, DefaultEncoderFrontendError};
 use std::alloc::{AllocError, Global};
@@ -23,8 +23,8 @@ impl<Backend: WordStack<u32>> AnsCoder<Backend> {
         E: EncoderModel<PRECISION, Probability = u32>,
         ensures ok { OnOk result (InTurn (IsEncoded (entry_of E.symbol_eq (E.rows model.now)) PRECISION) (reverse symbols.now)
             (held_by self.new) (held_by self.old)) }
-        ensures err { IfErr result (λ error. EncodingStops (entry_of E.symbol_eq (E.rows model.now)) PRECISION symbols.now error
-            (held_by self.old) self.new) }
+        ensures err { IfErr result (λ error. EncodingStops Backend.write_gives (entry_of E.symbol_eq (E.rows model.now)) PRECISION
+            symbols.now error (held_by self.old) self.new) }
     {
         for symbol in symbols {
             match self.encode_symbol(symbol, model) {
@@ -45,8 +45,8 @@ impl<Backend: WordStack<u32>> AnsCoder<Backend> {
         E: EncoderModel<PRECISION, Probability = u32>,
         ensures ok { OnOk result (InTurn (IsEncoded (entry_of E.symbol_eq (E.rows model.now)) PRECISION) symbols.now (held_by self.new)
             (held_by self.old)) }
-        ensures err { IfErr result (λ error. EncodingStops (entry_of E.symbol_eq (E.rows model.now)) PRECISION (reverse symbols.now) error
-            (held_by self.old) self.new) }
+        ensures err { IfErr result (λ error. EncodingStops Backend.write_gives (entry_of E.symbol_eq (E.rows model.now)) PRECISION
+            (reverse symbols.now) error (held_by self.old) self.new) }
     {
         let count = symbols.len();
         for done in 0..count {
@@ -57,7 +57,9 @@ impl<Backend: WordStack<u32>> AnsCoder<Backend> {
         }
         Ok(())
     }
+}
 
+impl<Backend: StackSource<u32>> AnsCoder<Backend> {
     /// Decodes `count` symbols, the one that was encoded last first.
     ///
     /// Memory for all of them is asked for first. If `count` comes from outside, use

@@ -4,7 +4,7 @@ use Rattle.constriction_backends_tests.proofs.stacks.there_and_back.Goals as goa
 pub returns : goal.returns
 returns g c =
     let law = c.written_is_read.ensures in
-    let words = g.Backend.WordStack.words_of c.args.backend.now in
+    let words = g.Backend.StackSource.words_of c.args.backend.now in
     let one = law.written _ _ c.args.first c.in-Ok.ensures.gives in
     let two = law.written _ _ c.args.second c.in-Ok-write.ensures.gives ∙ ap (λ ws. ws ++ c.args.second ∷ []) one in
     let last = law.read _ _ c.args.second (Ok c.in-Ok-read.last) (words ++ c.args.first ∷ []) two c.in-Ok-read.ensures.gives in

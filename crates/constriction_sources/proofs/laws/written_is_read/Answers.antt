@@ -14,13 +14,13 @@ pops-last words w later (Err e) new is h = h.1 ∙ is
 
 pub returns : goal.returns
 returns g c =
-    let words_of = g.Backend.WordStack.words_of in
+    let words_of = g.Backend.StackSource.words_of in
     record {
       written = λ old new w wrote.
           known_pushes {E = g.row.Backend-WriteError.Denot} g.Backend.WriteWords.tells_written words_of (words_of old) g.met.Backend.WordStack.tells_no_others w (Ok tt) new
           (g.met.Backend.WriteWords.writes_append old w (Ok tt) new wrote (words_of old) (g.met.Backend.WordStack.tells_words old));
       read = λ later new w r words on_top read.
           pops-last words w (words_of later) r (words_of new) on_top
-          (known_pops g.Backend.ReadWords.tells_upcoming words_of (words_of later) g.met.Backend.WordStack.no_others_come r new
-          (g.met.Backend.ReadWords.reads_upcoming later r new read _ (g.met.Backend.WordStack.words_come later)));
+          (known_pops g.Backend.ReadWords.tells_upcoming words_of (words_of later) g.met.Backend.StackSource.no_others_come r new
+          (g.met.Backend.ReadWords.reads_upcoming later r new read _ (g.met.Backend.StackSource.words_come later)));
     }

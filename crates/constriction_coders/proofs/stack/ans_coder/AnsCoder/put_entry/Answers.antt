@@ -6,7 +6,7 @@ use Rattle.constriction_coders.proofs.stack.ans_coder.AnsCoder.put_entry.Goals a
 pub returns-in-Ok-clause-ok : goal.returns-in-Ok-clause-ok
 returns-in-Ok-clause-ok g c =
     put-on-top g.row.PRECISION c.args.left c.args.weight c.in-Ok.kept c.with_entry-self.result
-    (g.Backend.WordStack.words_of c.with_room.new.words)
+    (g.Backend.StackSource.words_of c.with_room.new.words)
     (held_by c.args.self.now)
     c.requires.some c.requires.within c.with_entry-self.ensures c.in-Ok.ensures.ok
 

@@ -16,7 +16,7 @@ returns-in-Ok-clause-ok g c = record {
   to = c.requires.to;
   within = c.requires.within;
   under =
-      subst (λ n. Refills n (g.Backend.WordStack.words_of c.args.self.now.words)
-      (content c.in-Ok.state (g.Backend.WordStack.words_of c.refilled.new.words))) c.without_entry-state.ensures.value
+      subst (λ n. Refills n (g.Backend.StackSource.words_of c.args.self.now.words)
+      (content c.in-Ok.state (g.Backend.StackSource.words_of c.refilled.new.words))) c.without_entry-state.ensures.value
       c.in-Ok.ensures.ok;
 }
