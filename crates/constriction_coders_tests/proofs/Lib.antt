@@ -1,3 +1,4 @@
+mod LentWords
 mod OwnModels
 mod Pairs
 mod Shown

@@ -13,7 +13,7 @@ mod own_models;
 mod queue;
 mod stack;
 
-use constriction::backends::{Cursor, WordStack};
+use constriction::backends::{Cursor, StackSource, WordStack};
 use constriction::stream::model::{
     DecoderModel, DefaultNonContiguousCategoricalDecoderModel,
     DefaultNonContiguousCategoricalEncoderModel, EncoderModel, EntropyModel, UniformModel,
@@ -109,7 +109,7 @@ pub fn by_a_walk<Backend, D, const PRECISION: usize>(
     model: &D,
 ) -> Result<Vec<D::Symbol>, CoderError<AllocError, Backend::ReadError>>
 where
-    Backend: WordStack<u32>,
+    Backend: StackSource<u32>,
     D: DecoderModel<PRECISION, Probability = u32>,
     D::Symbol: Drop,
     ensures { IfOk result (λ symbols. InTurn (IsDecoded D.stands_for (D.rows model.now) PRECISION) symbols.items

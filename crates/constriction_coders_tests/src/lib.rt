@@ -19,6 +19,8 @@ mod counts;
 #[cfg(test)]
 mod known_models;
 #[cfg(test)]
+mod lent_words;
+#[cfg(test)]
 mod messages_of_stack;
 #[cfg(test)]
 mod positions;

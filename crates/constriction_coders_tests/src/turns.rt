@@ -6,7 +6,7 @@ ghost use Rattle.constriction_backends.specs.lemmas.Stack.{Pops-upcoming, Pushes
 
 use crate::checks::same;
 use constriction::Stack;
-use constriction::backends::{ReadWords, WordStack, WriteWords};
+use constriction::backends::{ReadWords, StackSource, WordStack, WriteWords};
 use constriction::stream::model::DefaultUniformModel;
 use constriction_coders::stack::AnsCoder;
 use std::alloc::{AllocError, Global};
@@ -51,20 +51,22 @@ impl WriteWords<u32> for Counted {
     ghost room_suffices = { λ s word r t gives room. absurd room };
 }
 
-impl WordStack<u32> for Counted {
+impl StackSource<u32> for Counted {
     ghost words_of = { λ s. s.words.items };
-
-    ghost tells_words = { λ s. refl };
-
-    ghost tells_no_others = { λ s words known. known };
 
     ghost words_come = { λ s. refl };
 
     ghost no_others_come = { λ s words known. known };
 
-    ghost always_writable = { λ s. tt };
-
     ghost always_readable = { λ s. tt };
+}
+
+impl WordStack<u32> for Counted {
+    ghost tells_words = { λ s. refl };
+
+    ghost tells_no_others = { λ s words known. known };
+
+    ghost always_writable = { λ s. tt };
 }
 
 /// How many symbols a message has.

@@ -7,9 +7,10 @@ ghost use Rattle.constriction.specs.Rows.{entry_of, uniform_rows};
 ghost use Rattle.constriction_coders.specs.AnsCoder.{held_by};
 ghost use Rattle.constriction_coders.specs.StackMessages.{IsStackOf};
 
-use constriction::CoderError;
+use constriction::backends::Cursor;
 use constriction::laws::contiguous_symbols_differ;
 use constriction::stream::model::{DecoderModel, EncoderModel, EntropyModel, UniformModel};
+use constriction::{CoderError, Pos, Seek};
 use constriction_coders::laws::{
     back_and_there, binary_comes_back, bits_come_back, encoded_once, may_be_held, symbols_come_back,
 };
@@ -44,25 +45,25 @@ where
     coder.into_compressed().ok()
 }
 
-/// Decodes `count` symbols from words. If these are the words of `count` symbols, the symbols come back, and the words are not refused.
+/// Decodes `count` symbols from words that are only lent. If these are the words of `count` symbols, the symbols come back, and the words are not refused.
 pub fn symbols_of_words<M, const PRECISION: usize>(
     alloc: Global,
     model: &M,
-    words: Vec<u32>,
+    words: &[u32],
     count: usize,
 ) -> Result<Vec<M::Symbol>, WordsError>
 where
     M: EncoderModel<PRECISION, Probability = u32> + DecoderModel<PRECISION, Probability = u32>,
     M::Symbol: Drop,
     ensures back { IfOk result (λ answers. (symbols : List M.Symbol) → length symbols ≡ count
-        → IsStackOf (entry_of M.symbol_eq (M.rows model.now)) PRECISION symbols words.items
+        → IsStackOf (entry_of M.symbol_eq (M.rows model.now)) PRECISION symbols words.now
         → AllZip (StandsForEqual M.stands_for M.symbol_eq) symbols answers.items) }
     ensures accepted { result ≡ Err WordsError.OtherWords → (symbols : List M.Symbol) → length symbols ≡ count
-        → ¬ (IsStackOf (entry_of M.symbol_eq (M.rows model.now)) PRECISION symbols words.items) }
+        → ¬ (IsStackOf (entry_of M.symbol_eq (M.rows model.now)) PRECISION symbols words.now) }
 {
     encoded_once::<M::Symbol, PRECISION>();
     symbols_come_back::<M, M, PRECISION>(model, model);
-    let mut coder = match AnsCoder::from_compressed(words) {
+    let mut coder = match AnsCoder::from_compressed(Cursor::new_at_write_end(words)) {
         Ok(coder) => coder,
         Err(CoderError::Frontend(_)) => return Err(WordsError::OtherWords),
         Err(CoderError::Backend(error)) => match error {},
@@ -74,6 +75,49 @@ where
         return Err(WordsError::OtherWords);
     }
     Ok(answers)
+}
+
+/// Symbols that were encoded before others, decoded from words that are only lent, at the place that was noted after them.
+pub fn from_a_place<M, const PRECISION: usize>(
+    alloc: Global,
+    model: &M,
+    first: &[M::Symbol],
+    later: &[M::Symbol],
+) -> Option<Vec<M::Symbol>>
+where
+    M: EncoderModel<PRECISION, Probability = u32> + DecoderModel<PRECISION, Probability = u32>,
+    M::Symbol: Drop,
+    ensures { IfSome result (λ answers. AllZip (StandsForEqual M.stands_for M.symbol_eq) first.now answers.items) }
+{
+    encoded_once::<M::Symbol, PRECISION>();
+    symbols_come_back::<M, M, PRECISION>(model, model);
+    let mut coder = AnsCoder::new(alloc);
+    match coder.encode_iid_slice_reverse(first, model) {
+        Ok(()) => {}
+        Err(_) => return None,
+    }
+    may_be_held(&coder);
+    let place = coder.pos();
+    match coder.encode_iid_slice_reverse(later, model) {
+        Ok(()) => {}
+        Err(_) => return None,
+    }
+    let words = match coder.into_compressed() {
+        Ok(words) => words,
+        Err(_) => return None,
+    };
+    let Ok(mut decoder) = AnsCoder::from_compressed(Cursor::new_at_write_end(words.as_slice()))
+    else {
+        return None;
+    };
+    match decoder.seek(place) {
+        Ok(()) => {}
+        Err(()) => unreachable!(),
+    }
+    match decoder.decode_iid_vec(alloc, first.len(), model) {
+        Ok(answers) => Some(answers),
+        Err(_) => None,
+    }
 }
 
 /// Numbers below a range.
