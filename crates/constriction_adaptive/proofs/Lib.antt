@@ -1,7 +1,11 @@
 pub mod Bits
+pub mod CategoricalLemmas
 pub mod Entries
+pub mod LeftsLemmas
 pub mod ListLemmas
+pub mod MessageReading
 pub mod MixerLemmas
 pub mod NumberLemmas
+pub mod Reading
 pub mod Rows
 pub mod Runs

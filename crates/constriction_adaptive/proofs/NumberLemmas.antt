@@ -1,10 +1,10 @@
 -- Bounds of the numbers of logistic mixing.
-use Rattle.std.proofs.Common.{◌≡◌, ℕ, suc, ◌+◌, ◌-◌, ◌*◌, ◌/◌, ◌^◌, ◌<◌, ◌≤◌, arith, inl, inr}
+use Rattle.std.proofs.Common.{◌≡◌, ℕ, suc, ◌+◌, ◌-◌, ◌*◌, ◌/◌, ◌%◌, ◌^◌, ◌<◌, ◌≤◌, arith, inl, inr}
 use Rattle.std.proofs.Math.Nat.{pow-suc}
 use Rattle.std.proofs.Math.Pow.{pow_mono}
 use Rattle.std.proofs.lemmas.Bool.{cases_lt}
-use Rattle.std.proofs.lemmas.Nat.{leading_top, div_below, pow_pos}
-use Rattle.constriction_adaptive.specs.Mixing.{logarithm}
+use Rattle.std.proofs.lemmas.Nat.{leading_top, div_below, mul-le, pow_pos}
+use Rattle.constriction_adaptive.specs.Mixing.{logarithm, tail}
 
 -- a power of 2 below 2 ^ 13
 power_below : (j x : ℕ) → 2 ^ j ≤ x → x < 8192 → j < 13
@@ -26,3 +26,14 @@ at_place c j x place from to below =
 pub logarithm-below : (x : ℕ) → 0 < x → x < 8192 → logarithm x < 2048
 logarithm-below x some below =
     let t = leading_top 32 x some (omega (arith, below)) in at_place _ t.0 x t.1 t.2 t.3 below
+
+-- no bit that another one beats has more than half
+tail_above : (r p : ℕ) → 0 < p → 128 ≤ (128 + r) * p
+tail_above r p some = let part : 128 * 1 ≤ (128 + r) * p = mul-le 128 1 (128 + r) p (omega arith) some in part
+
+pub tail_most : (lead : ℕ) → tail lead ≤ 32768
+tail_most lead =
+    let above : 128 ≤ (128 + lead % 128) * 2 ^ (lead / 128) = tail_above (lead % 128) (2 ^ (lead / 128)) (pow_pos (lead / 128)) in
+    let below : 8388608 / ((128 + lead % 128) * 2 ^ (lead / 128) + 128) < 32769 =
+    div_below 8388608 ((128 + lead % 128) * 2 ^ (lead / 128) + 128) 32769 (omega arith) (omega arith) in
+    omega arith

@@ -1,5 +1,5 @@
 -- What a model of one bit answers.
-use Rattle.std.proofs.Common.{◌≡◌, ℕ, ◌-◌, ◌<◌, ◌≤◌, Bool, true, false, Some, ap, sym, ◌∙◌, arith, zero-add}
+use Rattle.std.proofs.Common.{◌≡◌, ◌≢◌, ℕ, ◌-◌, ◌<◌, ◌≤◌, Bool, true, false, List, Option, Some, None, refl, ap, sym, ◌∙◌, arith, zero-add}
 use Rattle.std.specs.Bool.{beq}
 use Rattle.constriction.specs.Rows.{Row, IsRowOf, entry_of}
 use Rattle.constriction_adaptive.specs.Bit.{bit_rows}
@@ -11,6 +11,17 @@ entry-one first weight false is h = absurd (let wrong = h in cc)
 pub entry-zero : (first weight : ℕ) (b : Bool) → weight ≡ first → b ≡ false → Some (0, weight) ≡ entry_of beq (bit_rows first) b
 entry-zero first weight true is h = absurd (let wrong = h in cc)
 entry-zero first weight false is h = ap (λ w. Some (0, w)) is
+
+-- both bits have an entry
+pub some-entry : (first : ℕ) (rows : List (Row Bool)) (b : Bool) → bit_rows first ≡ rows → entry_of beq rows b ≢ None
+some-entry first rows true is none =
+    let wrong : ◌≡◌ {A = Option (ℕ × ℕ)} (Some (first, 65536 - first)) None =
+    entry-one first (65536 - first) true refl refl ∙ ap (λ (r : List (Row Bool)). entry_of beq r true) is ∙ none in
+    cc
+some-entry first rows false is none =
+    let wrong : ◌≡◌ {A = Option (ℕ × ℕ)} (Some (0, first)) None =
+    entry-zero first first false refl refl ∙ ap (λ (r : List (Row Bool)). entry_of beq r false) is ∙ none in
+    cc
 
 pub row-zero : (first weight quantile : ℕ) → weight ≡ first → quantile < first
     → IsRowOf (bit_rows first) quantile (record { symbol = false; left = 0; weight = weight })

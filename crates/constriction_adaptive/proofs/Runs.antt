@@ -1,14 +1,16 @@
 -- Runs of symbols in their states: they grow at the end, are joined, and stop.
 use Rattle.std.proofs.Common.{◌≡◌, ℕ, ◌+◌, ◌<◌, suc, Bool, List, [], ◌∷◌, ◌++◌, fold, length, take, drop, get_or, Some, refl, ap, sym, ◌∙◌, subst}
+use Rattle.std.specs.Prelude.{All}
 use Rattle.std.specs.List.{AllZip}
 use Rattle.std.proofs.lemmas.List.{take_more}
+use Rattle.std.proofs.lemmas.List.Elements.{All-append, All-cons, All-nil}
 use Rattle.std.proofs.lemmas.List.Sums.{fold-append}
 use Rattle.constriction.specs.Coding.{InTurn}
 use Rattle.constriction.specs.Rows.{Row, RowsTile, entry_of}
 use Rattle.constriction_coders.specs.Places.{placed, entry_at, IsDecodedAt}
 use Rattle.constriction_coders.specs.Spans.{Span, IsNarrowed}
 use Rattle.constriction_coders.proofs.Stopping.{split-at-symbol}
-use Rattle.constriction_adaptive.specs.Predicted.{entry_in, AreCoded, DecodingStops, EncodingStops}
+use Rattle.constriction_adaptive.specs.Predicted.{entry_in, AllTile, AreCoded, DecodingStops, EncodingStops}
 
 module _ {State Symbol : Type 0} (next : State → Symbol → State) where
   pub placed-append : (first : State) (xs ys : List Symbol) → placed next first (xs ++ ys) ≡ placed next first xs ++ placed next (fold next first xs) ys
@@ -83,6 +85,30 @@ module _ {State Symbol : Type 0} (next : State → Symbol → State) where
   same-state Back same first (x ∷ xs) (a ∷ ts) h =
       ap (λ (s : State). fold next s ts) (same first x a h.0) ∙ same-state Back same (next first x) xs ts h.1
 
+-- ---- rows that tile
+
+module _ {State Symbol : Type 0} (rows : State → List (Row Symbol)) (next : State → Symbol → State) (precision : ℕ) where
+  abbrev Tiles : State × Symbol → Type 0
+  Tiles place = RowsTile 32 precision (rows place.0)
+
+  -- symbols after other symbols
+  pub tile-append : (first : State) (xs ys : List Symbol) → AllTile rows next precision first xs
+      → AllTile rows next precision (fold next first xs) ys → AllTile rows next precision first (xs ++ ys)
+  tile-append first xs ys p q =
+      subst (λ (places : List (State × Symbol)). All Tiles places) (sym (placed-append next first xs ys))
+      (All-append Tiles (placed next first xs) (placed next (fold next first xs) ys) p q)
+
+  -- the next one of some symbols
+  pub tile-take : (xs : List Symbol) (i : ℕ) (x : Symbol) → i < length xs → x ≡ get_or xs i x → (first between : State)
+      → AllTile rows next precision first (take i xs) → between ≡ fold next first (take i xs) → RowsTile 32 precision (rows between)
+      → AllTile rows next precision first (take (i + 1) xs)
+  tile-take xs i x less is first between before learned tile =
+      let more : take (i + 1) xs ≡ take i xs ++ x ∷ [] = take_more xs i x less ∙ ap (λ y. take i xs ++ y ∷ []) (sym is) in
+      let last : State = fold next first (take i xs) in
+      let one : AllTile rows next precision last (x ∷ []) =
+      All-cons Tiles (last, x) [] (subst (λ (s : State). RowsTile 32 precision (rows s)) learned tile) (All-nil Tiles) in
+      subst (λ (ys : List Symbol). AllTile rows next precision first ys) (sym more) (tile-append first (take i xs) (x ∷ []) before one)
+
 -- ---- a symbol that is coded by a model with the rows of a state
 
 module _ {State Symbol : Type 0} (rows : State → List (Row Symbol)) (eq : Symbol → Symbol → Bool) (precision : ℕ)
@@ -97,11 +123,14 @@ module _ {State Symbol : Type 0} (rows : State → List (Row Symbol)) (eq : Symb
     next = step.next;
   }
 
+  pub tile-in : RowsTile 32 precision made → RowsTile 32 precision (rows state)
+  tile-in tile = subst (λ (r : List (Row Symbol)). RowsTile 32 precision r) is tile
+
   pub decoded-in : {C : Type 0} (Step : List (Row Symbol) → Symbol → C → C → Type 0) (symbol : Symbol) (old new : C)
       → RowsTile 32 precision made → Step made symbol old new
       → IsDecodedAt eq (entry_in rows eq) rows precision Step (state, symbol) old new
   decoded-in {C = C} Step symbol old new tile step = record {
-    tile = subst (λ (r : List (Row Symbol)). RowsTile 32 precision r) is tile;
+    tile = tile-in tile;
     alike = λ s. refl;
     step = subst (λ (r : List (Row Symbol)). Step r symbol old new) is step;
   }

@@ -1,6 +1,12 @@
--- Bytes as bits, the highest first.
-use Rattle.std.specs.Prelude.{◌+◌, ◌*◌, ◌/◌, ◌%◌, ℕ, List, [], ◌∷◌, ◌++◌, Bool, nat_eq}
+-- Bytes as bits, the highest first, and the bytes that a range decoder reads from words.
+use Rattle.std.specs.Prelude.{◌≡◌, ◌<◌, ◌+◌, ◌*◌, ◌/◌, ◌%◌, ℕ, List, [], ◌∷◌, ◌++◌, All, Bool, nat_eq, Option, Some, None, Result, Ok, Err}
+use Rattle.std.specs.Bool.{beq}
+use Rattle.constriction.specs.Coding.{InTurn}
+use Rattle.constriction.specs.Rows.{Row}
+use Rattle.constriction_coders.specs.Intervals.{Held, IsStart}
+use Rattle.constriction_coders.specs.Places.{placed}
 use Rattle.constriction_adaptive.specs.Bit.{bit_number}
+use Rattle.constriction_adaptive.specs.Predicted.{IsReadIn}
 
 -- the bits of a byte
 abbrev pub bits_of : ℕ → List Bool
@@ -17,3 +23,19 @@ all_bits (b ∷ bs) = bits_of b ++ all_bits bs
 abbrev pub number_from : ℕ → List Bool → ℕ
 number_from before [] = before
 number_from before (b ∷ bs) = number_from (2 * before + bit_number b) bs
+
+-- A read takes the first of these words and leaves the others. If there is none, it answers None.
+abbrev pub TakesFirst : List ℕ → Result (Option ℕ) ⊥ → List ℕ → Type 0
+TakesFirst words (Ok (Some word)) left = words ≡ word ∷ left
+TakesFirst words (Ok None) left = (words ≡ []) × (left ≡ [])
+TakesFirst words (Err error) left = ⊥
+
+-- A range decoder of these words, which may have others after them, reads these bytes: each bit by the rows of its state, of which the first
+-- one is `first`. If no word is left, it reads 0.
+pub record AreReadFrom {State : Type 0} (rows : State → List (Row Bool)) (next : State → Bool → State) (first : State)
+    (bytes words : List ℕ) : Type 0 where
+  pub small : All (λ b. b < 256) bytes
+  pub start : Held (List ℕ)
+  pub begun : IsStart TakesFirst words start.held start.source
+  pub end : Held (List ℕ)
+  pub led : InTurn (IsReadIn rows (λ s t. t ≡ s) beq 16 TakesFirst) (placed next first (all_bits bytes)) start end

@@ -1,7 +1,9 @@
 pub mod Bit
 pub mod Bytes
+pub mod Categorical
 pub mod Contexts
 pub mod Entries
+pub mod KnownModels
 pub mod Mixer
 pub mod Mixing
 pub mod Past

@@ -1,7 +1,9 @@
 -- A mixer of hashed contexts, which predicts the bits of bytes.
 use Rattle.std.specs.Prelude.{◌+◌, ◌*◌, ℕ, List, [], length, map, replicate, Bool, slice_index, slice_index_or, slice_set}
+use Rattle.constriction.specs.Rows.{Row}
+use Rattle.constriction_adaptive.specs.Bit.{at_least_one, bit_rows}
 use Rattle.constriction_adaptive.specs.Contexts.{even_weights}
-use Rattle.constriction_adaptive.specs.Mixing.{for_one, for_zero, mixed, place, slots_moved, squash, weights_after}
+use Rattle.constriction_adaptive.specs.Mixing.{error_of, mixed, place, slots_moved, squash, strength, weights_after}
 use Rattle.constriction_adaptive.specs.Past.{PastState, followed, past_after, past_begun}
 
 pub record MixerState : Type 0 where
@@ -24,19 +26,20 @@ places_in groups past contexts = map (place groups past.history past.half (follo
 abbrev pub places_of : MixerState → List ℕ
 places_of m = places_in m.groups m.past m.contexts
 
--- how strongly each context speaks for 0, and for 1
-abbrev pub zeros_of : MixerState → List ℕ
-zeros_of m = map (λ p. for_zero (slice_index m.slots (p + m.past.path))) (places_of m)
-
-abbrev pub ones_of : MixerState → List ℕ
-ones_of m = map (λ p. for_one (slice_index m.slots (p + m.past.path))) (places_of m)
+-- how strongly each context speaks for 0
+abbrev pub strengths_of : MixerState → List ℕ
+strengths_of m = map (λ p. strength (slice_index m.slots (p + m.past.path))) (places_of m)
 
 abbrev pub row : MixerState → List ℕ
 row m = slice_index_or m.weights m.past.told []
 
 -- the weight of 0 for the next bit
 abbrev pub predicted : MixerState → ℕ
-predicted m = squash (mixed (row m) (zeros_of m)) (mixed (row m) (ones_of m))
+predicted m = squash (mixed (row m) (strengths_of m))
+
+-- the rows of the next bit
+abbrev pub mixer_rows : MixerState → List (Row Bool)
+mixer_rows m = bit_rows (at_least_one (predicted m))
 
 -- the state after a bit
 abbrev pub mixer_after : MixerState → Bool → MixerState
@@ -44,7 +47,7 @@ mixer_after m bit = record {
   contexts = m.contexts;
   groups = m.groups;
   slots = slots_moved bit m.past.path (places_of m) m.slots;
-  weights = slice_set m.weights m.past.told (weights_after bit (predicted m) (zeros_of m) (ones_of m) (row m));
+  weights = slice_set m.weights m.past.told (weights_after bit (error_of bit (predicted m)) (strengths_of m) (row m));
   past = past_after bit m.past;
 }
 

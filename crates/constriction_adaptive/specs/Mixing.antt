@@ -11,21 +11,17 @@ highest x = 31 - leading_zeros w32 x
 abbrev pub logarithm : ℕ → ℕ
 logarithm x = 128 * highest x + 128 * x / 2 ^ highest x - 128
 
--- how strongly a slot speaks for 0, and for 1: the logarithm of its odds, or 0
-abbrev pub for_zero : ℕ → ℕ
-for_zero slot = logarithm (2 * (slot / 16) + 1) - logarithm (8191 - 2 * (slot / 16))
+-- how strongly a slot speaks for 0: the logarithm of its odds, and 2048, which speaks for neither bit
+abbrev pub strength : ℕ → ℕ
+strength slot = 2048 + logarithm (2 * (slot / 16) + 1) - logarithm (8191 - 2 * (slot / 16))
 
-abbrev pub for_one : ℕ → ℕ
-for_one slot = logarithm (8191 - 2 * (slot / 16)) - logarithm (2 * (slot / 16) + 1)
-
--- the weight of a bit that the other bit beats by odds of 2 ^ (strength / 128), linear between powers of 2
+-- the weight of a bit that the other bit beats by odds of 2 ^ (lead / 128), linear between powers of 2
 abbrev pub tail : ℕ → ℕ
-tail strength = 8388608 / ((128 + strength % 128) * 2 ^ (strength / 128) + 128)
+tail lead = 8388608 / ((128 + lead % 128) * 2 ^ (lead / 128) + 128)
 
--- the weight of 0, where what speaks for 0 and for 1 was summed with weights of 2 ^ 16 for once
-abbrev pub squash : ℕ → ℕ → ℕ
-squash speaks_zero speaks_one =
-    if nat_lt speaks_zero speaks_one then tail (min 2047 ((speaks_one - speaks_zero) / 65536)) else 65536 - tail (min 2047 ((speaks_zero - speaks_one) / 65536))
+-- the weight of 0, for which this strength speaks
+abbrev pub squash : ℕ → ℕ
+squash strength = if nat_lt strength 2048 then tail (2048 - strength) else 65536 - tail (strength - 2048)
 
 -- a slot moves towards the bit by an eighth of the way, at first by half of it
 abbrev pub pace : ℕ → ℕ
@@ -36,8 +32,9 @@ slot_after false slot = slot + (65535 - slot) / pace slot
 slot_after true slot = slot - slot / pace slot
 
 -- an input counts more if it spoke for the bit that came, and less if it spoke against it, from 0 to 4 times
-abbrev pub adjusted : (error right wrong weight : ℕ) → ℕ
-adjusted error right wrong weight = min 262144 (weight + right * error / 131072) - wrong * error / 131072
+abbrev pub weight_after : Bool → (error strength weight : ℕ) → ℕ
+weight_after false error strength weight = min 262144 (weight + strength * error / 131072 - error / 64)
+weight_after true error strength weight = min 262144 (weight + error / 64 - strength * error / 131072)
 
 -- one of `count` places for a number below 2 ^ 64
 abbrev pub spread : (count key : ℕ) → ℕ
@@ -61,16 +58,20 @@ slots_moved bit path [] slots = slots
 slots_moved bit path (p ∷ ps) slots =
     slots_moved bit path ps (slice_set slots (p + path) (slot_after bit (slice_index slots (p + path))))
 
--- each input counts more or less
-abbrev pub weights_adjusted : ℕ → (right wrong weights : List ℕ) → List ℕ
-weights_adjusted error right wrong weights =
-    map (λ i. adjusted error (slice_index right i) (slice_index wrong i) (slice_index weights i)) (range_with_len 0 (length weights))
+-- how far the weight of 0 was from the bit that came
+abbrev pub error_of : Bool → ℕ → ℕ
+error_of false weight = 65536 - weight
+error_of true weight = weight
 
--- the bit came that had this weight: what spoke for it counts more, and what spoke against it less
-abbrev pub weights_after : Bool → (weight : ℕ) (zeros ones weights : List ℕ) → List ℕ
-weights_after false weight zeros ones weights = weights_adjusted (65536 - weight) zeros ones weights
-weights_after true weight zeros ones weights = weights_adjusted weight ones zeros weights
+-- each input counts more or less after a bit
+abbrev pub weights_after : Bool → (error : ℕ) → (strengths weights : List ℕ) → List ℕ
+weights_after bit error strengths weights =
+    map (λ i. weight_after bit error (slice_index strengths i) (slice_index weights i)) (range_with_len 0 (length weights))
 
--- what the inputs say together
+-- values summed, each as often as its weight says
+abbrev pub weighed : (weights : List ℕ) → (ℕ → ℕ) → ℕ
+weighed weights value = sum (map (λ i. slice_index weights i * value i) (range_with_len 0 (length weights)))
+
+-- how strongly the inputs speak for 0 together, with weights of 2 ^ 16 for once, from 0 to 4095
 abbrev pub mixed : (weights strengths : List ℕ) → ℕ
-mixed weights strengths = sum (map (λ i. slice_index weights i * slice_index strengths i) (range_with_len 0 (length weights)))
+mixed weights strengths = min 4095 ((134217728 + weighed weights (slice_index strengths) - weighed weights (λ _. 2048)) / 65536)

@@ -1,9 +1,9 @@
 -- Symbols that are predicted: each is coded in a state, by the rows that the state predicts, and leads to the next state.
-use Rattle.std.specs.Prelude.{◌≡◌, ℕ, ◌*◌, ◌^◌, ◌<◌, Bool, List, ◌∷◌, ◌++◌, fold, length, Option, Some, None, Result, Err}
+use Rattle.std.specs.Prelude.{◌≡◌, ℕ, ◌*◌, ◌^◌, ◌<◌, All, Bool, List, ◌∷◌, ◌++◌, fold, length, Option, Some, None, Result, Err}
 use Rattle.constriction.specs.Coding.{InTurn}
 use Rattle.constriction.specs.declared.CoderError.{CoderError}
 use Rattle.constriction.specs.declared.CoderError.TheVariants.{Frontend, Backend}
-use Rattle.constriction.specs.Rows.{Row, entry_of}
+use Rattle.constriction.specs.Rows.{Row, RowsTile, entry_of}
 use Rattle.constriction_coders.specs.Intervals.{Held, IsRead, IsAboveAll, unit_of}
 use Rattle.constriction_coders.specs.Places.{placed, entry_at, IsDecodedAt}
 use Rattle.constriction_coders.specs.Spans.{Span}
@@ -19,6 +19,10 @@ module _ {State Symbol : Type 0} (rows : State → List (Row Symbol)) where
   -- the entry of a symbol by the rows of a state
   abbrev pub entry_in : (Symbol → Symbol → Bool) → State → Symbol → Option (ℕ × ℕ)
   entry_in eq state = entry_of eq (rows state)
+
+  -- the rows of the states in which these symbols are coded tile the quantiles
+  abbrev pub AllTile : (State → Symbol → State) → (precision : ℕ) → State → List Symbol → Type 0
+  AllTile next precision first symbols = All (λ place. RowsTile 32 precision (rows place.0)) (placed next first symbols)
 
   module _ (Stands : Symbol → Symbol → Type 0) (eq : Symbol → Symbol → Bool) (precision : ℕ) where
     -- a symbol is decoded from a range coder by the rows of its state

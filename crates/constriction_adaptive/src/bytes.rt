@@ -1,17 +1,17 @@
 //! Bytes by a predictor of their bits, in a range coder.
 
-ghost use Rattle.std.specs.Prelude.{◌≡◌, ◌++◌, ◌^◌, ◌<◌, ℕ, List, All, IfOk, OnOk, IfErr, length, fold};
+ghost use Rattle.std.specs.Prelude.{◌≡◌, ◌≢◌, ◌++◌, ◌^◌, ◌<◌, ℕ, Bool, List, None, Err, All, IfOk, OnOk, IfErr, length, fold};
 ghost use Rattle.std.specs.Bool.{beq};
 ghost use Rattle.constriction_coders.specs.Places.{entry_at, IsMessageFrom};
 ghost use Rattle.constriction_coders.specs.RangeDecoder.{held_by};
 ghost use Rattle.constriction_coders.specs.Spans.{IsNarrowed};
-ghost use Rattle.constriction_adaptive.specs.Bytes.{all_bits, bits_of};
-ghost use Rattle.constriction_adaptive.specs.Predicted.{entry_in, AreCoded, DecodingStops, EncodingStops, IsEncodingFault, IsReadIn, IsReadingFault};
+ghost use Rattle.constriction_adaptive.specs.Bytes.{all_bits, bits_of, AreReadFrom};
+ghost use Rattle.constriction_adaptive.specs.Predicted.{entry_in, AllTile, AreCoded, DecodingStops, EncodingStops, IsEncodingFault, IsReadIn, IsReadingFault};
 
 use crate::bit::Bit;
 use crate::error::EncoderFrontendError;
 use crate::predictor::Predictor;
-use crate::queue::{decode_next, encode_adaptively, symbols_come_back};
+use crate::queue::{decode_next, encode_adaptively};
 use constriction::backends::ReadWords;
 use constriction::{CoderError, Queue};
 use constriction_coders::queue::{DecoderFrontendError, RangeDecoder, RangeEncoder};
@@ -34,9 +34,20 @@ fn bits_of_byte(byte: u8) -> [bool; 8]
     ]
 }
 
+/// Both bits have an entry.
+#[inline]
+fn bits_have_entries<P>(predictor: &P)
+where
+    P: Predictor<16, Symbol = bool, Model = Bit>,
+    ensures { (bit : Bool) → entry_in P.rows beq (P.state predictor.now) bit ≢ None }
+{
+    let _model = predictor.model();
+}
+
 /// Encodes the bits of a byte, the highest first.
 ///
-/// It fails as [`encode_next`](crate::queue::encode_next) does. The bits before the one that was not encoded stay encoded and learned.
+/// It fails as [`encode_next`](crate::queue::encode_next) does, but no bit is impossible. The bits before the one that was not encoded stay
+/// encoded and learned.
 #[inline]
 pub fn encode_byte<P>(
     predictor: &mut P,
@@ -47,12 +58,20 @@ where
     P: Predictor<16, Symbol = bool, Model = Bit>,
     ensures ok { OnOk result (AreCoded P.next (IsNarrowed (entry_at (entry_in P.rows beq)) 16) (bits_of byte)
         (P.state predictor.old) encoder.old (P.state predictor.new) encoder.new) }
+    ensures tile { OnOk result (AllTile P.rows P.next 16 (P.state predictor.old) (bits_of byte)) }
     ensures err { IfErr result (λ error. EncodingStops P.next (IsNarrowed (entry_at (entry_in P.rows beq)) 16)
         (IsEncodingFault (entry_at (entry_in P.rows beq)) 16 error) (bits_of byte)
         (P.state predictor.old) encoder.old (P.state predictor.new) encoder.new) }
+    ensures possible { result ≢ Err (CoderError.Frontend EncoderFrontendError.ImpossibleSymbol) }
 {
     let bits = bits_of_byte(byte);
-    encode_adaptively(predictor, &bits, encoder)
+    match encode_adaptively(predictor, &bits, encoder) {
+        Ok(()) => Ok(()),
+        Err(error) => {
+            bits_have_entries(predictor);
+            Err(error)
+        }
+    }
 }
 
 /// Decodes the bits of a byte.
@@ -86,36 +105,37 @@ where
     Ok(byte)
 }
 
-/// The words of these bytes, from the state of the predictor on.
+/// The words of these bytes, from the state of the predictor on, and from which they are read again.
 ///
-/// It fails only at a bit without an entry, or if memory is refused.
+/// It fails only if memory is refused.
 pub fn encode_bytes<P>(
     alloc: Global,
     predictor: &mut P,
     bytes: &[u8],
-) -> Result<Vec<u32>, CoderError<EncoderFrontendError, AllocError>>
+) -> Result<Vec<u32>, AllocError>
 where
     P: Predictor<16, Symbol = bool, Model = Bit>,
     ensures ok { IfOk result (λ words. IsMessageFrom (entry_in P.rows beq) P.next 16 (P.state predictor.old)
         (all_bits bytes.now) words.items) }
+    ensures read { IfOk result (λ words. AreReadFrom P.rows P.next (P.state predictor.old) bytes.now words.items) }
     ensures learned { OnOk result (P.state predictor.new ≡ fold P.next (P.state predictor.old) (all_bits bytes.now)) }
 {
     let mut encoder = RangeEncoder::new(alloc);
     for byte in bytes {
         match encode_byte(predictor, *byte, &mut encoder) {
             Ok(()) => {}
-            Err(error) => return Err(error),
+            Err(CoderError::Frontend(EncoderFrontendError::ImpossibleSymbol)) => unreachable!(),
+            Err(CoderError::Frontend(EncoderFrontendError::OutOfMemory)) => return Err(AllocError),
+            Err(CoderError::Backend(error)) => return Err(error),
         }
     }
-    match encoder.into_compressed() {
-        Ok(words) => Ok(words),
-        Err(error) => Err(CoderError::Backend(error)),
-    }
+    encoder.into_compressed()
 }
 
 /// Decodes `count` bytes from a source, which may have other words after theirs.
 ///
-/// If the source tells the words of as many bytes from the state of the predictor on, these come back, and the words are not invalid.
+/// Any words have bytes, except that some are refused as `InvalidData`. Memory is asked for as bytes come, so `count` may come from outside.
+/// If it is refused, the error is `OutOfMemory`.
 pub fn decode_bytes<P, Source>(
     alloc: Global,
     predictor: &mut P,
@@ -126,24 +146,50 @@ where
     P: Predictor<16, Symbol = bool, Model = Bit>,
     Source: ReadWords<u32, Queue> + Drop,
     requires { Source.can_read source }
-    ensures back { IfOk result (λ answers. (bytes words more : List ℕ) → length bytes ≡ count → All (λ b. b < 256) bytes
-        → IsMessageFrom (entry_in P.rows beq) P.next 16 (P.state predictor.old) (all_bits bytes) words
-        → All (λ w. w < 2 ^ 32) more → Source.tells_upcoming source (words ++ more)
-        → (answers.items ≡ bytes) × (P.state predictor.new ≡ fold P.next (P.state predictor.old) (all_bits bytes))) }
+    ensures ok { IfOk result (λ bytes. (words : List ℕ) → Source.tells_upcoming source words
+        → AreReadFrom P.rows P.next (P.state predictor.old) bytes.items words) }
+    ensures count { IfOk result (λ bytes. length bytes.items ≡ count) }
+    ensures learned { IfOk result (λ bytes. P.state predictor.new ≡ fold P.next (P.state predictor.old) (all_bits bytes.items)) }
+    ensures valid { result ≡ Err (CoderError.Frontend DecoderFrontendError.InvalidData)
+        → (bytes words : List ℕ) → length bytes ≡ count → AreReadFrom P.rows P.next (P.state predictor.old) bytes words
+        → ¬ (Source.tells_upcoming source words) }
+    ensures failed { (error : _) → result ≡ Err (CoderError.Backend error)
+        → (reached left : Source) × Source.read_gives reached (Err error) left }
 {
-    symbols_come_back::<P, Source, 16>(predictor);
     let mut decoder = match RangeDecoder::from_compressed(source) {
         Ok(decoder) => decoder,
         Err(error) => return Err(CoderError::Backend(error)),
     };
-    let Ok(mut answers) = Vec::with_capacity(alloc, count) else {
-        return Err(CoderError::Frontend(DecoderFrontendError::OutOfMemory));
-    };
+    let mut bytes = Vec::new(alloc);
     for done in 0..count {
-        match decode_byte(predictor, &mut decoder) {
-            Ok(byte) => answers.push_reserved(byte),
+        let byte = match decode_byte(predictor, &mut decoder) {
+            Ok(byte) => byte,
             Err(error) => return Err(error),
+        };
+        match bytes.push(byte) {
+            Ok(()) => {}
+            Err(_) => return Err(CoderError::Frontend(DecoderFrontendError::OutOfMemory)),
         }
     }
-    Ok(answers)
+    Ok(bytes)
 }
+
+/// Words and a number of bytes say which bytes are read.
+pub fn bytes_are_read_once<P>()
+where
+    P: Predictor<16, Symbol = bool, Model = Bit>,
+    ensures { (first : P.State) (a b words : List ℕ) → AreReadFrom P.rows P.next first a words → AreReadFrom P.rows P.next first b words
+        → length a ≡ length b → a ≡ b }
+{}
+
+/// From the words of bytes as many bytes are read as were encoded, and these are the same, whatever words come after them.
+pub fn message_is_read<P>()
+where
+    P: Predictor<16, Symbol = bool, Model = Bit>,
+    ensures back { (first : P.State) (bytes answers words more : List ℕ) → All (λ b. b < 256) bytes
+        → IsMessageFrom (entry_in P.rows beq) P.next 16 first (all_bits bytes) words → All (λ w. w < 2 ^ 32) more
+        → AreReadFrom P.rows P.next first answers (words ++ more) → length answers ≡ length bytes → answers ≡ bytes }
+    ensures whatever_follows { (first : P.State) (bytes words more : List ℕ) → AreReadFrom P.rows P.next first bytes words
+        → IsMessageFrom (entry_in P.rows beq) P.next 16 first (all_bits bytes) words → All (λ w. w < 2 ^ 32) more
+        → AreReadFrom P.rows P.next first bytes (words ++ more) }
+{}

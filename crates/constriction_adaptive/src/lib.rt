@@ -7,9 +7,11 @@
 
 mod bit;
 pub mod bytes;
+mod categorical;
 mod contexts;
 mod error;
 mod hashed;
+mod known_models;
 mod mixer;
 mod order_one;
 mod predictor;
@@ -17,8 +19,10 @@ pub mod queue;
 pub mod stack;
 
 pub use self::bit::Bit;
+pub use self::categorical::AdaptiveCategorical;
 pub use self::error::EncoderFrontendError;
 pub use self::hashed::HashedContexts;
+pub use self::known_models::KnownModels;
 pub use self::mixer::Mixer;
 pub use self::order_one::OrderOne;
 pub use self::predictor::Predictor;

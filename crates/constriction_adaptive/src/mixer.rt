@@ -6,10 +6,10 @@ mod past;
 mod tables;
 
 ghost use Rattle.std.specs.Prelude.{◌≡◌, ◌+◌, ◌*◌, ◌<◌, ◌≤◌, ◌^◌, ℕ, IfOk, [], length, map, slice_index, slice_index_or, slice_set};
-ghost use Rattle.constriction_adaptive.specs.Bit.{at_least_one, bit_rows};
+ghost use Rattle.constriction_adaptive.specs.Bit.{at_least_one};
 ghost use Rattle.constriction_adaptive.specs.lemmas.Bit.{next-same};
-ghost use Rattle.constriction_adaptive.specs.Mixer.{MixerState, even_rows, mixer_after, mixer_begun, ones_of, places_in, places_of, predicted, state_of, zeros_of};
-ghost use Rattle.constriction_adaptive.specs.Mixing.{for_one, for_zero, mixed, squash, weights_after};
+ghost use Rattle.constriction_adaptive.specs.Mixer.{MixerState, even_rows, mixer_after, mixer_begun, mixer_rows, places_in, places_of, predicted, state_of, strengths_of};
+ghost use Rattle.constriction_adaptive.specs.Mixing.{error_of, mixed, squash, strength, weights_after};
 ghost use Rattle.constriction_adaptive.specs.Past.{past_after};
 
 use crate::bit::Bit;
@@ -33,8 +33,7 @@ pub struct Mixer<const N: usize> {
     past: Past,
     tables: Tables,
     places: [usize; N],
-    zeros: [u16; N],
-    ones: [u16; N],
+    strengths: [u16; N],
     weight: u16,
     current: Bit,
     ghost few: { N ≤ 16 },
@@ -44,8 +43,7 @@ pub struct Mixer<const N: usize> {
     ghost seen: { (k : ℕ) → k < N → slice_index contexts k ≤ 8 },
     ghost inside: { (k : ℕ) → k < N → slice_index places k + 16 ≤ 16 * groups },
     ghost places_are: { places ≡ places_of (state_of contexts groups slots.items weights.items past) },
-    ghost zeros_are: { zeros ≡ zeros_of (state_of contexts groups slots.items weights.items past) },
-    ghost ones_are: { ones ≡ ones_of (state_of contexts groups slots.items weights.items past) },
+    ghost strengths_are: { strengths ≡ strengths_of (state_of contexts groups slots.items weights.items past) },
     ghost weight_is: { weight ≡ predicted (state_of contexts groups slots.items weights.items past) },
     ghost is: { current.zero ≡ at_least_one weight },
 }
@@ -97,19 +95,16 @@ fn predict<const N: usize>(
     weights: &[[u32; N]],
     past: &Past,
     places: &[usize; N],
-    zeros: &mut [u16; N],
-    ones: &mut [u16; N],
+    strengths: &mut [u16; N],
 ) -> u16
     requires few { N ≤ 16 }
     requires rows { length weights.now ≡ 16 }
     requires within { (k : ℕ) → k < N → slice_index places.now k + 16 ≤ length slots.now }
-    ensures zeros { zeros.new ≡ map (λ p. for_zero (slice_index slots.now (p + past.now.path))) places.now }
-    ensures ones { ones.new ≡ map (λ p. for_one (slice_index slots.now (p + past.now.path))) places.now }
-    ensures weight { result ≡ squash (mixed (slice_index_or weights.now past.now.told []) zeros.new) (mixed (slice_index_or weights.now past.now.told []) ones.new) }
+    ensures strengths { strengths.new ≡ map (λ p. strength (slice_index slots.now (p + past.now.path))) places.now }
+    ensures weight { result ≡ squash (mixed (slice_index_or weights.now past.now.told []) strengths.new) }
 {
-    ask(tables, slots, places, past.path(), zeros, ones);
-    let (zero, one) = mix(&weights[past.told()], zeros, ones);
-    tables.squashed(zero, one)
+    ask(tables, slots, places, past.path(), strengths);
+    tables.squash(mix(&weights[past.told()], strengths))
 }
 
 /// A bit came: the row of inputs counts otherwise, and the slots of all contexts move.
@@ -117,15 +112,14 @@ fn predict<const N: usize>(
 fn adjust_row<const N: usize>(
     weights: &mut [[u32; N]],
     told: usize,
-    zeros: &[u16; N],
-    ones: &[u16; N],
+    strengths: &[u16; N],
     weight: u16,
     bit: bool,
 )
     requires told { told < length weights.old }
-    ensures { weights.new ≡ slice_set weights.old told (weights_after bit weight zeros.now ones.now (slice_index_or weights.old told [])) }
+    ensures { weights.new ≡ slice_set weights.old told (weights_after bit (error_of bit weight) strengths.now (slice_index_or weights.old told [])) }
 {
-    adjust(&mut weights[told], zeros, ones, weight, bit);
+    adjust(&mut weights[told], strengths, weight, bit);
 }
 
 /// The weights of the inputs before they learned anything.
@@ -162,12 +156,9 @@ impl<const N: usize> Mixer<N> {
         let past = Past::new(alloc, followers, reach)?;
         let tables = Tables::new(alloc)?;
         let mut places = [0usize; N];
-        let mut zeros = [0u16; N];
-        let mut ones = [0u16; N];
+        let mut strengths = [0u16; N];
         find_places(&past, &contexts, groups, &mut places);
-        let weight = predict(
-            &tables, &slots, &weights, &past, &places, &mut zeros, &mut ones,
-        );
+        let weight = predict(&tables, &slots, &weights, &past, &places, &mut strengths);
         Ok(Mixer {
             contexts,
             groups,
@@ -176,8 +167,7 @@ impl<const N: usize> Mixer<N> {
             past,
             tables,
             places,
-            zeros,
-            ones,
+            strengths,
             weight,
             current: Bit::new(weight),
         })
@@ -193,7 +183,7 @@ impl<const N: usize> Predictor<16> for Mixer<N> {
 
     ghost state = { λ p. state_of p.contexts p.groups p.slots.items p.weights.items p.past };
 
-    ghost rows = { λ s. bit_rows (at_least_one (predicted s)) };
+    ghost rows = { mixer_rows };
 
     ghost next = { mixer_after };
 
@@ -210,14 +200,7 @@ impl<const N: usize> Predictor<16> for Mixer<N> {
     fn learn(&mut self, symbol: &bool) {
         let bit = *symbol;
         let told = self.past.told();
-        adjust_row(
-            &mut self.weights,
-            told,
-            &self.zeros,
-            &self.ones,
-            self.weight,
-            bit,
-        );
+        adjust_row(&mut self.weights, told, &self.strengths, self.weight, bit);
         learn(&mut self.slots, &self.places, self.past.path(), bit);
         move_on(
             &mut self.past,
@@ -232,8 +215,7 @@ impl<const N: usize> Predictor<16> for Mixer<N> {
             &self.weights,
             &self.past,
             &self.places,
-            &mut self.zeros,
-            &mut self.ones,
+            &mut self.strengths,
         );
         self.current = Bit::new(self.weight);
     }

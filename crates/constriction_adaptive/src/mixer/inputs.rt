@@ -2,17 +2,16 @@
 
 ghost use Rattle.std.specs.Prelude.{◌≡◌, ◌+◌, ◌*◌, ◌<◌, ◌≤◌, ℕ, length, map, slice_index};
 ghost use Rattle.constriction_adaptive.specs.Mixing.{
-  for_one,
-  for_zero,
+  error_of,
   mixed,
   place,
   recent,
   slots_moved,
-  weights_adjusted,
+  strength,
   weights_after,
 };
 
-use crate::mixer::numbers::{adjusted_by, slot_moved_by, spread_over};
+use crate::mixer::numbers::{error_from, slot_moved_by, spread_over, weight_moved_by};
 use crate::mixer::tables::Tables;
 
 /// What so many of the last bytes are, at the top of 64 bits.
@@ -73,65 +72,44 @@ pub(crate) fn ask(
     slots: &[u16],
     places: &[usize],
     path: usize,
-    zeros: &mut [u16],
-    ones: &mut [u16],
+    strengths: &mut [u16],
 )
     requires path { path < 16 }
     requires within { (k : ℕ) → k < length places.now → slice_index places.now k + 16 ≤ length slots.now }
-    requires zeros { length zeros.old ≡ length places.now }
-    requires ones { length ones.old ≡ length places.now }
-    ensures zeros { zeros.new ≡ map (λ p. for_zero (slice_index slots.now (p + path))) places.now }
-    ensures ones { ones.new ≡ map (λ p. for_one (slice_index slots.now (p + path))) places.now }
+    requires lengths { length strengths.old ≡ length places.now }
+    ensures { strengths.new ≡ map (λ p. strength (slice_index slots.now (p + path))) places.now }
 {
     for (i, place) in places.iter().enumerate() {
-        let (zero, one) = tables.strengths(slots[*place + path]);
-        zeros[i] = zero;
-        ones[i] = one;
+        strengths[i] = tables.strength(slots[*place + path]);
     }
 }
 
-/// Sums what speaks for 0, and for 1.
+/// How strongly the inputs speak for 0 together.
 #[inline]
-pub(crate) fn mix(weights: &[u32], zeros: &[u16], ones: &[u16]) -> (u64, u64)
+pub(crate) fn mix(weights: &[u32], strengths: &[u16]) -> usize
     requires few { length weights.now ≤ 16 }
-    requires zeros { length zeros.now ≡ length weights.now }
-    requires ones { length ones.now ≡ length weights.now }
-    ensures zero { result.0 ≡ mixed weights.now zeros.now }
-    ensures one { result.1 ≡ mixed weights.now ones.now }
+    requires lengths { length strengths.now ≡ length weights.now }
+    ensures value { result ≡ mixed weights.now strengths.now }
+    ensures below { result < 4096 }
 {
-    let mut zero = 0;
-    let mut one = 0;
+    let mut said = 0;
+    let mut neither = 0;
     for (i, weight) in weights.iter().enumerate() {
-        zero += *weight as u64 * zeros[i] as u64;
-        one += *weight as u64 * ones[i] as u64;
+        said += *weight as u64 * strengths[i] as u64;
+        neither += *weight as u64 * 2048;
     }
-    (zero, one)
-}
-
-/// Lets what was right count more, and what was wrong less.
-#[inline]
-fn adjust_by(weights: &mut [u32], right: &[u16], wrong: &[u16], error: u32)
-    requires right { length right.now ≡ length weights.old }
-    requires wrong { length wrong.now ≡ length weights.old }
-    requires error { error ≤ 65536 }
-    ensures { weights.new ≡ weights_adjusted error right.now wrong.now weights.old }
-{
-    for i in 0..weights.len() {
-        weights[i] = adjusted_by(weights[i], right[i], wrong[i], error);
-    }
+    ((134217728 + said).saturating_sub(neither) / 65536).min(4095) as usize
 }
 
 /// Lets each input count more or less after a bit that was 0 with this weight.
 #[inline]
-pub(crate) fn adjust(weights: &mut [u32], zeros: &[u16], ones: &[u16], weight: u16, bit: bool)
-    requires zeros { length zeros.now ≡ length weights.old }
-    requires ones { length ones.now ≡ length weights.old }
-    ensures { weights.new ≡ weights_after bit weight zeros.now ones.now weights.old }
+pub(crate) fn adjust(weights: &mut [u32], strengths: &[u16], zero: u16, bit: bool)
+    requires { length strengths.now ≡ length weights.old }
+    ensures { weights.new ≡ weights_after bit (error_of bit zero) strengths.now weights.old }
 {
-    if bit {
-        adjust_by(weights, ones, zeros, weight as u32);
-    } else {
-        adjust_by(weights, zeros, ones, 65536 - weight as u32);
+    let error = error_from(zero, bit);
+    for i in 0..weights.len() {
+        weights[i] = weight_moved_by(weights[i], strengths[i], error, bit);
     }
 }
 

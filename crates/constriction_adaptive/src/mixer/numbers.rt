@@ -1,7 +1,7 @@
 //! The numbers of logistic mixing.
 
 ghost use Rattle.std.specs.Prelude.{◌≡◌, ◌+◌, ◌-◌, ◌*◌, ◌/◌, ◌%◌, ◌<◌, ◌≤◌, ◌^◌};
-ghost use Rattle.constriction_adaptive.specs.Mixing.{adjusted, logarithm, slot_after, spread, tail};
+ghost use Rattle.constriction_adaptive.specs.Mixing.{error_of, logarithm, slot_after, spread, squash, tail, weight_after};
 
 /// 128 times the logarithm of base 2.
 #[inline]
@@ -17,14 +17,26 @@ pub(crate) fn logarithm_of(x: u32) -> u32
 
 /// The weight of a bit that the other one beats.
 #[inline]
-pub(crate) fn tail_of(strength: u32) -> u32
-    requires { strength < 2048 }
-    ensures value { result ≡ tail strength }
-    ensures some { 0 < result }
-    ensures half { result ≤ 32768 }
+fn tail_of(lead: u32) -> u32
+    requires { lead ≤ 2048 }
+    ensures value { result ≡ tail lead }
+    ensures some { lead < 2048 → 0 < result }
 {
-    let odds = (128 + strength % 128) << (strength / 128);
+    let odds = (128 + lead % 128) << (lead / 128);
     8388608 / (odds + 128)
+}
+
+/// The weight of 0 for which this strength speaks.
+#[inline]
+#[tactic(auto, using(crate::proofs::NumberLemmas::tail_most))]
+pub(crate) fn squash_of(strength: u32) -> u16
+    requires { strength < 4096 }
+    ensures { result ≡ squash strength }
+{
+    if strength < 2048 {
+        return tail_of(2048 - strength) as u16;
+    }
+    (65536 - tail_of(strength - 2048)) as u16
 }
 
 /// A slot after a bit.
@@ -40,14 +52,36 @@ pub(crate) fn slot_moved_by(slot: u16, bit: bool) -> u16
     }
 }
 
+/// How far the weight of 0 was from the bit that came.
+#[inline]
+pub(crate) fn error_from(weight: u16, bit: bool) -> u32
+    ensures value { result ≡ error_of bit weight }
+    ensures most { result ≤ 65536 }
+{
+    if bit {
+        weight as u32
+    } else {
+        65536 - weight as u32
+    }
+}
+
 /// How much an input counts after a bit.
 #[inline]
-pub(crate) fn adjusted_by(weight: u32, right: u16, wrong: u16, error: u32) -> u32
+pub(crate) fn weight_moved_by(weight: u32, strength: u16, error: u32, bit: bool) -> u32
     requires { error ≤ 65536 }
-    ensures { result ≡ adjusted error right wrong weight }
+    ensures { result ≡ weight_after bit error strength weight }
 {
-    let raised = weight as u64 + (right as u32 * error / 131072) as u64;
-    (raised.min(262144) as u32).saturating_sub(wrong as u32 * error / 131072)
+    let spoken = strength as u32 * error / 131072;
+    let neither = error / 64;
+    let (for_it, against_it) = if bit {
+        (neither, spoken)
+    } else {
+        (spoken, neither)
+    };
+    weight
+        .saturating_add(for_it)
+        .saturating_sub(against_it)
+        .min(262144)
 }
 
 /// One of `count` places for a number.

@@ -121,6 +121,8 @@ where
     ensures back { IfOk result (λ answers. AllZip (StandsForEqual P.Model.stands_for P.Model.symbol_eq) symbols.now answers.items) }
     ensures learned { OnOk result (P.state decoding.new ≡ P.state encoding.new) }
     ensures valid { result ≢ Err (MessageError.Decoding (CoderError.Frontend DecoderFrontendError.InvalidData)) }
+    ensures err { (error : _) → result ≡ Err (MessageError.Encoding (CoderError.Frontend error)) → StopsPredicting P.next
+        (entry_in P.rows P.Model.symbol_eq) symbols.now error (P.state encoding.old) (P.state encoding.new) }
 {
     let words = match encode_message(alloc, encoding, symbols) {
         Ok(words) => words,

@@ -1,6 +1,7 @@
 //! The next symbol.
 
 ghost use Rattle.std.specs.Prelude.{◌≡◌, OnOk, OnErr, IfOk, IfErr};
+ghost use Rattle.constriction.specs.Rows.{RowsTile};
 ghost use Rattle.constriction_coders.specs.Places.{entry_at};
 ghost use Rattle.constriction_coders.specs.RangeDecoder.{held_by};
 ghost use Rattle.constriction_coders.specs.Spans.{IsNarrowed};
@@ -27,6 +28,7 @@ where
     ensures ok { OnOk result (IsNarrowed (entry_at (entry_in P.rows P.Model.symbol_eq)) PRECISION (P.state predictor.old, symbol.now)
         encoder.old encoder.new) }
     ensures learned { OnOk result (P.state predictor.new ≡ P.next (P.state predictor.old) symbol.now) }
+    ensures tile { OnOk result (RowsTile 32 PRECISION (P.rows (P.state predictor.old))) }
     ensures fault { IfErr result (λ error. IsEncodingFault (entry_at (entry_in P.rows P.Model.symbol_eq)) PRECISION error
         (P.state predictor.old, symbol.now) encoder.old) }
     ensures same { OnErr result (encoder.new ≡ encoder.old) }

@@ -4,7 +4,7 @@ ghost use Rattle.std.specs.Prelude.{◌≡◌, ◌⊎◌, OnOk, IfOk, IfErr, len
 ghost use Rattle.constriction_coders.specs.Places.{entry_at};
 ghost use Rattle.constriction_coders.specs.RangeDecoder.{held_by};
 ghost use Rattle.constriction_coders.specs.Spans.{IsNarrowed};
-ghost use Rattle.constriction_adaptive.specs.Predicted.{entry_in, AreCoded, DecodingStops, EncodingStops, IsEncodingFault, IsReadIn, IsReadingFault};
+ghost use Rattle.constriction_adaptive.specs.Predicted.{entry_in, AllTile, AreCoded, DecodingStops, EncodingStops, IsEncodingFault, IsReadIn, IsReadingFault};
 
 use crate::error::EncoderFrontendError;
 use crate::predictor::Predictor;
@@ -26,6 +26,7 @@ where
     P: Predictor<PRECISION>,
     ensures ok { OnOk result (AreCoded P.next (IsNarrowed (entry_at (entry_in P.rows P.Model.symbol_eq)) PRECISION) symbols.now
         (P.state predictor.old) encoder.old (P.state predictor.new) encoder.new) }
+    ensures tile { OnOk result (AllTile P.rows P.next PRECISION (P.state predictor.old) symbols.now) }
     ensures err { IfErr result (λ error. EncodingStops P.next (IsNarrowed (entry_at (entry_in P.rows P.Model.symbol_eq)) PRECISION)
         (IsEncodingFault (entry_at (entry_in P.rows P.Model.symbol_eq)) PRECISION error) symbols.now
         (P.state predictor.old) encoder.old (P.state predictor.new) encoder.new) }

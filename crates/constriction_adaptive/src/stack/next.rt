@@ -7,7 +7,7 @@ ghost use Rattle.constriction_adaptive.specs.Predicted.{IsTakenIn};
 
 use crate::predictor::Predictor;
 use constriction::CoderError;
-use constriction::backends::WordStack;
+use constriction::backends::StackSource;
 use constriction_coders::stack::AnsCoder;
 use std::alloc::AllocError;
 
@@ -22,7 +22,7 @@ pub fn decode_next<P, Backend, const PRECISION: usize>(
 where
     P: Predictor<PRECISION>,
     P::Symbol: Drop,
-    Backend: WordStack<u32>,
+    Backend: StackSource<u32>,
     ensures ok { IfOk result (λ symbol. IsTakenIn P.rows P.Model.stands_for P.Model.symbol_eq PRECISION (P.state predictor.old, symbol)
         (held_by coder.old) (held_by coder.new)) }
     ensures learned { IfOk result (λ symbol. P.state predictor.new ≡ P.next (P.state predictor.old) symbol) }

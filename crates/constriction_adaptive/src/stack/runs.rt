@@ -1,6 +1,6 @@
 //! Several symbols, and what comes back from a stack.
 
-ghost use Rattle.std.specs.Prelude.{◌≡◌, ◌⊎◌, OnOk, IfOk, IfErr, length};
+ghost use Rattle.std.specs.Prelude.{◌≡◌, ◌⊎◌, Err, OnOk, IfOk, IfErr, length};
 ghost use Rattle.std.specs.List.{AllZip};
 ghost use Rattle.constriction.specs.Coding.{StandsForEqual};
 ghost use Rattle.constriction_coders.specs.AnsCoder.{held_by};
@@ -14,7 +14,7 @@ use crate::predictor::Predictor;
 use crate::stack::entries::entries_of;
 use crate::stack::next::decode_next;
 use constriction::CoderError;
-use constriction::backends::WordStack;
+use constriction::backends::{StackSource, WordStack};
 use constriction_coders::laws::MessageError;
 use constriction_coders::stack::AnsCoder;
 use std::alloc::{AllocError, Global};
@@ -74,7 +74,7 @@ pub fn decode_adaptively<P, Backend, const PRECISION: usize>(
 where
     P: Predictor<PRECISION>,
     P::Symbol: Drop,
-    Backend: WordStack<u32>,
+    Backend: StackSource<u32>,
     ensures ok { IfOk result (λ answers. AreCoded P.next (IsTakenIn P.rows P.Model.stands_for P.Model.symbol_eq PRECISION) answers.items
         (P.state predictor.old) (held_by coder.old) (P.state predictor.new) (held_by coder.new)) }
     ensures count { IfOk result (λ answers. length answers.items ≡ count) }
@@ -118,6 +118,8 @@ where
     ensures back { IfOk result (λ answers. AllZip (StandsForEqual P.Model.stands_for P.Model.symbol_eq) symbols.now answers.items) }
     ensures learned { OnOk result (P.state decoding.new ≡ P.state encoding.new) }
     ensures same { OnOk result (held_by coder.new ≡ held_by coder.old) }
+    ensures err { (error : _) → result ≡ Err (MessageError.Encoding error) → StackingStops P.next (entry_in P.rows P.Model.symbol_eq)
+        PRECISION symbols.now error (P.state encoding.old) (held_by coder.old) (P.state encoding.new) (held_by coder.new) }
 {
     symbols_come_back::<P, PRECISION>();
     match encode_adaptively(alloc, encoding, symbols, coder) {

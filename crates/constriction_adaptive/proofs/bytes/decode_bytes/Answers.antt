@@ -1,53 +1,76 @@
-use Rattle.std.proofs.Common.{◌≡◌, ◌*◌, List, Bool, ◌∷◌, [], ◌++◌, ◌<◌, fold, length, rules, arith, ap, sym, ◌∙◌, subst, length-append}
-use Rattle.std.proofs.lemmas.List.Elements.{All-push, same_from_all_zip}
+use Rattle.std.proofs.Common.{◌≡◌, List, Bool, ◌∷◌, [], ◌++◌, ◌<◌, length, rules, arith, ap, sym, ◌∙◌, subst, length-append}
+use Rattle.std.proofs.lemmas.List.Elements.{All-push}
 use Rattle.std.specs.Bool.{beq}
-use Rattle.constriction.specs.Coding.{StandsForEqual}
+use Rattle.constriction.specs.declared.CoderError.TheVariants.{Frontend}
 use Rattle.constriction_coders.specs.Places.{placed}
 use Rattle.constriction_coders.specs.RangeDecoder.{held_by}
-use Rattle.constriction_coders.specs.Spans.{whole}
-use Rattle.constriction_coders.proofs.Messages.{came-back}
-use Rattle.constriction_coders.proofs.Sealing.{sealed-tell}
-use Rattle.constriction_coders.proofs.Spanning.{whole-reached}
+use Rattle.constriction_coders.specs.declared.queue.range_decoder.DecoderFrontendError.TheVariants.{InvalidData}
 use Rattle.constriction_adaptive.specs.Bytes.{all_bits, bits_of}
 use Rattle.constriction_adaptive.specs.Predicted.{AreCoded, IsReadIn}
-use Rattle.constriction_adaptive.specs.lemmas.Bit.{same-bit}
-use Rattle.constriction_adaptive.proofs.Bits.{all-bits-length, all-bits-push, bytes-once}
+use Rattle.constriction_adaptive.proofs.Bits.{all-bits-length, all-bits-push}
+use Rattle.constriction_adaptive.proofs.Reading.{holding, not-invalid, told-start, told-turns}
 use Rattle.constriction_adaptive.proofs.Runs.{coded-append}
 use Rattle.constriction_adaptive.proofs.bytes.decode_bytes.Goals as goal
 
 pub loop-done-preserved : goal.loop-done-preserved
 loop-done-preserved g c =
-    let answers = c.loop-done.answers.items in
+    let bytes = c.loop-done.bytes.items in
     let byte = c.in-Ok-decode_byte.byte in
     let Step = IsReadIn g.P.Predictor.rows (λ s t. t ≡ s) beq 16 g.Source.ReadWords.read_gives in
-    let all : all_bits answers ++ bits_of byte ≡ all_bits c.push_reserved.new.self.items =
-    sym (all-bits-push answers byte) ∙ sym (ap all_bits c.push_reserved.ensures.items) in record {
+    let all : all_bits bytes ++ bits_of byte ≡ all_bits c.push.new.self.items =
+    sym (all-bits-push bytes byte) ∙ sym (ap all_bits c.in-Ok-push.ensures.items) in record {
       goes_on = c.decode_byte.ensures.goes_on;
-      counted = omega (arith, ap length c.push_reserved.ensures.items, length-append answers (byte ∷ []), c.loop-done.invariant.counted);
-      room = omega (arith, c.push_reserved.ensures.capacity, c.loop-done.invariant.room);
-      small = rw c.push_reserved.ensures.items (All-push (λ b. b < 256) answers byte c.loop-done.invariant.small (first_of (omega arith, search rules)));
+      counted = omega (arith, ap length c.in-Ok-push.ensures.items, length-append bytes (byte ∷ []), c.loop-done.invariant.counted);
+      small = rw c.in-Ok-push.ensures.items (All-push (λ b. b < 256) bytes byte c.loop-done.invariant.small (first_of (omega arith, search rules)));
       so_far =
           subst (λ (bits : List Bool). AreCoded g.P.Predictor.next Step bits (g.P.Predictor.state c.args.predictor.now)
           (held_by c.in-Ok.decoder) (g.P.Predictor.state c.decode_byte.new.predictor) (held_by c.decode_byte.new.decoder)) all
-          (coded-append g.P.Predictor.next Step (all_bits answers) (bits_of byte) _ _ _ _ _ _ c.loop-done.invariant.so_far
+          (coded-append g.P.Predictor.next Step (all_bits bytes) (bits_of byte) _ _ _ _ _ _ c.loop-done.invariant.so_far
           c.in-Ok-decode_byte.ensures.ok);
     }
 
-pub returns : goal.returns
-returns g c = record {
-  back = λ bytes words more long fit message others known.
-      let next = g.P.Predictor.next in
-      let first = g.P.Predictor.state c.args.predictor.now in
-      let answers = c.loop-done.answers.items in
-      let coded = c.loop-done.invariant.so_far in
-      let all : length answers ≡ c.args.count =
-      omega (arith, c.loop-done.invariant.counted, c.loop-done-test.false, c.loop-done.auto.done-end) in
-      let back = came-back (placed next first) _ _ _ _ _ (c.symbols_come_back.ensures first) (held_by c.in-Ok.decoder) (8 * c.args.count)
-      (all_bits answers) _ coded.led (all_bits bytes) (words ++ more) whole message.0 whole-reached
-      (omega (arith, all-bits-length bytes, long)) message.1 (sealed-tell message.0 words more message.2 others)
-      (c.in-Ok.ensures.begins (words ++ more) known) (omega (arith, all-bits-length answers, all)) in
-      let bits : all_bits answers ≡ all_bits bytes =
-      same_from_all_zip (StandsForEqual (λ s t. t ≡ s) beq) (all_bits bytes) (all_bits answers) back (λ a b e. same-bit a b e) in
-      let same : answers ≡ bytes = bytes-once answers bytes c.loop-done.invariant.small fit (omega (arith, all, long)) bits in
-      (same, coded.learned ∙ ap (λ (bs : List Bool). fold next first bs) bits);
-}
+pub returns-clause-ok : goal.returns-clause-ok
+returns-clause-ok g c = λ words known.
+    let gives = g.Source.ReadWords.read_gives in
+    let tells = g.Source.ReadWords.tells_upcoming in
+    let law = g.met.Source.ReadWords.reads_upcoming in
+    let start = told-start gives tells law c.args.source (held_by c.in-Ok.decoder).held c.in-Ok.decoder.words c.in-Ok.ensures.ok words known in
+    let bits = all_bits c.loop-done.bytes.items in
+    let run = told-turns gives tells law g.P.Predictor.rows (λ s t. t ≡ s) beq 16
+    (placed g.P.Predictor.next (g.P.Predictor.state c.args.predictor.now) bits) (held_by c.in-Ok.decoder) (held_by c.loop-done.decoder)
+    c.loop-done.invariant.so_far.led start.0 start.2 in
+    record {
+      small = c.loop-done.invariant.small;
+      start = holding (held_by c.in-Ok.decoder).held start.0;
+      begun = start.1;
+      end = holding (held_by c.loop-done.decoder).held run.0;
+      led = run.1;
+    }
+
+pub returns-in-Err-decode_byte-clause-valid : goal.returns-in-Err-decode_byte-clause-valid
+returns-in-Err-decode_byte-clause-valid g c = λ is bytes words long read known.
+    let gives = g.Source.ReadWords.read_gives in
+    let tells = g.Source.ReadWords.tells_upcoming in
+    let law = g.met.Source.ReadWords.reads_upcoming in
+    let rows = g.P.Predictor.rows in
+    let next = g.P.Predictor.next in
+    let first = g.P.Predictor.state c.args.predictor.now in
+    let same : c.in-Err-decode_byte.error ≡ Frontend InvalidData = cc in
+    let stops = rw same at c.in-Err-decode_byte.ensures.err in
+    let before = all_bits c.loop-done.bytes.items in
+    let coded = coded-append next (IsReadIn rows (λ s t. t ≡ s) beq 16 gives) before stops.done _ _ _ _ _ _ c.loop-done.invariant.so_far
+    stops.coded in
+    let start = told-start gives tells law c.args.source (held_by c.in-Ok.decoder).held c.in-Ok.decoder.words c.in-Ok.ensures.ok words known in
+    let run = told-turns gives tells law rows (λ s t. t ≡ s) beq 16 (placed next first (before ++ stops.done)) (held_by c.in-Ok.decoder)
+    stops.reached coded.led start.0 start.2 in
+    not-invalid rows next first (before ++ stops.done) bytes words (holding (held_by c.in-Ok.decoder).held start.0)
+    (holding stops.reached.held run.0) start.1 run.1 read
+    (omega (
+      arith,
+      length-append before stops.done,
+      all-bits-length c.loop-done.bytes.items,
+      c.loop-done.invariant.counted,
+      stops.fewer,
+      long,
+      c.loop-done-test.true,
+    )) stops.fault.0.0

@@ -1,4 +1,4 @@
-use Rattle.std.proofs.Common.{◌≡◌, ◌<◌, ◌≤◌, length, vec_capacity}
+use Rattle.std.proofs.Common.{◌≡◌, ◌<◌, length}
 use Rattle.std.specs.Prelude.{All}
 use Rattle.std.specs.Bool.{beq}
 use Rattle.constriction_coders.specs.RangeDecoder.{held_by}
@@ -10,10 +10,9 @@ use Rattle.constriction_adaptive.proofs.bytes.decode_bytes.Given as goal
 abbrev pub invariant-loop-done : goal.invariant-loop-done
 invariant-loop-done g l = record {
   goes_on : g.Source.ReadWords.can_read l.decoder.words;
-  counted : length l.answers.items ≡ l.done;
-  room : l.count ≤ vec_capacity l.answers;
-  small : All (λ b. b < 256) l.answers.items;
+  counted : length l.bytes.items ≡ l.done;
+  small : All (λ b. b < 256) l.bytes.items;
   so_far : AreCoded g.P.Predictor.next (IsReadIn g.P.Predictor.rows (λ s t. t ≡ s) beq 16 g.Source.ReadWords.read_gives)
-      (all_bits l.answers.items) (g.P.Predictor.state l.initial.predictor) (held_by l.initial.decoder)
+      (all_bits l.bytes.items) (g.P.Predictor.state l.initial.predictor) (held_by l.initial.decoder)
       (g.P.Predictor.state l.predictor) (held_by l.decoder);
 }

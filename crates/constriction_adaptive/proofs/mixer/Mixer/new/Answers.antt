@@ -1,5 +1,5 @@
 use Rattle.constriction_adaptive.specs.Mixer.{MixerState, state_of}
-use Rattle.constriction_adaptive.proofs.MixerLemmas.{ones_by, predicted_by, zeros_by}
+use Rattle.constriction_adaptive.proofs.MixerLemmas.{predicted_by, strengths_by}
 use Rattle.constriction_adaptive.proofs.mixer.Mixer.new.Given.{Over}
 use Rattle.constriction_adaptive.proofs.mixer.Mixer.new.Goals as goal
 
@@ -13,12 +13,9 @@ invariant_of-result-clause-places_are g c = c.find_places.ensures.are
 pub invariant_of-result-clause-inside : goal.invariant_of-result-clause-inside
 invariant_of-result-clause-inside g c = c.find_places.ensures.inside
 
-pub invariant_of-result-clause-zeros_are : goal.invariant_of-result-clause-zeros_are
-invariant_of-result-clause-zeros_are g c = zeros_by (made g c) _ _ _ c.deref.ensures.value c.find_places.ensures.are c.predict-weight.ensures.zeros
-
-pub invariant_of-result-clause-ones_are : goal.invariant_of-result-clause-ones_are
-invariant_of-result-clause-ones_are g c = ones_by (made g c) _ _ _ c.deref.ensures.value c.find_places.ensures.are c.predict-weight.ensures.ones
+pub invariant_of-result-clause-strengths_are : goal.invariant_of-result-clause-strengths_are
+invariant_of-result-clause-strengths_are g c = strengths_by (made g c) _ _ _ c.deref.ensures.value c.find_places.ensures.are c.predict-weight.ensures.strengths
 
 pub invariant_of-result-clause-weight_is : goal.invariant_of-result-clause-weight_is
 invariant_of-result-clause-weight_is g c =
-    predicted_by (made g c) _ _ _ _ c.deref-2.ensures.value (invariant_of-result-clause-zeros_are g c) (invariant_of-result-clause-ones_are g c) c.predict-weight.ensures.weight
+    predicted_by (made g c) _ _ _ c.deref-2.ensures.value (invariant_of-result-clause-strengths_are g c) c.predict-weight.ensures.weight

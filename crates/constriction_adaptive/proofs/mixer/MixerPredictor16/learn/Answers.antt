@@ -1,7 +1,7 @@
 use Rattle.std.proofs.Common.{rules, arith}
 use Rattle.std.specs.Vec.{with_items}
 use Rattle.constriction_adaptive.specs.Mixer.{MixerState, state_of}
-use Rattle.constriction_adaptive.proofs.MixerLemmas.{ones_by, predicted_by, zeros_by}
+use Rattle.constriction_adaptive.proofs.MixerLemmas.{predicted_by, strengths_by}
 use Rattle.constriction_adaptive.proofs.mixer.MixerPredictor16.learn.Given.{Over}
 use Rattle.constriction_adaptive.proofs.mixer.MixerPredictor16.learn.Goals as goal
 
@@ -17,12 +17,9 @@ predict-self-requires g c = (search rules, (search rules, (search rules, (search
 pub invariant_of-self-clause-inside : goal.invariant_of-self-clause-inside
 invariant_of-self-clause-inside g c = c.move_on.ensures.inside
 
-pub invariant_of-self-clause-zeros_are : goal.invariant_of-self-clause-zeros_are
-invariant_of-self-clause-zeros_are g c = zeros_by (learned g c) _ _ _ c.deref.ensures.value c.move_on.ensures.are c.predict-self.ensures.zeros
-
-pub invariant_of-self-clause-ones_are : goal.invariant_of-self-clause-ones_are
-invariant_of-self-clause-ones_are g c = ones_by (learned g c) _ _ _ c.deref.ensures.value c.move_on.ensures.are c.predict-self.ensures.ones
+pub invariant_of-self-clause-strengths_are : goal.invariant_of-self-clause-strengths_are
+invariant_of-self-clause-strengths_are g c = strengths_by (learned g c) _ _ _ c.deref.ensures.value c.move_on.ensures.are c.predict-self.ensures.strengths
 
 pub invariant_of-self-clause-weight_is : goal.invariant_of-self-clause-weight_is
 invariant_of-self-clause-weight_is g c =
-    predicted_by (learned g c) _ _ _ _ c.deref-2.ensures.value (invariant_of-self-clause-zeros_are g c) (invariant_of-self-clause-ones_are g c) c.predict-self.ensures.weight
+    predicted_by (learned g c) _ _ _ c.deref-2.ensures.value (invariant_of-self-clause-strengths_are g c) c.predict-self.ensures.weight

@@ -25,4 +25,5 @@ returns-in-Ok-decode_adaptively g c =
           coded.learned ∙ ap (λ s. fold next s answers) c.requires
           ∙ same-state next (StandsForEqual Stands eq) g.met.P.Predictor.next_law first symbols answers both.0 ∙ sym stacked.learned;
       same = both.1;
+      err = λ error is. cc;
     }

@@ -1,0 +1,167 @@
+-- A cdf whose left cumulatives move, and what a model of it answers.
+use Rattle.std.specs.Prelude.{◌≡◌, ℕ, ◌+◌, ◌-◌, ◌*◌, ◌/◌, ◌%◌, ◌^◌, ◌<◌, ◌≤◌, List, [], ◌∷◌, ◌++◌, length, map, take, min, nat_eq, Some, None}
+use Rattle.std.specs.List.{range_with_len}
+use Rattle.std.proofs.Common.{get_or, ap, sym, subst, ◌∙◌, arith, inl, inr}
+use Rattle.std.proofs.Math.Seq.{get_or-append_seam}
+use Rattle.std.proofs.lemmas.Bool.{cases_lt}
+use Rattle.std.proofs.lemmas.List.{get_or-take, length-take-le, map-id, take_all, take_more}
+use Rattle.std.proofs.lemmas.List.FromFn.{fill_by_all}
+use Rattle.constriction.specs.Probe.{IsLastAtMost}
+use Rattle.constriction.specs.Rows.{Row, IsRowOf, contiguous_rows, entry_of}
+use Rattle.constriction.specs.Stored.{IsCdf, IsStored, lefts_in, weights_of}
+use Rattle.constriction.specs.lemmas.Stored.{stored-row, stored-some}
+use Rattle.constriction.specs.lemmas.StoredRows.{stored-entry, stored-no_entry}
+use Rattle.constriction_stored_rows.proofs.CdfLemmas.{all-but_last, cdf-here, cdf-long}
+use Rattle.constriction_stored_rows.proofs.TileLemmas.{cdf-probed}
+use Rattle.constriction_adaptive.specs.Categorical.{even_lefts, left_after, lefts_after}
+use Rattle.constriction_adaptive.proofs.LeftsLemmas.{even-stored, moved-each, moved-stored, stored-least, stored-most}
+
+-- a cdf whose left cumulatives are known
+pub cdf-made : (precision : ℕ) (cdf : List ℕ) (f : ℕ → ℕ) (many : ℕ) → length cdf ≡ many + 1
+    → ((k : ℕ) → k < many → get_or cdf k 0 ≡ f k) → get_or cdf many 0 ≡ 2 ^ precision % 2 ^ 32
+    → IsStored 32 precision (map f (range_with_len 0 many))
+    → IsCdf 32 precision cdf × (lefts_in cdf ≡ map f (range_with_len 0 many))
+cdf-made precision cdf f many long each last stored =
+    let count : many ≡ length cdf - 1 = omega (arith, long) in
+    let here : take many cdf ≡ lefts_in cdf = ap (λ n. take n cdf) count in
+    let filled : take many cdf ≡ map f (range_with_len 0 many) =
+    fill_by_all f (take many cdf) many 0 (length-take-le many cdf (omega (arith, long)))
+    (λ k h. get_or-take many cdf k 0 h ∙ each k h) in
+    let lefts : lefts_in cdf ≡ map f (range_with_len 0 many) = sym here ∙ filled in
+    let whole : cdf ≡ take many cdf ++ get_or cdf many 0 ∷ [] =
+    sym (take_all (many + 1) cdf (omega (arith, long))) ∙ take_more cdf many 0 (omega (arith, long)) in (
+      record {
+        stored = subst (λ xs. IsStored 32 precision xs) (sym lefts) stored;
+        ends = whole ∙ ap (λ xs. xs ++ get_or cdf many 0 ∷ []) here ∙ ap (λ n. lefts_in cdf ++ n ∷ []) last;
+      },
+      lefts,
+    )
+
+-- what two loops leave of a cdf is a cdf
+module _ (precision : ℕ) (cdf : List ℕ) (t : IsCdf 32 precision cdf) where
+  pub cdf-some : (2 ≤ length cdf) × (length cdf ≤ 2 ^ precision + 1)
+  cdf-some =
+      let some = stored-some 32 precision (lefts_in cdf) t.stored in
+      let long = cdf-long 32 precision cdf t in
+      let all = stored-most precision (lefts_in cdf) t.stored 0 some in
+      (omega (arith, some, long), omega (arith, all, long))
+
+  pub cdf-least : (k : ℕ) → k + 1 < length cdf → k ≤ get_or cdf k 0
+  cdf-least k h =
+      let long = cdf-long 32 precision cdf t in
+      omega (arith, cdf-here 32 precision cdf t k h, stored-least precision (lefts_in cdf) t.stored k (omega (arith, h, long)))
+
+  cdf-most : (k : ℕ) → k + 1 < length cdf → get_or cdf k 0 ≤ 2 ^ precision - (length cdf - 1) + k
+  cdf-most k h =
+      let long = cdf-long 32 precision cdf t in
+      let here = cdf-here 32 precision cdf t k h in
+      let most = stored-most precision (lefts_in cdf) t.stored k (omega (arith, h, long)) in
+      omega (arith, h, long, here, most)
+
+  pub lowered-most : (rate last : ℕ) (mid : List ℕ)
+      → ((k : ℕ) → k < last + 1 → get_or mid k 0 ≡ get_or cdf k 0 - (get_or cdf k 0 - k) / 2 ^ rate)
+      → ((k : ℕ) → last + 1 ≤ k → get_or mid k 0 ≡ get_or cdf k 0)
+      → (k : ℕ) → k + 1 < length cdf → get_or mid k 0 ≤ 2 ^ precision - (length cdf - 1) + k
+  lowered-most rate last mid lowered untouched k h =
+      let most = cdf-most k h in
+      elim (cases_lt k (last + 1)) [
+        | inl low ↦ let is = lowered k low in omega (arith, is, most)
+        | inr high ↦ let is = untouched k high in omega (arith, is, most)
+      ]
+
+  pub moved-cdf : (rate symbol others last symbols : ℕ) (mid new : List ℕ) → precision ≤ 32 → symbols ≡ length cdf - 1
+      → others ≡ 2 ^ precision - symbols → last ≡ min symbol (symbols - 1) → length new ≡ length cdf
+      → ((k : ℕ) → k < last + 1 → get_or mid k 0 ≡ get_or cdf k 0 - (get_or cdf k 0 - k) / 2 ^ rate)
+      → ((k : ℕ) → last + 1 ≤ k → get_or mid k 0 ≡ get_or cdf k 0)
+      → ((k : ℕ) → last + 1 ≤ k → k < symbols → get_or new k 0 ≡ get_or mid k 0 + (others + k - get_or mid k 0) / 2 ^ rate)
+      → ((k : ℕ) → k < last + 1 → get_or new k 0 ≡ get_or mid k 0)
+      → ((k : ℕ) → symbols ≤ k → get_or new k 0 ≡ get_or mid k 0)
+      → IsCdf 32 precision new × (lefts_in new ≡ lefts_after precision rate (lefts_in cdf) symbol)
+  moved-cdf rate symbol others last symbols mid new narrow count rest end long lowered untouched raised kept past =
+      let lefts : List ℕ = lefts_in cdf in
+      let more = cdf-long 32 precision cdf t in
+      let many : symbols ≡ length lefts = omega (arith, count, more) in
+      let some : 0 < length lefts = stored-some 32 precision lefts t.stored in
+      let last_is : last ≡ min symbol (length lefts - 1) = end ∙ ap (λ n. min symbol (n - 1)) many in
+      let others_are : others ≡ 2 ^ precision - length lefts = rest ∙ ap (λ n. 2 ^ precision - n) many in
+      let above : (k : ℕ) → last + 1 ≤ k → k < length lefts
+      → get_or new k 0 ≡ get_or mid k 0 + (2 ^ precision - length lefts + k - get_or mid k 0) / 2 ^ rate =
+      (λ k from to. raised k from (omega (arith, to, many))
+      ∙ ap (λ o. get_or mid k 0 + (o + k - get_or mid k 0) / 2 ^ rate) others_are) in
+      let total : get_or cdf (length lefts) 0 ≡ 2 ^ precision % 2 ^ 32 =
+      ap (λ xs. get_or xs (length lefts) 0) t.ends ∙ get_or-append_seam lefts (2 ^ precision % 2 ^ 32) [] 0 in
+      let final : get_or new (length lefts) 0 ≡ 2 ^ precision % 2 ^ 32 =
+      past (length lefts) (omega (arith, many)) ∙ untouched (length lefts) (omega (arith, last_is, some)) ∙ total in
+      cdf-made precision new (λ i. left_after rate (2 ^ precision - length lefts) symbol i (get_or lefts i 0)) (length lefts)
+      (omega (arith, long, more))
+      (moved-each rate (2 ^ precision - length lefts) symbol last (length lefts) cdf mid new lefts last_is some
+      (λ k h. cdf-here 32 precision cdf t k (omega (arith, h, more))) lowered untouched kept above)
+      final
+      (moved-stored precision rate symbol lefts narrow t.stored)
+
+pub even-cdf : (precision symbols weight : ℕ) (lefts cdf : List ℕ) → precision ≤ 32 → 0 < symbols → symbols ≤ 2 ^ precision
+    → 2 ^ precision < 2 ^ 32 * symbols → weight ≡ 2 ^ precision / symbols → length lefts ≡ symbols
+    → ((k : ℕ) → k < symbols → get_or lefts k 0 ≡ k * weight) → cdf ≡ lefts ++ (2 ^ precision % 2 ^ 32) ∷ []
+    → IsCdf 32 precision cdf × (lefts_in cdf ≡ even_lefts precision symbols)
+even-cdf precision symbols weight lefts cdf narrow some few word is long each e =
+    let known : lefts ≡ even_lefts precision symbols =
+    fill_by_all (λ i. i * (2 ^ precision / symbols)) lefts symbols 0 long (λ k h. each k h ∙ ap (λ w. k * w) is) in
+    let begin : lefts_in cdf ≡ lefts = all-but_last lefts cdf (2 ^ precision % 2 ^ 32) e in (
+      record {
+        stored = subst (λ xs. IsStored 32 precision xs) (sym (begin ∙ known)) (even-stored precision symbols narrow some few word);
+        ends = e ∙ ap (λ xs. xs ++ (2 ^ precision % 2 ^ 32) ∷ []) (sym begin);
+      },
+      begin ∙ known,
+    )
+
+-- ---- the answers of a model of such a cdf, which is lent as words
+
+module _ (precision : ℕ) (cdf lent : List ℕ) (e : lent ≡ cdf) (t : IsCdf 32 precision cdf) where
+  words-same : map (λ x. x) lent ≡ cdf
+  words-same = map-id lent ∙ e
+
+  pub lent-some : 1 < length lent
+  lent-some = let some = (cdf-some precision cdf t).0 in omega (arith, some, ap length e)
+
+  pub lent-words : IsCdf 32 precision (map (λ x. x) lent)
+  lent-words = subst (λ xs. IsCdf 32 precision xs) (sym words-same) t
+
+  pub lent-entry : (i l w : ℕ) → i < length lent - 1 → l ≡ get_or (lefts_in (map (λ x. x) lent)) i 0
+      → w ≡ get_or (weights_of precision (lefts_in (map (λ x. x) lent))) i 0
+      → Some (l, w) ≡ entry_of nat_eq (contiguous_rows (weights_of precision (lefts_in cdf))) i
+  lent-entry i l w h left weight =
+      let long : length lent ≡ length cdf = ap length e in
+      stored-entry 32 precision (lefts_in cdf) t.stored i l w (omega (arith, h, long, cdf-long 32 precision cdf t))
+      (left ∙ ap (λ xs. get_or (lefts_in xs) i 0) words-same)
+      (weight ∙ ap (λ xs. get_or (weights_of precision (lefts_in xs)) i 0) words-same)
+
+  pub lent-no_entry : (i : ℕ) → length lent - 1 ≤ i → None ≡ entry_of nat_eq (contiguous_rows (weights_of precision (lefts_in cdf))) i
+  lent-no_entry i h =
+      let long : length lent ≡ length cdf = ap length e in
+      stored-no_entry 32 precision (lefts_in cdf) t.stored i (omega (arith, h, long, cdf-long 32 precision cdf t))
+
+  pub lent-within : (i l w : ℕ) → i < length lent - 1 → l ≡ get_or (lefts_in (map (λ x. x) lent)) i 0
+      → w ≡ get_or (weights_of precision (lefts_in (map (λ x. x) lent))) i 0 → (0 < w) × (l + w ≤ 2 ^ precision)
+  lent-within i l w h left weight =
+      let long : length lent ≡ length cdf = ap length e in
+      let row = stored-row 32 precision (lefts_in cdf) i t.stored (omega (arith, h, long, cdf-long 32 precision cdf t)) in
+      let begins : l ≡ get_or (lefts_in cdf) i 0 = left ∙ ap (λ xs. get_or (lefts_in xs) i 0) words-same in
+      let weighs : w ≡ get_or (weights_of precision (lefts_in cdf)) i 0 =
+      weight ∙ ap (λ xs. get_or (weights_of precision (lefts_in xs)) i 0) words-same in
+      (omega (arith, row.positive, weighs), omega (arith, row.within, begins, weighs))
+
+  -- the left cumulatives that are searched
+  pub lent-lefts : (cumulatives : List ℕ) → cumulatives ≡ map (λ x. x) (take (length lent - 1) lent) → cumulatives ≡ lefts_in cdf
+  lent-lefts cumulatives are = are ∙ map-id (take (length lent - 1) lent) ∙ ap (λ xs. take (length xs - 1) xs) e
+
+  pub lent-row : (q i : ℕ) (r : Row ℕ) (cumulatives : List ℕ) → cumulatives ≡ lefts_in cdf → q < 2 ^ precision
+      → IsLastAtMost cumulatives q i
+      → get_or (contiguous_rows (weights_of precision (lefts_in (map (λ x. x) lent)))) i r ≡ r
+      → IsRowOf (contiguous_rows (weights_of precision (lefts_in cdf))) q r
+  lent-row q i r cumulatives are below found is =
+      let index : 0 + i ≡ i = omega arith in
+      let row = ((cdf-probed 32 precision cdf cumulatives t are).2 q i below found).row r in
+      let here : get_or (contiguous_rows (weights_of precision (lefts_in cdf))) (0 + i) r ≡ r =
+      ap (λ k. get_or (contiguous_rows (weights_of precision (lefts_in cdf))) k r) index
+      ∙ ap (λ xs. get_or (contiguous_rows (weights_of precision (lefts_in xs))) i r) (sym words-same) ∙ is in
+      subst (λ (x : Row ℕ). IsRowOf (contiguous_rows (weights_of precision (lefts_in cdf))) q x) here row

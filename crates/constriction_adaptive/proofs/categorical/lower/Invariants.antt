@@ -1,0 +1,9 @@
+use Rattle.std.proofs.Common.{◌≡◌, ◌-◌, ◌/◌, ◌^◌, ℕ, ◌<◌, ◌≤◌, get_or}
+use Rattle.constriction_adaptive.proofs.categorical.lower.Given as goal
+
+-- each left cumulative so far moved, and the others are as they were
+abbrev pub invariant-loop-i : goal.invariant-loop-i
+invariant-loop-i g l = record {
+  moved : (k : ℕ) → k < l.i → get_or l.cdf k 0 ≡ get_or l.initial.cdf k 0 - (get_or l.initial.cdf k 0 - k) / 2 ^ g.row.RATE;
+  same : (k : ℕ) → l.i ≤ k → get_or l.cdf k 0 ≡ get_or l.initial.cdf k 0;
+}

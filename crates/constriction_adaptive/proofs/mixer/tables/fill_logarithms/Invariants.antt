@@ -1,7 +1,0 @@
-use Rattle.std.proofs.Common.{◌≡◌, ◌+◌, ◌*◌, ℕ, ◌<◌, get_or}
-use Rattle.constriction_adaptive.specs.Mixing.{logarithm}
-use Rattle.constriction_adaptive.proofs.mixer.tables.fill_logarithms.Given as goal
-
--- each logarithm so far
-abbrev pub invariant-loop-i : goal.invariant-loop-i
-invariant-loop-i l = (k : ℕ) → k < l.i → get_or l.table k 0 ≡ logarithm (2 * k + 1)
