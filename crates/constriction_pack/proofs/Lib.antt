@@ -1,4 +1,7 @@
 pub mod BlockLemmas
+pub mod FileLemmas
 pub mod FrameLemmas
-pub mod ReadLemmas
-pub mod StreamLemmas
+pub mod HashLemmas
+pub mod ListLemmas
+pub mod WeightLemmas
+pub mod WordFrameLemmas

@@ -1,7 +1,7 @@
 -- What stops packing and unpacking.
 use Rattle.std.specs.Prelude.{ℕ}
 use Rattle.constriction_pack.specs.declared.fault.PackError.{PackError}
-use Rattle.constriction_pack.specs.declared.fault.PackError.TheVariants.{Read, Write, OutOfMemory, NotPacked, Cut, Damaged}
+use Rattle.constriction_pack.specs.declared.fault.PackError.TheVariants.{Read, Write, OutOfMemory, NotPacked, Cut, Damaged, TooLong}
 
 -- the input is refused
 abbrev pub IsRefusal : PackError → Type 0
@@ -11,6 +11,7 @@ IsRefusal OutOfMemory = ⊥
 IsRefusal NotPacked = Unit {0}
 IsRefusal Cut = Unit {0}
 IsRefusal Damaged = Unit {0}
+IsRefusal TooLong = Unit {0}
 
 -- the exit status of a program that a fault stops
 abbrev pub status_of : PackError → ℕ
@@ -20,3 +21,4 @@ status_of OutOfMemory = 3
 status_of NotPacked = 2
 status_of Cut = 2
 status_of Damaged = 2
+status_of TooLong = 2

@@ -1,4 +1,5 @@
-pub mod Blocks
+pub mod Contents
 pub mod Faults
 pub mod Frames
 pub mod Packed
+pub mod WordFrames

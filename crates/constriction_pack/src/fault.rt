@@ -24,9 +24,12 @@ pub enum PackError {
     /// The input ends before the packed file does.
     #[error("The packed file was cut.")]
     Cut,
-    /// A block, its number of words or its checksum is wrong, or something follows the packed file.
+    /// A header, a block or a checksum is wrong, or something follows the packed file.
     #[error("The packed file is damaged.")]
     Damaged,
+    /// The next block would make the output longer than the limit.
+    #[error("The packed file holds more than was allowed.")]
+    TooLong,
 }
 
 impl PackError {
@@ -36,7 +39,7 @@ impl PackError {
     {
         match self {
             PackError::Read | PackError::Write => 1,
-            PackError::NotPacked | PackError::Cut | PackError::Damaged => 2,
+            PackError::NotPacked | PackError::Cut | PackError::Damaged | PackError::TooLong => 2,
             PackError::OutOfMemory => 3,
         }
     }

@@ -1,15 +1,45 @@
-//! Words behind their number and before a checksum.
+//! Contents behind a header and before a checksum.
 
-ghost use Rattle.std.specs.Prelude.{◌≡◌, ◌<◌, ◌^◌, ℕ, List, IfErr, IfOk, [], ◌∷◌, length};
-ghost use Rattle.constriction_coders.specs.Bytes.{bytes_of_words};
-ghost use Rattle.constriction_pack.specs.Frames.{frame_of, hash_after, hash_after_frame};
+ghost use Rattle.std.specs.Prelude.{
+  ◌≡◌,
+  ◌<◌,
+  ◌≤◌,
+  ◌^◌,
+  ◌+◌,
+  ◌++◌,
+  ℕ,
+  List,
+  Bool,
+  None,
+  Some,
+  IfErr,
+  IfOk,
+  IsOk,
+  OnErr,
+  length,
+  if◌then◌else◌,
+};
+ghost use Rattle.std.specs.Io.KnownBytes.{Appends, Consumes};
+ghost use Rattle.constriction_pack.specs.Faults.{IsRefusal};
+ghost use Rattle.constriction_pack.specs.Frames.{frame_of, hash_after, hash_after_frame, header_of, tag_of};
 
+use crate::block::MOST_BYTES;
 use crate::fault::PackError;
-use constriction_coders::bytes::{push_words, words_of};
-use std::alloc::{AllocError, Global};
+use crate::kind::Kind;
+use crate::reading::read_up_to;
+use crate::writing::write_whole;
+use std::io::{Read, Write};
+
+/// The hash of no bytes.
+pub(crate) const FIRST_HASH: u64 = 0xcbf2_9ce4_8422_2325;
+
+/// The bytes of a header, and of a checksum.
+const HEADER: usize = 5;
+
+const CHECKSUM: usize = 8;
 
 /// The 64-bit FNV-1a hash of these bytes after others.
-fn hash_of(before: u64, bytes: &[u8]) -> u64
+pub(crate) fn hash_of(before: u64, bytes: &[u8]) -> u64
     ensures { result ≡ hash_after before bytes.now }
 {
     let mut hash = before;
@@ -19,58 +49,110 @@ fn hash_of(before: u64, bytes: &[u8]) -> u64
     hash
 }
 
-/// Makes the frame of these words, after frames with this hash, and answers the hash after it.
-#[tactic(auto, unfolding(crate::specs::Frames::frame_of, crate::specs::Frames::hash_after_frame))]
-pub(crate) fn write_frame(
-    frame: &mut Vec<u8>,
+/// The tag of a kind.
+fn tag(kind: Kind, is_last: bool) -> u8
+    ensures { result ≡ tag_of kind is_last }
+{
+    if is_last {
+        kind.number() + 128
+    } else {
+        kind.number()
+    }
+}
+
+/// The header of a content of so many bytes.
+fn header(tag: u8, count: usize) -> [u8; 5]
+    requires { count ≤ 2 ^ 23 }
+    ensures { result ≡ header_of tag count }
+{
+    let low = (count % 256) as u8;
+    let middle = (count / 256 % 256) as u8;
+    let high = (count / 65_536) as u8;
+    [tag, low, middle, high, tag ^ low ^ middle ^ high]
+}
+
+/// What a header says: the kind, whether it is the last one, and how many bytes the content has.
+fn parts_of(header: &[u8]) -> Result<(Kind, bool, usize), PackError>
+    requires { length header.now ≡ 5 }
+    ensures short { IfOk result (λ parts. parts.2 ≤ 2 ^ 23) }
+    ensures ok { IfOk result (λ parts. header.now ≡ header_of (tag_of parts.0 parts.1) parts.2) }
+    ensures accepted { (kind : Kind) (is_last : Bool) (count : ℕ) → count ≤ 2 ^ 23 → header.now ≡ header_of (tag_of kind is_last) count
+        → IsOk result }
+{
+    let (tag, low, middle, high) = (header[0], header[1], header[2], header[3]);
+    let count = low as usize + 256 * middle as usize + 65_536 * high as usize;
+    if header[4] != tag ^ low ^ middle ^ high || count > MOST_BYTES {
+        return Err(PackError::Damaged);
+    }
+    match Kind::of_number(tag % 128) {
+        Some(kind) => Ok((kind, tag >= 128, count)),
+        None => Err(PackError::Damaged),
+    }
+}
+
+/// Writes the frame of this content, after frames with this hash, and answers the hash after it, or `None` after the last one.
+pub(crate) fn write_frame<W: Write>(
+    writer: &mut W,
     before: u64,
-    words: &[u32],
-) -> Result<u64, AllocError>
-    requires { length words.now < 2 ^ 32 }
-    ensures frame { IfOk result (λ _. frame.new.items ≡ frame_of before words.now) }
-    ensures after { IfOk result (λ after. after ≡ hash_after_frame before words.now) }
+    kind: Kind,
+    is_last: bool,
+    content: &[u8],
+) -> Result<Option<u64>, PackError>
+    requires { length content.now ≤ 2 ^ 23 }
+    ensures ok { IfOk result (λ _. Appends (W.contents writer.old) (W.contents writer.new) (frame_of before (tag_of kind is_last) content.now)) }
+    ensures leads { IfOk result (λ after. after
+        ≡ (if is_last then None else Some (hash_after_frame before (tag_of kind is_last) content.now))) }
+    ensures part { OnErr result ((written lost : List ℕ) × Appends (W.contents writer.old) (W.contents writer.new) written
+        × (written ++ lost ≡ frame_of before (tag_of kind is_last) content.now) × (0 < length lost)) }
+    ensures faults { IfErr result (λ fault. ¬ (IsRefusal fault)) }
+{
+    let header = header(tag(kind, is_last), content.len());
+    let after = hash_of(hash_of(before, &header), content);
+    write_whole(writer, &header)?;
+    write_whole(writer, content)?;
+    write_whole(writer, &after.to_le_bytes())?;
+    if is_last {
+        return Ok(None);
+    }
+    Ok(Some(after))
+}
+
+/// Reads a frame, after frames with this hash. It answers the kind, whether the frame is the last one, and the hash after it. Of the
+/// content no more is read than a block has at most.
+pub(crate) fn read_frame<R: Read>(
+    reader: &mut R,
+    before: u64,
+    frame: &mut Vec<u8>,
+) -> Result<(Kind, bool, u64), PackError>
+    ensures ok { IfOk result (λ head. (content : List ℕ) × (length content ≤ 2 ^ 23)
+        × (frame.new.items ≡ frame_of before (tag_of head.0 head.1) content) × (head.2 ≡ hash_after_frame before (tag_of head.0 head.1) content)
+        × Consumes (R.remaining reader.old) (R.remaining reader.new) frame.new.items) }
+    ensures accepted { (kind : Kind) (is_last : Bool) (content rest : List ℕ) → length content ≤ 2 ^ 23
+        → R.remaining reader.old ≡ Some (frame_of before (tag_of kind is_last) content ++ rest) → IfErr result (λ fault. ¬ (IsRefusal fault)) }
 {
     frame.clear();
-    push_words(frame, &[words.len() as u32])?;
-    push_words(frame, words)?;
-    let after = hash_of(before, frame);
-    frame.extend_from_slice(&after.to_le_bytes())?;
-    Ok(after)
-}
-
-/// The words of a frame, after frames with this hash, and the hash after it.
-#[tactic(auto, using(crate::proofs::FrameLemmas::of_frames), unfolding(crate::specs::Frames::hash_after_frame))]
-pub(crate) fn words_in(
-    alloc: Global,
-    before: u64,
-    frame: &[u8],
-) -> Result<(Vec<u32>, u64), PackError>
-    ensures frame { IfOk result (λ answer. frame.now ≡ frame_of before answer.0.items) }
-    ensures after { IfOk result (λ answer. answer.1 ≡ hash_after_frame before answer.0.items) }
-    ensures accepted { (words : List ℕ) → frame.now ≡ frame_of before words → IfErr result (λ fault. fault ≡ PackError.OutOfMemory) }
-{
-    if frame.len() < 12 {
+    read_up_to(reader, HEADER, frame)?;
+    if frame.len() < HEADER {
+        return Err(PackError::Cut);
+    }
+    let (kind, is_last, count) = parts_of(frame)?;
+    let length = HEADER + count + CHECKSUM;
+    read_up_to(reader, length, frame)?;
+    if frame.len() < length {
+        return Err(PackError::Cut);
+    }
+    let (hashed, checksum) = frame.split_at(length - CHECKSUM);
+    let after = hash_of(before, hashed);
+    if checksum != after.to_le_bytes().as_slice() {
         return Err(PackError::Damaged);
     }
-    let (counted, checksum) = frame.split_at(frame.len() - 8);
-    let (number, bytes) = counted.split_at(4);
-    let after = hash_of(before, counted);
-    let number_fits = bytes.len() == 4 * number_of(number) as usize;
-    let checksum_fits = checksum == after.to_le_bytes().as_slice();
-    if !number_fits || !checksum_fits {
-        return Err(PackError::Damaged);
-    }
-    // They are whole words, so only memory can be refused.
-    let Ok(words) = words_of(alloc, bytes) else {
-        return Err(PackError::OutOfMemory);
-    };
-    Ok((words, after))
+    Ok((kind, is_last, after))
 }
 
-/// The number of these four bytes.
-pub(crate) fn number_of(bytes: &[u8]) -> u32
-    requires { length bytes.now ≡ 4 }
-    ensures { bytes_of_words (result ∷ []) ≡ bytes.now }
+/// The content of a frame.
+pub(crate) fn content_of(frame: &[u8]) -> &[u8]
+    requires { 13 ≤ length frame.now }
+    ensures { (before tag : ℕ) (content : List ℕ) → frame.now ≡ frame_of before tag content → result.now ≡ content }
 {
-    u32::from_le_bytes([bytes[0], bytes[1], bytes[2], bytes[3]])
+    &frame[HEADER..frame.len() - CHECKSUM]
 }

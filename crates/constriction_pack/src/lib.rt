@@ -1,29 +1,44 @@
-//! Whole files packed by a stack coder, and unpacked again.
+//! Whole files packed by the coders, and unpacked again.
 //!
 //! [`pack`] and [`unpack`] go from any reader to any writer, block by block. [`pack_block`] and [`unpack_block`] turn the bytes of one
-//! block into words and back. [`laws`] says what comes back.
+//! block into a shorter content and back. [`laws`] says what comes back.
 //!
-//! A packed file is the four letters `cpk1`, a frame for each block, and a last frame with no words. All numbers are words of 32 bits, the
-//! lowest byte first.
+//! A packed file is a signature and a frame for each block. The last frame is marked, and nothing follows it. All numbers have the lowest
+//! byte first.
 //!
-//! 1. A frame is the number of its words, the words, and a checksum of 8 bytes, the lowest first: the 64-bit FNV-1a hash of the numbers and
-//!    words of this frame and of all frames before it, without their checksums. So a block that is lost or moved is noticed too.
-//! 2. The words of a block are the number of its bytes, from 1 to 1,048,576; the number of its weights, at most 256; the weights of the
-//!    bytes 0, 1, .., which add up to 65,536 and are not 0; and the words of the stack coder at `PRECISION` 16, which held nothing before
-//!    and has the block's first byte on top.
-//! 3. [`pack`] puts 1,048,576 bytes into each block but the last one. It weighs each byte, up to the greatest one of the block, by one more
-//!    than how often it occurs there. [`unpack`] takes any blocks and any weights.
+//! 1. The signature is `cpk2` and the bytes 13, 10, 26, 10, so that a file is noticed whose ends of lines were changed.
+//! 2. A frame is a header, a content and a checksum. The header has five bytes: a tag, which is the number of the content's [`Kind`], and
+//!    128 more in the last frame; the number of the content's bytes, at most 2^23, in three bytes; and the exclusive or of these four. The
+//!    checksum has eight: the 64-bit FNV-1a hash of the headers and contents of this frame and of all before it.
+//! 3. [`Kind`] says what a content is. [`pack`] takes the shortest of the kinds that a [`Level`] tries. [`unpack`] takes any, and blocks of
+//!    any length up to 2^23.
+//!
+//! [`unpack`] also reads files of the format `cpk1`, which are packed no more. Such a file is these four letters, a frame for each block,
+//! and a frame of no words. A frame is the number of its words, the words, and a checksum as above, of numbers and words. The words of a
+//! block are the number of its bytes, at most 2^20; the number of its weights; the weights; and the words of the stack coder, as in
+//! [`Kind::Weighted`]. A number or a word has four bytes.
 #![tactic(auto)]
 
 mod block;
 mod coding;
 mod fault;
+mod format;
 mod frame;
+mod kind;
 pub mod laws;
+mod leb128;
+mod level;
+mod packing;
+mod predicted;
 mod reading;
-mod streams;
+mod unpacking;
 mod weighing;
+mod word_block;
+mod writing;
 
-pub use crate::block::{BLOCK_BYTES, pack_block, unpack_block};
+pub use crate::block::{pack_block, unpack_block};
 pub use crate::fault::PackError;
-pub use crate::streams::{pack, unpack};
+pub use crate::kind::Kind;
+pub use crate::level::Level;
+pub use crate::packing::pack;
+pub use crate::unpacking::unpack;

@@ -1,24 +1,25 @@
 //! Reads that stop at a number of bytes.
 
-ghost use Rattle.std.specs.Prelude.{◌≡◌, ◌<◌, ◌≤◌, ◌++◌, ℕ, List, Some, IfErr, IfOk, OnOk, [], codes, length};
+ghost use Rattle.std.specs.Prelude.{◌≡◌, ◌<◌, ◌≤◌, ◌++◌, ◌∷◌, ℕ, List, Some, IfErr, IfOk, OnOk, [], length};
 ghost use Rattle.std.specs.Io.KnownBytes.{Consumes, IsAtEnd};
-ghost use Rattle.constriction_pack.specs.Blocks.{most_words};
+ghost use Rattle.constriction_coders.specs.Bytes.{bytes_of_words};
 ghost use Rattle.constriction_pack.specs.Faults.{IsRefusal};
-ghost use Rattle.constriction_pack.specs.Frames.{frame_of};
+ghost use Rattle.constriction_pack.specs.Packed.{signature_of};
 
 use crate::fault::PackError;
-use crate::frame::number_of;
+use crate::format::{Format, LETTERS, SIGNATURE};
 use std::io::Read;
 
 /// The most bytes that one turn of a reader takes.
 const CHUNK: usize = 8192;
 
-/// What packed files begin with.
-pub(crate) const MAGIC: &[u8] = b"cpk1";
-
-/// The most words of a block: of 1,048,576 bytes, 256 weights, and two that hold the numbers of these. A byte adds one word at most, and
-/// the state two.
-const MOST_WORDS: u32 = 1_048_836;
+/// The number of these four bytes.
+pub(crate) fn number_of(bytes: &[u8]) -> u32
+    requires { length bytes.now ≡ 4 }
+    ensures { bytes_of_words (result ∷ []) ≡ bytes.now }
+{
+    u32::from_le_bytes([bytes[0], bytes[1], bytes[2], bytes[3]])
+}
 
 /// One turn of the reader, of at most `room` bytes, which are put at the end of the input. It answers how many there were.
 fn read_turn<R: Read>(
@@ -70,17 +71,24 @@ pub(crate) fn read_up_to<R: Read>(
 }
 
 /// Reads what packed files begin with.
-pub(crate) fn read_magic<R: Read>(reader: &mut R, input: &mut Vec<u8>) -> Result<(), PackError>
-    ensures ok { OnOk result (Consumes (R.remaining reader.old) (R.remaining reader.new) (codes "cpk1")) }
-    ensures accepted { (rest : List ℕ) → R.remaining reader.old ≡ Some (codes "cpk1" ++ rest)
+pub(crate) fn read_signature<R: Read>(
+    reader: &mut R,
+    input: &mut Vec<u8>,
+) -> Result<Format, PackError>
+    ensures ok { IfOk result (λ format. Consumes (R.remaining reader.old) (R.remaining reader.new) (signature_of format)) }
+    ensures accepted { (format : Format) (rest : List ℕ) → R.remaining reader.old ≡ Some (signature_of format ++ rest)
         → IfErr result (λ fault. ¬ (IsRefusal fault)) }
 {
     input.clear();
     read_up_to(reader, 4, input)?;
-    if input.as_slice() != MAGIC {
+    if input.as_slice() == LETTERS {
+        return Ok(Format::Cpk1);
+    }
+    read_up_to(reader, 8, input)?;
+    if input.as_slice() != SIGNATURE {
         return Err(PackError::NotPacked);
     }
-    Ok(())
+    Ok(Format::Cpk2)
 }
 
 /// Reads that nothing follows.
@@ -95,30 +103,4 @@ pub(crate) fn read_end<R: Read>(reader: &mut R, input: &mut Vec<u8>) -> Result<(
     } else {
         Err(PackError::Damaged)
     }
-}
-
-/// Reads a frame. Of its words no more are read than a block has at most.
-#[tactic(auto, using(crate::proofs::ReadLemmas::frame_read))]
-pub(crate) fn read_frame<R: Read>(reader: &mut R, frame: &mut Vec<u8>) -> Result<(), PackError>
-    ensures ok { OnOk result (Consumes (R.remaining reader.old) (R.remaining reader.new) frame.new.items) }
-    ensures whole { (before : ℕ) (words rest : List ℕ) → length words ≤ most_words
-        → R.remaining reader.old ≡ Some (frame_of before words ++ rest) → OnOk result (frame.new.items ≡ frame_of before words) }
-    ensures accepted { (before : ℕ) (words rest : List ℕ) → length words ≤ most_words
-        → R.remaining reader.old ≡ Some (frame_of before words ++ rest) → IfErr result (λ fault. ¬ (IsRefusal fault)) }
-{
-    frame.clear();
-    read_up_to(reader, 4, frame)?;
-    if frame.len() < 4 {
-        return Err(PackError::Cut);
-    }
-    let number = number_of(frame);
-    if number > MOST_WORDS {
-        return Err(PackError::Damaged);
-    }
-    let length = 4 * number as usize + 12;
-    read_up_to(reader, length, frame)?;
-    if frame.len() < length {
-        return Err(PackError::Cut);
-    }
-    Ok(())
 }

@@ -1,6 +1,6 @@
 //! The weights of bytes that are packed together.
 
-ghost use Rattle.std.specs.Prelude.{◌<◌, ◌≤◌, All, IfOk, length};
+ghost use Rattle.std.specs.Prelude.{◌<◌, ◌≤◌, ◌^◌, All, IfOk, length};
 ghost use Rattle.constriction.specs.Acceptance.{IsAccepted};
 
 use constriction_coders::counts::{CountsError, weights_of};
@@ -36,6 +36,8 @@ pub(crate) fn byte_weights(alloc: Global, bytes: &[u8]) -> Result<Vec<u32>, Allo
     ensures few { IfOk result (λ weights. length weights.items ≤ 256) }
     ensures known { IfOk result (λ weights. All (λ b. b < length weights.items) bytes.now) }
     ensures accepted { IfOk result (λ weights. IsAccepted 32 16 weights.items) }
+    ensures most { IfOk result (λ weights. All (λ w. w ≤ 2 ^ 16) weights.items) }
+    ensures some { IfOk result (λ weights. 0 < length weights.items) }
 {
     let counts = counts_of(alloc, bytes)?;
     match weights_of::<16>(alloc, &counts) {

@@ -1,4 +1,4 @@
-use Rattle.constriction_pack.proofs.StreamLemmas.{one_content}
+use Rattle.constriction_pack.proofs.FileLemmas.{one_content}
 use Rattle.constriction_pack.proofs.laws.packed_once.Goals as goal
 
 pub returns : goal.returns

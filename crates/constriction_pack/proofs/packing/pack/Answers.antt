@@ -1,0 +1,15 @@
+use Rattle.std.proofs.Common.{refl}
+use Rattle.constriction_pack.proofs.FileLemmas.{under_way_done, under_way_more}
+use Rattle.constriction_pack.proofs.packing.pack.Goals as goal
+
+pub returns-in-None-clause-ok : goal.returns-in-None-clause-ok
+returns-in-None-clause-ok g c =
+    let one = rw c.in-None.is at c.in_ok-after.ensures.ok in
+    let end = c.in_ok-after.ensures.end c.in-None.is in
+    let file = under_way_done _ _ _ one.0 one.1 one.2 c.blocks-2.invariant one.3 one.4 one.5 one.6 one.7 end.0 in
+    (file.0, file.1, file.2, end.1, file.3, file.4, file.5)
+
+pub blocks-2-preserved : goal.blocks-2-preserved
+blocks-2-preserved g c =
+    let one = rw c.in-Some.is at c.in_ok-after.ensures.ok in
+    under_way_more _ _ one.0 one.1 one.2 c.blocks-2.invariant one.3 one.4 one.5 one.6 one.7 (one.8 refl) c.in_ok-after.ensures.kept

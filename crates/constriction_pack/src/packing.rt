@@ -1,0 +1,108 @@
+//! Packing from a reader to a writer, block by block.
+
+ghost use Rattle.std.specs.Prelude.{◌≡◌, ◌↔◌, ◌≤◌, ◌^◌, ◌+◌, ◌*◌, ◌/◌, [], ◌++◌, ℕ, List, None, IfErr, IfOk, IsSome, IsTrue, OnOk, length};
+ghost use Rattle.std.specs.Io.KnownBytes.{Appends, Consumes, IsAtEnd};
+ghost use Rattle.constriction_pack.specs.Faults.{IsRefusal};
+ghost use Rattle.constriction_pack.specs.Frames.{IsFrame};
+ghost use Rattle.constriction_pack.specs.Packed.{IsPackedAs};
+
+use crate::block::pack_block;
+use crate::fault::PackError;
+use crate::format::{Format, SIGNATURE};
+use crate::frame::{FIRST_HASH, write_frame};
+use crate::kind::Kind;
+use crate::level::Level;
+use crate::reading::read_up_to;
+use crate::writing::write_whole;
+use std::alloc::Global;
+use std::io::{Read, Write};
+
+/// Writes the frame of a block, after frames with this hash, and answers the hash after it, or `None` after the last one.
+fn write_block<W: Write>(
+    alloc: Global,
+    level: Level,
+    writer: &mut W,
+    before: u64,
+    is_last: bool,
+    block: &[u8],
+) -> Result<Option<u64>, PackError>
+    requires { length block.now ≤ 2 ^ 23 }
+    ensures ok { IfOk result (λ after. (frame : List ℕ) × IsFrame before block.now frame after
+        × Appends (W.contents writer.old) (W.contents writer.new) frame × (length frame ≤ length block.now + 13)) }
+    ensures last { IfOk result (λ after. IsTrue is_last ↔ (after ≡ None)) }
+    ensures faults { IfErr result (λ fault. ¬ (IsRefusal fault)) }
+{
+    match pack_block(alloc, level, block)? {
+        Some((kind, content)) => {
+            let after = write_frame(writer, before, kind, is_last, &content)?;
+            Ok(after)
+        }
+        None => {
+            let after = write_frame(writer, before, Kind::Stored, is_last, block)?;
+            Ok(after)
+        }
+    }
+}
+
+/// Packs the next block, after frames with this hash, and answers the hash after it, or `None` if it wrote the last frame. The buffer has
+/// what was read and is not packed yet, which is a byte at most.
+fn pack_next<R: Read, W: Write>(
+    alloc: Global,
+    level: Level,
+    reader: &mut R,
+    writer: &mut W,
+    buffer: &mut Vec<u8>,
+    before: u64,
+) -> Result<Option<u64>, PackError>
+    requires { length buffer.old.items ≤ 1 }
+    ensures ok { IfOk result (λ after. (read block frame : List ℕ) × Consumes (R.remaining reader.old) (R.remaining reader.new) read
+        × (buffer.old.items ++ read ≡ block ++ buffer.new.items) × IsFrame before block frame after
+        × Appends (W.contents writer.old) (W.contents writer.new) frame × (length frame ≤ length block + 13)
+        × (IsSome after → 2 ^ 20 ≤ length block)) }
+    ensures kept { IfOk result (λ after. length buffer.new.items ≤ 1) }
+    ensures end { IfOk result (λ after. after ≡ None → (buffer.new.items ≡ []) × IsAtEnd (R.remaining reader.new)) }
+    ensures faults { IfErr result (λ fault. ¬ (IsRefusal fault)) }
+{
+    let most = level.block_bytes();
+    read_up_to(reader, most + 1, buffer)?;
+    let count = buffer.len();
+    let is_last = count <= most;
+    let block = &buffer[..count.min(most)];
+    let after = write_block(alloc, level, writer, before, is_last, block)?;
+    if is_last {
+        buffer.clear();
+    } else {
+        buffer[0] = buffer[most];
+        buffer.truncate(1);
+    }
+    Ok(after)
+}
+
+/// Packs what a reader has, to its end, block by block.
+///
+/// The writer is not flushed: give one that holds nothing back. Memory is asked for one block at a time, whatever there is to read. No
+/// fault is a refusal: the input was not read (which also stands for more than `2^64 - 1` blocks), the output was not written, or memory
+/// was refused. What was written before stands, and [`unpack`](crate::unpack) refuses it.
+#[tactic(auto, using(crate::proofs::FileLemmas::under_way_begun, crate::proofs::FileLemmas::under_way_more))]
+pub fn pack<R: Read, W: Write>(
+    alloc: Global,
+    level: Level,
+    reader: &mut R,
+    writer: &mut W,
+) -> Result<(), PackError>
+    ensures ok { OnOk result ((bytes packed : List ℕ) × Consumes (R.remaining reader.old) (R.remaining reader.new) bytes
+        × IsAtEnd (R.remaining reader.new) × Appends (W.contents writer.old) (W.contents writer.new) packed
+        × IsPackedAs Format.Cpk2 bytes packed × (length packed ≤ length bytes + 24 + 16 * (length bytes / 2 ^ 20))) }
+    ensures faults { IfErr result (λ fault. ¬ (IsRefusal fault)) }
+{
+    write_whole(writer, SIGNATURE)?;
+    let mut buffer = Vec::new(alloc);
+    let mut before = FIRST_HASH;
+    'blocks: for _ in 0..u64::MAX {
+        match pack_next(alloc, level, reader, writer, &mut buffer, before)? {
+            Some(after) => before = after,
+            None => return Ok(()),
+        }
+    }
+    Err(PackError::Read)
+}
