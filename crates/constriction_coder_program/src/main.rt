@@ -1,27 +1,74 @@
-//! Answers lines of standard input on standard output: the words of a coder, or the symbols of such words. With the argument `pack` or
-//! `unpack` it packs or unpacks all of standard input.
+//! Answers lines of standard input on standard output: the words of a coder, or the symbols of such words. Or packs, unpacks or tests a
+//! file.
 #![tactic(auto)]
 
 mod answers;
+mod arguments;
 mod coding;
+mod fault;
+mod help;
 mod line;
+mod output;
 mod packing;
 mod run;
+mod streams;
 
+use crate::arguments::{Action, Arguments, parse};
+use crate::help::HELP;
 use crate::run::run_lines;
-use std::io;
+use constriction_text::RunFault;
+use std::env;
+use std::io::{self, ErrorKind};
 use std::process::ExitCode;
 
-fn main(rt: HostRuntime) -> ExitCode {
-    if let Some(status) = packing::asked(&rt) {
-        return status;
-    }
-    let mut reader = rt.reader();
-    match run_lines(rt.alloc(), &mut reader, io::writer(&rt)) {
+/// Answers the lines of standard input.
+fn answer_lines(rt: &HostRuntime) -> Result<(), RunFault> {
+    run_lines(rt.alloc(), &mut rt.reader(), io::writer(rt))
+}
+
+/// The status of a run, of which a fault is said on standard error.
+fn status_of(rt: &HostRuntime, done: Result<(), RunFault>) -> ExitCode {
+    match done {
         Ok(()) => ExitCode::SUCCESS,
         Err(fault) => {
-            let _ = eprintln!(&rt; "coder: {fault}");
+            let _ = eprintln!(rt; "coder: {fault}");
             ExitCode::from(fault.status())
+        }
+    }
+}
+
+/// Does what the arguments ask for.
+fn run_action(rt: &HostRuntime, arguments: &Arguments) -> ExitCode {
+    match arguments.action {
+        Action::Help => status_of(rt, rt.print(HELP).map_err(|_| RunFault::Write)),
+        Action::Lines => status_of(rt, answer_lines(rt)),
+        Action::Pack | Action::Unpack | Action::Test => packing::run(rt, arguments),
+    }
+}
+
+/// The arguments after the program's name.
+fn words(rt: &HostRuntime) -> io::Result<Vec<String>> {
+    let words: Vec<String> = env::args(rt)?.skip(1).collect(rt.alloc())?;
+    Ok(words)
+}
+
+fn main(rt: HostRuntime) -> ExitCode {
+    let words = match words(&rt) {
+        Ok(words) => words,
+        Err(error) if error.kind() == ErrorKind::OutOfMemory => return status_of(
+            &rt,
+            Err(RunFault::OutOfMemory),
+        ),
+        Err(_) => {
+            let _ = eprintln!(rt; "coder: an argument is no UTF-8");
+            return ExitCode::from(64);
+        }
+    };
+    match parse(&words) {
+        Ok(arguments) => run_action(&rt, &arguments),
+        Err(misuse) => {
+            let _ = eprintln!(rt; "coder: {misuse}");
+            ExitCode::from(64)
         }
     }
 }

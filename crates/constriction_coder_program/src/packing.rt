@@ -1,98 +1,134 @@
-//! Whole files: standard input packed or unpacked onto standard output.
+//! Files packed, unpacked and tested, as the arguments ask.
 
-use constriction_pack::{PackError, pack, unpack};
-use std::io::{IsTerminal, Read};
+use crate::arguments::{Action, Arguments};
+use crate::fault::{Failure, Fault};
+use crate::output::{part_of, publish};
+use crate::streams::{Source, Target};
+use constriction_pack::{Level, PackError, pack, unpack};
+use std::fs;
+use std::io::IsTerminal;
 use std::process::ExitCode;
-use std::time::{Duration, Instant};
-use std::{env, io};
 
-/// A reader that says once a second on standard error how much it has read.
-#[derive(Drop)]
-struct Watched<'a, R> {
-    reader: R,
-    rt: &'a HostRuntime,
-    read: u64,
-    said: Option<Instant>,
-}
-
-impl<R> Watched<'_, R> {
-    /// Says how much was read, if a second went by. It ignores errors of the clock and of standard error.
-    fn say(&mut self) {
-        let Ok(now) = Instant::now(self.rt) else {
-            return;
-        };
-        match self.said {
-            Some(said) if now.duration_since(said) < Duration::from_secs(1) => return,
-            Some(_) => {
-                let _ = eprintln!(self.rt; "coder: {} MiB read", self.read / 1_048_576);
-            }
-            None => {}
-        }
-        self.said = Some(now);
+/// The fault, with what the system said of a read or write that failed, and the name of the file that it is about.
+fn failure_of<'a>(
+    arguments: &Arguments<'a>,
+    source: &Source,
+    target: &Target,
+    fault: PackError,
+) -> Failure<'a> {
+    let (name, error) = match fault {
+        PackError::Read => (arguments.input_name(), source.error()),
+        PackError::Write => (arguments.output_name(), target.error()),
+        _ => (arguments.input_name(), None),
+    };
+    Failure {
+        name,
+        fault: error.map_or(Fault::Pack(fault), Fault::System),
     }
 }
 
-impl<R: Read> Read for Watched<'_, R> {
-    fn read(&mut self, buf: &mut [u8]) -> io::Result<usize> {
-        let count = self.reader.read(buf)?;
-        self.read = self.read.saturating_add(count as u64);
-        self.say();
-        Ok(count)
-    }
-}
-
-/// What an argument asks for.
-#[derive(Clone, Copy, Debug, PartialEq, Eq)]
-enum Call {
-    Pack,
-    Unpack,
-}
-
-/// Packs or unpacks.
-fn run<R: Read>(rt: &HostRuntime, call: Call, reader: &mut R) -> Result<(), PackError> {
-    match call {
-        Call::Pack => pack(rt.alloc(), reader, &mut io::writer(rt)),
-        Call::Unpack => unpack(rt.alloc(), reader, &mut io::writer(rt)),
-    }
-}
-
-/// Packs or unpacks, with a line a second on standard error if that is a terminal, and answers the exit status.
-fn status_of(rt: &HostRuntime, call: Call) -> ExitCode {
-    let mut reader = rt.reader();
-    let done = if rt.stderr().is_terminal() {
-        let mut watched = Watched {
-            reader,
-            rt,
-            read: 0,
-            said: None,
-        };
-        run(rt, call, &mut watched)
+/// Packs or unpacks what the source has.
+fn convert<'a>(
+    rt: &HostRuntime,
+    arguments: &Arguments<'a>,
+    source: &mut Source,
+    target: &mut Target,
+) -> Result<(), Failure<'a>> {
+    let done = if arguments.action == Action::Pack {
+        let level = arguments.level.unwrap_or(Level::Default);
+        pack(rt.alloc(), level, source, target)
     } else {
-        run(rt, call, &mut reader)
+        let limit = arguments.limit.unwrap_or(u64::MAX);
+        unpack(rt.alloc(), limit, source, target)
     };
     match done {
-        Ok(()) => ExitCode::SUCCESS,
-        Err(fault) => {
-            let _ = eprintln!(rt; "coder: {fault}");
-            ExitCode::from(fault.status())
-        }
+        Ok(()) => Ok(()),
+        Err(fault) => Err(failure_of(arguments, source, target, fault)),
     }
 }
 
-/// Does what the argument asks for, `pack` or `unpack`, and answers the exit status, or `None` if there is no argument.
-pub(crate) fn asked(rt: &HostRuntime) -> Option<ExitCode> {
-    let Ok(arguments) = env::args(rt) else {
-        let _ = eprintln!(rt; "coder: {}", PackError::OutOfMemory);
-        return Some(ExitCode::from(PackError::OutOfMemory.status()));
+/// Packs or unpacks into the part, and gives it the output's name.
+fn convert_part<'a>(
+    rt: &HostRuntime,
+    arguments: &Arguments<'a>,
+    source: &mut Source,
+    part: &str,
+    target: &mut Target,
+    output: &'a str,
+) -> Result<(), Failure<'a>> {
+    convert(rt, arguments, source, target)?;
+    let done = match target.sync() {
+        Ok(()) => publish(rt, part, output, arguments.force),
+        Err(error) => Err(Fault::System(error)),
     };
-    let mut arguments = arguments.skip(1);
-    let argument = arguments.next()?;
-    if argument.as_str() == "pack" {
-        Some(status_of(rt, Call::Pack))
-    } else if argument.as_str() == "unpack" {
-        Some(status_of(rt, Call::Unpack))
-    } else {
-        let _ = eprintln!(rt; "coder: the argument is pack or unpack, or there is none");
-        Some(ExitCode::from(64))
+    done.map_err(|fault| Failure {
+        name: output,
+        fault,
+    })
+}
+
+/// Packs or unpacks into a file, which gets its name once it is whole. After a failure nothing of it is left.
+fn convert_to_file<'a>(
+    rt: &HostRuntime,
+    arguments: &Arguments<'a>,
+    source: &mut Source,
+    output: &'a str,
+) -> Result<(), Failure<'a>> {
+    let (part, mut target) = match part_of(rt, output, arguments.force) {
+        Ok(made) => made,
+        Err(fault) => {
+            return Err(Failure {
+                name: output,
+                fault,
+            });
+        }
+    };
+    let done = convert_part(rt, arguments, source, part.as_str(), &mut target, output);
+    if done.is_err() {
+        let _ = fs::remove_file(rt, part.as_str());
+    }
+    done
+}
+
+/// Does what the arguments ask of the source.
+fn run_on<'a>(
+    rt: &HostRuntime,
+    arguments: &Arguments<'a>,
+    source: &mut Source,
+) -> Result<(), Failure<'a>> {
+    if arguments.action == Action::Test {
+        return convert(rt, arguments, source, &mut Target::nothing());
+    }
+    if let Some(output) = arguments.output {
+        return convert_to_file(rt, arguments, source, output);
+    }
+    if arguments.action == Action::Pack && rt.stdout().is_terminal() {
+        return Err(Failure {
+            name: arguments.output_name(),
+            fault: Fault::Terminal,
+        });
+    }
+    convert(rt, arguments, source, &mut Target::standard(rt))
+}
+
+/// Opens the source, and does what the arguments ask of it.
+fn open_and_run<'a>(rt: &HostRuntime, arguments: &Arguments<'a>) -> Result<(), Failure<'a>> {
+    match Source::open(rt, arguments.input) {
+        Ok(mut source) => run_on(rt, arguments, &mut source),
+        Err(error) => Err(Failure {
+            name: arguments.input_name(),
+            fault: Fault::System(error),
+        }),
+    }
+}
+
+/// Does what the arguments ask of a file, and answers the exit status.
+pub(crate) fn run(rt: &HostRuntime, arguments: &Arguments) -> ExitCode {
+    match open_and_run(rt, arguments) {
+        Ok(()) => ExitCode::SUCCESS,
+        Err(failure) => {
+            let _ = eprintln!(rt; "coder: {failure}");
+            ExitCode::from(failure.status())
+        }
     }
 }
