@@ -1,20 +1,25 @@
 //! Symbols whose models are learned: what comes back, a predictor of a caller's own, and what errors leave.
 
-ghost use Rattle.std.specs.Prelude.{◌≡◌, ◌<◌, ℕ, List, refl};
+ghost use Rattle.std.specs.Prelude.{◌≡◌, ◌<◌, ℕ, List, OnSome, refl};
 ghost use Rattle.constriction.specs.Rows.{Row};
+ghost use Rattle.constriction_adaptive.specs.Categorical.{even_lefts};
 
 use crate::checks::{holds, prints, same};
 use constriction::CoderError;
 use constriction::backends::Cursor;
-use constriction::stream::model::{ContiguousCategoricalEntropyModel, EntropyModel};
+use constriction::stream::model::{ContiguousCategoricalEntropyModel, EntropyModel, ModelError};
 use constriction_adaptive::bytes::{decode_byte, decode_bytes, encode_byte, encode_bytes};
 use constriction_adaptive::{
-    Bit, EncoderFrontendError, HashedContexts, Mixer, OrderOne, Predictor, queue, stack,
+    AdaptiveCategorical, Bit, EncoderFrontendError, HashedContexts, Mixer, OrderOne, Predictor,
+    queue, stack,
 };
 use constriction_coders::queue::{DecoderFrontendError, RangeDecoder, RangeEncoder};
 use constriction_coders::stack::AnsCoder;
 use std::alloc::{AllocError, Global};
 use std::process::Abort;
+
+mod known_models;
+mod other_words;
 
 type Letters = ContiguousCategoricalEntropyModel<u32, Vec<u32>, 6>;
 
@@ -72,6 +77,25 @@ fn letters(rt: &impl Abort, alloc: Global, weights: [u32; 3]) -> Letters {
 
 const SYMBOLS: [usize; 7] = [0, 2, 1, 1, 0, 2, 0];
 
+/// A caller knows from the contract that both predictors end in one state.
+fn message_back<P, const PRECISION: usize>(
+    alloc: Global,
+    encoding: &mut P,
+    decoding: &mut P,
+    symbols: &[P::Symbol],
+) -> Option<Vec<P::Symbol>>
+where
+    P: Predictor<PRECISION>,
+    P::Symbol: Drop,
+    requires { P.state decoding.old ≡ P.state encoding.old }
+    ensures { OnSome result (P.state decoding.new ≡ P.state encoding.new) }
+{
+    match queue::message_comes_back(alloc, encoding, decoding, symbols) {
+        Ok(answers) => Some(answers),
+        Err(_) => None,
+    }
+}
+
 #[test]
 fn letters_come_back_by_two_models_in_turn(rt: HostRuntime) {
     let alloc = rt.alloc();
@@ -87,9 +111,9 @@ fn letters_come_back_by_two_models_in_turn(rt: HostRuntime) {
         other: &other,
         room: 9,
     };
-    match queue::message_comes_back(alloc, &mut encoding, &mut decoding, &SYMBOLS) {
-        Ok(answers) => holds(&rt, &answers, &SYMBOLS),
-        Err(_) => panic!(rt; "no message came back"),
+    match message_back(alloc, &mut encoding, &mut decoding, &SYMBOLS) {
+        Some(answers) => holds(&rt, &answers, &SYMBOLS),
+        None => panic!(rt; "no message came back"),
     }
     same(&rt, (encoding.room, decoding.room), (0, 2));
 }
@@ -335,4 +359,84 @@ fn a_text_comes_back_by_a_mixer(rt: HostRuntime) {
         Mixer::new(alloc, [0, 8], 1, 1, 8),
         Mixer::new(alloc, [0, 8], 1, 1, 8),
     );
+}
+
+/// The bytes of the text as numbers.
+fn numbers(rt: &impl Abort, alloc: Global) -> Vec<usize> {
+    let mut numbers = Vec::new(alloc);
+    for byte in TEXT {
+        numbers.push(*byte as usize).expect(rt, "memory");
+    }
+    numbers
+}
+
+/// A predictor of bytes that learned nothing.
+fn adaptive(rt: &impl Abort, alloc: Global) -> AdaptiveCategorical<4, 16>
+    ensures { ⟦<AdaptiveCategorical<4, 16> as Predictor<16>>⟧.state result ≡ even_lefts 16 256 }
+{
+    match AdaptiveCategorical::new(alloc, 256) {
+        Ok(made) => made,
+        Err(_) => panic!(rt; "no predictor was made"),
+    }
+}
+
+#[test]
+fn numbers_come_back_by_a_cdf_that_moves(rt: HostRuntime) {
+    let alloc = rt.alloc();
+    let text = numbers(&rt, alloc);
+    let mut encoding = adaptive(&rt, alloc);
+    let mut decoding = adaptive(&rt, alloc);
+    match queue::message_comes_back(alloc, &mut encoding, &mut decoding, &text) {
+        Ok(answers) => holds(&rt, &answers, &text),
+        Err(_) => panic!(rt; "no message came back"),
+    }
+}
+
+#[test]
+fn numbers_come_back_from_a_stack_by_a_cdf_that_moves(rt: HostRuntime) {
+    let alloc = rt.alloc();
+    let text = numbers(&rt, alloc);
+    let mut encoding = adaptive(&rt, alloc);
+    let mut decoding = adaptive(&rt, alloc);
+    let mut coder = AnsCoder::new(alloc);
+    match stack::there_and_back(alloc, &mut encoding, &mut decoding, &text, &mut coder) {
+        Ok(answers) => holds(&rt, &answers, &text),
+        Err(_) => panic!(rt; "nothing came back"),
+    }
+}
+
+#[test]
+fn a_cdf_that_moves_packs_a_text(rt: HostRuntime) {
+    let alloc = rt.alloc();
+    let text = numbers(&rt, alloc);
+    let words = match queue::encode_message(alloc, &mut adaptive(&rt, alloc), &text) {
+        Ok(words) => words,
+        Err(_) => panic!(rt; "the text was not encoded"),
+    };
+    // By uniform weights it takes 16 words.
+    same(&rt, words.len() < 12, true);
+}
+
+#[test]
+fn alphabets_of_one_symbol_and_of_all_quantiles_have_a_cdf(rt: HostRuntime) {
+    let alloc = rt.alloc();
+    same(
+        &rt,
+        AdaptiveCategorical::<4, 1>::new(alloc, 1).is_ok(),
+        true,
+    );
+    same(
+        &rt,
+        AdaptiveCategorical::<0, 1>::new(alloc, 2).is_ok(),
+        true,
+    );
+    same(
+        &rt,
+        AdaptiveCategorical::<31, 32>::new(alloc, 2).is_ok(),
+        true,
+    );
+    match AdaptiveCategorical::<4, 1>::new(alloc, 3) {
+        Ok(_) => panic!(rt; "there are too many symbols"),
+        Err(error) => same(&rt, error, ModelError::InvalidTable),
+    }
 }

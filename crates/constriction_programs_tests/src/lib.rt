@@ -9,9 +9,13 @@
 #[cfg(test)]
 mod checks;
 #[cfg(test)]
+mod contexts;
+#[cfg(test)]
 mod known;
 #[cfg(test)]
 mod learned;
+#[cfg(test)]
+mod mixed;
 #[cfg(test)]
 mod packing;
 #[cfg(test)]

@@ -3,45 +3,78 @@
 use crate::checks::{holds, prints, same};
 use crate::runs::{SlowReader, SlowWriter};
 use constriction_pack::laws::{block_comes_back, file_comes_back};
-use constriction_pack::{BLOCK_BYTES, PackError, pack, pack_block, unpack, unpack_block};
+use constriction_pack::{Kind, Level, PackError, pack, pack_block, unpack, unpack_block};
 use std::alloc::Global;
+use std::io::{self, Write};
 use std::process::Abort;
 
+/// Bytes that are stored, and bytes that are weighted: 64, of which four are 1 and the others 0.
+const NINE: &[u8] = b"\x02\x00\x01\x00\x00\x02\x00\x01\x00";
+
+const RARE: &[u8] = b"\0\0\0\x01\0\0\0\0\0\0\0\0\0\0\0\0\0\x01\0\0\0\0\0\0\0\0\0\0\0\0\0\x01\
+    \0\0\0\0\0\0\0\0\0\0\0\0\0\0\0\0\0\0\x01\0\0\0\0\0\0\0\0\0\0\0\0\0";
+
 /// Bytes, and the packed files of them. These come from a program written from the description of the format alone.
-const FILES: [(&[u8], &[u8]); 3] = [
-    (b"", b"cpk1\x00\x00\x00\x00\xf5\x13\xce\x9d\x7f\x76\x25\x4d"),
+const FILES: [(&[u8], &[u8]); 5] = [
     (
-        b"\0",
-        b"cpk1\x03\x00\x00\x00\x01\x00\x00\x00\x01\x00\x00\x00\x00\x00\x01\x00\x5f\x4e\xf6\xc3\x18\x58\x6a\xad\
-          \x00\x00\x00\x00\xcf\x27\xbb\x03\x3a\xad\x03\x07",
+        b"",
+        b"cpk2\r\n\x1a\n\x80\x00\x00\x00\x80\x4f\xf4\xe1\xcc\x17\x65\x2e\x3c",
     ),
     (
-        b"\x02\x00\x01\x00\x00\x02\x00\x01\x00",
-        b"cpk1\x06\x00\x00\x00\x09\x00\x00\x00\x03\x00\x00\x00\xff\x7f\x00\x00\x00\x40\x00\x00\x01\x40\x00\x00\
-          \x90\xfe\x03\x02\xcd\x4b\xfe\xa9\xe0\xd6\xba\xb2\x00\x00\x00\x00\x1d\x7b\x24\x98\x9b\x6b\x51\xeb",
+        b"\0",
+        b"cpk2\r\n\x1a\n\x80\x01\x00\x00\x81\x00\x03\x72\xc2\xa3\x46\x99\xb8\x14",
+    ),
+    (
+        NINE,
+        b"cpk2\r\n\x1a\n\x80\x09\x00\x00\x89\x02\x00\x01\x00\x00\x02\x00\x01\x00\xe5\xc8\x1c\x12\x76\x74\x26\x89",
+    ),
+    (
+        b"\x07\x07\x07\x07\x07\x07",
+        b"cpk2\r\n\x1a\n\x81\x05\x00\x00\x84\x06\x00\x00\x00\x07\xdc\x38\x2c\x4c\x71\x1a\x49\xf7",
+    ),
+    (
+        RARE,
+        b"cpk2\r\n\x1a\n\x82\x0e\x00\x00\x8c\x40\x00\x00\x00\x01\x99\xd9\x03\xe5\x26\x88\x01\xec\xee\
+          \xdb\x3b\x88\xfe\xa5\x7b\x61\x9b",
     ),
 ];
 
-/// The words of the block in the last of these files.
-const BLOCK: [u32; 6] = [9, 3, 32_767, 16_384, 16_385, 33_816_208];
+/// The packed file of three blocks, one of each kind: `NINE`, 20 times 7, and `RARE`.
+const THREE: &[u8] =
+    b"cpk2\r\n\x1a\n\x00\x09\x00\x00\x09\x02\x00\x01\x00\x00\x02\x00\x01\x00\xe5\xf7\x07\x13\xc8\x8a\xd5\x7d\
+    \x01\x05\x00\x00\x04\x14\x00\x00\x00\x07\xd2\x33\x21\x79\x48\xb3\xe3\xb4\
+    \x82\x0e\x00\x00\x8c\x40\x00\x00\x00\x01\x99\xd9\x03\xe5\x26\x88\x01\xec\xee\xde\x93\x31\x8e\x35\x37\x23\x13";
+
+/// A file of the format `cpk1`, with `NINE` in it.
+const OLDER: &[u8] =
+    b"cpk1\x06\x00\x00\x00\x09\x00\x00\x00\x03\x00\x00\x00\xff\x7f\x00\x00\x00\x40\x00\x00\x01\x40\x00\x00\
+      \x90\xfe\x03\x02\xcd\x4b\xfe\xa9\xe0\xd6\xba\xb2\x00\x00\x00\x00\x1d\x7b\x24\x98\x9b\x6b\x51\xeb";
+
+/// The bytes of `THREE`.
+fn three_blocks(rt: &impl Abort, alloc: Global) -> Vec<u8> {
+    let mut bytes = Vec::from_slice(alloc, NINE).expect(rt, "memory");
+    bytes.extend_from_slice(&[7; 20]).expect(rt, "memory");
+    bytes.extend_from_slice(RARE).expect(rt, "memory");
+    bytes
+}
 
 /// What `pack` answers, and what it writes.
 fn packed(alloc: Global, mut bytes: &[u8]) -> (Result<(), PackError>, Vec<u8>) {
     let mut packed = Vec::new(alloc);
-    let result = pack(alloc, &mut bytes, &mut packed);
+    let result = pack(alloc, Level::Fast, &mut bytes, &mut packed);
     (result, packed)
 }
 
 /// What `unpack` answers, and what it writes.
-fn unpacked(alloc: Global, mut bytes: &[u8]) -> (Result<(), PackError>, Vec<u8>) {
+fn unpacked(alloc: Global, limit: u64, mut bytes: &[u8]) -> (Result<(), PackError>, Vec<u8>) {
     let mut unpacked = Vec::new(alloc);
-    let result = unpack(alloc, &mut bytes, &mut unpacked);
+    let result = unpack(alloc, limit, &mut bytes, &mut unpacked);
     (result, unpacked)
 }
 
 /// Asserts that a file is unpacked to these bytes.
 fn comes_back(rt: &impl Abort, alloc: Global, file: &[u8], bytes: &[u8]) {
-    let (result, again) = unpacked(alloc, file);
+    let (result, again) = unpacked(alloc, u64::MAX, file);
     same(rt, result, Ok(()));
     holds(rt, &again, bytes);
 }
@@ -55,15 +88,33 @@ fn files_are_packed_as_described(rt: HostRuntime) {
         holds(&rt, &found, expected);
         comes_back(&rt, rt.alloc(), expected, bytes);
     }
-    let again = file_comes_back(rt.alloc(), b"there and back").expect(&rt, "memory");
-    holds(&rt, &again, b"there and back");
+    comes_back(&rt, rt.alloc(), OLDER, NINE);
+    let bytes = three_blocks(&rt, rt.alloc());
+    comes_back(&rt, rt.alloc(), THREE, &bytes);
+    let again = file_comes_back(rt.alloc(), Level::Default, RARE).expect(&rt, "memory");
+    holds(&rt, &again, RARE);
+}
+
+/// How many zeros there are, and how long their packed file is: a block of 1,048,576 is not followed by an empty one.
+const ZEROS: [(usize, usize); 4] = [(5, 26), (7, 26), (1_048_576, 26), (1_048_577, 40)];
+
+#[test]
+fn zeros_take_few_bytes(rt: HostRuntime) {
+    for each in &ZEROS {
+        let (count, length) = *each;
+        let bytes = vec![in rt.alloc(); 0u8; count].expect(&rt, "memory");
+        let (result, found) = packed(rt.alloc(), &bytes);
+        same(&rt, result, Ok(()));
+        same(&rt, found.len(), length);
+        comes_back(&rt, rt.alloc(), &found, &bytes);
+    }
 }
 
 /// One byte more than a block holds makes two blocks.
 #[test]
 fn two_blocks_come_back(rt: HostRuntime) {
     let mut bytes = Vec::new(rt.alloc());
-    for place in 0..BLOCK_BYTES + 1 {
+    for place in 0..1_048_577usize {
         bytes.push((place % 251) as u8).expect(&rt, "memory");
     }
     let (result, found) = packed(rt.alloc(), &bytes);
@@ -73,27 +124,42 @@ fn two_blocks_come_back(rt: HostRuntime) {
 
 /// Asserts that a file is refused with this fault, and what was written before: a beginning of the bytes that were packed.
 fn is_refused(rt: &impl Abort, alloc: Global, file: &[u8], fault: PackError, written: &[u8]) {
-    let (result, again) = unpacked(alloc, file);
+    let (result, again) = unpacked(alloc, u64::MAX, file);
     same(rt, result, Err(fault));
     holds(rt, &again, written);
 }
 
-/// Asserts that each beginning of a file is refused, and that what was written is a beginning of the bytes.
-fn are_refused_if_cut(rt: &impl Abort, alloc: Global, file: &[u8], bytes: &[u8]) {
-    for end in 0..file.len() {
-        let fault = if end < 4 {
+/// So many of the first bytes.
+fn front(bytes: &[u8], count: usize) -> &[u8] {
+    if count < bytes.len() {
+        &bytes[..count]
+    } else {
+        bytes
+    }
+}
+
+/// Asserts that each beginning of `THREE` is refused, and that whole blocks of it were written.
+fn are_refused_if_cut(rt: &impl Abort, alloc: Global, bytes: &[u8]) {
+    for end in 0..THREE.len() {
+        let fault = if end < 8 {
             PackError::NotPacked
         } else {
             PackError::Cut
         };
-        let written = if end < 40 { &[] } else { bytes };
-        is_refused(rt, alloc, &file[..end], fault, written);
+        let written = if end < 30 {
+            0
+        } else if end < 48 {
+            9
+        } else {
+            29
+        };
+        is_refused(rt, alloc, &THREE[..end], fault, front(bytes, written));
     }
 }
 
 /// The exit status for what `unpack` answers to a file.
 fn status_of(alloc: Global, file: &[u8]) -> u8 {
-    match unpacked(alloc, file).0 {
+    match unpacked(alloc, u64::MAX, file).0 {
         Ok(()) => 0,
         Err(fault) => fault.status(),
     }
@@ -111,107 +177,228 @@ fn are_refused_if_flipped(rt: &impl Abort, alloc: Global, file: &mut [u8]) {
     }
 }
 
-/// A file is refused if it is cut anywhere, or if any bit is flipped.
+/// Files that no bytes have, though their checksums are right: a kind that there is not, 2^32 - 1 times a byte, a header whose exclusive or
+/// is wrong, a content that is longer than any, and more words than a block of the older format has.
+const WRONG_FILES: [(&[u8], PackError); 5] = [
+    (
+        b"cpk2\r\n\x1a\n\x85\x06\x00\x00\x83abcdef\x24\x27\x77\xa5\x78\x3f\xe3\x2b",
+        PackError::Damaged,
+    ),
+    (
+        b"cpk2\r\n\x1a\n\x81\x05\x00\x00\x84\xff\xff\xff\xff\x07\xc2\x07\xc1\xa6U\x18\xb4/",
+        PackError::Damaged,
+    ),
+    (
+        b"cpk2\r\n\x1a\n\x80\x00\x00\x00\x81\x4f\xf4\xe1\xcc\x17\x65\x2e\x3c",
+        PackError::Damaged,
+    ),
+    (
+        b"cpk2\r\n\x1a\n\x80\x01\x00\x80\x01and so on",
+        PackError::Damaged,
+    ),
+    (b"cpk1\xff\xff\xff\xff", PackError::Damaged),
+];
+
+/// A file is refused if it is cut anywhere, if any bit is flipped, or if a byte follows.
 #[test]
 fn damaged_files_are_refused(rt: HostRuntime) {
     let alloc = rt.alloc();
-    let (bytes, file) = FILES[2];
-    are_refused_if_cut(&rt, alloc, file, bytes);
-    let mut damaged = Vec::from_slice(alloc, file).expect(&rt, "memory");
+    let bytes = three_blocks(&rt, alloc);
+    are_refused_if_cut(&rt, alloc, &bytes);
+    let mut damaged = Vec::from_slice(alloc, THREE).expect(&rt, "memory");
     are_refused_if_flipped(&rt, alloc, &mut damaged);
     damaged.push(0).expect(&rt, "memory");
-    is_refused(&rt, alloc, &damaged, PackError::Damaged, bytes);
-    is_refused(&rt, alloc, b"cpk1\xff\xff\xff\xff", PackError::Damaged, &[]);
+    is_refused(&rt, alloc, &damaged, PackError::Damaged, &bytes[..29]);
+    let mut older = Vec::from_slice(alloc, OLDER).expect(&rt, "memory");
+    are_refused_if_flipped(&rt, alloc, &mut older);
+    for file in &WRONG_FILES {
+        is_refused(&rt, alloc, file.0, file.1, &[]);
+    }
 }
 
-/// Words that are no block: too few numbers, no bytes, too many bytes, too many weights, weights that are cut or do not add up, a
-/// last word 0, too few bytes, and a byte too many.
-const WRONG_BLOCKS: [&[u32]; 9] = [
-    &[9],
-    &[0, 1, 65_536],
-    &[1_048_577, 1, 65_536],
-    &[9, 257],
-    &[9, 3, 32_767, 16_384],
-    &[9, 3, 32_767, 16_384, 16_384, 33_816_208],
-    &[9, 3, 32_767, 16_384, 16_385, 33_816_208, 0],
-    &[7, 3, 32_767, 16_384, 16_385, 33_816_208],
-    &[9, 3, 32_767, 16_384, 16_385, 33_816_208, 1],
+/// The content of `RARE`.
+const CONTENT: &[u8] = b"\x40\x00\x00\x00\x01\x99\xd9\x03\xe5\x26\x88\x01\xec\xee";
+
+/// Contents that no block has: of the kind `Repeated` no bytes, too many, and a byte more; of the kind `Weighted` nothing, no bytes, 2^23 + 1,
+/// 2^32 - 1 and 50 of them, a weight that is cut, one with a byte too many, weights that do not add up, and a word that is cut.
+const WRONG_CONTENTS: [(Kind, &[u8]); 12] = [
+    (Kind::Repeated, b"\0\0\0\0\x07"),
+    (Kind::Repeated, b"\x01\0\x80\0\x07"),
+    (Kind::Repeated, b"\x14\0\0\0\x07\x07"),
+    (Kind::Weighted, b""),
+    (Kind::Weighted, b"\0\0\0\0\0\xff\xff\x03"),
+    (Kind::Weighted, b"\x01\0\x80\0\0\xff\xff\x03"),
+    (Kind::Weighted, b"\xff\xff\xff\xff\0\xff\xff\x03"),
+    (
+        Kind::Weighted,
+        b"\x32\0\0\0\x01\x99\xd9\x03\xe5\x26\x88\x01\xec\xee",
+    ),
+    (Kind::Weighted, b"\x40\0\0\0\x01\x99\xd9\x03\xe5"),
+    (
+        Kind::Weighted,
+        b"\x40\0\0\0\x01\x99\xd9\x83\x00\xe5\x26\x88\x01\xec\xee",
+    ),
+    (
+        Kind::Weighted,
+        b"\x40\0\0\0\x01\x98\xd9\x03\xe5\x26\x88\x01\xec\xee",
+    ),
+    (
+        Kind::Weighted,
+        b"\x40\0\0\0\x01\x99\xd9\x03\xe5\x26\x88\x01\xec",
+    ),
 ];
 
 #[test]
-fn wrong_blocks_are_refused(rt: HostRuntime) {
-    let bytes = unpack_block(rt.alloc(), &BLOCK).expect(&rt, "the block");
-    holds(&rt, &bytes, FILES[2].0);
-    let words = pack_block(rt.alloc(), FILES[2].0).expect(&rt, "memory");
-    holds(&rt, &words, &BLOCK);
-    for words in &WRONG_BLOCKS {
-        let fault = unpack_block(rt.alloc(), words).err();
+fn wrong_contents_are_refused(rt: HostRuntime) {
+    let bytes = unpack_block(rt.alloc(), Kind::Weighted, CONTENT).expect(&rt, "the block");
+    holds(&rt, &bytes, RARE);
+    let made = pack_block(rt.alloc(), Level::Fast, RARE).expect(&rt, "memory");
+    let (kind, content) = made.expect(&rt, "a shorter content");
+    same(&rt, kind, Kind::Weighted);
+    holds(&rt, &content, CONTENT);
+    for each in &WRONG_CONTENTS {
+        let fault = unpack_block(rt.alloc(), each.0, each.1).err();
         same(&rt, fault, Some(PackError::Damaged));
     }
-    let again = block_comes_back(rt.alloc(), b"there and back").expect(&rt, "memory");
-    holds(&rt, &again, b"there and back");
+    let again = block_comes_back(rt.alloc(), Level::Best, RARE).expect(&rt, "memory");
+    holds(&rt, &again, RARE);
 }
 
-/// Asserts that the reader of a packed file fails, and that what was written before stays.
-fn unpack_fails(rt: &impl Abort, alloc: Global, mut reader: SlowReader, bytes: &[u8]) {
-    let mut written = Vec::new(alloc);
-    same(
-        rt,
-        unpack(alloc, &mut reader, &mut written),
-        Err(PackError::Read),
-    );
-    holds(rt, &written, bytes);
-}
+/// Limits, what `unpack` answers to `THREE`, and how many bytes it writes.
+const LIMITS: [(u64, Result<(), PackError>, usize); 4] = [
+    (93, Ok(()), 93),
+    (92, Err(PackError::TooLong), 29),
+    (9, Err(PackError::TooLong), 9),
+    (0, Err(PackError::TooLong), 0),
+];
 
-/// The same of a reader of bytes to be packed.
-fn pack_fails(rt: &impl Abort, alloc: Global, mut reader: SlowReader, bytes: &[u8]) {
-    let mut written = Vec::new(alloc);
-    same(
-        rt,
-        pack(alloc, &mut reader, &mut written),
-        Err(PackError::Read),
-    );
-    holds(rt, &written, bytes);
-}
-
-/// What `pack` answers if the writer fails.
-fn packed_slowly(alloc: Global, mut bytes: &[u8], mut writer: SlowWriter) -> Result<(), PackError> {
-    pack(alloc, &mut bytes, &mut writer)
-}
-
-/// A reader that fails is not asked again, and what was written before stays.
 #[test]
-fn readers_and_writers_fail(rt: HostRuntime) {
-    let (bytes, file) = FILES[2];
-    let reader = SlowReader {
-        rest: file,
-        turns: 45,
-    };
-    unpack_fails(&rt, rt.alloc(), reader, bytes);
-    let reader = SlowReader {
-        rest: bytes,
-        turns: 3,
-    };
-    pack_fails(&rt, rt.alloc(), reader, b"cpk1");
-    let writer = SlowWriter {
+fn nothing_is_written_beyond_the_limit(rt: HostRuntime) {
+    let bytes = three_blocks(&rt, rt.alloc());
+    for each in &LIMITS {
+        let (limit, expected, count) = *each;
+        let (result, written) = unpacked(rt.alloc(), limit, THREE);
+        same(&rt, result, expected);
+        holds(&rt, &written, front(&bytes, count));
+    }
+    let (result, written) = unpacked(rt.alloc(), 8, OLDER);
+    same(&rt, result, Err(PackError::TooLong));
+    holds(&rt, &written, &[]);
+}
+
+/// What `unpack` answers to a reader, and what it writes.
+fn unpacked_slowly(alloc: Global, mut reader: SlowReader) -> (Result<(), PackError>, Vec<u8>) {
+    let mut written = Vec::new(alloc);
+    let result = unpack(alloc, u64::MAX, &mut reader, &mut written);
+    (result, written)
+}
+
+/// The same of `pack`.
+fn packed_slowly(alloc: Global, mut reader: SlowReader) -> (Result<(), PackError>, Vec<u8>) {
+    let mut written = Vec::new(alloc);
+    let result = pack(alloc, Level::Fast, &mut reader, &mut written);
+    (result, written)
+}
+
+/// Readers give one byte a turn. One that fails is not asked again, and what was written before stays.
+#[test]
+fn readers_fail(rt: HostRuntime) {
+    let alloc = rt.alloc();
+    let bytes = three_blocks(&rt, alloc);
+    for each in &[(40, Err(PackError::Read), 9), (1000, Ok(()), 93)] {
+        let (turns, expected, count) = *each;
+        let (result, written) = unpacked_slowly(alloc, SlowReader { rest: THREE, turns });
+        same(&rt, result, expected);
+        holds(&rt, &written, front(&bytes, count));
+    }
+    let zeros = vec![in alloc; 0u8; 1_048_600].expect(&rt, "memory");
+    let rest = zeros.as_slice();
+    let turns = 1_048_590;
+    let (result, written) = packed_slowly(alloc, SlowReader { rest, turns });
+    same(&rt, result, Err(PackError::Read));
+    is_refused(&rt, alloc, &written, PackError::Cut, front(rest, 1_048_576));
+}
+
+/// What `pack` answers if the writer fails after so many bytes, and what was written.
+fn packed_partly(
+    alloc: Global,
+    mut bytes: &[u8],
+    turns: usize,
+) -> (Result<(), PackError>, Vec<u8>) {
+    let taken = Vec::new(alloc);
+    let mut writer = SlowWriter { taken, turns };
+    let result = pack(alloc, Level::Fast, &mut bytes, &mut writer);
+    (result, writer.taken)
+}
+
+/// Wherever a writer fails, a beginning of the file was written, which is no packed file.
+#[test]
+fn writers_fail(rt: HostRuntime) {
+    let file = FILES[4].1;
+    for turns in 0..file.len() {
+        let (result, written) = packed_partly(rt.alloc(), RARE, turns);
+        same(&rt, result, Err(PackError::Write));
+        holds(&rt, &written, &file[..turns]);
+        same(&rt, status_of(rt.alloc(), &written), 2);
+    }
+    let (result, written) = packed_partly(rt.alloc(), RARE, file.len());
+    same(&rt, result, Ok(()));
+    holds(&rt, &written, file);
+}
+
+/// Takes a byte every other time, and is interrupted the other times.
+#[derive(Drop)]
+struct InterruptedWriter {
+    taken: Vec<u8>,
+    is_interrupted: bool,
+}
+
+impl Write for InterruptedWriter {
+    fn write(&mut self, buf: &[u8]) -> io::Result<usize> {
+        self.is_interrupted = !self.is_interrupted;
+        if self.is_interrupted {
+            return Err(io::Error::from(io::ErrorKind::Interrupted));
+        }
+        let Some(first) = buf.first() else {
+            return Ok(0);
+        };
+        match self.taken.push(*first) {
+            Ok(()) => Ok(1),
+            Err(_) => Err(io::Error::from(io::ErrorKind::OutOfMemory)),
+        }
+    }
+
+    fn flush(&mut self) -> io::Result<()> {
+        Ok(())
+    }
+}
+
+/// An interrupted write is tried again.
+#[test]
+fn writers_are_interrupted(rt: HostRuntime) {
+    let mut writer = InterruptedWriter {
         taken: Vec::new(rt.alloc()),
-        turns: 5,
+        is_interrupted: false,
     };
-    same(
-        &rt,
-        packed_slowly(rt.alloc(), b"abc", writer),
-        Err(PackError::Write),
-    );
+    let mut reader = NINE;
+    let result = pack(rt.alloc(), Level::Fast, &mut reader, &mut writer);
+    same(&rt, result, Ok(()));
+    holds(&rt, &writer.taken, FILES[2].1);
 }
 
 /// The faults with their statuses and sentences.
-const FAULTS: [(PackError, u8, &str); 6] = [
+const FAULTS: [(PackError, u8, &str); 7] = [
     (PackError::Read, 1, "The input could not be read."),
     (PackError::Write, 1, "The output could not be written."),
     (PackError::OutOfMemory, 3, "Memory was refused."),
     (PackError::NotPacked, 2, "The input is no packed file."),
     (PackError::Cut, 2, "The packed file was cut."),
     (PackError::Damaged, 2, "The packed file is damaged."),
+    (
+        PackError::TooLong,
+        2,
+        "The packed file holds more than was allowed.",
+    ),
 ];
 
 #[test]
