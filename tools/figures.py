@@ -14,7 +14,7 @@ PARTS = (
     ("Other work here, by a rule: repeats are refused, or a table has fewer slots", ("repeats", "slots")),
     ("A lookup table, which the Rust crate lacks, beside its search", ("search",)),
 )
-# The loop that each kernel has too, which is no row of its own.
+# The loop that each kernel has too, which is no measurement of its own.
 LOOP = "nothing but the loop"
 # What kernels do, and how their names begin: the first that fits counts.
 SUBJECTS = (
@@ -104,17 +104,17 @@ def part_of(saved, sides):
 
 def ratios_of(saved):
     """A row a subject, part by part: how many ratios there are, which, and where the greatest is."""
-    table = [["What", "Ratios", "Least", "Half at most", "Greatest", "Greatest at"]]
+    table = [["What", "Ratios", "Half at most", "Greatest", "Greatest at"]]
     for heading, sides in PARTS:
         of = {}
         for it in part_of(saved, sides):
             of.setdefault(next(subject for subject, begins in SUBJECTS if re.match(begins, it["name"])), []).append(it)
-        table.append([f"**{heading}**", *[""] * 5])
+        table.append([f"**{heading}**", *[""] * 4])
         for subject, these in of.items():
             these.sort(key=ratio)
             worst = these[-1]
-            at = f"{worst['name']}, {worst['words']}" + (f", {rows_of(worst)} rows" if worst["rows"] else "")
-            table.append([subject, str(len(these)), *(ratio_text(it) for it in (these[0], these[len(these) // 2], worst)), at])
+            at = worst["name"] + (f", {rows_of(worst)} rows" if worst["rows"] else "")
+            table.append([subject, str(len(these)), *(ratio_text(it) for it in (these[len(these) // 2], worst)), at])
     return table
 
 
@@ -142,24 +142,14 @@ def wrapped(text):
 
 
 def summary(saved):
-    """Returns the lines of the README: one of each part, with its worst at any number of rows."""
-    makes = {it["name"] for it in saved["memory"]}
-    same, repeats, slots, search = ([*part_of(saved, (side,))] for side in SIDES)
-    worst, repeated = max(same, key=ratio), max(repeats, key=ratio)
-    slot = max((it for it in slots if it["name"].endswith("quantile_function")), key=ratio)
-    found, made = (sorted((it for it in search if (it["name"] in makes) == is_made), key=ratio) for is_made in (False, True))
-    usual = sorted(ratio(it) for it in saved["kernels"] if it["sides"] == "same" and it["name"] != LOOP and is_measured(it))
-    few = sum(round(it, 2) <= 1.1 for it in usual)
-    lines = (
-        f"The same work on both sides: half of {len(usual)} rows take at most {usual[len(usual) // 2]:.2f} times what the Rust crate takes "
-        f"in the same run, {few} at most 1.1 times, and `{worst['name']}` {ratio_text(worst)} times, the worst.",
-        f"Other work here, by a rule: a constructor that refuses repeats takes up to {ratio_text(repeated)} times as long "
-        f"({rows_of(repeated)} rows: each symbol is compared with all before it), and a look-up by 256 slots up to {ratio_text(slot)} "
-        "times as long as by the Rust crate's slot for each quantile.",
-        f"What the Rust crate lacks: a look-up over 24 bits by a lookup table takes {ratio_text(found[0])} to {ratio_text(found[-1])} of "
-        f"its search, and such a model takes {ratio_text(made[0])} to {ratio_text(made[-1])} times as long to make as its searching one.",
+    """Returns the sentence of the README: of the same work on both sides, at any number of rows."""
+    same = sorted(part_of(saved, PARTS[0][1]), key=ratio)
+    few = sum(round(ratio(it), 2) <= 1.1 for it in same)
+    return wrapped(
+        f"Of {len(same)} measurements of the same work on both sides, half take at most {ratio_text(same[len(same) // 2])} times as long as "
+        f"the Rust crate, {few} at most 1.1 times, and the slowest, `{same[-1]['name']}`, {ratio_text(same[-1])} times "
+        "([SPEED](docs/SPEED.md))."
     )
-    return "\n".join(textwrap.indent(wrapped(line), "  ").replace("  ", "- ", 1) for line in lines)
 
 
 def sources_table(saved):
