@@ -8,7 +8,7 @@ from sources import TOP, read
 
 # What the two sides of a kernel do, by its name in bench/src/kernels.rs, in a word for tables.
 SIDES = {"same": "the same", "repeats": "repeats refused here", "slots": "fewer slots here", "search": "a search there"}
-# The parts that docs/SPEED.md and the plots tell apart: a heading, and what its kernels compare.
+# The parts that docs/SPEED.md and its pictures tell apart: a heading, and what its kernels compare.
 PARTS = (
     ("The same work on both sides", ("same",)),
     ("Other work here, by a rule: repeats are refused, or a table has fewer slots", ("repeats", "slots")),

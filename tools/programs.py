@@ -21,6 +21,8 @@ COMMANDS = {
     "rt": "install the kit of Rattle, whose command it is, and have it on the PATH",
     "cargo": "install Rust, by https://rustup.rs or the system's package cargo",
     "objcopy": "install the system's package binutils",
+    "dot": "install the system's package graphviz",
+    "gnuplot": "install the system's package gnuplot-nox",
 }
 
 
