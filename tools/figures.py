@@ -7,10 +7,19 @@ from programs import stop
 from sources import TOP, read
 
 # What the two sides of a kernel do, by its name in bench/src/kernels.rs, in a word for tables.
-SIDES = {"same": "the same", "repeats": "repeats refused here", "slots": "fewer slots here", "search": "a search there"}
-# The parts that docs/SPEED.md and its pictures tell apart: a heading, and what its kernels compare.
+SIDES = {
+    "same": "the same",
+    "hashes": "another hash here",
+    "written": "both written here",
+    "repeats": "repeats refused here",
+    "slots": "fewer slots here",
+    "search": "a search there",
+}
+# The parts that the pages and pictures tell apart: a heading, and what its kernels compare.
 PARTS = (
     ("The same work on both sides", ("same",)),
+    ("The same work, with another hash", ("hashes",)),
+    ("The same work, which this project wrote out for both sides", ("written",)),
     ("Other work here, by a rule: repeats are refused, or a table has fewer slots", ("repeats", "slots")),
     ("A lookup table, which the Rust crate lacks, beside its search", ("search",)),
 )
@@ -78,6 +87,12 @@ def table_of(made, head, said):
 def times_of(made):
     said = lambda it: [nanoseconds(it["rust"]), nanoseconds(it["here"]), ratio_text(it)]
     return table_of(made, ["Rust, ns", "Here, ns", "Ratio"], said)
+
+
+def times_by_parts(made):
+    """Returns the tables of times, each below the heading of its part."""
+    parts = ((heading, [it for it in made if it["sides"] in sides]) for heading, sides in PARTS)
+    return "\n\n".join(f"### {heading}\n\n{markdown(times_of(these))}" for heading, these in parts)
 
 
 def memory_of(made):
@@ -175,7 +190,7 @@ def write_tables(saved):
         "ratios": markdown(ratios_of(saved), 1),
         "look-ups": markdown(look_ups_of(saved), 2),
         "speed": summary(saved),
-        "kernels": markdown(times_of(saved["kernels"])),
+        "kernels": times_by_parts(saved["kernels"]),
         "growth": markdown(growth_of(saved["growth"]), 2),
         "memory": markdown(memory_of(saved["memory"])),
         "sources": sources_table(saved),

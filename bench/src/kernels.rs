@@ -11,6 +11,10 @@ pub type Run = Box<dyn FnMut(u32) -> u64>;
 pub enum Sides {
     /// the same work
     Same,
+    /// The same work over a hash table, whose hash has a key there and none here.
+    Hashes,
+    /// The same work. The Rust crate's side is a function over its models that this project wrote.
+    Written,
     /// Both make a model. The one here looks for symbols that repeat, and refuses them.
     Repeats,
     /// Both have a lookup table: here one of fewer slots, there one with a slot for each quantile.
@@ -24,6 +28,8 @@ impl Sides {
     pub fn name(self) -> &'static str {
         match self {
             Sides::Same => "same",
+            Sides::Hashes => "hashes",
+            Sides::Written => "written",
             Sides::Repeats => "repeats",
             Sides::Slots => "slots",
             Sides::Search => "search",
@@ -192,25 +198,25 @@ pub fn usual() -> Vec<Kernel> {
         kernels.push(kernel!("to_generic_decoder_model_of_distinct", "u32/24", table.rows, table.rows, to_decoder_of_distinct(weights)));
         let wide: &'static [u64] = weights.iter().map(|weight| u64::from(*weight)).collect::<Vec<u64>>().leak();
         kernels.push(kernel!("to_generic_decoder_model_of_distinct", "u64/24", table.rows, table.rows, wide_to_decoder_of_distinct(wide)));
-        kernels.push(kernel!("to_generic_encoder_model", "u32/24", table.rows, table.rows, to_encoder(weights)));
+        kernels.push(kernel!("to_generic_encoder_model", "u32/24", table.rows, table.rows, to_encoder(weights)).with(Sides::Hashes));
     }
     let weights = small[2].weights;
     kernels.push(kernel!("to_lookup_decoder_model, direct", "u16/12", 256, 256, to_direct_lookup(weights)));
     for table in &tables[2..4] {
         let (weights, indices, quantiles) = (table.weights, table.indices, inputs.quantiles);
-        kernels.push(kernel!("write_quantiles to a Vec", "u32/24", table.rows, MANY, write_quantiles(weights, indices)));
-        kernels.push(kernel!("read_symbols of a Cursor", "u32/24", table.rows, MANY, read_symbols(weights, quantiles)));
+        kernels.push(kernel!("write_quantiles to a Vec", "u32/24", table.rows, MANY, write_quantiles(weights, indices)).with(Sides::Written));
+        kernels.push(kernel!("read_symbols of a Cursor", "u32/24", table.rows, MANY, read_symbols(weights, quantiles)).with(Sides::Written));
     }
     for table in &tables[2..4] {
         let (weights, indices) = (table.weights, table.indices);
-        kernels.push(kernel!("stack coder encode_symbol", "u32/24", table.rows, MANY, coder_encode(weights, indices)));
-        kernels.push(kernel!("stack coder decode_symbol", "u32/24", table.rows, MANY, coder_decode(weights, words)));
+        kernels.push(kernel!("stack coder encode_symbol", "u32/24", table.rows, MANY, coder_encode(weights, indices)).with(Sides::Written));
+        kernels.push(kernel!("stack coder decode_symbol", "u32/24", table.rows, MANY, coder_decode(weights, words)).with(Sides::Written));
         kernels.push(kernel!("stack coder decode_symbol, 4,096-slot lookup", "u32/24", table.rows, MANY, coder_lookup_decode(weights, words)).with(Sides::Search));
     }
     for table in &tables[2..4] {
         let (weights, indices) = (table.weights, table.indices);
-        kernels.push(kernel!("range coder encode_symbol", "u32/24", table.rows, MANY, range_encode(weights, indices)));
-        kernels.push(kernel!("range coder decode_symbol", "u32/24", table.rows, MANY, range_decode(weights, indices)));
+        kernels.push(kernel!("range coder encode_symbol", "u32/24", table.rows, MANY, range_encode(weights, indices)).with(Sides::Written));
+        kernels.push(kernel!("range coder decode_symbol", "u32/24", table.rows, MANY, range_decode(weights, indices)).with(Sides::Written));
     }
     kernels.push(writing!("Cursor write", cursor_write(words)));
     kernels.push(kernel!("Cursor read, Queue", "u32", 0, MANY, cursor_queue_read(words)));
@@ -225,10 +231,9 @@ pub fn usual() -> Vec<Kernel> {
     kernels.push(kernel!("callback write", "u32", 0, MANY, callback_write(words)));
     kernels.push(kernel!("fallible callback write", "u32", 0, MANY, fallible_callback_write(words)));
     let (text, random) = (inputs.text(), inputs.random_bytes());
-    kernels.push(kernel!("pack_block of text", "u32/16", rows_of(text), BLOCK, pack_block(text)));
-    kernels.push(kernel!("pack_block of random bytes", "u32/16", rows_of(random), BLOCK, pack_block(random)));
+    kernels.push(kernel!("pack_block of text", "u32/16", rows_of(text), BLOCK, pack_block(text)).with(Sides::Written));
+    kernels.push(kernel!("pack_block of random bytes", "u32/16", rows_of(random), BLOCK, pack_block(random)).with(Sides::Written));
     kernels.push(kernel!("unpack_block of text", "u32/16", rows_of(text), BLOCK, unpack_block(text)).with(Sides::Slots));
-    kernels.push(kernel!("unpack_block of random bytes", "u32/16", rows_of(random), BLOCK, unpack_block(random)).with(Sides::Slots));
     kernels
 }
 
@@ -290,7 +295,7 @@ fn slotted_lookup_quantile(inputs: &Inputs, table: &SmallTable) -> Kernel {
 
 fn encoder_symbol(table: &Table) -> Kernel {
     let (weights, symbols, asked) = (table.weights, table.symbols, table.asked);
-    kernel!("hashed encoder left_cumulative_and_probability", "u32/24", table.rows, MANY, encoder_symbol(weights, symbols, asked))
+    kernel!("hashed encoder left_cumulative_and_probability", "u32/24", table.rows, MANY, encoder_symbol(weights, symbols, asked)).with(Sides::Hashes)
 }
 
 fn contiguous_build(table: &Table) -> Kernel {
@@ -322,5 +327,5 @@ fn decoder_build_sorted(table: &Table) -> Kernel {
 
 fn encoder_build(table: &Table) -> Kernel {
     let (weights, symbols) = (table.weights, table.symbols);
-    kernel!("hashed encoder made", "u32/24", table.rows, table.rows, encoder_build(weights, symbols))
+    kernel!("hashed encoder made", "u32/24", table.rows, table.rows, encoder_build(weights, symbols)).with(Sides::Hashes)
 }

@@ -1,7 +1,7 @@
-set terminal svg size 760,1507 font "Helvetica,12" background "white" noenhanced
+set terminal svg size 760,1646 font "Helvetica,12" background "white" noenhanced
 set output "docs/pictures/speed-ratios.svg"
-set label 8 "The time of each kernel, over the Rust crate's" at screen 0.03, screen 0.98407 font "Helvetica Bold,14"
-set label 9 "A dot for each number of rows; those above 1.1 are orange. Each part has a scale of its own." at screen 0.03, screen 0.97014 textcolor "#57606a"
+set label 8 "The time of each kernel, over the Rust crate's" at screen 0.03, screen 0.98542 font "Helvetica Bold,14"
+set label 9 "A dot for each number of rows; those above 1.1 are orange. Each part has a scale of its own." at screen 0.03, screen 0.97266 textcolor "#57606a"
 set border 0; set tics scale 0 textcolor "#57606a"; set grid lc "#d0d7de" lt 1 lw 1
 set logscale x; unset key; set lmargin at screen 0.44; set rmargin at screen 0.8
 set multiplot
@@ -63,88 +63,106 @@ $part0 << end
 10 1.033 "direct lookup of symbols quantile_function, a wide end" ""
 10 1.040 "direct lookup of symbols quantile_function, a wide end" ""
 11 1.066 "decoder of symbols symbol_table" ""
-12 0.518 "hashed encoder left_cumulative_and_probability" ""
-12 0.560 "hashed encoder left_cumulative_and_probability" ""
-12 0.568 "hashed encoder left_cumulative_and_probability" ""
-12 0.577 "hashed encoder left_cumulative_and_probability" ""
-12 0.582 "hashed encoder left_cumulative_and_probability" ""
-12 0.613 "hashed encoder left_cumulative_and_probability" ""
-12 0.628 "hashed encoder left_cumulative_and_probability" ""
-12 0.642 "hashed encoder left_cumulative_and_probability" ""
-12 0.693 "hashed encoder left_cumulative_and_probability" ""
-13 0.560 "contiguous made" ""
-13 0.560 "contiguous made" ""
-13 0.562 "contiguous made" ""
-13 0.565 "contiguous made" ""
-13 0.579 "contiguous made" ""
-13 0.580 "contiguous made" ""
-13 0.599 "contiguous made" ""
-13 0.631 "contiguous made" ""
-13 0.800 "contiguous made" ""
-14 0.789 "direct lookup made" ""
-14 0.948 "direct lookup made" ""
-15 0.837 "decoder of symbols made, known to differ" ""
-15 0.837 "decoder of symbols made, known to differ" ""
-15 0.837 "decoder of symbols made, known to differ" ""
-15 0.839 "decoder of symbols made, known to differ" ""
-15 0.844 "decoder of symbols made, known to differ" ""
-15 0.849 "decoder of symbols made, known to differ" ""
-15 0.859 "decoder of symbols made, known to differ" ""
-15 0.885 "decoder of symbols made, known to differ" ""
-15 0.893 "decoder of symbols made, known to differ" ""
-16 0.604 "hashed encoder made" ""
-16 0.684 "hashed encoder made" ""
-16 0.690 "hashed encoder made" ""
-16 0.725 "hashed encoder made" ""
-16 0.725 "hashed encoder made" ""
-16 0.785 "hashed encoder made" ""
-16 0.798 "hashed encoder made" ""
-16 0.823 "hashed encoder made" ""
-16 1.074 "hashed encoder made" ""
-17 1.362 "to_generic_decoder_model" ""
-17 1.411 "to_generic_decoder_model" ""
-18 1.021 "to_generic_decoder_model_of_distinct" ""
-18 1.155 "to_generic_decoder_model_of_distinct" ""
-18 1.347 "to_generic_decoder_model_of_distinct" ""
-18 1.412 "to_generic_decoder_model_of_distinct" ""
-19 0.489 "to_generic_encoder_model" ""
-19 0.526 "to_generic_encoder_model" ""
-20 0.749 "to_lookup_decoder_model, direct" ""
-21 1.000 "write_quantiles to a Vec" ""
-21 1.001 "write_quantiles to a Vec" ""
-22 0.828 "read_symbols of a Cursor" ""
-22 0.993 "read_symbols of a Cursor" ""
-23 0.979 "stack coder encode_symbol" ""
-23 0.991 "stack coder encode_symbol" ""
-24 0.919 "stack coder decode_symbol" ""
-24 0.946 "stack coder decode_symbol" ""
-25 0.841 "range coder encode_symbol" ""
-25 0.993 "range coder encode_symbol" ""
-26 0.943 "range coder decode_symbol" ""
-26 0.945 "range coder decode_symbol" ""
-27 1.597 "Cursor write" ""
-28 1.000 "Cursor read, Queue" ""
-29 1.000 "Cursor read, Stack" ""
-30 1.116 "Reverse<Cursor> write" ""
-31 1.000 "Reverse<Cursor> read, Stack" ""
-32 1.016 "Cursor into_reversed" ""
-33 0.995 "Vec write, growing" ""
-34 1.064 "Vec write and read" ""
-35 2.001 "iterator read" "2.00"
-36 1.800 "fallible iterator read" ""
-37 1.000 "callback write" ""
-38 1.001 "fallible callback write" ""
-39 0.923 "pack_block of text" ""
-40 0.907 "pack_block of random bytes" ""
+12 0.560 "contiguous made" ""
+12 0.560 "contiguous made" ""
+12 0.562 "contiguous made" ""
+12 0.565 "contiguous made" ""
+12 0.579 "contiguous made" ""
+12 0.580 "contiguous made" ""
+12 0.599 "contiguous made" ""
+12 0.631 "contiguous made" ""
+12 0.800 "contiguous made" ""
+13 0.789 "direct lookup made" ""
+13 0.948 "direct lookup made" ""
+14 0.837 "decoder of symbols made, known to differ" ""
+14 0.837 "decoder of symbols made, known to differ" ""
+14 0.837 "decoder of symbols made, known to differ" ""
+14 0.839 "decoder of symbols made, known to differ" ""
+14 0.844 "decoder of symbols made, known to differ" ""
+14 0.849 "decoder of symbols made, known to differ" ""
+14 0.859 "decoder of symbols made, known to differ" ""
+14 0.885 "decoder of symbols made, known to differ" ""
+14 0.893 "decoder of symbols made, known to differ" ""
+15 1.362 "to_generic_decoder_model" ""
+15 1.411 "to_generic_decoder_model" ""
+16 1.021 "to_generic_decoder_model_of_distinct" ""
+16 1.155 "to_generic_decoder_model_of_distinct" ""
+16 1.347 "to_generic_decoder_model_of_distinct" ""
+16 1.412 "to_generic_decoder_model_of_distinct" ""
+17 0.749 "to_lookup_decoder_model, direct" ""
+18 1.597 "Cursor write" ""
+19 1.000 "Cursor read, Queue" ""
+20 1.000 "Cursor read, Stack" ""
+21 1.116 "Reverse<Cursor> write" ""
+22 1.000 "Reverse<Cursor> read, Stack" ""
+23 1.016 "Cursor into_reversed" ""
+24 0.995 "Vec write, growing" ""
+25 1.064 "Vec write and read" ""
+26 2.001 "iterator read" "2.00"
+27 1.800 "fallible iterator read" ""
+28 1.000 "callback write" ""
+29 1.001 "fallible callback write" ""
 end
-set tmargin at screen 0.92701; set bmargin at screen 0.35567
-set label 1 "The same work on both sides" at screen 0.03, screen 0.93762 font "Helvetica Bold,13"
-set xtics ("0.2" 0.2, "0.5" 0.5, "1" 1, "2" 2, "5" 5, "10" 10, "20" 20, "50" 50, "100" 100, "200" 200, "500" 500); set xrange [0.407:2.401]
-set yrange [40.5:-0.5]; set arrow 1 from 1, graph 0 to 1, graph 1 nohead lc "#1f2328" lw 1.5
+set tmargin at screen 0.93317; set bmargin at screen 0.55043
+set label 1 "The same work on both sides" at screen 0.03, screen 0.94289 font "Helvetica Bold,13"
+set xtics ("0.2" 0.2, "0.5" 0.5, "1" 1, "2" 2, "5" 5, "10" 10, "20" 20, "50" 50, "100" 100, "200" 200, "500" 500); set xrange [0.433:2.401]
+set yrange [29.5:-0.5]; set arrow 1 from 1, graph 0 to 1, graph 1 nohead lc "#1f2328" lw 1.5
 plot $part0 using 2:1:($2 > 1.1 ? 0xb35900 : 0x2f6fb0):ytic(3) with points pt 7 ps 0.7 lc rgb variable, \
     "" using 2:1:4 with labels left offset 1, 0 textcolor "#b35900"
 unset label 8; unset label 9
 $part1 << end
+0 0.518 "hashed encoder left_cumulative_and_probability" ""
+0 0.560 "hashed encoder left_cumulative_and_probability" ""
+0 0.568 "hashed encoder left_cumulative_and_probability" ""
+0 0.577 "hashed encoder left_cumulative_and_probability" ""
+0 0.582 "hashed encoder left_cumulative_and_probability" ""
+0 0.613 "hashed encoder left_cumulative_and_probability" ""
+0 0.628 "hashed encoder left_cumulative_and_probability" ""
+0 0.642 "hashed encoder left_cumulative_and_probability" ""
+0 0.693 "hashed encoder left_cumulative_and_probability" ""
+1 0.604 "hashed encoder made" ""
+1 0.684 "hashed encoder made" ""
+1 0.690 "hashed encoder made" ""
+1 0.725 "hashed encoder made" ""
+1 0.725 "hashed encoder made" ""
+1 0.785 "hashed encoder made" ""
+1 0.798 "hashed encoder made" ""
+1 0.823 "hashed encoder made" ""
+1 1.074 "hashed encoder made" ""
+2 0.489 "to_generic_encoder_model" ""
+2 0.526 "to_generic_encoder_model" ""
+end
+set tmargin at screen 0.50182; set bmargin at screen 0.46355
+set label 1 "The same work, with another hash" at screen 0.03, screen 0.51154 font "Helvetica Bold,13"
+set xtics ("0.2" 0.2, "0.5" 0.5, "1" 1, "2" 2, "5" 5, "10" 10, "20" 20, "50" 50, "100" 100, "200" 200, "500" 500); set xrange [0.407:1.289]
+set yrange [2.5:-0.5]; set arrow 1 from 1, graph 0 to 1, graph 1 nohead lc "#1f2328" lw 1.5
+plot $part1 using 2:1:($2 > 1.1 ? 0xb35900 : 0x2f6fb0):ytic(3) with points pt 7 ps 0.7 lc rgb variable, \
+    "" using 2:1:4 with labels left offset 1, 0 textcolor "#b35900"
+unset label 8; unset label 9
+$part2 << end
+0 1.000 "write_quantiles to a Vec" ""
+0 1.001 "write_quantiles to a Vec" ""
+1 0.828 "read_symbols of a Cursor" ""
+1 0.993 "read_symbols of a Cursor" ""
+2 0.979 "stack coder encode_symbol" ""
+2 0.991 "stack coder encode_symbol" ""
+3 0.919 "stack coder decode_symbol" ""
+3 0.946 "stack coder decode_symbol" ""
+4 0.841 "range coder encode_symbol" ""
+4 0.993 "range coder encode_symbol" ""
+5 0.943 "range coder decode_symbol" ""
+5 0.945 "range coder decode_symbol" ""
+6 0.923 "pack_block of text" ""
+7 0.907 "pack_block of random bytes" ""
+end
+set tmargin at screen 0.41495; set bmargin at screen 0.31288
+set label 1 "The same work, which this project wrote out for both sides" at screen 0.03, screen 0.42467 font "Helvetica Bold,13"
+set xtics ("0.2" 0.2, "0.5" 0.5, "1" 1, "2" 2, "5" 5, "10" 10, "20" 20, "50" 50, "100" 100, "200" 200, "500" 500); set xrange [0.690:1.201]
+set yrange [7.5:-0.5]; set arrow 1 from 1, graph 0 to 1, graph 1 nohead lc "#1f2328" lw 1.5
+plot $part2 using 2:1:($2 > 1.1 ? 0xb35900 : 0x2f6fb0):ytic(3) with points pt 7 ps 0.7 lc rgb variable, \
+    "" using 2:1:4 with labels left offset 1, 0 textcolor "#b35900"
+unset label 8; unset label 9
+$part3 << end
 0 1.241 "256-slot lookup quantile_function" ""
 0 1.718 "256-slot lookup quantile_function" ""
 0 2.237 "256-slot lookup quantile_function" ""
@@ -184,16 +202,15 @@ $part1 << end
 6 1.047 "decoder of symbols made, in order" ""
 6 1.222 "decoder of symbols made, in order" ""
 7 0.813 "unpack_block of text" ""
-8 0.786 "unpack_block of random bytes" ""
 end
-set tmargin at screen 0.30259; set bmargin at screen 0.17717
-set label 1 "Other work here, by a rule: repeats are refused, or a table has fewer slots" at screen 0.03, screen 0.31321 font "Helvetica Bold,13"
+set tmargin at screen 0.26428; set bmargin at screen 0.16221
+set label 1 "Other work here, by a rule: repeats are refused, or a table has fewer slots" at screen 0.03, screen 0.27400 font "Helvetica Bold,13"
 set xtics ("0.1" 0.1, "1" 1, "10" 10, "100" 100, "1,000" 1000); set xrange [0.421:1425.396]
-set yrange [8.5:-0.5]; set arrow 1 from 1, graph 0 to 1, graph 1 nohead lc "#1f2328" lw 1.5
-plot $part1 using 2:1:($2 > 1.1 ? 0xb35900 : 0x2f6fb0):ytic(3) with points pt 7 ps 0.7 lc rgb variable, \
+set yrange [7.5:-0.5]; set arrow 1 from 1, graph 0 to 1, graph 1 nohead lc "#1f2328" lw 1.5
+plot $part3 using 2:1:($2 > 1.1 ? 0xb35900 : 0x2f6fb0):ytic(3) with points pt 7 ps 0.7 lc rgb variable, \
     "" using 2:1:4 with labels left offset 1, 0 textcolor "#b35900"
 unset label 8; unset label 9
-$part2 << end
+$part4 << end
 0 0.333 "wide 256-slot lookup quantile_function" ""
 0 0.382 "wide 256-slot lookup quantile_function" ""
 0 0.511 "wide 256-slot lookup quantile_function" ""
@@ -221,10 +238,10 @@ $part2 << end
 6 0.276 "stack coder decode_symbol, 4,096-slot lookup" ""
 6 0.345 "stack coder decode_symbol, 4,096-slot lookup" ""
 end
-set tmargin at screen 0.12409; set bmargin at screen 0.02654
-set label 1 "A lookup table, which the Rust crate lacks, beside its search" at screen 0.03, screen 0.13470 font "Helvetica Bold,13"
+set tmargin at screen 0.11361; set bmargin at screen 0.02430
+set label 1 "A lookup table, which the Rust crate lacks, beside its search" at screen 0.03, screen 0.12333 font "Helvetica Bold,13"
 set xtics ("0.1" 0.1, "1" 1, "10" 10, "100" 100, "1,000" 1000); set xrange [0.127:529.892]
 set yrange [6.5:-0.5]; set arrow 1 from 1, graph 0 to 1, graph 1 nohead lc "#1f2328" lw 1.5
-plot $part2 using 2:1:($2 > 1.1 ? 0xb35900 : 0x2f6fb0):ytic(3) with points pt 7 ps 0.7 lc rgb variable, \
+plot $part4 using 2:1:($2 > 1.1 ? 0xb35900 : 0x2f6fb0):ytic(3) with points pt 7 ps 0.7 lc rgb variable, \
     "" using 2:1:4 with labels left offset 1, 0 textcolor "#b35900"
 unset label 8; unset label 9
