@@ -118,18 +118,16 @@ def part_of(saved, sides):
 
 
 def ratios_of(saved):
-    """A row a subject, part by part: how many ratios there are, which, and where the greatest is."""
-    table = [["What", "Ratios", "Half at most", "Greatest", "Greatest at"]]
+    """A row a subject, part by part: how many ratios there are, and which."""
+    table = [["What", "Ratios", "Half at most", "Greatest"]]
     for heading, sides in PARTS:
         of = {}
         for it in part_of(saved, sides):
             of.setdefault(next(subject for subject, begins in SUBJECTS if re.match(begins, it["name"])), []).append(it)
-        table.append([f"**{heading}**", *[""] * 4])
+        table.append([f"**{heading}**", *[""] * 3])
         for subject, these in of.items():
             these.sort(key=ratio)
-            worst = these[-1]
-            at = worst["name"] + (f", {rows_of(worst)} rows" if worst["rows"] else "")
-            table.append([subject, str(len(these)), *(ratio_text(it) for it in (these[len(these) // 2], worst)), at])
+            table.append([subject, str(len(these)), *(ratio_text(it) for it in (these[len(these) // 2], these[-1]))])
     return table
 
 
