@@ -9,13 +9,13 @@ Packs a file of any length, unpacks a packed one, or tests whether it is whole, 
 that it calls is proved to unpack to the same bytes. Without pack, unpack or test it answers lines, of which more below.
 
   FILE             what is read: standard input if it is - or left out
-  -o OUTPUT        what is written: standard output if it is - or left out. If OUTPUT is there already, it is refused
-  -f, --force      ... unless this is given, and OUTPUT is a regular file: then it is replaced
+  -o OUTPUT        what is written: standard output if it is - or left out. An OUTPUT that is there already is refused
+  -f, --force      ... unless this is given, and it is a regular file: then it is replaced
   --fast, --best   packs in less time, or into fewer bytes
-  --limit BYTES    unpacks no more than this; a small FILE may hold any number of bytes
+  --limit BYTES    unpacks no more than this: a small FILE can hold any number of bytes
   --               what follows is FILE, whatever it begins with
-  --try            comes first, and takes no FILE and no OUTPUT: a program answers in some half a minute that is checked as
-                   it runs, and not proved. A line on standard error says so. The answers have at most 1,048,576 bytes
+  --try            comes first, and takes no FILE and no OUTPUT: within half a minute a program answers that is not proved, but
+                   checked as it runs. A line on standard error says so. The answers have at most 1,048,576 bytes
 
 OUTPUT is written as OUTPUT.NUMBER.part, and gets its name once it is whole. After a failure nothing of it is left, unless the
 program was killed, and an OUTPUT that was there stays as it was. Standard output keeps what was unpacked before a failure,
@@ -27,7 +27,7 @@ how much was read of a large file. Why a file is refused stands there too, in a 
   coder: FILE: The packed file is damaged.       a checksum, a number or a block is wrong, or something follows the packed file
   coder: FILE: The packed file holds more than was allowed.    more than BYTES
 
-Damage is noticed, unless the checksums of 64 bits happen to fit.
+One changed byte of a file that pack wrote is noticed, and other damage unless the checksums of 64 bits happen to fit.
 
 A line of LINES is in the formats of the Rust crate's DefaultAnsCoder, a stack, and DefaultRangeEncoder and
 DefaultRangeDecoder, a queue. Its answer comes on standard output.
@@ -56,8 +56,8 @@ For example:
 
 Words do not say how many symbols they hold, so from a message that was cut some symbols are decoded too.
 
-The first call proves and builds the program, in 5 to 10 minutes; so does the first one after a source changed. It needs
-the command rt. Other calls start at once.
+The first call proves and builds the program, in up to half an hour on four processors; so does the first one after a
+source changed. It needs the command rt. Other calls start at once.
 
 Exit status:
   0   the file was packed, unpacked or found whole; or each line was answered, "bad line" and the like among the answers
