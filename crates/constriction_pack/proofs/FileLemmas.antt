@@ -12,7 +12,7 @@ use Rattle.constriction_pack.specs.WordFrames.{frame_of_words, IsWordBlock, most
 use Rattle.constriction_pack.specs.declared.kind.Kind.{Kind}
 use Rattle.constriction_pack.specs.declared.format.Format.{Format}
 use Rattle.constriction_pack.specs.declared.format.Format.TheVariants.{Cpk1, Cpk2}
-use Rattle.constriction_pack.proofs.FrameLemmas.{byte_frame_once, contents_once, tag_once}
+use Rattle.constriction_pack.proofs.FrameLemmas.{byte_frame_once, content_short, contents_once, length_frame_of, tag_once}
 use Rattle.constriction_pack.proofs.ListLemmas.{gave, read_front}
 use Rattle.constriction_pack.proofs.WordFrameLemmas.{block_words, word_frame_once}
 
@@ -26,6 +26,13 @@ frame_once Cpk1 before block other frame another xs ys after then p q e =
     word_frame_once before block other frame another xs ys after then p q e
 frame_once Cpk2 before block other frame another xs ys after then p q e =
     byte_frame_once before block other frame another xs ys after then p q e
+
+-- a block is short
+pub frame_short : (format : Format) (before : ℕ) (block frame : List ℕ) (after : Option ℕ) → IsFrameOf format before block frame after
+    → length block ≤ 2 ^ 23
+frame_short Cpk1 before block frame None p = omega (arith, ap length p.are_next.0)
+frame_short Cpk1 before block frame (Some after) p = omega (arith, p.are_next.0.short)
+frame_short Cpk2 before block frame after p = content_short p.kind block p.content p.of_kind
 
 -- what is left after the next frame
 pub next_left : (format : Format) {before : ℕ} {bytes file : List ℕ} {after : Option ℕ} (block frame more : List ℕ)
@@ -71,6 +78,57 @@ pub one_content : (bytes others packed : List ℕ) → IsPacked bytes packed →
 one_content bytes others packed p q =
     let same = signature_once p.0 q.0 p.1.frames q.1.frames (sym p.1.laid_out ∙ q.1.laid_out) in
     framed_once p.0 p.1.framed (rw (← same.0, ← same.1) at q.1.framed)
+
+-- a packed file is not the beginning of another
+framed_end : (format : Format) {from : Option ℕ} {bytes others frames : List ℕ} (more : List ℕ) → AreFrames format from bytes frames
+    → AreFrames format from others (frames ++ more) → more ≡ []
+framed_end format more ended q = at_end format q
+framed_end format more (next {frames = rest} block frame n f) q =
+    framed_end format more f (next_left format block frame (rest ++ more) q n (append_assoc frame rest more)).2
+
+pub none_follows : (bytes others packed more : List ℕ) → IsPacked bytes packed → IsPacked others (packed ++ more) → more ≡ []
+none_follows bytes others packed more p q =
+    let same = signature_once p.0 q.0 (p.1.frames ++ more) q.1.frames
+    (sym (append_assoc (signature_of p.0) p.1.frames more) ∙ ap (λ xs. xs ++ more) (sym p.1.laid_out) ∙ q.1.laid_out) in
+    framed_end p.0 more p.1.framed (rw (← same.0, ← same.1) at q.1.framed)
+
+-- ---- what a failure leaves
+
+-- a part of a frame is no frames
+no_frames : (before tag : ℕ) (content part lost bytes : List ℕ) → part ++ lost ≡ frame_of before tag content → 0 < length lost
+    → AreFrames Cpk2 (Some before) bytes part → ⊥
+no_frames before tag content part lost bytes e some (next {frames = more} block frame n f) =
+    let all : frame_of before (tag_of n.kind n.is_last) n.content ++ (more ++ lost) ≡ frame_of before tag content ++ [] =
+    ap (λ xs. xs ++ (more ++ lost)) (sym n.laid_out) ∙ sym (append_assoc frame more lost) ∙ e
+    ∙ sym (append-nil (frame_of before tag content)) in
+    let same = contents_once before _ tag n.content content (more ++ lost) [] all in
+    omega (arith, some, ap length same.2, length-append more lost)
+
+-- nor are no bytes
+pub nothing_framed : (before : ℕ) (bytes : List ℕ) → AreFrames Cpk2 (Some before) bytes [] → ⊥
+nothing_framed before bytes = no_frames before 0 [] [] (frame_of before 0 []) bytes refl (omega (arith, length_frame_of before 0 []))
+
+-- so where nothing of a frame was written, or a part of it
+pub none_written : (d : Option (List ℕ)) (before : ℕ)
+    → (written : List ℕ) × Appends d d written × ((bytes : List ℕ) → ¬ (AreFrames Cpk2 (Some before) bytes written))
+none_written d before = ([], Appends-nil d, nothing_framed before)
+
+pub part_written : (d d' : Option (List ℕ)) (before tag : ℕ) (content : List ℕ) → (written lost : List ℕ) × Appends d d' written
+    × (written ++ lost ≡ frame_of before tag content) × (0 < length lost)
+    → (written : List ℕ) × Appends d d' written × ((bytes : List ℕ) → ¬ (AreFrames Cpk2 (Some before) bytes written))
+part_written d d' before tag content p = (p.0, p.2, λ bytes. no_frames before tag content p.0 p.1 bytes p.3 p.4)
+
+-- a part of the signature is no packed file
+signature_cut : (written lost bytes : List ℕ) → written ++ lost ≡ signature_of Cpk2 → 0 < length lost → IsPacked bytes written → ⊥
+signature_cut written lost bytes e some file =
+    let same = signature_once file.0 Cpk2 (file.1.frames ++ lost) []
+    (sym (append_assoc (signature_of file.0) file.1.frames lost) ∙ ap (λ xs. xs ++ lost) (sym file.1.laid_out) ∙ e
+    ∙ sym (append-nil (signature_of Cpk2))) in
+    omega (arith, some, ap length same.1, length-append file.1.frames lost)
+
+pub signature_written : (c d : Option (List ℕ)) → (written lost : List ℕ) × Appends c d written × (written ++ lost ≡ signature_of Cpk2)
+    × (0 < length lost) → (written : List ℕ) × Appends c d written × ((bytes : List ℕ) → ¬ (IsPacked bytes written))
+signature_written c d p = (p.0, p.2, λ bytes. signature_cut p.0 p.1 bytes p.3 p.4)
 
 -- ---- the beginning of a packed file
 
@@ -179,6 +237,19 @@ under_way_done b' d' buffer' read block frame p q e n w short none =
         length-append (p.frames ++ frame) [],
       ),
     )
+
+-- what ends no frames does not make it whole
+pub unended : {a c b d : Option (List ℕ)} {before : ℕ} {buffer : List ℕ} (d' : Option (List ℕ)) (part : List ℕ)
+    → IsUnderWay a c before buffer b d → Appends d d' part → ((bytes : List ℕ) → ¬ (AreFrames Cpk2 (Some before) bytes part))
+    → (written : List ℕ) × Appends c d' written × ((bytes : List ℕ) → ¬ (IsPacked bytes written))
+unended d' part p w none = (
+  (signature_of Cpk2 ++ p.frames) ++ part,
+  Appends-trans _ _ _ (signature_of Cpk2 ++ p.frames) part p.written w,
+  λ bytes file.
+      let same = signature_once file.0 Cpk2 file.1.frames (p.frames ++ part)
+      (sym file.1.laid_out ∙ append_assoc (signature_of Cpk2) p.frames part) in
+      let rest = left Cpk2 bytes part p.begins (rw (same.0, same.1) at file.1.framed) in none rest.0 rest.2,
+)
 
 -- what was read from a to b and written from c to d of a file that is unpacked: frames and their blocks
 pub record IsReadSoFar (format : Format) (a c : Option (List ℕ)) (limit before left : ℕ) (b d : Option (List ℕ)) : Type 0 where

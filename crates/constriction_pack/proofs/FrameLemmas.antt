@@ -1,5 +1,5 @@
 -- Frames: their bytes fix their content, also if other bytes follow.
-use Rattle.std.proofs.Common.{◌≡◌, ℕ, ◌+◌, ◌-◌, ◌/◌, ◌%◌, ◌<◌, ◌≤◌, Bool, true, false, List, [], ◌∷◌, ◌++◌, length, get_or, take, drop, replicate, refl, ap, sym, ◌∙◌, append_assoc, arith, lit<, subst}
+use Rattle.std.proofs.Common.{◌≡◌, ℕ, ◌+◌, ◌-◌, ◌/◌, ◌%◌, ◌^◌, ◌<◌, ◌≤◌, Bool, true, false, List, [], ◌∷◌, ◌++◌, length, get_or, take, drop, replicate, refl, ap, sym, ◌∙◌, append_assoc, arith, lit<, subst}
 use Rattle.std.specs.Prelude.{Option, Some, ◌==◌, if◌then◌else◌, sum, All}
 use Rattle.std.specs.Int.{to_le_bytes, w64}
 use Rattle.std.specs.Io.KnownBytes.{Appends, Consumes, IsAtEnd}
@@ -92,6 +92,14 @@ predicted_once rows next first bytes others content p q =
     let words = bytes_once p.words q.words rest in
     read-once rows next first bytes others p.words p.read
     (subst (λ (ws : List ℕ). AreReadFrom rows next first others ws) (sym words) q.read) count
+
+-- blocks are short
+pub content_short : (kind : Kind) (bytes content : List ℕ) → IsContent kind bytes content → length bytes ≤ 2 ^ 23
+content_short Stored bytes content p = p.0
+content_short Repeated bytes content p = p.short
+content_short Weighted bytes content p = p.short
+content_short FewContexts bytes content p = p.short
+content_short ManyContexts bytes content p = p.short
 
 -- a content of one kind is that of one block
 pub content_once : (kind : Kind) (bytes others content : List ℕ) → IsContent kind bytes content → IsContent kind others content

@@ -1,4 +1,5 @@
 pub mod BlockLemmas
+pub mod ChangeLemmas
 pub mod FileLemmas
 pub mod FrameLemmas
 pub mod HashLemmas

@@ -2,6 +2,7 @@
 
 ghost use Rattle.std.specs.Prelude.{
   ◌≡◌,
+  ◌≢◌,
   ◌<◌,
   ◌≤◌,
   ◌^◌,
@@ -78,6 +79,7 @@ fn parts_of(header: &[u8]) -> Result<(Kind, bool, usize), PackError>
     ensures ok { IfOk result (λ parts. header.now ≡ header_of (tag_of parts.0 parts.1) parts.2) }
     ensures accepted { (kind : Kind) (is_last : Bool) (count : ℕ) → count ≤ 2 ^ 23 → header.now ≡ header_of (tag_of kind is_last) count
         → IsOk result }
+    ensures faults { IfErr result (λ fault. fault ≢ PackError.TooLong) }
 {
     let (tag, low, middle, high) = (header[0], header[1], header[2], header[3]);
     let count = low as usize + 256 * middle as usize + 65_536 * high as usize;
@@ -129,6 +131,7 @@ pub(crate) fn read_frame<R: Read>(
         × Consumes (R.remaining reader.old) (R.remaining reader.new) frame.new.items) }
     ensures accepted { (kind : Kind) (is_last : Bool) (content rest : List ℕ) → length content ≤ 2 ^ 23
         → R.remaining reader.old ≡ Some (frame_of before (tag_of kind is_last) content ++ rest) → IfErr result (λ fault. ¬ (IsRefusal fault)) }
+    ensures faults { IfErr result (λ fault. fault ≢ PackError.TooLong) }
 {
     frame.clear();
     read_up_to(reader, HEADER, frame)?;

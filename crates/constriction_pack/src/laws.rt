@@ -1,12 +1,13 @@
 //! What comes back, each law the contract of a function.
 
-ghost use Rattle.std.specs.Prelude.{◌≡◌, ◌≤◌, ◌^◌, ℕ, List, IfErr, IfOk, length};
+ghost use Rattle.std.specs.Prelude.{◌≡◌, ◌≢◌, ◌<◌, ◌≤◌, ◌^◌, ℕ, List, [], ◌∷◌, ◌++◌, IfErr, IfOk, length};
 ghost use Rattle.constriction_pack.specs.Contents.{IsContent};
 ghost use Rattle.constriction_pack.specs.Faults.{IsRefusal};
-ghost use Rattle.constriction_pack.specs.Packed.{IsPacked};
+ghost use Rattle.constriction_pack.specs.Packed.{IsPacked, IsPackedAs};
 
 use crate::block::{pack_block, unpack_block};
 use crate::fault::PackError;
+use crate::format::Format;
 use crate::kind::Kind;
 use crate::level::Level;
 use crate::packing::pack;
@@ -22,6 +23,17 @@ pub fn block_once()
 /// A packed file has one content, whatever its format.
 pub fn packed_once()
     ensures { (bytes others packed : List ℕ) → IsPacked bytes packed → IsPacked others packed → bytes ≡ others }
+{}
+
+/// No packed file is the beginning of another, whatever their formats.
+pub fn nothing_follows()
+    ensures { (bytes others packed more : List ℕ) → IsPacked bytes packed → IsPacked others (packed ++ more) → more ≡ [] }
+{}
+
+/// A file that [`pack`] wrote is no packed file any more once one of its bytes is changed.
+pub fn changed_byte_is_refused()
+    ensures { (bytes others before after : List ℕ) (x y : ℕ) → x < 256 → y < 256 → y ≢ x
+        → IsPackedAs Format.Cpk2 bytes (before ++ x ∷ after) → ¬ (IsPacked others (before ++ y ∷ after)) }
 {}
 
 /// The bytes of a block come back, unless memory is refused.

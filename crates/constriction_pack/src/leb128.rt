@@ -76,6 +76,7 @@ pub(crate) fn weights_in(
     ensures ok { IfOk result (λ found. bytes.now ≡ bytes_of_weights found.0.items ++ drop found.1 bytes.now) }
     ensures accepted { (weights rest : List ℕ) → length weights ≡ count → bytes.now ≡ bytes_of_weights weights ++ rest
         → IfErr result (λ fault. fault ≡ PackError.OutOfMemory) }
+    ensures faults { IfErr result (λ fault. fault ≢ PackError.OutOfMemory → fault ≡ PackError.Damaged) }
 {
     let mut weights = Vec::new(alloc);
     let mut at = 0;

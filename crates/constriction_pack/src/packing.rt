@@ -1,10 +1,31 @@
 //! Packing from a reader to a writer, block by block.
 
-ghost use Rattle.std.specs.Prelude.{◌≡◌, ◌↔◌, ◌≤◌, ◌^◌, ◌+◌, ◌*◌, ◌/◌, [], ◌++◌, ℕ, List, None, IfErr, IfOk, IsSome, IsTrue, OnOk, length};
+ghost use Rattle.std.specs.Prelude.{
+  ◌≡◌,
+  ◌↔◌,
+  ◌≤◌,
+  ◌^◌,
+  ◌+◌,
+  ◌*◌,
+  ◌/◌,
+  [],
+  ◌++◌,
+  ℕ,
+  List,
+  None,
+  Some,
+  IfErr,
+  IfOk,
+  IsSome,
+  IsTrue,
+  OnErr,
+  OnOk,
+  length,
+};
 ghost use Rattle.std.specs.Io.KnownBytes.{Appends, Consumes, IsAtEnd};
 ghost use Rattle.constriction_pack.specs.Faults.{IsRefusal};
 ghost use Rattle.constriction_pack.specs.Frames.{IsFrame};
-ghost use Rattle.constriction_pack.specs.Packed.{IsPackedAs};
+ghost use Rattle.constriction_pack.specs.Packed.{AreFrames, IsPacked, IsPackedAs};
 
 use crate::block::pack_block;
 use crate::fault::PackError;
@@ -30,6 +51,8 @@ fn write_block<W: Write>(
     ensures ok { IfOk result (λ after. (frame : List ℕ) × IsFrame before block.now frame after
         × Appends (W.contents writer.old) (W.contents writer.new) frame × (length frame ≤ length block.now + 13)) }
     ensures last { IfOk result (λ after. IsTrue is_last ↔ (after ≡ None)) }
+    ensures part { OnErr result ((written : List ℕ) × Appends (W.contents writer.old) (W.contents writer.new) written
+        × ((bytes : List ℕ) → ¬ (AreFrames Format.Cpk2 (Some before) bytes written))) }
     ensures faults { IfErr result (λ fault. ¬ (IsRefusal fault)) }
 {
     match pack_block(alloc, level, block)? {
@@ -61,6 +84,8 @@ fn pack_next<R: Read, W: Write>(
         × (IsSome after → 2 ^ 20 ≤ length block)) }
     ensures kept { IfOk result (λ after. length buffer.new.items ≤ 1) }
     ensures end { IfOk result (λ after. after ≡ None → (buffer.new.items ≡ []) × IsAtEnd (R.remaining reader.new)) }
+    ensures part { OnErr result ((written : List ℕ) × Appends (W.contents writer.old) (W.contents writer.new) written
+        × ((bytes : List ℕ) → ¬ (AreFrames Format.Cpk2 (Some before) bytes written))) }
     ensures faults { IfErr result (λ fault. ¬ (IsRefusal fault)) }
 {
     let most = level.block_bytes();
@@ -82,7 +107,7 @@ fn pack_next<R: Read, W: Write>(
 ///
 /// The writer is not flushed: give one that holds nothing back. Memory is asked for one block at a time, whatever there is to read. No
 /// fault is a refusal: the input was not read (which also stands for more than `2^64 - 1` blocks), the output was not written, or memory
-/// was refused. What was written before stands, and [`unpack`](crate::unpack) refuses it.
+/// was refused. What was written before stands, and is no packed file.
 #[tactic(auto, using(crate::proofs::FileLemmas::under_way_begun, crate::proofs::FileLemmas::under_way_more))]
 pub fn pack<R: Read, W: Write>(
     alloc: Global,
@@ -93,6 +118,8 @@ pub fn pack<R: Read, W: Write>(
     ensures ok { OnOk result ((bytes packed : List ℕ) × Consumes (R.remaining reader.old) (R.remaining reader.new) bytes
         × IsAtEnd (R.remaining reader.new) × Appends (W.contents writer.old) (W.contents writer.new) packed
         × IsPackedAs Format.Cpk2 bytes packed × (length packed ≤ length bytes + 24 + 16 * (length bytes / 2 ^ 20))) }
+    ensures part { OnErr result ((written : List ℕ) × Appends (W.contents writer.old) (W.contents writer.new) written
+        × ((bytes : List ℕ) → ¬ (IsPacked bytes written))) }
     ensures faults { IfErr result (λ fault. ¬ (IsRefusal fault)) }
 {
     write_whole(writer, SIGNATURE)?;

@@ -1,6 +1,6 @@
 //! Bytes whose bits a mixer of contexts predicts.
 
-ghost use Rattle.std.specs.Prelude.{◌≡◌, ◌<◌, ◌≤◌, ◌^◌, ℕ, List, IfErr, IfOk, IfSome, length};
+ghost use Rattle.std.specs.Prelude.{◌≡◌, ◌≢◌, ◌<◌, ◌≤◌, ◌^◌, ℕ, List, IfErr, IfOk, IfSome, length};
 ghost use Rattle.constriction_pack.specs.Contents.{IsContent, IsPredicted, few_contexts, many_contexts};
 
 use crate::block::MOST_BYTES;
@@ -48,6 +48,7 @@ where
     ensures ok { IfOk result (λ bytes. IsPredicted P.rows P.next (P.state predictor.old) bytes.items content.now) }
     ensures accepted { (bytes : List ℕ) → IsPredicted P.rows P.next (P.state predictor.old) bytes content.now
         → IfErr result (λ fault. fault ≡ PackError.OutOfMemory) }
+    ensures faults { IfErr result (λ fault. fault ≢ PackError.OutOfMemory → fault ≡ PackError.Damaged) }
 {
     let [first, second, third, fourth, coded @ ..] = content else {
         return Err(PackError::Damaged);
@@ -140,6 +141,7 @@ pub(crate) fn of_few_contexts(alloc: Global, content: &[u8]) -> Result<Vec<u8>, 
     ensures ok { IfOk result (λ bytes. IsContent Kind.FewContexts bytes.items content.now) }
     ensures accepted { (bytes : List ℕ) → IsContent Kind.FewContexts bytes content.now
         → IfErr result (λ fault. fault ≡ PackError.OutOfMemory) }
+    ensures faults { IfErr result (λ fault. fault ≢ PackError.OutOfMemory → fault ≡ PackError.Damaged) }
 {
     let mut mixer = two_contexts(alloc)?;
     of_predicted(alloc, &mut mixer, content)
@@ -150,6 +152,7 @@ pub(crate) fn of_many_contexts(alloc: Global, content: &[u8]) -> Result<Vec<u8>,
     ensures ok { IfOk result (λ bytes. IsContent Kind.ManyContexts bytes.items content.now) }
     ensures accepted { (bytes : List ℕ) → IsContent Kind.ManyContexts bytes content.now
         → IfErr result (λ fault. fault ≡ PackError.OutOfMemory) }
+    ensures faults { IfErr result (λ fault. fault ≢ PackError.OutOfMemory → fault ≡ PackError.Damaged) }
 {
     let mut mixer = six_contexts(alloc)?;
     of_predicted(alloc, &mut mixer, content)

@@ -1,6 +1,6 @@
 //! Reads that stop at a number of bytes.
 
-ghost use Rattle.std.specs.Prelude.{◌≡◌, ◌<◌, ◌≤◌, ◌++◌, ◌∷◌, ℕ, List, Some, IfErr, IfOk, OnOk, [], length};
+ghost use Rattle.std.specs.Prelude.{◌≡◌, ◌≢◌, ◌<◌, ◌≤◌, ◌++◌, ◌∷◌, ℕ, List, Some, IfErr, IfOk, OnOk, [], length};
 ghost use Rattle.std.specs.Io.KnownBytes.{Consumes, IsAtEnd};
 ghost use Rattle.constriction_coders.specs.Bytes.{bytes_of_words};
 ghost use Rattle.constriction_pack.specs.Faults.{IsRefusal};
@@ -78,6 +78,7 @@ pub(crate) fn read_signature<R: Read>(
     ensures ok { IfOk result (λ format. Consumes (R.remaining reader.old) (R.remaining reader.new) (signature_of format)) }
     ensures accepted { (format : Format) (rest : List ℕ) → R.remaining reader.old ≡ Some (signature_of format ++ rest)
         → IfErr result (λ fault. ¬ (IsRefusal fault)) }
+    ensures faults { IfErr result (λ fault. fault ≢ PackError.TooLong) }
 {
     input.clear();
     read_up_to(reader, 4, input)?;
@@ -95,6 +96,7 @@ pub(crate) fn read_signature<R: Read>(
 pub(crate) fn read_end<R: Read>(reader: &mut R, input: &mut Vec<u8>) -> Result<(), PackError>
     ensures ok { OnOk result (Consumes (R.remaining reader.old) (R.remaining reader.new) [] × IsAtEnd (R.remaining reader.new)) }
     ensures accepted { R.remaining reader.old ≡ Some [] → IfErr result (λ fault. ¬ (IsRefusal fault)) }
+    ensures faults { IfErr result (λ fault. fault ≢ PackError.TooLong) }
 {
     input.clear();
     read_up_to(reader, 1, input)?;

@@ -1,6 +1,6 @@
 //! Unpacking from a reader to a writer, block by block.
 
-ghost use Rattle.std.specs.Prelude.{◌≡◌, ◌<◌, ◌≤◌, ◌++◌, ℕ, List, Option, None, Some, IfErr, IfOk, MatchResult, OnOk, [], length};
+ghost use Rattle.std.specs.Prelude.{◌≡◌, ◌≢◌, ◌<◌, ◌≤◌, ◌+◌, ◌^◌, ◌++◌, ℕ, List, Option, None, Some, IfErr, IfOk, MatchResult, OnOk, [], length};
 ghost use Rattle.std.specs.Io.KnownBytes.{Appends, Consumes, IsAtEnd};
 ghost use Rattle.constriction_pack.specs.Faults.{IsRefusal};
 ghost use Rattle.constriction_pack.specs.Frames.{IsFrame};
@@ -27,6 +27,7 @@ fn read_block<R: Read>(
         × Consumes (R.remaining reader.old) (R.remaining reader.new) frame) }
     ensures accepted { (bytes frames : List ℕ) → AreFrames Format.Cpk2 (Some before) bytes frames → R.remaining reader.old ≡ Some frames
         → IfErr result (λ fault. ¬ (IsRefusal fault)) }
+    ensures faults { IfErr result (λ fault. fault ≢ PackError.TooLong) }
 {
     let (kind, is_last, after) = read_frame(reader, before, buffer)?;
     let block = unpack_block(alloc, kind, content_of(buffer))?;
@@ -48,6 +49,7 @@ fn read_either<R: Read>(
         × Consumes (R.remaining reader.old) (R.remaining reader.new) frame) }
     ensures accepted { (bytes frames : List ℕ) → AreFrames format (Some before) bytes frames → R.remaining reader.old ≡ Some frames
         → IfErr result (λ fault. ¬ (IsRefusal fault)) }
+    ensures faults { IfErr result (λ fault. fault ≢ PackError.TooLong) }
 {
     match format {
         Format::Cpk1 => {
@@ -74,6 +76,7 @@ fn read_next<R: Read>(
         × Consumes (R.remaining reader.old) (R.remaining reader.new) frame) }
     ensures end { IfOk result (λ answer. answer.1 ≡ None → IsAtEnd (R.remaining reader.new)) }
     ensures most { IfOk result (λ answer. length answer.0.items ≤ most) }
+    ensures long { IfErr result (λ fault. fault ≡ PackError.TooLong → most < 2 ^ 23) }
     ensures accepted { (bytes frames : List ℕ) → AreFrames format (Some before) bytes frames → R.remaining reader.old ≡ Some frames
         → IfErr result (λ fault. IsRefusal fault → (fault ≡ PackError.TooLong) × (most < length bytes)) }
 {
@@ -105,7 +108,8 @@ pub fn unpack<R: Read, W: Write>(
 ) -> Result<(), PackError>
     ensures ok { OnOk result ((bytes packed : List ℕ) × Consumes (R.remaining reader.old) (R.remaining reader.new) packed
         × IsAtEnd (R.remaining reader.new) × Appends (W.contents writer.old) (W.contents writer.new) bytes × IsPacked bytes packed) }
-    ensures limit { (written : List ℕ) × Appends (W.contents writer.old) (W.contents writer.new) written × (length written ≤ limit) }
+    ensures limit { (written : List ℕ) × Appends (W.contents writer.old) (W.contents writer.new) written × (length written ≤ limit)
+        × IfErr result (λ fault. fault ≡ PackError.TooLong → limit < length written + 2 ^ 23) }
     ensures accepted { (bytes packed : List ℕ) → R.remaining reader.old ≡ Some packed → IsPacked bytes packed
         → IfErr result (λ fault. IsRefusal fault → (fault ≡ PackError.TooLong) × (limit < length bytes)) }
     ensures cut { (bytes packed lost : List ℕ) → R.remaining reader.old ≡ Some packed → IsPacked bytes (packed ++ lost)

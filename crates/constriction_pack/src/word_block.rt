@@ -1,6 +1,6 @@
 //! Blocks of the format `cpk1`, which are only read.
 
-ghost use Rattle.std.specs.Prelude.{◌≡◌, ◌<◌, ◌≤◌, ◌++◌, ℕ, List, None, Some, IfErr, IfOk, OnOk, length};
+ghost use Rattle.std.specs.Prelude.{◌≡◌, ◌≢◌, ◌<◌, ◌≤◌, ◌++◌, ℕ, List, None, Some, IfErr, IfOk, OnOk, length};
 ghost use Rattle.std.specs.Io.KnownBytes.{Consumes};
 ghost use Rattle.constriction_pack.specs.Faults.{IsRefusal};
 ghost use Rattle.constriction_pack.specs.Packed.{AreFrames};
@@ -22,10 +22,11 @@ const BLOCK_BYTES: usize = 1_048_576;
 /// the state two.
 const MOST_WORDS: u32 = 1_048_836;
 
-/// The bytes of a block of these words. It fails with `Damaged` only if these are the words of no block.
+/// The bytes of a block of these words.
 fn bytes_of(alloc: Global, words: &[u32]) -> Result<Vec<u8>, PackError>
     ensures ok { IfOk result (λ bytes. IsWordBlock bytes.items words.now) }
     ensures accepted { (bytes : List ℕ) → IsWordBlock bytes words.now → IfErr result (λ fault. fault ≡ PackError.OutOfMemory) }
+    ensures faults { IfErr result (λ fault. fault ≢ PackError.OutOfMemory → fault ≡ PackError.Damaged) }
 {
     let [count, places, rest @ ..] = words else {
         return Err(PackError::Damaged);
@@ -46,6 +47,7 @@ fn words_in(alloc: Global, before: u64, frame: &[u8]) -> Result<(Vec<u32>, u64),
     ensures frame { IfOk result (λ answer. frame.now ≡ frame_of_words before answer.0.items) }
     ensures after { IfOk result (λ answer. answer.1 ≡ hash_after_words before answer.0.items) }
     ensures accepted { (words : List ℕ) → frame.now ≡ frame_of_words before words → IfErr result (λ fault. fault ≡ PackError.OutOfMemory) }
+    ensures faults { IfErr result (λ fault. fault ≢ PackError.OutOfMemory → fault ≡ PackError.Damaged) }
 {
     if frame.len() < 12 {
         return Err(PackError::Damaged);
@@ -73,6 +75,7 @@ fn read_words<R: Read>(reader: &mut R, frame: &mut Vec<u8>) -> Result<(), PackEr
         → R.remaining reader.old ≡ Some (frame_of_words before words ++ rest) → OnOk result (frame.new.items ≡ frame_of_words before words) }
     ensures accepted { (before : ℕ) (words rest : List ℕ) → length words ≤ most_words
         → R.remaining reader.old ≡ Some (frame_of_words before words ++ rest) → IfErr result (λ fault. ¬ (IsRefusal fault)) }
+    ensures faults { IfErr result (λ fault. fault ≢ PackError.TooLong) }
 {
     frame.clear();
     read_up_to(reader, 4, frame)?;
@@ -103,6 +106,7 @@ pub(crate) fn read_word_block<R: Read>(
         × Consumes (R.remaining reader.old) (R.remaining reader.new) frame) }
     ensures accepted { (bytes frames : List ℕ) → AreFrames Cpk1 (Some before) bytes frames → R.remaining reader.old ≡ Some frames
         → IfErr result (λ fault. ¬ (IsRefusal fault)) }
+    ensures faults { IfErr result (λ fault. fault ≢ PackError.TooLong) }
 {
     read_words(reader, buffer)?;
     let (words, after) = words_in(alloc, before, buffer)?;

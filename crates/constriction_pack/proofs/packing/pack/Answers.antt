@@ -1,5 +1,7 @@
-use Rattle.std.proofs.Common.{refl}
-use Rattle.constriction_pack.proofs.FileLemmas.{under_way_done, under_way_more}
+use Rattle.std.proofs.Common.{[], refl}
+use Rattle.std.proofs.KnownBytes.{Appends-nil}
+use Rattle.constriction_pack.proofs.FileLemmas.{nothing_framed, signature_written, under_way_done, under_way_more, unended}
+use Rattle.constriction_pack.proofs.ListLemmas.{OnErr-from}
 use Rattle.constriction_pack.proofs.packing.pack.Goals as goal
 
 pub returns-in-None-clause-ok : goal.returns-in-None-clause-ok
@@ -13,3 +15,14 @@ pub blocks-2-preserved : goal.blocks-2-preserved
 blocks-2-preserved g c =
     let one = rw c.in-Some.is at c.in_ok-after.ensures.ok in
     under_way_more _ _ one.0 one.1 one.2 c.blocks-2.invariant one.3 one.4 one.5 one.6 one.7 (one.8 refl) c.in_ok-after.ensures.kept
+
+pub returns-in_err-write_whole-clause-part : goal.returns-in_err-write_whole-clause-part
+returns-in_err-write_whole-clause-part g c =
+    OnErr-from _ _ (signature_written _ _ c.in_err-write_whole.ensures.part)
+
+pub returns-in_err-after-clause-part : goal.returns-in_err-after-clause-part
+returns-in_err-after-clause-part g c =
+    let p = c.in_err-after.ensures.part in OnErr-from _ _ (unended _ p.0 c.blocks-2.invariant p.1 p.2)
+
+pub returns-clause-part : goal.returns-clause-part
+returns-clause-part g c = unended _ [] c.blocks-2.invariant (Appends-nil _) (nothing_framed c.blocks-2.before)

@@ -2,7 +2,9 @@ use Rattle.std.proofs.Common.{refl, ap, arith, length}
 use Rattle.constriction_pack.specs.Contents.{IsContent}
 use Rattle.constriction_pack.specs.Frames.{frame_of, tag_of}
 use Rattle.constriction_pack.specs.declared.kind.Kind.TheVariants.{Stored}
+use Rattle.constriction_pack.proofs.FileLemmas.{none_written, part_written}
 use Rattle.constriction_pack.proofs.FrameLemmas.{length_frame_of}
+use Rattle.constriction_pack.proofs.ListLemmas.{OnErr-from}
 use Rattle.constriction_pack.proofs.packing.write_block.Goals as goal
 
 pub returns-in_ok-after-in-Some-clause-ok : goal.returns-in_ok-after-in-Some-clause-ok
@@ -40,3 +42,12 @@ returns-in_ok-after-in-None-clause-ok g c =
       c.in_ok-after-in-None.ensures.ok,
       omega (arith, length_frame_of c.args.before tag c.args.block.now),
     )
+
+pub returns-in_err-kind-clause-part : goal.returns-in_err-kind-clause-part
+returns-in_err-kind-clause-part g c = OnErr-from _ _ (none_written _ c.args.before)
+
+pub returns-in_err-after-in-Some-clause-part : goal.returns-in_err-after-in-Some-clause-part
+returns-in_err-after-in-Some-clause-part g c = OnErr-from _ _ (part_written _ _ c.args.before _ _ c.in_err-after-in-Some.ensures.part)
+
+pub returns-in_err-after-in-None-clause-part : goal.returns-in_err-after-in-None-clause-part
+returns-in_err-after-in-None-clause-part g c = OnErr-from _ _ (part_written _ _ c.args.before _ _ c.in_err-after-in-None.ensures.part)

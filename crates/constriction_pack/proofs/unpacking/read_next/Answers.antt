@@ -1,5 +1,5 @@
 use Rattle.std.proofs.Common.{◌≡◌, [], Some, None, length, refl, ap, ◌∙◌, arith, length-append}
-use Rattle.constriction_pack.proofs.FileLemmas.{at_end, read_stands}
+use Rattle.constriction_pack.proofs.FileLemmas.{at_end, frame_short, read_stands}
 use Rattle.constriction_pack.proofs.unpacking.read_next.Goals as goal
 
 pub returns-then-len-most-clause-accepted : goal.returns-then-len-most-clause-accepted
@@ -16,3 +16,8 @@ returns-in_err-read_end-in-None-clause-accepted g c = λ bytes frames framed kno
     let none : left.1 ≡ [] = at_end c.args.format left.4 in
     let known_left = left.3 ∙ ap Some none in
     grind (arith, c.read_end.ensures.accepted known_left)
+
+pub returns-then-len-most-clause-long : goal.returns-then-len-most-clause-long
+returns-then-len-most-clause-long g c = λ _.
+    let ok = c.in_ok-block.ensures.ok in
+    omega (arith, frame_short c.args.format c.args.before c.in_ok-block.block.items ok.0 c.in_ok-block.after ok.1)

@@ -6,7 +6,13 @@ use Rattle.constriction_pack.proofs.unpacking.unpack.Goals as goal
 
 pub returns-in_err-block-clause-limit : goal.returns-in_err-block-clause-limit
 returns-in_err-block-clause-limit g c =
-    let so_far = c.blocks-2.invariant in (so_far.bytes, so_far.written, omega (arith, so_far.counted))
+    let so_far = c.blocks-2.invariant in
+    let fault = err_from_is_err_and c.from_residual-in_err-block.result c.from_residual-in_err-block.ensures.1 in (
+      so_far.bytes,
+      so_far.written,
+      omega (arith, so_far.counted),
+      rw (fault.1, fault.2) (λ long. omega (arith, so_far.counted, c.in_err-block.ensures.long long)),
+    )
 
 pub returns-in_err-block-clause-accepted : goal.returns-in_err-block-clause-accepted
 returns-in_err-block-clause-accepted g c = λ bytes packed known file.
@@ -27,7 +33,8 @@ returns-in_err-block-clause-cut g c = λ bytes packed lost known file.
 pub returns-in_err-write_whole-clause-limit : goal.returns-in_err-write_whole-clause-limit
 returns-in_err-write_whole-clause-limit g c =
     let so_far = c.blocks-2.invariant in
-    let part = c.in_err-write_whole.ensures.part in (
+    let part = c.in_err-write_whole.ensures.part in
+    let fault = err_from_is_err_and c.from_residual-in_err-write_whole.result c.from_residual-in_err-write_whole.ensures.1 in (
       so_far.bytes ++ part.0,
       Appends-trans _ _ _ so_far.bytes part.0 so_far.written part.2,
       omega (
@@ -39,6 +46,7 @@ returns-in_err-write_whole-clause-limit g c =
         ap length part.3,
         ap length c.deref.ensures.value,
       ),
+      rw (fault.1, fault.2) (λ long. absurd (c.in_err-write_whole.ensures.faults (rw long tt))),
     )
 
 pub returns-in-None-clause-ok : goal.returns-in-None-clause-ok
@@ -56,6 +64,7 @@ returns-in-None-clause-limit g c =
       so_far.bytes ++ c.in_ok-block.block.items,
       Appends-trans _ _ _ so_far.bytes c.in_ok-block.block.items so_far.written written,
       omega (arith, so_far.counted, c.in_ok-block.ensures.most, length-append so_far.bytes c.in_ok-block.block.items),
+      tt,
     )
 
 pub returns-in-None-clause-cut : goal.returns-in-None-clause-cut
