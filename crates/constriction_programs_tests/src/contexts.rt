@@ -1,7 +1,8 @@
 //! Blocks whose bits are predicted: their contents are those that a program of its own computed from the description of the format.
 
 use crate::checks::{holds, same};
-use constriction_pack::{Kind, Level, PackError, pack_block, unpack_block};
+use crate::packing::{are_refused_if_flipped, status_of};
+use constriction_pack::{Kind, Level, PackError, pack, pack_block, unpack_block};
 use std::alloc::Global;
 use std::process::Abort;
 
@@ -25,11 +26,12 @@ const BY_MANY: &[u8] =
     \x9e\x3d\x67\x46\xb6\xd2\x13\x9c\x2d\x14\x07\xd8\xa5\xd7\x60\x92\x85\x57\x79\x83\x4f\x0e\x83\xe1\x4b\x88\xf4\xdc\
     \x67\x8b\xe4\x38\xa0\x51\x54\xd4\x44\xc6\x49\x15\x8d\xe5\x14\xb8\x92\xa0\xa6\xa8\xe8\x01\x85\x1c\x71\x19\x35\x86";
 
-/// Contents that no block has: no number of bytes, no bytes, more than 2^23, and a word that was cut.
-const WRONG: [&[u8]; 4] = [
+/// Contents that no block has: no number of bytes, no bytes, 2^23 + 1 and 2^32 - 1 of them, and a word that was cut.
+const WRONG: [&[u8]; 5] = [
     b"\xcc\0\0",
     b"\0\0\0\0",
     b"\x01\0\x80\0",
+    b"\xff\xff\xff\xff",
     b"\x01\0\0\0\x01\x02\x03",
 ];
 
@@ -51,4 +53,22 @@ fn are_packed(rt: &impl Abort, alloc: Global, level: Level, expected: Kind, cont
 fn verses_are_packed_by_contexts_as_described(rt: HostRuntime) {
     are_packed(&rt, rt.alloc(), Level::Default, Kind::FewContexts, BY_FEW);
     are_packed(&rt, rt.alloc(), Level::Best, Kind::ManyContexts, BY_MANY);
+}
+
+/// Asserts that a file of one block by contexts is refused if it is cut anywhere, or if any bit is flipped.
+fn are_refused_if_damaged(rt: &impl Abort, alloc: Global, level: Level) {
+    let mut file = Vec::new(alloc);
+    let mut bytes = VERSES;
+    same(rt, pack(alloc, level, &mut bytes, &mut file), Ok(()));
+    same(rt, status_of(alloc, &file), 0);
+    for end in 0..file.len() {
+        same(rt, status_of(alloc, &file[..end]), 2);
+    }
+    are_refused_if_flipped(rt, alloc, &mut file);
+}
+
+#[test]
+fn damaged_blocks_by_contexts_are_refused(rt: HostRuntime) {
+    are_refused_if_damaged(&rt, rt.alloc(), Level::Default);
+    are_refused_if_damaged(&rt, rt.alloc(), Level::Best);
 }

@@ -2,7 +2,9 @@
 
 use crate::checks::{holds, prints, same};
 use crate::runs::{SlowReader, SlowWriter};
-use constriction_pack::laws::{block_comes_back, file_comes_back};
+use constriction_pack::laws::{
+    block_comes_back, block_once, changed_byte_is_refused, file_comes_back, nothing_follows, packed_once,
+};
 use constriction_pack::{Kind, Level, PackError, pack, pack_block, unpack, unpack_block};
 use std::alloc::Global;
 use std::io::{self, Write};
@@ -158,7 +160,7 @@ fn are_refused_if_cut(rt: &impl Abort, alloc: Global, bytes: &[u8]) {
 }
 
 /// The exit status for what `unpack` answers to a file.
-fn status_of(alloc: Global, file: &[u8]) -> u8 {
+pub fn status_of(alloc: Global, file: &[u8]) -> u8 {
     match unpacked(alloc, u64::MAX, file).0 {
         Ok(()) => 0,
         Err(fault) => fault.status(),
@@ -166,7 +168,7 @@ fn status_of(alloc: Global, file: &[u8]) -> u8 {
 }
 
 /// Asserts that a file is refused with the status 2 if any of its bits is flipped.
-fn are_refused_if_flipped(rt: &impl Abort, alloc: Global, file: &mut [u8]) {
+pub fn are_refused_if_flipped(rt: &impl Abort, alloc: Global, file: &mut [u8]) {
     for place in 0..file.len() {
         let byte = file[place];
         for bit in 0..8u32 {
@@ -208,7 +210,7 @@ fn damaged_files_are_refused(rt: HostRuntime) {
     let mut damaged = Vec::from_slice(alloc, THREE).expect(&rt, "memory");
     are_refused_if_flipped(&rt, alloc, &mut damaged);
     damaged.push(0).expect(&rt, "memory");
-    is_refused(&rt, alloc, &damaged, PackError::Damaged, &bytes[..29]);
+    is_refused(&rt, alloc, &damaged, PackError::Damaged, front(&bytes, 29));
     let mut older = Vec::from_slice(alloc, OLDER).expect(&rt, "memory");
     are_refused_if_flipped(&rt, alloc, &mut older);
     for file in &WRONG_FILES {
@@ -408,4 +410,13 @@ fn pack_faults_are_sentences(rt: HostRuntime) {
         same(&rt, fault.status(), status);
         prints(&rt, rt.alloc(), &fault, sentence);
     }
+}
+
+/// They do nothing; their contracts are what a caller needs them for.
+#[test]
+fn laws_of_files_may_be_called() {
+    block_once();
+    packed_once();
+    nothing_follows();
+    changed_byte_is_refused();
 }
