@@ -9,7 +9,7 @@ pub enum Level {
     Fast,
     /// Blocks of 2^23 bytes, whose bits may be predicted by two contexts. Packing and unpacking take 5 MiB for these.
     Default,
-    /// Blocks of 2^23 bytes, whose bits may be predicted by six contexts. Packing and unpacking take 36 MiB for these.
+    /// Blocks of 2^23 bytes, whose bits may be predicted by two contexts or by six. Packing and unpacking take 36 MiB for these.
     Best,
 }
 

@@ -1,6 +1,7 @@
 //! Bytes whose bits a mixer of contexts predicts.
 
 ghost use Rattle.std.specs.Prelude.{◌≡◌, ◌≢◌, ◌<◌, ◌≤◌, ◌^◌, ℕ, List, IfErr, IfOk, IfSome, length};
+ghost use Rattle.std.specs.Option.{ForSome};
 ghost use Rattle.constriction_pack.specs.Contents.{IsContent, IsPredicted, few_contexts, many_contexts};
 
 use crate::block::MOST_BYTES;
@@ -111,6 +112,39 @@ fn by_many_contexts(
     predicted(alloc, &mut mixer, bytes, below)
 }
 
+/// The length of a content, or `most` if there is none.
+pub(crate) fn length_to_beat(content: &Option<Vec<u8>>, most: usize) -> usize
+    requires { ForSome content.now (λ content. length content.items < most) }
+    ensures { result ≤ most }
+{
+    match content {
+        Some(content) => content.len(),
+        None => most,
+    }
+}
+
+/// The shorter content of `FewContexts` and `ManyContexts`, if it is shorter than `below`.
+fn by_either(
+    alloc: Global,
+    bytes: &[u8],
+    below: usize,
+) -> Result<Option<(Kind, Vec<u8>)>, AllocError>
+    requires some { 0 < length bytes.now }
+    requires short { length bytes.now ≤ 2 ^ 23 }
+    ensures coded { IfOk result (λ coded. IfSome coded (λ block. IsContent block.0 bytes.now block.1.items)) }
+    ensures shorter { IfOk result (λ coded. IfSome coded (λ block. length block.1.items < below)) }
+{
+    let few = by_few_contexts(alloc, bytes, below)?;
+    let left = length_to_beat(&few, below);
+    if let Some(content) = by_many_contexts(alloc, bytes, left)? {
+        return Ok(Some((Kind::ManyContexts, content)));
+    }
+    match few {
+        Some(content) => Ok(Some((Kind::FewContexts, content))),
+        None => Ok(None),
+    }
+}
+
 /// The content by the contexts of the level, if it has any, and the content is shorter than `below`.
 pub(crate) fn by_contexts(
     alloc: Global,
@@ -129,10 +163,7 @@ pub(crate) fn by_contexts(
             Some(content) => Ok(Some((Kind::FewContexts, content))),
             None => Ok(None),
         },
-        Level::Best => match by_many_contexts(alloc, bytes, below)? {
-            Some(content) => Ok(Some((Kind::ManyContexts, content))),
-            None => Ok(None),
-        },
+        Level::Best => by_either(alloc, bytes, below),
     }
 }
 
