@@ -1,9 +1,12 @@
 //! Packed files: their bytes, unpacking, and damaged files that are refused.
 
+ghost use Rattle.std.specs.Prelude.{◌≤◌, length};
+
 use crate::checks::{holds, prints, same};
 use crate::runs::{SlowReader, SlowWriter};
 use constriction_pack::laws::{
-    block_comes_back, block_once, changed_byte_is_refused, file_comes_back, nothing_follows, packed_once,
+    block_comes_back, block_once, changed_byte_is_refused, file_comes_back, nothing_follows,
+    packed_once,
 };
 use constriction_pack::{Kind, Level, PackError, pack, pack_block, unpack, unpack_block};
 use std::alloc::Global;
@@ -119,9 +122,8 @@ fn two_blocks_come_back(rt: HostRuntime) {
     for place in 0..1_048_577usize {
         bytes.push((place % 251) as u8).expect(&rt, "memory");
     }
-    let (result, found) = packed(rt.alloc(), &bytes);
-    same(&rt, result, Ok(()));
-    comes_back(&rt, rt.alloc(), &found, &bytes);
+    let again = file_comes_back(rt.alloc(), Level::Fast, &bytes).expect(&rt, "memory");
+    holds(&rt, &again, &bytes);
 }
 
 /// Asserts that a file is refused with this fault, and what was written before: a beginning of the bytes that were packed.
@@ -266,6 +268,15 @@ fn wrong_contents_are_refused(rt: HostRuntime) {
     holds(&rt, &again, RARE);
 }
 
+/// What is written of a file at a limit of 29 bytes.
+fn first_29(alloc: Global, mut file: &[u8]) -> Vec<u8>
+    ensures { length result.items ≤ 29 }
+{
+    let mut written = Vec::new(alloc);
+    let _result = unpack(alloc, 29, &mut file, &mut written);
+    written
+}
+
 /// Limits, what `unpack` answers to `THREE`, and how many bytes it writes.
 const LIMITS: [(u64, Result<(), PackError>, usize); 4] = [
     (93, Ok(()), 93),
@@ -283,6 +294,7 @@ fn nothing_is_written_beyond_the_limit(rt: HostRuntime) {
         same(&rt, result, expected);
         holds(&rt, &written, front(&bytes, count));
     }
+    holds(&rt, &first_29(rt.alloc(), THREE), front(&bytes, 29));
     let (result, written) = unpacked(rt.alloc(), 8, OLDER);
     same(&rt, result, Err(PackError::TooLong));
     holds(&rt, &written, &[]);
@@ -302,12 +314,13 @@ fn packed_slowly(alloc: Global, mut reader: SlowReader) -> (Result<(), PackError
     (result, written)
 }
 
-/// Readers give one byte a turn. One that fails is not asked again, and what was written before stays.
+/// Readers give one byte a turn, and fail at the one after the last: the end is not read twice. One that fails is not asked again, and what
+/// was written before stays.
 #[test]
 fn readers_fail(rt: HostRuntime) {
     let alloc = rt.alloc();
     let bytes = three_blocks(&rt, alloc);
-    for each in &[(40, Err(PackError::Read), 9), (1000, Ok(()), 93)] {
+    for each in &[(40, Err(PackError::Read), 9), (THREE.len() + 1, Ok(()), 93)] {
         let (turns, expected, count) = *each;
         let (result, written) = unpacked_slowly(alloc, SlowReader { rest: THREE, turns });
         same(&rt, result, expected);
