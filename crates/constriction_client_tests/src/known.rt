@@ -1,7 +1,7 @@
 //! What contracts alone tell a caller of the client, and a caller that already has a form: words, items and replies. A body that
 //! answers otherwise does not meet these contracts, even if the check refuses it at a written proof.
 
-ghost use Rattle.std.specs.Prelude.{◌≡◌, ◌++◌, [], ◌∷◌, Some, IfOk, IfSome, OnOk, IsTrue, map, nat_eq, true};
+ghost use Rattle.std.specs.Prelude.{◌≡◌, ◌++◌, [], ◌∷◌, Some, IfOk, IfSome, OnOk, IsTrue, false, map, nat_eq, true};
 ghost use Rattle.constriction.specs.Entries.{SameEntries};
 ghost use Rattle.constriction.specs.Rows.{contiguous_rows, rows_of};
 ghost use Rattle.constriction_backends.specs.Cursor.{state_of};
@@ -13,7 +13,7 @@ ghost use Rattle.constriction_client.specs.declared.queries.Reply.TheVariants as
 use crate::checks::{holds, same};
 use crate::known_models::decoder_of;
 use constriction::stream::model::{EntropyModel, ModelError};
-use constriction_backends::{Cursor, Reverse};
+use constriction_backends::{BoundedWriteWords, Cursor, Reverse};
 use constriction_client::laws::{there_and_back, there_and_back_in_a_cursor};
 use constriction_client::{
     ChainStep, CursorCall, CursorReply, DecoderForm, QuantileFault, Query, Reply, answer_queries,
@@ -23,7 +23,7 @@ use constriction_test_support::any_symbols::Encoder;
 use constriction_test_support::contiguous::Weighted;
 use constriction_test_support::given::{encoder_of, of_four};
 use constriction_theorem::{FormAndReplies, answer_by_form};
-use constriction_words::{CoderError, WholeNumber};
+use constriction_words::{CoderError, Seek, WholeNumber};
 use std::alloc::{AllocError, Global};
 use std::process::Abort;
 
@@ -33,6 +33,14 @@ fn written(model: &Weighted<6>, sink: &mut Vec<u8>) -> bool
     ensures { IsTrue result → sink.new.items ≡ sink.old.items ++ 5 ∷ [] }
 {
     write_quantiles(model, &[(1, 2)], sink).is_ok()
+}
+
+/// Whether an item was written whose offset is the weight of its symbol.
+fn too_large_was_written(model: &Weighted<6>, sink: &mut Vec<u8>) -> bool
+    requires { ⟦<Weighted<6> as EntropyModel<6>>⟧.rows model.now ≡ contiguous_rows (3 ∷ 18 ∷ 1 ∷ 42 ∷ []) }
+    ensures { result ≡ false }
+{
+    write_quantiles(model, &[(1, 18)], sink).is_ok()
 }
 
 /// The item that comes back.
@@ -122,6 +130,25 @@ fn at_1_turned(alloc: Global) -> Result<Reverse<Cursor<u8, Vec<u8>>>, AllocError
     Ok(at_1(alloc)?.into_reversed())
 }
 
+/// Whether the first one was sought to its beginning.
+fn was_sought(cursor: &mut Cursor<u8, Vec<u8>>) -> bool
+    requires { state_of cursor.old ≡ record { before = 10 ∷ []; after = 20 ∷ 30 ∷ [] } }
+    ensures { IsTrue result → state_of cursor.new ≡ record { before = []; after = 10 ∷ 20 ∷ 30 ∷ [] } }
+{
+    match cursor.seek(0) {
+        Ok(()) => true,
+        Err(()) => false,
+    }
+}
+
+/// How many words there is room for in the turned one.
+fn room_of_turned(cursor: &Reverse<Cursor<u8, Vec<u8>>>) -> usize
+    requires { state_of cursor.now.0 ≡ record { before = 30 ∷ 20 ∷ []; after = 10 ∷ [] } }
+    ensures { result ≡ 2 }
+{
+    cursor.space_left()
+}
+
 /// The replies of this cursor to a list of calls.
 fn calls(
     alloc: Global,
@@ -161,6 +188,7 @@ fn leaves_one_result(rt: &impl Abort, alloc: Global, model: &Weighted<6>)
     let mut sink = Vec::new(alloc);
     same(rt, written(model, &mut sink), true);
     holds(rt, &sink, &[5]);
+    same(rt, too_large_was_written(model, &mut sink), false);
     let pairs = back(alloc, model).expect(rt, "pairs");
     holds(rt, &pairs, &[(1, 2)]);
     let found = replies(alloc, model).expect(rt, "replies");
@@ -198,7 +226,13 @@ fn contracts_leave_one_run(rt: HostRuntime) {
     let mut cursor = at_1(rt.alloc()).expect(&rt, "a cursor");
     let found = calls(rt.alloc(), &mut cursor).expect(&rt, "replies");
     holds(&rt, &found, &words);
+    same(
+        &rt,
+        was_sought(&mut at_1(rt.alloc()).expect(&rt, "a cursor")),
+        true,
+    );
     let mut turned = at_1_turned(rt.alloc()).expect(&rt, "a cursor");
+    same(&rt, room_of_turned(&turned), 2);
     let found = turned_calls(rt.alloc(), &mut turned).expect(&rt, "replies");
     holds(&rt, &found, &words);
 }

@@ -1,7 +1,7 @@
 //! What contracts tell callers that parse lines, answer them, or run over whole inputs. A body that answers otherwise does not
 //! meet these contracts.
 
-ghost use Rattle.std.specs.Prelude.{◌≡◌, ◌++◌, ℕ, List, IfOk, IsNone, OnOk, Some, codes, string_bytes};
+ghost use Rattle.std.specs.Prelude.{◌≡◌, ◌≢◌, ◌++◌, ℕ, List, Err, IfOk, IsNone, OnOk, Some, codes, string_bytes};
 ghost use Rattle.std.specs.Option.{option_map};
 ghost use Rattle.constriction_text.specs.Grammar.{uniform, view};
 ghost use Rattle.constriction_text.specs.Text.{IsTextOf};
@@ -90,6 +90,14 @@ fn run_over_letters(alloc: Global, written: &mut Vec<u8>) -> Result<(), RunFault
     run(alloc, &mut input, written)
 }
 
+/// What a run over a letter answers.
+fn answer_of_a_run(alloc: Global, written: &mut Vec<u8>) -> Result<(), RunFault>
+    ensures { result ≢ Err RunFault.TooLong }
+{
+    let mut input = b"x".as_slice();
+    run(alloc, &mut input, written)
+}
+
 /// Asserts whether a line is a request.
 fn asks(rt: &impl Abort, found: Result<Option<Command>, AllocError>, is_request: bool) {
     match found {
@@ -130,4 +138,5 @@ fn contracts_leave_one_text(rt: HostRuntime) {
     same(&rt, run_over_letters(rt.alloc(), &mut written), Ok(()));
     holds(&rt, &written, b"bad line\nbad line\n");
     text_of_letters();
+    same(&rt, answer_of_a_run(rt.alloc(), &mut written), Ok(()));
 }
