@@ -1,6 +1,6 @@
 -- What a cursor replies to a call, which state the call leaves, and runs of calls.
 -- A state is the words before the position and those from it on, and a call moves words from one list to the other.
-use Rattle.std.specs.Prelude.{◌≡◌, ◌↔◌, ◌<◌, ℕ, List, [], ◌∷◌, ◌++◌, length, Ok, Err, IsTrue}
+use Rattle.std.specs.Prelude.{◌≡◌, ◌↔◌, ◌<◌, List, [], ◌∷◌, ◌++◌, length, Ok, Err, IsTrue}
 use Rattle.std.specs.declared.convert.Infallible.{Infallible}
 use Rattle.constriction_backends.specs.CursorState.{State, StackReads, QueueReads, Overwrites}
 use Rattle.constriction_client.specs.declared.cursor_calls.CursorCall.{CursorCall}
