@@ -77,14 +77,18 @@ module _ {State Symbol C : Type 0} (next : State → Symbol → State) (Step : S
     pub fewer : length done < count
     pub fault : Fault reached new
 
+-- some of the symbols were learned, from the first one on
+abbrev pub FirstAreLearned : {State Symbol : Type 0} → (State → Symbol → State) → List Symbol → State → State → Type 0
+FirstAreLearned {Symbol = Symbol} next symbols first last =
+    (done : List Symbol) × (after : List Symbol) × (symbols ≡ done ++ after) × (last ≡ fold next first done)
+
 -- Symbols up to one were learned, and nothing was encoded: that one has no entry, or memory was refused.
 abbrev pub StopsPredicting : {State Symbol : Type 0} → (State → Symbol → State) → (State → Symbol → Option (ℕ × ℕ)) → List Symbol
     → EncoderFrontendError → State → State → Type 0
 StopsPredicting {Symbol = Symbol} next entry symbols encoding.ImpossibleSymbol first last =
     (done : List Symbol) × (symbol : Symbol) × (after : List Symbol) × (symbols ≡ done ++ symbol ∷ after) × (last ≡ fold next first done)
     × (entry last symbol ≡ None)
-StopsPredicting {Symbol = Symbol} next entry symbols encoding.OutOfMemory first last =
-    (done : List Symbol) × (after : List Symbol) × (symbols ≡ done ++ after) × (last ≡ fold next first done)
+StopsPredicting next entry symbols encoding.OutOfMemory first last = FirstAreLearned next symbols first last
 
 -- ---- on a stack, where symbols are encoded from the last one to the first
 

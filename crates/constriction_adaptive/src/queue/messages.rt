@@ -5,7 +5,7 @@ ghost use Rattle.std.specs.List.{AllZip};
 ghost use Rattle.constriction.specs.Coding.{StandsForEqual};
 ghost use Rattle.constriction_coders.specs.Places.{placed, entry_at, IsMessageFrom};
 ghost use Rattle.constriction_coders.specs.RangeLaws.{MessageOnce, RangeMessageComesBack};
-ghost use Rattle.constriction_adaptive.specs.Predicted.{entry_in, IsReadIn, StopsPredicting};
+ghost use Rattle.constriction_adaptive.specs.Predicted.{entry_in, FirstAreLearned, IsReadIn, StopsPredicting};
 
 use crate::error::EncoderFrontendError;
 use crate::predictor::Predictor;
@@ -53,6 +53,8 @@ where
     ensures learned { OnOk result (P.state predictor.new ≡ fold P.next (P.state predictor.old) symbols.now) }
     ensures err { (error : _) → result ≡ Err (CoderError.Frontend error) → StopsPredicting P.next (entry_in P.rows P.Model.symbol_eq)
         symbols.now error (P.state predictor.old) (P.state predictor.new) }
+    ensures refused { (error : _) → result ≡ Err (CoderError.Backend error)
+        → FirstAreLearned P.next symbols.now (P.state predictor.old) (P.state predictor.new) }
 {
     let mut encoder = RangeEncoder::new(alloc);
     match encode_adaptively(predictor, symbols, &mut encoder) {
@@ -123,6 +125,8 @@ where
     ensures valid { result ≢ Err (MessageError.Decoding (CoderError.Frontend DecoderFrontendError.InvalidData)) }
     ensures err { (error : _) → result ≡ Err (MessageError.Encoding (CoderError.Frontend error)) → StopsPredicting P.next
         (entry_in P.rows P.Model.symbol_eq) symbols.now error (P.state encoding.old) (P.state encoding.new) }
+    ensures refused { (error : _) → result ≡ Err (MessageError.Encoding (CoderError.Backend error))
+        → FirstAreLearned P.next symbols.now (P.state encoding.old) (P.state encoding.new) }
 {
     let words = match encode_message(alloc, encoding, symbols) {
         Ok(words) => words,

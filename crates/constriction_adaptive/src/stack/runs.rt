@@ -1,6 +1,7 @@
 //! Several symbols, and what comes back from a stack.
 
 ghost use Rattle.std.specs.Prelude.{◌≡◌, ◌⊎◌, Err, OnOk, IfOk, IfErr, length};
+ghost use Rattle.std.specs.Allocator.{alloc_error};
 ghost use Rattle.std.specs.List.{AllZip};
 ghost use Rattle.constriction.specs.Coding.{StandsForEqual};
 ghost use Rattle.constriction_coders.specs.AnsCoder.{held_by};
@@ -78,9 +79,12 @@ where
     ensures ok { IfOk result (λ answers. AreCoded P.next (IsTakenIn P.rows P.Model.stands_for P.Model.symbol_eq PRECISION) answers.items
         (P.state predictor.old) (held_by coder.old) (P.state predictor.new) (held_by coder.new)) }
     ensures count { IfOk result (λ answers. length answers.items ≡ count) }
+    ensures read { (error : _) → result ≡ Err (CoderError.Backend error)
+        → (reached : Backend) × Backend.read_gives reached (Err error) coder.new.words }
     ensures err { IfErr result (λ error. DecodingStops P.next (IsTakenIn P.rows P.Model.stands_for P.Model.symbol_eq PRECISION)
         (λ reached new. new ≡ reached) count (P.state predictor.old) (held_by coder.old) (P.state predictor.new) (held_by coder.new)
-        ⊎ ((P.state predictor.new ≡ P.state predictor.old) × (held_by coder.new ≡ held_by coder.old))) }
+        ⊎ ((error ≡ CoderError.Frontend alloc_error) × (P.state predictor.new ≡ P.state predictor.old)
+        × (held_by coder.new ≡ held_by coder.old))) }
 {
     let mut answers = match Vec::with_capacity(alloc, count) {
         Ok(answers) => answers,

@@ -20,6 +20,7 @@ returns-in-Ok-decode_message g c =
       learned = both.1 ∙ ap (λ s. fold g.P.Predictor.next s c.args.symbols.now) c.requires ∙ sym c.in-Ok.ensures.learned;
       valid = λ is. cc;
       err = λ error is. cc;
+      refused = λ error is. cc;
     }
 
 pub returns-in-Err-decode_message-clause-valid : goal.returns-in-Err-decode_message-clause-valid

@@ -25,4 +25,4 @@ returns-in-Err-decode_next-clause-err g c =
     c.in-Err-decode_next.ensures.unlearned)
 
 pub returns-in-Err-clause-err : goal.returns-in-Err-clause-err
-returns-in-Err-clause-err g c = inr (refl, refl)
+returns-in-Err-clause-err g c = inr (refl, refl, refl)
