@@ -169,8 +169,8 @@ moved-stored precision rate symbol lefts narrow t =
     let others : ℕ = 2 ^ precision - length lefts in
     let all = stored-most precision lefts t 0 some in
     let first : get_or lefts 0 0 ≡ 0 = stored-first 32 precision lefts t in
-    map-stored precision (λ i. left_after rate others symbol i (get_or lefts i 0)) (length lefts) (length lefts - 1) (omega (arith, some)) narrow
-    (stored-wide precision lefts t narrow)
+    map-stored precision (λ i. left_after rate others symbol i (get_or lefts i 0)) (length lefts) (length lefts - 1)
+    (omega (arith, some)) narrow (stored-wide precision lefts t narrow)
     (left-down rate others symbol 0 (get_or lefts 0 0) (omega arith) ∙ omega (arith, first))
     (λ k h.
     let row = stored-row 32 precision lefts k t (omega (arith, h)) in
@@ -204,7 +204,8 @@ moved-each rate others symbol last many old mid new lefts e some is lowered unto
 -- ---- symbols that are all as likely
 
 -- a product with a quotient stays below what was divided
-pub shares-within : (whole many i : ℕ) → 0 < many → many ≤ whole → i < many → (0 < whole / many) × (i * (whole / many) + whole / many ≤ whole)
+pub shares-within : (whole many i : ℕ) → 0 < many → many ≤ whole → i < many
+    → (0 < whole / many) × (i * (whole / many) + whole / many ≤ whole)
 shares-within whole many i some few h =
     let share : ℕ = whole / many in
     let all : many * share ≤ whole = mul-div-le whole many in

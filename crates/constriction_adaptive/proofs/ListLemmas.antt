@@ -5,7 +5,8 @@ use Rattle.std.proofs.lemmas.List.{ext_get_or, get_or-map, length-map}
 use Rattle.std.proofs.lemmas.List.FromFn.{sum_by-map-range_with_len_more}
 
 -- a list whose elements are those of a map
-pub mapped : (f : ℕ → ℕ) (xs ys : List ℕ) → length ys ≡ length xs → ((k : ℕ) → k < length xs → get_or ys k 0 ≡ f (get_or xs k 0)) → ys ≡ map f xs
+pub mapped : (f : ℕ → ℕ) (xs ys : List ℕ) → length ys ≡ length xs
+    → ((k : ℕ) → k < length xs → get_or ys k 0 ≡ f (get_or xs k 0)) → ys ≡ map f xs
 mapped f xs ys long each =
     ext_get_or 0 ys (map f xs) (long ∙ sym (length-map xs f))
     (λ k h. let b : k < length xs = omega arith in each k b ∙ sym (get_or-map f xs k 0 0 b))

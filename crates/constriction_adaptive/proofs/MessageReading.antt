@@ -70,7 +70,8 @@ module _ {State : Type 0} (rows : State → List (Row Bool)) (next : State → B
       record { from = omega (arith, inside.0); to = omega (arith, inside.0, inside.1) } in
       let holds : HoldsPoint 16 has.row.left has.row.weight now.held =
       subst (λ (j : Interval). HoldsPoint 16 has.row.left has.row.weight j) (sym here.held)
-      (subst (λ n. HoldsPoint 16 n has.row.weight i) (sym has.left_is) (subst (λ n. HoldsPoint 16 e.left n i) (sym has.weight_is) in_part)) in
+      (subst (λ n. HoldsPoint 16 n has.row.weight i) (sym has.left_is)
+      (subst (λ n. HoldsPoint 16 e.left n i) (sym has.weight_is) in_part)) in
       let on = widen (part_of 16 has.row.left has.row.weight now.held) now.source in
       let d : Step (state, x) now (holding on.0 on.1) = record {
         tile = tile;
@@ -124,8 +125,8 @@ module _ {State : Type 0} (rows : State → List (Row Bool)) (next : State → B
         let begun : IsStart TakesFirst (words ++ more) (interval (2 ^ 64 - 1) offset) low.1 =
         (high.0, low.0, high.1, high.2, low.2, refl) in
         let here = begins-whole TakesFirst tells tells-law (words ++ more) (2 ^ 64 - 1) offset low.1 begun (words ++ more) refl in
-        let run = read-run (all_bits bytes) first whole message.0 (words ++ more) (holding (interval (2 ^ 64 - 1) offset) low.1) lead.fit tile
-        message.1 (λ some. lead.lies (leaves-whole (all_bits bytes) first message.0 message.1 some)) here in
+        let run = read-run (all_bits bytes) first whole message.0 (words ++ more) (holding (interval (2 ^ 64 - 1) offset) low.1)
+        lead.fit tile message.1 (λ some. lead.lies (leaves-whole (all_bits bytes) first message.0 message.1 some)) here in
         record { small = small; start = holding (interval (2 ^ 64 - 1) offset) low.1; begun = begun; end = run.0; led = run.1 }
 
     -- as many bytes that are read from them are these bytes

@@ -1,5 +1,6 @@
 -- What is read from a list of words: the same as from each source that tells them, and only once.
-use Rattle.std.proofs.Common.{◌-◌, ◌≡◌, ℕ, ◌+◌, ◌*◌, ◌/◌, ◌^◌, ◌<◌, ◌≤◌, Bool, List, [], ◌∷◌, ◌++◌, fold, length, Option, Some, None, Result, Ok, refl, ap, sym, ◌∙◌, subst, arith, inl, inr}
+use Rattle.std.proofs.Common.{◌-◌, ◌≡◌, ℕ, ◌+◌, ◌*◌, ◌/◌, ◌^◌, ◌<◌, ◌≤◌, Bool, List, [], ◌∷◌, ◌++◌}
+use Rattle.std.proofs.Common.{fold, length, Option, Some, None, Result, Ok, refl, ap, sym, ◌∙◌, subst, arith, inl, inr}
 use Rattle.std.proofs.lemmas.List.{append-nil, length-append, nil_from_length}
 use Rattle.std.proofs.lemmas.Nat.{mul-le}
 use Rattle.std.specs.Bool.{beq}
@@ -7,7 +8,8 @@ use Rattle.constriction.specs.Coding.{InTurn}
 use Rattle.constriction.specs.lemmas.Coding.{one-row, row-within}
 use Rattle.constriction.specs.Rows.{Row, IsRowOf}
 use Rattle.constriction_backends.specs.Source.{ReadsUpcoming}
-use Rattle.constriction_coders.specs.Intervals.{Interval, interval, unit_of, part_of, word_or_zero, IsAboveAll, IsWidenedByRead, IsStart, Held}
+use Rattle.constriction_coders.specs.Intervals.{Interval, interval, unit_of, part_of, word_or_zero}
+use Rattle.constriction_coders.specs.Intervals.{IsAboveAll, IsWidenedByRead, IsStart, Held}
 use Rattle.constriction_coders.specs.Places.{placed}
 use Rattle.constriction_coders.proofs.Decoding.{quantile-from, quantile-to}
 use Rattle.constriction_adaptive.specs.Bytes.{all_bits, TakesFirst, AreReadFrom}

@@ -13,7 +13,8 @@ use Rattle.constriction_coders.proofs.Stopping.{split-at-symbol}
 use Rattle.constriction_adaptive.specs.Predicted.{entry_in, AllTile, AreCoded, DecodingStops, EncodingStops}
 
 module _ {State Symbol : Type 0} (next : State → Symbol → State) where
-  pub placed-append : (first : State) (xs ys : List Symbol) → placed next first (xs ++ ys) ≡ placed next first xs ++ placed next (fold next first xs) ys
+  pub placed-append : (first : State) (xs ys : List Symbol) → placed next first (xs ++ ys)
+      ≡ placed next first xs ++ placed next (fold next first xs) ys
   placed-append first [] ys = refl
   placed-append first (x ∷ xs) ys = ap (λ (ps : List (State × Symbol)). (first, x) ∷ ps) (placed-append (next first x) xs ys)
 

@@ -21,7 +21,9 @@ loop-done-preserved g c =
     sym (all-bits-push bytes byte) ∙ sym (ap all_bits c.in-Ok-push.ensures.items) in record {
       goes_on = c.decode_byte.ensures.goes_on;
       counted = omega (arith, ap length c.in-Ok-push.ensures.items, length-append bytes (byte ∷ []), c.loop-done.invariant.counted);
-      small = rw c.in-Ok-push.ensures.items (All-push (λ b. b < 256) bytes byte c.loop-done.invariant.small (first_of (omega arith, search rules)));
+      small =
+          rw c.in-Ok-push.ensures.items
+          (All-push (λ b. b < 256) bytes byte c.loop-done.invariant.small (first_of (omega arith, search rules)));
       so_far =
           subst (λ (bits : List Bool). AreCoded g.P.Predictor.next Step bits (g.P.Predictor.state c.args.predictor.now)
           (held_by c.in-Ok.decoder) (g.P.Predictor.state c.decode_byte.new.predictor) (held_by c.decode_byte.new.decoder)) all
@@ -34,7 +36,8 @@ returns-clause-ok g c = λ words known.
     let gives = g.Source.ReadWords.read_gives in
     let tells = g.Source.ReadWords.tells_upcoming in
     let law = g.met.Source.ReadWords.reads_upcoming in
-    let start = told-start gives tells law c.args.source (held_by c.in-Ok.decoder).held c.in-Ok.decoder.words c.in-Ok.ensures.ok words known in
+    let start = told-start gives tells law c.args.source (held_by c.in-Ok.decoder).held c.in-Ok.decoder.words c.in-Ok.ensures.ok
+    words known in
     let bits = all_bits c.loop-done.bytes.items in
     let run = told-turns gives tells law g.P.Predictor.rows (λ s t. t ≡ s) beq 16
     (placed g.P.Predictor.next (g.P.Predictor.state c.args.predictor.now) bits) (held_by c.in-Ok.decoder) (held_by c.loop-done.decoder)
@@ -60,7 +63,8 @@ returns-in-Err-decode_byte-clause-valid g c = λ is bytes words long read known.
     let before = all_bits c.loop-done.bytes.items in
     let coded = coded-append next (IsReadIn rows (λ s t. t ≡ s) beq 16 gives) before stops.done _ _ _ _ _ _ c.loop-done.invariant.so_far
     stops.coded in
-    let start = told-start gives tells law c.args.source (held_by c.in-Ok.decoder).held c.in-Ok.decoder.words c.in-Ok.ensures.ok words known in
+    let start = told-start gives tells law c.args.source (held_by c.in-Ok.decoder).held c.in-Ok.decoder.words c.in-Ok.ensures.ok
+    words known in
     let run = told-turns gives tells law rows (λ s t. t ≡ s) beq 16 (placed next first (before ++ stops.done)) (held_by c.in-Ok.decoder)
     stops.reached coded.led start.0 start.2 in
     not-invalid rows next first (before ++ stops.done) bytes words (holding (held_by c.in-Ok.decoder).held start.0)

@@ -59,8 +59,11 @@ returns g c =
           IfOk-weaker c.into_compressed.result _ (λ words. AreReadFrom rows next first bytes words.items)
           (λ words sealed.
           subst (λ (ws : List ℕ). AreReadFrom rows next first bytes ws) (append-nil words.items)
-          (message-read rows next first bytes words.items [] small (c.loop-byte.encoder, coded.led, sealed) (All-nil (λ w. w < 2 ^ 32)) tile))
+          (message-read rows next first bytes words.items [] small (c.loop-byte.encoder, coded.led, sealed)
+          (All-nil (λ w. w < 2 ^ 32)) tile))
           c.into_compressed.ensures.ok;
-      learned = IfOk-weaker c.into_compressed.result _ (λ words. g.P.Predictor.state c.loop-byte.predictor ≡ fold next first (all_bits bytes))
-          (λ words sealed. coded.learned) c.into_compressed.ensures.ok;
+      learned =
+          IfOk-weaker c.into_compressed.result _
+          (λ words. g.P.Predictor.state c.loop-byte.predictor ≡ fold next first (all_bits bytes)) (λ words sealed. coded.learned)
+          c.into_compressed.ensures.ok;
     }

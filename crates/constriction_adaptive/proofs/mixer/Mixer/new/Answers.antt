@@ -14,7 +14,8 @@ pub invariant_of-result-clause-inside : goal.invariant_of-result-clause-inside
 invariant_of-result-clause-inside g c = c.find_places.ensures.inside
 
 pub invariant_of-result-clause-strengths_are : goal.invariant_of-result-clause-strengths_are
-invariant_of-result-clause-strengths_are g c = strengths_by (made g c) _ _ _ c.deref.ensures.value c.find_places.ensures.are c.predict-weight.ensures.strengths
+invariant_of-result-clause-strengths_are g c =
+    strengths_by (made g c) _ _ _ c.deref.ensures.value c.find_places.ensures.are c.predict-weight.ensures.strengths
 
 pub invariant_of-result-clause-weight_is : goal.invariant_of-result-clause-weight_is
 invariant_of-result-clause-weight_is g c =

@@ -12,7 +12,9 @@ loop-i-preserved c =
     let spoken : s < 65536 = first_of (search rules, omega (arith, c.type_inv.strengths c.loop-i.i), grind (arith, common_steps)) in
     let part : w * s ≤ 4294967296 * 65536 = mul-le w s 4294967296 65536 (omega arith) (omega arith) in
     record {
-      said = sum_more (λ i. get_or c.args.weights.now i 0 * get_or c.args.strengths.now i 0) c.loop-i.i c.loop-i.said c.loop-i.invariant.said;
+      said =
+          sum_more (λ i. get_or c.args.weights.now i 0 * get_or c.args.strengths.now i 0) c.loop-i.i c.loop-i.said
+          c.loop-i.invariant.said;
       neither = sum_more (λ i. get_or c.args.weights.now i 0 * 2048) c.loop-i.i c.loop-i.neither c.loop-i.invariant.neither;
       said_most = omega arith;
       neither_most = omega arith;

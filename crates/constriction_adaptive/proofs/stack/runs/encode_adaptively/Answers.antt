@@ -16,7 +16,8 @@ loop-done-init g c =
     let places = placed g.P.Predictor.next (g.P.Predictor.state c.args.predictor.now) c.args.symbols.now in
     let many = AllZip-long (IsEntryAt g.row.PRECISION entry) places c.in-Ok.entries.items c.in-Ok.ensures.ok in
     let long = placed-long g.P.Predictor.next (g.P.Predictor.state c.args.predictor.now) c.args.symbols.now in
-    let none : drop (c.len-count.result - 0) places ≡ [] = drop_all (c.len-count.result - 0) places (omega (arith, many, c.len-count.ensures)) in
+    let none : drop (c.len-count.result - 0) places ≡ [] =
+    drop_all (c.len-count.result - 0) places (omega (arith, many, c.len-count.ensures)) in
     record {
       counted = omega (arith, many, long, c.len-count.ensures);
       so_far = rw none refl;
