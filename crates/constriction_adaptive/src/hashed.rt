@@ -1,13 +1,14 @@
 //! Bits of bytes, by a hash of the bytes before.
 
 ghost use Rattle.std.specs.Prelude.{◌≡◌, ◌+◌, ◌*◌, ◌<◌, ◌≤◌, ◌^◌, ◌/◌, ◌%◌, IfOk, length, slice_index};
-ghost use Rattle.constriction_adaptive.specs.Bit.{at_least_one};
+ghost use Rattle.constriction_adaptive.specs.Bit.{at_least_one, bit_rows};
 ghost use Rattle.constriction_adaptive.specs.lemmas.Bit.{next-same};
 ghost use Rattle.constriction_adaptive.specs.Contexts.{Contexts, contexts_after, hashed_slot, rows_in, untouched};
 
 use crate::bit::Bit;
 use crate::contexts::{even, grown_history, grown_node, modulus_of, moved_by};
 use crate::predictor::Predictor;
+use constriction::stream::model::EntropyModel;
 use std::alloc::{AllocError, Global};
 
 /// How many slots there are.
@@ -40,7 +41,7 @@ pub struct HashedContexts<const ORDER: usize> {
     ghost kept: { history < modulus },
     ghost modulus_is: { modulus ≡ 256 ^ ORDER },
     ghost many: { length weights.items ≡ 4194304 },
-    ghost is: { current.zero ≡ at_least_one (slice_index weights.items (hashed_slot history node)) },
+    ghost is: { ⟦<Bit as EntropyModel<16>>⟧.rows current ≡ bit_rows (at_least_one (slice_index weights.items (hashed_slot history node))) },
 }
 
 impl<const ORDER: usize> HashedContexts<ORDER> {

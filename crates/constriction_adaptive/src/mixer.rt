@@ -6,7 +6,7 @@ mod past;
 mod tables;
 
 ghost use Rattle.std.specs.Prelude.{◌≡◌, ◌+◌, ◌*◌, ◌<◌, ◌≤◌, ◌^◌, ℕ, IfOk, [], length, map, slice_index, slice_index_or, slice_set};
-ghost use Rattle.constriction_adaptive.specs.Bit.{at_least_one};
+ghost use Rattle.constriction_adaptive.specs.Bit.{at_least_one, bit_rows};
 ghost use Rattle.constriction_adaptive.specs.lemmas.Bit.{next-same};
 ghost use Rattle.constriction_adaptive.specs.Mixer.{MixerState, even_rows, mixer_after, mixer_begun, mixer_rows, places_in, places_of, predicted, state_of, strengths_of};
 ghost use Rattle.constriction_adaptive.specs.Mixing.{error_of, mixed, squash, strength, weights_after};
@@ -18,6 +18,7 @@ use crate::mixer::inputs::{adjust, ask, find, learn, mix};
 use crate::mixer::past::Past;
 use crate::mixer::tables::Tables;
 use crate::predictor::Predictor;
+use constriction::stream::model::EntropyModel;
 use std::alloc::{AllocError, Global};
 
 /// Predicts the next bit of bytes by `N` contexts at once, at most 16: each sees the bits of the byte so far, and some bytes before it or the
@@ -45,7 +46,7 @@ pub struct Mixer<const N: usize> {
     ghost places_are: { places ≡ places_of (state_of contexts groups slots.items weights.items past) },
     ghost strengths_are: { strengths ≡ strengths_of (state_of contexts groups slots.items weights.items past) },
     ghost weight_is: { weight ≡ predicted (state_of contexts groups slots.items weights.items past) },
-    ghost is: { current.zero ≡ at_least_one weight },
+    ghost is: { ⟦<Bit as EntropyModel<16>>⟧.rows current ≡ bit_rows (at_least_one weight) },
 }
 
 /// Finds the place of each context.

@@ -1,13 +1,14 @@
 //! Bits of bytes, by the byte before.
 
 ghost use Rattle.std.specs.Prelude.{◌≡◌, ◌+◌, ◌*◌, ◌<◌, IfOk, length, slice_index};
-ghost use Rattle.constriction_adaptive.specs.Bit.{at_least_one};
+ghost use Rattle.constriction_adaptive.specs.Bit.{at_least_one, bit_rows};
 ghost use Rattle.constriction_adaptive.specs.lemmas.Bit.{next-same};
 ghost use Rattle.constriction_adaptive.specs.Contexts.{Contexts, contexts_after, own_slot, rows_in, untouched};
 
 use crate::bit::Bit;
 use crate::contexts::{even, grown_history, grown_node, moved_by};
 use crate::predictor::Predictor;
+use constriction::stream::model::EntropyModel;
 use std::alloc::{AllocError, Global};
 
 /// Predicts the next bit of bytes by the bits of the byte so far and the byte before.
@@ -21,7 +22,7 @@ pub struct OrderOne {
     current: Bit,
     ghost many: { length weights.items ≡ 65536 },
     ghost byte: { history < 256 },
-    ghost is: { current.zero ≡ at_least_one (slice_index weights.items (history * 256 + node)) },
+    ghost is: { ⟦<Bit as EntropyModel<16>>⟧.rows current ≡ bit_rows (at_least_one (slice_index weights.items (history * 256 + node))) },
 }
 
 impl OrderOne {
