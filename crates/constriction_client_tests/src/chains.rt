@@ -64,7 +64,7 @@ fn five_thousand_steps_leave_the_rows_of_the_letters(rt: HostRuntime) {
     let steps = TO_LOOKUP.repeat(rt.alloc(), 1000).expect(&rt, "memory");
     let made = converted(&rt, rt.alloc(), &steps);
     gives_letters(&rt, IterableEntropyModel::<6>::symbol_table(&made));
-    same(&rt, has_rows_of(&made, &SYMBOLS), Ok(true));
+    same(&rt, has_rows_of(&made, &SYMBOLS, &WEIGHTS), Ok(true));
 }
 
 /// The error of a chain, if it has one. It begins with a form of letters, one of which fails to clone.

@@ -34,6 +34,10 @@ mod own_number;
 #[cfg(test)]
 mod own_searching_model;
 #[cfg(test)]
+mod reading;
+#[cfg(test)]
+mod refused_symbols;
+#[cfg(test)]
 mod reweighted;
 #[cfg(test)]
 mod search;

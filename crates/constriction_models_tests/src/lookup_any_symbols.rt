@@ -5,8 +5,8 @@ use constriction::laws::{
     non_contiguous_lookup_symbols_differ, slotted_non_contiguous_lookup_symbols_differ,
 };
 use constriction::stream::model::{
-    DecoderModel, IterableEntropyModel, ModelError, to_generic_lookup_decoder_model,
-    to_generic_slotted_lookup_decoder_model,
+    DecoderModel, IterableEntropyModel, ModelError, SlottedNonContiguousLookupDecoderModel,
+    to_generic_lookup_decoder_model, to_generic_slotted_lookup_decoder_model,
 };
 use constriction_test_support::any_symbols::plain;
 use constriction_test_support::contiguous::weighted;
@@ -49,11 +49,25 @@ fn a_lookup_model_of_four_slots_is_made_of_a_model_of_the_caller(rt: HostRuntime
     slotted_non_contiguous_lookup_symbols_differ::<char, u8, Vec<(u8, char)>, Vec<u8>, 3, 2>();
 }
 
+/// A lookup model of one slot over the words of the default coders.
+type Wide = SlottedNonContiguousLookupDecoderModel<char, u32, Vec<(u32, char)>, Vec<u32>, 24, 0>;
+
+/// The model of two letters with equal weights.
+fn wide(alloc: Global) -> Result<Wide, ModelError> {
+    Wide::from_symbols_and_nonzero_fixed_point_probabilities(alloc, ['a', 'b'], [1 << 23; 2], false)
+}
+
+/// After its slots a lookup table has the left cumulatives and the total, in a view and in a clone too.
 #[test]
 fn a_lookup_model_shows_its_stored_entries_and_its_lookup_table(rt: HostRuntime) {
     let model = lookup::<1>(rt.alloc(), &['a', 'b'], &[1, 1], false).expect(&rt, "accepted");
     shows(&rt, rt.alloc(), &model, "[(0, 'a'), (1, 'b')]");
     shows(&rt, rt.alloc(), &model, "[0, 1, 0, 1, 2]");
+    shows(&rt, rt.alloc(), &model.as_view(), "[0, 1, 0, 1, 2]");
+    let clone = model.clone().expect(&rt, "memory");
+    shows(&rt, rt.alloc(), &clone, "[0, 1, 0, 1, 2]");
+    let model = wide(rt.alloc()).expect(&rt, "accepted");
+    shows(&rt, rt.alloc(), &model, "[0, 1, 0, 8388608, 16777216]");
 }
 
 /// Lookup models over numbers and over any symbols answer that their symbols differ.

@@ -6,7 +6,7 @@ use crate::checks::{same, same_at};
 use constriction::stream::model::{
     DecoderModel, EncoderModel, IterableEntropyModel, ModelError,
     NonContiguousCategoricalDecoderModel, NonContiguousCategoricalEncoderModel,
-    NonContiguousLookupDecoderModel,
+    NonContiguousLookupDecoderModel, to_generic_decoder_model_by_comparison,
 };
 use constriction_test_support::watched::{Tally, Watched, symbols, tally};
 use std::alloc::{AllocError, Global};
@@ -48,12 +48,42 @@ fn counts(rt: &impl Abort, tally: &Tally, call: &str, expected: [usize; 3]) {
     same_at(rt, call, found, expected);
 }
 
+/// Looks up a quantile in any decoder model.
+fn look_up<M: DecoderModel<12, Probability = u16>>(model: M)
+where
+    M: Drop,
+    M::Symbol: Drop,
+{
+    let _ = model.quantile_function(316);
+}
+
+/// The model of these symbols, each of which is compared with all before it.
+fn of_compared(alloc: Global, symbols: Vec<Watched>) -> Result<Decoder, ModelError> {
+    Decoder::from_symbols_and_nonzero_fixed_point_probabilities(alloc, symbols, WEIGHTS, true)
+}
+
+/// The same conversion of a model. Returns its error.
+fn refused_by_comparison(alloc: Global, model: &Decoder) -> Option<ModelError> {
+    to_generic_decoder_model_by_comparison(alloc, model).err()
+}
+
+/// Of sixteen symbols, 120 pairs are compared.
+#[test]
+fn each_two_symbols_are_compared_once(rt: HostRuntime) {
+    let tally = tally(rt.alloc()).expect(&rt, "memory");
+    let symbols = symbols(rt.alloc(), &tally, 15, 15).expect(&rt, "memory");
+    let model = of_compared(rt.alloc(), symbols).expect(&rt, "accepted");
+    counts(&rt, &tally, "of symbols", [0, 120, 0]);
+    same(&rt, refused_by_comparison(rt.alloc(), &model), None);
+    counts(&rt, &tally, "by comparison", [16, 120, 0]);
+}
+
 #[test]
 fn a_decoder_clones_a_symbol_once_for_each_row_that_it_gives(rt: HostRuntime) {
     let tally = tally(rt.alloc()).expect(&rt, "memory");
     let model = sixteen(&rt, rt.alloc(), &tally);
     counts(&rt, &tally, "of sorted symbols", [0, 15, 0]);
-    let _ = model.quantile_function(316);
+    look_up(&model);
     counts(&rt, &tally, "quantile_function", [1, 0, 0]);
     let mut walk = model.symbol_table();
     let _ = walk.next();
@@ -84,7 +114,7 @@ fn a_lookup_model_clones_a_symbol_once_for_each_row_that_it_gives(rt: HostRuntim
     counts(&rt, &tally, "to_lookup_decoder_model", [16, 15, 0]);
     let model = lookup(&rt, rt.alloc(), searching);
     counts(&rt, &tally, "into_lookup_decoder_model", [0, 0, 0]);
-    let _ = model.quantile_function(316);
+    look_up(&model);
     counts(&rt, &tally, "quantile_function", [1, 0, 0]);
     let _ = model.clone();
     counts(&rt, &tally, "clone", [16, 0, 0]);
@@ -106,11 +136,23 @@ fn encoder(alloc: Global, symbols: Vec<Watched>) -> Result<Encoder, ModelError> 
     )
 }
 
-/// Looks up these symbols, one of which has no entry.
+/// Whether any encoder model has an entry of a symbol.
+fn has_entry<M: EncoderModel<24, Symbol = Watched>>(model: M, symbol: &Watched) -> bool
+where
+    M: Drop,
+{
+    model.left_cumulative_and_probability(symbol).is_some()
+}
+
+/// Looks up these symbols, one of which has no entry, through a reference to the model.
 fn are_looked_up(rt: &impl Abort, model: &Encoder, symbols: &[Watched]) {
     for symbol in symbols {
-        let found = model.left_cumulative_and_probability(symbol);
-        same_at(rt, symbol.number, found.is_some(), symbol.number < 5000);
+        same_at(
+            rt,
+            symbol.number,
+            has_entry(model, symbol),
+            symbol.number < 5000,
+        );
     }
 }
 

@@ -52,20 +52,29 @@ where
 }
 
 /// Whether two models answer alike in both directions. Each of these symbols, in their order, has to begin where the one before
-/// it ends, and to have the row of each of its quantiles. The last one has to end at 64. The row of each quantile has to agree
-/// with the entry of its symbol.
-pub fn agree<E, D>(encoder: &E, decoder: &D, symbols: &[E::Symbol]) -> Result<bool, AllocError>
+/// it ends, and to have its weight and the row of each of its quantiles. The last one has to end at 64. The row of each quantile
+/// has to agree with the entry of its symbol.
+pub fn agree<E, D>(
+    encoder: &E,
+    decoder: &D,
+    symbols: &[E::Symbol],
+    weights: &[u8],
+) -> Result<bool, AllocError>
 where
     E: EncoderModel<6, Probability = u8>,
     D: DecoderModel<6, Symbol = E::Symbol, Probability = u8>,
     E::Symbol: PartialEq + Drop,
 {
+    let mut sizes = weights.iter();
     let mut end = 0u8;
     for symbol in symbols {
         let Some((left, weight)) = encoder.left_cumulative_and_probability(symbol) else {
             return Ok(false);
         };
-        if left != end || !have_its_row(decoder, symbol, left, weight.get())? {
+        if left != end || sizes.next() != Some(&weight.get()) {
+            return Ok(false);
+        }
+        if !have_its_row(decoder, symbol, left, weight.get())? {
             return Ok(false);
         }
         end = left + weight.get();
@@ -78,18 +87,22 @@ where
     Ok(end == 64)
 }
 
-/// Whether a walk through the rows of a model gives exactly these symbols, in their order. The left cumulative of each has to be
-/// the sum of the weights before it, and the weights have to add up to the number of quantiles.
-pub fn has_rows_of<M>(model: M, symbols: &[M::Symbol]) -> Result<bool, AllocError>
+/// Whether a walk through the rows of a model gives exactly these symbols and weights, in their order. The left cumulative of each
+/// has to be the sum of the weights before it, and the weights have to add up to the number of quantiles.
+pub fn has_rows_of<M>(model: M, symbols: &[M::Symbol], weights: &[u8]) -> Result<bool, AllocError>
 where
     M: IterableEntropyModel<6, Probability = u8>,
     M::Symbol: PartialEq + Drop,
 {
     let mut expected = symbols.iter();
+    let mut sizes = weights.iter();
     let mut end = 0usize;
     for item in model.symbol_table() {
         let (symbol, left, weight) = item?;
-        if expected.next() != Some(&symbol) || usize::from(left) != end {
+        if expected.next() != Some(&symbol) || sizes.next() != Some(&weight.get()) {
+            return Ok(false);
+        }
+        if usize::from(left) != end {
             return Ok(false);
         }
         end = end.wrapping_add(usize::from(weight.get()));
