@@ -1,13 +1,13 @@
-//! The words of an iterator, read as pairs.
+//! The words of an iterator and of a stack, read as pairs.
 
 ghost use Rattle.std.specs.Prelude.{◌≡◌, ◌≤◌, ◌++◌, List, length, take, Err, IfOk, vec_capacity};
 ghost use Rattle.constriction_client.specs.Quantiles.{ArePairs};
 
-use crate::checks::{same, small};
+use crate::checks::{holds, same, small, vec_of};
 use constriction::stream::model::{ContiguousCategoricalEntropyModel, EntropyModel};
 use constriction_backends::InfallibleIteratorReadWords;
 use constriction_client::{ReadFault, read_symbols};
-use constriction_words::{CoderError, Queue};
+use constriction_words::{CoderError, Queue, Stack};
 use std::convert::Infallible;
 
 type Small = ContiguousCategoricalEntropyModel<u8, Vec<u8>, 6>;
@@ -25,6 +25,22 @@ fn read_slice(model: &Small, words: &[u8], count: usize, out: &mut Vec<(usize, u
 {
     let mut source = InfallibleIteratorReadWords::new(words.iter().copied());
     read_symbols::<Queue, _, _, 6>(model, &mut source, count, out)
+}
+
+/// Reads a pair from a stack.
+fn read_top(model: &Small, words: &mut Vec<u8>, out: &mut Vec<(usize, u8)>) -> Read {
+    read_symbols::<Stack, _, _, 6>(model, words, 1, out)
+}
+
+/// The words under the ones that are read stay.
+#[test]
+fn a_stack_is_read_from_its_end(rt: HostRuntime) {
+    let model = small(&rt, rt.alloc());
+    let mut words = vec_of(&rt, rt.alloc(), &[2, 63]);
+    let mut out = Vec::new(rt.alloc());
+    same(&rt, read_top(&model, &mut words, &mut out), Ok(1));
+    holds(&rt, &out, &[(3, 41)]);
+    holds(&rt, &words, &[2]);
 }
 
 /// Memory for pairs is requested as words come, whatever the count is.

@@ -233,6 +233,24 @@ fn models_without_a_lookup_table_reply_at_the_full_width(rt: HostRuntime) {
     holds(&rt, &made.non_contiguous.contiguous, &expected);
 }
 
+/// Asks a uniform model of two numbers over words of 128 bits, and the models that are made of it.
+fn of_halves(
+    alloc: Global,
+) -> Result<AnswersOfModel<usize, u128, DecoderForm<usize, u128, 63>>, ModelError> {
+    contiguous_symbols_differ();
+    let model = UniformModel::<u128, 63>::new(2);
+    answer_by_model(alloc, model, &STEPS, &[Query::OfQuantile(1 << 62)])
+}
+
+#[test]
+fn a_uniform_model_over_words_of_128_bits_replies(rt: HostRuntime) {
+    let answers = of_halves(rt.alloc()).expect(&rt, "replies");
+    let half = 1u128 << 62;
+    let expected = [Reply::Row(1, half, half.into_nonzero_unchecked())];
+    holds(&rt, &answers.by_model, &expected);
+    holds(&rt, &answers.converted, &expected);
+}
+
 #[test]
 fn a_model_beside_an_encoder_replies(rt: HostRuntime) {
     let model = UniformModel::<u128, 64>::new(2);

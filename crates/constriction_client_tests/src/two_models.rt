@@ -58,6 +58,8 @@ fn two_models_of_the_same_weights_give_items_back(rt: HostRuntime) {
     let encoder = of_four(rt.alloc(), WEIGHTS).expect(&rt, "accepted");
     let back = back_of_two(rt.alloc(), &decoder, &encoder, &ITEMS).expect(&rt, "items");
     holds(&rt, &back, &REVERSED);
+    let none = back_of_two(rt.alloc(), &decoder, &encoder, &[]).expect(&rt, "no items");
+    holds(&rt, &none, &[]);
 }
 
 /// The same by one model.

@@ -16,16 +16,16 @@ use constriction::stream::model::{
 use constriction_client::laws::{DecoderAndEncoder, decoder_and_encoder, there_and_back_of_two};
 use constriction_client::{ChainStep, DecoderForm, Query, answer_queries, convert_chain};
 use constriction_test_support::watched::{Tally, Watched, count, symbols, tallied, tally};
-use std::alloc::Global;
+use std::alloc::{AllocError, Global};
 use std::cell::Cell;
 use std::iter;
 use std::process::Abort;
 
-type Decoder = NonContiguousCategoricalDecoderModel<Watched, usize, Vec<(usize, Watched)>, 24>;
+type Decoder = NonContiguousCategoricalDecoderModel<Watched, usize, Vec<(usize, Watched)>, 60>;
 
-type Form = DecoderForm<Watched, usize, 24>;
+type Form = DecoderForm<Watched, usize, 60>;
 
-type Both = DecoderAndEncoder<Watched, usize, 24>;
+type Both = DecoderAndEncoder<Watched, usize, 60>;
 
 /// The model of the numbers `0..count`, and of the number `last` after them, by the constructor that hashes. Each has one
 /// quantile, except that the last one has all others. So the rows of the others all meet the first slot of a lookup table.
@@ -49,7 +49,7 @@ struct Unannounced<'w, Model> {
     walks: &'w Cell<usize>,
 }
 
-/// Its symbol table. It keeps the default `size_hint` of the trait.
+/// Its symbol table. It announces that there may be no rows, and that there may be 2^62, for which no machine has memory.
 #[derive(Drop)]
 struct UnannouncedSymbolTable<SymbolTable> {
     held: SymbolTable,
@@ -67,9 +67,16 @@ impl<SymbolTable: Iterator> Iterator for UnannouncedSymbolTable<SymbolTable> {
     fn next(&mut self) -> Option<SymbolTable::Item> {
         self.held.next()
     }
+
+    fn size_hint(&self) -> (usize, Option<usize>) {
+        match self.held.size_hint().1 {
+            Some(most) => (0, Some(most.max(1 << 62))),
+            None => (0, None),
+        }
+    }
 }
 
-impl<'w, Model: EntropyModel<24>> EntropyModel<24> for Unannounced<'w, Model> {
+impl<'w, Model: EntropyModel<60>> EntropyModel<60> for Unannounced<'w, Model> {
     type Symbol = Model::Symbol;
 
     type Probability = Model::Probability;
@@ -79,7 +86,7 @@ impl<'w, Model: EntropyModel<24>> EntropyModel<24> for Unannounced<'w, Model> {
     ghost precision_law = { λ m. Model.precision_law m.model };
 }
 
-impl<'w, Model: IterableEntropyModel<24>> IterableEntropyModel<24> for Unannounced<'w, Model> {
+impl<'w, Model: IterableEntropyModel<60>> IterableEntropyModel<60> for Unannounced<'w, Model> {
     type SymbolTable = UnannouncedSymbolTable<Model::SymbolTable>;
 
     ghost stands_for = { Model.stands_for };
@@ -103,9 +110,9 @@ impl<'w, Model: IterableEntropyModel<24>> IterableEntropyModel<24> for Unannounc
 
 /// No two symbols of a decoder model are equal.
 fn symbols_differ(model: &Decoder)
-    ensures { IsDistinct ⟦<Watched as PartialEq>⟧.eq (symbols_of (⟦<Decoder as EntropyModel<24>>⟧.rows model.now)) }
+    ensures { IsDistinct ⟦<Watched as PartialEq>⟧.eq (symbols_of (⟦<Decoder as EntropyModel<60>>⟧.rows model.now)) }
 {
-    non_contiguous_symbols_differ::<Watched, usize, Vec<(usize, Watched)>, 24>();
+    non_contiguous_symbols_differ::<Watched, usize, Vec<(usize, Watched)>, 60>();
 }
 
 /// The lookup form of the same rows, by a conversion that compares nothing.
@@ -157,7 +164,7 @@ fn converted(alloc: Global, model: Decoder) -> Result<Form, ModelError> {
 
 /// The number of the symbol at a quantile.
 fn number_at(form: &Form, quantile: usize) -> Option<u32>
-    requires { quantile < 2 ^ 24 }
+    requires { quantile < 2 ^ 60 }
 {
     match form.quantile_function(quantile) {
         Ok((symbol, _, _)) => Some(symbol.number),
@@ -212,13 +219,13 @@ fn five_thousand_symbols_that_differ_are_not_compared(rt: HostRuntime) {
 #[test]
 fn a_decoder_and_an_encoder_take_one_walk_each(rt: HostRuntime) {
     let tally = tally(rt.alloc()).expect(&rt, "memory");
-    let made = hashed(&rt, rt.alloc(), &tally, 99, 100);
+    let made = hashed(&rt, rt.alloc(), &tally, 4999, 5000);
     let model = made.expect(&rt, "accepted");
     let walks = Cell::new(0);
     let both = both_of(rt.alloc(), &model, &walks).expect(&rt, "both models");
     let (_compared, cloned, alive) = tallied(&tally);
-    same(&rt, [walks.get(), cloned, alive], [2, 200, 300]);
-    same(&rt, both.1.support_size(), 100);
+    same(&rt, [walks.get(), cloned, alive], [2, 10_000, 15_000]);
+    same(&rt, both.1.support_size(), 5000);
 }
 
 /// How often symbols were hashed and cloned since the last call.
@@ -280,10 +287,39 @@ fn refused_repeat(rt: &impl Abort, alloc: Global, tally: &Tally) -> Option<Model
     hashed(rt, alloc, tally, 3, 1).err()
 }
 
-/// Why a chain ends if a clone fails.
-fn refused_clone(rt: &impl Abort, alloc: Global, tally: &Tally) -> Option<ModelError> {
-    let model = hashed(rt, alloc, tally, 3, u32::MAX).expect(rt, "accepted");
-    converted(alloc, model).err()
+/// The model of four symbols, the last of which fails to clone.
+fn not_cloned(rt: &impl Abort, alloc: Global, tally: &Tally) -> Decoder {
+    hashed(rt, alloc, tally, 3, u32::MAX).expect(rt, "accepted")
+}
+
+/// Chains of one step that clones symbols.
+const CLONING: [[ChainStep; 1]; 3] = [
+    [ChainStep::ToSearch],
+    [ChainStep::ToLookup],
+    [ChainStep::Rebuild],
+];
+
+/// Why replies are refused: the second of two rows has a symbol that fails to clone.
+fn refused_replies(alloc: Global, model: &Decoder, both: &Both) -> Option<AllocError> {
+    let queries = [Query::OfQuantile(0), Query::OfQuantile(9)];
+    answer_queries(alloc, model, &both.1, &queries).err()
+}
+
+/// Clones that were made are dropped if another one fails.
+#[test]
+fn no_clone_outlives_a_refused_one(rt: HostRuntime) {
+    let tally = tally(rt.alloc()).expect(&rt, "memory");
+    let cloned = hashed(&rt, rt.alloc(), &tally, 3, 3).expect(&rt, "accepted");
+    let both = decoder_and_encoder(rt.alloc(), &cloned).expect(&rt, "both models");
+    let model = not_cloned(&rt, rt.alloc(), &tally);
+    let refused = refused_replies(rt.alloc(), &model, &both);
+    same(&rt, (refused, tallied(&tally).2), (Some(AllocError), 16));
+    let refused = looked_up_unannounced(rt.alloc(), &model).err();
+    same(
+        &rt,
+        (refused, tallied(&tally).2),
+        (Some(ModelError::OutOfMemory), 16),
+    );
 }
 
 /// All symbols are dropped if a symbol comes twice, and if a clone fails.
@@ -296,10 +332,13 @@ fn no_symbol_outlives_a_refusal(rt: HostRuntime) {
         (repeat, tallied(&tally).2),
         (Some(ModelError::InvalidTable), 0),
     );
-    let refused = refused_clone(&rt, rt.alloc(), &tally);
-    same(
-        &rt,
-        (refused, tallied(&tally).2),
-        (Some(ModelError::OutOfMemory), 0),
-    );
+    for steps in &CLONING {
+        let form = DecoderForm::Search(not_cloned(&rt, rt.alloc(), &tally));
+        let refused = convert_chain(rt.alloc(), form, steps).err();
+        same(
+            &rt,
+            (refused, tallied(&tally).2),
+            (Some(ModelError::OutOfMemory), 0),
+        );
+    }
 }
