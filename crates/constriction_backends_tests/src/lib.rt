@@ -25,6 +25,8 @@ mod numbers;
 #[cfg(test)]
 mod own_word;
 #[cfg(test)]
+mod owned_words;
+#[cfg(test)]
 mod positions;
 #[cfg(test)]
 mod references;

@@ -5,6 +5,7 @@ ghost use Rattle.std.specs.Prelude.{◌≡◌, ◌<◌, [], Some, None, Ok, IfSo
 use crate::checks::{holds, same, vec_of};
 use constriction_backends::{Cursor, ReadWords, Reverse, StackSource, WordStack, WriteWords, laws};
 use constriction_words::{Queue, ReadWriteError, Stack};
+use linked_list_allocator::LocalHeap;
 use smallvec::SmallVec;
 use std::alloc::{AllocError, Global};
 use std::convert::Infallible;
@@ -45,6 +46,56 @@ fn a_hundred_thousand_words_are_written_and_copied(rt: HostRuntime) {
     same(&rt, extended(&mut words, &many), Ok(()));
     let copy = Cursor::<u8, _>::new_at_write_end(words).cloned(rt.alloc());
     holds(&rt, copy.expect(&rt, "memory").buf(), &many);
+}
+
+/// How often a `Vec` gets other memory while it takes 100,000 words.
+fn growths(rt: &impl Abort, mut words: Vec<u8>) -> usize {
+    let mut growths = 0usize;
+    for _ in 0..100_000 {
+        let capacity = words.capacity();
+        same(rt, words.write(7), Ok(()));
+        growths = growths.wrapping_add(usize::from(words.capacity() != capacity));
+    }
+    growths
+}
+
+/// The same for a `SmallVec`.
+fn small_growths(rt: &impl Abort, mut words: Two) -> usize {
+    let mut growths = 0usize;
+    for _ in 0..100_000 {
+        let capacity = words.capacity();
+        same(rt, words.write(7), Ok(()));
+        growths = growths.wrapping_add(usize::from(words.capacity() != capacity));
+    }
+    growths
+}
+
+/// A stack that is full gets twice the memory.
+#[test]
+fn a_stack_of_100_000_words_has_grown_at_most_twenty_times(rt: HostRuntime) {
+    same(&rt, growths(&rt, Vec::new(rt.alloc())) <= 20, true);
+    same(
+        &rt,
+        small_growths(&rt, SmallVec::new(rt.alloc())) <= 20,
+        true,
+    );
+}
+
+/// A stack that holds up to four words inline, and takes memory for more from a heap of 16 bytes.
+type Four<'h> = SmallVec<u32, 4, &'h LocalHeap>;
+
+#[test]
+fn a_stack_keeps_its_words_where_each_request_is_refused(rt: HostRuntime) {
+    let heap = LocalHeap::new(rt.alloc(), 16).expect(&rt, "memory");
+    let mut words: Four = SmallVec::new(&heap);
+    same(&rt, words.extend_from_iter(0..9), Err(AllocError));
+    for _ in 0..2 {
+        same(&rt, words.write(9), Err(AllocError));
+    }
+    same(&rt, words.as_slice(), [0, 1, 2, 3].as_slice());
+    same(&rt, ReadWords::<u32, Stack>::read(&mut words), Ok(Some(3)));
+    same(&rt, words.write(4), Ok(()));
+    same(&rt, words.as_slice(), [0, 1, 2, 4].as_slice());
 }
 
 /// The word that comes back from a `Vec`, or an error if memory is refused.
