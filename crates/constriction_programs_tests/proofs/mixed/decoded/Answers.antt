@@ -1,4 +1,4 @@
-use Rattle.std.proofs.Common.{◌≡◌, ℕ, List, IfOk, ap, drop, refl, subst, sym}
+use Rattle.std.proofs.Common.{◌≡◌, IfOk, ap, drop, refl, subst, sym}
 use Rattle.std.proofs.lemmas.Result.{IfOk-weaker}
 use Rattle.constriction_adaptive.specs.Bytes.{AreReadFrom}
 use Rattle.constriction_adaptive.specs.Mixer.{MixerState, mixer_after, mixer_rows}
