@@ -1,7 +1,7 @@
 //! What contracts tell callers that make models of plain lists, and callers that encode numbers below `support_size`. No caller here has a
 //! written answer.
 
-ghost use Rattle.std.specs.Prelude.{◌≡◌, ◌<◌, Err, IfOk, IfSome, length, nat_eq};
+ghost use Rattle.std.specs.Prelude.{◌≡◌, ◌<◌, [], ◌∷◌, Err, IfOk, IfSome, length, nat_eq};
 ghost use Rattle.constriction.specs.Acceptance.{AreAccepted, IsAccepted};
 ghost use Rattle.constriction.specs.ModelRows.{contiguous_model_rows, decoder_model_rows};
 ghost use Rattle.constriction.specs.Precision.{IsPrecision};
@@ -15,6 +15,7 @@ use constriction::stream::model::{
     NonContiguousCategoricalDecoderModel, UniformModel,
 };
 use constriction_coders::stack::AnsCoder;
+use constriction_coders::stored_weights::model_comes_back;
 use std::alloc::{AllocError, Global};
 use std::process::Abort;
 
@@ -60,6 +61,22 @@ fn of_letters(alloc: Global, letters: Vec<char>, weights: Vec<u32>) -> Result<Le
     ensures rows { IfOk result (λ model. decoder_model_rows model ≡ rows_of letters.items weights.items) }
 {
     Letters::from_symbols_and_nonzero_fixed_point_probabilities(alloc, letters, weights, false)
+}
+
+/// The letters of a model.
+const LETTERS: [char; 2] = ['a', 'b'];
+
+/// The model of these letters that comes back from stored weights.
+fn from_stored_weights(alloc: Global) -> Option<Letters>
+    ensures { IfSome result (λ model. decoder_model_rows model ≡ rows_of (97 ∷ 98 ∷ []) (16777215 ∷ 1 ∷ [])) }
+{
+    let letters = Vec::from_array(alloc, LETTERS).ok()?;
+    let weights = Vec::from_array(alloc, [16_777_215, 1]).ok()?;
+    let Ok(model) = of_letters(alloc, letters, weights) else {
+        return None;
+    };
+    let letters = Vec::from_array(alloc, LETTERS).ok()?;
+    model_comes_back(alloc, &model, letters).ok()
 }
 
 /// The left cumulative of a number, if it is below `support_size`.
@@ -165,13 +182,10 @@ fn a_list_makes_the_model_of_its_weights(rt: HostRuntime) {
 }
 
 #[test]
-fn lists_make_the_model_of_their_letters_and_weights(rt: HostRuntime) {
-    let alloc = rt.alloc();
-    let letters = Vec::from_array(alloc, ['a', 'b']).expect(&rt, "memory");
-    let weights = Vec::from_array(alloc, [16_777_215, 1]).expect(&rt, "memory");
-    match of_letters(alloc, letters, weights) {
-        Ok(model) => same(&rt, model.support_size(), 2),
-        Err(_) => panic!(rt; "two letters make a model"),
+fn lists_make_the_model_of_their_letters_and_it_comes_back(rt: HostRuntime) {
+    match from_stored_weights(rt.alloc()) {
+        Some(model) => same(&rt, model.support_size(), 2),
+        None => panic!(rt; "two letters make a model, and it comes back"),
     }
 }
 

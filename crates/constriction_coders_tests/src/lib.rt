@@ -21,6 +21,8 @@ mod known_models;
 #[cfg(test)]
 mod lent_words;
 #[cfg(test)]
+mod look_ups;
+#[cfg(test)]
 mod messages_of_stack;
 #[cfg(test)]
 mod positions;

@@ -1,9 +1,30 @@
 //! Messages that one program encodes, and another program decodes from their words alone.
 
 use crate::checks::{holds, same};
+use constriction::laws::contiguous_symbols_differ;
 use constriction::stream::model::DefaultUniformModel;
-use constriction_coders::laws::{compressed_once, encoded_once, may_be_held, symbols_come_back};
+use constriction_coders::laws::{
+    back_and_there, compressed_once, encoded_once, may_be_held, symbols_come_back,
+};
 use constriction_coders::stack::AnsCoder;
+
+/// Decodes the number on top and encodes it again.
+fn top_number(coder: &mut AnsCoder<Vec<u32>>, model: &DefaultUniformModel) -> Option<usize> {
+    contiguous_symbols_differ();
+    back_and_there(coder, model, model).ok()
+}
+
+#[test]
+fn the_number_on_top_is_decoded_and_goes_back(rt: HostRuntime) {
+    let model = DefaultUniformModel::new(1000);
+    let mut coder = AnsCoder::new(rt.alloc());
+    same(&rt, coder.encode_iid_slice(&[5, 42, 79], &model), Ok(()));
+    for number in [79, 42, 5] {
+        same(&rt, top_number(&mut coder, &model), Some(number));
+        same(&rt, coder.decode_symbol(&model), Ok(number));
+    }
+    same(&rt, coder.is_empty(), true);
+}
 
 /// The words of seven symbols are computed from the format's formulas.
 #[test]

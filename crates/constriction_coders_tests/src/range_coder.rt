@@ -2,7 +2,7 @@
 //! message. The expected words are computed from the format's formulas.
 
 use crate::checks::{holds, same};
-use constriction::backends::Cursor;
+use constriction::backends::{Cursor, InfallibleIteratorReadWords};
 use constriction::stream::model::{ContiguousCategoricalEntropyModel, DefaultUniformModel};
 use constriction::{CoderError, DefaultEncoderFrontendError};
 use constriction_coders::laws::{message_comes_back, message_from, message_of};
@@ -120,6 +120,22 @@ fn an_impossible_symbol_leaves_the_encoder_as_it_was(rt: HostRuntime) {
     holds(&rt, &words, &LAST_TEN);
 }
 
+/// An encoder that wrote one word has two more in its span, and a decoder of these may have more to decode once it has read two. The
+/// decoder of an empty encoder may not.
+#[test]
+fn what_is_encoded_so_far_ends_after_its_last_word(rt: HostRuntime) {
+    let model = DefaultUniformModel::new(1000);
+    let mut coder = RangeEncoder::new(rt.alloc());
+    same(&rt, coder.decoder().maybe_exhausted(), true);
+    same(&rt, coder.encode_iid_symbols(990..994, &model), Ok(()));
+    let mut decoder = coder.decoder();
+    same(&rt, decoder.maybe_exhausted(), false);
+    for symbol in 990..994 {
+        same(&rt, decoder.decode_symbol(&model), Ok(symbol));
+    }
+    same(&rt, decoder.maybe_exhausted(), true);
+}
+
 /// An iterator gives as many symbols as it is asked for, and the others stay. `maybe_exhausted` is true at the end of the words,
 /// and false if other words follow them.
 #[test]
@@ -204,6 +220,17 @@ fn each_symbol_is_coded_by_its_own_model(rt: HostRuntime) {
     same(&rt, decoder.maybe_exhausted(), true);
 }
 
+/// The word that an iterator gives next after a message is decoded from it. A decoder reads two words, and then as many as were written
+/// before the last one.
+fn next_after(rt: &impl Abort, alloc: Global, model: &DefaultUniformModel) -> Option<u32> {
+    let words = [LAST_TEN[0], LAST_TEN[1], LAST_TEN[2], LAST_TEN[3], 5, 6, 7];
+    let mut items = words.iter().copied();
+    let source = InfallibleIteratorReadWords::new(&mut items);
+    let found = message_from(alloc, source, 10, model, model);
+    same(rt, found.is_ok(), true);
+    items.next()
+}
+
 /// Messages encoded and decoded by the calls of `laws`.
 #[test]
 fn a_message_comes_back(rt: HostRuntime) {
@@ -218,4 +245,5 @@ fn a_message_comes_back(rt: HostRuntime) {
     let found = message_comes_back(alloc, &model, &model, &symbols);
     holds(&rt, &found.expect(&rt, "the symbols"), &symbols);
     same(&rt, message_of(alloc, &model, &[1000]).is_err(), true);
+    same(&rt, next_after(&rt, alloc, &model), Some(6));
 }
