@@ -1,4 +1,4 @@
-use Rattle.std.proofs.Common.{◌≡◌, ◌∙◌, ℕ, List, Err, sym, ap, subst}
+use Rattle.std.proofs.Common.{◌∙◌, ℕ, List, Err, sym, ap, subst}
 use Rattle.constriction_coders.specs.AnsCoder.{held_by}
 use Rattle.constriction_coders.specs.Compressed.{IsCompressed}
 use Rattle.constriction_coders_tests.proofs.LentWords.{all-before}
