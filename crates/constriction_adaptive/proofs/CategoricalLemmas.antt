@@ -6,11 +6,11 @@ use Rattle.std.proofs.Math.Seq.{get_or-append_seam}
 use Rattle.std.proofs.lemmas.Bool.{cases_lt}
 use Rattle.std.proofs.lemmas.List.{get_or-take, length-take-le, map-id, take_all, take_more}
 use Rattle.std.proofs.lemmas.List.FromFn.{fill_by_all}
-use Rattle.constriction.specs.Probe.{IsLastAtMost}
-use Rattle.constriction.specs.Rows.{Row, IsRowOf, contiguous_rows, entry_of}
-use Rattle.constriction.specs.Stored.{IsCdf, IsStored, lefts_in, weights_of}
-use Rattle.constriction.specs.lemmas.Stored.{stored-row, stored-some}
-use Rattle.constriction.specs.lemmas.StoredRows.{stored-entry, stored-no_entry}
+use Rattle.constriction_model.specs.Probe.{IsLastAtMost}
+use Rattle.constriction_model.specs.Rows.{Row, IsRowOf, contiguous_rows, entry_of}
+use Rattle.constriction_stored_rows.specs.Stored.{IsCdf, IsStored, lefts_in, weights_of}
+use Rattle.constriction_stored_rows.specs.lemmas.Stored.{stored-row, stored-some}
+use Rattle.constriction_stored_rows.specs.lemmas.StoredRows.{stored-entry, stored-no_entry}
 use Rattle.constriction_stored_rows.proofs.CdfLemmas.{all-but_last, cdf-here, cdf-long}
 use Rattle.constriction_stored_rows.proofs.TileLemmas.{cdf-probed}
 use Rattle.constriction_adaptive.specs.Categorical.{even_lefts, left_after, lefts_after}

@@ -3,7 +3,7 @@ use Rattle.std.proofs.Common.{◌≡◌, ℕ, zero, suc, ◌+◌, ◌<◌, List,
 use Rattle.std.specs.List.{AllZip}
 use Rattle.std.proofs.lemmas.List.{take_more}
 use Rattle.std.proofs.lemmas.List.Sums.{fold-append}
-use Rattle.constriction.specs.Coding.{InTurn}
+use Rattle.constriction_model.specs.Coding.{InTurn}
 use Rattle.constriction_coders.specs.Places.{placed}
 use Rattle.constriction_coders.specs.Steps.{Content, IsOnTop, IsEncoded}
 use Rattle.constriction_coders.proofs.Stopping.{split-at-symbol}

@@ -6,8 +6,8 @@ use Rattle.std.proofs.Math.Nat.{div-le_self, div-lt_iff_lt-mul, le-mul_of_pos_ri
 use Rattle.std.proofs.lemmas.Bool.{cases_lt, cond-true, cond-false, le-leb, lt-leb}
 use Rattle.std.proofs.lemmas.List.FromFn.{get_or-map-range_with_len, length-map-range_with_len}
 use Rattle.std.proofs.lemmas.Nat.{pow_pos}
-use Rattle.constriction.specs.Stored.{IsStored, weights_of}
-use Rattle.constriction.specs.lemmas.Stored.{stored-first, stored-row, stored-some}
+use Rattle.constriction_stored_rows.specs.Stored.{IsStored, weights_of}
+use Rattle.constriction_stored_rows.specs.lemmas.Stored.{stored-first, stored-row, stored-some}
 use Rattle.constriction_stored_rows.proofs.JudgeLemmas.{AreBegun, begun-next, stored-end}
 use Rattle.constriction_adaptive.specs.Categorical.{even_lefts, left_after, lefts_after}
 

@@ -4,9 +4,9 @@ use Rattle.std.specs.Prelude.{All}
 use Rattle.std.proofs.lemmas.Bool.{cases_lt}
 use Rattle.std.proofs.lemmas.List.Elements.{All-head, All-tail, All-cons, All-nil, same_from_all_zip}
 use Rattle.std.specs.Bool.{beq}
-use Rattle.constriction.specs.Coding.{InTurn, StandsForEqual}
-use Rattle.constriction.specs.lemmas.Coding.{entry-row}
-use Rattle.constriction.specs.Rows.{Row, RowsTile}
+use Rattle.constriction_model.specs.Coding.{InTurn, StandsForEqual}
+use Rattle.constriction_model.specs.lemmas.Coding.{entry-row}
+use Rattle.constriction_model.specs.Rows.{Row, RowsTile}
 use Rattle.constriction_backends.specs.Source.{ReadsUpcoming}
 use Rattle.constriction_coders.specs.Intervals.{Interval, interval, part_of, word_or_zero, HoldsPoint, IsWidenedByRead, IsStart, Held}
 use Rattle.constriction_coders.specs.Numbers.{number_first}

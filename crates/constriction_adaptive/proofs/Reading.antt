@@ -4,9 +4,9 @@ use Rattle.std.proofs.Common.{fold, length, Option, Some, None, Result, Ok, refl
 use Rattle.std.proofs.lemmas.List.{append-nil, length-append, nil_from_length}
 use Rattle.std.proofs.lemmas.Nat.{mul-le}
 use Rattle.std.specs.Bool.{beq}
-use Rattle.constriction.specs.Coding.{InTurn}
-use Rattle.constriction.specs.lemmas.Coding.{one-row, row-within}
-use Rattle.constriction.specs.Rows.{Row, IsRowOf}
+use Rattle.constriction_model.specs.Coding.{InTurn}
+use Rattle.constriction_model.specs.lemmas.Coding.{one-row, row-within}
+use Rattle.constriction_model.specs.Rows.{Row, IsRowOf}
 use Rattle.constriction_backends.specs.Source.{ReadsUpcoming}
 use Rattle.constriction_coders.specs.Intervals.{Interval, interval, unit_of, part_of, word_or_zero}
 use Rattle.constriction_coders.specs.Intervals.{IsAboveAll, IsWidenedByRead, IsStart, Held}

@@ -1,7 +1,7 @@
 -- What a model of one bit answers.
 use Rattle.std.proofs.Common.{◌≡◌, ◌≢◌, ℕ, ◌-◌, ◌<◌, ◌≤◌, Bool, true, false, List, Option, Some, None, refl, ap, sym, ◌∙◌, arith, zero-add}
 use Rattle.std.specs.Bool.{beq}
-use Rattle.constriction.specs.Rows.{Row, IsRowOf, entry_of}
+use Rattle.constriction_model.specs.Rows.{Row, IsRowOf, entry_of}
 use Rattle.constriction_adaptive.specs.Bit.{bit_rows}
 
 pub entry-one : (first weight : ℕ) (b : Bool) → weight ≡ 65536 - first → b ≡ true → Some (first, weight) ≡ entry_of beq (bit_rows first) b

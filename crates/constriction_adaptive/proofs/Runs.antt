@@ -5,8 +5,8 @@ use Rattle.std.specs.List.{AllZip}
 use Rattle.std.proofs.lemmas.List.{take_more}
 use Rattle.std.proofs.lemmas.List.Elements.{All-append, All-cons, All-nil}
 use Rattle.std.proofs.lemmas.List.Sums.{fold-append}
-use Rattle.constriction.specs.Coding.{InTurn}
-use Rattle.constriction.specs.Rows.{Row, RowsTile, entry_of}
+use Rattle.constriction_model.specs.Coding.{InTurn}
+use Rattle.constriction_model.specs.Rows.{Row, RowsTile, entry_of}
 use Rattle.constriction_coders.specs.Places.{placed, entry_at, IsDecodedAt}
 use Rattle.constriction_coders.specs.Spans.{Span, IsNarrowed}
 use Rattle.constriction_coders.proofs.Stopping.{split-at-symbol}

@@ -1,7 +1,7 @@
 -- A model of one bit.
 use Rattle.std.specs.Prelude.{ℕ, ◌-◌, List, [], ◌∷◌, Bool, true, false}
 use Rattle.std.proofs.Common.{suc, zero}
-use Rattle.constriction.specs.Rows.{Row, rows_of}
+use Rattle.constriction_model.specs.Rows.{Row, rows_of}
 
 -- the rows of a bit that is 0 with this weight out of 2 ^ 16
 abbrev pub bit_rows : ℕ → List (Row Bool)

@@ -1,8 +1,8 @@
 -- Bytes as bits, the highest first, and the bytes that a range decoder reads from words.
 use Rattle.std.specs.Prelude.{◌≡◌, ◌<◌, ◌+◌, ◌*◌, ◌/◌, ◌%◌, ℕ, List, [], ◌∷◌, ◌++◌, All, Bool, nat_eq, Option, Some, None, Result, Ok, Err}
 use Rattle.std.specs.Bool.{beq}
-use Rattle.constriction.specs.Coding.{InTurn}
-use Rattle.constriction.specs.Rows.{Row}
+use Rattle.constriction_model.specs.Coding.{InTurn}
+use Rattle.constriction_model.specs.Rows.{Row}
 use Rattle.constriction_coders.specs.Intervals.{Held, IsStart}
 use Rattle.constriction_coders.specs.Places.{placed}
 use Rattle.constriction_adaptive.specs.Bit.{bit_number}

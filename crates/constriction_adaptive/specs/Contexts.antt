@@ -1,6 +1,6 @@
 -- Contexts of the bits of bytes. In each the weight of a 0 out of 2 ^ 16 moves towards the bits that came.
 use Rattle.std.specs.Prelude.{ℕ, ◌+◌, ◌-◌, ◌*◌, ◌/◌, ◌%◌, ◌^◌, List, Bool, true, false, if◌then◌else◌, nat_lt, slice_index, slice_set, replicate}
-use Rattle.constriction.specs.Rows.{Row}
+use Rattle.constriction_model.specs.Rows.{Row}
 use Rattle.constriction_adaptive.specs.Bit.{at_least_one, bit_number, bit_rows}
 
 -- a weight of 0 moves by a 32nd of the way towards the bit

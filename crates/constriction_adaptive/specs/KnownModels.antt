@@ -1,6 +1,6 @@
 -- Models that are known beforehand, as the rows of each.
 use Rattle.std.specs.Prelude.{List, [], ◌∷◌}
-use Rattle.constriction.specs.Rows.{Row}
+use Rattle.constriction_model.specs.Rows.{Row}
 
 module _ {Symbol : Type 0} where
   -- the rows of the first model

@@ -1,6 +1,6 @@
 -- A mixer of hashed contexts, which predicts the bits of bytes.
 use Rattle.std.specs.Prelude.{◌+◌, ◌*◌, ℕ, List, [], length, map, replicate, Bool, slice_index, slice_index_or, slice_set}
-use Rattle.constriction.specs.Rows.{Row}
+use Rattle.constriction_model.specs.Rows.{Row}
 use Rattle.constriction_adaptive.specs.Bit.{at_least_one, bit_rows}
 use Rattle.constriction_adaptive.specs.Contexts.{even_weights}
 use Rattle.constriction_adaptive.specs.Mixing.{error_of, mixed, place, slots_moved, squash, strength, weights_after}

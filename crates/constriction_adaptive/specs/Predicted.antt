@@ -1,9 +1,9 @@
 -- Symbols that are predicted: each is coded in a state, by the rows that the state predicts, and leads to the next state.
 use Rattle.std.specs.Prelude.{◌≡◌, ℕ, ◌*◌, ◌^◌, ◌<◌, All, Bool, List, ◌∷◌, ◌++◌, fold, length, Option, Some, None, Result, Err}
-use Rattle.constriction.specs.Coding.{InTurn}
-use Rattle.constriction.specs.declared.CoderError.{CoderError}
-use Rattle.constriction.specs.declared.CoderError.TheVariants.{Frontend, Backend}
-use Rattle.constriction.specs.Rows.{Row, RowsTile, entry_of}
+use Rattle.constriction_model.specs.Coding.{InTurn}
+use Rattle.constriction_words.specs.declared.CoderError.{CoderError}
+use Rattle.constriction_words.specs.declared.CoderError.TheVariants.{Frontend, Backend}
+use Rattle.constriction_model.specs.Rows.{Row, RowsTile, entry_of}
 use Rattle.constriction_coders.specs.Intervals.{Held, IsRead, IsAboveAll, unit_of}
 use Rattle.constriction_coders.specs.Places.{placed, entry_at, IsDecodedAt}
 use Rattle.constriction_coders.specs.Spans.{Span}

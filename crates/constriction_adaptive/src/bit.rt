@@ -7,8 +7,8 @@ ghost use Rattle.std.proofs.Common.{lit<, lit≤};
 ghost use Rattle.constriction_adaptive.specs.Bit.{at_least_one, bit_rows};
 ghost use Rattle.constriction_adaptive.specs.lemmas.Bit.{bit-tile, bit-within};
 
-use constriction::BitArray;
-use constriction::stream::model::{DecoderModel, EncoderModel, EntropyModel, Weight};
+use constriction_model::{DecoderModel, EncoderModel, EntropyModel, Weight};
+use constriction_words::BitArray;
 use std::alloc::AllocError;
 
 /// A model of one bit, at 16 bits of precision. It takes no memory.

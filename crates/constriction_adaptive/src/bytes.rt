@@ -12,9 +12,9 @@ use crate::bit::Bit;
 use crate::error::EncoderFrontendError;
 use crate::predictor::Predictor;
 use crate::queue::{decode_next, encode_adaptively};
-use constriction::backends::ReadWords;
-use constriction::{CoderError, Queue};
+use constriction_backends::ReadWords;
 use constriction_coders::queue::{DecoderFrontendError, RangeDecoder, RangeEncoder};
+use constriction_words::{CoderError, Queue};
 use std::alloc::{AllocError, Global};
 
 /// The bits of a byte, the highest first.

@@ -2,19 +2,18 @@
 
 ghost use Rattle.std.specs.Prelude.{◌≡◌, ◌↔◌, ◌⊎◌, ◌+◌, ◌-◌, ◌*◌, ◌/◌, ◌^◌, ◌<◌, ◌≤◌, ℕ, IfOk, Err, List, length, nat_eq, slice_index};
 ghost use Rattle.std.specs.Cmp.{nat_eq_equiv};
-ghost use Rattle.constriction.specs.Precision.{IsPrecision};
-ghost use Rattle.constriction.specs.Rows.{contiguous_rows};
-ghost use Rattle.constriction.specs.Stored.{IsCdf, lefts_in, weights_of};
-ghost use Rattle.constriction.specs.lemmas.StoredRows.{stored-within, stored-tiles};
+ghost use Rattle.constriction_model.specs.Precision.{IsPrecision};
+ghost use Rattle.constriction_model.specs.Rows.{contiguous_rows};
+ghost use Rattle.constriction_stored_rows.specs.Stored.{IsCdf, lefts_in, weights_of};
+ghost use Rattle.constriction_stored_rows.specs.lemmas.StoredRows.{stored-within, stored-tiles};
 ghost use Rattle.constriction_adaptive.specs.Categorical.{even_lefts, lefts_after};
 ghost use Rattle.constriction_adaptive.specs.lemmas.Categorical.{after-same};
 
 use crate::predictor::Predictor;
-use constriction::stream::model::{
-    CdfProbe, Cumulative, DecoderModel, EncoderModel, EntropyModel, ModelError, Weight,
-    row_of_quantile,
+use constriction_model::{
+    DecoderModel, EncoderModel, EntropyModel, ModelError, Weight, row_of_quantile,
 };
-use constriction_stored_rows::{cdf_row_at, contiguous_row_at};
+use constriction_stored_rows::{CdfProbe, Cumulative, cdf_row_at, contiguous_row_at};
 use std::alloc::{AllocError, Global};
 
 /// Predicts the symbols `0, 1, ..` of an alphabet of any size by a cdf, which moves towards each symbol that came.

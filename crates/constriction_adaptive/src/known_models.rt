@@ -1,11 +1,11 @@
 //! Models that are known beforehand, one for each symbol.
 
 ghost use Rattle.std.specs.Prelude.{◌<◌, List, length, map, refl};
-ghost use Rattle.constriction.specs.Rows.{Row};
+ghost use Rattle.constriction_model.specs.Rows.{Row};
 ghost use Rattle.constriction_adaptive.specs.KnownModels.{first_rows, after_first};
 
 use crate::predictor::Predictor;
-use constriction::stream::model::{DecoderModel, EncoderModel};
+use constriction_model::{DecoderModel, EncoderModel};
 use std::alloc::AllocError;
 
 /// Predicts each symbol by the model at its place in a list, and those after the list by its last model.

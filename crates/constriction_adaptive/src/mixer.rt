@@ -18,7 +18,7 @@ use crate::mixer::inputs::{adjust, ask, find, learn, mix};
 use crate::mixer::past::Past;
 use crate::mixer::tables::Tables;
 use crate::predictor::Predictor;
-use constriction::stream::model::EntropyModel;
+use constriction_model::EntropyModel;
 use std::alloc::{AllocError, Global};
 
 /// Predicts the next bit of bytes by `N` contexts at once, at most 16: each sees the bits of the byte so far, and some bytes before it or the

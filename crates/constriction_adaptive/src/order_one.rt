@@ -8,7 +8,7 @@ ghost use Rattle.constriction_adaptive.specs.Contexts.{Contexts, contexts_after,
 use crate::bit::Bit;
 use crate::contexts::{even, grown_history, grown_node, moved_by};
 use crate::predictor::Predictor;
-use constriction::stream::model::EntropyModel;
+use constriction_model::EntropyModel;
 use std::alloc::{AllocError, Global};
 
 /// Predicts the next bit of bytes by the bits of the byte so far and the byte before.

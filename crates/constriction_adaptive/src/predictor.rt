@@ -1,10 +1,10 @@
 //! What predicts the next symbol.
 
 ghost use Rattle.std.specs.Prelude.{◌≡◌, List, OnOk};
-ghost use Rattle.constriction.specs.Coding.{StandsForEqual};
-ghost use Rattle.constriction.specs.Rows.{Row};
+ghost use Rattle.constriction_model.specs.Coding.{StandsForEqual};
+ghost use Rattle.constriction_model.specs.Rows.{Row};
 
-use constriction::stream::model::{DecoderModel, EncoderModel, EntropyModel};
+use constriction_model::{DecoderModel, EncoderModel, EntropyModel};
 use std::alloc::AllocError;
 
 /// Predicts the next symbol by a model, and learns each symbol that came.

@@ -3,7 +3,7 @@ use Rattle.std.proofs.Common.{◌≡◌, ℕ, ◌+◌, ◌<◌, List, [], ◌∷
 use Rattle.std.specs.Prelude.{Bool, fold}
 use Rattle.std.proofs.lemmas.List.{take_more}
 use Rattle.std.proofs.lemmas.List.Sums.{fold-append}
-use Rattle.constriction.specs.Rows.{Row}
+use Rattle.constriction_model.specs.Rows.{Row}
 use Rattle.constriction_client.specs.declared.chain.ChainStep.{ChainStep}
 use Rattle.constriction_client.specs.lemmas.Chains.{leaves-more}
 use Rattle.constriction_client.specs.Chains.{is_lookup_after, StepLeaves, ChainLeaves}

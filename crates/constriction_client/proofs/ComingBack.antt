@@ -3,8 +3,8 @@ use Rattle.std.proofs.Common.{◌≡◌, ℕ, suc, ◌^◌, ◌<◌, ◌≤◌, 
 use Rattle.std.specs.Prelude.{Contains}
 use Rattle.std.proofs.lemmas.List.Elements.{All-contains}
 use Rattle.std.proofs.lemmas.Slice.Zip.{AllZip-long}
-use Rattle.constriction.specs.Model.{RowMayBeRefused}
-use Rattle.constriction.specs.Rows.{Row}
+use Rattle.constriction_model.specs.Model.{RowMayBeRefused}
+use Rattle.constriction_model.specs.Rows.{Row}
 use Rattle.constriction_words.specs.declared.coder_error.CoderError.{CoderError}
 use Rattle.constriction_words.specs.declared.coder_error.CoderError.TheVariants.{Frontend}
 use Rattle.constriction_backends.specs.Source.{Reads}

@@ -5,11 +5,11 @@ use Rattle.std.specs.Iterator.{Drains}
 use Rattle.std.specs.List.{IsDistinct}
 use Rattle.std.proofs.lemmas.List.{map-append}
 use Rattle.std.proofs.lemmas.Simd.{map-map}
-use Rattle.constriction.specs.Acceptance.{AreAccepted}
-use Rattle.constriction.specs.Laws.{AreRows}
-use Rattle.constriction.specs.Model.{row_of, StandForRows, ClonesAreEqual}
-use Rattle.constriction.specs.Rows.{Row, RowsTile, rows_of, symbols_of}
-use Rattle.constriction.specs.lemmas.Stand.{tile-made, distinct-made, tiling-rebuilds}
+use Rattle.constriction_model.specs.Acceptance.{AreAccepted}
+use Rattle.constriction_model.specs.Laws.{AreRows}
+use Rattle.constriction_model.specs.Model.{row_of, StandForRows, ClonesAreEqual}
+use Rattle.constriction_model.specs.Rows.{Row, RowsTile, rows_of, symbols_of}
+use Rattle.constriction_model.specs.lemmas.Stand.{tile-made, distinct-made, tiling-rebuilds}
 
 -- no item is a refusal, and these are the symbols and the weights of the items' rows
 pub record Parted {Symbol Word Weight Refusal : Type 0} (base : Weight → Word)

@@ -4,8 +4,8 @@ use Rattle.std.proofs.lemmas.Bool.{lt-ltb}
 use Rattle.std.proofs.lemmas.List.{map-append, take_all, take_more}
 use Rattle.std.specs.List.{AllZip}
 use Rattle.std.proofs.lemmas.Slice.Zip.{all_zipped_more}
-use Rattle.constriction.specs.Model.{row_of, AnswersQuantile, ClonesAreSame}
-use Rattle.constriction.specs.Rows.{Row, RowsTile, entry_of}
+use Rattle.constriction_model.specs.Model.{row_of, AnswersQuantile, ClonesAreSame}
+use Rattle.constriction_model.specs.Rows.{Row, RowsTile, entry_of}
 use Rattle.constriction_client.specs.declared.queries.Query.{Query}
 use Rattle.constriction_client.specs.declared.queries.Query.TheVariants.{OfQuantile}
 use Rattle.constriction_client.specs.declared.queries.Reply.{Reply}

@@ -6,14 +6,14 @@ use Rattle.std.specs.List.{AllZip}
 use Rattle.std.proofs.lemmas.List.{reverse-append}
 use Rattle.std.proofs.lemmas.List.Elements.{All-nil, All-cons}
 use Rattle.std.proofs.lemmas.Slice.Zip.{all_zipped_more, AllZip-long}
-use Rattle.constriction.specs.Model.{LiesWithin}
-use Rattle.constriction.specs.Rows.{Row, RowsTile, entry_of}
+use Rattle.constriction_model.specs.Model.{LiesWithin}
+use Rattle.constriction_model.specs.Rows.{Row, RowsTile, entry_of}
 use Rattle.constriction_words.specs.declared.coder_error.CoderError.{CoderError}
 use Rattle.constriction_words.specs.declared.coder_error.CoderError.TheVariants.{Frontend}
 use Rattle.constriction_client.specs.declared.quantiles.QuantileFault.{QuantileFault}
 use Rattle.constriction_client.specs.Quantiles.{IsQuantileOf, AreQuantiles, IsPairOf, ArePairs, StopsAtItem}
 use Rattle.constriction_client.specs.ThereAndBack.{AreItems, StandForItems, ReadsBack, HasFault}
-use Rattle.constriction.specs.lemmas.Coding.{entry-row, entry-below, one-row}
+use Rattle.constriction_model.specs.lemmas.Coding.{entry-row, entry-below, one-row}
 
 -- the pairs are the items, one by one, except that each symbol stands for one that is equal to the item's
 abbrev StandOneByOne : {Symbol Word : Type 0} → (Symbol → Symbol → Type 0) → (Symbol → Symbol → Bool) → List (Symbol × Word)

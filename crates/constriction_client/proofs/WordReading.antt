@@ -7,8 +7,8 @@ use Rattle.constriction_words.specs.declared.coder_error.CoderError.TheVariants.
 use Rattle.constriction_backends.specs.Source.{ReadsUpcoming}
 use Rattle.constriction_backends.specs.declared.ReadWords as source
 use Rattle.constriction_backends.specs.lemmas.Source.{reads_more, reads_upcoming_all}
-use Rattle.constriction.specs.Model.{RowMayBeRefused}
-use Rattle.constriction.specs.Rows.{Row}
+use Rattle.constriction_model.specs.Model.{RowMayBeRefused}
+use Rattle.constriction_model.specs.Rows.{Row}
 use Rattle.constriction_client.specs.declared.quantiles.ReadFault.{ReadFault}
 use Rattle.constriction_client.specs.declared.quantiles.ReadFault.TheVariants.{OutOfMemory, QuantileTooLarge}
 use Rattle.constriction_client.specs.Quantiles.{GivesPair, AddsPairs, EndsReading, LeavesWords, ReadsPairs}

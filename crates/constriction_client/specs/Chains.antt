@@ -1,7 +1,7 @@
 -- The kind of form that a chain of conversions leaves, and its rows.
 use Rattle.std.specs.Prelude.{◌≡◌, Bool, true, false, List, [], ◌∷◌}
-use Rattle.constriction.specs.Model.{StandForRows}
-use Rattle.constriction.specs.Rows.{Row}
+use Rattle.constriction_model.specs.Model.{StandForRows}
+use Rattle.constriction_model.specs.Rows.{Row}
 use Rattle.constriction_client.specs.declared.chain.ChainStep.{ChainStep}
 use Rattle.constriction_client.specs.declared.chain.ChainStep.TheVariants.{ToLookup, IntoSearch, Rebuild}
 use Rattle.constriction_client.specs.declared.decoder_form.SearchOrLookup.{SearchOrLookup}

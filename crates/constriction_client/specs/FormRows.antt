@@ -4,10 +4,10 @@ use Rattle.std.specs.declared.cmp.PartialEq as equality
 use Rattle.constriction_words.specs.declared.WholeNumber as number
 use Rattle.constriction_buffers.specs.declared.buf.SafeBuf as buffer
 use Rattle.constriction_model.specs.declared.traits.EntropyModel as model
-use Rattle.constriction.specs.ModelRows.{decoder_model_rows, lookup_model_rows}
-use Rattle.constriction.specs.Rows.{Row}
-use Rattle.constriction.specs.declared.stream.model.NonContiguousCategoricalDecoderModel as decoder
-use Rattle.constriction.specs.declared.stream.model.LookupDecoderModel as lookup
+use Rattle.constriction_categorical.specs.ModelRows.{decoder_model_rows, lookup_model_rows}
+use Rattle.constriction_model.specs.Rows.{Row}
+use Rattle.constriction_categorical.specs.declared.NonContiguousCategoricalDecoderModel as decoder
+use Rattle.constriction_categorical.specs.declared.LookupDecoderModel as lookup
 use Rattle.constriction_client.specs.declared.decoder_form.SearchOrLookup.{SearchOrLookup}
 use Rattle.constriction_client.specs.declared.decoder_form.SearchOrLookup.TheVariants.{Search, Lookup}
 

@@ -7,8 +7,8 @@ use Rattle.constriction_words.specs.declared.coder_error.CoderError.TheVariants.
 use Rattle.constriction_backends.specs.Sink.{Writes}
 use Rattle.constriction_backends.specs.Source.{Reads}
 use Rattle.constriction_backends.specs.declared.ReadWords as source
-use Rattle.constriction.specs.Laws.{IsQuantileAt}
-use Rattle.constriction.specs.Rows.{Row, IsRowOf}
+use Rattle.constriction_model.specs.Laws.{IsQuantileAt}
+use Rattle.constriction_model.specs.Rows.{Row, IsRowOf}
 use Rattle.constriction_client.specs.declared.quantiles.QuantileFault.{QuantileFault}
 use Rattle.constriction_client.specs.declared.quantiles.QuantileFault.TheVariants.{ImpossibleSymbol, OffsetTooLarge}
 use Rattle.constriction_client.specs.declared.quantiles.ReadFault.{ReadFault}

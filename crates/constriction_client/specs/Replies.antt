@@ -2,8 +2,8 @@
 use Rattle.std.specs.Prelude.{◌≡◌, ℕ, ◌^◌, Bool, nat_lt, List, map, find, Option, None, if◌then◌else◌}
 use Rattle.std.specs.List.{AllZip}
 use Rattle.std.specs.Option.{option_map, option_map_or}
-use Rattle.constriction.specs.Rows.{Row, entry_of}
-use Rattle.constriction.specs.Model.{entry_in, ClonesAreSame}
+use Rattle.constriction_model.specs.Rows.{Row, entry_of}
+use Rattle.constriction_model.specs.Model.{entry_in, ClonesAreSame}
 use Rattle.constriction_client.specs.declared.queries.Query.{Query}
 use Rattle.constriction_client.specs.declared.queries.Query.TheVariants.{OfQuantile, OfSymbol}
 use Rattle.constriction_client.specs.declared.queries.Reply.{Reply}

@@ -1,8 +1,8 @@
 -- There and back: the words of items, read by a model with the same entries, give these items.
 use Rattle.std.specs.Prelude.{◌≡◌, ℕ, Bool, List, Option, IsTrue}
 use Rattle.std.specs.List.{AllZip}
-use Rattle.constriction.specs.Model.{ClonesAreEqual}
-use Rattle.constriction.specs.Rows.{Row, RowsTile, entry_of}
+use Rattle.constriction_model.specs.Model.{ClonesAreEqual}
+use Rattle.constriction_model.specs.Rows.{Row, RowsTile, entry_of}
 use Rattle.constriction_client.specs.declared.quantiles.QuantileFault.{QuantileFault}
 use Rattle.constriction_client.specs.Quantiles.{AreQuantiles, ArePairs, IsFaultOf, StopsAt}
 

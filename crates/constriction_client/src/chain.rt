@@ -3,20 +3,19 @@
 ghost use Rattle.std.specs.Prelude.{◌≡◌, ◌≤◌, Bool, List, fold, map, true, false, IfOk, IfErr};
 ghost use Rattle.std.specs.Iterator.{Drains, IsFinite};
 ghost use Rattle.std.specs.List.{IsDistinct};
-ghost use Rattle.constriction.specs.Acceptance.{AreAccepted};
-ghost use Rattle.constriction.specs.Model.{StandForRows, ClonesAreSame, ClonesAreEqual};
-ghost use Rattle.constriction.specs.ModelRows.{decoder_model_rows};
-ghost use Rattle.constriction.specs.Precision.{IsPrecision};
-ghost use Rattle.constriction.specs.Rows.{Row, rows_of, symbols_of};
+ghost use Rattle.constriction_model.specs.Acceptance.{AreAccepted};
+ghost use Rattle.constriction_model.specs.Model.{StandForRows, ClonesAreSame, ClonesAreEqual};
+ghost use Rattle.constriction_categorical.specs.ModelRows.{decoder_model_rows};
+ghost use Rattle.constriction_model.specs.Precision.{IsPrecision};
+ghost use Rattle.constriction_model.specs.Rows.{Row, rows_of, symbols_of};
 ghost use Rattle.constriction_client.specs.Chains.{is_lookup, is_lookup_after, StepLeaves, ChainLeaves};
 ghost use Rattle.constriction_client.specs.FormRows.{form_rows};
 
 use crate::decoder_form::{DecoderForm, Searching};
 use crate::laws::form_symbols_differ;
-use constriction::laws::table_gives_all_rows;
-use constriction::stream::model::{
-    EntropyModel, IterableEntropyModel, ModelError, Weight, to_generic_decoder_model_of_distinct,
-};
+use constriction_categorical::{IterableEntropyModel, to_generic_decoder_model_of_distinct};
+use constriction_conversions::laws::table_gives_all_rows;
+use constriction_model::{EntropyModel, ModelError, Weight};
 use constriction_words::{IndexWord, WholeNumber};
 use std::alloc::{AllocError, Global};
 

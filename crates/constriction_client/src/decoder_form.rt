@@ -1,9 +1,10 @@
 //! A decoder over any symbols in one of two forms.
 
-use constriction::stream::model::{
-    DecoderModel, EntropyModel, IterableEntropyModel, NonContiguousCategoricalDecoderModel,
-    NonContiguousLookupDecoderModel, NonContiguousSymbolTable, Weight,
+use constriction_categorical::{
+    IterableEntropyModel, NonContiguousCategoricalDecoderModel, NonContiguousLookupDecoderModel,
+    NonContiguousSymbolTable,
 };
+use constriction_model::{DecoderModel, EntropyModel, Weight};
 use constriction_words::IndexWord;
 use std::alloc::AllocError;
 
@@ -43,7 +44,7 @@ pub type DecoderForm<Symbol, Probability, const PRECISION: usize> = SearchOrLook
 
 impl<Symbol: Eq, Probability: IndexWord, const PRECISION: usize> EntropyModel<PRECISION>
     for DecoderForm<Symbol, Probability, PRECISION> {
-    ghost use Rattle.constriction.specs.lemmas.ModelRows.{decoder-precise, lookup-precise};
+    ghost use Rattle.constriction_categorical.specs.lemmas.ModelRows.{decoder-precise, lookup-precise};
     ghost use Rattle.constriction_client.specs.FormRows.{form_rows};
     ghost use Rattle.constriction_client.specs.declared.decoder_form.SearchOrLookup.TheVariants as form;
 
@@ -61,8 +62,8 @@ impl<Symbol: Eq, Probability: IndexWord, const PRECISION: usize> EntropyModel<PR
 
 impl<Symbol: Eq + Clone, Probability: IndexWord, const PRECISION: usize> DecoderModel<PRECISION>
     for DecoderForm<Symbol, Probability, PRECISION> {
-    ghost use Rattle.constriction.specs.Rows.{RowsTile};
-    ghost use Rattle.constriction.specs.lemmas.ModelRows.{decoder-tiles, lookup-tiles};
+    ghost use Rattle.constriction_model.specs.Rows.{RowsTile};
+    ghost use Rattle.constriction_categorical.specs.lemmas.ModelRows.{decoder-tiles, lookup-tiles};
     ghost use Rattle.constriction_client.specs.FormRows.{form_rows};
     ghost use Rattle.constriction_client.specs.declared.decoder_form.SearchOrLookup.TheVariants as form;
 
@@ -93,9 +94,9 @@ impl<
     const PRECISION: usize,
 > IterableEntropyModel<PRECISION> for &'m DecoderForm<Symbol, Probability, PRECISION> {
     ghost use Rattle.std.specs.Prelude.{◌≡◌};
-    ghost use Rattle.constriction.specs.Model.{ClonesAreEqual};
-    ghost use Rattle.constriction.specs.Rows.{RowsTile};
-    ghost use Rattle.constriction.specs.lemmas.ModelRows.{decoder-tiles, lookup-tiles};
+    ghost use Rattle.constriction_model.specs.Model.{ClonesAreEqual};
+    ghost use Rattle.constriction_model.specs.Rows.{RowsTile};
+    ghost use Rattle.constriction_categorical.specs.lemmas.ModelRows.{decoder-tiles, lookup-tiles};
     ghost use Rattle.constriction_client.specs.FormRows.{form_rows};
     ghost use Rattle.constriction_client.specs.declared.decoder_form.SearchOrLookup.TheVariants as form;
 

@@ -13,7 +13,7 @@ pub use self::round_trips::{
     there_and_back_in_a_cursor, there_and_back_of_two,
 };
 pub use self::runs::{run_cursor_and_reversal, runs_are_alike};
-pub use constriction::laws::{
+pub use constriction_model::laws::{
     each_quantile_in_range_has_a_row, the_row_found_is_the_row_of_the_quantile,
 };
 

@@ -2,13 +2,13 @@
 
 ghost use Rattle.std.specs.Prelude.{◌≡◌, ◌+◌, ◌^◌, ◌≤◌, ◌⊎◌, ℕ, IfOk, IfErr, OnOk};
 ghost use Rattle.std.specs.Prelude.{Option, Some, length, vec_capacity};
-ghost use Rattle.constriction.specs.Model.{RowMayBeRefused};
-ghost use Rattle.constriction.specs.Rows.{entry_of};
+ghost use Rattle.constriction_model.specs.Model.{RowMayBeRefused};
+ghost use Rattle.constriction_model.specs.Rows.{entry_of};
 ghost use Rattle.constriction_client.specs.Quantiles.{IsQuantileOf, IsFaultOf, WritesItems, StopsAtItem};
 ghost use Rattle.constriction_client.specs.Quantiles.{GivesPair, ReadsPairs};
 
-use constriction::stream::model::{DecoderModel, EncoderModel, is_quantile};
 use constriction_backends::{ReadWords, WriteWords};
+use constriction_model::{DecoderModel, EncoderModel, is_quantile};
 use constriction_words::{CoderError, Semantics, WholeNumber};
 use thiserror::Error;
 

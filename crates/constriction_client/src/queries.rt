@@ -1,12 +1,12 @@
 //! Questions to two models, and the replies to them.
 
 ghost use Rattle.std.specs.Prelude.{IfOk, map};
-ghost use Rattle.constriction.specs.Entries.{SameEntries};
-ghost use Rattle.constriction.specs.Rows.{entry_of};
+ghost use Rattle.constriction_model.specs.Entries.{SameEntries};
+ghost use Rattle.constriction_model.specs.Rows.{entry_of};
 ghost use Rattle.constriction_client.specs.Replies.{in_numbers, reply_to_query, replies_by_scan};
 ghost use Rattle.constriction_client.specs.Replies.{StandsForReply, AreRepliesOf};
 
-use constriction::stream::model::{DecoderModel, EncoderModel, Weight, is_quantile};
+use constriction_model::{DecoderModel, EncoderModel, Weight, is_quantile};
 use constriction_words::WholeNumber;
 use std::alloc::{AllocError, Global};
 use std::fmt::Debug;

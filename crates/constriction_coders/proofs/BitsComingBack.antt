@@ -2,11 +2,11 @@
 use Rattle.std.proofs.Common.{◌≡◌, ℕ, ◌%◌, ◌^◌, ◌≤◌, refl, sym, ◌∙◌, ap, subst, Bool, true, List, [], ◌∷◌, length, Option, None, arith}
 use Rattle.std.specs.Cmp.{IsEquivalence}
 use Rattle.std.specs.List.{AllZip}
-use Rattle.constriction.specs.Coding.{StandsForEqual, InTurn}
-use Rattle.constriction.specs.Model.{ClonesAreEqual}
-use Rattle.constriction.specs.lemmas.Coding.{entry-back}
-use Rattle.constriction.specs.lemmas.Pairs.{one-to-one}
-use Rattle.constriction.specs.Rows.{Row, RowsTile, IsRowOf, entry_of}
+use Rattle.constriction_model.specs.Coding.{StandsForEqual, InTurn}
+use Rattle.constriction_model.specs.Model.{ClonesAreEqual}
+use Rattle.constriction_model.specs.lemmas.Coding.{entry-back}
+use Rattle.constriction_model.specs.lemmas.Pairs.{one-to-one}
+use Rattle.constriction_model.specs.Rows.{Row, RowsTile, IsRowOf, entry_of}
 use Rattle.constriction_coders.specs.BitsBack.{FitTogether, IsChosenByState, IsEncodedByLatent, IsDecodedByLatent, BitsComeBack}
 use Rattle.constriction_coders.specs.Steps.{Content, MayBeHeld, IsEncoded, IsDecoded}
 use Rattle.constriction_coders.proofs.ComingBack.{encode-once, symbol-back}

@@ -5,7 +5,7 @@ use Rattle.std.proofs.lemmas.List.{append_assoc, length-append, same_from_push}
 use Rattle.constriction_backends.specs.Sink.{Writes}
 use Rattle.constriction_coders.specs.Compressed.{AreAllWordsOf, IsCompressed}
 use Rattle.constriction_coders.specs.Steps.{Content, content}
-use Rattle.constriction_coders.specs.StoredWeights.{StopsAtWord}
+use Rattle.constriction_backends.specs.Sink.{StopsAtWord}
 
 module _ {S E : Type 0} (gives : S → ℕ → Result (Unit {0}) E → S → Type 0) (state : ℕ) (from : S) (some : 0 < state) where
   -- a state below 2 ^ 32 that is not 0 is its only word

@@ -1,9 +1,9 @@
 -- What was encoded is decoded, symbol by symbol.
 use Rattle.std.proofs.Common.{◌≡◌, ℕ, ◌%◌, ◌^◌, ◌<◌, ◌≤◌, Bool, List, Option, sym, ◌∙◌, arith}
 use Rattle.std.proofs.lemmas.List.{length_push}
-use Rattle.constriction.specs.lemmas.Coding.{entry-back}
-use Rattle.constriction.specs.Coding.{StandsForEqual}
-use Rattle.constriction.specs.Rows.{Row, RowsTile, entry_of}
+use Rattle.constriction_model.specs.lemmas.Coding.{entry-back}
+use Rattle.constriction_model.specs.Coding.{StandsForEqual}
+use Rattle.constriction_model.specs.Rows.{Row, RowsTile, entry_of}
 use Rattle.constriction_coders.specs.lemmas.Stack.{refills-once}
 use Rattle.constriction_coders.specs.States.{taken}
 use Rattle.constriction_coders.specs.Steps.{Content, MayBeHeld, IsOnTop, IsEncoded, IsDecoded}

@@ -8,7 +8,7 @@ use Rattle.std.proofs.lemmas.List.{take_all, take-append-le, length_push}
 use Rattle.std.proofs.lemmas.List.Elements.{All-filter, All-weaker, filter_passes}
 use Rattle.std.proofs.lemmas.List.Sums.{sum_by-cons, sum_by_push, sum_by_more}
 use Rattle.std.specs.Prelude.{All, cond, filter, nat_lt, sum}
-use Rattle.constriction.specs.Acceptance.{IsAccepted}
+use Rattle.constriction_model.specs.Acceptance.{IsAccepted}
 use Rattle.constriction_coders.specs.Counts.{AreWeightsOf, occurring}
 
 -- a share fits 128 bits

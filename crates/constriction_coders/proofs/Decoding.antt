@@ -4,9 +4,9 @@ use Rattle.std.specs.Prelude.{All}
 use Rattle.std.proofs.lemmas.Bool.{cases_lt}
 use Rattle.std.proofs.lemmas.List.{get_or-drop, drop-drop}
 use Rattle.std.proofs.lemmas.Nat.{mul-le, le-div, div_below}
-use Rattle.constriction.specs.Coding.{StandsForEqual}
-use Rattle.constriction.specs.lemmas.Coding.{entry-back}
-use Rattle.constriction.specs.Rows.{Row, RowsTile, IsRowOf, entry_of}
+use Rattle.constriction_model.specs.Coding.{StandsForEqual}
+use Rattle.constriction_model.specs.lemmas.Coding.{entry-back}
+use Rattle.constriction_model.specs.Rows.{Row, RowsTile, IsRowOf, entry_of}
 use Rattle.constriction_backends.specs.Source.{ReadsUpcoming}
 use Rattle.constriction_coders.specs.Intervals.{Interval, interval, part_of, word_or_zero, HoldsPoint, IsWidenedByRead, IsStart, Held, held_of, IsRead}
 use Rattle.constriction_coders.specs.Numbers.{number_first}

@@ -1,6 +1,6 @@
 -- Symbols that were looked up before their entries were taken or put.
 use Rattle.std.proofs.Common.{◌≡◌, ℕ, ◌%◌, ◌^◌, ◌≤◌, List, subst}
-use Rattle.constriction.specs.Rows.{Row, IsRowOf}
+use Rattle.constriction_model.specs.Rows.{Row, IsRowOf}
 use Rattle.constriction_coders.specs.Steps.{Content, content, MayBeHeld, IsOnTop, IsDecoded}
 use Rattle.constriction_coders.proofs.ComingBack.{put-once}
 

@@ -3,7 +3,7 @@ use Rattle.std.proofs.Common.{◌≡◌, List, [], ◌∷◌, ◌++◌, Option, 
 use Rattle.std.proofs.lemmas.List.{map-append, reverse-append}
 use Rattle.std.specs.Iterator.{Yields}
 use Rattle.std.specs.Prelude.{MatchOption}
-use Rattle.constriction.specs.Coding.{InTurn}
+use Rattle.constriction_model.specs.Coding.{InTurn}
 use Rattle.constriction_backends.specs.Sink.{TakesItems}
 
 -- what was given so far, of which P holds

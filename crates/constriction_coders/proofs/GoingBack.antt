@@ -1,9 +1,9 @@
 -- What was decoded is encoded by the entry of its row.
 use Rattle.std.proofs.Common.{ℕ, ◌%◌, ◌^◌, Bool, List, [], ◌∷◌, Option, sym, ◌∙◌}
-use Rattle.constriction.specs.Coding.{InTurn}
-use Rattle.constriction.specs.Laws.{IsOneToOne}
-use Rattle.constriction.specs.Model.{ClonesAreEqual}
-use Rattle.constriction.specs.Rows.{Row}
+use Rattle.constriction_model.specs.Coding.{InTurn}
+use Rattle.constriction_model.specs.Laws.{IsOneToOne}
+use Rattle.constriction_model.specs.Model.{ClonesAreEqual}
+use Rattle.constriction_model.specs.Rows.{Row}
 use Rattle.constriction_coders.specs.Laws.{EncodedOnce, DecodedGoesBack}
 use Rattle.constriction_coders.specs.Steps.{Content, IsDecoded, IsEncoded}
 

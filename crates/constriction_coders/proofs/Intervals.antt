@@ -1,7 +1,7 @@
 -- A step of a range decoder, from its arithmetic.
 use Rattle.std.proofs.Common.{◌≡◌, ℕ, ◌+◌, ◌-◌, ◌*◌, ◌/◌, ◌^◌, ◌<◌, ◌≤◌, List, Option, Result, Ok, ap, ◌∙◌, subst, arith, inl, inr}
 use Rattle.std.proofs.lemmas.Nat.{mul-le}
-use Rattle.constriction.specs.Rows.{Row, IsRowOf}
+use Rattle.constriction_model.specs.Rows.{Row, IsRowOf}
 use Rattle.constriction_coders.specs.Intervals.{interval, word_or_zero, HoldsPoint, IsRead, held_of}
 
 module _ (offset unit quantile left weight : ℕ) (from : unit * quantile ≤ offset) (to : offset < unit * (quantile + 1))

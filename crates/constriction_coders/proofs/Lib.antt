@@ -25,4 +25,3 @@ pub mod Stacking
 pub mod States
 pub mod Steps
 pub mod Stopping
-pub mod StoredWeightsLemmas

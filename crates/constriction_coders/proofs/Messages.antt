@@ -2,7 +2,7 @@
 use Rattle.std.proofs.Common.{◌≡◌, ℕ, ◌<◌, ◌≤◌, List, Option, length, subst, arith}
 use Rattle.std.specs.List.{AllZip}
 use Rattle.std.proofs.lemmas.List.{take_all}
-use Rattle.constriction.specs.Coding.{InTurn}
+use Rattle.constriction_model.specs.Coding.{InTurn}
 use Rattle.constriction_coders.specs.Intervals.{Held, IsAboveAll}
 use Rattle.constriction_coders.specs.RangeLaws.{IsAt, FollowsEncoder, RangeMessageComesBack}
 use Rattle.constriction_coders.specs.Spans.{Span, IsNarrowed, IsReached, LeadTo}

@@ -1,9 +1,9 @@
 -- A run of symbols goes on, or stops at a symbol.
 use Rattle.std.proofs.Common.{◌≡◌, ℕ, ◌+◌, ◌<◌, suc, List, [], ◌∷◌, ◌++◌, Option, length, take, drop, get_or, ap, sym, ◌∙◌, subst}
 use Rattle.std.proofs.lemmas.List.{take_more}
-use Rattle.constriction.specs.Coding.{InTurn}
-use Rattle.constriction.specs.lemmas.Turns.{turn-last}
-use Rattle.constriction.specs.declared.CoderError.{CoderError}
+use Rattle.constriction_model.specs.Coding.{InTurn}
+use Rattle.constriction_model.specs.lemmas.Turns.{turn-last}
+use Rattle.constriction_words.specs.declared.CoderError.{CoderError}
 use Rattle.constriction_coders.specs.Spans.{Span, IsNarrowed, IsNarrowingFault, NarrowingStops}
 use Rattle.constriction_coders.proofs.Stopping.{split-at-symbol}
 

@@ -3,7 +3,7 @@ use Rattle.std.proofs.Common.{◌≡◌, ℕ, suc, zero, ◌+◌, ◌*◌, ◌^�
 use Rattle.std.specs.Prelude.{All}
 use Rattle.std.proofs.lemmas.Bool.{cases_eq}
 use Rattle.std.proofs.lemmas.List.{ext_get_or}
-use Rattle.constriction.specs.Coding.{InTurn}
+use Rattle.constriction_model.specs.Coding.{InTurn}
 use Rattle.constriction_coders.specs.Numbers.{number_first, number_of}
 use Rattle.constriction_coders.specs.RangeLaws.{MessageOnce}
 use Rattle.constriction_coders.specs.Spans.{Span, whole, part_in, IsWidened, IsNarrowed, IsPointOf, IsSealed}

@@ -1,8 +1,8 @@
 -- What was encoded by models, a model each, is decoded by models with the same entries.
 use Rattle.std.proofs.Common.{◌≡◌, ℕ, ◌+◌, ◌^◌, ◌<◌, Bool, List, [], ◌∷◌, ◌++◌, length, length-append, Option, Result, refl, sym, ◌∙◌, subst, arith}
 use Rattle.std.specs.Prelude.{All}
-use Rattle.constriction.specs.Coding.{InTurn}
-use Rattle.constriction.specs.Rows.{Row, RowsTile, entry_of}
+use Rattle.constriction_model.specs.Coding.{InTurn}
+use Rattle.constriction_model.specs.Rows.{Row, RowsTile, entry_of}
 use Rattle.constriction_backends.specs.Source.{ReadsUpcoming}
 use Rattle.constriction_coders.specs.Intervals.{Held, IsAboveAll, IsRead}
 use Rattle.constriction_coders.specs.Laws.{HaveSameEntries, StandForPairs, PairsComeBack}

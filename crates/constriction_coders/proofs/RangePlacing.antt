@@ -3,7 +3,7 @@
 use Rattle.std.proofs.Common.{◌≡◌, ℕ, ◌+◌, ◌-◌, ◌*◌, ◌^◌, ◌<◌, ◌≤◌, List, [], ◌∷◌, length, get_or, Option, Result, Ok, Err, refl, ap, sym, ◌∙◌, subst, arith, inl, inr}
 use Rattle.std.specs.Prelude.{All, IsOk}
 use Rattle.std.proofs.lemmas.List.{length-append}
-use Rattle.constriction.specs.Coding.{InTurn}
+use Rattle.constriction_model.specs.Coding.{InTurn}
 use Rattle.constriction_coders.specs.Intervals.{Held, interval}
 use Rattle.constriction_coders.specs.Numbers.{number_first}
 use Rattle.constriction_coders.specs.RangeLaws.{IsAt}

@@ -1,7 +1,7 @@
 -- A step by one entry function is a step by another one that agrees there: at a place, at a symbol with its model, or at a symbol alone.
 use Rattle.std.proofs.Common.{◌≡◌, ℕ, Option, sym, ◌∙◌}
-use Rattle.constriction.specs.declared.CoderError.{CoderError}
-use Rattle.constriction.specs.declared.CoderError.TheVariants.{Frontend, Backend}
+use Rattle.constriction_words.specs.declared.CoderError.{CoderError}
+use Rattle.constriction_words.specs.declared.CoderError.TheVariants.{Frontend, Backend}
 use Rattle.constriction_coders.specs.Spans.{Span, IsNarrowed, IsNarrowingFault}
 use Rattle.constriction_coders.specs.Steps.{Content, IsEncoded}
 

@@ -2,7 +2,7 @@
 use Rattle.std.proofs.Common.{◌≡◌, ℕ, ◌+◌, ◌/◌, ◌%◌, ◌^◌, ◌<◌, ◌≤◌, List, [], ◌∷◌, ◌++◌, Option, Some, ap, sym, ◌∙◌, subst, arith, inl, inr}
 use Rattle.std.proofs.lemmas.Bool.{cases_lt}
 use Rattle.std.proofs.lemmas.Nat.{mod_below, div-add-mod'}
-use Rattle.constriction.specs.Rows.{Row, IsRowOf}
+use Rattle.constriction_model.specs.Rows.{Row, IsRowOf}
 use Rattle.constriction_coders.specs.States.{put, taken}
 use Rattle.constriction_coders.specs.Steps.{Content, content, IsWhole, Refills, IsOnTop, IsEncoded, IsDecoded, NeedsWord}
 use Rattle.constriction_coders.proofs.States.{put_quantile, taken_put, taken_some}

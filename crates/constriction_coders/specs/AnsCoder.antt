@@ -1,18 +1,18 @@
 -- A stack coder as one value: what it holds, what its calls answer and leave, and what its backend was given.
 use Rattle.std.specs.Prelude.{◌≡◌, ℕ, ◌+◌, ◌*◌, ◌^◌, ◌<◌, ◌⊎◌, List, [], ◌∷◌, ◌++◌, length, reverse, Option, Some, None, Result, Ok, Err, MatchResult, IfOk, IfErr, OnErr}
 use Rattle.std.specs.declared.fmt.Debug as shown
-use Rattle.constriction.specs.Coding.{InTurn}
-use Rattle.constriction.specs.declared.CoderError.{CoderError}
-use Rattle.constriction.specs.declared.CoderError.TheVariants.{Frontend, Backend}
-use Rattle.constriction.specs.declared.Stack.{Stack}
-use Rattle.constriction.specs.declared.backends.ReadWords as source
-use Rattle.constriction.specs.declared.backends.StackSource as stack
-use Rattle.constriction.specs.Rows.{Row}
+use Rattle.constriction_model.specs.Coding.{InTurn}
+use Rattle.constriction_words.specs.declared.CoderError.{CoderError}
+use Rattle.constriction_words.specs.declared.CoderError.TheVariants.{Frontend, Backend}
+use Rattle.constriction_words.specs.declared.Stack.{Stack}
+use Rattle.constriction_backends.specs.declared.ReadWords as source
+use Rattle.constriction_backends.specs.declared.StackSource as stack
+use Rattle.constriction_model.specs.Rows.{Row}
 use Rattle.constriction_backends.specs.Sink.{Writes}
 use Rattle.constriction_backends.specs.Source.{GivesAnswers}
 use Rattle.constriction_coders.specs.Compressed.{AreAllWordsOf}
 use Rattle.constriction_coders.specs.Steps.{Content, content, IsEncoded, IsDecoded, IsDecodingFault, WritesAtMostOne, ReadsAtMostOne, backend_result}
-use Rattle.constriction_coders.specs.StoredWeights.{StopsAtWord}
+use Rattle.constriction_backends.specs.Sink.{StopsAtWord}
 use Rattle.constriction_coders.specs.declared.stack.ans_coder.AnsCoder.{AnsCoder}
 
 -- no state was read: the word on top is 0, which belongs to no state; or the first or the second read failed

@@ -1,9 +1,9 @@
 -- Bits-back coding: a symbol is put on a stack by way of a latent symbol, which is decoded from what the coder holds.
 use Rattle.std.specs.Prelude.{◌≡◌, ◌≢◌, ℕ, ◌%◌, ◌^◌, Bool, IsTrue, List, None, length}
 use Rattle.std.specs.List.{AllZip}
-use Rattle.constriction.specs.Coding.{StandsForEqual, InTurn}
-use Rattle.constriction.specs.Model.{ClonesAreEqual}
-use Rattle.constriction.specs.Rows.{Row, IsRowOf, entry_of}
+use Rattle.constriction_model.specs.Coding.{StandsForEqual, InTurn}
+use Rattle.constriction_model.specs.Model.{ClonesAreEqual}
+use Rattle.constriction_model.specs.Rows.{Row, IsRowOf, entry_of}
 use Rattle.constriction_coders.specs.Laws.{IsInvertible}
 use Rattle.constriction_coders.specs.Steps.{Content, MayBeHeld, IsEncoded, IsDecoded}
 

@@ -1,10 +1,10 @@
 -- What a range decoder holds, and what a symbol does to it.
 use Rattle.std.specs.Prelude.{◌≡◌, ℕ, ◌+◌, ◌-◌, ◌*◌, ◌/◌, ◌^◌, ◌<◌, ◌≤◌, ◌⊎◌, List, [], Contains, Option, Some, None, Result, Ok, Err, IfOk, IfErr, OnErr, length}
-use Rattle.constriction.specs.Coding.{InTurn}
-use Rattle.constriction.specs.declared.CoderError.{CoderError}
-use Rattle.constriction.specs.declared.CoderError.TheVariants.{Frontend, Backend}
-use Rattle.constriction.specs.Model.{RowMayBeRefused}
-use Rattle.constriction.specs.Rows.{Row}
+use Rattle.constriction_model.specs.Coding.{InTurn}
+use Rattle.constriction_words.specs.declared.CoderError.{CoderError}
+use Rattle.constriction_words.specs.declared.CoderError.TheVariants.{Frontend, Backend}
+use Rattle.constriction_model.specs.Model.{RowMayBeRefused}
+use Rattle.constriction_model.specs.Rows.{Row}
 use Rattle.constriction_coders.specs.declared.queue.range_decoder.DecoderFrontendError.{DecoderFrontendError}
 use Rattle.constriction_coders.specs.declared.queue.range_decoder.DecoderFrontendError.TheVariants.{InvalidData, OutOfMemory}
 

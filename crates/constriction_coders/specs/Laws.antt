@@ -1,10 +1,10 @@
 -- What was encoded is decoded, and what was decoded is encoded again.
 use Rattle.std.specs.Prelude.{◌≡◌, ◌≢◌, ℕ, List, [], ◌∷◌, ◌++◌, length, Bool, IsTrue, Option, None}
 use Rattle.std.specs.List.{AllZip, IsDistinct}
-use Rattle.constriction.specs.Coding.{StandsForEqual, InTurn}
-use Rattle.constriction.specs.Entries.{SameEntries}
-use Rattle.constriction.specs.Model.{ClonesAreEqual}
-use Rattle.constriction.specs.Rows.{Row, symbols_of}
+use Rattle.constriction_model.specs.Coding.{StandsForEqual, InTurn}
+use Rattle.constriction_model.specs.Entries.{SameEntries}
+use Rattle.constriction_model.specs.Model.{ClonesAreEqual}
+use Rattle.constriction_model.specs.Rows.{Row, symbols_of}
 use Rattle.constriction_coders.specs.Compressed.{IsCompressed}
 use Rattle.constriction_coders.specs.Places.{entry_by}
 use Rattle.constriction_coders.specs.StackMessages.{IsStackOf}

@@ -17,6 +17,5 @@ pub mod Spans
 pub mod StackMessages
 pub mod States
 pub mod Steps
-pub mod StoredWeights
 pub mod Walks
 pub mod lemmas

@@ -1,7 +1,7 @@
 -- Symbols that are coded one after the other, each in a state, which says its entry. A symbol leads to the next state. If models are known
 -- beforehand, the state is the list of those that are left; if they are learned, it is what was learned; of one model there is one state.
 use Rattle.std.specs.Prelude.{◌≡◌, ℕ, List, [], ◌∷◌, Bool, Option}
-use Rattle.constriction.specs.Rows.{Row, RowsTile, entry_of}
+use Rattle.constriction_model.specs.Rows.{Row, RowsTile, entry_of}
 use Rattle.constriction_coders.specs.Spans.{IsMessageOf}
 use Rattle.constriction_coders.specs.StackMessages.{IsStackOf}
 

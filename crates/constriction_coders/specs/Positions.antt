@@ -1,6 +1,6 @@
 -- Places of a coder: a state, and how many words are under it.
 use Rattle.std.specs.Prelude.{◌≡◌, ℕ, ◌^◌, ◌<◌, ◌≤◌, ◌⊎◌, List, ◌++◌, length, take, Option, Result, MatchResult, IsOk}
-use Rattle.constriction.specs.Coding.{InTurn}
+use Rattle.constriction_model.specs.Coding.{InTurn}
 use Rattle.constriction_coders.specs.Steps.{Content, content, MayBeHeld, IsEncoded}
 
 -- A seek to a place, if these words are there: then as many of them as the place says are under its state. The seek is refused if there are

@@ -1,8 +1,8 @@
 -- A range decoder as one value.
 use Rattle.std.specs.Prelude.{ℕ}
 use Rattle.std.specs.declared.fmt.Debug as shown
-use Rattle.constriction.specs.declared.Queue.{Queue}
-use Rattle.constriction.specs.declared.backends.ReadWords as source
+use Rattle.constriction_words.specs.declared.Queue.{Queue}
+use Rattle.constriction_backends.specs.declared.ReadWords as source
 use Rattle.constriction_coders.specs.declared.queue.range_decoder.RangeDecoder.{RangeDecoder}
 use Rattle.constriction_coders.specs.Intervals.{Held, held_of}
 

@@ -1,8 +1,8 @@
 -- What was encoded by a range encoder is decoded: a symbol, whatever the models of the others, and symbols in their places.
 use Rattle.std.specs.Prelude.{◌≡◌, ℕ, ◌+◌, ◌-◌, ◌<◌, ◌≤◌, ◌^◌, List, ◌++◌, All, Bool, Option, Result, length, take, drop}
 use Rattle.std.specs.List.{AllZip}
-use Rattle.constriction.specs.Coding.{StandsForEqual, InTurn}
-use Rattle.constriction.specs.Rows.{Row}
+use Rattle.constriction_model.specs.Coding.{StandsForEqual, InTurn}
+use Rattle.constriction_model.specs.Rows.{Row}
 use Rattle.constriction_coders.specs.Intervals.{Held, interval, IsRead, IsAboveAll, MayBeAtEnd}
 use Rattle.constriction_coders.specs.Laws.{HaveSameEntries, StandForPairs}
 use Rattle.constriction_coders.specs.Numbers.{number_first}

@@ -1,6 +1,6 @@
 -- Places of a range coder: how many words were written, and of the span the lower two words of its least number, and its size.
 use Rattle.std.specs.Prelude.{◌≡◌, ℕ, ◌+◌, ◌-◌, ◌%◌, ◌^◌, ◌<◌, ◌≤◌, ◌⊎◌, List, ◌++◌, All, length, drop, Option, Result, MatchResult, IsOk}
-use Rattle.constriction.specs.Coding.{InTurn}
+use Rattle.constriction_model.specs.Coding.{InTurn}
 use Rattle.constriction_coders.specs.Intervals.{Held, interval}
 use Rattle.constriction_coders.specs.Numbers.{number_first}
 use Rattle.constriction_coders.specs.RangeLaws.{IsAt}

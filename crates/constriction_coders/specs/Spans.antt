@@ -1,8 +1,8 @@
 -- What a range encoder holds, what a symbol does to it, and the words of a message.
 use Rattle.std.specs.Prelude.{◌≡◌, ◌≢◌, ℕ, ◌+◌, ◌-◌, ◌*◌, ◌^◌, ◌<◌, ◌≤◌, ◌⊎◌, List, [], ◌∷◌, ◌++◌, All, length, Option, Some, None}
-use Rattle.constriction.specs.Coding.{InTurn}
-use Rattle.constriction.specs.declared.CoderError.{CoderError}
-use Rattle.constriction.specs.declared.CoderError.TheVariants.{Frontend, Backend}
+use Rattle.constriction_model.specs.Coding.{InTurn}
+use Rattle.constriction_words.specs.declared.CoderError.{CoderError}
+use Rattle.constriction_words.specs.declared.CoderError.TheVariants.{Frontend, Backend}
 use Rattle.constriction_coders.specs.Intervals.{unit_of}
 use Rattle.constriction_coders.specs.Numbers.{number_first, number_of}
 

@@ -1,6 +1,6 @@
 -- The words of symbols on a stack: one program encodes them, and another decodes them from the words alone.
 use Rattle.std.specs.Prelude.{ℕ, List, [], Option}
-use Rattle.constriction.specs.Coding.{InTurn}
+use Rattle.constriction_model.specs.Coding.{InTurn}
 use Rattle.constriction_coders.specs.Compressed.{IsCompressed}
 use Rattle.constriction_coders.specs.Steps.{Content, content, IsEncoded}
 

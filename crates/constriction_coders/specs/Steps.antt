@@ -1,9 +1,9 @@
 -- What a coder holds, and what a step does to it.
 use Rattle.std.specs.Prelude.{◌≡◌, ◌≢◌, ℕ, ◌+◌, ◌*◌, ◌%◌, ◌^◌, ◌<◌, ◌≤◌, ◌⊎◌, List, [], ◌∷◌, ◌++◌, Option, Some, Result, Ok, Err}
-use Rattle.constriction.specs.declared.CoderError.{CoderError}
-use Rattle.constriction.specs.declared.CoderError.TheVariants.{Frontend, Backend}
-use Rattle.constriction.specs.Model.{RowMayBeRefused}
-use Rattle.constriction.specs.Rows.{Row, IsRowOf}
+use Rattle.constriction_words.specs.declared.CoderError.{CoderError}
+use Rattle.constriction_words.specs.declared.CoderError.TheVariants.{Frontend, Backend}
+use Rattle.constriction_model.specs.Model.{RowMayBeRefused}
+use Rattle.constriction_model.specs.Rows.{Row, IsRowOf}
 use Rattle.constriction_coders.specs.States.{taken}
 
 -- the state, and the words under it, the last one on top

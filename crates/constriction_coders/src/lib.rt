@@ -1,8 +1,8 @@
 //! Coders over any model, in the formats of the Rust crate's `DefaultAnsCoder`, `DefaultRangeEncoder` and `DefaultRangeDecoder`.
 //!
 //! [`stack::AnsCoder`] encodes and decodes over any stack of words. [`queue::RangeEncoder`] encodes into words in memory, and
-//! [`queue::RangeDecoder`] decodes over any source that is read from its beginning on. [`stored_weights`] reads and writes the weights of
-//! a model, [`counts`] makes weights of counts, [`bytes`] turns words into bytes and back, and [`laws`] says what comes back.
+//! [`queue::RangeDecoder`] decodes over any source that is read from its beginning on. [`counts`] makes weights of counts, [`bytes`] turns
+//! words into bytes and back, and [`laws`] says what comes back.
 #![tactic(auto)]
 
 pub mod bytes;
@@ -10,5 +10,4 @@ pub mod counts;
 pub mod laws;
 pub mod queue;
 pub mod stack;
-pub mod stored_weights;
 mod with_model;

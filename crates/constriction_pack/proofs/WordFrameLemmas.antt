@@ -5,7 +5,7 @@ use Rattle.std.proofs.lemmas.List.{length-append}
 use Rattle.constriction_coders.specs.Bytes.{bytes_of_words}
 use Rattle.constriction_coders.specs.lemmas.Bytes.{bytes_once, length-bytes_of_words}
 use Rattle.constriction_coders.specs.lemmas.Stack.{stack-words}
-use Rattle.constriction_coders.specs.StoredWeights.{weights_as_words}
+use Rattle.constriction_stored_weights.specs.StoredWeights.{weights_as_words}
 use Rattle.constriction_pack.specs.Contents.{IsCoded}
 use Rattle.constriction_pack.specs.WordFrames.{AreNext, IsWordBlock, IsWordFrame, frame_of_words, most_words}
 use Rattle.constriction_pack.proofs.BlockLemmas.{coded_once}

@@ -2,7 +2,7 @@
 use Rattle.std.specs.Prelude.{◌≡◌, ℕ, ◌^◌, ◌≤◌, List, [], ◌∷◌, ◌++◌, Option, None, Some, length}
 use Rattle.std.specs.Int.{to_le_bytes, w64}
 use Rattle.constriction_coders.specs.Bytes.{bytes_of_words}
-use Rattle.constriction_coders.specs.StoredWeights.{weights_as_words}
+use Rattle.constriction_stored_weights.specs.StoredWeights.{weights_as_words}
 use Rattle.constriction_pack.specs.Contents.{IsCoded}
 use Rattle.constriction_pack.specs.Frames.{hash_after}
 

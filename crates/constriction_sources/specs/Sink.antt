@@ -30,3 +30,13 @@ module _ {S W E : Type 0} (gives : S → W → Result (Unit {0}) E → S → Typ
   abbrev pub ExtendsBy : {I : Type 0} → (I → Option W → I → Type 0) → S → I → Result (Unit {0}) E → S → Type 0
   ExtendsBy next s items r t =
       TakesItems next items r (λ ws. Writes s ws t) (λ ws w e. (j : S) × Writes s ws j × gives j w (Err e) t)
+
+  -- words were written in order to s up to one that was refused with this error, which leads to t
+  pub record StopsAtWord (s : S) (words : List W) (error : E) (t : S) : Type 0 where
+    pub before : List W
+    pub word : W
+    pub after : List W
+    pub split : words ≡ before ++ word ∷ after
+    pub reached : S
+    pub written : Writes s before reached
+    pub refused : gives reached word (Err error) t

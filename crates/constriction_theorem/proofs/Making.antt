@@ -2,12 +2,12 @@
 use Rattle.std.proofs.Common.{◌≡◌, Bool, List, Result, Ok, Err}
 use Rattle.std.specs.Prelude.{IfOk, IfErr}
 use Rattle.std.specs.Cmp.{IsEquivalence}
-use Rattle.constriction.specs.Entries.{HoldsEntriesOf}
-use Rattle.constriction.specs.Model.{ClonesAreEqual}
-use Rattle.constriction.specs.Rows.{Row, entry_of}
-use Rattle.constriction.specs.declared.stream.model.ModelError.{ModelError}
-use Rattle.constriction.specs.declared.stream.model.ModelError.TheVariants.{InvalidTable, OutOfMemory}
-use Rattle.constriction.specs.lemmas.Stand.{entries-of}
+use Rattle.constriction_model.specs.Entries.{HoldsEntriesOf}
+use Rattle.constriction_model.specs.Model.{ClonesAreEqual}
+use Rattle.constriction_model.specs.Rows.{Row, entry_of}
+use Rattle.constriction_model.specs.declared.ModelError.{ModelError}
+use Rattle.constriction_model.specs.declared.ModelError.TheVariants.{InvalidTable, OutOfMemory}
+use Rattle.constriction_model.specs.lemmas.Stand.{entries-of}
 use Rattle.constriction_theorem.specs.Answers.{IsDecidedBy}
 
 -- what is known before a call is known of its value

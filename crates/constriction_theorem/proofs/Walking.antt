@@ -1,9 +1,9 @@
 -- A chain converts rows that were read from a symbol table. Their symbols stand for those of the model.
 use Rattle.std.proofs.Common.{◌≡◌, ℕ, Bool, false, List, [], ◌∷◌, Result, Ok, Err, refl, ap, subst, sym, ◌∙◌}
 use Rattle.std.specs.Prelude.{IfOk}
-use Rattle.constriction.specs.Model.{StandForRows}
-use Rattle.constriction.specs.Rows.{Row}
-use Rattle.constriction.specs.lemmas.Stand.{same-rows}
+use Rattle.constriction_model.specs.Model.{StandForRows}
+use Rattle.constriction_model.specs.Rows.{Row}
+use Rattle.constriction_model.specs.lemmas.Stand.{same-rows}
 use Rattle.constriction_client.specs.Chains.{ChainLeaves}
 use Rattle.constriction_client.specs.declared.chain.ChainStep.{ChainStep}
 use Rattle.constriction_client.specs.declared.queries.Reply.{Reply}

@@ -1,9 +1,9 @@
 -- What a form replies after steps, and what the models of one row list reply. Replies have numbers in the place of words.
 use Rattle.std.specs.Prelude.{◌≡◌, ℕ, Bool, false, nat_eq, List, fold, map, Result, Err, IfOk}
-use Rattle.constriction.specs.Model.{StandForRows, ClonesAreSame}
-use Rattle.constriction.specs.Rows.{Row, uniform_rows}
-use Rattle.constriction.specs.declared.stream.model.ModelError.{ModelError}
-use Rattle.constriction.specs.declared.stream.model.ModelError.TheVariants.{InvalidTable}
+use Rattle.constriction_model.specs.Model.{StandForRows, ClonesAreSame}
+use Rattle.constriction_model.specs.Rows.{Row, uniform_rows}
+use Rattle.constriction_model.specs.declared.ModelError.{ModelError}
+use Rattle.constriction_model.specs.declared.ModelError.TheVariants.{InvalidTable}
 use Rattle.constriction_client.specs.Chains.{is_lookup, is_lookup_after, ChainLeaves}
 use Rattle.constriction_client.specs.declared.chain.ChainStep.{ChainStep}
 use Rattle.constriction_client.specs.declared.decoder_form.SearchOrLookup.{SearchOrLookup}

@@ -1,15 +1,15 @@
 //! Forms of a decoder, and what they reply after any conversions.
 
 ghost use Rattle.std.specs.Prelude.{◌≡◌, ◌≤◌, map, IfOk, IfErr};
-ghost use Rattle.constriction.specs.Entries.{SameEntries};
-ghost use Rattle.constriction.specs.Model.{ClonesAreEqual};
+ghost use Rattle.constriction_model.specs.Entries.{SameEntries};
+ghost use Rattle.constriction_model.specs.Model.{ClonesAreEqual};
 ghost use Rattle.constriction_client.specs.Chains.{is_lookup};
 ghost use Rattle.constriction_client.specs.FormRows.{form_rows};
 ghost use Rattle.constriction_client.specs.Replies.{in_numbers, replies_by_scan};
 ghost use Rattle.constriction_theorem.specs.Answers.{AnswersAfter};
 
-use constriction::stream::model::{EncoderModel, ModelError};
 use constriction_client::{ChainStep, DecoderForm, Query, Reply, answer_queries, convert_chain};
+use constriction_model::{EncoderModel, ModelError};
 use constriction_words::IndexWord;
 use std::alloc::Global;
 

@@ -2,21 +2,22 @@
 
 ghost use Rattle.std.specs.Prelude.{◌≡◌, map, nat_eq, IfOk, IfErr};
 ghost use Rattle.std.specs.List.{IsDistinct};
-ghost use Rattle.constriction.specs.Acceptance.{completed, IsAccepted, AreAccepted};
-ghost use Rattle.constriction.specs.EncoderRows.{encoder_model_rows};
-ghost use Rattle.constriction.specs.Entries.{HoldsEntriesOf, SameEntries};
-ghost use Rattle.constriction.specs.Model.{StandForRows, ClonesAreEqual};
-ghost use Rattle.constriction.specs.ModelRows.{contiguous_model_rows, decoder_model_rows};
-ghost use Rattle.constriction.specs.Precision.{IsPrecision};
-ghost use Rattle.constriction.specs.Rows.{contiguous_rows, rows_of, symbols_of};
+ghost use Rattle.constriction_model.specs.Acceptance.{completed, IsAccepted, AreAccepted};
+ghost use Rattle.constriction_conversions.specs.EncoderRows.{encoder_model_rows};
+ghost use Rattle.constriction_model.specs.Entries.{HoldsEntriesOf, SameEntries};
+ghost use Rattle.constriction_model.specs.Model.{StandForRows, ClonesAreEqual};
+ghost use Rattle.constriction_categorical.specs.ModelRows.{contiguous_model_rows, decoder_model_rows};
+ghost use Rattle.constriction_model.specs.Precision.{IsPrecision};
+ghost use Rattle.constriction_model.specs.Rows.{contiguous_rows, rows_of, symbols_of};
 
-use constriction::laws::contiguous_symbols_differ;
-use constriction::stream::model::{
-    ContiguousCategoricalEntropyModel, IterableEntropyModel, ModelError,
-    NonContiguousCategoricalDecoderModel, NonContiguousCategoricalEncoderModel,
-    to_generic_decoder_model_of_distinct, to_generic_encoder_model,
+use constriction_categorical::{
+    ContiguousCategoricalEntropyModel, IterableEntropyModel, NonContiguousCategoricalDecoderModel,
+    to_generic_decoder_model_of_distinct,
 };
 use constriction_client::laws::DecoderAndEncoder;
+use constriction_conversions::{NonContiguousCategoricalEncoderModel, to_generic_encoder_model};
+use constriction_model::ModelError;
+use constriction_model::laws::contiguous_symbols_differ;
 use constriction_words::WholeNumber;
 use std::alloc::Global;
 use std::hash::Hash;

@@ -2,8 +2,8 @@
 
 ghost use Rattle.std.specs.Prelude.{◌≡◌, ◌≤◌, map, false, IfOk, IfErr};
 ghost use Rattle.std.specs.List.{IsDistinct};
-ghost use Rattle.constriction.specs.Model.{ClonesAreEqual};
-ghost use Rattle.constriction.specs.Rows.{symbols_of};
+ghost use Rattle.constriction_model.specs.Model.{ClonesAreEqual};
+ghost use Rattle.constriction_model.specs.Rows.{symbols_of};
 ghost use Rattle.constriction_client.specs.Chains.{is_lookup};
 ghost use Rattle.constriction_client.specs.FormRows.{form_rows};
 ghost use Rattle.constriction_client.specs.Replies.{in_numbers, replies_by_scan, AreRepliesOf};
@@ -11,8 +11,9 @@ ghost use Rattle.constriction_theorem.specs.Answers.{AnswersAfter};
 
 use crate::forms::{FormAndReplies, answer_by_form};
 use crate::made::{both_of, encoder_of};
-use constriction::stream::model::{DecoderModel, IterableEntropyModel, ModelError};
+use constriction_categorical::IterableEntropyModel;
 use constriction_client::{ChainStep, DecoderForm, Query, Reply, answer_queries};
+use constriction_model::{DecoderModel, ModelError};
 use constriction_words::{IndexWord, WholeNumber};
 use std::alloc::Global;
 use std::hash::Hash;

@@ -4,14 +4,14 @@
 //! words as a local, and nothing bounds the size of a generic word.
 
 ghost use Rattle.std.specs.Prelude.{◌≡◌, ◌^◌, ◌≤◌, IfOk, IfErr};
-ghost use Rattle.constriction.specs.Precision.{IsPrecision, IsLookupPrecision};
+ghost use Rattle.constriction_model.specs.Precision.{IsPrecision, IsLookupPrecision};
 ghost use Rattle.constriction_client.specs.FormRows.{form_rows};
 ghost use Rattle.constriction_theorem.specs.Answers.{AnswersOfRange};
 
 use crate::models::{AnswersOfModel, answer_by_symbol_table};
-use constriction::laws::contiguous_symbols_differ;
-use constriction::stream::model::{ModelError, UniformModel};
 use constriction_client::{ChainStep, DecoderForm, Query, answer_queries};
+use constriction_model::laws::contiguous_symbols_differ;
+use constriction_model::{ModelError, UniformModel};
 use constriction_words::WholeNumber;
 use std::alloc::Global;
 

@@ -1,17 +1,18 @@
 //! Weights, and what models without a lookup table reply, over any word.
 
 ghost use Rattle.std.specs.Prelude.{◌≡◌, map, nat_eq, IfOk, IfErr};
-ghost use Rattle.constriction.specs.Acceptance.{completed, IsAccepted};
-ghost use Rattle.constriction.specs.ModelRows.{contiguous_model_rows, decoder_model_rows};
-ghost use Rattle.constriction.specs.Rows.{contiguous_rows};
-ghost use Rattle.constriction.specs.Precision.{IsPrecision};
+ghost use Rattle.constriction_model.specs.Acceptance.{completed, IsAccepted};
+ghost use Rattle.constriction_categorical.specs.ModelRows.{contiguous_model_rows, decoder_model_rows};
+ghost use Rattle.constriction_model.specs.Rows.{contiguous_rows};
+ghost use Rattle.constriction_model.specs.Precision.{IsPrecision};
 ghost use Rattle.constriction_client.specs.Replies.{in_numbers, replies_by_scan};
 ghost use Rattle.constriction_theorem.specs.Answers.{BothReplyAsScan, IsDecidedBy};
 
 use crate::made::{Contiguous, Searching, both_of_contiguous, contiguous_from};
 use crate::weights::{RepliesByEncoder, asked_beside_both};
-use constriction::stream::model::{ModelError, NonContiguousCategoricalDecoderModel};
+use constriction_categorical::NonContiguousCategoricalDecoderModel;
 use constriction_client::Query;
+use constriction_model::ModelError;
 use constriction_words::WholeNumber;
 use std::alloc::Global;
 

@@ -1,10 +1,10 @@
 //! Symbols and weights, and what the models of them reply.
 
 ghost use Rattle.std.specs.Prelude.{◌≡◌, map, false};
-ghost use Rattle.constriction.specs.Acceptance.{completed, AreAccepted};
-ghost use Rattle.constriction.specs.Model.{ClonesAreEqual};
-ghost use Rattle.constriction.specs.Rows.{rows_of};
-ghost use Rattle.constriction.specs.Precision.{IsLookupPrecision};
+ghost use Rattle.constriction_model.specs.Acceptance.{completed, AreAccepted};
+ghost use Rattle.constriction_model.specs.Model.{ClonesAreEqual};
+ghost use Rattle.constriction_model.specs.Rows.{rows_of};
+ghost use Rattle.constriction_model.specs.Precision.{IsLookupPrecision};
 ghost use Rattle.constriction_client.specs.Chains.{is_lookup};
 ghost use Rattle.constriction_client.specs.FormRows.{form_rows};
 ghost use Rattle.constriction_client.specs.Replies.{in_numbers, replies_by_scan};
@@ -12,8 +12,8 @@ ghost use Rattle.constriction_theorem.specs.Answers.{AnswersAfter, IsDecidedBy};
 
 use crate::forms::{FormAndReplies, answer_by_form};
 use crate::made::{hashed_of, searching_from};
-use constriction::stream::model::ModelError;
 use constriction_client::{ChainStep, DecoderForm, Query};
+use constriction_model::ModelError;
 use constriction_words::IndexWord;
 use std::alloc::Global;
 use std::hash::Hash;

@@ -1,23 +1,22 @@
 //! Weights, and what the models of the symbols 0, 1, .. reply.
 
 ghost use Rattle.std.specs.Prelude.{◌≡◌, ◌≤◌, fold, map, nat_eq, false, IfOk, IfErr};
-ghost use Rattle.constriction.specs.Acceptance.{completed, IsAccepted};
-ghost use Rattle.constriction.specs.EncoderRows.{encoder_model_rows};
-ghost use Rattle.constriction.specs.Entries.{SameEntries};
-ghost use Rattle.constriction.specs.Model.{ClonesAreEqual, ClonesAreSame};
-ghost use Rattle.constriction.specs.ModelRows.{contiguous_model_rows, decoder_model_rows};
-ghost use Rattle.constriction.specs.Rows.{contiguous_rows};
-ghost use Rattle.constriction.specs.Precision.{IsLookupPrecision};
+ghost use Rattle.constriction_model.specs.Acceptance.{completed, IsAccepted};
+ghost use Rattle.constriction_conversions.specs.EncoderRows.{encoder_model_rows};
+ghost use Rattle.constriction_model.specs.Entries.{SameEntries};
+ghost use Rattle.constriction_model.specs.Model.{ClonesAreEqual, ClonesAreSame};
+ghost use Rattle.constriction_categorical.specs.ModelRows.{contiguous_model_rows, decoder_model_rows};
+ghost use Rattle.constriction_model.specs.Rows.{contiguous_rows};
+ghost use Rattle.constriction_model.specs.Precision.{IsLookupPrecision};
 ghost use Rattle.constriction_client.specs.Chains.{is_lookup, is_lookup_after};
 ghost use Rattle.constriction_client.specs.FormRows.{form_rows};
 ghost use Rattle.constriction_client.specs.Replies.{in_numbers, replies_by_scan};
 ghost use Rattle.constriction_theorem.specs.Answers.{AllReplyAsScan, IsDecidedBy, ReplyAsScan};
 
 use crate::made::{Contiguous, Searching, both_of_contiguous, contiguous_from};
-use constriction::stream::model::{
-    DecoderModel, EncoderModel, ModelError, NonContiguousCategoricalEncoderModel,
-};
 use constriction_client::{ChainStep, DecoderForm, Query, Reply, answer_queries, convert_chain};
+use constriction_conversions::NonContiguousCategoricalEncoderModel;
+use constriction_model::{DecoderModel, EncoderModel, ModelError};
 use constriction_words::{IndexWord, WholeNumber};
 use std::alloc::{AllocError, Global};
 

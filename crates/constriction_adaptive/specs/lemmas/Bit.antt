@@ -3,10 +3,10 @@ use Rattle.std.specs.Prelude.{◌≡◌, ℕ, ◌-◌, ◌<◌, ◌^◌, [], ◌
 use Rattle.std.proofs.Common.{suc, zero, refl, ap, ◌∙◌, arith}
 use Rattle.std.proofs.lemmas.List.Sums.{sum_by-cons}
 use Rattle.std.specs.Bool.{beq}
-use Rattle.constriction.specs.Coding.{StandsForEqual}
-use Rattle.constriction.specs.lemmas.Coding.{rows-within}
-use Rattle.constriction.specs.Model.{LiesWithin}
-use Rattle.constriction.specs.Rows.{RowsTile}
+use Rattle.constriction_model.specs.Coding.{StandsForEqual}
+use Rattle.constriction_model.specs.lemmas.Coding.{rows-within}
+use Rattle.constriction_model.specs.Model.{LiesWithin}
+use Rattle.constriction_model.specs.Rows.{RowsTile}
 use Rattle.constriction_adaptive.specs.Bit.{bit_rows}
 
 pub bit-tile : (weight : ℕ) → 0 < weight → weight < 65536 → RowsTile 32 16 (bit_rows weight)

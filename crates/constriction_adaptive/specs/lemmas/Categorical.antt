@@ -2,7 +2,7 @@
 use Rattle.std.specs.Prelude.{◌≡◌, ℕ, nat_eq}
 use Rattle.std.proofs.Common.{ap, ◌∙◌}
 use Rattle.std.proofs.lemmas.Bool.{eqb-true}
-use Rattle.constriction.specs.Coding.{StandsForEqual}
+use Rattle.constriction_model.specs.Coding.{StandsForEqual}
 
 -- so it leads to the same state
 pub after-same : {State : Type 0} (next : State → ℕ → State) (s : State) (symbol answer : ℕ)

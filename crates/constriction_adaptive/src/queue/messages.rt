@@ -2,7 +2,7 @@
 
 ghost use Rattle.std.specs.Prelude.{◌≡◌, ◌≢◌, ◌++◌, ◌^◌, ◌<◌, ℕ, List, length, fold, All, Err, IfOk, OnOk};
 ghost use Rattle.std.specs.List.{AllZip};
-ghost use Rattle.constriction.specs.Coding.{StandsForEqual};
+ghost use Rattle.constriction_model.specs.Coding.{StandsForEqual};
 ghost use Rattle.constriction_coders.specs.Places.{placed, entry_at, IsMessageFrom};
 ghost use Rattle.constriction_coders.specs.RangeLaws.{MessageOnce, RangeMessageComesBack};
 ghost use Rattle.constriction_adaptive.specs.Predicted.{entry_in, FirstAreLearned, IsReadIn, StopsPredicting};
@@ -10,10 +10,10 @@ ghost use Rattle.constriction_adaptive.specs.Predicted.{entry_in, FirstAreLearne
 use crate::error::EncoderFrontendError;
 use crate::predictor::Predictor;
 use crate::queue::runs::{decode_adaptively, encode_adaptively};
-use constriction::backends::{Cursor, ReadWords};
-use constriction::{CoderError, Queue};
+use constriction_backends::{Cursor, ReadWords};
 use constriction_coders::laws::MessageError;
 use constriction_coders::queue::{DecoderFrontendError, RangeDecoder, RangeEncoder};
+use constriction_words::{CoderError, Queue};
 use std::alloc::{AllocError, Global};
 use std::convert::Infallible;
 

@@ -1,7 +1,7 @@
 //! The next symbol.
 
 ghost use Rattle.std.specs.Prelude.{◌≡◌, OnOk, OnErr, IfOk, IfErr};
-ghost use Rattle.constriction.specs.Rows.{RowsTile};
+ghost use Rattle.constriction_model.specs.Rows.{RowsTile};
 ghost use Rattle.constriction_coders.specs.Places.{entry_at};
 ghost use Rattle.constriction_coders.specs.RangeDecoder.{held_by};
 ghost use Rattle.constriction_coders.specs.Spans.{IsNarrowed};
@@ -9,9 +9,9 @@ ghost use Rattle.constriction_adaptive.specs.Predicted.{entry_in, IsEncodingFaul
 
 use crate::error::EncoderFrontendError;
 use crate::predictor::Predictor;
-use constriction::backends::ReadWords;
-use constriction::{CoderError, Queue};
+use constriction_backends::ReadWords;
 use constriction_coders::queue::{DecoderFrontendError, RangeDecoder, RangeEncoder};
+use constriction_words::{CoderError, Queue};
 use std::alloc::AllocError;
 
 /// Encodes a symbol by the model that the predictor has for it, and learns it.

@@ -9,9 +9,9 @@ ghost use Rattle.constriction_adaptive.specs.Predicted.{entry_in, AllTile, AreCo
 use crate::error::EncoderFrontendError;
 use crate::predictor::Predictor;
 use crate::queue::next::{decode_next, encode_next};
-use constriction::backends::ReadWords;
-use constriction::{CoderError, Queue};
+use constriction_backends::ReadWords;
 use constriction_coders::queue::{DecoderFrontendError, RangeDecoder, RangeEncoder};
+use constriction_words::{CoderError, Queue};
 use std::alloc::{AllocError, Global};
 
 /// Encodes the symbols, the first one first, each by the model that the predictor has for it.

@@ -2,14 +2,14 @@
 
 ghost use Rattle.std.specs.Prelude.{◌≡◌, ◌+◌, ◌^◌, ◌<◌, ◌≤◌, IfOk, IfErr, IfSome, OnErr, Some, None, fold};
 ghost use Rattle.std.specs.List.{AllZip};
-ghost use Rattle.constriction.specs.Rows.{entry_of};
+ghost use Rattle.constriction_model.specs.Rows.{entry_of};
 ghost use Rattle.constriction_coders.specs.Places.{placed, entry_at};
 ghost use Rattle.constriction_adaptive.specs.Entries.{IsEntryAt};
 ghost use Rattle.constriction_adaptive.specs.Predicted.{entry_in, StopsPredicting};
 
 use crate::error::EncoderFrontendError;
 use crate::predictor::Predictor;
-use constriction::stream::model::EncoderModel;
+use constriction_model::EncoderModel;
 use std::alloc::Global;
 
 /// A left cumulative and a weight.

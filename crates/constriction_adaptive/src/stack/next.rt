@@ -6,9 +6,9 @@ ghost use Rattle.constriction_coders.specs.Steps.{backend_result, ReadsAtMostOne
 ghost use Rattle.constriction_adaptive.specs.Predicted.{IsTakenIn};
 
 use crate::predictor::Predictor;
-use constriction::CoderError;
-use constriction::backends::StackSource;
+use constriction_backends::StackSource;
 use constriction_coders::stack::AnsCoder;
+use constriction_words::CoderError;
 use std::alloc::AllocError;
 
 /// Decodes the symbol on top by the model that the predictor has for it, and learns it.

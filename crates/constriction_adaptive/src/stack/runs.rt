@@ -3,7 +3,7 @@
 ghost use Rattle.std.specs.Prelude.{◌≡◌, ◌⊎◌, Err, OnOk, IfOk, IfErr, length};
 ghost use Rattle.std.specs.Allocator.{alloc_error};
 ghost use Rattle.std.specs.List.{AllZip};
-ghost use Rattle.constriction.specs.Coding.{StandsForEqual};
+ghost use Rattle.constriction_model.specs.Coding.{StandsForEqual};
 ghost use Rattle.constriction_coders.specs.AnsCoder.{held_by};
 ghost use Rattle.constriction_coders.specs.Laws.{StackComesBack};
 ghost use Rattle.constriction_coders.specs.Places.{placed, entry_at};
@@ -14,10 +14,10 @@ use crate::error::EncoderFrontendError;
 use crate::predictor::Predictor;
 use crate::stack::entries::entries_of;
 use crate::stack::next::decode_next;
-use constriction::CoderError;
-use constriction::backends::{StackSource, WordStack};
+use constriction_backends::{StackSource, WordStack};
 use constriction_coders::laws::MessageError;
 use constriction_coders::stack::AnsCoder;
+use constriction_words::CoderError;
 use std::alloc::{AllocError, Global};
 
 /// What is encoded from a state on comes back to a decoder whose predictor begins in that state.

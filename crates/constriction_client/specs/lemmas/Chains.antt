@@ -3,10 +3,10 @@
 use Rattle.std.specs.Prelude.{◌≡◌, Bool, List, [], ◌∷◌, ◌++◌}
 use Rattle.std.specs.Cmp.{IsEquivalence}
 use Rattle.std.proofs.Common.{refl, ap, ◌∙◌, subst}
-use Rattle.constriction.specs.Entries.{SameEntries}
-use Rattle.constriction.specs.Model.{ClonesAreSame, ClonesAreEqual}
-use Rattle.constriction.specs.Rows.{Row, entry_of}
-use Rattle.constriction.specs.lemmas.Stand.{same-rows, entries-made}
+use Rattle.constriction_model.specs.Entries.{SameEntries}
+use Rattle.constriction_model.specs.Model.{ClonesAreSame, ClonesAreEqual}
+use Rattle.constriction_model.specs.Rows.{Row, entry_of}
+use Rattle.constriction_model.specs.lemmas.Stand.{same-rows, entries-made}
 use Rattle.constriction_client.specs.declared.chain.ChainStep.{ChainStep}
 use Rattle.constriction_client.specs.declared.chain.ChainStep.TheVariants.{ToSearch, ToLookup, IntoSearch, Rebuild}
 use Rattle.constriction_client.specs.Chains.{StepLeaves, ChainLeaves}

@@ -1,7 +1,7 @@
 -- Pairs that words give are the pairs of the words.
 use Rattle.std.specs.Prelude.{ℕ, List, [], ◌∷◌, Ok}
 use Rattle.std.specs.List.{AllZip}
-use Rattle.constriction.specs.Rows.{Row}
+use Rattle.constriction_model.specs.Rows.{Row}
 use Rattle.constriction_client.specs.Quantiles.{ArePairs, GivesPair}
 
 pub are-pairs : {Symbol Word : Type 0} (Stands : Symbol → Symbol → Type 0) (rows : List (Row Symbol)) (whole : Word → ℕ) (precision : ℕ)

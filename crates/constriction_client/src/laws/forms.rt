@@ -1,11 +1,13 @@
 //! Forms of a decoder.
 
 ghost use Rattle.std.specs.List.{IsDistinct};
-ghost use Rattle.constriction.specs.Rows.{symbols_of};
+ghost use Rattle.constriction_model.specs.Rows.{symbols_of};
 
 use crate::decoder_form::DecoderForm;
-use constriction::laws::{non_contiguous_lookup_symbols_differ, non_contiguous_symbols_differ};
-use constriction::stream::model::EntropyModel;
+use constriction_conversions::laws::{
+    non_contiguous_lookup_symbols_differ, non_contiguous_symbols_differ,
+};
+use constriction_model::EntropyModel;
 use constriction_words::IndexWord;
 
 /// No two symbols of a [`DecoderForm`] are equal, however it was made.

@@ -2,11 +2,11 @@
 
 ghost use Rattle.std.specs.Prelude.{◌≡◌, List, length, reverse, Err, IfOk, IfErr, OnOk, OnErr};
 ghost use Rattle.std.specs.List.{IsDistinct};
-ghost use Rattle.constriction.specs.EncoderRows.{encoder_model_rows};
-ghost use Rattle.constriction.specs.Entries.{SameEntries};
-ghost use Rattle.constriction.specs.Model.{StandForRows, ClonesAreEqual};
-ghost use Rattle.constriction.specs.ModelRows.{decoder_model_rows};
-ghost use Rattle.constriction.specs.Rows.{entry_of, symbols_of};
+ghost use Rattle.constriction_conversions.specs.EncoderRows.{encoder_model_rows};
+ghost use Rattle.constriction_model.specs.Entries.{SameEntries};
+ghost use Rattle.constriction_model.specs.Model.{StandForRows, ClonesAreEqual};
+ghost use Rattle.constriction_categorical.specs.ModelRows.{decoder_model_rows};
+ghost use Rattle.constriction_model.specs.Rows.{entry_of, symbols_of};
 ghost use Rattle.constriction_client.specs.private.Coming.{ComeNext, QuantilesCome, GoesBack};
 ghost use Rattle.constriction_client.specs.declared.quantiles.QuantileFault.{QuantileFault};
 ghost use Rattle.constriction_client.specs.Placing.{PlacesItems, EndsPlacing};
@@ -16,12 +16,11 @@ ghost use Rattle.constriction_client.specs.ThereAndBack.{StandForItems, HasFault
 
 use crate::decoder_form::Searching;
 use crate::quantiles::{QuantileFault, ReadFault, read_symbols, write_quantiles};
-use constriction::stream::model::{
-    DecoderModel, EncoderModel, IterableEntropyModel, ModelError,
-    NonContiguousCategoricalEncoderModel, to_generic_decoder_model, to_generic_encoder_model,
-};
 use constriction_backends::laws::extending_overwrites;
 use constriction_backends::{BoundedWriteError, Cursor, ReadWords, SafeBufMut};
+use constriction_categorical::{IterableEntropyModel, to_generic_decoder_model};
+use constriction_conversions::{NonContiguousCategoricalEncoderModel, to_generic_encoder_model};
+use constriction_model::{DecoderModel, EncoderModel, ModelError};
 use constriction_words::{CoderError, Pos, Queue, ReadWriteError, Seek, Semantics, Stack};
 use std::alloc::{AllocError, Global};
 use std::convert::Infallible;

@@ -9,12 +9,12 @@ use Rattle.std.proofs.lemmas.Nat.{pow_pos, mod_below}
 use Rattle.std.specs.Cmp.{IsEquivalence}
 use Rattle.std.specs.List.{AllZip}
 use Rattle.std.specs.Prelude.{IsTrue}
-use Rattle.constriction.specs.Acceptance.{IsAccepted}
-use Rattle.constriction.specs.Coding.{InTurn}
-use Rattle.constriction.specs.lemmas.Coding.{entry-back}
-use Rattle.constriction.specs.lemmas.Pairs.{has-row}
-use Rattle.constriction.specs.lemmas.Rows.{symbols-rows_from, weights-rows_from}
-use Rattle.constriction.specs.Rows.{Row, RowsTile, contiguous_rows, entry_of}
+use Rattle.constriction_model.specs.Acceptance.{IsAccepted}
+use Rattle.constriction_model.specs.Coding.{InTurn}
+use Rattle.constriction_model.specs.lemmas.Coding.{entry-back}
+use Rattle.constriction_model.specs.lemmas.Pairs.{has-row}
+use Rattle.constriction_model.specs.lemmas.Rows.{symbols-rows_from, weights-rows_from}
+use Rattle.constriction_model.specs.Rows.{Row, RowsTile, contiguous_rows, entry_of}
 use Rattle.constriction_coders.specs.Compressed.{AreAllWordsOf, IsCompressed}
 use Rattle.constriction_coders.specs.StackMessages.{IsStackOf}
 use Rattle.constriction_coders.specs.States.{taken}

@@ -8,16 +8,16 @@ ghost use Rattle.constriction_coders.specs.Places.{placed, entry_at, IsDecodedAt
 ghost use Rattle.constriction_coders.specs.RangeLaws.{MessageOnce, RangeMessageComesBack, RangePairsComeBack, RangeSymbolsComeBack, SealedWordsTell};
 ghost use Rattle.constriction_coders.specs.RangePositions.{RangePlaceComesBack};
 ghost use Rattle.constriction_coders.specs.Spans.{IsMessageOf};
-ghost use Rattle.constriction.specs.Coding.{StandsForEqual};
-ghost use Rattle.constriction.specs.Model.{ClonesAreEqual};
-ghost use Rattle.constriction.specs.Entries.{SameEntries};
-ghost use Rattle.constriction.specs.Rows.{Row, entry_of};
+ghost use Rattle.constriction_model.specs.Coding.{StandsForEqual};
+ghost use Rattle.constriction_model.specs.Model.{ClonesAreEqual};
+ghost use Rattle.constriction_model.specs.Entries.{SameEntries};
+ghost use Rattle.constriction_model.specs.Rows.{Row, entry_of};
 
 use crate::laws::MessageError;
 use crate::queue::{DecoderFrontendError, RangeDecoder, RangeEncoder};
-use constriction::backends::{Cursor, ReadWords};
-use constriction::stream::model::{DecoderModel, EncoderModel};
-use constriction::{CoderError, DefaultEncoderFrontendError, Queue};
+use constriction_backends::{Cursor, ReadWords};
+use constriction_model::{DecoderModel, EncoderModel};
+use constriction_words::{CoderError, DefaultEncoderFrontendError, Queue};
 use std::alloc::{AllocError, Global};
 use std::convert::Infallible;
 

@@ -10,16 +10,16 @@ ghost use Rattle.constriction_coders.specs.Laws.{SymbolsComeBack, PairsComeBack,
 ghost use Rattle.constriction_coders.specs.Places.{placed, entry_at, IsDecodedAt};
 ghost use Rattle.constriction_coders.specs.Positions.{PlaceComesBack};
 ghost use Rattle.constriction_coders.specs.Steps.{Content, content, MayBeHeld, IsDecoded};
-ghost use Rattle.constriction.specs.Coding.{InTurn, StandsForEqual};
-ghost use Rattle.constriction.specs.Model.{ClonesAreEqual};
-ghost use Rattle.constriction.specs.Entries.{SameEntries};
-ghost use Rattle.constriction.specs.Rows.{Row, entry_of};
+ghost use Rattle.constriction_model.specs.Coding.{InTurn, StandsForEqual};
+ghost use Rattle.constriction_model.specs.Model.{ClonesAreEqual};
+ghost use Rattle.constriction_model.specs.Entries.{SameEntries};
+ghost use Rattle.constriction_model.specs.Rows.{Row, entry_of};
 
 use crate::laws::MessageError;
 use crate::stack::AnsCoder;
-use constriction::backends::{ReadWriteError, StackSource, WordStack};
-use constriction::stream::model::{DecoderModel, EncoderModel};
-use constriction::{CoderError, DefaultEncoderFrontendError};
+use constriction_backends::{ReadWriteError, StackSource, WordStack};
+use constriction_model::{DecoderModel, EncoderModel};
+use constriction_words::{CoderError, DefaultEncoderFrontendError};
 use std::alloc::{AllocError, Global};
 
 /// What is encoded by one model and decoded by the other comes back, whoever encoded it.

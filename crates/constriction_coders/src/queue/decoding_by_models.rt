@@ -8,9 +8,9 @@ ghost use Rattle.constriction_coders.specs.RangeDecoder.{held_by};
 ghost use Rattle.constriction_coders.specs.Walks.{StepsByModel};
 
 use crate::queue::range_decoder::{DecoderFrontendError, RangeDecoder};
-use constriction::backends::ReadWords;
-use constriction::stream::model::DecoderModel;
-use constriction::{CoderError, Queue};
+use constriction_backends::ReadWords;
+use constriction_model::DecoderModel;
+use constriction_words::{CoderError, Queue};
 use std::iter::{Fuse, FusedIterator};
 
 /// Symbols of a decoder, each of which is decoded when it is asked for, by the next model of an iterator.

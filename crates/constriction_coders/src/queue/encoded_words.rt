@@ -5,8 +5,8 @@ ghost use Rattle.constriction_backends.specs.Cursor.{state_of};
 ghost use Rattle.constriction_coders.specs.EncodedWords.{TakesFirst};
 ghost use Rattle.constriction_coders.specs.lemmas.EncodedWords.{TakesFirst-upcoming};
 
-use constriction::Queue;
-use constriction::backends::{Cursor, ReadWords};
+use constriction_backends::{Cursor, ReadWords};
+use constriction_words::Queue;
 use std::convert::Infallible;
 
 /// The words of an encoder that are written, and then the two of the least number of its span. It is read while the encoder stays.

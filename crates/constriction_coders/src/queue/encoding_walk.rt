@@ -1,16 +1,16 @@
 //! Messages whose symbols an iterator gives.
 
 ghost use Rattle.std.specs.Iterator.{IsFiniteIterable};
-ghost use Rattle.constriction.specs.Coding.{InTurn};
-ghost use Rattle.constriction.specs.Rows.{entry_of};
+ghost use Rattle.constriction_model.specs.Coding.{InTurn};
+ghost use Rattle.constriction_model.specs.Rows.{entry_of};
 ghost use Rattle.constriction_backends.specs.Sink.{TakesItems};
 ghost use Rattle.constriction_coders.specs.Places.{entry_by};
 ghost use Rattle.constriction_coders.specs.Spans.{IsNarrowed, IsNarrowingFault};
 
 use crate::queue::range_encoder::RangeEncoder;
 use crate::with_model::WithModel;
-use constriction::stream::model::EncoderModel;
-use constriction::{CoderError, DefaultEncoderFrontendError};
+use constriction_model::EncoderModel;
+use constriction_words::{CoderError, DefaultEncoderFrontendError};
 use std::alloc::AllocError;
 
 impl RangeEncoder {

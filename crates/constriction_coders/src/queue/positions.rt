@@ -8,8 +8,8 @@ ghost use Rattle.constriction_coders.specs.Spans.{IsReached};
 
 use crate::queue::range_decoder::RangeDecoder;
 use crate::queue::range_encoder::RangeEncoder;
-use constriction::backends::{Cursor, ReadWords, SafeBuf};
-use constriction::{Pos, PosSeek, Queue, Seek};
+use constriction_backends::{Cursor, ReadWords, SafeBuf};
+use constriction_words::{Pos, PosSeek, Queue, Seek};
 
 /// The state of a range coder at a place: the lower two words of the least number of its span, and how many numbers the span has.
 #[derive(Clone, Copy, Debug, PartialEq, Eq)]

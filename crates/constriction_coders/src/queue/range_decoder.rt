@@ -5,12 +5,12 @@ ghost use Rattle.std.specs.Bool.{OnFalse};
 ghost use Rattle.constriction_coders.specs.Intervals.{word_or_zero, IsStart, IsRead, IsReadingFault, MayBeAtEnd, ReadingStops};
 ghost use Rattle.constriction_coders.specs.RangeLaws.{IsAt};
 ghost use Rattle.constriction_coders.specs.Spans.{whole};
-ghost use Rattle.constriction.specs.Coding.{InTurn};
+ghost use Rattle.constriction_model.specs.Coding.{InTurn};
 
 use crate::queue::interval::{part_of, quantile_at, unit_of};
-use constriction::backends::ReadWords;
-use constriction::stream::model::DecoderModel;
-use constriction::{CoderError, Queue};
+use constriction_backends::ReadWords;
+use constriction_model::DecoderModel;
+use constriction_words::{CoderError, Queue};
 use std::alloc::Global;
 use thiserror::Error;
 

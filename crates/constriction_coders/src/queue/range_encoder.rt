@@ -4,16 +4,16 @@ ghost use Rattle.std.specs.Prelude.{◌≡◌, ◌≢◌, ◌↔◌, ℕ, List, 
 ghost use Rattle.constriction_coders.specs.RangeDecoder.{held_by};
 ghost use Rattle.constriction_coders.specs.RangeLaws.{IsAt};
 ghost use Rattle.constriction_coders.specs.Spans.{whole, IsNarrowed, IsNarrowingFault, NarrowingStops, IsSealed, LeadTo};
-ghost use Rattle.constriction.specs.Coding.{InTurn};
-ghost use Rattle.constriction.specs.Rows.{entry_of};
+ghost use Rattle.constriction_model.specs.Coding.{InTurn};
+ghost use Rattle.constriction_model.specs.Rows.{entry_of};
 
 use crate::queue::carrying::{ends_in_zero, raised, sealed, widened};
 use crate::queue::encoded_words::EncodedWords;
 use crate::queue::interval::unit_of;
 use crate::queue::range_decoder::RangeDecoder;
-use constriction::backends::ReadWords;
-use constriction::stream::model::EncoderModel;
-use constriction::{CoderError, DefaultEncoderFrontendError, Queue};
+use constriction_backends::ReadWords;
+use constriction_model::EncoderModel;
+use constriction_words::{CoderError, DefaultEncoderFrontendError, Queue};
 use std::alloc::{AllocError, Global};
 use std::marker::Model;
 

@@ -3,13 +3,13 @@
 ghost use Rattle.std.specs.Prelude.{◌≡◌, ◌≢◌, ◌+◌, ◌-◌, ◌*◌, ◌%◌, ◌^◌, ◌<◌, ◌≤◌, ℕ, [], None, Err, IfErr, IfOk, OnOk, OnErr, vec_capacity};
 ghost use Rattle.constriction_coders.specs.States.{put};
 ghost use Rattle.constriction_coders.specs.Steps.{backend_result, content, IsWhole, Refills, IsOnTop, NeedsWord, IsEncoded, IsDecoded, IsDecodingFault, ReadsAtMostOne, WritesAtMostOne};
-ghost use Rattle.constriction.specs.Precision.{IsPrecision};
-ghost use Rattle.constriction.specs.Rows.{entry_of};
+ghost use Rattle.constriction_model.specs.Precision.{IsPrecision};
+ghost use Rattle.constriction_model.specs.Rows.{entry_of};
 
 use crate::stack::state::{is_full_for, quantile_of, with_entry, without_entry};
-use constriction::backends::{StackSource, WordStack};
-use constriction::stream::model::{DecoderModel, EncoderModel};
-use constriction::{CoderError, DefaultEncoderFrontendError};
+use constriction_backends::{StackSource, WordStack};
+use constriction_model::{DecoderModel, EncoderModel};
+use constriction_words::{CoderError, DefaultEncoderFrontendError};
 use std::alloc::{AllocError, Global};
 
 /// A coder with a state of 64 bits over a stack of words of 32 bits, in the format of the Rust crate's `DefaultAnsCoder`.

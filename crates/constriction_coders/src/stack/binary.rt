@@ -6,8 +6,8 @@ ghost use Rattle.constriction_coders.specs.Compressed.{IsBinary, HasValidBits};
 ghost use Rattle.constriction_coders.specs.Steps.{WritesAtMostOne};
 
 use crate::stack::ans_coder::AnsCoder;
-use constriction::Stack;
-use constriction::backends::{BoundedReadWords, StackSource, WordStack};
+use constriction_backends::{BoundedReadWords, StackSource, WordStack};
+use constriction_words::Stack;
 
 impl<Backend: StackSource<u32> + Drop> AnsCoder<Backend> {
     /// The coder that holds the bits of these words, whatever they are, also if they end in 0.

@@ -8,17 +8,17 @@
 
 ghost use Rattle.std.specs.Prelude.{◌≡◌, ◌+◌, ◌%◌, ◌^◌, ◌<◌, ◌≤◌, ◌⊎◌, None, Some, Err, IfOk, IfSome, OnOk, OnErr, length, vec_capacity};
 ghost use Rattle.std.specs.Fn.{FnReturnsAt};
-ghost use Rattle.constriction.specs.Rows.{Row, IsRowOf, entry_of};
+ghost use Rattle.constriction_model.specs.Rows.{Row, IsRowOf, entry_of};
 ghost use Rattle.constriction_coders.specs.BitsBack.{IsCodedByLatent, IsEncodedByChosen, IsDecodedByChosen, IsChosenByState};
 ghost use Rattle.constriction_coders.specs.AnsCoder.{held_by};
 ghost use Rattle.constriction_coders.specs.Steps.{Content, MayBeHeld, IsOnTop, IsEncoded, IsDecoded};
-ghost use Rattle.constriction.specs.Precision.{IsPrecision};
+ghost use Rattle.constriction_model.specs.Precision.{IsPrecision};
 
 use crate::laws::may_be_held;
 use crate::stack::ans_coder::AnsCoder;
 use crate::stack::state::quantile_of;
-use constriction::stream::model::{DecoderModel, EncoderModel};
-use constriction::{CoderError, DefaultEncoderFrontendError};
+use constriction_model::{DecoderModel, EncoderModel};
+use constriction_words::{CoderError, DefaultEncoderFrontendError};
 use std::alloc::AllocError;
 
 /// A left cumulative and a weight.

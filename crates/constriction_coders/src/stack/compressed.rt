@@ -6,8 +6,8 @@ ghost use Rattle.constriction_coders.specs.Compressed.{IsCompressed};
 ghost use Rattle.constriction_coders.specs.Steps.{content};
 
 use crate::stack::ans_coder::AnsCoder;
-use constriction::CoderError;
-use constriction::backends::{StackSource, WordStack};
+use constriction_backends::{StackSource, WordStack};
+use constriction_words::CoderError;
 use std::alloc::{AllocError, Global};
 
 /// How many words a state has.

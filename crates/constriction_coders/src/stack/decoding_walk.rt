@@ -7,9 +7,9 @@ ghost use Rattle.constriction_coders.specs.AnsCoder.{Decodes};
 ghost use Rattle.constriction_coders.specs.Walks.{StepsOn};
 
 use crate::stack::ans_coder::AnsCoder;
-use constriction::CoderError;
-use constriction::backends::StackSource;
-use constriction::stream::model::DecoderModel;
+use constriction_backends::StackSource;
+use constriction_model::DecoderModel;
+use constriction_words::CoderError;
 use std::alloc::AllocError;
 use std::iter::FusedIterator;
 

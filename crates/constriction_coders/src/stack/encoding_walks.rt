@@ -2,8 +2,8 @@
 
 ghost use Rattle.std.specs.Prelude.{reverse};
 ghost use Rattle.std.specs.Iterator.{IsFiniteIterable};
-ghost use Rattle.constriction.specs.Coding.{InTurn};
-ghost use Rattle.constriction.specs.Rows.{entry_of};
+ghost use Rattle.constriction_model.specs.Coding.{InTurn};
+ghost use Rattle.constriction_model.specs.Rows.{entry_of};
 ghost use Rattle.constriction_backends.specs.Sink.{TakesItems};
 ghost use Rattle.constriction_coders.specs.AnsCoder.{held_by, StopsAt};
 ghost use Rattle.constriction_coders.specs.Places.{entry_by};
@@ -11,9 +11,9 @@ ghost use Rattle.constriction_coders.specs.Steps.{IsEncoded};
 
 use crate::stack::ans_coder::AnsCoder;
 use crate::with_model::WithModel;
-use constriction::backends::WordStack;
-use constriction::stream::model::EncoderModel;
-use constriction::{CoderError, DefaultEncoderFrontendError};
+use constriction_backends::WordStack;
+use constriction_model::EncoderModel;
+use constriction_words::{CoderError, DefaultEncoderFrontendError};
 
 impl<Backend: WordStack<u32>> AnsCoder<Backend> {
     /// Encodes symbols, each by a model of its own, from the front of an iterator on, until it ends or a symbol is not encoded.

@@ -6,8 +6,8 @@ ghost use Rattle.constriction_coders.specs.Positions.{SeeksPlace};
 ghost use Rattle.constriction_coders.specs.AnsCoder.{held_by};
 
 use crate::stack::ans_coder::AnsCoder;
-use constriction::backends::{Cursor, SafeBuf, StackSource};
-use constriction::{Pos, PosSeek, Seek};
+use constriction_backends::{Cursor, SafeBuf, StackSource};
+use constriction_words::{Pos, PosSeek, Seek};
 
 /// Whether a coder may be at this place: there are words under the state only if it is at least `2^32`.
 #[inline]

@@ -3,13 +3,13 @@
 ghost use Rattle.std.specs.Prelude.{◌≡◌, length, reverse, IfOk, IfErr, OnOk};
 ghost use Rattle.constriction_coders.specs.AnsCoder.{held_by, DecodingStops, EncodingStops};
 ghost use Rattle.constriction_coders.specs.Steps.{IsEncoded, IsDecoded};
-ghost use Rattle.constriction.specs.Coding.{InTurn};
-ghost use Rattle.constriction.specs.Rows.{entry_of};
+ghost use Rattle.constriction_model.specs.Coding.{InTurn};
+ghost use Rattle.constriction_model.specs.Rows.{entry_of};
 
 use crate::stack::ans_coder::AnsCoder;
-use constriction::backends::{StackSource, WordStack};
-use constriction::stream::model::{DecoderModel, EncoderModel};
-use constriction::{CoderError, DefaultEncoderFrontendError};
+use constriction_backends::{StackSource, WordStack};
+use constriction_model::{DecoderModel, EncoderModel};
+use constriction_words::{CoderError, DefaultEncoderFrontendError};
 use std::alloc::{AllocError, Global};
 
 impl<Backend: WordStack<u32>> AnsCoder<Backend> {

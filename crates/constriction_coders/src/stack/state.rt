@@ -2,7 +2,7 @@
 
 ghost use Rattle.std.specs.Prelude.{◌≡◌, ◌↔◌, ◌+◌, ◌-◌, ◌*◌, ◌%◌, ◌^◌, ◌<◌, ◌≤◌, IsTrue};
 ghost use Rattle.constriction_coders.specs.States.{put, taken};
-ghost use Rattle.constriction.specs.Precision.{IsPrecision};
+ghost use Rattle.constriction_model.specs.Precision.{IsPrecision};
 
 /// The quantile of the state, which says which symbol is on top.
 #[inline]

@@ -1,7 +1,7 @@
 use Rattle.std.proofs.Common.{◌≡◌, List, Bool, ◌∷◌, [], ◌++◌, ◌<◌, length, rules, arith, ap, sym, ◌∙◌, subst, length-append}
 use Rattle.std.proofs.lemmas.List.Elements.{All-push}
 use Rattle.std.specs.Bool.{beq}
-use Rattle.constriction.specs.declared.CoderError.TheVariants.{Frontend}
+use Rattle.constriction_words.specs.declared.CoderError.TheVariants.{Frontend}
 use Rattle.constriction_coders.specs.Places.{placed}
 use Rattle.constriction_coders.specs.RangeDecoder.{held_by}
 use Rattle.constriction_coders.specs.declared.queue.range_decoder.DecoderFrontendError.TheVariants.{InvalidData}

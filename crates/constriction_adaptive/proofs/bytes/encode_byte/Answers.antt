@@ -1,5 +1,5 @@
 use Rattle.std.proofs.Common.{◌≡◌, List, Bool, subst}
-use Rattle.constriction.specs.declared.CoderError.TheVariants.{Frontend}
+use Rattle.constriction_words.specs.declared.CoderError.TheVariants.{Frontend}
 use Rattle.constriction_adaptive.specs.declared.error.EncoderFrontendError.TheVariants.{ImpossibleSymbol}
 use Rattle.constriction_adaptive.specs.Predicted.{AllTile}
 use Rattle.constriction_adaptive.proofs.bytes.encode_byte.Goals as goal

@@ -1,5 +1,5 @@
 use Rattle.std.proofs.Common.{◌≡◌, ◌≤◌, refl, ap, sym, inl, inr, arith, length, vec_capacity}
-use Rattle.constriction.specs.Model.{RowMayBeRefused}
+use Rattle.constriction_model.specs.Model.{RowMayBeRefused}
 use Rattle.constriction_client.proofs.WordReading.{has-room, stays-full, also-full, read-none, read-more, reading-ends}
 use Rattle.constriction_client.proofs.quantiles.read_symbols.Goals as goal
 

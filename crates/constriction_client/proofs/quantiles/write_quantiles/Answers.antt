@@ -1,4 +1,4 @@
-use Rattle.constriction.specs.Rows.{entry_of}
+use Rattle.constriction_model.specs.Rows.{entry_of}
 use Rattle.constriction_client.proofs.ItemWriting.{wrote-more, wrote-all, stopped-at-fault, stopped-at-refusal}
 use Rattle.constriction_client.proofs.quantiles.write_quantiles.Goals as goal
 

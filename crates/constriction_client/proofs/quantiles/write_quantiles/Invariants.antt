@@ -1,5 +1,5 @@
 use Rattle.std.proofs.Common.{take}
-use Rattle.constriction.specs.Rows.{entry_of}
+use Rattle.constriction_model.specs.Rows.{entry_of}
 use Rattle.constriction_client.specs.Quantiles.{WritesItems}
 use Rattle.constriction_client.proofs.quantiles.write_quantiles.Given as goal
 

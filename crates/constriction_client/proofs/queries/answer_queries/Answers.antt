@@ -1,5 +1,5 @@
 use Rattle.std.proofs.Common.{map, refl, subst}
-use Rattle.constriction.specs.Rows.{entry_of}
+use Rattle.constriction_model.specs.Rows.{entry_of}
 use Rattle.constriction_client.specs.Replies.{in_numbers, reply_to_query, StandsForReply, AreRepliesOf}
 use Rattle.constriction_client.proofs.Replying.{all-known, one-more-known, replies_of_two, replies-of, scan-of-rows}
 use Rattle.constriction_client.proofs.queries.answer_queries.Goals as goal

@@ -1,5 +1,5 @@
 use Rattle.std.proofs.Common.{map, take}
-use Rattle.constriction.specs.Rows.{entry_of}
+use Rattle.constriction_model.specs.Rows.{entry_of}
 use Rattle.constriction_client.specs.Replies.{in_numbers}
 use Rattle.constriction_client.proofs.Replying.{StandForReplies, replies_of_two}
 use Rattle.constriction_client.proofs.queries.answer_queries.Given as goal

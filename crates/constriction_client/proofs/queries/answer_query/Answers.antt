@@ -1,4 +1,4 @@
-use Rattle.constriction.specs.Rows.{entry_of}
+use Rattle.constriction_model.specs.Rows.{entry_of}
 use Rattle.constriction_client.proofs.Replying.{known-reply}
 use Rattle.constriction_client.proofs.queries.answer_query.Goals as goal
 

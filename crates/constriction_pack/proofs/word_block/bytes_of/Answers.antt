@@ -1,6 +1,6 @@
 use Rattle.std.proofs.Common.{◌≡◌, ◌∷◌, ◌++◌, get_or, arith}
 use Rattle.std.proofs.lemmas.Grind.{common_steps}
-use Rattle.constriction_coders.specs.StoredWeights.{weights_as_words}
+use Rattle.constriction_stored_weights.specs.StoredWeights.{weights_as_words}
 use Rattle.constriction_pack.proofs.WordFrameLemmas.{block_from}
 use Rattle.constriction_pack.proofs.word_block.bytes_of.Goals as goal
 

@@ -1,5 +1,5 @@
 use Rattle.std.proofs.Common.{sym, ◌∙◌}
-use Rattle.constriction.specs.lemmas.Stand.{entries-made, entries-of}
+use Rattle.constriction_model.specs.lemmas.Stand.{entries-made, entries-of}
 use Rattle.constriction_theorem.proofs.made.both_of.Goals as goal
 
 pub returns-clause-alike : goal.returns-clause-alike

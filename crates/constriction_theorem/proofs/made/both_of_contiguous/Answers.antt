@@ -1,7 +1,7 @@
 use Rattle.std.proofs.Common.{ap, ◌∙◌}
 use Rattle.std.specs.Prelude.{nat_eq}
-use Rattle.constriction.specs.Rows.{entry_of}
-use Rattle.constriction.specs.lemmas.Stand.{same-rows}
+use Rattle.constriction_model.specs.Rows.{entry_of}
+use Rattle.constriction_model.specs.lemmas.Stand.{same-rows}
 use Rattle.constriction_theorem.proofs.made.both_of_contiguous.Goals as goal
 
 pub returns-clause-rows : goal.returns-clause-rows

@@ -1,4 +1,4 @@
-use Rattle.constriction.specs.lemmas.Stand.{entries-of}
+use Rattle.constriction_model.specs.lemmas.Stand.{entries-of}
 use Rattle.constriction_theorem.proofs.models.answer_beside_encoder.Goals as goal
 
 pub returns-clause-ok : goal.returns-clause-ok

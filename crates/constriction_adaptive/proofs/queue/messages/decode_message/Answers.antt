@@ -1,6 +1,6 @@
 use Rattle.std.proofs.Common.{◌≡◌, ◌++◌, ◌∙◌, inl, inr}
-use Rattle.constriction.specs.Coding.{StandsForEqual}
-use Rattle.constriction.specs.declared.CoderError.TheVariants.{Frontend}
+use Rattle.constriction_model.specs.Coding.{StandsForEqual}
+use Rattle.constriction_words.specs.declared.CoderError.TheVariants.{Frontend}
 use Rattle.constriction_coders.specs.Places.{placed}
 use Rattle.constriction_coders.specs.RangeDecoder.{held_by}
 use Rattle.constriction_coders.specs.Spans.{whole}

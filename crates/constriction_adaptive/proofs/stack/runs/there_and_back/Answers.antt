@@ -1,5 +1,5 @@
 use Rattle.std.proofs.Common.{ap, fold, sym, ◌∙◌, subst}
-use Rattle.constriction.specs.Coding.{InTurn, StandsForEqual}
+use Rattle.constriction_model.specs.Coding.{InTurn, StandsForEqual}
 use Rattle.constriction_coders.specs.AnsCoder.{held_by}
 use Rattle.constriction_coders.specs.Places.{placed}
 use Rattle.constriction_adaptive.specs.Predicted.{IsTakenIn}

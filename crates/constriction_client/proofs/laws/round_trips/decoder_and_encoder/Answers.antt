@@ -1,6 +1,6 @@
 use Rattle.std.proofs.Common.{◌≡◌, Err, rules, sym, ◌∙◌}
 use Rattle.constriction_model.specs.declared.error.ModelError.TheVariants.{InvalidTable}
-use Rattle.constriction.specs.lemmas.Stand.{entries-made, entries-of, repeats-made}
+use Rattle.constriction_model.specs.lemmas.Stand.{entries-made, entries-of, repeats-made}
 use Rattle.constriction_client.proofs.laws.round_trips.decoder_and_encoder.Goals as goal
 
 pub returns-clause-alike : goal.returns-clause-alike

@@ -1,6 +1,6 @@
 use Rattle.std.proofs.Common.{◌∙◌}
 use Rattle.std.specs.declared.convert.Infallible.{Infallible}
-use Rattle.constriction.specs.Rows.{entry_of}
+use Rattle.constriction_model.specs.Rows.{entry_of}
 use Rattle.constriction_client.proofs.Places.{come-next, placed-again, reads-on}
 use Rattle.constriction_client.proofs.Returning.{as-many, quantiles-below, stand-back}
 use Rattle.constriction_client.proofs.laws.round_trips.there_and_back_in_a_cursor.Goals as goal

@@ -1,6 +1,6 @@
 use Rattle.std.proofs.Common.{◌≡◌, [], reverse, ap, sym, ◌∙◌, append-nil}
 use Rattle.std.proofs.lemmas.List.{length-reverse}
-use Rattle.constriction.specs.Rows.{entry_of}
+use Rattle.constriction_model.specs.Rows.{entry_of}
 use Rattle.constriction_client.specs.Quantiles.{IsQuantileOf}
 use Rattle.constriction_client.proofs.Returning.{AllZip-reverse, as-many, first-fault, quantiles-below, stand-back-reversed}
 use Rattle.constriction_client.proofs.laws.round_trips.there_and_back_of_two.Goals as goal

@@ -1,5 +1,5 @@
 use Rattle.std.proofs.Common.{◌∙◌, arith}
-use Rattle.constriction.specs.Rows.{entry_of}
+use Rattle.constriction_model.specs.Rows.{entry_of}
 use Rattle.constriction_client.proofs.Places.{items-placed, fault-placed, full-placed, in-range}
 use Rattle.constriction_client.proofs.laws.round_trips.write_and_go_back.Goals as goal
 

@@ -1,7 +1,7 @@
 use Rattle.std.proofs.Common.{◌≡◌, ◌++◌, [], Err, drop, refl, ap, arith}
 use Rattle.std.proofs.lemmas.List.{append-nil}
-use Rattle.constriction.specs.lemmas.Turns.{are-equal}
-use Rattle.constriction.specs.declared.CoderError.TheVariants.{Frontend}
+use Rattle.constriction_model.specs.lemmas.Turns.{are-equal}
+use Rattle.constriction_words.specs.declared.CoderError.TheVariants.{Frontend}
 use Rattle.constriction_coders.specs.declared.queue.range_decoder.DecoderFrontendError.TheVariants.{InvalidData}
 use Rattle.constriction_coders.proofs.laws.queue.message_comes_back.Goals as goal
 

@@ -1,5 +1,5 @@
 use Rattle.std.proofs.Common.{◌≡◌, Err, ap}
-use Rattle.constriction.specs.declared.CoderError.TheVariants.{Frontend}
+use Rattle.constriction_words.specs.declared.CoderError.TheVariants.{Frontend}
 use Rattle.constriction_coders.specs.lemmas.Stack.{compressed-once}
 use Rattle.constriction_coders.proofs.Closing.{not-compressed}
 use Rattle.constriction_coders.proofs.laws.stack.compressed_comes_back.Goals as goal

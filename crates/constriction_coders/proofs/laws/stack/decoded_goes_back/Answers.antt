@@ -1,5 +1,5 @@
-use Rattle.constriction.specs.lemmas.Pairs.{one-to-one}
-use Rattle.constriction.specs.Rows.{entry_of}
+use Rattle.constriction_model.specs.lemmas.Pairs.{one-to-one}
+use Rattle.constriction_model.specs.Rows.{entry_of}
 use Rattle.constriction_coders.proofs.GoingBack.{goes-back}
 use Rattle.constriction_coders.proofs.laws.stack.decoded_goes_back.Goals as goal
 

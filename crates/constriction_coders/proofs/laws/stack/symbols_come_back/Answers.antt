@@ -1,6 +1,6 @@
 use Rattle.std.proofs.Common.{refl}
-use Rattle.constriction.specs.Coding.{StandsForEqual}
-use Rattle.constriction.specs.Rows.{entry_of}
+use Rattle.constriction_model.specs.Coding.{StandsForEqual}
+use Rattle.constriction_model.specs.Rows.{entry_of}
 use Rattle.constriction_coders.specs.Steps.{IsDecoded}
 use Rattle.constriction_coders.specs.lemmas.Stack.{symbols-once}
 use Rattle.constriction_coders.proofs.ComingBack.{symbol-back}

@@ -1,6 +1,6 @@
 use Rattle.std.proofs.Common.{◌∙◌, reverse, sym}
 use Rattle.std.proofs.lemmas.List.{length-reverse}
-use Rattle.constriction.specs.lemmas.Turns.{are-equal}
+use Rattle.constriction_model.specs.lemmas.Turns.{are-equal}
 use Rattle.constriction_coders.proofs.laws.stack.there_and_back.Goals as goal
 
 pub returns-in-Ok-decode_iid_vec-clause-same : goal.returns-in-Ok-decode_iid_vec-clause-same

@@ -1,5 +1,5 @@
 use Rattle.std.proofs.Common.{◌∷◌, [], arith, ap, inl, inr, refl, length, length-append}
-use Rattle.constriction.specs.lemmas.Turns.{turn-last}
+use Rattle.constriction_model.specs.lemmas.Turns.{turn-last}
 use Rattle.constriction_coders.specs.Intervals.{IsRead}
 use Rattle.constriction_coders.specs.RangeDecoder.{held_by}
 use Rattle.constriction_coders.proofs.queue.range_decoder.RangeDecoder.decode_iid_vec.Goals as goal

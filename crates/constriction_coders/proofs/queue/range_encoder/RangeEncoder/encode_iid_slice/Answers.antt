@@ -1,4 +1,4 @@
-use Rattle.constriction.specs.Rows.{entry_of}
+use Rattle.constriction_model.specs.Rows.{entry_of}
 use Rattle.constriction_coders.specs.Spans.{IsNarrowed}
 use Rattle.constriction_coders.proofs.NarrowingStops.{turn-more, narrowing-stops}
 use Rattle.constriction_coders.proofs.queue.range_encoder.RangeEncoder.encode_iid_slice.Goals as goal

@@ -1,6 +1,6 @@
 use Rattle.std.proofs.Common.{take}
-use Rattle.constriction.specs.Coding.{InTurn}
-use Rattle.constriction.specs.Rows.{entry_of}
+use Rattle.constriction_model.specs.Coding.{InTurn}
+use Rattle.constriction_model.specs.Rows.{entry_of}
 use Rattle.constriction_coders.specs.Spans.{IsNarrowed}
 use Rattle.constriction_coders.proofs.queue.range_encoder.RangeEncoder.encode_iid_slice.Given as goal
 

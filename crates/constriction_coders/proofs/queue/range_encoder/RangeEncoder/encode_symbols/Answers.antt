@@ -1,8 +1,8 @@
 use Rattle.std.proofs.Common.{[], ◌∷◌, ◌++◌, refl, sym, subst}
-use Rattle.constriction.specs.Coding.{InTurn}
-use Rattle.constriction.specs.lemmas.Turns.{turn-last}
-use Rattle.constriction.specs.lemmas.Walks.{yields-more}
-use Rattle.constriction.specs.Rows.{entry_of}
+use Rattle.constriction_model.specs.Coding.{InTurn}
+use Rattle.constriction_model.specs.lemmas.Turns.{turn-last}
+use Rattle.constriction_model.specs.lemmas.Walks.{yields-more}
+use Rattle.constriction_model.specs.Rows.{entry_of}
 use Rattle.constriction_coders.specs.Places.{entry_by}
 use Rattle.constriction_coders.specs.Spans.{Span, IsNarrowed, IsNarrowingFault}
 use Rattle.constriction_coders.proofs.SameEntry.{same-narrowed, same-fault}

@@ -1,5 +1,5 @@
 use Rattle.std.specs.Iterator.{IsFinite, size}
-use Rattle.constriction.specs.Coding.{InTurn}
+use Rattle.constriction_model.specs.Coding.{InTurn}
 use Rattle.constriction_coders.specs.Places.{entry_by}
 use Rattle.constriction_coders.specs.Spans.{IsNarrowed}
 use Rattle.constriction_coders.proofs.Giving.{GivenSoFar}

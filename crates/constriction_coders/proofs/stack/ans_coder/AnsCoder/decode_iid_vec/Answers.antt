@@ -1,6 +1,6 @@
 use Rattle.std.proofs.Common.{[], arith, ap, inl, inr, length, refl}
 use Rattle.std.proofs.lemmas.List.{length_push}
-use Rattle.constriction.specs.lemmas.Turns.{turn-last}
+use Rattle.constriction_model.specs.lemmas.Turns.{turn-last}
 use Rattle.constriction_coders.proofs.stack.ans_coder.AnsCoder.decode_iid_vec.Goals as goal
 
 pub returns-in-Err-decode_symbol-clause-err : goal.returns-in-Err-decode_symbol-clause-err

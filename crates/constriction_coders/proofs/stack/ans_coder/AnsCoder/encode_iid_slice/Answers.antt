@@ -1,5 +1,5 @@
 use Rattle.std.proofs.Common.{Err, suc, drop, take, ap}
-use Rattle.constriction.specs.lemmas.Turns.{turn-first}
+use Rattle.constriction_model.specs.lemmas.Turns.{turn-first}
 use Rattle.constriction_coders.proofs.Stopping.{split-at-symbol}
 use Rattle.constriction_coders.proofs.stack.ans_coder.AnsCoder.encode_iid_slice.Goals as goal
 

@@ -1,7 +1,7 @@
 use Rattle.std.proofs.Common.{◌≡◌, ◌-◌, ℕ, List, Err, suc, drop, length, reverse, take, subst, sym, ap, arith}
 use Rattle.std.proofs.lemmas.List.{reverse-reverse}
-use Rattle.constriction.specs.Coding.{InTurn}
-use Rattle.constriction.specs.Rows.{entry_of}
+use Rattle.constriction_model.specs.Coding.{InTurn}
+use Rattle.constriction_model.specs.Rows.{entry_of}
 use Rattle.constriction_coders.specs.AnsCoder.{held_by}
 use Rattle.constriction_coders.specs.Steps.{IsEncoded}
 use Rattle.constriction_coders.proofs.Stopping.{split-back}

@@ -1,6 +1,6 @@
 use Rattle.std.proofs.Common.{◌-◌, ◌≡◌, drop, length}
-use Rattle.constriction.specs.Coding.{InTurn}
-use Rattle.constriction.specs.Rows.{entry_of}
+use Rattle.constriction_model.specs.Coding.{InTurn}
+use Rattle.constriction_model.specs.Rows.{entry_of}
 use Rattle.constriction_coders.specs.AnsCoder.{held_by}
 use Rattle.constriction_coders.specs.Steps.{IsEncoded}
 use Rattle.constriction_coders.proofs.stack.ans_coder.AnsCoder.encode_iid_slice_reverse.Given as goal

@@ -1,4 +1,4 @@
-use Rattle.constriction.specs.Rows.{entry_of}
+use Rattle.constriction_model.specs.Rows.{entry_of}
 use Rattle.std.proofs.Common.{sym}
 use Rattle.constriction_coders.proofs.Steps.{encoded}
 use Rattle.constriction_coders.proofs.stack.ans_coder.AnsCoder.encode_symbol.Goals as goal

@@ -1,5 +1,5 @@
 use Rattle.std.proofs.Common.{[], ◌∷◌, ◌++◌, Err, refl, ap}
-use Rattle.constriction.specs.lemmas.Walks.{yields-more}
+use Rattle.constriction_model.specs.lemmas.Walks.{yields-more}
 use Rattle.constriction_coders.specs.Places.{entry_by}
 use Rattle.constriction_coders.specs.Steps.{IsEncoded}
 use Rattle.constriction_coders.proofs.Giving.{turn-before}

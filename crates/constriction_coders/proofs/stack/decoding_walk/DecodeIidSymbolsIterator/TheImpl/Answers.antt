@@ -1,4 +1,4 @@
-use Rattle.constriction.specs.lemmas.Hints.{exact-hint}
+use Rattle.constriction_model.specs.lemmas.Hints.{exact-hint}
 use Rattle.constriction_coders.proofs.stack.decoding_walk.DecodeIidSymbolsIterator.TheImpl.Goals as goal
 
 pub size_hint-tells : goal.size_hint-tells

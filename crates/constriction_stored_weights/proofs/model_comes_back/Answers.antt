@@ -4,11 +4,11 @@ use Rattle.constriction.specs.Acceptance.{AreAccepted}
 use Rattle.constriction.specs.Rows.{Row, rows_of}
 use Rattle.constriction.specs.lemmas.Stand.{tiling-rebuilds}
 use Rattle.constriction.specs.declared.CoderError.{CoderError}
-use Rattle.constriction_coders.specs.StoredWeights.{weights_as_words}
-use Rattle.constriction_coders.specs.declared.stored_weights.ReadingError.TheVariants.{TooFewWords, NotAccepted}
-use Rattle.constriction_coders.specs.declared.stored_weights.StoringError.TheVariants.{TooManyWeights}
-use Rattle.constriction_coders.proofs.StoredWeightsLemmas.{same-weights}
-use Rattle.constriction_coders.proofs.stored_weights.model_comes_back.Goals as goal
+use Rattle.constriction_stored_weights.specs.StoredWeights.{weights_as_words}
+use Rattle.constriction_stored_weights.specs.declared.ReadingError.TheVariants.{TooFewWords, NotAccepted}
+use Rattle.constriction_stored_weights.specs.declared.StoringError.TheVariants.{TooManyWeights}
+use Rattle.constriction_stored_weights.proofs.StoredWeightsLemmas.{same-weights}
+use Rattle.constriction_stored_weights.proofs.model_comes_back.Goals as goal
 
 pub returns-in-Err-clause-too_many : goal.returns-in-Err-clause-too_many
 returns-in-Err-clause-too_many g c = λ is.

@@ -1,4 +1,5 @@
 //! Stored weights: the number of weights and then the weights, as words.
+#![tactic(auto)]
 
 ghost use Rattle.std.specs.Prelude.{◌≡◌, ◌≢◌, [], ◌∷◌, ◌++◌, ◌+◌, ◌*◌, ◌^◌, ◌≤◌, length, map, Err, IfOk, IfErr, OnOk, vec_capacity};
 ghost use Rattle.std.specs.List.{IsDistinct};
@@ -6,7 +7,7 @@ ghost use Rattle.constriction.specs.Acceptance.{AreAccepted};
 ghost use Rattle.constriction.specs.ModelRows.{decoder_model_rows};
 ghost use Rattle.constriction.specs.Rows.{rows_of, symbols_of};
 ghost use Rattle.constriction.specs.Precision.{IsPrecision};
-ghost use Rattle.constriction_coders.specs.StoredWeights.{ReadsModel, ReadsWeights, StopsReadingWeights, StopsWritingWeights, WritesWeights};
+ghost use Rattle.constriction_stored_weights.specs.StoredWeights.{ReadsModel, ReadsWeights, StopsReadingWeights, StopsWritingWeights, WritesWeights};
 
 use constriction::backends::{Cursor, ReadWords, ReadWriteError, WriteWords};
 use constriction::stream::model::{

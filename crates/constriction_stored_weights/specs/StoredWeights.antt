@@ -4,12 +4,12 @@ use Rattle.constriction.specs.Acceptance.{AreAccepted}
 use Rattle.constriction.specs.declared.CoderError.{CoderError}
 use Rattle.constriction.specs.declared.CoderError.TheVariants.{Frontend, Backend}
 use Rattle.constriction.specs.Rows.{Row, rows_of}
-use Rattle.constriction_backends.specs.Sink.{Writes}
+use Rattle.constriction_backends.specs.Sink.{StopsAtWord, Writes}
 use Rattle.constriction_backends.specs.Source.{Reads}
-use Rattle.constriction_coders.specs.declared.stored_weights.ReadingError.{ReadingError}
-use Rattle.constriction_coders.specs.declared.stored_weights.ReadingError.TheVariants as reading
-use Rattle.constriction_coders.specs.declared.stored_weights.StoringError.{StoringError}
-use Rattle.constriction_coders.specs.declared.stored_weights.StoringError.TheVariants as storing
+use Rattle.constriction_stored_weights.specs.declared.ReadingError.{ReadingError}
+use Rattle.constriction_stored_weights.specs.declared.ReadingError.TheVariants as reading
+use Rattle.constriction_stored_weights.specs.declared.StoringError.{StoringError}
+use Rattle.constriction_stored_weights.specs.declared.StoringError.TheVariants as storing
 
 -- weights as words: how many there are, and then the weights
 abbrev pub weights_as_words : List ℕ → List ℕ
@@ -59,16 +59,6 @@ module _ {S E : Type 0} (gives : S → Result (Option ℕ) E → S → Type 0) w
     StopsReadingWeights IsRefused s (Backend error) t = EndsInWeights s (Err error) t
 
 module _ {S E : Type 0} (gives : S → ℕ → Result (Unit {0}) E → S → Type 0) where
-  -- words were written in order to s up to one that was refused with this error, which leads to t
-  pub record StopsAtWord (s : S) (words : List ℕ) (error : E) (t : S) : Type 0 where
-    pub before : List ℕ
-    pub word : ℕ
-    pub after : List ℕ
-    pub split : words ≡ before ++ word ∷ after
-    pub reached : S
-    pub written : Writes gives s before reached
-    pub refused : gives reached word (Err error) t
-
   -- the words of the weights were written to s, which leads to t; if s tells the words that were written to it, t tells these after them
   pub record WritesWeights (tells : S → List ℕ → Type 0) (s : S) (weights : List ℕ) (t : S) : Type 0 where
     pub written : Writes gives s (weights_as_words weights) t
@@ -78,4 +68,4 @@ module _ {S E : Type 0} (gives : S → ℕ → Result (Unit {0}) E → S → Typ
   abbrev pub StopsWritingWeights : S → (weights : List ℕ) → CoderError StoringError E → S → Type 0
   StopsWritingWeights s weights (Frontend storing.TooManyWeights) t = (2 ^ 32 ≤ length weights) × (t ≡ s)
   StopsWritingWeights s weights (Frontend storing.OutOfMemory) t = t ≡ s
-  StopsWritingWeights s weights (Backend error) t = StopsAtWord s (weights_as_words weights) error t
+  StopsWritingWeights s weights (Backend error) t = StopsAtWord gives s (weights_as_words weights) error t

@@ -4,9 +4,9 @@ use Rattle.constriction.specs.declared.CoderError.{CoderError}
 use Rattle.constriction.specs.declared.CoderError.TheVariants.{Frontend, Backend}
 use Rattle.constriction_backends.specs.Source.{ReadsUpcoming}
 use Rattle.constriction_backends.specs.lemmas.Source.{reads_upcoming_all}
-use Rattle.constriction_coders.specs.StoredWeights.{weights_as_words, BeginsWeights, EndsInWeights, ReadsWeights, StopsReadingWeights}
-use Rattle.constriction_coders.specs.declared.stored_weights.ReadingError.{ReadingError}
-use Rattle.constriction_coders.specs.declared.stored_weights.ReadingError.TheVariants.{TooFewWords, NotAccepted, OutOfMemory}
+use Rattle.constriction_stored_weights.specs.StoredWeights.{weights_as_words, BeginsWeights, EndsInWeights, ReadsWeights, StopsReadingWeights}
+use Rattle.constriction_stored_weights.specs.declared.ReadingError.{ReadingError}
+use Rattle.constriction_stored_weights.specs.declared.ReadingError.TheVariants.{TooFewWords, NotAccepted, OutOfMemory}
 
 -- words that are stored weights, and begin with stored weights, are these
 pub same-weights : (weights others rest : List ℕ) → weights_as_words weights ≡ weights_as_words others ++ rest → others ≡ weights
