@@ -158,8 +158,13 @@ where
     E: EncoderModel<PRECISION, Symbol = D::Symbol, Probability = u32>,
     requires alike { SameEntries E.symbol_eq (E.rows encoder.now) (D.rows decoder.now) }
     requires invertible { IsInvertible E.symbol_eq D.stands_for (D.rows decoder.now) }
-    ensures possible { (fault : _) → result ≢ Err (MessageError.Encoding (CoderError.Frontend fault)) }
+    ensures symbol { IfOk result (λ symbol. (rest : Content)
+        × IsDecoded D.stands_for (D.rows decoder.now) PRECISION symbol (held_by coder.old) rest) }
     ensures same { OnOk result (held_by coder.new ≡ held_by coder.old) }
+    ensures decoding { (error : _) → result ≡ Err (MessageError.Decoding error) → held_by coder.new ≡ held_by coder.old }
+    ensures encoding { (error : _) → result ≡ Err (MessageError.Encoding error) → (symbol : D.Symbol)
+        × IsDecoded D.stands_for (D.rows decoder.now) PRECISION symbol (held_by coder.old) (held_by coder.new) }
+    ensures possible { (fault : _) → result ≢ Err (MessageError.Encoding (CoderError.Frontend fault)) }
 {
     decoded_goes_back::<D, E, PRECISION>(decoder, encoder);
     may_be_held(coder);
