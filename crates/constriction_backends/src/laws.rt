@@ -10,7 +10,7 @@ use crate::cursor::Cursor;
 use constriction_buffers::{SafeBuf, SafeBufMut};
 pub use constriction_sources::laws::{
     extending_counts, extending_tells, item_end_is_for_good, push_then_pop, pushed_is_popped,
-    remaining_counts, seek_back, word_end_is_for_good, written_is_read,
+    reads_pop, remaining_counts, seek_back, word_end_is_for_good, writes_push, written_is_read,
 };
 
 /// The reversal of the reversal of a cursor's state is that state.

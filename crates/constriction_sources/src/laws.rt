@@ -5,13 +5,13 @@ ghost use Rattle.std.specs.Iterator.{IsFinite};
 ghost use Rattle.constriction_words.specs.Rewinding.{Rewinds};
 ghost use Rattle.constriction_sources.specs.Source.{GivesAnswers};
 ghost use Rattle.constriction_sources.specs.Sink.{TakesItems, ExtendsBy};
-ghost use Rattle.constriction_sources.specs.Stack.{Pops, Pushes, ReadsWhatWasWritten};
+ghost use Rattle.constriction_sources.specs.Stack.{Pops, PopsOrFails, Pushes, ReadsWhatWasWritten};
 
 mod iterators;
 
 pub use self::iterators::{item_end_is_for_good, word_end_is_for_good};
 use crate::read::BoundedReadWords;
-use crate::stack::WordStack;
+use crate::stack::{StackSource, WordStack};
 use crate::write::{BoundedWriteWords, WriteWords};
 use constriction_words::{ReadWriteError, Semantics};
 
@@ -25,6 +25,18 @@ pub fn pushed_is_popped<Word, WriteError, ReadError>()
 /// A stack reads back what was written to it.
 pub fn written_is_read<Word, Backend: WordStack<Word>>()
     ensures { ReadsWhatWasWritten Backend.write_gives Backend.read_gives Backend.words_of }
+{}
+
+/// What a write to a stack does in each state, as [`push`](WordStack::push) ensures of its call.
+pub fn writes_push<Word, Backend: WordStack<Word>>()
+    ensures { (s : Backend) (w : Word) (r : Result (Unit {0}) Backend.WriteError) (t : Backend) → Backend.write_gives s w r t
+        → Pushes (Backend.words_of s) w r (Backend.words_of t) }
+{}
+
+/// What a read of a stack does in each state, as [`pop`](StackSource::pop) ensures of its call.
+pub fn reads_pop<Word, Backend: StackSource<Word>>()
+    ensures { (s : Backend) (r : Result (Option Word) Backend.ReadError) (t : Backend) → Backend.read_gives s r t
+        → PopsOrFails (Backend.words_of s) r (Backend.words_of t) }
 {}
 
 /// Writes a word to a stack and reads it back.
