@@ -78,6 +78,21 @@ def tried(program, name, uses, inputs, *flags):
     return dict(zip(parts[1::2], parts[2::2])), ran.stderr, ran.returncode
 
 
+def add_tried(crate, is_alone):
+    """Puts the tests in tried/ into src/ of a copy of their crate: alone, with those of src/ that their root names, or beside all of these."""
+    tried = files_below(f"crates/{os.path.basename(crate)}/tried", ".rt.txt")
+    tried = {os.path.basename(it).removesuffix(".txt"): f"{TOP}/{it}" for it in tried}
+    root, own = (pathlib.Path(it).read_text(encoding="utf-8") for it in (tried.pop("lib.rt"), f"{crate}/src/lib.rt"))
+    others = [it for it in re.findall(r"^mod (\w+);$", own, re.M) if f"\nmod {it};\n" not in root]
+    for it in others if is_alone else ():
+        os.remove(f"{crate}/src/{it}.rt")
+        shutil.rmtree(f"{crate}/src/{it}", ignore_errors=True)
+    root += "" if is_alone else "".join(f"#[cfg(test)]\nmod {it};\n" for it in others)
+    pathlib.Path(f"{crate}/src/lib.rt").write_text(root, encoding="utf-8")
+    for name, path in tried.items():
+        shutil.copy(path, f"{crate}/src/{name}")
+
+
 # The Rust crate constriction 0.5.0: in a folder, or the registry's where this is None
 
 

@@ -3,6 +3,7 @@
 ghost use Rattle.std.specs.Prelude.{◌≡◌, ◌+◌, ◌-◌, ◌*◌, ◌/◌, ◌%◌, ◌<◌, ◌≤◌, ◌^◌};
 
 use crate::checks::same;
+use constriction_test_support::own_word::Sample;
 use constriction_words::{BitArray, IndexWord};
 
 /// The sum of two words.
@@ -20,6 +21,13 @@ pub fn half_way<P: BitArray>(from: P, to: P) -> P
     ensures { P.whole result ≡ (P.whole to - P.whole from) / 2 }
 {
     (to - from) >> 1
+}
+
+/// What a caller learns of a word type of its own from this contract.
+pub fn half_of_sample(a: Sample) -> Sample
+    ensures { result.0 ≡ a.0 / 2 }
+{
+    half_way(Sample(0), a)
 }
 
 /// How many words there are from `b` to `a`, both included.

@@ -120,6 +120,8 @@ fn read_once<Backend: StackSource<u8>>(
 fn what_was_pushed_is_popped(rt: HostRuntime) {
     laws::pushed_is_popped::<u8, AllocError, Infallible>();
     laws::written_is_read::<u8, Vec<u8>>();
+    laws::writes_push::<u8, Vec<u8>>();
+    laws::reads_pop::<u8, Vec<u8>>();
     laws::seek_back::<u8>();
     laws::extending_tells::<u8, Vec<u8>, Copied<Iter<'_, u8>>>();
     let mut words = Vec::new(rt.alloc());

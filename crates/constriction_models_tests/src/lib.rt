@@ -2,19 +2,13 @@
 //! models of a caller's own, how many questions a search asks, how large lookup tables are, refused memory, and time.
 //!
 //! The libraries have no tests of their own, because a library with tests is proved twice. These tests use the public
-//! interface alone.
+//! interface alone. Those of the folder `tried` are run and not proved.
 #![tactic(auto)]
 
-#[cfg(test)]
-mod aliases;
 #[cfg(test)]
 mod checks;
 #[cfg(test)]
 mod compared;
-#[cfg(test)]
-mod contiguous;
-#[cfg(test)]
-mod directions;
 #[cfg(test)]
 mod distinct_symbols;
 #[cfg(test)]
@@ -24,8 +18,6 @@ mod known_to_differ;
 #[cfg(test)]
 mod laws;
 #[cfg(test)]
-mod lookup_any_symbols;
-#[cfg(test)]
 mod model_checks;
 #[cfg(test)]
 mod own_model;
@@ -34,19 +26,9 @@ mod own_number;
 #[cfg(test)]
 mod own_searching_model;
 #[cfg(test)]
-mod reading;
-#[cfg(test)]
-mod refused_symbols;
-#[cfg(test)]
 mod reweighted;
 #[cfg(test)]
 mod search;
-#[cfg(test)]
-mod slot_bits;
-#[cfg(test)]
-mod symbol_types;
-#[cfg(test)]
-mod uncloned_symbols;
 #[cfg(test)]
 mod watched_symbols;
 #[cfg(test)]

@@ -174,5 +174,7 @@ fn looks_up<const SLOT_BITS: usize>(rt: &impl Abort, alloc: Global, cases: &[Cas
 fn a_lookup_table_answers_in_place_of_the_search_of_its_model(rt: HostRuntime) {
     looks_up::<8>(&rt, rt.alloc(), &[(4, 4, 3), (16, 6, 0), (316, 7, 1)]);
     looks_up::<4>(&rt, rt.alloc(), &[(4, 4, 3), (316, 7, 2), (4000, 15, 2)]);
+    // Rows 7, 8 and 9 meet a slot.
+    looks_up::<3>(&rt, rt.alloc(), &[(512, 7, 2), (616, 8, 2), (916, 9, 2)]);
     looks_up::<12>(&rt, rt.alloc(), &[(4, 4, 0), (4000, 15, 0)]);
 }

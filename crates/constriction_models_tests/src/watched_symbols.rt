@@ -116,6 +116,8 @@ fn a_lookup_model_clones_a_symbol_once_for_each_row_that_it_gives(rt: HostRuntim
     counts(&rt, &tally, "into_lookup_decoder_model", [0, 0, 0]);
     look_up(&model);
     counts(&rt, &tally, "quantile_function", [1, 0, 0]);
+    let _ = model.symbol_table().next();
+    counts(&rt, &tally, "next", [1, 0, 0]);
     let _ = model.clone();
     counts(&rt, &tally, "clone", [16, 0, 0]);
 }

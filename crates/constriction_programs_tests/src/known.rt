@@ -1,12 +1,13 @@
 //! What contracts tell callers that parse lines, answer them, or run over whole inputs. A body that answers otherwise does not
 //! meet these contracts.
 
-ghost use Rattle.std.specs.Prelude.{◌≡◌, ◌≢◌, ◌++◌, ℕ, List, Err, IfOk, IsNone, OnOk, Some, codes, string_bytes};
+ghost use Rattle.std.specs.Prelude.{◌≡◌, ◌≢◌, ◌≤◌, ◌++◌, ℕ, List, Err, IfOk, IsNone, OnOk, Some, codes, length, string_bytes};
 ghost use Rattle.std.specs.Option.{option_map};
 ghost use Rattle.constriction_text.specs.Grammar.{uniform, view};
 ghost use Rattle.constriction_text.specs.Text.{IsTextOf};
 
 use crate::checks::{holds, same};
+use constriction_pack::unpack;
 use constriction_text::laws::{
     a_line_has_one_answer, a_line_spells_at_most_one_request, an_input_has_one_text,
 };
@@ -104,6 +105,20 @@ fn asks(rt: &impl Abort, found: Result<Option<Command>, AllocError>, is_request:
         Ok(command) => same(rt, command.is_some(), is_request),
         Err(AllocError) => panic!(rt; "memory was refused"),
     }
+}
+
+/// What is unpacked of a file at a limit of 29 bytes.
+fn first_29(alloc: Global, mut file: &[u8]) -> Vec<u8>
+    ensures { length result.items ≤ 29 }
+{
+    let mut written = Vec::new(alloc);
+    let _result = unpack(alloc, 29, &mut file, &mut written);
+    written
+}
+
+#[test]
+fn contracts_leave_a_beginning(rt: HostRuntime) {
+    holds(&rt, &first_29(rt.alloc(), b"no file"), b"");
 }
 
 #[test]

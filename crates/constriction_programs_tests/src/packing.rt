@@ -1,7 +1,5 @@
 //! Packed files: their bytes, unpacking, and damaged files that are refused.
 
-ghost use Rattle.std.specs.Prelude.{◌≤◌, length};
-
 use crate::checks::{holds, prints, same};
 use crate::runs::{SlowReader, SlowWriter};
 use constriction_pack::laws::{
@@ -181,6 +179,19 @@ pub fn are_refused_if_flipped(rt: &impl Abort, alloc: Global, file: &mut [u8]) {
     }
 }
 
+/// The same if all bits of any two bytes are flipped.
+fn are_refused_if_two_are_flipped(rt: &impl Abort, alloc: Global, file: &mut [u8]) {
+    for place in 0..file.len() {
+        file[place] = !file[place];
+        for other in 0..place {
+            file[other] = !file[other];
+            same(rt, status_of(alloc, file), 2);
+            file[other] = !file[other];
+        }
+        file[place] = !file[place];
+    }
+}
+
 /// Files that no bytes have, though their checksums are right: a kind that there is not, 2^32 - 1 times a byte, a header whose exclusive or
 /// is wrong, a content that is longer than any, and more words than a block of the older format has.
 const WRONG_FILES: [(&[u8], PackError); 5] = [
@@ -203,7 +214,7 @@ const WRONG_FILES: [(&[u8], PackError); 5] = [
     (b"cpk1\xff\xff\xff\xff", PackError::Damaged),
 ];
 
-/// A file is refused if it is cut anywhere, if any bit is flipped, or if a byte follows.
+/// A file is refused if it is cut anywhere, if any bit or any two bytes are flipped, or if a byte follows.
 #[test]
 fn damaged_files_are_refused(rt: HostRuntime) {
     let alloc = rt.alloc();
@@ -211,10 +222,12 @@ fn damaged_files_are_refused(rt: HostRuntime) {
     are_refused_if_cut(&rt, alloc, &bytes);
     let mut damaged = Vec::from_slice(alloc, THREE).expect(&rt, "memory");
     are_refused_if_flipped(&rt, alloc, &mut damaged);
+    are_refused_if_two_are_flipped(&rt, alloc, &mut damaged);
     damaged.push(0).expect(&rt, "memory");
     is_refused(&rt, alloc, &damaged, PackError::Damaged, front(&bytes, 29));
     let mut older = Vec::from_slice(alloc, OLDER).expect(&rt, "memory");
     are_refused_if_flipped(&rt, alloc, &mut older);
+    are_refused_if_two_are_flipped(&rt, alloc, &mut older);
     for file in &WRONG_FILES {
         is_refused(&rt, alloc, file.0, file.1, &[]);
     }
@@ -268,15 +281,6 @@ fn wrong_contents_are_refused(rt: HostRuntime) {
     holds(&rt, &again, RARE);
 }
 
-/// What is written of a file at a limit of 29 bytes.
-fn first_29(alloc: Global, mut file: &[u8]) -> Vec<u8>
-    ensures { length result.items ≤ 29 }
-{
-    let mut written = Vec::new(alloc);
-    let _result = unpack(alloc, 29, &mut file, &mut written);
-    written
-}
-
 /// Limits, what `unpack` answers to `THREE`, and how many bytes it writes.
 const LIMITS: [(u64, Result<(), PackError>, usize); 4] = [
     (93, Ok(()), 93),
@@ -294,7 +298,6 @@ fn nothing_is_written_beyond_the_limit(rt: HostRuntime) {
         same(&rt, result, expected);
         holds(&rt, &written, front(&bytes, count));
     }
-    holds(&rt, &first_29(rt.alloc(), THREE), front(&bytes, 29));
     let (result, written) = unpacked(rt.alloc(), 8, OLDER);
     same(&rt, result, Err(PackError::TooLong));
     holds(&rt, &written, &[]);
