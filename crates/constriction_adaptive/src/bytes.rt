@@ -12,7 +12,7 @@ use crate::bit::Bit;
 use crate::error::EncoderFrontendError;
 use crate::predictor::Predictor;
 use crate::queue::{decode_next, encode_adaptively};
-use constriction_backends::ReadWords;
+use constriction_backends::{Cursor, ReadWords};
 use constriction_coders::queue::{DecoderFrontendError, RangeDecoder, RangeEncoder};
 use constriction_words::{CoderError, Queue};
 use std::alloc::{AllocError, Global};
@@ -181,6 +181,33 @@ where
     ensures { (first : P.State) (a b words : List ℕ) → AreReadFrom P.rows P.next first a words → AreReadFrom P.rows P.next first b words
         → length a ≡ length b → a ≡ b }
 {}
+
+/// Encodes the bytes and decodes as many. If both predictors begin in one state, the bytes come back, whatever is predicted, and both end in
+/// one state.
+///
+/// It fails only if memory is refused.
+pub fn bytes_come_back<P>(
+    alloc: Global,
+    encoding: &mut P,
+    decoding: &mut P,
+    bytes: &[u8],
+) -> Result<Vec<u8>, AllocError>
+where
+    P: Predictor<16, Symbol = bool, Model = Bit>,
+    requires { P.state decoding.old ≡ P.state encoding.old }
+    ensures back { IfOk result (λ again. again.items ≡ bytes.now) }
+    ensures learned { OnOk result (P.state decoding.new ≡ P.state encoding.new) }
+{
+    bytes_are_read_once::<P>();
+    let words = encode_bytes(alloc, encoding, bytes)?;
+    let source = Cursor::new_at_write_beginning(words);
+    match decode_bytes(alloc, decoding, bytes.len(), source) {
+        Ok(again) => Ok(again),
+        Err(CoderError::Frontend(DecoderFrontendError::OutOfMemory)) => Err(AllocError),
+        Err(CoderError::Frontend(DecoderFrontendError::InvalidData)) => unreachable!(),
+        Err(CoderError::Backend(never)) => match never {},
+    }
+}
 
 /// From the words of bytes as many bytes are read as were encoded, and these are the same, whatever words come after them.
 pub fn message_is_read<P>()

@@ -1,4 +1,5 @@
-//! What callers who code bytes by a mixer learn from contracts alone. A body that answers otherwise does not meet these contracts.
+//! What callers who code bytes by a mixer, or by the byte before, learn from contracts alone. A body that answers otherwise does not meet
+//! these contracts.
 
 ghost use Rattle.std.specs.Prelude.{◌≡◌, ◌≢◌, [], ◌∷◌, ℕ, List, Err, IfOk, length};
 ghost use Rattle.std.specs.Bool.{beq};
@@ -10,8 +11,10 @@ ghost use Rattle.constriction_adaptive.specs.Predicted.{entry_in};
 use crate::checks::holds;
 use constriction::CoderError;
 use constriction::backends::Cursor;
-use constriction_adaptive::Mixer;
-use constriction_adaptive::bytes::{bytes_are_read_once, decode_bytes, encode_bytes};
+use constriction_adaptive::bytes::{
+    bytes_are_read_once, bytes_come_back, decode_bytes, encode_bytes,
+};
+use constriction_adaptive::{Mixer, OrderOne};
 use constriction_coders::queue::DecoderFrontendError;
 use std::alloc::{AllocError, Global};
 use std::convert::Infallible;
@@ -65,12 +68,30 @@ fn there_and_back(
     decoded(alloc, bytes.len(), words)
 }
 
+/// Encodes bytes and decodes as many, by the byte before, in one call.
+fn by_the_byte_before(alloc: Global, bytes: &[u8]) -> Result<Vec<u8>, AllocError>
+    ensures { IfOk result (λ again. again.items ≡ bytes.now) }
+{
+    let mut encoding = OrderOne::new(alloc)?;
+    let mut decoding = OrderOne::new(alloc)?;
+    bytes_come_back(alloc, &mut encoding, &mut decoding, bytes)
+}
+
 #[test]
 fn bytes_come_back_by_a_mixer_of_three_contexts(rt: HostRuntime) {
     let alloc = rt.alloc();
     let text = b"abcabcabcabd";
     match there_and_back(alloc, text) {
         Ok(answers) => holds(&rt, &answers, text),
+        Err(_) => panic!(rt; "nothing came back"),
+    }
+}
+
+#[test]
+fn bytes_come_back_in_one_call(rt: HostRuntime) {
+    let text = b"abcabcabcabd";
+    match by_the_byte_before(rt.alloc(), text) {
+        Ok(again) => holds(&rt, &again, text),
         Err(_) => panic!(rt; "nothing came back"),
     }
 }
